@@ -1,0 +1,7 @@
+pub mod CountLemmas
+pub mod FilesLemmas
+pub mod InputLemmas
+pub mod ListLemmas
+pub mod PutLemmas
+pub mod SinkLemmas
+pub mod WordLemmas

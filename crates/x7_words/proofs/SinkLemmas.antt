@@ -1,0 +1,39 @@
+-- Lemmas on bytes that are written one after the other.
+use Rattle.std.proofs.Common.{◌≡◌, ℕ, List, [], ◌∷◌, ◌++◌, ◌+◌, ◌<◌, take, drop, length, Option, None, Some, refl, ap, append_assoc, append-nil, sym, ◌∙◌, arith, inr, flat_map, zero, suc, get_or}
+use Rattle.std.proofs.Math.Seq.{take-add}
+use Rattle.std.proofs.lemmas.List.{take-append-drop}
+use Rattle.x7_words.specs.Sink.{appended, PutsFront, Tells}
+
+-- nothing more leaves what was written
+pub appended-nil : (told : Option (List ℕ)) → appended told [] ≡ told
+appended-nil None = refl
+appended-nil (Some old) = ap Some (append-nil old)
+
+-- two pieces one after the other are the joined piece
+pub appended-appended : (told : Option (List ℕ)) (a b : List ℕ) → appended (appended told a) b ≡ appended told (a ++ b)
+appended-appended None a b = refl
+appended-appended (Some old) a b = ap Some (append_assoc old a b)
+
+-- a write of what is left of a text
+pub written_more : (first mid last : Option (List ℕ)) (text : List ℕ) (at k : ℕ) → mid ≡ appended first (take at text) → last ≡ appended mid (take k (drop at text)) → last ≡ appended first (take (at + k) text)
+written_more first mid last text at k p q =
+    rw (q, p, appended-appended, take-add at k text) refl
+
+-- a front of a text by its length
+pub puts_front : (first last : Option (List ℕ)) (text : List ℕ) (at : ℕ) → last ≡ appended first (take at text) → PutsFront first text last
+puts_front first last text at p = (take at text, (drop at text, sym (take-append-drop at text), p))
+
+-- some pieces whole and a front of the next are a front of all
+pub front_more : (first mid last : Option (List ℕ)) (a b c : List ℕ) → mid ≡ appended first a → PutsFront mid b last → PutsFront first (a ++ (b ++ c)) last
+front_more first mid last a b c p (front, (back, split, put)) =
+    (a ++ front, (back ++ c, rw (split, append_assoc, append_assoc) refl, rw (put, p, appended-appended) refl))
+
+-- the joined pieces around the one at k
+pub flat_map-at : {X : Type 0} (f : X → List ℕ) (pieces : List X) (k : ℕ) (d : X) → k < length pieces → flat_map f pieces ≡ flat_map f (take k pieces) ++ (f (get_or pieces k d) ++ flat_map f (drop (suc k) pieces))
+flat_map-at f [] k d h = absurd (omega arith)
+flat_map-at f (p ∷ ps) zero d h = refl
+flat_map-at f (p ∷ ps) (suc k) d h = ap (λ r. f p ++ r) (flat_map-at f ps k d (omega arith)) ∙ sym (append_assoc (f p) (flat_map f (take k ps)) (f (get_or ps k d) ++ flat_map f (drop (suc k) ps)))
+
+-- a failure in the piece after some whole ones
+pub tells_front : (HasFailed : Type 0) (first mid last : Option (List ℕ)) (all a b c : List ℕ) → all ≡ a ++ (b ++ c) → mid ≡ appended first a → PutsFront mid b last → HasFailed → Tells HasFailed first last all
+tells_front HasFailed first mid last all a b c e p q r = inr (r, rw e (front_more first mid last a b c p q))

@@ -1,0 +1,10 @@
+use Rattle.x7_words.proofs.PutLemmas.{bytes_under-position}
+use Rattle.x7_words.proofs.memory.put.place_of.Goals as goal
+
+pub returns-clause-found : goal.returns-clause-found
+returns-clause-found c =
+    (bytes_under-position c.args.puts.now c.args.name.now c.first_place.result c.first_place.ensures).0
+
+pub returns-clause-bytes : goal.returns-clause-bytes
+returns-clause-bytes c =
+    (bytes_under-position c.args.puts.now c.args.name.now c.first_place.result c.first_place.ensures).1

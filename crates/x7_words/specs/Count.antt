@@ -1,0 +1,10 @@
+-- Counts of 64 bits that only rise (this project's choice).
+use Rattle.std.specs.Prelude.{◌≡◌, ℕ, ◌<◌, ◌⊎◌, ◌^◌, ◌+◌, ◌-◌, min}
+
+-- a count rose, or it is the last that a u64 can tell, at which it stays
+abbrev pub HasRisen : ℕ → ℕ → Type 0
+HasRisen old new = (old < new) ⊎ (new + 1 ≡ 2 ^ 64)
+
+-- the next count; after the last u64 it stays
+abbrev pub raised : ℕ → ℕ
+raised count = min (count + 1) (2 ^ 64 - 1)

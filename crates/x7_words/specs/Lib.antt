@@ -1,0 +1,8 @@
+pub mod Word
+pub mod Count
+pub mod Input
+pub mod Sink
+pub mod Flash
+pub mod Memory
+pub mod Put
+pub mod Files

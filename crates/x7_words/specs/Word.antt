@@ -1,0 +1,35 @@
+-- Words of 32 bits, the bytes that they are read from, and their bit fields (UG470, configuration details).
+use Rattle.std.specs.Prelude.{ℕ, ◌+◌, ◌*◌, ◌/◌, ◌%◌, ◌^◌, ◌<◌, List, [], ◌∷◌}
+use Rattle.std.specs.List.{AllByRecursion}
+
+-- the word of four bytes, the first the highest; 0 for fewer bytes
+abbrev pub word_of_bytes : List ℕ → ℕ
+word_of_bytes [] = 0
+word_of_bytes (a ∷ []) = 0
+word_of_bytes (a ∷ b ∷ []) = 0
+word_of_bytes (a ∷ b ∷ c ∷ []) = 0
+word_of_bytes (a ∷ b ∷ c ∷ d ∷ _) = a * 2 ^ 24 + b * 2 ^ 16 + c * 2 ^ 8 + d
+
+-- the four bytes of a word, the highest first
+abbrev pub bytes_of_word : ℕ → List ℕ
+bytes_of_word w = w / 2 ^ 24 % 256 ∷ w / 2 ^ 16 % 256 ∷ w / 2 ^ 8 % 256 ∷ w % 256 ∷ []
+
+-- the words of whole groups of four bytes; a shorter rest is no word
+abbrev pub words_of_bytes : List ℕ → List ℕ
+words_of_bytes [] = []
+words_of_bytes (a ∷ []) = []
+words_of_bytes (a ∷ b ∷ []) = []
+words_of_bytes (a ∷ b ∷ c ∷ []) = []
+words_of_bytes (a ∷ b ∷ c ∷ d ∷ bs) = word_of_bytes (a ∷ b ∷ c ∷ d ∷ []) ∷ words_of_bytes bs
+
+-- each is a byte
+abbrev pub AreBytes : List ℕ → Type 0
+AreBytes bs = AllByRecursion (λ b. b < 256) bs
+
+-- each is a word of 32 bits
+abbrev pub AreWords : List ℕ → Type 0
+AreWords ws = AllByRecursion (λ w. w < 2 ^ 32) ws
+
+-- the number in `width` bits of a word, from bit `low` up
+abbrev pub field_of : ℕ → ℕ → ℕ → ℕ
+field_of low width word = word / 2 ^ low % 2 ^ width

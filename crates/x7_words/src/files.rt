@@ -1,0 +1,162 @@
+//! The real outside: files as inputs, and a writer such as standard output as a sink.
+ghost use Rattle.std.specs.Prelude.{◌≡◌, ◌<◌, ◌≤◌, ◌^◌, length, None, true, false, IfOk, OnOk, OnErr};
+ghost use Rattle.x7_words.specs.Count.{raised};
+ghost use Rattle.x7_words.specs.Files.{after_open};
+
+use crate::input::{Failed, Inputs, SelectFault};
+use crate::sink::Sink;
+use std::fs;
+use std::io::{ErrorKind, Read, Write};
+use std::marker::Model;
+use std::rt::Files;
+
+/// Files by their paths, which tell nothing of what they hold. Each read is one read of the file.
+///
+/// Missing is a path where no file is. A folder, missing rights and every other error is a fault.
+#[derive(Drop)]
+pub struct FileInputs<'r, R: Files> {
+    rt: &'r R,
+    file: Option<R::File>,
+    faults: u64,
+    absences: u64,
+}
+
+impl<'r, R: Files> Model for FileInputs<'r, R> {
+    ghost use Rattle.std.specs.Prelude.{◌<◌, ◌^◌, is_some};
+    ghost use Rattle.x7_words.specs.Files.{RealInputs};
+
+    ghost Value = { RealInputs };
+
+    ghost view = { λ f. record {
+      selected = is_some f.file;
+      faults = f.faults;
+      absences = f.absences;
+    } };
+
+    ghost invariant = { λ f. (f.faults < 2 ^ 64) × (f.absences < 2 ^ 64) };
+}
+
+impl<'r, R: Files> FileInputs<'r, R> {
+    /// The files of the runtime. None is selected.
+    pub fn new(rt: &'r R) -> FileInputs<'r, R>
+        ensures { result ≡ record { selected = false; faults = 0; absences = 0 } }
+    {
+        FileInputs {
+            rt,
+            file: None,
+            faults: 0,
+            absences: 0,
+        }
+    }
+}
+
+impl<'r, R: Files> Inputs for FileInputs<'r, R> {
+    ghost contents = { λ _. None };
+
+    ghost selected = { λ f. f.selected };
+
+    ghost rest = { λ _. None };
+
+    ghost faults = { λ f. f.faults };
+
+    ghost absences = { λ f. f.absences };
+
+    fn select(&mut self, name: &str) -> Result<(), SelectFault>
+        ensures after { self.new ≡ after_open self.old result }
+        ensures faults { self.old.faults ≤ self.new.faults }
+        ensures absences { self.old.absences ≤ self.new.absences }
+        ensures last_fault { self.new.faults < 2 ^ 64 }
+        ensures last_absence { self.new.absences < 2 ^ 64 }
+    {
+        self.file = None;
+        match fs::open(self.rt, name) {
+            Ok(file) => {
+                self.file = Some(file);
+                Ok(())
+            }
+            Err(error) => {
+                if error.kind() == ErrorKind::NotFound {
+                    self.absences = self.absences.saturating_add(1);
+                    return Err(SelectFault::Missing);
+                }
+                self.faults = self.faults.saturating_add(1);
+                Err(SelectFault::Failed)
+            }
+        }
+    }
+
+    fn read(&mut self, buf: &mut [u8]) -> Result<usize, Failed>
+        requires { self.old.selected ≡ true }
+        ensures within { IfOk result (λ n. n ≤ length buf.old) }
+        ensures length { length buf.new ≡ length buf.old }
+        ensures ok { OnOk result (self.new ≡ self.old) }
+        ensures err { OnErr result (self.new ≡
+            record self.old { selected = false; faults = raised self.old.faults }) }
+        ensures faults { self.old.faults ≤ self.new.faults }
+        ensures last_fault { self.new.faults < 2 ^ 64 }
+        ensures last_absence { self.new.absences < 2 ^ 64 }
+    {
+        let Some(file) = &mut self.file else {
+            unreachable!()
+        };
+        match file.read(buf) {
+            Ok(count) => Ok(count),
+            Err(_) => {
+                self.file = None;
+                self.faults = self.faults.saturating_add(1);
+                Err(Failed)
+            }
+        }
+    }
+}
+
+/// A writer as a sink, which tells nothing of what was written. Each write is one of the writer's,
+/// and one that takes nothing of a piece that is not empty is a fault.
+#[derive(Drop)]
+pub struct StdSink<W: Write + Drop> {
+    writer: W,
+    faults: u64,
+}
+
+impl<W: Write + Drop> Model for StdSink<W> {
+    ghost use Rattle.std.specs.Prelude.{◌<◌, ◌^◌};
+    ghost use Rattle.x7_words.specs.Files.{RealSink};
+
+    ghost Value = { RealSink };
+
+    ghost view = { λ s. record { faults = s.faults } };
+
+    ghost invariant = { λ s. s.faults < 2 ^ 64 };
+}
+
+impl<W: Write + Drop> StdSink<W> {
+    /// A sink over the writer.
+    pub fn new(writer: W) -> StdSink<W>
+        ensures { result ≡ record { faults = 0 } }
+    {
+        StdSink { writer, faults: 0 }
+    }
+}
+
+impl<W: Write + Drop> Sink for StdSink<W> {
+    ghost written = { λ _. None };
+
+    ghost faults = { λ s. s.faults };
+
+    fn write(&mut self, piece: &[u8]) -> Result<usize, Failed>
+        ensures within { IfOk result (λ n. n ≤ length piece.now) }
+        ensures some { IfOk result (λ n. 0 < length piece.now → 0 < n) }
+        ensures ok { OnOk result (self.new ≡ self.old) }
+        ensures err { OnErr result (self.new ≡ record self.old { faults = raised self.old.faults }) }
+        ensures faults { self.old.faults ≤ self.new.faults }
+        ensures last_fault { self.new.faults < 2 ^ 64 }
+    {
+        match self.writer.write(piece) {
+            Ok(count) if count > 0 || piece.is_empty() => Ok(count),
+            _ => {
+                self.faults = self.faults.saturating_add(1);
+                Err(Failed)
+            }
+        }
+    }
+}

@@ -1,0 +1,18 @@
+//! Words of 32 bits, and the outside: inputs by name, sinks for text and a flash.
+#![tactic(auto)]
+
+mod files;
+mod flash;
+mod input;
+mod memory;
+mod sink;
+#[cfg(test)]
+mod tests;
+mod word;
+
+pub use files::{FileInputs, StdSink};
+pub use flash::Flash;
+pub use input::{Failed, Inputs, NoMemory, SelectFault};
+pub use memory::{MemoryFlash, MemoryInputs, MemorySink};
+pub use sink::{Sink, write_all, write_pieces};
+pub use word::{bytes_of, word_of};

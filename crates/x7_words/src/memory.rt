@@ -1,0 +1,10 @@
+//! Inputs, a sink and a flash in memory, whose calls can be told to fail.
+mod calls;
+mod flash;
+mod inputs;
+mod put;
+mod sink;
+
+pub use flash::MemoryFlash;
+pub use inputs::MemoryInputs;
+pub use sink::MemorySink;

@@ -1,0 +1,154 @@
+//! Inputs in memory.
+ghost use Rattle.std.specs.Prelude.{◌≡◌, [], ◌<◌, ◌≤◌, ◌^◌, take, drop, length, Some, None, true, is_some, is_err, OnOk, OnErr, IfOk};
+ghost use Rattle.x7_words.specs.Input.{preceded, AtEnd};
+ghost use Rattle.x7_words.specs.Memory.{next_fails, planned, bytes_under, no_calls, after_put, select_answer, after_select, read_count, after_read};
+
+use crate::input::{Failed, Inputs, NoMemory, SelectFault};
+use crate::memory::calls::Calls;
+use crate::memory::put::{Put, left_at, place_of};
+use std::alloc::Global;
+use std::marker::Model;
+
+/// Inputs in memory, told whole: what was put under each name last is what a select of it gives.
+///
+/// Each select and each read has the next number, from 1, and those that are to fail fail.
+#[derive(Drop)]
+pub struct MemoryInputs {
+    // What was put, the last first.
+    puts: Vec<Put>,
+    // The place in `puts` of the selected input, and how many of its bytes were read.
+    selected: Option<usize>,
+    place: usize,
+    most: usize,
+    calls: Calls,
+    alloc: Global,
+}
+
+impl Model for MemoryInputs {
+    ghost use Rattle.std.specs.Prelude.{◌<◌, map, vec_len};
+    ghost use Rattle.std.specs.Option.{ForSome};
+    ghost use Rattle.x7_words.specs.Memory.{InputsInMemory};
+
+    ghost Value = { InputsInMemory };
+
+    ghost use Rattle.x7_words.specs.Put.{entry_of, left_of};
+
+    ghost view = { λ m. record {
+      entries = map entry_of m.puts.items;
+      rest = left_of m.puts.items m.place m.selected;
+      most = m.most;
+      calls = m.calls;
+    } };
+
+    ghost invariant = { λ m. (0 < m.most) × ForSome m.selected (λ which. which < vec_len m.puts) };
+}
+
+impl MemoryInputs {
+    /// No inputs. A read gives as many bytes as the buffer takes.
+    pub fn new(alloc: Global) -> MemoryInputs
+        ensures { result ≡ record { entries = []; rest = None; most = usize.MAX; calls = no_calls } }
+    {
+        MemoryInputs {
+            puts: Vec::new(alloc),
+            selected: None,
+            place: 0,
+            most: usize::MAX,
+            calls: Calls::new(alloc),
+            alloc,
+        }
+    }
+
+    /// Puts the bytes under the name, in place of what was there before.
+    /// An input that is being read goes on with the bytes that it began with.
+    pub fn put(&mut self, name: &str, bytes: &[u8]) -> Result<(), NoMemory>
+        ensures ok { OnOk result (self.new ≡ after_put self.old name.now bytes.now) }
+        ensures err { OnErr result (self.new ≡ self.old) }
+    {
+        let Ok(bytes) = Vec::from_slice(self.alloc, bytes) else {
+            return Err(NoMemory);
+        };
+        let Ok(name) = String::from_str(self.alloc, name) else {
+            return Err(NoMemory);
+        };
+        let Ok(()) = self.puts.insert(0, Put { name, bytes }) else {
+            return Err(NoMemory);
+        };
+        if let Some(which) = self.selected {
+            self.selected = Some(which + 1);
+        }
+        Ok(())
+    }
+
+    /// The call of this number, from 1, is to fail.
+    pub fn fail_at(&mut self, call: u64) -> Result<(), NoMemory>
+        ensures ok { OnOk result (self.new ≡ record self.old { calls = planned self.old.calls call }) }
+        ensures err { OnErr result (self.new ≡ self.old) }
+    {
+        self.calls.fail_at(call)
+    }
+
+    /// From now on a read gives no more bytes than this.
+    pub fn piece(&mut self, most: usize)
+        requires { 0 < most }
+        ensures { self.new ≡ record self.old { most = most } }
+    {
+        self.most = most;
+    }
+}
+
+impl Inputs for MemoryInputs {
+    ghost contents = { λ m. Some (bytes_under m.entries) };
+
+    ghost selected = { λ m. is_some m.rest };
+
+    ghost rest = { λ m. m.rest };
+
+    ghost faults = { λ m. m.calls.faults };
+
+    ghost absences = { λ m. 0 };
+
+    fn select(&mut self, name: &str) -> Result<(), SelectFault>
+        ensures answer { result ≡ select_answer self.old name.now }
+        ensures after { self.new ≡ after_select self.old name.now }
+        ensures faults { self.old.calls.faults ≤ self.new.calls.faults }
+        ensures last_fault { self.new.calls.faults < 2 ^ 64 }
+    {
+        self.selected = None;
+        let Ok(()) = self.calls.next() else {
+            return Err(SelectFault::Failed);
+        };
+        let Some(which) = place_of(&self.puts, name) else {
+            return Err(SelectFault::Missing);
+        };
+        self.place = 0;
+        self.selected = Some(which);
+        Ok(())
+    }
+
+    fn read(&mut self, buf: &mut [u8]) -> Result<usize, Failed>
+        requires { is_some self.old.rest ≡ true }
+        ensures answer { is_err result ≡ next_fails self.old.calls }
+        ensures count { IfOk result (λ n. n ≡ read_count self.old (length buf.old)) }
+        ensures taken { IfOk result (λ n. self.old.rest ≡ preceded (take n buf.new) self.new.rest) }
+        ensures end { IfOk result (λ n. n ≡ 0 → 0 < length buf.old → AtEnd self.new.rest) }
+        ensures kept { IfOk result (λ n. drop n buf.new ≡ drop n buf.old) }
+        ensures err { OnErr result (buf.new ≡ buf.old) }
+        ensures length { length buf.new ≡ length buf.old }
+        ensures after { self.new ≡ after_read self.old (length buf.old) }
+        ensures faults { self.old.calls.faults ≤ self.new.calls.faults }
+        ensures last_fault { self.new.calls.faults < 2 ^ 64 }
+    {
+        let Some(which) = self.selected else {
+            unreachable!()
+        };
+        let Ok(()) = self.calls.next() else {
+            self.selected = None;
+            return Err(Failed);
+        };
+        let left = left_at(&self.puts, which, self.place);
+        let count = buf.len().min(self.most).min(left.len());
+        buf[..count].copy_from_slice(&left[..count]);
+        self.place += count;
+        Ok(count)
+    }
+}
