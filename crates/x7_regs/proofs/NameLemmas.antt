@@ -1,0 +1,46 @@
+-- The names of the registers differ: each has its own place in the table, by a computed test.
+use Rattle.std.proofs.Common.{◌≡◌, ℕ, zero, suc, ◌+◌, ◌<◌, ◌==◌, Bool, true, false, ◌&&◌, if◌then◌else◌, List, [], ◌∷◌, refl, ap, sym, ◌∙◌, arith, inl, inr, subst}
+use Rattle.std.proofs.lemmas.Bool.{cases_lt}
+use Rattle.std.proofs.lemmas.Grind.{common_steps}
+use Rattle.x7_regs.specs.Register.{reg_name, reg_names}
+
+same_text : List ℕ → List ℕ → Bool
+same_text [] [] = true
+same_text [] (y ∷ ys) = false
+same_text (x ∷ xs) [] = false
+same_text (x ∷ xs) (y ∷ ys) = (x == y) && same_text xs ys
+
+-- the place of a name in a table
+place_in : List (List ℕ) → List ℕ → ℕ
+place_in [] name = 0
+place_in (x ∷ xs) name = if same_text x name then 0 else place_in xs name + 1
+
+-- the first names stand at their own places
+stand_in_place : ℕ → Bool
+stand_in_place zero = true
+stand_in_place (suc n) = (place_in reg_names (reg_name n) == n) && stand_in_place n
+
+all_stand : stand_in_place 32 ≡ true
+unfolding stand_in_place place_in same_text
+all_stand = refl
+
+both : (a b : Bool) → (a && b) ≡ true → (a ≡ true) × (b ≡ true)
+both true true e = (refl, refl)
+both true false e = absurd (cc)
+both false b e = absurd (cc)
+
+equal_numbers : (a b : ℕ) → (a == b) ≡ true → a ≡ b
+equal_numbers a b e = grind (arith, common_steps)
+
+place_is : (k n : ℕ) → n < k → stand_in_place k ≡ true → place_in reg_names (reg_name n) ≡ n
+unfolding stand_in_place
+place_is zero n h e = absurd (omega arith)
+place_is (suc k) n h e =
+    let parts = both (place_in reg_names (reg_name k) == k) (stand_in_place k) e in
+    elim (cases_lt n k) [
+      | inl below ↦ place_is k n below parts.1
+      | inr above ↦ let same : k ≡ n = omega arith in let P : ℕ → Type 0 = λ j. place_in reg_names (reg_name j) ≡ j in subst P same (equal_numbers (place_in reg_names (reg_name k)) k parts.0)
+    ]
+
+pub reg_name-distinct : (m n : ℕ) → m < 32 → n < 32 → reg_name m ≡ reg_name n → m ≡ n
+reg_name-distinct m n h k e = sym (place_is 32 m h all_stand) ∙ ap (place_in reg_names) e ∙ place_is 32 n k all_stand

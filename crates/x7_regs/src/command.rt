@@ -1,0 +1,106 @@
+//! Commands of the command register (UG470, command register).
+ghost use Rattle.std.specs.Prelude.{◌≡◌, ◌<◌};
+ghost use Rattle.x7_regs.specs.Command.{code_of, command_by};
+
+/// A command, in the order of their codes.
+#[derive(Clone, Copy, Debug, PartialEq, Eq, Hash)]
+pub enum Command {
+    /// Nothing.
+    Null,
+    /// Frame data is written.
+    Wcfg,
+    /// A frame is written to more addresses.
+    Mfw,
+    /// The last frame is in.
+    Lfrm,
+    /// Frame data is read.
+    Rcfg,
+    /// Arms the startup sequence.
+    Start,
+    /// Ends a capture of states.
+    Rcap,
+    /// Clears the running check.
+    Rcrc,
+    /// Holds the interconnect.
+    Aghigh,
+    /// Changes the configuration clock.
+    Switch,
+    /// Sets the states from the memory.
+    Grestore,
+    /// Begins the shutdown sequence.
+    Shutdown,
+    /// Captures the states.
+    Gcapture,
+    /// Ends the session.
+    Desync,
+    /// Boots anew from `Wbstar`.
+    Iprog,
+    /// Computes the check of a readback anew.
+    Crcc,
+    /// Reloads the watchdog.
+    Ltimer,
+    /// Begins the read from flash anew.
+    BspiRead,
+    /// Captures data on the falling edge.
+    FallEdge,
+}
+
+/// The command that a word of the command register calls for, by its low five bits: `Null` where these are no code.
+#[rattlefmt::skip]
+pub fn command_of(w: u32) -> Command
+    ensures { result ≡ command_by w }
+{
+    match w & 31 {
+        1  => Command::Wcfg,
+        2  => Command::Mfw,
+        3  => Command::Lfrm,
+        4  => Command::Rcfg,
+        5  => Command::Start,
+        6  => Command::Rcap,
+        7  => Command::Rcrc,
+        8  => Command::Aghigh,
+        9  => Command::Switch,
+        10 => Command::Grestore,
+        11 => Command::Shutdown,
+        12 => Command::Gcapture,
+        13 => Command::Desync,
+        15 => Command::Iprog,
+        16 => Command::Crcc,
+        17 => Command::Ltimer,
+        18 => Command::BspiRead,
+        19 => Command::FallEdge,
+        _  => Command::Null,
+    }
+}
+
+impl Command {
+    /// The code of the command, below 32.
+    #[rattlefmt::skip]
+    pub fn code(self) -> u32
+        ensures value { result ≡ code_of self }
+        ensures fits { result < 32 }
+        ensures back { command_by result ≡ self }
+    {
+        match self {
+            Command::Null     => 0,
+            Command::Wcfg     => 1,
+            Command::Mfw      => 2,
+            Command::Lfrm     => 3,
+            Command::Rcfg     => 4,
+            Command::Start    => 5,
+            Command::Rcap     => 6,
+            Command::Rcrc     => 7,
+            Command::Aghigh   => 8,
+            Command::Switch   => 9,
+            Command::Grestore => 10,
+            Command::Shutdown => 11,
+            Command::Gcapture => 12,
+            Command::Desync   => 13,
+            Command::Iprog    => 15,
+            Command::Crcc     => 16,
+            Command::Ltimer   => 17,
+            Command::BspiRead => 18,
+            Command::FallEdge => 19,
+        }
+    }
+}

@@ -1,0 +1,112 @@
+-- Whole lines at once, and the parts of a text that is told in three parts.
+use Rattle.std.proofs.Common.{◌≡◌, ℕ, zero, suc, ◌+◌, ◌*◌, ◌<◌, ◌≤◌, List, [], ◌∷◌, ◌++◌, length, take, drop, get_or, set, codes, refl, ap, sym, ◌∙◌, append_assoc, arith, length-append, length-drop}
+use Rattle.std.proofs.lemmas.List.{drop-drop, flat_map_more, length-set, length-take-le, take-append-drop, take_all, take_at, take_more, take_more_set}
+use Rattle.std.proofs.lemmas.List.Folds.{flat_map-map}
+use Rattle.std.specs.List.{flat_map}
+use Rattle.std.specs.Simd.{first_chunks}
+use lib.Lanes.{Each1}
+use Rattle.x7_text.specs.Digits.{hex_byte, hex_word}
+use Rattle.x7_text.specs.Row.{in_line_after, line, open_text, spaced}
+use Rattle.x7_words.specs.Word.{words_of_bytes}
+use Rattle.x7_text.proofs.LineLemmas.{in_line_after-append, in_line_after-filled, in_line_after-row, open_text-append, open_text-row}
+use Rattle.x7_text.proofs.WordLemmas.{hex_words, length-words_of_bytes, words_of_bytes-append}
+
+-- a line of words is written word by word: a space, and the word's digits
+pub line_step : (text text' : List ℕ) (words : List (List ℕ)) (k : ℕ) → k < length words
+    → take (4 + 9 * k) text ≡ codes "data" ++ flat_map (λ (w : List ℕ). 32 ∷ w) (take k words)
+    → take (4 + 9 * k + 9) text' ≡ take (4 + 9 * k) text ++ 32 ∷ get_or words k []
+    → take (4 + 9 * (k + 1)) text' ≡ codes "data" ++ flat_map (λ (w : List ℕ). 32 ∷ w) (take (k + 1) words)
+line_step text text' words k below told more =
+    let e : 4 + 9 * (k + 1) ≡ 4 + 9 * k + 9 = omega arith in
+    ap (λ (j : ℕ). take j text') e ∙ more ∙ ap (λ t. t ++ 32 ∷ get_or words k []) told
+    ∙ flat_map_more (λ (w : List ℕ). 32 ∷ w) (codes "data") (take k words) (get_or words k [])
+    ∙ ap (λ ws. codes "data" ++ flat_map (λ (w : List ℕ). 32 ∷ w) ws) (sym (take_more words k [] below))
+
+pub spaced_step : (text word rest : List ℕ) (at : ℕ) → length word ≡ 8 → at < length text
+    → take (at + 9) (take (at + 1) (set text at 32) ++ (word ++ rest)) ≡ take at text ++ 32 ∷ word
+spaced_step text word rest at eight room =
+    let front : take (at + 1) (set text at 32) ≡ take at text ++ 32 ∷ [] = take_more_set text at 32 room in
+    ap (take (at + 9)) (sym (append_assoc (take (at + 1) (set text at 32)) word rest))
+    ∙ take_at (take (at + 1) (set text at 32) ++ word) rest (at + 9) (omega (arith, length-append (take (at + 1) (set text at 32)) word, length-take-le (at + 1) (set text at 32) (omega (arith, length-set text at 32))))
+    ∙ ap (λ t. t ++ word) front ∙ append_assoc (take at text) (32 ∷ []) word
+
+pub line_done : (text bs digits : List ℕ) (words : List (List ℕ)) (k n : ℕ) → length text ≡ 77 → length bs ≡ 32 → Each1 (λ b. b < 256) bs → digits ≡ flat_map hex_byte bs → words ≡ first_chunks 8 n digits
+    → n ≡ 8 → k ≡ 8 → length words ≡ 8 → take (4 + 9 * k) text ≡ codes "data" ++ flat_map (λ (w : List ℕ). 32 ∷ w) (take k words) → set text 76 10 ≡ line (codes "data") spaced (words_of_bytes bs)
+line_done text bs digits words k n long full fit same split of_eight at_end eight told =
+    sym (take_all 77 (set text 76 10) (omega (arith, length-set text 76 10)))
+    ∙ take_more_set text 76 10 (omega arith)
+    ∙ ap (λ t. t ++ 10 ∷ []) (ap (λ (j : ℕ). take (4 + 9 * j) text) (sym at_end) ∙ told ∙ ap (λ ws. codes "data" ++ flat_map (λ (w : List ℕ). 32 ∷ w) ws)
+    (take_all k words (omega arith) ∙ split ∙ ap (λ (j : ℕ). first_chunks 8 j digits) of_eight ∙ ap (first_chunks 8 8) same ∙ hex_words 8 bs full fit)
+    ∙ ap (λ t. codes "data" ++ t) (flat_map-map (λ (w : List ℕ). 32 ∷ w) hex_word (words_of_bytes bs)))
+
+pub length-chunk_at : (n k : ℕ) (xs : List ℕ) → 8 * n ≤ length xs → k < n → length (get_or (first_chunks 8 n xs) k []) ≡ 8
+length-chunk_at zero k xs h less = absurd (omega arith)
+length-chunk_at (suc n) zero xs h less = length-take-le 8 xs (omega arith)
+length-chunk_at (suc n) (suc k) xs h less = length-chunk_at n k (drop 8 xs) (omega (arith, length-drop 8 xs)) (omega arith)
+
+-- elements that fill an open line
+pub in_line_after-full : (n i : ℕ) (xs : List ℕ) → i < n → i + length xs ≡ n → in_line_after n i xs ≡ 0
+in_line_after-full n i [] less e = absurd (omega (arith, e))
+in_line_after-full n i (x ∷ xs) less e = in_line_after-filled n i x xs (omega (arith, e))
+
+-- elements of which 32 bytes make a whole row
+pub record InRows (n : ℕ) (elements : List ℕ → List ℕ) : Type 0 where
+  pub divides : (bs : List ℕ) → 32 ≤ length bs → elements bs ≡ elements (take 32 bs) ++ elements (drop 32 bs)
+  pub is_full : (bs : List ℕ) → 32 ≤ length bs → length (elements (take 32 bs)) ≡ n
+  pub positive : 0 < n
+
+pub words_in_rows : InRows 8 words_of_bytes
+words_in_rows = record {
+  divides = λ bs h. ap words_of_bytes (sym (take-append-drop 32 bs)) ∙ words_of_bytes-append 8 (take 32 bs) (drop 32 bs) (length-take-le 32 bs h);
+  is_full = λ bs h. length-words_of_bytes 8 (take 32 bs) (length-take-le 32 bs h);
+  positive = omega arith;
+}
+
+pub bytes_in_rows : InRows 32 (λ bs. bs)
+bytes_in_rows = record { divides = λ bs h. sym (take-append-drop 32 bs); is_full = λ bs h. length-take-le 32 bs h; positive = omega arith }
+
+drop_row : (k : ℕ) (bs : List ℕ) → drop (k * 32) (drop 32 bs) ≡ drop (suc k * 32) bs
+drop_row k bs = let e : 32 + k * 32 ≡ suc k * 32 = omega arith in drop-drop (k * 32) 32 bs ∙ ap (λ (j : ℕ). drop j bs) e
+
+pub lines_text : (n : ℕ) (word : List ℕ) (text : ℕ → List ℕ) (elements : List ℕ → List ℕ) → InRows n elements → (k : ℕ) (bs : List ℕ) → k * 32 ≤ length bs
+    → open_text n word text 0 (elements bs) ≡ flat_map (λ (row : List ℕ). line word text (elements row)) (first_chunks 32 k bs) ++ open_text n word text 0 (elements (drop (k * 32) bs))
+lines_text n word text elements r zero bs h = refl
+lines_text n word text elements r (suc k) bs h =
+    let long : 32 ≤ length bs = omega arith in
+    ap (open_text n word text 0) (r.divides bs long)
+    ∙ open_text-row n word text (elements (take 32 bs)) (elements (drop 32 bs)) (r.is_full bs long) r.positive
+    ∙ ap (λ t. line word text (elements (take 32 bs)) ++ t) (lines_text n word text elements r k (drop 32 bs) (omega (arith, length-drop 32 bs)))
+    ∙ ap (λ t. line word text (elements (take 32 bs)) ++ (flat_map (λ (row : List ℕ). line word text (elements row)) (first_chunks 32 k (drop 32 bs)) ++ open_text n word text 0 (elements t))) (drop_row k bs)
+    ∙ sym (append_assoc (line word text (elements (take 32 bs))) (flat_map (λ (row : List ℕ). line word text (elements row)) (first_chunks 32 k (drop 32 bs))) (open_text n word text 0 (elements (drop (suc k * 32) bs))))
+
+pub lines_count : (n : ℕ) (elements : List ℕ → List ℕ) → InRows n elements → (k : ℕ) (bs : List ℕ) → k * 32 ≤ length bs → in_line_after n 0 (elements bs) ≡ in_line_after n 0 (elements (drop (k * 32) bs))
+lines_count n elements r zero bs h = refl
+lines_count n elements r (suc k) bs h =
+    let long : 32 ≤ length bs = omega arith in
+    ap (in_line_after n 0) (r.divides bs long)
+    ∙ in_line_after-row n (elements (take 32 bs)) (elements (drop 32 bs)) (r.is_full bs long) r.positive
+    ∙ lines_count n elements r k (drop 32 bs) (omega (arith, length-drop 32 bs))
+    ∙ ap (λ t. in_line_after n 0 (elements t)) (drop_row k bs)
+
+-- a front that fills the open line, whole lines, and a tail
+module _ (n : ℕ) (word : List ℕ) (text : ℕ → List ℕ) (elements : List ℕ → List ℕ) (r : InRows n elements) (i k : ℕ) (bs front rest : List ℕ)
+    (parts : elements bs ≡ elements front ++ elements rest) (filled : in_line_after n i (elements front) ≡ 0) (within : k * 32 ≤ length rest) where
+  pub parts_text : open_text n word text i (elements bs)
+      ≡ open_text n word text i (elements front) ++ (flat_map (λ (row : List ℕ). line word text (elements row)) (first_chunks 32 k rest) ++ open_text n word text 0 (elements (drop (k * 32) rest)))
+  parts_text =
+      ap (open_text n word text i) parts
+      ∙ open_text-append n word text i (elements front) (elements rest)
+      ∙ ap (λ j. open_text n word text i (elements front) ++ open_text n word text j (elements rest)) filled
+      ∙ ap (λ t. open_text n word text i (elements front) ++ t) (lines_text n word text elements r k rest within)
+
+  pub parts_count : in_line_after n i (elements bs) ≡ in_line_after n 0 (elements (drop (k * 32) rest))
+  parts_count =
+      ap (in_line_after n i) parts ∙ in_line_after-append n i (elements front) (elements rest) ∙ ap (λ j. in_line_after n j (elements rest)) filled
+      ∙ lines_count n elements r k rest within
+
+pub in_three : (old first second third a b c whole : List ℕ) → first ≡ old ++ a → second ≡ first ++ b → third ≡ second ++ c → whole ≡ a ++ (b ++ c) → third ≡ old ++ whole
+in_three old first second third a b c whole p q r s = rw (r, q, p, s) (simp append_assoc)
+
+pub length-hex_bytes : (bs : List ℕ) → length (flat_map hex_byte bs) ≡ 2 * length bs
+length-hex_bytes [] = refl
+length-hex_bytes (b ∷ bs) = omega (arith, length-hex_bytes bs)

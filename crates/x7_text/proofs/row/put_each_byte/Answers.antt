@@ -1,0 +1,17 @@
+use Rattle.std.proofs.Common.{arith}
+use Rattle.std.proofs.lemmas.List.{take_more}
+use Rattle.x7_text.proofs.ToldLemmas.{told_bytes_length, told_one_more}
+use Rattle.x7_text.proofs.row.put_each_byte.Goals as goal
+
+pub put_byte-count-requires-clause-room : goal.put_byte-count-requires-clause-room
+put_byte-count-requires-clause-room c =
+    omega (arith, c.loop-byte.text.ok.0, c.args.text.now.ok.0, told_bytes_length _ _ _ _ _ _ c.requires.open (omega arith) c.loop-byte.invariant.0)
+
+pub loop-byte-preserved : goal.loop-byte-preserved
+loop-byte-preserved c =
+    rw (take_more c.args.bytes.now c.loop-byte.byte-index 0 (omega arith))
+    (told_one_more _ _ _ _ _ _ _ _ _ _ _ c.loop-byte.invariant.0 c.put_byte-count.ensures.items c.put_byte-count.ensures.count c.put_byte-count.ensures.open, omega arith)
+
+pub returns-clause-length : goal.returns-clause-length
+returns-clause-length c =
+    omega (arith, c.loop-byte.text.ok.0, c.args.text.now.ok.0, told_bytes_length _ _ _ _ _ _ c.requires.open (omega arith) c.loop-byte.invariant.0)

@@ -1,0 +1,16 @@
+-- Hexadecimal digits, in upper case (this project's choice).
+use Rattle.std.specs.Prelude.{ℕ, ◌+◌, ◌/◌, ◌%◌, ◌^◌, nat_lt, if◌then◌else◌, List, [], ◌∷◌}
+
+-- the digit of a number below 16
+abbrev pub hex_digit : ℕ → ℕ
+hex_digit n = if nat_lt n 10 then 48 + n else 55 + n
+
+-- the two digits of a byte, the high half first
+abbrev pub hex_byte : ℕ → List ℕ
+hex_byte b = hex_digit (b / 2 ^ 4 % 16) ∷ hex_digit (b % 16) ∷ []
+
+-- the eight digits of a word, the highest first
+abbrev pub hex_word : ℕ → List ℕ
+hex_word w =
+    hex_digit (w / 2 ^ 28 % 16) ∷ hex_digit (w / 2 ^ 24 % 16) ∷ hex_digit (w / 2 ^ 20 % 16) ∷ hex_digit (w / 2 ^ 16 % 16)
+    ∷ hex_digit (w / 2 ^ 12 % 16) ∷ hex_digit (w / 2 ^ 8 % 16) ∷ hex_digit (w / 2 ^ 4 % 16) ∷ hex_digit (w % 16) ∷ []

@@ -1,0 +1,72 @@
+-- Rows of words or bytes, and the lines that show them (this project's choice).
+use Rattle.std.specs.Prelude.{ℕ, ◌+◌, ◌==◌, ◌≡◌, ◌<◌, ◌≤◌, if◌then◌else◌, List, [], ◌∷◌, ◌++◌, length, codes}
+use Rattle.std.specs.List.{flat_map}
+use Rattle.x7_text.specs.Digits.{hex_byte, hex_word}
+
+-- a row that has elements, and nothing for an empty one
+abbrev pub row_if_any : List ℕ → List (List ℕ)
+row_if_any [] = []
+row_if_any (x ∷ xs) = (x ∷ xs) ∷ []
+
+-- the rows of n elements, the first of which begins with the elements of an open row
+abbrev pub rows_behind : ℕ → List ℕ → List ℕ → List (List ℕ)
+rows_behind n part [] = row_if_any part
+rows_behind n part (x ∷ xs) = if length part + 1 == n then (part ++ x ∷ []) ∷ rows_behind n [] xs else rows_behind n (part ++ x ∷ []) xs
+
+-- the rows of n elements, the last of which may be shorter
+abbrev pub rows : ℕ → List ℕ → List (List ℕ)
+rows n xs = rows_behind n [] xs
+
+-- all rows but the last have n elements, and the last has one to n
+abbrev pub AreFullButLast : ℕ → List (List ℕ) → Type 0
+AreFullButLast n [] = Unit {0}
+AreFullButLast n (r ∷ []) = (0 < length r) × (length r ≤ n)
+AreFullButLast n (r ∷ s ∷ rs) = (length r ≡ n) × AreFullButLast n (s ∷ rs)
+
+-- the line of a row: the word that it begins with, the text of each element, and the line end
+abbrev pub line : List ℕ → (ℕ → List ℕ) → List ℕ → List ℕ
+line word text row = word ++ flat_map text row ++ 10 ∷ []
+
+-- a word of a `data` line: a space and eight digits
+abbrev pub spaced : ℕ → List ℕ
+spaced w = 32 ∷ hex_word w
+
+-- bytes as `bytes` lines of 32, the last of which may be shorter
+abbrev pub bytes_text : List ℕ → List ℕ
+bytes_text bs = flat_map (line (codes "bytes ") hex_byte) (rows 32 bs)
+
+-- words as `data` lines of eight, the last of which may be shorter
+abbrev pub data_text : List ℕ → List ℕ
+data_text ws = flat_map (line (codes "data") spaced) (rows 8 ws)
+
+-- the same lines element by element, where i elements stand in the open line (0 where none is open)
+
+-- what stands before an element: the line's word before its first one
+abbrev pub line_start : List ℕ → ℕ → List ℕ
+line_start word i = if i == 0 then word else []
+
+-- what stands behind an element: the line end behind the one that fills the line
+abbrev pub line_end : ℕ → ℕ → List ℕ
+line_end n i = if i + 1 == n then 10 ∷ [] else []
+
+-- the count of elements in the open line after one more
+abbrev pub next_in_line : ℕ → ℕ → ℕ
+next_in_line n i = if i + 1 == n then 0 else i + 1
+
+-- what one more element adds to the text
+abbrev pub element_text : ℕ → List ℕ → (ℕ → List ℕ) → ℕ → ℕ → List ℕ
+element_text n word text i x = line_start word i ++ text x ++ line_end n i
+
+-- what elements add to the text; the last line stays open unless it is full
+abbrev pub open_text : ℕ → List ℕ → (ℕ → List ℕ) → ℕ → List ℕ → List ℕ
+open_text n word text i [] = []
+open_text n word text i (x ∷ xs) = element_text n word text i x ++ open_text n word text (next_in_line n i) xs
+
+-- the count of elements in the open line after these
+abbrev pub in_line_after : ℕ → ℕ → List ℕ → ℕ
+in_line_after n i [] = i
+in_line_after n i (x ∷ xs) = in_line_after n (next_in_line n i) xs
+
+-- the end of an open line, and nothing where none is open
+abbrev pub close : ℕ → List ℕ
+close i = if i == 0 then [] else 10 ∷ []

@@ -1,0 +1,71 @@
+//! Lines of 32 bytes at once: their digits in vector registers, and the line in an array.
+ghost use Rattle.std.specs.Prelude.{◌≡◌, ◌<◌, ◌≤◌, ◌+◌, ◌/◌, ◌%◌, ◌^◌, [], ◌∷◌, ◌++◌, length, take, map, codes};
+ghost use Rattle.std.specs.List.{flat_map};
+ghost use Rattle.std.specs.Simd.Lanes.{Each1};
+ghost use Rattle.x7_text.specs.Digits.{hex_byte, hex_digit};
+ghost use Rattle.x7_text.specs.Row.{line, spaced};
+ghost use Rattle.x7_words.specs.Word.{words_of_bytes};
+
+use std::simd::prelude::*;
+
+/// The digits of numbers below 16.
+#[inline(always)]
+fn hex_digits(numbers: u8x64) -> u8x64
+    requires lanes { length numbers ≡ 64 }
+    requires below { Each1 (λ n. n < 16) numbers }
+    ensures { result ≡ map hex_digit numbers }
+{
+    let is_letter = numbers.simd_gt(u8x64::splat(9));
+    numbers + is_letter.select(u8x64::splat(b'A' - 10), u8x64::splat(b'0'))
+}
+
+/// The two halves of each byte, the high one first.
+#[inline(always)]
+fn halves_of(bytes: u8x32) -> u8x64
+    requires { length bytes ≡ 32 }
+    ensures { result ≡ flat_map (λ b. b / 2 ^ 4 ∷ b % 2 ^ 4 ∷ []) bytes }
+{
+    let (high, low) = (bytes >> 4, bytes & u8x32::splat(15));
+    high.shuffle(
+        low,
+        [
+            0, 32, 1, 33, 2, 34, 3, 35, 4, 36, 5, 37, 6, 38, 7, 39, 8, 40, 9, 41, 10, 42, 11, 43,
+            12, 44, 13, 45, 14, 46, 15, 47, 16, 48, 17, 49, 18, 50, 19, 51, 20, 52, 21, 53, 22, 54,
+            23, 55, 24, 56, 25, 57, 26, 58, 27, 59, 28, 60, 29, 61, 30, 62, 31, 63,
+        ],
+    )
+}
+
+/// The two upper-case digits of each byte.
+#[inline(always)]
+pub(crate) fn hex_of_block(bytes: &[u8; 32]) -> [u8; 64]
+    ensures { result ≡ flat_map hex_byte bytes.now }
+{
+    hex_digits(halves_of(u8x32::from_array(*bytes))).to_array()
+}
+
+/// Writes a space and the eight digits of a word from `at` on.
+#[inline(always)]
+fn write_spaced(text: &mut [u8; 77], at: usize, digits: &[u8; 8])
+    requires { at + 9 ≤ 77 }
+    ensures { take (at + 9) text.new ≡ take at text.old ++ 32 ∷ digits.now }
+{
+    text[at] = b' ';
+    u8x8::from_array(*digits).copy_to_slice(&mut text[at + 1..]);
+}
+
+/// The `data` line of eight words, with its line end.
+#[inline(always)]
+pub(crate) fn data_line(bytes: &[u8; 32]) -> [u8; 77]
+    ensures { result ≡ line (codes "data") spaced (words_of_bytes bytes.now) }
+{
+    let digits = hex_of_block(bytes);
+    let (words, _) = digits.as_chunks::<8>();
+    let mut text = [b'\n'; 77];
+    u8x4::from_array(*b"data").copy_to_slice(&mut text);
+    for (k, word) in words.iter().enumerate() {
+        write_spaced(&mut text, 4 + 9 * k, word);
+    }
+    text[76] = b'\n';
+    text
+}

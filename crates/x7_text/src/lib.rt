@@ -1,0 +1,13 @@
+//! The texts that every report shares: hexadecimal digits, decimal numbers, and the lines of a row of words or bytes.
+#![tactic(auto)]
+
+mod block;
+mod digits;
+mod law;
+mod room;
+mod row;
+
+pub use digits::{hex_of_byte, hex_of_word, put_decimal};
+pub use law::{rows_are_the_elements, told_in_parts, told_one_by_one, whole_rows};
+pub use room::put;
+pub use row::{put_bytes, put_close, put_word, put_words};

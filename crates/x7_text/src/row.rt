@@ -1,0 +1,209 @@
+//! Lines of a row, written as the elements come: an open line takes more elements until it is full.
+ghost use Rattle.std.specs.Prelude.{◌≡◌, [], ◌∷◌, ◌<◌, ◌≤◌, ◌+◌, ◌*◌, ◌%◌, ◌++◌, length, vec_len, vec_capacity, codes};
+ghost use Rattle.std.specs.List.{flat_map};
+ghost use Rattle.x7_text.specs.Digits.{hex_byte};
+ghost use Rattle.x7_text.specs.Row.{line, line_start, line_end, next_in_line, open_text, in_line_after, spaced, close};
+ghost use Rattle.x7_words.specs.Word.{words_of_bytes};
+
+use crate::block::{data_line, hex_of_block};
+use crate::digits::{hex_of_byte, hex_of_word};
+use crate::room::put;
+use x7_words::word_of;
+
+/// Appends the word that a line begins with, where no line is open.
+fn put_line_start(text: &mut Vec<u8>, word: &[u8], in_line: usize)
+    requires { vec_len text.old + length word.now ≤ vec_capacity text.old }
+    ensures items { text.new.items ≡ text.old.items ++ line_start word.now in_line }
+    ensures length { vec_len text.new ≤ vec_len text.old + length word.now }
+    ensures room { vec_capacity text.old ≤ vec_capacity text.new }
+{
+    if in_line == 0 {
+        put(text, word);
+    }
+}
+
+/// Appends the end of a line that the last element filled. Gives the count of elements in the open line.
+fn put_line_end(text: &mut Vec<u8>, full: usize, in_line: usize) -> usize
+    requires open { in_line < full }
+    requires room { vec_len text.old + 1 ≤ vec_capacity text.old }
+    ensures next { result ≡ next_in_line full in_line }
+    ensures open { result < full }
+    ensures items { text.new.items ≡ text.old.items ++ line_end full in_line }
+    ensures length { vec_len text.new ≤ vec_len text.old + 1 }
+    ensures room { vec_capacity text.old ≤ vec_capacity text.new }
+{
+    if in_line + 1 == full {
+        put(text, b"\n");
+        return 0;
+    }
+    in_line + 1
+}
+
+/// Appends a word to a `data` line of which `in_line` words stand (0 where no line is open). Gives that count afterwards.
+pub fn put_word(text: &mut Vec<u8>, in_line: usize, w: u32) -> usize
+    requires open { in_line < 8 }
+    requires room { vec_len text.old + 14 ≤ vec_capacity text.old }
+    ensures count { result ≡ in_line_after 8 in_line (w ∷ []) }
+    ensures open { result < 8 }
+    ensures items { text.new.items ≡ text.old.items ++ open_text 8 (codes "data") spaced in_line (w ∷ []) }
+    ensures length { vec_len text.new ≤ vec_len text.old + 14 }
+    ensures room { vec_capacity text.old ≤ vec_capacity text.new }
+{
+    put_line_start(text, b"data", in_line);
+    put(text, b" ");
+    put(text, &hex_of_word(w));
+    put_line_end(text, 8, in_line)
+}
+
+/// Appends a byte to a `bytes` line of which `in_line` bytes stand.
+fn put_byte(text: &mut Vec<u8>, in_line: usize, byte: u8) -> usize
+    requires open { in_line < 32 }
+    requires room { vec_len text.old + 9 ≤ vec_capacity text.old }
+    ensures count { result ≡ in_line_after 32 in_line (byte ∷ []) }
+    ensures open { result < 32 }
+    ensures items { text.new.items ≡ text.old.items ++ open_text 32 (codes "bytes ") hex_byte in_line (byte ∷ []) }
+    ensures length { vec_len text.new ≤ vec_len text.old + 9 }
+    ensures room { vec_capacity text.old ≤ vec_capacity text.new }
+{
+    put_line_start(text, b"bytes ", in_line);
+    put(text, &hex_of_byte(byte));
+    put_line_end(text, 32, in_line)
+}
+
+/// Appends the end of an open line, and nothing where none is open.
+pub fn put_close(text: &mut Vec<u8>, in_line: usize)
+    requires { vec_len text.old + 1 ≤ vec_capacity text.old }
+    ensures items { text.new.items ≡ text.old.items ++ close in_line }
+    ensures length { vec_len text.new ≤ vec_len text.old + 1 }
+    ensures room { vec_capacity text.old ≤ vec_capacity text.new }
+{
+    if in_line > 0 {
+        put(text, b"\n");
+    }
+}
+
+/// Appends whole `data` lines of eight words each.
+fn put_data_lines(text: &mut Vec<u8>, lines: &[[u8; 32]])
+    requires { vec_len text.old + 77 * length lines.now ≤ vec_capacity text.old }
+    ensures items { text.new.items ≡ text.old.items
+        ++ flat_map (λ bytes. line (codes "data") spaced (words_of_bytes bytes)) lines.now }
+    ensures length { vec_len text.new ≡ vec_len text.old + 77 * length lines.now }
+    ensures room { vec_capacity text.old ≤ vec_capacity text.new }
+{
+    for bytes in lines {
+        put(text, &data_line(bytes));
+    }
+}
+
+/// Appends the `bytes` line of 32 bytes.
+#[inline(always)]
+fn put_bytes_line(text: &mut Vec<u8>, bytes: &[u8; 32])
+    requires { vec_len text.old + 71 ≤ vec_capacity text.old }
+    ensures items { text.new.items ≡ text.old.items ++ line (codes "bytes ") hex_byte bytes.now }
+    ensures length { vec_len text.new ≡ vec_len text.old + 71 }
+    ensures room { vec_capacity text.old ≤ vec_capacity text.new }
+{
+    put(text, b"bytes ");
+    put(text, &hex_of_block(bytes));
+    put(text, b"\n");
+}
+
+/// Appends whole `bytes` lines.
+fn put_bytes_lines(text: &mut Vec<u8>, lines: &[[u8; 32]])
+    requires { vec_len text.old + 71 * length lines.now ≤ vec_capacity text.old }
+    ensures items { text.new.items ≡ text.old.items ++ flat_map (line (codes "bytes ") hex_byte) lines.now }
+    ensures length { vec_len text.new ≡ vec_len text.old + 71 * length lines.now }
+    ensures room { vec_capacity text.old ≤ vec_capacity text.new }
+{
+    for bytes in lines {
+        put_bytes_line(text, bytes);
+    }
+}
+
+/// Appends the words of whole groups of four bytes, word by word.
+fn put_each_word(text: &mut Vec<u8>, in_line: usize, bytes: &[u8]) -> usize
+    requires open { in_line < 8 }
+    requires whole { length bytes.now % 4 ≡ 0 }
+    requires room { vec_len text.old + (3 * length bytes.now + 4) ≤ vec_capacity text.old }
+    ensures count { result ≡ in_line_after 8 in_line (words_of_bytes bytes.now) }
+    ensures open { result < 8 }
+    ensures items { text.new.items ≡ text.old.items
+        ++ open_text 8 (codes "data") spaced in_line (words_of_bytes bytes.now) }
+    ensures length { vec_len text.new ≤ vec_len text.old + (3 * length bytes.now + 1) }
+    ensures room { vec_capacity text.old ≤ vec_capacity text.new }
+{
+    let (words, _) = bytes.as_chunks::<4>();
+    let mut count = in_line;
+    for word in words {
+        count = put_word(text, count, word_of(*word));
+    }
+    count
+}
+
+/// Appends bytes, byte by byte.
+fn put_each_byte(text: &mut Vec<u8>, in_line: usize, bytes: &[u8]) -> usize
+    requires open { in_line < 32 }
+    requires room { vec_len text.old + (3 * length bytes.now + 11) ≤ vec_capacity text.old }
+    ensures count { result ≡ in_line_after 32 in_line bytes.now }
+    ensures open { result < 32 }
+    ensures items { text.new.items ≡ text.old.items
+        ++ open_text 32 (codes "bytes ") hex_byte in_line bytes.now }
+    ensures length { vec_len text.new ≤ vec_len text.old + (3 * length bytes.now + 5) }
+    ensures room { vec_capacity text.old ≤ vec_capacity text.new }
+{
+    let mut count = in_line;
+    for byte in bytes {
+        count = put_byte(text, count, *byte);
+    }
+    count
+}
+
+/// Appends the words of whole groups of four bytes, the first byte the highest, to `data` lines of which the open one
+/// has `in_line` words (0 where none is open). Gives that count afterwards. It takes no memory.
+pub fn put_words(text: &mut Vec<u8>, in_line: usize, bytes: &[u8]) -> usize
+    requires open { in_line < 8 }
+    requires whole { length bytes.now % 4 ≡ 0 }
+    requires room { vec_len text.old + (3 * length bytes.now + 16) ≤ vec_capacity text.old }
+    ensures count { result ≡ in_line_after 8 in_line (words_of_bytes bytes.now) }
+    ensures open { result < 8 }
+    ensures items { text.new.items ≡ text.old.items
+        ++ open_text 8 (codes "data") spaced in_line (words_of_bytes bytes.now) }
+    ensures length { vec_len text.new ≤ vec_len text.old + (3 * length bytes.now + 16) }
+    ensures room { vec_capacity text.old ≤ vec_capacity text.new }
+{
+    let open = 4 * (8 - in_line);
+    if bytes.len() < open {
+        return put_each_word(text, in_line, bytes);
+    }
+    let (front, rest) = bytes.split_at(open);
+    put_each_word(text, in_line, front);
+    let (lines, rest) = rest.as_chunks::<32>();
+    put_data_lines(text, lines);
+    put_each_word(text, 0, rest)
+}
+
+/// Appends bytes to `bytes` lines of which the open one has `in_line` bytes (0 where none is open). Gives that count
+/// afterwards. It takes no memory.
+pub fn put_bytes(text: &mut Vec<u8>, in_line: usize, bytes: &[u8]) -> usize
+    requires open { in_line < 32 }
+    requires room { vec_len text.old + (3 * length bytes.now + 16) ≤ vec_capacity text.old }
+    ensures count { result ≡ in_line_after 32 in_line bytes.now }
+    ensures open { result < 32 }
+    ensures items { text.new.items ≡ text.old.items
+        ++ open_text 32 (codes "bytes ") hex_byte in_line bytes.now }
+    ensures length { vec_len text.new ≤ vec_len text.old + (3 * length bytes.now + 16) }
+    ensures room { vec_capacity text.old ≤ vec_capacity text.new }
+{
+    let open = 32 - in_line;
+    if bytes.len() < open {
+        return put_each_byte(text, in_line, bytes);
+    }
+    let (front, rest) = bytes.split_at(open);
+    put_each_byte(text, in_line, front);
+    let (lines, rest) = rest.as_chunks::<32>();
+    put_bytes_lines(text, lines);
+    put_each_byte(text, 0, rest)
+}
+
+#[cfg(test)]
+mod tests;
