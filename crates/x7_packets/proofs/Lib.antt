@@ -1,0 +1,10 @@
+pub mod ByHandLemmas
+pub mod CutLemmas
+pub mod EndLemmas
+pub mod FitLemmas
+pub mod HistoryLemmas
+pub mod PacketLemmas
+pub mod SearchLemmas
+pub mod SyncLemmas
+pub mod TakeLemmas
+pub mod UniqueLemmas

@@ -1,0 +1,118 @@
+-- A search by the first place of the sync word in a piece, behind a gap that ended in an earlier piece.
+use Rattle.std.proofs.Common.{zero, suc, Bool, true, false, IsTrue, ◌↔◌, if◌then◌else◌, take-add, get_or-take, ◌≡◌, ℕ, ◌+◌, ◌-◌, ◌<◌, ◌≤◌, List, [], ◌∷◌, ◌++◌, length, take, drop, get_or, refl, ap, sym, ◌∙◌, append_assoc, arith, length-append, length-take, inl, inr, Option, None, Some}
+use Rattle.std.proofs.lemmas.List.{take-append-drop, take_more, take-take, drop_at}
+use Rattle.std.specs.Option.{is_some, IfSome}
+use Rattle.memchr.specs.Find.{OccursAt}
+use Rattle.memchr.proofs.lemmas.MatchLemmas.{OccursAt-part, OccursAt-from_part}
+use Rattle.x7_words.proofs.ListLemmas.{fronts_of, shorter_front, IsFront}
+use Rattle.x7_packets.specs.SyncWord.{EndsWithSync, HasNoSync, IsBeforeSync, sync_bytes}
+use Rattle.x7_packets.specs.Matching.{LastThree, MatcherStandsFor, Searched}
+use Rattle.x7_packets.proofs.SyncLemmas.{first_here, none_yet}
+
+-- bytes that begin with some and the sync word have the sync word there
+occurs : (bytes front back : List ℕ) → bytes ≡ front ++ (sync_bytes ++ back) → OccursAt bytes sync_bytes (length front)
+occurs bytes front back e =
+    OccursAt-from_part bytes sync_bytes (length front)
+    (omega (arith, ap length e, length-append front (sync_bytes ++ back), length-append sync_bytes back))
+    (ap (λ t. take 4 (drop (length front) t)) e ∙ ap (take 4) (drop_at front (sync_bytes ++ back) (length front) refl))
+
+-- a gap ends in a front of the sync word, and the piece goes on with the rest: the piece's first three bytes are enough to see it
+in_the_seam : (gap bytes front more back : List ℕ) → HasNoSync (gap ++ take 3 bytes) → gap ≡ front ++ more → sync_bytes ++ back ≡ more ++ bytes → 0 < length more → ⊥
+in_the_seam gap bytes front more back n e f s =
+    let long : length sync_bytes ≤ length (more ++ take 3 bytes) = omega (arith, ap length f, length-append more (take 3 bytes), length-append more bytes, length-append sync_bytes back, length-take 3 bytes) in
+    let whole : sync_bytes ++ back ≡ (more ++ take 3 bytes) ++ drop 3 bytes = f ∙ ap (λ t. more ++ t) (sym (take-append-drop 3 bytes)) ∙ sym (append_assoc more (take 3 bytes) (drop 3 bytes)) in
+    let r : (m : List ℕ) × (more ++ take 3 bytes ≡ sync_bytes ++ m) = shorter_front sync_bytes (more ++ take 3 bytes) back (drop 3 bytes) long whole in
+    n.none front r.0 (ap (λ t. t ++ take 3 bytes) e ∙ append_assoc front more (take 3 bytes) ∙ ap (λ t. front ++ t) r.1 ∙ sym (append_assoc front sync_bytes r.0))
+
+nowhere : (gap bytes front back : List ℕ) → HasNoSync (gap ++ take 3 bytes) → ((k : ℕ) → OccursAt bytes sync_bytes k → ⊥) → gap ++ bytes ≡ front ++ (sync_bytes ++ back) → ⊥
+nowhere gap bytes front back n o e = elim (fronts_of gap front bytes (sync_bytes ++ back) e) [
+  | inl l ↦ o (length l.more) (occurs bytes l.more back l.back)
+  | inr l ↦ seam l
+]
+  where
+    by_more : (more : List ℕ) → gap ≡ front ++ more → sync_bytes ++ back ≡ more ++ bytes → ⊥
+    by_more [] g b = o 0 (occurs bytes [] back (sym b))
+    by_more (x ∷ xs) g b = in_the_seam gap bytes front (x ∷ xs) back n g b (omega arith)
+
+    seam : IsFront front gap (sync_bytes ++ back) bytes → ⊥
+    seam l = by_more l.more l.front l.back
+
+-- where neither the seam nor the piece has it, the sync word stands nowhere
+pub none_found : (gap bytes : List ℕ) → HasNoSync (gap ++ take 3 bytes) → ((k : ℕ) → OccursAt bytes sync_bytes k → ⊥) → HasNoSync (gap ++ bytes)
+none_found gap bytes n o = record { none = λ front back e. nowhere gap bytes front back n o (e ∙ append_assoc front sync_bytes back) }
+
+-- the search byte by byte, one byte further
+pub passed : (gap bytes : List ℕ) (i : ℕ) → i < length bytes → gap ++ take (i + 1) bytes ≡ (gap ++ take i bytes) ++ get_or bytes i 0 ∷ []
+passed gap bytes i h = ap (λ t. gap ++ t) (take_more bytes i 0 h) ∙ sym (append_assoc gap (take i bytes) (get_or bytes i 0 ∷ []))
+
+-- a search in the first three bytes that found the sync word
+pub found_in_seam : (gap bytes : List ℕ) (r : Option ℕ) (m : LastThree) → is_some r ≡ true → IfSome r (λ n. (0 < n) × (n ≤ length (take 3 bytes))) → Searched gap (take 3 bytes) r m → Searched gap bytes r m
+found_in_seam gap bytes None m e w s = absurd (cc)
+found_in_seam gap bytes (Some n) m e w s =
+    let few : n ≤ 3 = omega (arith, w.1, length-take 3 bytes) in
+    let same : take n (take 3 bytes) ≡ take n bytes = take-take n 3 bytes few in
+    (s.0, ap (λ t. gap ++ t) (sym same) ∙ s.1, s.2)
+
+-- a search in the first three bytes that found none
+pub none_in_seam : (gap bytes : List ℕ) (r : Option ℕ) (m : LastThree) → is_some r ≡ false → Searched gap (take 3 bytes) r m → HasNoSync (gap ++ take 3 bytes)
+none_in_seam gap bytes None m e s = s.0
+none_in_seam gap bytes (Some n) m e s = absurd (cc)
+
+-- the sync word stands in a front of the bytes as it stands in them
+occurs_in_front : (bytes : List ℕ) (n k : ℕ) → OccursAt (take n bytes) sync_bytes k → (k + 4 ≤ n) × OccursAt bytes sync_bytes k
+occurs_in_front bytes n k o =
+    let within : k + 4 ≤ n = omega (arith, o.fits, length-take n bytes) in (
+      within,
+      record {
+        fits = omega (arith, o.fits, length-take n bytes);
+        reads = λ j h. sym (get_or-take n bytes (k + j) 0 (let g : j < 4 = h in omega arith)) ∙ o.reads j h;
+      },
+    )
+
+-- the first place of the sync word in a piece
+pub found_in_piece : (gap bytes : List ℕ) (at : ℕ) → HasNoSync (gap ++ take 3 bytes) → OccursAt bytes sync_bytes at → ((k : ℕ) → 0 ≤ k → k < at → ¬ OccursAt bytes sync_bytes k) → (front : List ℕ) × (gap ++ take (at + 4) bytes ≡ front ++ sync_bytes) × IsBeforeSync front
+found_in_piece gap bytes at n o before =
+    let cut : List ℕ = take (at + 3) bytes in
+    let same : take 3 cut ≡ take 3 bytes = take-take 3 (at + 3) bytes (omega arith) in
+    let seam : HasNoSync (gap ++ take 3 cut) = rw same n in
+    let none : (k : ℕ) → OccursAt cut sync_bytes k → ⊥ = λ k h. let g : (k + 4 ≤ at + 3) × OccursAt bytes sync_bytes k = occurs_in_front bytes (at + 3) k h in before k (omega arith) (omega (arith, g.0)) g.1 in
+    let there : take (at + 4) bytes ≡ take at bytes ++ sync_bytes = take-add at 4 bytes ∙ ap (λ t. take at bytes ++ t) (OccursAt-part bytes sync_bytes at o) in
+    let front : List ℕ = gap ++ take at bytes in
+    let whole : gap ++ take (at + 4) bytes ≡ front ++ sync_bytes = ap (λ t. gap ++ t) there ∙ sym (append_assoc gap (take at bytes) sync_bytes) in
+    let three : at + 3 + 1 ≡ at + 4 = omega arith in
+    let last : (gap ++ cut) ++ get_or bytes (at + 3) 0 ∷ [] ≡ front ++ sync_bytes = sym (passed gap bytes (at + 3) (omega (arith, o.fits))) ∙ ap (λ k. gap ++ take k bytes) three ∙ whole in
+    (front, whole, first_here (gap ++ cut) front (get_or bytes (at + 3) 0) (none_found gap cut seam none) last)
+
+-- the last three of the bytes
+last_three : (bytes : List ℕ) (k : ℕ) → length bytes ≡ suc (suc (suc k)) → drop k bytes ≡ get_or bytes k 0 ∷ get_or bytes (suc k) 0 ∷ get_or bytes (suc (suc k)) 0 ∷ []
+last_three [] k e = absurd (omega (arith, e))
+last_three (a ∷ []) zero e = absurd (omega (arith, e))
+last_three (a ∷ b ∷ []) zero e = absurd (omega (arith, e))
+last_three (a ∷ b ∷ c ∷ []) zero e = refl
+last_three (a ∷ b ∷ c ∷ d ∷ xs) zero e = absurd (omega (arith, e))
+last_three (x ∷ xs) (suc k) e = last_three xs k (omega (arith, e))
+
+pub stands_behind : (gap bytes : List ℕ) → 3 ≤ length bytes → MatcherStandsFor (record { first = get_or bytes (length bytes - 3) 0; second = get_or bytes (length bytes - 2) 0; third = get_or bytes (length bytes - 1) 0 }) (gap ++ bytes)
+stands_behind gap bytes h =
+    let k : ℕ = length bytes - 3 in
+    let two : length bytes - 2 ≡ suc k = omega arith in
+    let one : length bytes - 1 ≡ suc (suc k) = omega arith in
+    let end : drop k bytes ≡ get_or bytes k 0 ∷ get_or bytes (suc k) 0 ∷ get_or bytes (suc (suc k)) 0 ∷ [] = last_three bytes k (omega arith) in
+    rw (two, one) (record {
+      before = 0 ∷ 0 ∷ 0 ∷ (gap ++ take k bytes);
+      last = ap (λ t. 0 ∷ 0 ∷ 0 ∷ (gap ++ t)) (sym (take-append-drop k bytes) ∙ ap (λ t. take k bytes ++ t) end) ∙ ap (λ t. 0 ∷ 0 ∷ 0 ∷ t) (sym (append_assoc gap (take k bytes) (get_or bytes k 0 ∷ get_or bytes (suc k) 0 ∷ get_or bytes (suc (suc k)) 0 ∷ [])));
+    })
+
+-- the search byte by byte, one byte further without the sync word
+pub not_yet : (gap bytes : List ℕ) (i : ℕ) (m : LastThree) (r : Bool) → i < length bytes → HasNoSync (gap ++ take i bytes)
+    → (IsTrue r ↔ EndsWithSync ((gap ++ take i bytes) ++ get_or bytes i 0 ∷ [])) → MatcherStandsFor m (if r then [] else (gap ++ take i bytes) ++ get_or bytes i 0 ∷ []) → r ≡ false
+    → HasNoSync (gap ++ take (i + 1) bytes) × MatcherStandsFor m (gap ++ take (i + 1) bytes)
+not_yet gap bytes i m true h n f s e = absurd (cc)
+not_yet gap bytes i m false h n f s e = rw (passed gap bytes i h) (none_yet _ _ n (λ w. let h : IsTrue false = f.1 w in cc), s)
+
+-- the search byte by byte, at the byte that completes the sync word
+pub found_now : (gap bytes : List ℕ) (i : ℕ) (r : Bool) → i < length bytes → HasNoSync (gap ++ take i bytes)
+    → (IsTrue r ↔ EndsWithSync ((gap ++ take i bytes) ++ get_or bytes i 0 ∷ [])) → r ≡ true
+    → (front : List ℕ) × (gap ++ take (i + 1) bytes ≡ front ++ sync_bytes) × IsBeforeSync front
+found_now gap bytes i false h n f e = absurd (cc)
+found_now gap bytes i true h n f e = let l = f.0 refl in (l.0, passed gap bytes i h ∙ l.1, first_here _ l.0 _ n l.1)

@@ -1,0 +1,78 @@
+-- The packets of words and the reading of bytes found by hand: from the left, a word or a byte at a time.
+use Rattle.std.specs.Prelude.{◌≡◌, ℕ, ◌-◌, ◌==◌, ◌&&◌, nat_lt, Bool, false, if◌then◌else◌, List, [], ◌∷◌, ◌++◌, length, take, drop, Option, None}
+use Rattle.std.specs.List.{fold}
+use Rattle.x7_words.specs.Word.{word_of_bytes}
+use Rattle.x7_packets.specs.Packet.{Packet, meaning, count_of, latest_after, ended}
+use Rattle.x7_packets.specs.Reading.{Place, Searching, Synced, Session}
+
+-- a header word with its meaning, where the nearest type 1 read or write named this register
+abbrev pub header_packet : Option ℕ → ℕ → Packet
+header_packet latest w = record { head = w; step = meaning latest w; payload = [] }
+
+-- a packet with one payload word more
+abbrev pub with_payload_word : Packet → ℕ → Packet
+with_payload_word p w = record { head = p.head; step = p.step; payload = p.payload ++ w ∷ [] }
+
+-- packets with one word more, where the nearest type 1 read or write before them named this register
+abbrev pub with_word_after : Option ℕ → List Packet → ℕ → List Packet
+with_word_after latest [] w = header_packet latest w ∷ []
+with_word_after latest (p ∷ []) w =
+    if nat_lt (length p.payload) (count_of p.step) then with_payload_word p w ∷ [] else p ∷ header_packet (latest_after latest p.step) w ∷ []
+with_word_after latest (p ∷ q ∷ ps) w = p ∷ with_word_after (latest_after latest p.step) (q ∷ ps) w
+
+-- packets with one word more: where the last packet lacks payload words the word is its payload's, else it begins a packet
+abbrev pub with_word : List Packet → ℕ → List Packet
+with_word = with_word_after None
+
+-- the packets of words
+abbrev pub packets_of : List ℕ → List Packet
+packets_of = fold with_word []
+
+-- the words are of one session at most: no word follows the one that ends it
+abbrev pub AreOfOneSession : List ℕ → Type 0
+AreOfOneSession ws = (front back : List ℕ) (w : ℕ) → ws ≡ front ++ w ∷ back → ended (packets_of front) ≡ false
+
+-- these four bytes are the sync word
+abbrev pub is_sync : List ℕ → Bool
+is_sync (a ∷ b ∷ c ∷ d ∷ []) = a == 0xAA && b == 0x99 && c == 0x55 && d == 0x66
+is_sync _ = false
+
+-- the bytes without the last four, and the last four
+abbrev pub before_last_four : List ℕ → List ℕ
+before_last_four bytes = take (length bytes - 4) bytes
+
+abbrev pub last_four : List ℕ → List ℕ
+last_four bytes = drop (length bytes - 4) bytes
+
+-- ended sessions, and the place after them
+pub record Reading : Type 0 where
+  pub sessions : List Session
+  pub place : Place
+
+-- bytes behind ended sessions, without the sync word or just up to its end
+abbrev pub searched : List Session → List ℕ → Reading
+searched sessions bytes = record { sessions = sessions; place = if is_sync (last_four bytes) then Synced (before_last_four bytes) [] [] else Searching bytes }
+
+-- a session of these packets: where they end it, an empty gap follows
+abbrev pub closed : List Session → List ℕ → List Packet → Reading
+closed sessions gap packets =
+    if ended packets then record { sessions = sessions ++ record { gap = gap; packets = packets } ∷ []; place = Searching [] } else
+    record { sessions = sessions; place = Synced gap packets [] }
+
+-- a session with one byte more: its tail grows to a word, which goes to the packets
+abbrev pub with_session_byte : List Session → List ℕ → List Packet → List ℕ → ℕ → Reading
+with_session_byte sessions gap packets (a ∷ b ∷ c ∷ []) d = closed sessions gap (with_word packets (word_of_bytes (a ∷ b ∷ c ∷ d ∷ [])))
+with_session_byte sessions gap packets tail byte = record { sessions = sessions; place = Synced gap packets (tail ++ byte ∷ []) }
+
+-- ended sessions and a place with one byte more
+abbrev pub with_byte_at : List Session → Place → ℕ → Reading
+with_byte_at sessions (Searching gap) byte = searched sessions (gap ++ byte ∷ [])
+with_byte_at sessions (Synced gap packets tail) byte = with_session_byte sessions gap packets tail byte
+
+-- a reading with one byte more
+abbrev pub with_byte : Reading → ℕ → Reading
+with_byte r byte = with_byte_at r.sessions r.place byte
+
+-- the reading of bytes
+abbrev pub reading_of : List ℕ → Reading
+reading_of = fold with_byte (record { sessions = []; place = Searching [] })

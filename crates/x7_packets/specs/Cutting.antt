@@ -1,0 +1,161 @@
+-- What a cutter stands for: the reading of the bytes that it took, and what each run adds to it.
+use Rattle.std.specs.Prelude.{◌≡◌, ℕ, ◌+◌, ◌*◌, ◌-◌, ◌/◌, ◌<◌, ◌==◌, List, [], ◌∷◌, ◌++◌, length, min, true, false, ◌⊎◌, take, drop, ◌↔◌, if◌then◌else◌}
+use Rattle.std.specs.List.{flat_map}
+use Rattle.x7_words.specs.Word.{bytes_of_word, words_of_bytes}
+use Rattle.x7_packets.specs.SyncWord.{sync_bytes}
+use Rattle.x7_packets.specs.Matching.{LastThree, MatcherStandsFor}
+use Rattle.x7_packets.specs.Packet.{Packet, stepped, ended, payload_steps}
+use Rattle.x7_packets.specs.Taking.{ends_by, MachineState, MachineStandsFor}
+use Rattle.x7_packets.specs.Reading.{Place, Searching, Synced, Session, IsReading}
+use Rattle.x7_packets.specs.declared.header.Step.{Step}
+use Rattle.x7_packets.specs.declared.header.Step.TheVariants.{Payload}
+use Rattle.x7_packets.specs.declared.cutter.Mode.{Mode}
+use Rattle.x7_packets.specs.declared.cutter.Mode.TheVariants as mode
+use Rattle.x7_packets.specs.declared.cutter.Cut.{Cut}
+use Rattle.x7_packets.specs.declared.cutter.Cut.TheVariants.{Need, Skip, Sync, Head, Word, Body}
+
+-- a cutter: what it is at, its matcher and machine, and the bytes of no whole word that it keeps
+pub record CutterState : Type 0 where
+  pub mode : Mode
+  pub matcher : LastThree
+  pub machine : MachineState
+  pub kept : List ℕ
+
+-- the cutter's parts are those of the place
+abbrev pub AtPlace : CutterState → Mode → Place → Type 0
+AtPlace c mode.Searching (Searching gap) = MatcherStandsFor c.matcher gap × MachineStandsFor c.machine []
+AtPlace c mode.Due (Synced gap packets tail) = (packets ≡ []) × (tail ≡ []) × MachineStandsFor c.machine []
+AtPlace c mode.Synced (Synced gap packets tail) = MachineStandsFor c.machine packets × (tail ≡ c.kept)
+AtPlace c mode.Searching (Synced gap packets tail) = ⊥
+AtPlace c mode.Due (Searching gap) = ⊥
+AtPlace c mode.Synced (Searching gap) = ⊥
+
+-- the cutter took these bytes, and this is their reading
+pub record CutterStandsFor (c : CutterState) (bytes : List ℕ) (sessions : List Session) (place : Place) : Type 0 where
+  pub reading : IsReading bytes sessions place
+  pub at : AtPlace c c.mode place
+
+-- the bytes of a piece from one place to another
+abbrev pub between : List ℕ → ℕ → ℕ → List ℕ
+between piece from to = take (to - from) (drop from piece)
+
+-- the bytes of a run
+abbrev pub run_bytes : Cut → List ℕ
+run_bytes Need = []
+run_bytes (Skip bytes) = bytes.now
+run_bytes Sync = []
+run_bytes (Head w step) = bytes_of_word w
+run_bytes (Word register w) = bytes_of_word w
+run_bytes (Body register bytes) = bytes.now
+
+-- the words that a run adds to a session, each with its step
+abbrev pub run_steps : Cut → List (ℕ × Step)
+run_steps (Head w step) = (w, step) ∷ []
+run_steps (Word register w) = payload_steps register (w ∷ [])
+run_steps (Body register bytes) = payload_steps register (words_of_bytes bytes.now)
+run_steps _ = []
+
+-- words more in a session, each with its step; where the last ends the session, a gap begins
+pub record Longer (gap : List ℕ) (packets : List Packet) (more : List (ℕ × Step)) (sessions new_sessions : List Session) (new : Place) : Type 0 where
+  pub all : List Packet
+  pub grown : flat_map stepped all ≡ flat_map stepped packets ++ more
+  pub end : ended all ≡ ends_by more
+  pub ends : ended all ≡ true → (new_sessions ≡ sessions ++ record { gap = gap; packets = all } ∷ []) × (new ≡ Searching [])
+  pub goes_on : ended all ≡ false → (new_sessions ≡ sessions) × (new ≡ Synced gap all [])
+
+-- what a run adds to the reading
+abbrev pub Adds : Cut → List Session → Place → List Session → Place → Type 0
+Adds Need sessions (Searching gap) new_sessions new = (new_sessions ≡ sessions) × (new ≡ Searching gap)
+Adds Need sessions (Synced gap packets tail) new_sessions new = (new_sessions ≡ sessions) × (more : List ℕ) × (new ≡ Synced gap packets (tail ++ more))
+Adds (Skip bytes) sessions (Searching gap) new_sessions new = (new_sessions ≡ sessions) × ((new ≡ Searching (gap ++ bytes.now)) ⊎ ((front : List ℕ) × (gap ++ bytes.now ≡ front ++ sync_bytes) × (new ≡ Synced front [] [])))
+Adds (Skip bytes) sessions (Synced gap packets tail) new_sessions new = ⊥
+Adds Sync sessions (Searching gap) new_sessions new = ⊥
+Adds Sync sessions (Synced gap packets tail) new_sessions new = (packets ≡ []) × (tail ≡ []) × (new_sessions ≡ sessions) × (new ≡ Synced gap [] [])
+Adds (Head w step) sessions (Searching gap) new_sessions new = ⊥
+Adds (Head w step) sessions (Synced gap packets tail) new_sessions new = Longer gap packets (run_steps (Head w step)) sessions new_sessions new
+Adds (Word register w) sessions (Searching gap) new_sessions new = ⊥
+Adds (Word register w) sessions (Synced gap packets tail) new_sessions new = Longer gap packets (run_steps (Word register w)) sessions new_sessions new
+Adds (Body register bytes) sessions (Searching gap) new_sessions new = ⊥
+Adds (Body register bytes) sessions (Synced gap packets tail) new_sessions new = Longer gap packets (run_steps (Body register bytes)) sessions new_sessions new
+
+-- how a run goes with what the cutter is at before and after it: the sync word is due just after it came, and told at once
+abbrev pub Turns : Cut → Mode → Mode → Place → Type 0
+Turns Need old new place = (old ≡ mode.Due → ⊥) × (new ≡ mode.Due → ⊥)
+Turns (Skip bytes) old new (Searching gap) = Unit {0}
+Turns (Skip bytes) old new (Synced gap packets tail) = new ≡ mode.Due
+Turns Sync old new place = (old ≡ mode.Due) × (new ≡ mode.Due → ⊥)
+Turns (Head w step) old new place = (old ≡ mode.Due → ⊥) × (new ≡ mode.Due → ⊥)
+Turns (Word register w) old new place = (old ≡ mode.Due → ⊥) × (new ≡ mode.Due → ⊥)
+Turns (Body register bytes) old new place = (old ≡ mode.Due → ⊥) × (new ≡ mode.Due → ⊥)
+
+-- what a run is apart from the reading: a header's step is no payload, a register has a number below 32, and a lent slice has whole words, one where the register is CMD
+abbrev pub IsRun : Cut → Type 0
+IsRun (Head w (Payload register x)) = ⊥
+IsRun (Word register w) = register < 32
+IsRun (Body register bytes) = (register < 32) × (0 < length bytes.now) × (length bytes.now ≡ 4 * (length bytes.now / 4)) × (register ≡ 4 → length bytes.now ≡ 4)
+IsRun (Skip bytes) = 0 < length bytes.now
+IsRun _ = Unit {0}
+
+-- where no byte is kept, a payload's whole words that lie in the piece are lent at once, all of one packet (one word of CMD); a word whose bytes lie in two pieces comes by itself
+abbrev pub IsLent : CutterState → ℕ → Cut → Type 0
+IsLent c left (Word register w) = 0 < length c.kept
+IsLent c left (Body register bytes) = (c.kept ≡ []) × (length bytes.now ≡ 4 * min (min c.machine.due (left / 4)) (if register == 4 then 1 else left / 4))
+IsLent c left _ = Unit {0}
+
+-- bytes that complete no run, after those that are kept
+abbrev pub CompletesNone : CutterState → Mode → ℕ → Type 0
+CompletesNone c mode.Searching left = left ≡ 0
+CompletesNone c mode.Due left = ⊥
+CompletesNone c mode.Synced left = length c.kept + left < 4
+
+abbrev pub IsNeed : Cut → Type 0
+IsNeed Need = Unit {0}
+IsNeed _ = ⊥
+
+-- no byte is kept but in a session
+abbrev pub KeepsNone : Mode → Type 0
+KeepsNone mode.Searching = Unit {0}
+KeepsNone mode.Due = Unit {0}
+KeepsNone mode.Synced = ⊥
+
+-- one word of a session: a header's, or one of a payload of which words are due
+abbrev pub IsOneWord : ℕ → Cut → Type 0
+IsOneWord due (Head w step) = Unit {0}
+IsOneWord due (Word register w) = 0 < due
+IsOneWord due _ = ⊥
+
+-- these bytes of the payload of this register
+abbrev pub IsBody : ℕ → List ℕ → Cut → Type 0
+IsBody register body (Body r bytes) = (r ≡ register) × (bytes.now ≡ body)
+IsBody register body _ = ⊥
+
+-- 1 where a sync word is still to be told
+abbrev pub syncs_due : Mode → ℕ
+syncs_due mode.Due = 1
+syncs_due _ = 0
+
+-- how many calls there are at most until a piece is used up, of which this many bytes are left
+abbrev pub calls_left : CutterState → ℕ → ℕ
+calls_left c left = 2 * left + syncs_due c.mode
+
+-- a call that needs more bytes has used the piece up; any other comes nearer to that
+abbrev pub Goes : Cut → ℕ → ℕ → ℕ → Type 0
+Goes Need left calls_before calls = left ≡ 0
+Goes _ left calls_before calls = calls < calls_before
+
+-- after a call that took these bytes
+pub record Went (old new : CutterState) (bytes : List ℕ) (sessions : List Session) (place : Place) (run : Cut) : Type 0 where
+  pub new_sessions : List Session
+  pub new_place : Place
+  pub stands : CutterStandsFor new bytes new_sessions new_place
+  pub adds : Adds run sessions place new_sessions new_place
+  pub turns : Turns run old.mode new.mode new_place
+
+-- one call of a cutter on the bytes that are left of a piece, of which it took a number
+pub record Cuts (old new : CutterState) (rest : List ℕ) (taken : ℕ) (cut : Cut) : Type 0 where
+  pub goes : Goes cut (length rest - taken) (calls_left old (length rest)) (calls_left new (length rest - taken))
+  pub need : IsNeed cut ↔ CompletesNone old old.mode (length rest)
+  pub joined : old.kept ++ take taken rest ≡ run_bytes cut ++ new.kept
+  pub run : IsRun cut
+  pub lent : IsLent old (length rest) cut
+  pub adds : (bytes : List ℕ) (sessions : List Session) (place : Place) → CutterStandsFor old bytes sessions place → Went old new (bytes ++ take taken rest) sessions place cut

@@ -1,0 +1,120 @@
+-- What a stream asks of the registers, and the commands that it executes (UG470, configuration registers).
+-- Places, and the commands that a write to FAR executes again, are this project's choice where the guide leaves them open.
+use Rattle.std.specs.Prelude.{ℕ, ◌+◌, ◌*◌, ◌%◌, ◌^◌, ◌<◌, ◌==◌, ◌&&◌, ◌||◌, Bool, false, not, if◌then◌else◌, List, [], ◌∷◌, length, Option, Some, None}
+use Rattle.std.specs.List.{flat_map}
+use Rattle.x7_packets.specs.declared.header.Step.{Step}
+use Rattle.x7_packets.specs.declared.header.Step.TheVariants as step
+use Rattle.x7_packets.specs.Packet.{stepped}
+use Rattle.x7_packets.specs.Reading.{Place, Searching, Synced, Session, session_bytes}
+use Rattle.x7_packets.specs.ByHand.{reading_of}
+
+-- what a stream asks of the registers: a word written, a read of some words, or a word in a header's place that is no header
+pub data Access : Type 0 where
+  Write : (register word : ℕ) → Access
+  Read : (register count : ℕ) → Access
+  Bad : (word : ℕ) → Access
+
+-- an access, and the number of bytes up to and with its last byte
+pub record Entry : Type 0 where
+  pub access : Access
+  pub place : ℕ
+
+-- the accesses of a stream, the newest first
+abbrev pub History : Type 0
+History = List Entry
+
+abbrev pub entry : Access → ℕ → Entry
+entry access place = record { access = access; place = place }
+
+-- a history with the access of a step, whose word ends at this place; a read of no words is none
+abbrev pub entered : ℕ → Step → History → History
+entered place (step.Payload register w) h = entry (Write register w) place ∷ h
+entered place (step.Read register count) h = if count == 0 then h else entry (Read register count) place ∷ h
+entered place (step.Bad w) h = entry (Bad w) place ∷ h
+entered place step.Filler h = h
+entered place step.Nop h = h
+entered place (step.Open register count) h = h
+
+-- a history with the accesses of words, each with its step, the first of which begins at this place
+abbrev pub entered_all : ℕ → List (ℕ × Step) → History → History
+entered_all place [] h = h
+entered_all place (s ∷ more) h = entered_all (place + 4) more (entered (place + 4) s.1 h)
+
+-- the same for the words of ended sessions, the first of which begins with its gap at this place
+abbrev pub entered_sessions : ℕ → List Session → History → History
+entered_sessions place [] h = h
+entered_sessions place (s ∷ sessions) h =
+    entered_sessions (place + length (session_bytes s)) sessions (entered_all (place + length s.gap + 4) (flat_map stepped s.packets) h)
+
+-- the same for the words of the place behind them
+abbrev pub entered_place : ℕ → Place → History → History
+entered_place place (Searching gap) h = h
+entered_place place (Synced gap packets tail) h = entered_all (place + length gap + 4) (flat_map stepped packets) h
+
+-- the history of a reading
+abbrev pub history : List Session → Place → History
+history sessions place = entered_place (length (flat_map session_bytes sessions)) place (entered_sessions 0 sessions [])
+
+-- the history of bytes
+abbrev pub history_of : List ℕ → History
+history_of bytes = history (reading_of bytes).sessions (reading_of bytes).place
+
+-- the place where the next word begins: the number of bytes without those of no whole word at the end
+abbrev pub next_word : List Session → Place → ℕ
+next_word sessions (Searching gap) = length (flat_map session_bytes sessions) + length gap
+next_word sessions (Synced gap packets tail) = length (flat_map session_bytes sessions) + length gap + 4 + 4 * length (flat_map stepped packets)
+
+-- the access writes this register
+abbrev pub writes : ℕ → Access → Bool
+writes register (Write r w) = r == register
+writes register _ = false
+
+-- the word of an access that writes this register, or the one that was there
+abbrev pub written : ℕ → Access → ℕ → ℕ
+written register (Write r w) old = if r == register then w else old
+written register _ old = old
+
+-- the last word written to a register, or the one that was kept
+abbrev pub last_word : ℕ → ℕ → History → ℕ
+last_word register kept [] = kept
+last_word register kept (e ∷ h) = written register e.access (last_word register kept h)
+
+-- the command that CMD holds: the low five bits of its last word, NULL where it was never written
+abbrev pub command_held : History → ℕ
+command_held h = last_word 4 0 h % 2 ^ 5
+
+-- the command that an access executes where CMD holds this one: a write to CMD its own, a write to FAR again the one held, save DESYNC and IPROG
+abbrev pub executed_by : ℕ → Access → Option ℕ
+executed_by held (Write register w) =
+    if register == 4 then Some (w % 2 ^ 5) else
+    if register == 1 && not (held == 13 || held == 15) then Some held else None
+executed_by held _ = None
+
+-- the command is this one
+abbrev pub is_command : ℕ → Option ℕ → Bool
+is_command command None = false
+is_command command (Some c) = c == command
+
+-- an access after this history executes this command
+abbrev pub executes : ℕ → History → Access → Bool
+executes command h access = is_command command (executed_by (command_held h) access)
+
+abbrev pub with_command : Option ℕ → List ℕ → List ℕ
+with_command None commands = commands
+with_command (Some c) commands = c ∷ commands
+
+-- all commands that were executed, the newest first
+abbrev pub executed : History → List ℕ
+executed [] = []
+executed (e ∷ h) = with_command (executed_by (command_held h) e.access) (executed h)
+
+-- the access can come of words of 32 bits: a register's number has five bits, and a count at most 27
+abbrev pub FitsAccess : Access → Type 0
+FitsAccess (Write register w) = (register < 2 ^ 5) × (w < 2 ^ 32)
+FitsAccess (Read register count) = (register < 2 ^ 5) × (count < 2 ^ 27)
+FitsAccess (Bad w) = w < 2 ^ 32
+
+-- each access can
+abbrev pub AllFit : History → Type 0
+AllFit [] = Unit {0}
+AllFit (e ∷ h) = FitsAccess e.access × AllFit h

@@ -1,0 +1,10 @@
+pub mod ByHand
+pub mod Cutting
+pub mod Examples
+pub mod History
+pub mod Matching
+pub mod Packet
+pub mod Reading
+pub mod RunningCheck
+pub mod SyncWord
+pub mod Taking

@@ -1,0 +1,19 @@
+-- What a matcher stands for: the bytes that it took (this project's choice: a search at every byte place).
+use Rattle.std.specs.Prelude.{◌≡◌, ℕ, List, [], ◌∷◌, ◌++◌, Option, None, Some, take}
+use Rattle.x7_packets.specs.SyncWord.{HasNoSync, IsBeforeSync, sync_bytes}
+
+-- the last three bytes, the oldest first
+pub record LastThree : Type 0 where
+  pub first : ℕ
+  pub second : ℕ
+  pub third : ℕ
+
+-- the matcher took these bytes since it was made or last found the sync word: it has the last three, 0 for each that isn't there
+pub record MatcherStandsFor (m : LastThree) (bytes : List ℕ) : Type 0 where
+  pub before : List ℕ
+  pub last : 0 ∷ 0 ∷ 0 ∷ bytes ≡ before ++ m.first ∷ m.second ∷ m.third ∷ []
+
+-- what a search through bytes behind a gap came to: no sync word in all of them, or the first one, which ends behind the first n of them
+abbrev pub Searched : List ℕ → List ℕ → Option ℕ → LastThree → Type 0
+Searched gap bytes None m = HasNoSync (gap ++ bytes) × MatcherStandsFor m (gap ++ bytes)
+Searched gap bytes (Some n) m = (front : List ℕ) × (gap ++ take n bytes ≡ front ++ sync_bytes) × IsBeforeSync front

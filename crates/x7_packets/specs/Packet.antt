@@ -1,0 +1,121 @@
+-- The packets of a list of words (UG470, packet types).
+-- Fillers, the register of a type 2 packet and the end at DESYNC are this project's choice where the guide leaves them open.
+use Rattle.std.specs.Prelude.{◌≡◌, ℕ, ◌/◌, ◌%◌, ◌^◌, ◌≤◌, ◌==◌, ◌||◌, ◌&&◌, Bool, false, if◌then◌else◌, List, [], ◌∷◌, length, map, Option, None, Some}
+use Rattle.std.specs.List.{flat_map}
+use Rattle.x7_words.specs.Word.{AreWords, field_of}
+use Rattle.x7_packets.specs.declared.header.Step.{Step}
+use Rattle.x7_packets.specs.declared.header.Step.TheVariants.{Filler, Nop, Open, Payload, Read, Bad}
+
+-- packet type 31:29 and opcode 28:27 of a header word, as one number
+abbrev pub type_and_opcode_of : ℕ → ℕ
+type_and_opcode_of word = word / 2 ^ 27
+
+-- register 17:13 of a type 1 header
+abbrev pub register_of : ℕ → ℕ
+register_of = field_of 13 5
+
+-- what a word in a header's place means as a type 2 header, where the nearest type 1 read or write named this register
+abbrev pub long_meaning : Option ℕ → ℕ → Step
+long_meaning None w = Bad w
+long_meaning (Some register) w =
+    if type_and_opcode_of w == 10 then Open register (w % 2 ^ 27) else
+    if type_and_opcode_of w == 9 then Read register (w % 2 ^ 27) else Bad w
+
+-- what a word in a header's place means, where the nearest type 1 read or write named this register
+abbrev pub meaning : Option ℕ → ℕ → Step
+meaning latest w =
+    if w == 0xAA995566 || w == 0xFFFFFFFF || w / 2 ^ 29 == 0 then Filler else
+    if type_and_opcode_of w == 4 then Nop else
+    if type_and_opcode_of w == 6 then Open (register_of w) (w % 2 ^ 11) else
+    if type_and_opcode_of w == 5 then Read (register_of w) (w % 2 ^ 11) else
+    long_meaning latest w
+
+-- a header word with its meaning, and the words of its payload
+pub record Packet : Type 0 where
+  pub head : ℕ
+  pub step : Step
+  pub payload : List ℕ
+
+-- how many payload words a header asks for
+abbrev pub count_of : Step → ℕ
+count_of (Open register count) = count
+count_of _ = 0
+
+-- the register that a header names
+abbrev pub named_by : Step → ℕ
+named_by (Open register count) = register
+named_by (Read register count) = register
+named_by _ = 0
+
+-- the words of a packet
+abbrev pub words : Packet → List ℕ
+words p = p.head ∷ p.payload
+
+-- the payload words of a register, each with its step
+abbrev pub payload_steps : ℕ → List ℕ → List (ℕ × Step)
+payload_steps register ws = map (λ w. (w, Payload register w)) ws
+
+-- the words of a packet, each with its step
+abbrev pub stepped : Packet → List (ℕ × Step)
+stepped p = (p.head, p.step) ∷ payload_steps (named_by p.step) p.payload
+
+-- the register of the nearest type 1 read or write after a header; a type 2 header names it again
+abbrev pub latest_after : Option ℕ → Step → Option ℕ
+latest_after latest (Open register count) = Some register
+latest_after latest (Read register count) = Some register
+latest_after latest _ = latest
+
+-- the same after all of these packets
+abbrev pub latest_of : Option ℕ → List Packet → Option ℕ
+latest_of latest [] = latest
+latest_of latest (p ∷ ps) = latest_of (latest_after latest p.step) ps
+
+-- DESYNC written to CMD: the register is 4, and the low five bits are 13
+abbrev pub ends_session : ℕ → ℕ → Bool
+ends_session register w = register == 4 && w % 2 ^ 5 == 13
+
+-- no word of them ends the session
+abbrev pub NoneEnds : ℕ → List ℕ → Type 0
+NoneEnds register [] = Unit {0}
+NoneEnds register (w ∷ ws) = (ends_session register w ≡ false) × NoneEnds register ws
+
+-- no word but the last ends the session
+abbrev pub OnlyLastEnds : ℕ → List ℕ → Type 0
+OnlyLastEnds register [] = Unit {0}
+OnlyLastEnds register (w ∷ []) = Unit {0}
+OnlyLastEnds register (w ∷ x ∷ ws) = (ends_session register w ≡ false) × OnlyLastEnds register (x ∷ ws)
+
+-- the header means its step, and the payload is no longer than it says; only its last word may end the session
+pub record IsPacket (latest : Option ℕ) (p : Packet) : Type 0 where
+  pub fits : AreWords (words p)
+  pub means : p.step ≡ meaning latest p.head
+  pub most : length p.payload ≤ count_of p.step
+  pub goes_on : OnlyLastEnds (named_by p.step) p.payload
+
+-- all of the payload is there, and no word of it ends the session
+pub record IsWhole (p : Packet) : Type 0 where
+  pub all : length p.payload ≡ count_of p.step
+  pub none_ends : NoneEnds (named_by p.step) p.payload
+
+-- each is a packet, and each but the last is whole
+abbrev pub EachPacket : Option ℕ → List Packet → Type 0
+EachPacket latest [] = Unit {0}
+EachPacket latest (p ∷ []) = IsPacket latest p
+EachPacket latest (p ∷ q ∷ ps) = IsPacket latest p × IsWhole p × EachPacket (latest_after latest p.step) (q ∷ ps)
+
+-- the words are those of these packets
+pub record Packets (ws : List ℕ) (ps : List Packet) : Type 0 where
+  pub joined : ws ≡ flat_map words ps
+  pub each : EachPacket None ps
+
+-- the last of these payload words ends the session
+abbrev pub last_ends : ℕ → List ℕ → Bool
+last_ends register [] = false
+last_ends register (w ∷ []) = ends_session register w
+last_ends register (w ∷ x ∷ ws) = last_ends register (x ∷ ws)
+
+-- the packets end by a word that ends the session
+abbrev pub ended : List Packet → Bool
+ended [] = false
+ended (p ∷ []) = last_ends (named_by p.step) p.payload
+ended (p ∷ q ∷ ps) = ended (q ∷ ps)

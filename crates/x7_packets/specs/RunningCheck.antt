@@ -1,0 +1,23 @@
+-- What the running check is over: the writes since it was last cleared (UG470, cyclic redundancy check).
+-- That a write to LOUT is left out is this project's choice.
+use Rattle.std.specs.Prelude.{ℕ, ◌==◌, ◌||◌, Bool, if◌then◌else◌, List, [], ◌∷◌}
+use Rattle.x7_packets.specs.History.{Access, Write, History, writes, executes}
+
+-- the access clears the running check: it executes RCRC, or writes CRC
+abbrev pub clears : History → Access → Bool
+clears h access = executes 7 h access || writes 0 access
+
+-- a word written, and its register
+pub record RegisterWrite : Type 0 where
+  pub register : ℕ
+  pub word : ℕ
+
+-- writes with that of one access more; LOUT is left out
+abbrev pub with_write : Access → List RegisterWrite → List RegisterWrite
+with_write (Write r w) writes = if r == 8 then writes else record { register = r; word = w } ∷ writes
+with_write _ writes = writes
+
+-- the writes since the last clearing access, the newest first
+abbrev pub open_writes : History → List RegisterWrite
+open_writes [] = []
+open_writes (e ∷ h) = if clears h e.access then [] else with_write e.access (open_writes h)

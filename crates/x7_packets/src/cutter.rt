@@ -1,0 +1,241 @@
+//! A stream cut into its parts, in whatever pieces it comes.
+ghost use Rattle.std.specs.Prelude.{◌≡◌, ℕ, List, [], ◌∷◌, ◌++◌, ◌≤◌, ◌<◌, ◌+◌, ◌-◌, ◌*◌, ◌/◌, ◌%◌, ◌^◌, ◌↔◌, take, length, if◌then◌else◌};
+ghost use Rattle.x7_words.specs.Word.{bytes_of_word};
+ghost use Rattle.x7_packets.specs.Cutting.{between, calls_left, CompletesNone, Cuts, CutterStandsFor, Goes, IsBody, IsLent, IsNeed, IsOneWord, IsRun, run_bytes, syncs_due, Went};
+ghost use Rattle.x7_packets.specs.Reading.{Place, Session, tail_of};
+ghost use Rattle.x7_packets.specs.declared.cutter.Mode.TheVariants as mode;
+
+use crate::header::Step;
+use crate::machine::Machine;
+use crate::sync::Matcher;
+use std::marker::Model;
+use x7_words::word_of;
+
+/// What a cutter is at.
+#[derive(Clone, Copy, Debug, PartialEq, Eq)]
+pub(crate) enum Mode {
+    /// In a gap.
+    Searching,
+    /// Just behind a sync word that is still to be told.
+    Due,
+    /// In a session.
+    Synced,
+}
+
+/// A run of a stream.
+#[derive(Clone, Copy, Debug)]
+pub enum Cut<'p> {
+    /// The piece is used up; up to three bytes of a word may be kept.
+    Need,
+    /// One or more bytes taken while searching, the sync word's bytes included.
+    Skip(&'p [u8]),
+    /// The last four bytes taken while searching were the sync word.
+    Sync,
+    /// A word in a header's place, and its step.
+    Head(u32, Step),
+    /// A payload word whose bytes lie in two pieces, with its register.
+    Word(u8, u32),
+    /// Payload words of one packet that lie in the piece, with their register: a positive multiple of four bytes, four for CMD.
+    Body(u8, &'p [u8]),
+}
+
+/// Keeps bytes behind those that are kept, and says how many there are then.
+fn keep(kept: &mut [u8; 3], count: usize, bytes: &[u8]) -> usize
+    requires { count + length bytes.now ≤ 3 }
+    ensures count { result ≡ count + length bytes.now }
+    ensures kept { take result kept.new ≡ take count kept.old ++ bytes.now }
+{
+    kept[count..count + bytes.len()].copy_from_slice(bytes);
+    count + bytes.len()
+}
+
+/// The word of the bytes that are kept and of those that it lacks.
+fn whole(kept: &[u8; 3], count: usize, missing: &[u8]) -> u32
+    requires whole { count + length missing.now ≡ 4 }
+    requires within { count ≤ 3 }
+    ensures { bytes_of_word result ≡ take count kept.now ++ missing.now }
+{
+    let mut bytes = [0; 4];
+    bytes[..count].copy_from_slice(&kept[..count]);
+    bytes[count..].copy_from_slice(missing);
+    word_of(bytes)
+}
+
+/// What a cutter is at behind a word.
+fn after_word(ended: bool) -> Mode
+    ensures { result ≡ (if ended then mode.Searching else mode.Synced) }
+{
+    if ended { Mode::Searching } else { Mode::Synced }
+}
+
+/// Cuts a stream, and lends what it can of the caller's pieces.
+#[derive(Drop)]
+pub struct Cutter {
+    mode: Mode,
+    matcher: Matcher,
+    machine: Machine,
+    kept: [u8; 3],
+    count: usize,
+}
+
+impl Model for Cutter {
+    ghost use Rattle.std.specs.Prelude.{◌≡◌, ◌≤◌, take};
+    ghost use Rattle.x7_packets.specs.Cutting.{CutterState, KeepsNone};
+
+    ghost Value = { CutterState };
+
+    ghost view = { λ c. record { mode = c.mode; matcher = c.matcher; machine = c.machine; kept = take c.count c.kept } };
+
+    ghost invariant = { λ c. (c.count ≤ 3) × (KeepsNone c.mode → c.count ≡ 0) };
+}
+
+impl Cutter {
+    /// A cutter that has taken no byte.
+    pub fn new() -> Cutter
+        ensures { CutterStandsFor result [] [] (Place.Searching []) }
+    {
+        Cutter {
+            mode: Mode::Searching,
+            matcher: Matcher::new(),
+            machine: Machine::new(),
+            kept: [0; 3],
+            count: 0,
+        }
+    }
+
+    /// The bytes of no whole word that it keeps: at most three, and none while searching.
+    pub fn kept(&self) -> &[u8]
+        ensures kept { result.now ≡ self.now.kept }
+        ensures short { length result.now ≤ 3 }
+        ensures tail { (bytes : List ℕ) (sessions : List Session) (place : Place) → CutterStandsFor self.now bytes sessions place → result.now ≡ tail_of place }
+    {
+        &self.kept[..self.count]
+    }
+
+    /// The next run of the piece from `at` on, which it moves behind the bytes taken.
+    pub fn cut<'p>(&mut self, piece: &'p [u8], at: &mut usize) -> Cut<'p>
+        requires { at.old ≤ length piece.now }
+        ensures forward { at.old ≤ at.new }
+        ensures within { at.new ≤ length piece.now }
+        ensures goes { Goes result (length piece.now - at.new) (calls_left self.old (length piece.now - at.old)) (calls_left self.new (length piece.now - at.new)) }
+        ensures need { IsNeed result ↔ CompletesNone self.old self.old.mode (length piece.now - at.old) }
+        ensures joined { self.old.kept ++ between piece.now at.old at.new ≡ run_bytes result ++ self.new.kept }
+        ensures run { IsRun result }
+        ensures lent { IsLent self.old (length piece.now - at.old) result }
+        ensures adds { (bytes : List ℕ) (sessions : List Session) (place : Place) → CutterStandsFor self.old bytes sessions place
+            → Went self.old self.new (bytes ++ between piece.now at.old at.new) sessions place result }
+    {
+        let rest = &piece[*at..];
+        match self.mode {
+            Mode::Searching => self.skip(rest, at),
+            Mode::Due => {
+                self.mode = Mode::Synced;
+                Cut::Sync
+            }
+            Mode::Synced => self.take(rest, at),
+        }
+    }
+
+    /// Takes bytes of a gap, up to and with a sync word.
+    fn skip<'p>(&mut self, rest: &'p [u8], at: &mut usize) -> Cut<'p>
+        requires searching { self.old.mode ≡ mode.Searching }
+        requires fits { at.old + length rest.now < 2 ^ 64 }
+        ensures forward { at.old ≤ at.new }
+        ensures within { at.new ≤ at.old + length rest.now }
+        ensures cuts { Cuts self.old self.new rest.now (at.new - at.old) result }
+    {
+        if rest.is_empty() {
+            return Cut::Need;
+        }
+        let count = match self.matcher.search(rest) {
+            Some(count) => {
+                self.mode = Mode::Due;
+                count
+            }
+            None => rest.len(),
+        };
+        *at += count;
+        Cut::Skip(&rest[..count])
+    }
+
+    /// Takes words of a session.
+    fn take<'p>(&mut self, rest: &'p [u8], at: &mut usize) -> Cut<'p>
+        requires synced { self.old.mode ≡ mode.Synced }
+        requires fits { at.old + length rest.now < 2 ^ 64 }
+        ensures forward { at.old ≤ at.new }
+        ensures within { at.new ≤ at.old + length rest.now }
+        ensures cuts { Cuts self.old self.new rest.now (at.new - at.old) result }
+    {
+        if self.count == 0 {
+            let words = self.machine.payload_words(rest.len() / 4);
+            if words > 0 {
+                *at += 4 * words;
+                return self.lend(&rest[..4 * words]);
+            }
+        }
+        let missing = 4 - self.count;
+        if rest.len() < missing {
+            *at += rest.len();
+            self.hold(rest);
+            return Cut::Need;
+        }
+        *at += missing;
+        self.word(&rest[..missing])
+    }
+
+    /// Keeps bytes that complete no word.
+    fn hold(&mut self, rest: &[u8])
+        requires synced { self.old.mode ≡ mode.Synced }
+        requires few { length self.old.kept + length rest.now < 4 }
+        ensures same { self.new ≡ record self.old { kept = self.old.kept ++ rest.now } }
+        ensures adds { (bytes : List ℕ) (sessions : List Session) (place : Place) → CutterStandsFor self.old bytes sessions place
+            → Went self.old self.new (bytes ++ rest.now) sessions place Cut.Need }
+    {
+        self.count = keep(&mut self.kept, self.count, rest);
+    }
+
+    /// Takes one word, of the bytes that are kept and those that it lacks.
+    fn word<'p>(&mut self, missing: &[u8]) -> Cut<'p>
+        requires synced { self.old.mode ≡ mode.Synced }
+        requires whole { length self.old.kept + length missing.now ≡ 4 }
+        ensures word { IsOneWord self.old.machine.due result }
+        ensures told { syncs_due self.new.mode ≡ 0 }
+        ensures none_kept { self.new.kept ≡ [] }
+        ensures joined { self.old.kept ++ missing.now ≡ run_bytes result }
+        ensures run { IsRun result }
+        ensures adds { (bytes : List ℕ) (sessions : List Session) (place : Place) → CutterStandsFor self.old bytes sessions place
+            → Went self.old self.new (bytes ++ missing.now) sessions place result }
+    {
+        let w = whole(&self.kept, self.count, missing);
+        let step = self.machine.take(w);
+        self.count = 0;
+        self.mode = after_word(step.is_end());
+        self.matcher = Matcher::new();
+        match step {
+            Step::Payload(register, _) => Cut::Word(register, w),
+            step => Cut::Head(w, step),
+        }
+    }
+
+    /// Lends payload words of one packet.
+    fn lend<'p>(&mut self, body: &'p [u8]) -> Cut<'p>
+        requires synced { self.old.mode ≡ mode.Synced }
+        requires none_kept { self.old.kept ≡ [] }
+        requires whole { length body.now ≡ 4 * (length body.now / 4) }
+        requires some { 0 < length body.now }
+        requires due { length body.now / 4 ≤ self.old.machine.due }
+        requires one { self.old.machine.register ≡ 4 → length body.now ≡ 4 }
+        ensures body { IsBody self.old.machine.register body.now result }
+        ensures told { syncs_due self.new.mode ≡ 0 }
+        ensures none_kept { self.new.kept ≡ [] }
+        ensures run { IsRun result }
+        ensures adds { (bytes : List ℕ) (sessions : List Session) (place : Place) → CutterStandsFor self.old bytes sessions place
+            → Went self.old self.new (bytes ++ body.now) sessions place result }
+    {
+        let register = self.machine.register();
+        let ended = self.machine.pass(body);
+        self.mode = after_word(ended);
+        self.matcher = Matcher::new();
+        Cut::Body(register, body)
+    }
+}

@@ -1,0 +1,65 @@
+//! Header words (UG470, packet types).
+ghost use Rattle.std.specs.Prelude.{◌≡◌, ◌<◌};
+ghost use Rattle.std.specs.Option.{ForSome};
+ghost use Rattle.x7_packets.specs.Packet.{ends_session, meaning};
+ghost use Rattle.x7_packets.specs.Taking.{is_end};
+
+/// What a word of a session is, by its place among the packets.
+#[derive(Clone, Copy, Debug, PartialEq, Eq)]
+pub enum Step {
+    /// A word in a header's place without effect.
+    Filler,
+    /// A no-op packet.
+    Nop,
+    /// A write's header: the register's number, and how many payload words follow.
+    Open(u8, u32),
+    /// A payload word: the register's number, and the word.
+    Payload(u8, u32),
+    /// A read's header: the register's number, and how many words are read.
+    Read(u8, u32),
+    /// A word in a header's place that is no header.
+    Bad(u32),
+}
+
+/// What a word in a header's place means, where the nearest type 1 read or write named the register `latest`.
+pub(crate) fn header(latest: Option<u8>, w: u32) -> Step
+    ensures { result ≡ meaning latest w }
+{
+    if w == 0xAA99_5566 || w == 0xFFFF_FFFF || w >> 29 == 0 {
+        return Step::Filler;
+    }
+    match w >> 27 {
+        4 => Step::Nop,
+        6 => Step::Open((w >> 13 & 31) as u8, w & 0x7FF),
+        5 => Step::Read((w >> 13 & 31) as u8, w & 0x7FF),
+        kind => match latest {
+            None => Step::Bad(w),
+            Some(register) => match kind {
+                10 => Step::Open(register, w & 0x7FF_FFFF),
+                9 => Step::Read(register, w & 0x7FF_FFFF),
+                _ => Step::Bad(w),
+            },
+        },
+    }
+}
+
+/// Whether a word written to the register ends the session: DESYNC written to CMD.
+pub(crate) fn is_desync(register: u8, w: u32) -> bool
+    ensures { result ≡ ends_session register w }
+{
+    register == 4 && w & 31 == 13
+}
+
+impl Step {
+    ghost use Rattle.x7_packets.specs.Taking.{is_end};
+
+    /// Whether the step's word ends the session.
+    pub fn is_end(self) -> bool
+        ensures { result ≡ is_end self }
+    {
+        match self {
+            Step::Payload(register, w) => is_desync(register, w),
+            _ => false,
+        }
+    }
+}

@@ -1,0 +1,67 @@
+//! Laws of the definitions: what is read has one reading, which is found by hand, and its history grows with each run.
+ghost use Rattle.std.specs.Prelude.{◌≡◌, ℕ, ◌+◌, ◌*◌, List, [], ◌++◌, length};
+ghost use Rattle.x7_words.specs.Word.{AreBytes, AreWords};
+ghost use Rattle.x7_packets.specs.ByHand.{AreOfOneSession, packets_of, reading_of};
+ghost use Rattle.x7_packets.specs.Cutting.{Adds, CutterStandsFor, CutterState, Longer, run_steps, Went};
+ghost use Rattle.x7_packets.specs.History.{AllFit, entered_all, History, history, history_of, next_word};
+ghost use Rattle.x7_packets.specs.Packet.{Packet, Packets};
+ghost use Rattle.x7_packets.specs.Reading.{IsReading, Place, Searching, Session, Synced, tail_of};
+ghost use Rattle.x7_packets.specs.declared.cutter.Cut.{Cut};
+ghost use Rattle.x7_packets.specs.declared.header.Step.{Step};
+
+/// A list of words has at most one list of packets.
+pub fn one_list_of_packets()
+    ensures { (ws : List ℕ) (ps qs : List Packet) → Packets ws ps → Packets ws qs → ps ≡ qs }
+{}
+
+/// A list of bytes has at most one reading.
+pub fn one_reading()
+    ensures { (bytes : List ℕ) (ss ts : List Session) (p q : Place) → IsReading bytes ss p → IsReading bytes ts q → (ss ≡ ts) × (p ≡ q) }
+{}
+
+/// Words have packets exactly where none follows a word that ends the session, and they are those found by hand.
+pub fn packets_are_found()
+    ensures found { (ws : List ℕ) → AreWords ws → AreOfOneSession ws → Packets ws (packets_of ws) }
+    ensures only { (ws : List ℕ) (ps : List Packet) → Packets ws ps → AreOfOneSession ws × (ps ≡ packets_of ws) }
+{}
+
+/// Bytes have a reading, and it is the one found by hand.
+pub fn reading_is_found()
+    ensures found { (bytes : List ℕ) → AreBytes bytes → IsReading bytes (reading_of bytes).sessions (reading_of bytes).place }
+    ensures only { (bytes : List ℕ) (ss : List Session) (p : Place) → IsReading bytes ss p
+        → (ss ≡ (reading_of bytes).sessions) × (p ≡ (reading_of bytes).place) }
+{}
+
+/// Words more in a session enter their accesses, and so does a run of a cutter.
+pub fn words_enter()
+    ensures words { (gap tail : List ℕ) (packets : List Packet) (more : List (ℕ × Step)) (sessions new_sessions : List Session) (new : Place)
+        → Longer gap packets more sessions new_sessions new
+        → history new_sessions new ≡ entered_all (next_word sessions (Synced gap packets tail)) more (history sessions (Synced gap packets tail)) }
+    ensures run { (run : Cut) (sessions new_sessions : List Session) (place new : Place) → Adds run sessions place new_sessions new
+        → history new_sessions new ≡ entered_all (next_word sessions place) (run_steps run) (history sessions place) }
+    ensures place { (bytes : List ℕ) (sessions : List Session) (place : Place) → IsReading bytes sessions place
+        → next_word sessions place + length (tail_of place) ≡ length bytes }
+    ensures cut { (old new : CutterState) (bytes more : List ℕ) (sessions : List Session) (place : Place) (run : Cut) (n : ℕ)
+        → CutterStandsFor old bytes sessions place → Went old new (bytes ++ more) sessions place run
+        → n + length (tail_of place) ≡ length bytes → history_of (bytes ++ more) ≡ entered_all n (run_steps run) (history_of bytes) }
+    ensures one { (bytes : List ℕ) (sessions : List Session) (place : Place) → IsReading bytes sessions place → history sessions place ≡ history_of bytes }
+{}
+
+/// The history of words after others.
+pub fn words_after()
+    ensures { (place : ℕ) (first more : List (ℕ × Step)) (h : History)
+        → entered_all place (first ++ more) h ≡ entered_all (place + 4 * length first) more [] ++ (entered_all place first [] ++ h) }
+{}
+
+/// Bytes of a gap, the sync word and bytes of no whole word enter nothing.
+pub fn nothing_enters()
+    ensures gap { (sessions : List Session) (gap more : List ℕ) → history sessions (Searching (gap ++ more)) ≡ history sessions (Searching gap) }
+    ensures sync { (sessions : List Session) (gap front : List ℕ) → history sessions (Synced front [] []) ≡ history sessions (Searching gap) }
+    ensures tail { (sessions : List Session) (gap tail more : List ℕ) (packets : List Packet)
+        → history sessions (Synced gap packets (tail ++ more)) ≡ history sessions (Synced gap packets tail) }
+{}
+
+/// Each access of a reading has a register of five bits, and a word of 32 bits or a count of 27.
+pub fn accesses_fit()
+    ensures { (bytes : List ℕ) (sessions : List Session) (place : Place) → IsReading bytes sessions place → AllFit (history sessions place) }
+{}

@@ -1,0 +1,23 @@
+//! Packets of a configuration stream: the search for the sync word, the words of a session, and a stream cut into its parts.
+#![tactic(auto)]
+
+mod cutter;
+mod examples;
+mod header;
+mod laws;
+mod machine;
+mod sync;
+#[cfg(test)]
+mod tests;
+
+pub use cutter::{Cut, Cutter};
+pub use examples::{
+    examples_of_ends, examples_of_headers, examples_of_the_history, examples_of_the_search,
+};
+pub use header::Step;
+pub use laws::{
+    accesses_fit, nothing_enters, one_list_of_packets, one_reading, packets_are_found,
+    reading_is_found, words_after, words_enter,
+};
+pub use machine::Machine;
+pub use sync::Matcher;

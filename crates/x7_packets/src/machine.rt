@@ -1,0 +1,107 @@
+//! The words of a session as packets (UG470, packet types).
+ghost use Rattle.std.specs.Prelude.{◌≡◌, ℕ, List, [], ◌∷◌, ◌++◌, ◌≤◌, ◌<◌, ◌*◌, ◌/◌, ◌==◌, length, min, if◌then◌else◌};
+ghost use Rattle.x7_words.specs.Word.{words_of_bytes};
+ghost use Rattle.x7_packets.specs.Packet.{Packet, payload_steps};
+ghost use Rattle.x7_packets.specs.Taking.{ends_by, Grows, MachineStandsFor};
+
+use crate::header::{Step, header, is_desync};
+use std::marker::Model;
+use x7_words::word_of;
+
+/// Takes the words of a session, and says what each is.
+#[derive(Clone, Copy, Debug)]
+pub struct Machine {
+    due: u32,
+    register: u8,
+    latest: Option<u8>,
+}
+
+impl Model for Machine {
+    ghost use Rattle.std.specs.Prelude.{◌<◌};
+    ghost use Rattle.std.specs.Option.{ForSome};
+    ghost use Rattle.x7_packets.specs.Taking.{MachineState};
+
+    ghost Value = { MachineState };
+
+    ghost view = { λ m. record { due = m.due; register = m.register; latest = m.latest } };
+
+    ghost invariant = { λ m. (m.register < 32) × ForSome m.latest (λ register. register < 32) };
+
+    ghost inverse = { λ v. record { due = v.due; register = v.register; latest = v.latest } };
+}
+
+impl Machine {
+    /// A machine just after a sync word.
+    pub fn new() -> Machine
+        ensures { MachineStandsFor result [] }
+    {
+        Machine {
+            due: 0,
+            register: 0,
+            latest: None,
+        }
+    }
+
+    /// Takes a word, and says what it is. After a word that ends the session the machine is as new.
+    pub fn take(&mut self, w: u32) -> Step
+        ensures payload { 0 < self.old.due → result ≡ Step.Payload self.old.register w }
+        ensures register { (register x : ℕ) → result ≡ Step.Payload register x → (x ≡ w) × (register < 32) × (0 < self.old.due) }
+        ensures grows { (ps : List Packet) → MachineStandsFor self.old ps → Grows ps ((w, result) ∷ []) self.new }
+    {
+        if self.due > 0 {
+            let register = self.register;
+            if is_desync(register, w) {
+                *self = Machine::new();
+            } else {
+                self.due -= 1;
+            }
+            return Step::Payload(register, w);
+        }
+        let step = header(self.latest, w);
+        match step {
+            Step::Open(register, count) => {
+                self.due = count;
+                self.register = register;
+                self.latest = Some(register);
+            }
+            Step::Read(register, _) => self.latest = Some(register),
+            _ => (),
+        }
+        step
+    }
+
+    /// How many payload words of the open packet may be taken at once, at most `most`: one of CMD, since it may end the session.
+    pub(crate) fn payload_words(&self, most: usize) -> usize
+        ensures { result ≡ min (min self.now.due most) (if self.now.register == 4 then 1 else most) }
+    {
+        let words = (self.due as usize).min(most);
+        words.min(if self.register == 4 { 1 } else { most })
+    }
+
+    /// Takes payload words of the open packet at once, and says whether the last one ends the session.
+    pub(crate) fn pass(&mut self, body: &[u8]) -> bool
+        requires whole { length body.now ≡ 4 * (length body.now / 4) }
+        requires some { 0 < length body.now }
+        requires due { length body.now / 4 ≤ self.old.due }
+        requires one { self.old.register ≡ 4 → length body.now ≡ 4 }
+        ensures ends { result ≡ ends_by (payload_steps self.old.register (words_of_bytes body.now)) }
+        ensures register { self.old.register < 32 }
+        ensures grows { (ps : List Packet) → MachineStandsFor self.old ps → Grows ps (payload_steps self.old.register (words_of_bytes body.now)) self.new }
+    {
+        if self.register == 4 {
+            return self
+                .take(word_of([body[0], body[1], body[2], body[3]]))
+                .is_end();
+        }
+        self.due -= (body.len() / 4) as u32;
+        false
+    }
+
+    /// The register whose payload words are due.
+    pub(crate) fn register(&self) -> u8
+        ensures value { result ≡ self.now.register }
+        ensures range { result < 32 }
+    {
+        self.register
+    }
+}

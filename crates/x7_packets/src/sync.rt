@@ -1,0 +1,113 @@
+//! The search for the sync word at any byte place (UG470, sync word).
+ghost use Rattle.std.specs.Prelude.{◌≡◌, ℕ, List, [], ◌∷◌, ◌++◌, ◌<◌, ◌≤◌, ◌↔◌, length, IsTrue, IfSome, if◌then◌else◌, take};
+ghost use Rattle.x7_packets.specs.SyncWord.{EndsWithSync, HasNoSync, sync_bytes};
+ghost use Rattle.x7_packets.specs.Matching.{MatcherStandsFor, Searched};
+
+use memchr::memmem;
+use std::marker::Model;
+
+/// The sync word's bytes (UG470, sync word).
+const SYNC: [u8; 4] = [0xAA, 0x99, 0x55, 0x66];
+
+/// Whether four bytes are the sync word.
+fn is_sync(bytes: [u8; 4]) -> bool
+    ensures { IsTrue result ↔ (bytes ≡ sync_bytes) }
+{
+    bytes[0] == 0xAA && bytes[1] == 0x99 && bytes[2] == 0x55 && bytes[3] == 0x66
+}
+
+/// A search for the sync word, byte by byte: the last three bytes taken, 0 for each that isn't there.
+#[derive(Clone, Copy, Debug)]
+pub struct Matcher {
+    first: u8,
+    second: u8,
+    third: u8,
+}
+
+impl Model for Matcher {
+    ghost use Rattle.x7_packets.specs.Matching.{LastThree};
+
+    ghost Value = { LastThree };
+
+    ghost view = { λ m. record { first = m.first; second = m.second; third = m.third } };
+
+    ghost inverse = { λ v. record { first = v.first; second = v.second; third = v.third } };
+}
+
+impl Matcher {
+    /// A matcher that has taken no byte.
+    pub fn new() -> Matcher
+        ensures { MatcherStandsFor result [] }
+    {
+        Matcher {
+            first: 0,
+            second: 0,
+            third: 0,
+        }
+    }
+
+    /// Takes a byte, and says whether the bytes since `new` or since the last true end with the sync word.
+    pub fn feed(&mut self, byte: u8) -> bool
+        ensures found { (bytes : List ℕ) → MatcherStandsFor self.old bytes → IsTrue result ↔ EndsWithSync (bytes ++ byte ∷ []) }
+        ensures after { (bytes : List ℕ) → MatcherStandsFor self.old bytes → MatcherStandsFor self.new (if result then [] else bytes ++ byte ∷ []) }
+    {
+        let found = is_sync([self.first, self.second, self.third, byte]);
+        *self = if found {
+            Matcher::new()
+        } else {
+            Matcher {
+                first: self.second,
+                second: self.third,
+                third: byte,
+            }
+        };
+        found
+    }
+
+    /// Takes bytes up to and with the end of the first sync word, and says how many; or takes them all, where no sync word ends in them.
+    pub(crate) fn search(&mut self, bytes: &[u8]) -> Option<usize>
+        ensures within { IfSome result (λ n. (0 < n) × (n ≤ length bytes.now)) }
+        ensures found { (gap : List ℕ) → MatcherStandsFor self.old gap → HasNoSync gap → Searched gap bytes.now result self.new }
+    {
+        if bytes.len() < 4 {
+            return self.search_bytewise(bytes);
+        }
+        let seam = self.search_bytewise(&bytes[..3]);
+        if seam.is_some() {
+            return seam;
+        }
+        match memmem::find(bytes, &SYNC) {
+            Some(at) => Some(at + 4),
+            None => {
+                *self = Matcher::behind(bytes);
+                None
+            }
+        }
+    }
+
+    /// The same, byte by byte.
+    fn search_bytewise(&mut self, bytes: &[u8]) -> Option<usize>
+        ensures within { IfSome result (λ n. (0 < n) × (n ≤ length bytes.now)) }
+        ensures found { (gap : List ℕ) → MatcherStandsFor self.old gap → HasNoSync gap → Searched gap bytes.now result self.new }
+    {
+        for (i, byte) in bytes.iter().enumerate() {
+            if self.feed(*byte) {
+                return Some(i + 1);
+            }
+        }
+        None
+    }
+
+    /// A matcher that took these bytes last, three at least.
+    fn behind(bytes: &[u8]) -> Matcher
+        requires { 3 ≤ length bytes.now }
+        ensures { (gap : List ℕ) → MatcherStandsFor result (gap ++ bytes.now) }
+    {
+        let end = bytes.len();
+        Matcher {
+            first: bytes[end - 3],
+            second: bytes[end - 2],
+            third: bytes[end - 1],
+        }
+    }
+}
