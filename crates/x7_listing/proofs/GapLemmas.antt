@@ -1,0 +1,104 @@
+-- The bytes of a gap: which are told, and which are held since they may yet be a sync word.
+use Rattle.std.proofs.Common.{◌≡◌, ℕ, ◌+◌, ◌-◌, ◌<◌, ◌≤◌, ◌^◌, List, [], ◌∷◌, ◌++◌, inl, inr, length, take, drop, get_or, slice_index_or, refl, ap, sym, ◌∙◌, append_assoc, append-nil, arith, length-append, take-append-drop, codes, zero, suc}
+use Rattle.std.proofs.lemmas.List.{take_more}
+use Rattle.x7_words.specs.Word.{bytes_of_word, words_of_bytes}
+use Rattle.x7_text.specs.Digits.{hex_byte}
+use Rattle.x7_text.specs.Row.{in_line_after, open_text}
+use Rattle.x7_words.proofs.WordLemmas.{words-four}
+use Rattle.x7_text.proofs.LineLemmas.{in_line_after-append, open_text-append}
+use Rattle.x7_listing.specs.Telling.{GapTold}
+
+-- the text of bytes in `bytes` lines
+abbrev B : ℕ → List ℕ → List ℕ
+B i xs = open_text 32 (codes "bytes ") hex_byte i xs
+
+pub fresh_gap : (all start : List ℕ) (gap : List ℕ) → gap ≡ [] → all ≡ start → GapTold all start 0 [] gap
+fresh_gap all start gap e f = record { front = []; split = e; told = f ∙ sym (append-nil start); count = refl; full = inr refl; few = omega arith }
+
+-- a byte more of a gap, where fewer than four are held
+pub held_more : (all start : List ℕ) (line : ℕ) (held held2 gap : List ℕ) (byte : ℕ) → GapTold all start line held gap → length held < 4 → held2 ≡ held ++ byte ∷ [] → GapTold all start line held2 (gap ++ byte ∷ [])
+held_more all start line held held2 gap byte g few e =
+    let none : g.front ≡ [] = elim g.full [ inl a ↦ absurd (omega arith) | inr a ↦ a ] in
+    record {
+      front = g.front;
+      split = ap (λ t. t ++ byte ∷ []) g.split ∙ append_assoc g.front held (byte ∷ []) ∙ ap (λ t. g.front ++ t) (sym e);
+      told = g.told;
+      count = g.count;
+      full = inr none;
+      few = omega (arith, ap length e, length-append held (byte ∷ []));
+    }
+
+-- bytes more of a gap: those held and a front of the new ones are told, and four are held then
+pub told_more : (given old new start : List ℕ) (line line2 : ℕ) (held held2 gap more told : List ℕ) → GapTold (given ++ old) start line held gap → held ++ more ≡ told ++ held2 → length held2 ≡ 4
+    → new ≡ old ++ B line told → line2 ≡ in_line_after 32 line told → GapTold (given ++ new) start line2 held2 (gap ++ more)
+told_more given old new start line line2 held held2 gap more told g e four t n = record {
+  front = g.front ++ told;
+  split = ap (λ t. t ++ more) g.split ∙ append_assoc g.front held more ∙ ap (λ t. g.front ++ t) e ∙ sym (append_assoc g.front told held2);
+  told = ap (λ t. given ++ t) t ∙ sym (append_assoc given old (B line told)) ∙ ap (λ t. t ++ B line told) g.told ∙ append_assoc start (B 0 g.front) (B line told)
+      ∙ ap (λ k. start ++ (B 0 g.front ++ B k told)) g.count ∙ ap (λ t. start ++ t) (sym (open_text-append 32 (codes "bytes ") hex_byte 0 g.front told));
+  count = n ∙ ap (λ k. in_line_after 32 k told) g.count ∙ sym (in_line_after-append 32 0 g.front told);
+  full = inl four;
+  few = omega arith;
+}
+
+-- four elements are the list
+pub four_of : (xs : List ℕ) (n : ℕ) → length xs ≡ 4 → n ≡ 4 → take n xs ≡ slice_index_or xs 0 0 ∷ slice_index_or xs 1 0 ∷ slice_index_or xs 2 0 ∷ slice_index_or xs 3 0 ∷ []
+four_of [] n e f = absurd (omega (arith, e))
+four_of (p ∷ []) n e f = absurd (omega (arith, e))
+four_of (p ∷ q ∷ []) n e f = absurd (omega (arith, e))
+four_of (p ∷ q ∷ r ∷ []) n e f = absurd (omega (arith, e))
+four_of (p ∷ q ∷ r ∷ s ∷ []) n e f = rw f refl
+four_of (p ∷ q ∷ r ∷ s ∷ t ∷ xs) n e f = absurd (omega (arith, e))
+
+last_four_at : (xs : List ℕ) (k : ℕ) → length xs ≡ suc (suc (suc (suc k))) → drop k xs ≡ slice_index_or xs k 0 ∷ slice_index_or xs (suc k) 0 ∷ slice_index_or xs (suc (suc k)) 0 ∷ slice_index_or xs (suc (suc (suc k))) 0 ∷ []
+last_four_at [] k e = absurd (omega (arith, e))
+last_four_at (a ∷ []) zero e = absurd (omega (arith, e))
+last_four_at (a ∷ b ∷ []) zero e = absurd (omega (arith, e))
+last_four_at (a ∷ b ∷ c ∷ []) zero e = absurd (omega (arith, e))
+last_four_at (a ∷ b ∷ c ∷ d ∷ []) zero e = refl
+last_four_at (a ∷ b ∷ c ∷ d ∷ x ∷ xs) zero e = absurd (omega (arith, e))
+last_four_at (x ∷ xs) (suc k) e = last_four_at xs k (omega (arith, e))
+
+-- the last four elements
+pub last_four : (xs : List ℕ) (k : ℕ) → length xs ≡ k + 4 → drop k xs ≡ slice_index_or xs k 0 ∷ slice_index_or xs (k + 1) 0 ∷ slice_index_or xs (k + 2) 0 ∷ slice_index_or xs (k + 3) 0 ∷ []
+last_four xs k e =
+    let one : k + 1 ≡ suc k = omega arith in
+    let two : k + 2 ≡ suc (suc k) = omega arith in
+    let three : k + 3 ≡ suc (suc (suc k)) = omega arith in
+    rw (one, two, three) (last_four_at xs k (omega (arith, e)))
+
+-- the gap one byte further
+pub gap_step : (all start : List ℕ) (line : ℕ) (held gap bytes : List ℕ) (i : ℕ) → i < length bytes → GapTold all start line held (gap ++ take i bytes ++ get_or bytes i 0 ∷ []) → GapTold all start line held (gap ++ take (i + 1) bytes)
+gap_step all start line held gap bytes i h g = let e : gap ++ take i bytes ++ get_or bytes i 0 ∷ [] ≡ gap ++ take (i + 1) bytes = append_assoc gap (take i bytes) (get_or bytes i 0 ∷ []) ∙ ap (λ t. gap ++ t) (sym (take_more bytes i 0 h)) in rw (← e) g
+
+-- four bytes held and one more are the first and the last four
+pub held_then : (xs : List ℕ) (n byte : ℕ) → length xs ≡ 4 → n ≡ 4 → take n xs ++ byte ∷ [] ≡ take 1 xs ++ slice_index_or xs 1 0 ∷ slice_index_or xs 2 0 ∷ slice_index_or xs 3 0 ∷ byte ∷ []
+held_then [] n byte e f = absurd (omega (arith, e))
+held_then (p ∷ []) n byte e f = absurd (omega (arith, e))
+held_then (p ∷ q ∷ []) n byte e f = absurd (omega (arith, e))
+held_then (p ∷ q ∷ r ∷ []) n byte e f = absurd (omega (arith, e))
+held_then (p ∷ q ∷ r ∷ s ∷ []) n byte e f = rw f refl
+held_then (p ∷ q ∷ r ∷ s ∷ t ∷ xs) n byte e f = absurd (omega (arith, e))
+
+-- bytes held and then a piece, of which all but the last four are told
+pub told_all : (given old mid new start : List ℕ) (line behind line2 : ℕ) (held gap bytes : List ℕ) → GapTold (given ++ old) start line held gap → 4 ≤ length bytes
+    → mid ≡ old ++ B line held → behind ≡ in_line_after 32 line held
+    → new ≡ mid ++ B behind (take (length bytes - 4) bytes) → line2 ≡ in_line_after 32 behind (take (length bytes - 4) bytes)
+    → GapTold (given ++ new) start line2 (slice_index_or bytes (length bytes - 4) 0 ∷ slice_index_or bytes (length bytes - 4 + 1) 0 ∷ slice_index_or bytes (length bytes - 4 + 2) 0 ∷ slice_index_or bytes (length bytes - 4 + 3) 0 ∷ []) (gap ++ bytes)
+told_all given old mid new start line behind line2 held gap bytes g h m b t n =
+    let k : ℕ = length bytes - 4 in
+    let last : drop k bytes ≡ slice_index_or bytes k 0 ∷ slice_index_or bytes (k + 1) 0 ∷ slice_index_or bytes (k + 2) 0 ∷ slice_index_or bytes (k + 3) 0 ∷ [] = last_four bytes k (omega arith) in
+    let split : held ++ bytes ≡ (held ++ take k bytes) ++ slice_index_or bytes k 0 ∷ slice_index_or bytes (k + 1) 0 ∷ slice_index_or bytes (k + 2) 0 ∷ slice_index_or bytes (k + 3) 0 ∷ [] =
+    ap (λ t. held ++ t) (sym (take-append-drop k bytes) ∙ ap (λ t. take k bytes ++ t) last) ∙ sym (append_assoc held (take k bytes) (slice_index_or bytes k 0 ∷ slice_index_or bytes (k + 1) 0 ∷ slice_index_or bytes (k + 2) 0 ∷ slice_index_or bytes (k + 3) 0 ∷ [])) in
+    told_more given old new start line line2 held _ gap bytes (held ++ take k bytes) g split refl
+    (t ∙ ap (λ x. x ++ B behind (take k bytes)) m ∙ append_assoc old (B line held) (B behind (take k bytes)) ∙ ap (λ i. old ++ (B line held ++ B i (take k bytes))) b ∙ ap (λ x. old ++ x) (sym (open_text-append 32 (codes "bytes ") hex_byte line held (take k bytes))))
+    (n ∙ ap (λ i. in_line_after 32 i (take k bytes)) b ∙ sym (in_line_after-append 32 line held (take k bytes)))
+
+-- the words of four bytes
+pub body_word : (body : List ℕ) (w : ℕ) → w < 2 ^ 32 → length body ≡ 4 → bytes_of_word w ≡ slice_index_or body 0 0 ∷ slice_index_or body 1 0 ∷ slice_index_or body 2 0 ∷ slice_index_or body 3 0 ∷ [] → words_of_bytes body ≡ w ∷ []
+body_word [] w g e f = absurd (omega (arith, e))
+body_word (a ∷ []) w g e f = absurd (omega (arith, e))
+body_word (a ∷ b ∷ []) w g e f = absurd (omega (arith, e))
+body_word (a ∷ b ∷ c ∷ []) w g e f = absurd (omega (arith, e))
+body_word (a ∷ b ∷ c ∷ d ∷ []) w g e f = words-four (a ∷ b ∷ c ∷ d ∷ []) w refl f g
+body_word (a ∷ b ∷ c ∷ d ∷ x ∷ xs) w g e f = absurd (omega (arith, e))

@@ -1,0 +1,104 @@
+-- What each kind of run writes.
+use Rattle.std.proofs.Common.{◌≡◌, ℕ, Bool, true, false, if◌then◌else◌, Bor, List, [], ◌∷◌, ◌++◌, ap, sym, subst, ◌∙◌, append_assoc, append-nil, codes}
+use Rattle.x7_words.specs.Word.{words_of_bytes}
+use Rattle.x7_packets.specs.Packet.{payload_steps}
+use Rattle.x7_packets.specs.declared.header.Step.{Step}
+use Rattle.x7_packets.specs.declared.header.Step.TheVariants.{Filler, Nop, Open, Payload, Read, Bad}
+use Rattle.x7_packets.specs.Reading.{Place, Searching, Synced, Session, IsReading}
+use Rattle.x7_packets.specs.Cutting.{Adds, IsRun, Turns}
+use Rattle.x7_packets.specs.declared.cutter.Mode.{Mode}
+use Rattle.x7_packets.specs.declared.cutter.Mode.TheVariants as mode
+use Rattle.x7_packets.specs.declared.cutter.Cut.{Cut}
+use Rattle.x7_packets.specs.declared.cutter.Cut.TheVariants.{Need, Skip, Sync, Head, Word, Body}
+use Rattle.x7_text.specs.Row.{close}
+use Rattle.x7_listing.specs.HeadLine.{head_text}
+use Rattle.x7_listing.specs.Telling.{GapTold, Told, words_place, words_told, Writes}
+use Rattle.x7_listing.proofs.PlaceLemmas.{skip_told, sync_told, words_told_at}
+use Rattle.x7_listing.proofs.SessionLemmas.{head_next, head_told}
+
+-- a statement for a run is one for what the run is
+as_run : (run run2 : Cut) (synced s2 : Bool) (line l2 : ℕ) (held h2 all all2 : List ℕ) → run ≡ run2 → Writes run2 synced line held all s2 l2 h2 all2 → Writes run synced line held all s2 l2 h2 all2
+as_run run run2 synced s2 line l2 held h2 all all2 e w = subst (λ r. Writes r synced line held all s2 l2 h2 all2) (sym e) w
+
+synced_pen : (run : Cut) (synced s2 : Bool) (line l2 l3 : ℕ) (held h2 all all2 : List ℕ) → s2 ≡ true → l2 ≡ l3 → Writes run synced line held all true l3 h2 all2 → Writes run synced line held all s2 l2 h2 all2
+synced_pen run synced s2 line l2 l3 held h2 all all2 e f w = subst (λ s. Writes run synced line held all s l2 h2 all2) (sym e) (subst (λ l. Writes run synced line held all true l h2 all2) (sym f) w)
+
+longer : (given old new more : List ℕ) → new ≡ old ++ more → given ++ new ≡ given ++ old ++ more
+longer given old new more e = ap (λ x. given ++ x) e ∙ sym (append_assoc given old more)
+
+pub by_sync : (run : Cut) (synced s2 : Bool) (line l2 : ℕ) (held h2 given old new : List ℕ) → run ≡ Sync → s2 ≡ true → l2 ≡ 0 → new ≡ old ++ close line ++ codes "sync\n" → Writes run synced line held (given ++ old) s2 l2 h2 (given ++ new)
+by_sync run synced s2 line l2 held h2 given old new is e f t =
+    let all2 : given ++ new ≡ given ++ old ++ close line ++ codes "sync\n" = ap (λ x. given ++ x) t ∙ sym (append_assoc given (old ++ close line) (codes "sync\n")) ∙ ap (λ x. x ++ codes "sync\n") (sym (append_assoc given old (close line))) in
+    as_run run Sync synced s2 line l2 held h2 (given ++ old) (given ++ new) is (synced_pen Sync synced s2 line l2 0 held h2 (given ++ old) (given ++ new) e f
+    (λ before bytes sessions new_sessions spot np o n told adds turns is_run reading. sync_told synced line held h2 (given ++ old) (given ++ new) before sessions new_sessions spot np o n told adds turns all2))
+
+not_payload : (w : ℕ) (s : Step) → IsRun (Head w s) → (r x : ℕ) → s ≡ Payload r x → ⊥
+not_payload w (Payload a b) h r x e = h
+not_payload w Filler h r x e = absurd (cc)
+not_payload w Nop h r x e = absurd (cc)
+not_payload w (Open a b) h r x e = absurd (cc)
+not_payload w (Read a b) h r x e = absurd (cc)
+not_payload w (Bad a) h r x e = absurd (cc)
+
+head_adds : (synced : Bool) (line l2 : ℕ) (held h2 all all2 before bytes : List ℕ) (sessions new_sessions : List Session) (spot np : Place) (o n : Mode) (w : ℕ) (step : Step)
+    → Told synced line held all before sessions spot o → Adds (Head w step) sessions spot new_sessions np → (o ≡ mode.Due → ⊥) → (n ≡ mode.Due → ⊥) → IsReading bytes new_sessions np
+    → (synced ≡ true → (all2 ≡ all ++ words_told line ((w, step) ∷ [])) × (l2 ≡ words_place line ((w, step) ∷ []))) → Told true l2 h2 all2 before new_sessions np n
+head_adds synced line l2 held h2 all all2 before bytes sessions new_sessions (Searching gap) np o n w step t a p q r h = absurd a
+head_adds synced line l2 held h2 all all2 before bytes sessions new_sessions (Synced gap packets tail) np o n w step t a p q r h =
+    words_told_at synced line l2 held h2 all all2 before bytes sessions new_sessions gap tail packets np o n ((w, step) ∷ []) t p q a r h
+
+word_adds : (synced : Bool) (line l2 : ℕ) (held h2 all all2 before bytes : List ℕ) (sessions new_sessions : List Session) (spot np : Place) (o n : Mode) (register w : ℕ)
+    → Told synced line held all before sessions spot o → Adds (Word register w) sessions spot new_sessions np → (o ≡ mode.Due → ⊥) → (n ≡ mode.Due → ⊥) → IsReading bytes new_sessions np
+    → (synced ≡ true → (all2 ≡ all ++ words_told line (payload_steps register (w ∷ []))) × (l2 ≡ words_place line (payload_steps register (w ∷ [])))) → Told true l2 h2 all2 before new_sessions np n
+word_adds synced line l2 held h2 all all2 before bytes sessions new_sessions (Searching gap) np o n register w t a p q r h = absurd a
+word_adds synced line l2 held h2 all all2 before bytes sessions new_sessions (Synced gap packets tail) np o n register w t a p q r h =
+    words_told_at synced line l2 held h2 all all2 before bytes sessions new_sessions gap tail packets np o n (payload_steps register (w ∷ [])) t p q a r h
+
+body_adds : (synced : Bool) (line l2 : ℕ) (held h2 all all2 before bytes : List ℕ) (sessions new_sessions : List Session) (spot np : Place) (o n : Mode) (register : ℕ) (body : Bor (List ℕ))
+    → Told synced line held all before sessions spot o → Adds (Body register body) sessions spot new_sessions np → (o ≡ mode.Due → ⊥) → (n ≡ mode.Due → ⊥) → IsReading bytes new_sessions np
+    → (synced ≡ true → (all2 ≡ all ++ words_told line (payload_steps register (words_of_bytes body.now))) × (l2 ≡ words_place line (payload_steps register (words_of_bytes body.now)))) → Told true l2 h2 all2 before new_sessions np n
+body_adds synced line l2 held h2 all all2 before bytes sessions new_sessions (Searching gap) np o n register body t a p q r h = absurd a
+body_adds synced line l2 held h2 all all2 before bytes sessions new_sessions (Synced gap packets tail) np o n register body t a p q r h =
+    words_told_at synced line l2 held h2 all all2 before bytes sessions new_sessions gap tail packets np o n (payload_steps register (words_of_bytes body.now)) t p q a r h
+
+pub by_head : (run : Cut) (synced s2 : Bool) (line l2 from : ℕ) (held h2 given old new : List ℕ) (w : ℕ) (step : Step) → run ≡ Head w step → (synced ≡ true → from ≡ line) → s2 ≡ true → l2 ≡ 0
+    → new ≡ old ++ (close from ++ head_text step w) → Writes run synced line held (given ++ old) s2 l2 h2 (given ++ new)
+by_head run synced s2 line l2 from held h2 given old new w step is same e f t =
+    as_run run (Head w step) synced s2 line l2 held h2 (given ++ old) (given ++ new) is (synced_pen (Head w step) synced s2 line l2 0 held h2 (given ++ old) (given ++ new) e f
+    (λ before bytes sessions new_sessions spot np o n told adds turns is_run reading. head_adds synced line 0 held h2 (given ++ old) (given ++ new) before bytes sessions new_sessions spot np o n w step told adds turns.0 turns.1 reading
+    (λ s. (
+      longer given old new (close from ++ head_text step w) t ∙ ap (λ k. given ++ old ++ (close k ++ head_text step w)) (same s) ∙ ap (λ x. given ++ old ++ x) (sym (head_told line w step (not_payload w step is_run)) ∙ sym (append-nil _)),
+      sym (head_next line step (not_payload w step is_run)),
+    ))))
+
+pub by_word : (run : Cut) (synced s2 : Bool) (line l2 from : ℕ) (held h2 given old new : List ℕ) (register w : ℕ) → run ≡ Word register w → (synced ≡ true → from ≡ line) → s2 ≡ true → l2 ≡ words_place from (payload_steps register (w ∷ []))
+    → new ≡ old ++ words_told from (payload_steps register (w ∷ [])) → Writes run synced line held (given ++ old) s2 l2 h2 (given ++ new)
+by_word run synced s2 line l2 from held h2 given old new register w is same e f t =
+    let more : List (ℕ × Step) = payload_steps register (w ∷ []) in
+    as_run run (Word register w) synced s2 line l2 held h2 (given ++ old) (given ++ new) is (synced_pen (Word register w) synced s2 line l2 (words_place from more) held h2 (given ++ old) (given ++ new) e f
+    (λ before bytes sessions new_sessions spot np o n told adds turns is_run reading. word_adds synced line (words_place from more) held h2 (given ++ old) (given ++ new) before bytes sessions new_sessions spot np o n register w told adds turns.0 turns.1 reading
+    (λ s. (longer given old new (words_told from more) t ∙ ap (λ k. given ++ old ++ words_told k more) (same s), ap (λ k. words_place k more) (same s)))))
+
+pub by_body : (run : Cut) (synced s2 : Bool) (line l2 from : ℕ) (held h2 given old new : List ℕ) (register : ℕ) (body : Bor (List ℕ)) → run ≡ Body register body → (synced ≡ true → from ≡ line) → s2 ≡ true → l2 ≡ words_place from (payload_steps register (words_of_bytes body.now))
+    → new ≡ old ++ words_told from (payload_steps register (words_of_bytes body.now)) → Writes run synced line held (given ++ old) s2 l2 h2 (given ++ new)
+by_body run synced s2 line l2 from held h2 given old new register body is same e f t =
+    let more : List (ℕ × Step) = payload_steps register (words_of_bytes body.now) in
+    as_run run (Body register body) synced s2 line l2 held h2 (given ++ old) (given ++ new) is (synced_pen (Body register body) synced s2 line l2 (words_place from more) held h2 (given ++ old) (given ++ new) e f
+    (λ before bytes sessions new_sessions spot np o n told adds turns is_run reading. body_adds synced line (words_place from more) held h2 (given ++ old) (given ++ new) before bytes sessions new_sessions spot np o n register body told adds turns.0 turns.1 reading
+    (λ s. (longer given old new (words_told from more) t ∙ ap (λ k. given ++ old ++ words_told k more) (same s), ap (λ k. words_place k more) (same s)))))
+
+pub by_skip : (run : Cut) (part : Bor (List ℕ)) (synced s2 : Bool) (line l1 l2 : ℕ) (held h1 h2 given old new : List ℕ) → run ≡ Skip part → s2 ≡ false → l1 ≡ (if synced then 0 else line) → h1 ≡ (if synced then [] else held)
+    → ((given start gap : List ℕ) → GapTold (given ++ old) start l1 h1 gap → GapTold (given ++ new) start l2 h2 (gap ++ part.now)) → Writes run synced line held (given ++ old) s2 l2 h2 (given ++ new)
+by_skip run part synced s2 line l1 l2 held h1 h2 given old new is e f k g =
+    as_run run (Skip part) synced s2 line l2 held h2 (given ++ old) (given ++ new) is (subst (λ s. Writes (Skip part) synced line held (given ++ old) s l2 h2 (given ++ new)) (sym e)
+    (λ before bytes sessions new_sessions spot np o n told adds turns is_run reading. skip_told synced line l2 held h2 (given ++ old) (given ++ new) before sessions new_sessions spot np o n part told adds turns
+    (λ start gap t. g given start gap (subst (λ l. GapTold (given ++ old) start l h1 gap) (sym f) (subst (λ h. GapTold (given ++ old) start (if synced then 0 else line) h gap) (sym k) t)))))
+
+pub need_adds : (synced : Bool) (line : ℕ) (held all before : List ℕ) (sessions new_sessions : List Session) (spot np : Place) (o n : Mode) → Told synced line held all before sessions spot o → Adds Need sessions spot new_sessions np → Turns Need o n np → Told synced line held all before new_sessions np n
+need_adds false line held all before sessions new_sessions (Searching gap) np o n t a m = rw (a.0, a.1) t
+need_adds true line held all before sessions new_sessions (Searching gap) np o n t a m = rw (a.0, a.1) t
+need_adds false line held all before sessions new_sessions (Synced gap packets tail) np o n t a m = absurd (m.0 t.0)
+need_adds true line held all before sessions new_sessions (Synced gap packets tail) np o n t a m = rw (a.0, a.2) (m.1, t.1)
+
+pub by_need : (run : Cut) (synced : Bool) (line : ℕ) (held all : List ℕ) → run ≡ Need → Writes run synced line held all synced line held all
+by_need run synced line held all is = as_run run Need synced synced line line held held all all is (λ before bytes sessions new_sessions spot np o n told adds turns is_run reading. need_adds synced line held all before sessions new_sessions spot np o n told adds turns)

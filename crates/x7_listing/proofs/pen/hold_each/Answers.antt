@@ -1,0 +1,11 @@
+use Rattle.std.proofs.Common.{arith}
+use Rattle.x7_listing.proofs.GapLemmas.{gap_step}
+use Rattle.x7_listing.proofs.pen.hold_each.Goals as goal
+
+pub loop-byte-preserved : goal.loop-byte-preserved
+loop-byte-preserved c = record {
+  gap = c.hold-now.ensures.gap;
+  len = omega arith;
+  room = omega arith;
+  told = λ given start gap g. gap_step _ start _ _ gap c.args.bytes.now _ c.loop-byte-test.true (c.hold-now.ensures.told given start _ (c.loop-byte.invariant.told given start gap g));
+}

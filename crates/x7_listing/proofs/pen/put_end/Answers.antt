@@ -1,0 +1,8 @@
+use Rattle.x7_listing.proofs.TakeLemmas.{ended_gap, ended_session}
+use Rattle.x7_listing.proofs.pen.put_end.Goals as goal
+
+pub returns-then-pen : goal.returns-then-pen
+returns-then-pen c = record { told = λ given before bytes sessions place m t d r k. ended_session _ _ _ _ given _ _ before bytes sessions place m c.if-pen.true t r k c.end_session.ensures.items }
+
+pub returns-else-pen : goal.returns-else-pen
+returns-else-pen c = record { told = λ given before bytes sessions place m t d r k. ended_gap _ _ _ given _ _ before bytes sessions place m c.if-pen.false t d c.end_gap.ensures.items }

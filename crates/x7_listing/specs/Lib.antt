@@ -1,0 +1,3 @@
+pub mod HeadLine
+pub mod Listing
+pub mod Telling

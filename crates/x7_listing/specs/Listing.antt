@@ -1,0 +1,44 @@
+-- The listing of a reading (this project's choice).
+use Rattle.std.specs.Prelude.{◌≡◌, ℕ, ◌==◌, if◌then◌else◌, List, ◌++◌, codes}
+use Rattle.std.specs.List.{flat_map}
+use Rattle.x7_packets.specs.Packet.{Packet, named_by}
+use Rattle.x7_packets.specs.Reading.{Place, Searching, Synced, Session, IsReading}
+use Rattle.x7_packets.specs.ByHand.{reading_of}
+use Rattle.x7_text.specs.Row.{bytes_text, data_text}
+use Rattle.x7_listing.specs.HeadLine.{command_line, head_text}
+
+-- the lines of a payload: one a word where the register is CMD, else eight words a line
+abbrev pub payload_text : ℕ → List ℕ → List ℕ
+payload_text register ws = if register == 4 then flat_map command_line ws else data_text ws
+
+-- the lines of a packet
+abbrev pub packet_text : Packet → List ℕ
+packet_text p = head_text p.step p.head ++ payload_text (named_by p.step) p.payload
+
+-- the lines of a gap, the sync word behind it and packets
+abbrev pub packets_text : List ℕ → List Packet → List ℕ
+packets_text gap packets = bytes_text gap ++ codes "sync\n" ++ flat_map packet_text packets
+
+-- the lines of a session that ended
+abbrev pub session_text : Session → List ℕ
+session_text s = packets_text s.gap s.packets
+
+-- the lines of where the bytes end
+abbrev pub place_text : Place → List ℕ
+place_text (Searching gap) = bytes_text gap
+place_text (Synced gap packets tail) = packets_text gap packets ++ bytes_text tail
+
+-- the listing of a reading
+abbrev pub reading_text : List Session → Place → List ℕ
+reading_text sessions place = flat_map session_text sessions ++ place_text place
+
+-- the text is the listing of the bytes
+pub record IsListing (bytes text : List ℕ) : Type 0 where
+  pub sessions : List Session
+  pub place : Place
+  pub reading : IsReading bytes sessions place
+  pub is : text ≡ reading_text sessions place
+
+-- the listing of bytes
+abbrev pub listing_of : List ℕ → List ℕ
+listing_of bytes = reading_text (reading_of bytes).sessions (reading_of bytes).place

@@ -1,0 +1,104 @@
+//! A lister of streams that come in pieces.
+ghost use Rattle.std.specs.Prelude.{◌≡◌, ℕ, ◌+◌, ◌*◌, ◌≤◌, List, [], ◌++◌, OnOk, OnErr, length, take, vec_len, vec_capacity};
+ghost use Rattle.x7_listing.specs.Telling.{Finished, ListerStandsFor, Rests, Tells};
+
+use crate::pen::{Pen, new_pen, put_end, put_run};
+use std::alloc::Global;
+use std::marker::Model;
+use x7_packets::{Cut, Cutter};
+use x7_words::NoMemory;
+
+/// Takes a whole piece, and writes what it tells.
+fn take_all(text: &mut Vec<u8>, cutter: &mut Cutter, pen: Pen, piece: &[u8]) -> Pen
+    requires { vec_len text.old + (131 * length piece.now + (3 * length cutter.old.kept + 128)) ≤ vec_capacity text.old }
+    ensures rests { (given before bytes : List ℕ) → Tells cutter.old pen.synced pen.line (take pen.count pen.held) text.old.items given before bytes
+        → Rests cutter.new result.synced result.line (take result.count result.held) text.new.items given before (bytes ++ piece.now) }
+{
+    let mut now = pen;
+    let mut at = 0;
+    loop {
+        let run = cutter.cut(piece, &mut at);
+        if let Cut::Need = run {
+            return now;
+        }
+        now = put_run(text, now, run);
+    }
+}
+
+/// Lists what it is fed.
+#[derive(Drop)]
+pub struct Lister {
+    cutter: Cutter,
+    pen: Pen,
+    text: Vec<u8>,
+}
+
+impl Model for Lister {
+    ghost use Rattle.std.specs.Prelude.{take};
+    ghost use Rattle.x7_listing.specs.Telling.{ListerState};
+
+    ghost Value = { ListerState };
+
+    ghost view = { λ l. record { cutter = l.cutter; synced = l.pen.synced; line = l.pen.line; held = take l.pen.count l.pen.held; text = l.text.items } };
+}
+
+impl Lister {
+    /// A lister that has taken no byte. Its text grows by the allocator given.
+    pub fn new(alloc: Global) -> Lister
+        ensures cleared { result.text ≡ [] }
+        ensures begins { ListerStandsFor result [] [] [] }
+    {
+        Lister {
+            cutter: Cutter::new(),
+            pen: new_pen(),
+            text: Vec::new(alloc),
+        }
+    }
+
+    /// The text since it was last cleared. It may end inside a line.
+    pub fn text(&self) -> &[u8]
+        ensures { result.now ≡ self.now.text }
+    {
+        &self.text
+    }
+
+    /// Clears the text.
+    pub fn clear_text(&mut self)
+        ensures cleared { self.new.text ≡ [] }
+        ensures given { (given before bytes : List ℕ) → ListerStandsFor self.old given before bytes → ListerStandsFor self.new (given ++ self.old.text) before bytes }
+    {
+        self.text.clear();
+    }
+
+    /// Takes a piece. `NoMemory` changes nothing.
+    pub fn feed(&mut self, piece: &[u8]) -> Result<(), NoMemory>
+        ensures ok { OnOk result ((given before bytes : List ℕ) → ListerStandsFor self.old given before bytes → ListerStandsFor self.new given before (bytes ++ piece.now)) }
+        ensures err { OnErr result (self.new ≡ self.old) }
+    {
+        let Some(room) = piece.len().checked_mul(131) else {
+            return Err(NoMemory);
+        };
+        let Some(room) = room.checked_add(3 * self.cutter.kept().len() + 128) else {
+            return Err(NoMemory);
+        };
+        if self.text.reserve(room).is_err() {
+            return Err(NoMemory);
+        }
+        self.pen = take_all(&mut self.text, &mut self.cutter, self.pen, piece);
+        Ok(())
+    }
+
+    /// Ends the listing, and begins a new one. `NoMemory` changes nothing.
+    pub fn finish(&mut self) -> Result<(), NoMemory>
+        ensures ok { OnOk result ((given before bytes : List ℕ) → ListerStandsFor self.old given before bytes → Finished self.new given before bytes) }
+        ensures err { OnErr result (self.new ≡ self.old) }
+    {
+        if self.text.reserve(64).is_err() {
+            return Err(NoMemory);
+        }
+        put_end(&mut self.text, self.pen, self.cutter.kept());
+        self.cutter = Cutter::new();
+        self.pen = new_pen();
+        Ok(())
+    }
+}

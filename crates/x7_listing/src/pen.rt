@@ -1,0 +1,249 @@
+//! Writing a listing run by run: what stands in the open line, and the bytes of a gap that may yet be a sync word.
+ghost use Rattle.std.specs.Prelude.{◌≡◌, ℕ, ◌+◌, ◌*◌, ◌/◌, ◌<◌, ◌≤◌, ◌==◌, List, [], ◌∷◌, ◌++◌, false, true, if◌then◌else◌, codes, length, take, vec_len, vec_capacity};
+ghost use Rattle.x7_words.specs.Word.{words_of_bytes};
+ghost use Rattle.x7_packets.specs.Packet.{payload_steps};
+ghost use Rattle.x7_packets.specs.Reading.{IsReading, Place, Session, tail_of};
+ghost use Rattle.x7_packets.specs.Cutting.{IsRun, run_bytes};
+ghost use Rattle.x7_packets.specs.declared.cutter.Mode.{Mode};
+ghost use Rattle.x7_packets.specs.declared.cutter.Mode.TheVariants as mode;
+ghost use Rattle.x7_text.specs.Digits.{hex_byte};
+ghost use Rattle.x7_text.specs.Row.{close, in_line_after, open_text};
+ghost use Rattle.x7_listing.specs.Listing.{reading_text};
+ghost use Rattle.x7_listing.specs.Telling.{GapTold, Told, words_place, words_told, Writes};
+
+use crate::line::{put_command, put_head, put_sync};
+use x7_packets::Cut;
+use x7_text::{put_bytes, put_close, put_word, put_words};
+use x7_words::word_of;
+
+/// How many elements stand in the open line, and the bytes of a gap that are held: the last four at most.
+#[derive(Clone, Copy)]
+pub(crate) struct Pen {
+    pub(crate) synced: bool,
+    pub(crate) line: usize,
+    pub(crate) held: [u8; 4],
+    pub(crate) count: usize,
+    ghost short: { line < (if synced then 8 else 32) },
+    ghost few: { count ≤ 4 },
+}
+
+/// A pen at the start of a listing.
+pub(crate) fn new_pen() -> Pen
+    ensures gap { result.synced ≡ false }
+    ensures line { result.line ≡ 0 }
+    ensures held { take result.count result.held ≡ [] }
+{
+    Pen {
+        synced: false,
+        line: 0,
+        held: [0; 4],
+        count: 0,
+    }
+}
+
+/// A pen in a gap: the same one, or a new one behind a session.
+fn in_gap(pen: Pen) -> Pen
+    ensures gap { result.synced ≡ false }
+    ensures line { result.line ≡ (if pen.synced then 0 else pen.line) }
+    ensures held { take result.count result.held ≡ (if pen.synced then [] else take pen.count pen.held) }
+{
+    if pen.synced { new_pen() } else { pen }
+}
+
+/// A pen in a session, with this many words in the open line.
+fn in_session(line: usize) -> Pen
+    requires { line < 8 }
+    ensures synced { result.synced ≡ true }
+    ensures line { result.line ≡ line }
+{
+    Pen {
+        synced: true,
+        line,
+        held: [0; 4],
+        count: 0,
+    }
+}
+
+/// How many words stand in the open line of a session.
+fn session_line(pen: Pen) -> usize
+    ensures within { result < 8 }
+    ensures line { pen.synced ≡ true → result ≡ pen.line }
+{
+    if pen.synced { pen.line } else { 0 }
+}
+
+/// Takes a byte of a gap: where four are held, the first of them is told.
+fn hold(text: &mut Vec<u8>, pen: Pen, byte: u8) -> Pen
+    requires gap { pen.synced ≡ false }
+    requires room { vec_len text.old + 19 ≤ vec_capacity text.old }
+    ensures gap { result.synced ≡ false }
+    ensures len { vec_len text.new ≤ vec_len text.old + 19 }
+    ensures room { vec_capacity text.old ≤ vec_capacity text.new }
+    ensures told { (given start gap : List ℕ) → GapTold (given ++ text.old.items) start pen.line (take pen.count pen.held) gap
+        → GapTold (given ++ text.new.items) start result.line (take result.count result.held) (gap ++ byte ∷ []) }
+{
+    if pen.count < 4 {
+        let mut held = pen.held;
+        held[pen.count] = byte;
+        return Pen {
+            synced: false,
+            line: pen.line,
+            held,
+            count: pen.count + 1,
+        };
+    }
+    let line = put_bytes(text, pen.line, &pen.held[..1]);
+    Pen {
+        synced: false,
+        line,
+        held: [pen.held[1], pen.held[2], pen.held[3], byte],
+        count: 4,
+    }
+}
+
+/// Takes fewer than four bytes of a gap, one by one.
+fn hold_each(text: &mut Vec<u8>, pen: Pen, bytes: &[u8]) -> Pen
+    requires gap { pen.synced ≡ false }
+    requires few { length bytes.now < 4 }
+    requires room { vec_len text.old + 64 ≤ vec_capacity text.old }
+    ensures gap { result.synced ≡ false }
+    ensures len { vec_len text.new ≤ vec_len text.old + 64 }
+    ensures room { vec_capacity text.old ≤ vec_capacity text.new }
+    ensures told { (given start gap : List ℕ) → GapTold (given ++ text.old.items) start pen.line (take pen.count pen.held) gap
+        → GapTold (given ++ text.new.items) start result.line (take result.count result.held) (gap ++ bytes.now) }
+{
+    let mut now = pen;
+    for byte in bytes {
+        now = hold(text, now, *byte);
+    }
+    now
+}
+
+/// Takes bytes of a gap: all but the last four are told.
+fn hold_all(text: &mut Vec<u8>, pen: Pen, bytes: &[u8]) -> Pen
+    requires gap { pen.synced ≡ false }
+    requires room { vec_len text.old + (64 + 3 * length bytes.now) ≤ vec_capacity text.old }
+    ensures gap { result.synced ≡ false }
+    ensures len { vec_len text.new ≤ vec_len text.old + (64 + 3 * length bytes.now) }
+    ensures room { vec_capacity text.old ≤ vec_capacity text.new }
+    ensures told { (given start gap : List ℕ) → GapTold (given ++ text.old.items) start pen.line (take pen.count pen.held) gap
+        → GapTold (given ++ text.new.items) start result.line (take result.count result.held) (gap ++ bytes.now) }
+{
+    if bytes.len() < 4 {
+        return hold_each(text, pen, bytes);
+    }
+    let front = bytes.len() - 4;
+    let behind = put_bytes(text, pen.line, &pen.held[..pen.count]);
+    let line = put_bytes(text, behind, &bytes[..front]);
+    Pen {
+        synced: false,
+        line,
+        held: [
+            bytes[front],
+            bytes[front + 1],
+            bytes[front + 2],
+            bytes[front + 3],
+        ],
+        count: 4,
+    }
+}
+
+/// Appends a payload word behind an open line of `in_line` words. Gives that count afterwards.
+fn put_payload(text: &mut Vec<u8>, in_line: usize, register: u8, w: u32) -> usize
+    requires within { in_line < 8 }
+    requires room { vec_len text.old + 48 ≤ vec_capacity text.old }
+    ensures within { result < 8 }
+    ensures count { result ≡ words_place in_line (payload_steps register (w ∷ [])) }
+    ensures items { text.new.items ≡ text.old.items ++ words_told in_line (payload_steps register (w ∷ [])) }
+    ensures len { vec_len text.new ≤ vec_len text.old + 48 }
+    ensures room { vec_capacity text.old ≤ vec_capacity text.new }
+{
+    if register == 4 {
+        put_command(text, in_line, w);
+        return 0;
+    }
+    put_word(text, in_line, w)
+}
+
+/// Appends payload words of one packet, one of CMD, behind an open line of `in_line` words. Gives that count afterwards.
+fn put_body(text: &mut Vec<u8>, in_line: usize, register: u8, body: &[u8]) -> usize
+    requires within { in_line < 8 }
+    requires whole { length body.now ≡ 4 * (length body.now / 4) }
+    requires one { register ≡ 4 → length body.now ≡ 4 }
+    requires room { vec_len text.old + (64 + 3 * length body.now) ≤ vec_capacity text.old }
+    ensures within { result < 8 }
+    ensures count { result ≡ words_place in_line (payload_steps register (words_of_bytes body.now)) }
+    ensures items { text.new.items ≡ text.old.items ++ words_told in_line (payload_steps register (words_of_bytes body.now)) }
+    ensures len { vec_len text.new ≤ vec_len text.old + (64 + 3 * length body.now) }
+    ensures room { vec_capacity text.old ≤ vec_capacity text.new }
+{
+    if register == 4 {
+        return put_payload(
+            text,
+            in_line,
+            register,
+            word_of([body[0], body[1], body[2], body[3]]),
+        );
+    }
+    put_words(text, in_line, body)
+}
+
+/// Appends what a run adds.
+pub(crate) fn put_run(text: &mut Vec<u8>, pen: Pen, run: Cut) -> Pen
+    requires run { IsRun run }
+    requires room { vec_len text.old + (64 + 3 * length (run_bytes run)) ≤ vec_capacity text.old }
+    ensures len { vec_len text.new ≤ vec_len text.old + (64 + 3 * length (run_bytes run.entry)) }
+    ensures room { vec_capacity text.old ≤ vec_capacity text.new }
+    ensures told { (given : List ℕ) → Writes run.entry pen.synced pen.line (take pen.count pen.held) (given ++ text.old.items)
+        result.synced result.line (take result.count result.held) (given ++ text.new.items) }
+{
+    match run {
+        Cut::Need => pen,
+        Cut::Skip(bytes) => hold_all(text, in_gap(pen), bytes),
+        Cut::Sync => {
+            put_sync(text, pen.line);
+            in_session(0)
+        }
+        Cut::Head(w, step) => {
+            put_head(text, session_line(pen), step, w);
+            in_session(0)
+        }
+        Cut::Word(register, w) => in_session(put_payload(text, session_line(pen), register, w)),
+        Cut::Body(register, body) => in_session(put_body(text, session_line(pen), register, body)),
+    }
+}
+
+/// Appends what is left of a gap.
+fn end_gap(text: &mut Vec<u8>, pen: Pen)
+    requires gap { pen.synced ≡ false }
+    requires room { vec_len text.old + 64 ≤ vec_capacity text.old }
+    ensures items { text.new.items ≡ text.old.items ++ open_text 32 (codes "bytes ") hex_byte pen.line (take pen.count pen.held) ++ close (in_line_after 32 pen.line (take pen.count pen.held)) }
+{
+    let line = put_bytes(text, pen.line, &pen.held[..pen.count]);
+    put_close(text, line);
+}
+
+/// Appends what is left of a session: the end of an open line, and the bytes of no whole word.
+fn end_session(text: &mut Vec<u8>, line: usize, kept: &[u8])
+    requires short { length kept.now ≤ 3 }
+    requires room { vec_len text.old + 64 ≤ vec_capacity text.old }
+    ensures items { text.new.items ≡ text.old.items ++ close line ++ open_text 32 (codes "bytes ") hex_byte 0 kept.now ++ close (in_line_after 32 0 kept.now) }
+{
+    put_close(text, line);
+    let count = put_bytes(text, 0, kept);
+    put_close(text, count);
+}
+
+/// Appends what is left at the end of a stream.
+pub(crate) fn put_end(text: &mut Vec<u8>, pen: Pen, kept: &[u8])
+    requires short { length kept.now ≤ 3 }
+    requires room { vec_len text.old + 64 ≤ vec_capacity text.old }
+    ensures told { (given before bytes : List ℕ) (sessions : List Session) (place : Place) (m : Mode) → Told pen.synced pen.line (take pen.count pen.held) (given ++ text.old.items) before sessions place m
+        → (m ≡ mode.Due → ⊥) → IsReading bytes sessions place → kept.now ≡ tail_of place → given ++ text.new.items ≡ before ++ reading_text sessions place }
+{
+    if pen.synced {
+        end_session(text, pen.line, kept);
+    } else {
+        end_gap(text, pen);
+    }
+}
