@@ -1,0 +1,38 @@
+"""Times the lister beside xxd and cat, and prints the ratios of processor time and the peak memory."""
+
+import os
+import pathlib
+import subprocess
+import sys
+
+RUNS = 5
+
+
+def cost(command):
+    """The least processor time in seconds of some runs, and the peak memory in MiB."""
+    least, peak = None, 0
+    for _ in range(RUNS):
+        child = subprocess.Popen(command, stdout=subprocess.DEVNULL)
+        _, status, usage = os.wait4(child.pid, 0)
+        if status != 0:
+            sys.exit(f"{command} ended with {status}")
+        spent = usage.ru_utime + usage.ru_stime
+        least = spent if least is None else min(least, spent)
+        peak = max(peak, usage.ru_maxrss / 1024)
+    return least, peak
+
+
+def main():
+    folder = pathlib.Path(sys.argv[1])
+    print("stream   x7 s    xxd s   cat s   xxd/x7  x7/cat  x7 MiB")
+    for name in ["long", "writes", "nops", "gap"]:
+        stream = str(folder / f"{name}.bin")
+        ours, peak = cost([str(folder / "x7"), "list", stream])
+        xxd, _ = cost(["xxd", "-p", "-c", "32", stream])
+        cat, _ = cost(["cat", stream])
+        print(
+            f"{name:8} {ours:.3f}   {xxd:.3f}   {cat:.3f}   {xxd / ours:6.1f}  {ours / max(cat, 0.001):6.1f}  {peak:6.1f}"
+        )
+
+
+main()

@@ -1,0 +1,3 @@
+pub mod Causes
+pub mod RunLemmas
+pub mod TurnLemmas

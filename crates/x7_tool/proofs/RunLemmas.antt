@@ -1,0 +1,226 @@
+-- What the end of a command says of its status.
+use Rattle.std.proofs.Common.{◌≡◌, ℕ, List, Option, None, Some, Result, Ok, Err, refl, ap, sym, ◌∙◌, inl, inr, ◌⊎◌}
+use Rattle.x7_words.specs.Sink.{PutsFront, Tells}
+use Rattle.x7_tool.specs.Form.{Asked, Listing}
+use Rattle.x7_tool.specs.Message.{final_status, line_of, status_of}
+use Rattle.x7_tool.specs.Outcome.{Answer, Event, Usage, Missing, ReadFault, WriteFault, NoMemory, TooLarge, Unbuilt, Told, outcome_of}
+use Rattle.x7_tool.specs.Run.{Agrees, Comes, Ends, IsDone, IsTextOf, Leaves, Says, Shows}
+use Rattle.x7_tool.specs.declared.status.Status.{Status}
+use Rattle.x7_tool.specs.declared.status.Status.TheVariants as status
+
+-- where contents are told and nothing failed, an event is the outcome or want of memory
+event_is : (told : Told) (F L : List ℕ → Type 0) (form : Option Asked) (event : Event) → ((n : List ℕ) → F n → ⊥) → ((n : List ℕ) → L n → ⊥) → Comes (Some told) F L form (Err event) → (event ≡ NoMemory) ⊎ (outcome_of told form ≡ Err event)
+event_is told F L None event f l h = inr (sym h)
+event_is told F L (Some form) event f l (inr h) = inr h.1
+event_is told F L (Some form) Usage f l (inl h) = absurd h
+event_is told F L (Some form) (Missing name) f l (inl h) = absurd (l name h)
+event_is told F L (Some form) (ReadFault name) f l (inl h) = absurd (f name h)
+event_is told F L (Some form) WriteFault f l (inl h) = absurd h
+event_is told F L (Some form) NoMemory f l (inl h) = inl refl
+event_is told F L (Some form) (TooLarge name) f l (inl h) = absurd h
+event_is told F L (Some form) (Unbuilt name) f l (inl h) = absurd h
+
+text_is : (told : Told) (F L : List ℕ → Type 0) (form : Option Asked) (answer : Answer) → Comes (Some told) F L form (Ok answer) → outcome_of told form ≡ Ok answer
+text_is told F L None answer h = absurd (cc)
+text_is told F L (Some form) answer (inl h) = absurd h
+text_is told F L (Some form) answer (inr h) = h.1
+
+ended_came : (told : Option Told) (F L : List ℕ → Type 0) (form : Option Asked) (Full : Type 0) (old new : Option (List ℕ)) (event : Event) → (Full → ⊥) → Ends told F L form Full old new (Err event) → Comes told F L form (Err event)
+ended_came told F L form Full old new Usage n h = h.0
+ended_came told F L form Full old new (Missing name) n h = h.0
+ended_came told F L form Full old new (ReadFault name) n h = h.0
+ended_came told F L form Full old new WriteFault n h = absurd (n h.0)
+ended_came told F L form Full old new NoMemory n h = h.0
+ended_came told F L form Full old new (TooLarge name) n h = h.0
+ended_came told F L form Full old new (Unbuilt name) n h = h.0
+
+-- where contents are told and nothing failed, the end is the outcome or want of memory
+pub outcome_is : (now : Option Told) (F L : List ℕ → Type 0) (form : Option Asked) (Full : Type 0) (old new : Option (List ℕ)) (s : Status) (whole : Result Answer Event) → s ≡ final_status whole → Ends now F L form Full old new whole
+    → (told : Told) → now ≡ Some told → ((n : List ℕ) → F n → ⊥) → ((n : List ℕ) → L n → ⊥) → (Full → ⊥) → (s ≡ status.NoMemory) ⊎ IsDone (outcome_of told form) s old new
+outcome_is now F L form Full old new s (Ok answer) e h told t f l n =
+    let came : Comes now F L form (Ok answer) = h.0 in
+    let here = rw t at came in
+    inr (rw (text_is told F L form answer here) (e, h.1))
+outcome_is now F L form Full old new s (Err event) e h told t f l n =
+    let came : Comes now F L form (Err event) = ended_came now F L form Full old new event n h in
+    let here = rw t at came in
+    let by : (event ≡ NoMemory) ⊎ (outcome_of told form ≡ Err event) → (s ≡ status.NoMemory) ⊎ IsDone (outcome_of told form) s old new
+    = elim [ inl q ↦ inl (e ∙ ap status_of q) | inr q ↦ inr (rw q e) ] in
+    by (event_is told F L form event f l here)
+
+fault_is : (told : Option Told) (F L : List ℕ → Type 0) (form : Option Asked) (name : List ℕ) → Comes told F L form (Err (ReadFault name)) → F name
+fault_is told F L None name h = absurd (cc)
+fault_is told F L (Some form) name (inl h) = h
+fault_is None F L (Some form) name (inr h) = absurd h
+fault_is (Some t) F L (Some form) name (inr h) = absurd h.0
+
+absence_is : (told : Option Told) (F L : List ℕ → Type 0) (form : Option Asked) (name : List ℕ) → Comes told F L form (Err (Missing name)) → L name ⊎ Shows told form (Missing name)
+absence_is told F L None name h = absurd (cc)
+absence_is told F L (Some form) name (inl h) = inl h
+absence_is None F L (Some form) name (inr h) = absurd h
+absence_is (Some t) F L (Some form) name (inr h) = inr h.1
+
+size_is : (told : Option Told) (F L : List ℕ → Type 0) (form : Option Asked) (name : List ℕ) → Comes told F L form (Err (TooLarge name)) → Agrees told form (TooLarge name)
+size_is told F L None name h = absurd (cc)
+size_is told F L (Some form) name (inl h) = absurd h
+size_is None F L (Some form) name (inr h) = tt
+size_is (Some t) F L (Some form) name (inr h) = h.1
+
+header_is : (told : Option Told) (F L : List ℕ → Type 0) (form : Option Asked) (name : List ℕ) → Comes told F L form (Err (Unbuilt name)) → Agrees told form (Unbuilt name)
+header_is told F L None name h = absurd (cc)
+header_is told F L (Some form) name (inl h) = absurd h
+header_is None F L (Some form) name (inr h) = tt
+header_is (Some t) F L (Some form) name (inr h) = h.1
+
+usage_is : (told : Option Told) (F L : List ℕ → Type 0) (form : Option Asked) → Comes told F L form (Err Usage) → form ≡ None
+usage_is told F L None h = refl
+usage_is told F L (Some form) (inl h) = absurd h
+usage_is None F L (Some form) (inr h) = absurd h
+usage_is (Some t) F L (Some form) (inr h) = absurd h.0
+
+unchanged : (told : Option Told) (form : Option Asked) (old new : Option (List ℕ)) (event : Event) → (event ≡ Usage) ⊎ ((name : List ℕ) × ((event ≡ Missing name) ⊎ (event ≡ Unbuilt name))) → Leaves told form event old new → new ≡ old
+unchanged told None old new Usage w h = h
+unchanged told None old new (Missing name) w h = h
+unchanged told None old new (ReadFault name) w h = h
+unchanged told None old new WriteFault w h = h
+unchanged told None old new NoMemory w h = h
+unchanged told None old new (TooLarge name) w h = h
+unchanged told None old new (Unbuilt name) w h = h
+unchanged told (Some (Listing stream)) old new Usage w h = h
+unchanged told (Some (Listing stream)) old new (Missing name) w h = h
+unchanged told (Some (Listing stream)) old new (ReadFault name) (inl w) h = absurd (cc)
+unchanged told (Some (Listing stream)) old new (ReadFault name) (inr (n, inl w)) h = absurd (cc)
+unchanged told (Some (Listing stream)) old new (ReadFault name) (inr (n, inr w)) h = absurd (cc)
+unchanged told (Some (Listing stream)) old new WriteFault w h = h
+unchanged told (Some (Listing stream)) old new NoMemory (inl w) h = absurd (cc)
+unchanged told (Some (Listing stream)) old new NoMemory (inr (n, inl w)) h = absurd (cc)
+unchanged told (Some (Listing stream)) old new NoMemory (inr (n, inr w)) h = absurd (cc)
+unchanged told (Some (Listing stream)) old new (TooLarge name) (inl w) h = absurd (cc)
+unchanged told (Some (Listing stream)) old new (TooLarge name) (inr (n, inl w)) h = absurd (cc)
+unchanged told (Some (Listing stream)) old new (TooLarge name) (inr (n, inr w)) h = absurd (cc)
+unchanged told (Some (Listing stream)) old new (Unbuilt name) w h = h
+
+-- a read fault has its count and its line
+pub run_read_fault : (told : Option Told) (F L : List ℕ → Type 0) (form : Option Asked) (Full Bad : Type 0) (out0 out1 err0 err1 : Option (List ℕ)) (s : Status) (whole : Result Answer Event)
+    → s ≡ final_status whole → Ends told F L form Full out0 out1 whole → Says Bad err0 err1 whole → s ≡ status.ReadFault → (name : List ℕ) × (F name × Tells Bad err0 err1 (line_of (ReadFault name)))
+run_read_fault told F L form Full Bad out0 out1 err0 err1 s (Ok answer) e h t q = absurd (cc)
+run_read_fault told F L form Full Bad out0 out1 err0 err1 s (Err Usage) e h t q = absurd (cc)
+run_read_fault told F L form Full Bad out0 out1 err0 err1 s (Err (Missing name)) e h t q = absurd (cc)
+run_read_fault told F L form Full Bad out0 out1 err0 err1 s (Err (ReadFault name)) e h t q = (name, (fault_is told F L form name h.0, t))
+run_read_fault told F L form Full Bad out0 out1 err0 err1 s (Err WriteFault) e h t q = absurd (cc)
+run_read_fault told F L form Full Bad out0 out1 err0 err1 s (Err NoMemory) e h t q = absurd (cc)
+run_read_fault told F L form Full Bad out0 out1 err0 err1 s (Err (TooLarge name)) e h t q = absurd (cc)
+run_read_fault told F L form Full Bad out0 out1 err0 err1 s (Err (Unbuilt name)) e h t q = absurd (cc)
+
+-- a name that isn't there
+pub run_missing : (told : Option Told) (F L : List ℕ → Type 0) (form : Option Asked) (Full Bad : Type 0) (out0 out1 err0 err1 : Option (List ℕ)) (s : Status) (whole : Result Answer Event)
+    → s ≡ final_status whole → Ends told F L form Full out0 out1 whole → Says Bad err0 err1 whole → s ≡ status.Missing → (name : List ℕ) × ((L name ⊎ Shows told form (Missing name)) × Tells Bad err0 err1 (line_of (Missing name)))
+run_missing told F L form Full Bad out0 out1 err0 err1 s (Ok answer) e h t q = absurd (cc)
+run_missing told F L form Full Bad out0 out1 err0 err1 s (Err Usage) e h t q = absurd (cc)
+run_missing told F L form Full Bad out0 out1 err0 err1 s (Err (Missing name)) e h t q = (name, (absence_is told F L form name h.0, t))
+run_missing told F L form Full Bad out0 out1 err0 err1 s (Err (ReadFault name)) e h t q = absurd (cc)
+run_missing told F L form Full Bad out0 out1 err0 err1 s (Err WriteFault) e h t q = absurd (cc)
+run_missing told F L form Full Bad out0 out1 err0 err1 s (Err NoMemory) e h t q = absurd (cc)
+run_missing told F L form Full Bad out0 out1 err0 err1 s (Err (TooLarge name)) e h t q = absurd (cc)
+run_missing told F L form Full Bad out0 out1 err0 err1 s (Err (Unbuilt name)) e h t q = absurd (cc)
+
+-- a write fault, and a front of the whole text
+pub run_write_fault : (told : Option Told) (F L : List ℕ → Type 0) (form : Option Asked) (Full Bad : Type 0) (out0 out1 err0 err1 : Option (List ℕ)) (s : Status) (whole : Result Answer Event)
+    → s ≡ final_status whole → Ends told F L form Full out0 out1 whole → Says Bad err0 err1 whole → s ≡ status.WriteFault → Full × ((text : List ℕ) × (IsTextOf told form text × PutsFront out0 text out1)) × Tells Bad err0 err1 (line_of WriteFault)
+run_write_fault told F L form Full Bad out0 out1 err0 err1 s (Ok answer) e h t q = absurd (cc)
+run_write_fault told F L form Full Bad out0 out1 err0 err1 s (Err Usage) e h t q = absurd (cc)
+run_write_fault told F L form Full Bad out0 out1 err0 err1 s (Err (Missing name)) e h t q = absurd (cc)
+run_write_fault told F L form Full Bad out0 out1 err0 err1 s (Err (ReadFault name)) e h t q = absurd (cc)
+run_write_fault told F L form Full Bad out0 out1 err0 err1 s (Err WriteFault) e h t q = (h.0, h.1, t)
+run_write_fault told F L form Full Bad out0 out1 err0 err1 s (Err NoMemory) e h t q = absurd (cc)
+run_write_fault told F L form Full Bad out0 out1 err0 err1 s (Err (TooLarge name)) e h t q = absurd (cc)
+run_write_fault told F L form Full Bad out0 out1 err0 err1 s (Err (Unbuilt name)) e h t q = absurd (cc)
+
+-- an input over its limit
+pub run_too_large : (told : Option Told) (F L : List ℕ → Type 0) (form : Option Asked) (Full Bad : Type 0) (out0 out1 err0 err1 : Option (List ℕ)) (s : Status) (whole : Result Answer Event)
+    → s ≡ final_status whole → Ends told F L form Full out0 out1 whole → Says Bad err0 err1 whole → s ≡ status.TooLarge → (name : List ℕ) × (Agrees told form (TooLarge name) × Tells Bad err0 err1 (line_of (TooLarge name)))
+run_too_large told F L form Full Bad out0 out1 err0 err1 s (Ok answer) e h t q = absurd (cc)
+run_too_large told F L form Full Bad out0 out1 err0 err1 s (Err Usage) e h t q = absurd (cc)
+run_too_large told F L form Full Bad out0 out1 err0 err1 s (Err (Missing name)) e h t q = absurd (cc)
+run_too_large told F L form Full Bad out0 out1 err0 err1 s (Err (ReadFault name)) e h t q = absurd (cc)
+run_too_large told F L form Full Bad out0 out1 err0 err1 s (Err WriteFault) e h t q = absurd (cc)
+run_too_large told F L form Full Bad out0 out1 err0 err1 s (Err NoMemory) e h t q = absurd (cc)
+run_too_large told F L form Full Bad out0 out1 err0 err1 s (Err (TooLarge name)) e h t q = (name, (size_is told F L form name h.0, t))
+run_too_large told F L form Full Bad out0 out1 err0 err1 s (Err (Unbuilt name)) e h t q = absurd (cc)
+
+-- a stream that isn't built yet
+pub run_unbuilt : (told : Option Told) (F L : List ℕ → Type 0) (form : Option Asked) (Full Bad : Type 0) (out0 out1 err0 err1 : Option (List ℕ)) (s : Status) (whole : Result Answer Event)
+    → s ≡ final_status whole → Ends told F L form Full out0 out1 whole → Says Bad err0 err1 whole → s ≡ status.Unbuilt → (name : List ℕ) × (Agrees told form (Unbuilt name) × Tells Bad err0 err1 (line_of (Unbuilt name)))
+run_unbuilt told F L form Full Bad out0 out1 err0 err1 s (Ok answer) e h t q = absurd (cc)
+run_unbuilt told F L form Full Bad out0 out1 err0 err1 s (Err Usage) e h t q = absurd (cc)
+run_unbuilt told F L form Full Bad out0 out1 err0 err1 s (Err (Missing name)) e h t q = absurd (cc)
+run_unbuilt told F L form Full Bad out0 out1 err0 err1 s (Err (ReadFault name)) e h t q = absurd (cc)
+run_unbuilt told F L form Full Bad out0 out1 err0 err1 s (Err WriteFault) e h t q = absurd (cc)
+run_unbuilt told F L form Full Bad out0 out1 err0 err1 s (Err NoMemory) e h t q = absurd (cc)
+run_unbuilt told F L form Full Bad out0 out1 err0 err1 s (Err (TooLarge name)) e h t q = absurd (cc)
+run_unbuilt told F L form Full Bad out0 out1 err0 err1 s (Err (Unbuilt name)) e h t q = (name, (header_is told F L form name h.0, t))
+
+-- words without a form
+pub run_usage : (told : Option Told) (F L : List ℕ → Type 0) (form : Option Asked) (Full Bad : Type 0) (out0 out1 err0 err1 : Option (List ℕ)) (s : Status) (whole : Result Answer Event)
+    → s ≡ final_status whole → Ends told F L form Full out0 out1 whole → Says Bad err0 err1 whole → s ≡ status.Usage → (form ≡ None) × Tells Bad err0 err1 (line_of Usage)
+run_usage told F L form Full Bad out0 out1 err0 err1 s (Ok answer) e h t q = absurd (cc)
+run_usage told F L form Full Bad out0 out1 err0 err1 s (Err Usage) e h t q = (usage_is told F L form h.0, t)
+run_usage told F L form Full Bad out0 out1 err0 err1 s (Err (Missing name)) e h t q = absurd (cc)
+run_usage told F L form Full Bad out0 out1 err0 err1 s (Err (ReadFault name)) e h t q = absurd (cc)
+run_usage told F L form Full Bad out0 out1 err0 err1 s (Err WriteFault) e h t q = absurd (cc)
+run_usage told F L form Full Bad out0 out1 err0 err1 s (Err NoMemory) e h t q = absurd (cc)
+run_usage told F L form Full Bad out0 out1 err0 err1 s (Err (TooLarge name)) e h t q = absurd (cc)
+run_usage told F L form Full Bad out0 out1 err0 err1 s (Err (Unbuilt name)) e h t q = absurd (cc)
+
+-- nothing is said after a whole text
+pub run_silent : (told : Option Told) (F L : List ℕ → Type 0) (form : Option Asked) (Full Bad : Type 0) (out0 out1 err0 err1 : Option (List ℕ)) (s : Status) (whole : Result Answer Event)
+    → s ≡ final_status whole → Ends told F L form Full out0 out1 whole → Says Bad err0 err1 whole → s ≡ status.Done → err1 ≡ err0
+run_silent told F L form Full Bad out0 out1 err0 err1 s (Ok answer) e h t q = t
+run_silent told F L form Full Bad out0 out1 err0 err1 s (Err Usage) e h t q = absurd (cc)
+run_silent told F L form Full Bad out0 out1 err0 err1 s (Err (Missing name)) e h t q = absurd (cc)
+run_silent told F L form Full Bad out0 out1 err0 err1 s (Err (ReadFault name)) e h t q = absurd (cc)
+run_silent told F L form Full Bad out0 out1 err0 err1 s (Err WriteFault) e h t q = absurd (cc)
+run_silent told F L form Full Bad out0 out1 err0 err1 s (Err NoMemory) e h t q = absurd (cc)
+run_silent told F L form Full Bad out0 out1 err0 err1 s (Err (TooLarge name)) e h t q = absurd (cc)
+run_silent told F L form Full Bad out0 out1 err0 err1 s (Err (Unbuilt name)) e h t q = absurd (cc)
+
+no_form_event : (told : Option Told) (F L : List ℕ → Type 0) (Full : Type 0) (out0 out1 : Option (List ℕ)) (event : Event) → Ends told F L None Full out0 out1 (Err event) → event ≡ Usage
+no_form_event told F L Full out0 out1 Usage h = refl
+no_form_event told F L Full out0 out1 (Missing name) h = absurd (cc)
+no_form_event told F L Full out0 out1 (ReadFault name) h = absurd (cc)
+no_form_event told F L Full out0 out1 WriteFault h = absurd h.1.1.0
+no_form_event told F L Full out0 out1 NoMemory h = absurd (cc)
+no_form_event told F L Full out0 out1 (TooLarge name) h = absurd (cc)
+no_form_event told F L Full out0 out1 (Unbuilt name) h = absurd (cc)
+
+no_form_end : (told : Option Told) (F L : List ℕ → Type 0) (Full : Type 0) (out0 out1 : Option (List ℕ)) (s : Status) (whole : Result Answer Event) → s ≡ final_status whole → Ends told F L None Full out0 out1 whole → s ≡ status.Usage
+no_form_end told F L Full out0 out1 s (Ok answer) e h = absurd (cc)
+no_form_end told F L Full out0 out1 s (Err event) e h = e ∙ ap status_of (no_form_event told F L Full out0 out1 event h)
+
+-- words without a form end as a wrong usage
+pub run_no_form : (told : Option Told) (F L : List ℕ → Type 0) (form : Option Asked) (Full : Type 0) (out0 out1 : Option (List ℕ)) (s : Status) (whole : Result Answer Event) → s ≡ final_status whole → Ends told F L form Full out0 out1 whole → form ≡ None → s ≡ status.Usage
+run_no_form told F L form Full out0 out1 s whole e h n =
+    let here = rw n at h in
+    no_form_end told F L Full out0 out1 s whole e here
+
+-- a wrong usage, a missing name and a stream that isn't built leave the output as it was
+pub run_unwritten : (told : Option Told) (F L : List ℕ → Type 0) (form : Option Asked) (Full : Type 0) (out0 out1 : Option (List ℕ)) (s : Status) (whole : Result Answer Event)
+    → s ≡ final_status whole → Ends told F L form Full out0 out1 whole → (s ≡ status.Usage) ⊎ ((s ≡ status.Missing) ⊎ (s ≡ status.Unbuilt)) → out1 ≡ out0
+run_unwritten told F L form Full out0 out1 s (Ok answer) e h (inl q) = absurd (cc)
+run_unwritten told F L form Full out0 out1 s (Ok answer) e h (inr (inl q)) = absurd (cc)
+run_unwritten told F L form Full out0 out1 s (Ok answer) e h (inr (inr q)) = absurd (cc)
+run_unwritten told F L form Full out0 out1 s (Err Usage) e h q = unchanged told form out0 out1 Usage (inl refl) h.1
+run_unwritten told F L form Full out0 out1 s (Err (Missing name)) e h q = unchanged told form out0 out1 (Missing name) (inr (name, inl refl)) h.1
+run_unwritten told F L form Full out0 out1 s (Err (ReadFault name)) e h (inl q) = absurd (cc)
+run_unwritten told F L form Full out0 out1 s (Err (ReadFault name)) e h (inr (inl q)) = absurd (cc)
+run_unwritten told F L form Full out0 out1 s (Err (ReadFault name)) e h (inr (inr q)) = absurd (cc)
+run_unwritten told F L form Full out0 out1 s (Err WriteFault) e h (inl q) = absurd (cc)
+run_unwritten told F L form Full out0 out1 s (Err WriteFault) e h (inr (inl q)) = absurd (cc)
+run_unwritten told F L form Full out0 out1 s (Err WriteFault) e h (inr (inr q)) = absurd (cc)
+run_unwritten told F L form Full out0 out1 s (Err NoMemory) e h (inl q) = absurd (cc)
+run_unwritten told F L form Full out0 out1 s (Err NoMemory) e h (inr (inl q)) = absurd (cc)
+run_unwritten told F L form Full out0 out1 s (Err NoMemory) e h (inr (inr q)) = absurd (cc)
+run_unwritten told F L form Full out0 out1 s (Err (TooLarge name)) e h (inl q) = absurd (cc)
+run_unwritten told F L form Full out0 out1 s (Err (TooLarge name)) e h (inr (inl q)) = absurd (cc)
+run_unwritten told F L form Full out0 out1 s (Err (TooLarge name)) e h (inr (inr q)) = absurd (cc)
+run_unwritten told F L form Full out0 out1 s (Err (Unbuilt name)) e h q = unchanged told form out0 out1 (Unbuilt name) (inr (name, inr refl)) h.1

@@ -1,0 +1,80 @@
+-- What a command comes to, over told inputs and a told flash: the first event in the order of the work decides (this project's choice).
+use Rattle.std.specs.Prelude.{ℕ, List, [], ◌∷◌, Option, None, Some, Result, Ok, Err, Bool, false, if◌then◌else◌, length, nat_eq, nat_lt}
+use Rattle.std.specs.List.{starts_with}
+use Rattle.x7_listing.specs.Listing.{listing_of}
+use Rattle.x7_tool.specs.Form.{Asked, Listing, names_flash}
+
+-- what is told: the bytes of each input by its name, and those of the flash where they are told
+pub record Told : Type 0 where
+  pub inputs : List ℕ → Option (List ℕ)
+  pub flash : Option (List ℕ)
+
+-- what ends a command before its text is whole, with the name of the input concerned
+pub data Event : Type 0 where
+  Usage : Event
+  Missing : (name : List ℕ) → Event
+  ReadFault : (name : List ℕ) → Event
+  WriteFault : Event
+  NoMemory : Event
+  TooLarge : (name : List ℕ) → Event
+  Unbuilt : (name : List ℕ) → Event
+
+-- a whole text, and whether what it reports stopped at a fault
+pub record Answer : Type 0 where
+  pub stopped : Bool
+  pub text : List ℕ
+
+-- one step, and the next on what it gave
+abbrev pub and_so : {A B : Type 0} → Result A Event → (A → Result B Event) → Result B Event
+and_so (Ok a) next = next a
+and_so (Err event) next = Err event
+
+-- an input of this name within a limit of bytes
+abbrev pub held : List ℕ → ℕ → Option (List ℕ) → Result (List ℕ) Event
+held name limit None = Err (Missing name)
+held name limit (Some bytes) = if nat_lt limit (length bytes) then Err (TooLarge name) else Ok bytes
+
+abbrev pub input : Told → List ℕ → ℕ → Result (List ℕ) Event
+input told name limit = held name limit (told.inputs name)
+
+-- the bytes that each .bit header begins with
+abbrev pub bit_header_start : List ℕ
+bit_header_start = 0x00 ∷ 0x09 ∷ 0x0F ∷ 0xF0 ∷ 0x0F ∷ 0xF0 ∷ 0x0F ∷ 0xF0 ∷ 0x0F ∷ 0xF0 ∷ 0x00 ∷ 0x00 ∷ 0x01 ∷ []
+
+-- a stream is taken that has no .bit header
+abbrev pub raw : List ℕ → List ℕ → Result (List ℕ) Event
+raw name bytes = if starts_with nat_eq bytes bit_header_start then Err (Unbuilt name) else Ok bytes
+
+-- the most bytes of a stream
+abbrev pub stream_limit : ℕ
+stream_limit = 67108864
+
+-- `list STREAM`: the stream is read whole, then judged, then listed
+abbrev pub listed : Told → List ℕ → Result Answer Event
+listed told stream =
+    and_so (input told stream stream_limit) (λ bytes.
+    and_so (raw stream bytes) (λ stream_data.
+    Ok (record { stopped = false; text = listing_of stream_data })))
+
+-- what a form comes to, each form one case
+abbrev pub text_of : Told → Asked → Result Answer Event
+text_of told (Listing stream) = listed told stream
+
+-- what the words come to: words without a form are a wrong usage
+abbrev pub outcome_of : Told → Option Asked → Result Answer Event
+outcome_of told None = Err Usage
+outcome_of told (Some form) = text_of told form
+
+-- what is told of the inputs, and of the flash where it is told
+abbrev pub with_inputs : Option (List ℕ → Option (List ℕ)) → Option (List ℕ) → Option Told
+with_inputs None flash = None
+with_inputs (Some inputs) flash = Some (record { inputs = inputs; flash = flash })
+
+-- what is told where both are needed
+abbrev pub with_both : Option (List ℕ → Option (List ℕ)) → Option (List ℕ) → Option Told
+with_both inputs None = None
+with_both inputs (Some flash) = with_inputs inputs (Some flash)
+
+-- what a form needs to be told: the flash's bytes only where it names the flash
+abbrev pub told_of : Option Asked → Option (List ℕ → Option (List ℕ)) → Option (List ℕ) → Option Told
+told_of form inputs flash = if names_flash form then with_both inputs flash else with_inputs inputs flash

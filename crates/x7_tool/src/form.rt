@@ -1,0 +1,34 @@
+//! The forms of the command line.
+ghost use Rattle.std.specs.Prelude.{◌≡◌, map, string_bytes};
+ghost use Rattle.x7_tool.specs.Form.{form_of};
+ghost use Rattle.x7_tool.specs.Run.{asked};
+
+/// What the words ask for, with the names as they were given.
+#[derive(Clone, Copy, Drop)]
+pub enum Form<'w> {
+    /// The words have no form.
+    Usage,
+    /// `list STREAM`: the listing of a stream.
+    List {
+        /// The stream's name.
+        stream: &'w str,
+    },
+}
+
+/// The form of the words.
+pub fn words_of(words: &Vec<String>) -> Form<'_>
+    ensures { asked result ≡ form_of (map string_bytes words.now.items) }
+{
+    let Some((command, names)) = words.split_first() else {
+        return Form::Usage;
+    };
+    match command.as_str() {
+        "list" => match names {
+            [stream] => Form::List {
+                stream: stream.as_str(),
+            },
+            _ => Form::Usage,
+        },
+        _ => Form::Usage,
+    }
+}

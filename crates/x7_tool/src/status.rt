@@ -1,0 +1,43 @@
+//! How a run ends.
+ghost use Rattle.std.specs.Prelude.{◌≡◌};
+
+/// How a run ended. The program ends with its number.
+#[derive(Clone, Copy, Debug, Drop, PartialEq, Eq)]
+pub enum Status {
+    /// The whole text was written.
+    Done,
+    /// The words have no form.
+    Usage,
+    /// An input that is named isn't there.
+    Missing,
+    /// An input failed at selecting or reading.
+    ReadFault,
+    /// The output failed.
+    WriteFault,
+    /// There was no memory.
+    NoMemory,
+    /// An input has more bytes than its limit.
+    TooLarge,
+    /// A stream begins with a .bit header, which isn't built yet.
+    Unbuilt,
+}
+
+impl Status {
+    ghost use Rattle.x7_tool.specs.Message.{number_of};
+
+    /// The number that the program ends with.
+    pub fn number(self) -> u8
+        ensures { result ≡ number_of self }
+    {
+        match self {
+            Status::Done => 0,
+            Status::Usage => 2,
+            Status::Missing => 3,
+            Status::ReadFault => 6,
+            Status::WriteFault => 7,
+            Status::NoMemory => 8,
+            Status::TooLarge => 9,
+            Status::Unbuilt => 10,
+        }
+    }
+}
