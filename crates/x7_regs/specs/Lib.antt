@@ -1,2 +1,4 @@
+pub mod BootStatus
 pub mod Command
 pub mod Register
+pub mod Status

@@ -1,12 +1,17 @@
-//! The registers and commands of the configuration logic: their numbers, codes and names.
+//! The registers and commands of the configuration logic: their numbers, codes and names, and the words of the status
+//! registers.
 #![tactic(auto)]
 
+mod boot_status;
 mod command;
 mod law;
 mod name;
 mod register;
+mod status;
 
+pub use boot_status::{Attempt, Cause, Kind, boot_word};
 pub use command::{Command, command_of};
 pub use law::{codes_are_distinct, names_are_distinct, numbers_are_distinct};
 pub use name::{CommandName, RegName, command_text, name_of};
 pub use register::{Reg, reg_of};
+pub use status::{StatParts, stat_word};

@@ -1,0 +1,126 @@
+-- Lemmas on specs/RunningCheck: the check is what the shift register holds.
+use Rattle.std.proofs.Common.{Bool, ◌≡◌, ℕ, zero, suc, ◌+◌, ◌/◌, ◌^◌, ◌<◌, ◌≤◌, List, [], ◌∷◌, ◌++◌, length, bit_xor, refl, sym, ap, ◌∙◌, arith, lit<, append_assoc, append-nil, map, drop, get_or, add-one, drop-cons, subst, ◌*◌}
+use Rattle.std.proofs.Math.Nat.{zero-mul}
+use Rattle.std.specs.Int.Bits.{xor_zero_l}
+use Rattle.std.proofs.lemmas.Nat.{xor_comm, xor_lt}
+use Rattle.std.proofs.lemmas.List.{drop_all}
+use Rattle.std.specs.Simd.{first_chunks}
+use Rattle.x7_words.specs.Word.{word_of_bytes, words_of_bytes}
+use Rattle.x7_crc.specs.Polynomial.{from_highest, IsRemainder, mirrored, remainder}
+use Rattle.x7_crc.specs.RunningCheck.{bits_of_write, bits_of_writes, check_after, check_of, dividend, generator, low_bits, writes_to}
+use Rattle.x7_crc.specs.ShiftRegister.{shifted_all, advanced}
+use Rattle.x7_crc.proofs.PolynomialLemmas.{mirrored_lt, mirrored_same, one_remainder}
+use Rattle.x7_crc.proofs.ShiftLemmas.{divided-shifted, shifted_all-append, shifted_all-divides, shifted_all-low}
+
+pub check_after-shifted : (v : ℕ) (writes : List (ℕ × ℕ)) → v < 2 ^ 32 → check_after v writes ≡ shifted_all v (bits_of_writes writes)
+unfolding check_after
+check_after-shifted v writes h = divided-shifted v (bits_of_writes writes) h
+
+pub check_after_fits : (v : ℕ) (writes : List (ℕ × ℕ)) → check_after v writes < 2 ^ 32
+unfolding check_after
+check_after_fits v writes = mirrored_lt 32 (remainder generator 32 (length (bits_of_writes writes)) (dividend v (bits_of_writes writes)))
+
+pub check_after-remainder : (v : ℕ) (writes : List (ℕ × ℕ)) → v < 2 ^ 32 →
+    IsRemainder (dividend v (bits_of_writes writes)) generator 32 (mirrored 32 (check_after v writes))
+check_after-remainder v writes h = rw (check_after-shifted v writes h) (shifted_all-divides v (bits_of_writes writes) h)
+
+dividend_from_zero : (bits : List Bool) → dividend 0 bits ≡ from_highest bits * 2 ^ 32
+unfolding dividend mirrored
+dividend_from_zero bits = ap (λ x. bit_xor x (from_highest bits * 2 ^ 32)) (zero-mul (2 ^ length bits)) ∙ xor_zero_l (from_highest bits * 2 ^ 32)
+
+pub check_of-remainder : (writes : List (ℕ × ℕ)) → IsRemainder (from_highest (bits_of_writes writes) * 2 ^ 32) generator 32 (mirrored 32 (check_of writes))
+check_of-remainder writes =
+    let P : ℕ → Type 0 = λ x. IsRemainder x generator 32 (mirrored 32 (check_of writes)) in
+    subst P (dividend_from_zero (bits_of_writes writes)) (check_after-remainder 0 writes (lit< tt))
+
+pub check_after-only : (v c : ℕ) (writes : List (ℕ × ℕ)) → v < 2 ^ 32 → c < 2 ^ 32 →
+    IsRemainder (dividend v (bits_of_writes writes)) generator 32 (mirrored 32 c) → c ≡ check_after v writes
+check_after-only v c writes h k r =
+    mirrored_same 32 c (check_after v writes) k (check_after_fits v writes)
+    (one_remainder (dividend v (bits_of_writes writes)) generator (mirrored 32 c) (mirrored 32 (check_after v writes)) (omega arith) (omega arith) r (check_after-remainder v writes h))
+
+pub check_after-none : (v : ℕ) → v < 2 ^ 32 → check_after v [] ≡ v
+check_after-none v h = check_after-shifted v [] h
+
+bits_of_writes-append : (a b : List (ℕ × ℕ)) → bits_of_writes (a ++ b) ≡ bits_of_writes a ++ bits_of_writes b
+bits_of_writes-append [] b = refl
+bits_of_writes-append (w ∷ a) b =
+    ap (λ x. bits_of_write w.0 w.1 ++ x) (bits_of_writes-append a b) ∙ sym (append_assoc (bits_of_write w.0 w.1) (bits_of_writes a) (bits_of_writes b))
+
+pub check_after-append : (v : ℕ) (a b : List (ℕ × ℕ)) → v < 2 ^ 32 → check_after v (a ++ b) ≡ check_after (check_after v a) b
+check_after-append v a b h =
+    check_after-shifted v (a ++ b) h ∙ ap (shifted_all v) (bits_of_writes-append a b)
+    ∙ shifted_all-append v (bits_of_writes a) (bits_of_writes b)
+    ∙ ap (λ x. shifted_all x (bits_of_writes b)) (sym (check_after-shifted v a h))
+    ∙ sym (check_after-shifted (check_after v a) b (check_after_fits v a))
+
+-- one write, as the register takes it
+pub check_after-write : (v register word : ℕ) → v < 2 ^ 32 →
+    check_after v ((register, word) ∷ []) ≡ shifted_all (shifted_all v (low_bits 32 word)) (low_bits 5 register)
+unfolding bits_of_write
+check_after-write v register word h =
+    check_after-shifted v ((register, word) ∷ []) h
+    ∙ ap (shifted_all v) (append-nil (low_bits 32 word ++ low_bits 5 register))
+    ∙ shifted_all-append v (low_bits 32 word) (low_bits 5 register)
+
+-- the same by the bits of both at once, as tables give it
+pub advanced_by_write : (v register word : ℕ) → v < 2 ^ 32 → register < 2 ^ 5 → word < 2 ^ 32 →
+    check_after v ((register, word) ∷ []) ≡ advanced 5 (bit_xor (advanced 32 (bit_xor v word)) register)
+advanced_by_write v register word h k l =
+    check_after-write v register word h ∙ shifted_all-low 5 (shifted_all v (low_bits 32 word)) register k
+    ∙ ap (λ x. advanced 5 (bit_xor x register)) (shifted_all-low 32 v word l)
+
+pub check_after-linear : (v register word : ℕ) → v < 2 ^ 32 → register < 2 ^ 5 → word < 2 ^ 32 →
+    check_after v ((register, word) ∷ []) ≡ check_after 0 ((register, bit_xor word v) ∷ [])
+check_after-linear v register word h k l =
+    advanced_by_write v register word h k l
+    ∙ ap (λ x. advanced 5 (bit_xor (advanced 32 x) register)) (xor_comm v word ∙ sym (xor_zero_l (bit_xor word v)))
+    ∙ sym (advanced_by_write 0 register (bit_xor word v) (lit< tt) k (xor_lt 32 word v l h))
+
+-- the check of writes, and of more behind them
+pub check_of-more : (v : ℕ) (writes more : List (ℕ × ℕ)) → v ≡ check_of writes → check_after v more ≡ check_of (writes ++ more)
+check_of-more v writes more e = ap (λ x. check_after x more) e ∙ sym (check_after-append 0 writes more (lit< tt))
+
+-- the two parts of a write, as the code takes them
+pub check_after_parts : (v register word first second : ℕ) → v < 2 ^ 32 → first ≡ shifted_all v (low_bits 32 word) →
+    second ≡ shifted_all first (low_bits 5 register) → second ≡ check_after v ((register, word) ∷ [])
+check_after_parts v register word first second h e f =
+    f ∙ ap (λ x. shifted_all x (low_bits 5 register)) e ∙ sym (check_after-write v register word h)
+
+-- ---- the words of a slice, by its chunks
+
+pub words_by_chunks : (n : ℕ) (bs : List ℕ) → length bs / 4 ≡ n → words_of_bytes bs ≡ map word_of_bytes (first_chunks 4 n bs)
+words_by_chunks zero [] h = refl
+words_by_chunks zero (a ∷ []) h = refl
+words_by_chunks zero (a ∷ b ∷ []) h = refl
+words_by_chunks zero (a ∷ b ∷ c ∷ []) h = refl
+words_by_chunks zero (a ∷ b ∷ c ∷ d ∷ bs) h = absurd (omega arith)
+words_by_chunks (suc n) [] h = absurd (omega arith)
+words_by_chunks (suc n) (a ∷ []) h = absurd (omega arith)
+words_by_chunks (suc n) (a ∷ b ∷ []) h = absurd (omega arith)
+words_by_chunks (suc n) (a ∷ b ∷ c ∷ []) h = absurd (omega arith)
+words_by_chunks (suc n) (a ∷ b ∷ c ∷ d ∷ bs) h = ap (λ x. word_of_bytes (a ∷ b ∷ c ∷ d ∷ []) ∷ x) (words_by_chunks n bs (omega arith))
+
+check_after_next : (v register i : ℕ) (chunks : List (List ℕ)) → v < 2 ^ 32 → i < length chunks →
+    check_after v (writes_to register (map word_of_bytes (drop i chunks)))
+    ≡ check_after (check_after v ((register, word_of_bytes (get_or chunks i [])) ∷ [])) (writes_to register (map word_of_bytes (drop (i + 1) chunks)))
+check_after_next v register i chunks h k =
+    let w : ℕ = word_of_bytes (get_or chunks i []) in
+    let rest : List (ℕ × ℕ) = writes_to register (map word_of_bytes (drop (i + 1) chunks)) in
+    let front : writes_to register (map word_of_bytes (drop i chunks)) ≡ (register, w) ∷ rest = rw (add-one, drop-cons chunks i []) refl in
+    ap (check_after v) front ∙ check_after-append v ((register, w) ∷ []) rest h
+
+-- one chunk more
+pub chunk_taken : (v register i word next whole : ℕ) (chunks : List (List ℕ)) → v < 2 ^ 32 → i < length chunks →
+    word ≡ word_of_bytes (get_or chunks i []) → next ≡ check_after v ((register, word) ∷ []) →
+    check_after v (writes_to register (map word_of_bytes (drop i chunks))) ≡ whole →
+    check_after next (writes_to register (map word_of_bytes (drop (i + 1) chunks))) ≡ whole
+chunk_taken v register i word next whole chunks h k e f g =
+    let rest : List (ℕ × ℕ) = writes_to register (map word_of_bytes (drop (i + 1) chunks)) in
+    ap (λ x. check_after x rest) (f ∙ ap (λ w. check_after v ((register, w) ∷ [])) e) ∙ sym (check_after_next v register i chunks h k) ∙ g
+
+pub chunks_end : (v register i whole : ℕ) (chunks : List (List ℕ)) → v < 2 ^ 32 → length chunks ≤ i →
+    check_after v (writes_to register (map word_of_bytes (drop i chunks))) ≡ whole → v ≡ whole
+chunks_end v register i whole chunks h k g =
+    let none : writes_to register (map word_of_bytes (drop i chunks)) ≡ [] = rw (drop_all i chunks k) refl in
+    sym (ap (check_after v) none ∙ check_after-none v h) ∙ g

@@ -1,0 +1,4 @@
+pub mod CheckLemmas
+pub mod PolynomialLemmas
+pub mod ShiftLemmas
+pub mod TableLemmas

@@ -1,0 +1,90 @@
+-- Lemmas on specs/CheckTable: what the entries of a table give.
+use Rattle.std.proofs.Common.{◌≡◌, ◌==◌, ℕ, zero, suc, ◌+◌, ◌-◌, ◌*◌, ◌/◌, ◌%◌, ◌^◌, ◌<◌, Bool, true, false, ◌&&◌, List, [], ◌∷◌, length, get_or, bit_xor, bit_and, refl, sym, ap, ◌∙◌, arith, inl, inr, IsTrue}
+use Rattle.std.proofs.Math.Nat.{pow-suc, add-zero, zero-add, mul-one, mul_assoc, mod-lt}
+use Rattle.std.specs.Int.Bits.{xor_zero_r}
+use Rattle.std.proofs.lemmas.Nat.{xor_comm, pow_pos, and_mask, shr_split}
+use Rattle.std.proofs.lemmas.Bool.Decides.{eqb_tells}
+use Rattle.x7_crc.specs.CheckTable.{advance_all, advances}
+use Rattle.x7_crc.specs.ShiftRegister.{advanced}
+use Rattle.x7_crc.proofs.PolynomialLemmas.{xor_above}
+use Rattle.x7_crc.proofs.ShiftLemmas.{advanced-xor, one_step}
+
+pub advanced-shl : (n y : ℕ) → advanced n (y * 2 ^ n) ≡ y
+unfolding advanced
+advanced-shl zero y = mul-one y
+advanced-shl (suc n) y =
+    let e : y * 2 ^ suc n ≡ y * 2 ^ n * 2 = ap (λ x. y * x) (pow-suc 2 n) ∙ sym (mul_assoc y (2 ^ n) 2) in
+    let half : y * 2 ^ suc n / 2 ≡ y * 2 ^ n = omega arith in
+    let even : y * 2 ^ suc n % 2 ≡ 0 = omega arith in
+    rw (half, even, xor_zero_r (y * 2 ^ n)) (advanced-shl n y)
+
+pub advanced-add : (m n v : ℕ) → advanced (m + n) v ≡ advanced n (advanced m v)
+unfolding advanced
+advanced-add zero n v = rw (zero-add n) refl
+advanced-add (suc m) n v = let e : suc m + n ≡ suc (m + n) = omega arith in rw e (advanced-add m n (one_step v))
+
+-- a number by a low part in a table, and the rest shifted
+pub advanced-split : (n v : ℕ) → advanced n v ≡ bit_xor (v / 2 ^ n) (advanced n (v % 2 ^ n))
+advanced-split n v =
+    let e : v ≡ bit_xor (v / 2 ^ n * 2 ^ n) (v % 2 ^ n) =
+    sym (shr_split v n) ∙ sym (xor_above n (v / 2 ^ n) (v % 2 ^ n) (mod-lt v (pow_pos n))) in
+    ap (advanced n) e ∙ advanced-xor n (v / 2 ^ n * 2 ^ n) (v % 2 ^ n)
+    ∙ ap (λ x. bit_xor x (advanced n (v % 2 ^ n))) (advanced-shl n (v / 2 ^ n))
+
+-- ---- entries
+
+both : (a b : Bool) → IsTrue (a && b) → IsTrue a × IsTrue b
+both true b t = (refl, t)
+both false b t = absurd (cc)
+
+equal : (x y : ℕ) → IsTrue (x == y) → x ≡ y
+equal x y t = elim (eqb_tells x y) [ inl e ↦ e.1 | inr e ↦ absurd (cc (e.0, t)) ]
+
+pub entry : (n k i : ℕ) (xs : List ℕ) → IsTrue (advances n k xs) → i < length xs → get_or xs i 0 ≡ advanced n (k + i)
+entry n k i [] t h = absurd (omega arith)
+entry n k zero (x ∷ xs) t h = rw add-zero (equal x (advanced n k) (both (x == advanced n k) (advances n (k + 1) xs) t).0)
+entry n k (suc i) (x ∷ xs) t h =
+    let e : k + suc i ≡ k + 1 + i = omega arith in
+    rw e (entry n (k + 1) i xs (both (x == advanced n k) (advances n (k + 1) xs) t).1 (omega arith))
+
+pub entry_at : (n i : ℕ) (xs : List ℕ) → IsTrue (advances n 0 xs) → i < length xs → get_or xs i 0 ≡ advanced n i
+entry_at n i xs t h = entry n 0 i xs t h ∙ ap (advanced n) (zero-add i)
+
+pub low_mask : (n v : ℕ) → bit_and v (2 ^ n - 1) ≡ v % 2 ^ n
+low_mask n v = and_mask v n
+
+pub register_step : (v : ℕ) → bit_xor (v / 32) (advanced 5 (bit_and v 31)) ≡ advanced 5 v
+register_step v = rw (low_mask 5 v) (sym (advanced-split 5 v))
+
+advanced_byte : (n v : ℕ) → advanced (8 + n) v ≡ bit_xor (advanced (8 + n) (v % 256)) (advanced n (v / 256))
+advanced_byte n v =
+    advanced-add 8 n v ∙ ap (advanced n) (advanced-split 8 v) ∙ advanced-xor n (v / 256) (advanced 8 (v % 256))
+    ∙ xor_comm (advanced n (v / 256)) (advanced n (advanced 8 (v % 256)))
+    ∙ ap (λ x. bit_xor x (advanced n (v / 256))) (sym (advanced-add 8 n (v % 256)))
+
+-- a word by its four bytes
+pub four_entries : (v a b c d : ℕ) → a ≡ bit_and v 255 → b ≡ bit_and (v / 256) 255 → c ≡ bit_and (v / 65536) 255 → d ≡ v / 16777216 →
+    bit_xor (advanced 32 a) (bit_xor (advanced 24 b) (bit_xor (advanced 16 c) (advanced 8 d))) ≡ advanced 32 v
+four_entries v a b c d ea eb ec ed =
+    let two : v / 256 / 256 ≡ v / 65536 = omega arith in
+    let three : v / 256 / 256 / 256 ≡ v / 16777216 = omega arith in
+    let ra : v % 256 ≡ a = sym (ea ∙ low_mask 8 v) in
+    let rb : v / 256 % 256 ≡ b = sym (eb ∙ low_mask 8 (v / 256)) in
+    let rc : v / 256 / 256 % 256 ≡ c = ap (λ x. x % 256) two ∙ sym (ec ∙ low_mask 8 (v / 65536)) in
+    let rd : v / 256 / 256 / 256 ≡ d = three ∙ sym ed in
+    sym (advanced_byte 24 v ∙ ap (λ x. bit_xor (advanced 32 (v % 256)) x) (advanced_byte 16 (v / 256)
+    ∙ ap (λ x. bit_xor (advanced 24 (v / 256 % 256)) x) (advanced_byte 8 (v / 256 / 256)))
+    ∙ rw (ra, rb, rc, rd) refl)
+
+pub entry_in_all : (n k i : ℕ) (ts : List (List ℕ)) → IsTrue (advance_all n ts) → k < length ts → i < 256 →
+    get_or (get_or ts k []) i 0 ≡ advanced (n + 8 * k) i
+entry_in_all n k i [] t h m = absurd (omega arith)
+entry_in_all n zero i (x ∷ ts) t h m =
+    let p = both (length x == 256) (advances n 0 x && advance_all (n + 8) ts) t in
+    let len : length x ≡ 256 = equal (length x) 256 p.0 in
+    let e : n + 8 * 0 ≡ n = omega arith in
+    rw e (entry_at n i x (both (advances n 0 x) (advance_all (n + 8) ts) p.1).0 (omega arith))
+entry_in_all n (suc k) i (x ∷ ts) t h m =
+    let p = both (length x == 256) (advances n 0 x && advance_all (n + 8) ts) t in
+    let e : n + 8 * suc k ≡ n + 8 + 8 * k = omega arith in
+    rw e (entry_in_all (n + 8) k i ts (both (advances n 0 x) (advance_all (n + 8) ts) p.1).1 (omega arith) m)

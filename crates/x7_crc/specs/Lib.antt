@@ -1,0 +1,5 @@
+pub mod CheckTable
+pub mod OpenWrites
+pub mod Polynomial
+pub mod RunningCheck
+pub mod ShiftRegister

@@ -1,0 +1,35 @@
+-- Polynomials over two elements, as numbers: bit i of the number is the coefficient of x^i. So the sum of two is `bit_xor`,
+-- and x^n times one is the number times 2^n.
+use Rattle.std.specs.Prelude.{◌≡◌, ℕ, zero, suc, ◌+◌, ◌*◌, ◌/◌, ◌%◌, ◌^◌, ◌<◌, Bool, List, [], ◌∷◌, length, bit_xor, nat_lt, if◌then◌else◌}
+
+-- the coefficient that a bit stands for
+abbrev pub digit : Bool → ℕ
+digit b = if b then 1 else 0
+
+-- the polynomial of a list of coefficients, the highest first
+abbrev pub from_highest : List Bool → ℕ
+from_highest [] = 0
+from_highest (b ∷ bs) = digit b * 2 ^ length bs + from_highest bs
+
+-- the product of a polynomial, by its coefficients from the lowest, and another
+abbrev pub product : List Bool → ℕ → ℕ
+product [] p = 0
+product (b ∷ bs) p = bit_xor (digit b * p) (2 * product bs p)
+
+-- `rest` is the remainder of `whole` by a divisor of this degree
+pub record IsRemainder (whole divisor degree rest : ℕ) : Type 0 where
+  pub quotient : List Bool
+  pub exact : whole ≡ bit_xor (product quotient divisor) rest
+  pub below : rest < 2 ^ degree
+
+-- the remainder of a polynomial of degree below `degree` + `n`, by long division: from the highest place down, the divisor
+-- is taken away where there is a coefficient
+unfoldable pub remainder : ℕ → ℕ → ℕ → ℕ → ℕ
+remainder divisor degree zero whole = whole
+remainder divisor degree (suc n) whole =
+    remainder divisor degree n (if nat_lt whole (2 ^ (degree + n)) then whole else bit_xor (divisor * 2 ^ n) whole)
+
+-- the `n` lowest bits of a number in the other order: bit i becomes bit n - 1 - i
+unfoldable pub mirrored : ℕ → ℕ → ℕ
+mirrored zero v = 0
+mirrored (suc n) v = v % 2 * 2 ^ n + mirrored n (v / 2)

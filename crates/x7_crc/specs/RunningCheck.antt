@@ -1,0 +1,40 @@
+-- The running check of writes to registers (UG470, cyclic redundancy check). That it is CRC-32C, in this order of the bits
+-- and from 0 on, is this project's choice.
+use Rattle.std.specs.Prelude.{◌==◌, ℕ, zero, suc, ◌+◌, ◌*◌, ◌/◌, ◌%◌, ◌^◌, Bool, List, [], ◌∷◌, ◌++◌, length, map, bit_xor}
+use Rattle.x7_crc.specs.Polynomial.{from_highest, mirrored, remainder}
+
+-- the polynomial of CRC-32C, x^32 + 1EDC6F41
+abbrev pub generator : ℕ
+generator = 2 ^ 32 + 0x1EDC6F41
+
+-- the `n` lowest bits of a number, from the lowest
+unfoldable pub low_bits : ℕ → ℕ → List Bool
+low_bits zero v = []
+low_bits (suc n) v = (v % 2 == 1) ∷ low_bits n (v / 2)
+
+-- the bits of a write: the word's 32 from the lowest, then the register number's five from the lowest
+unfoldable pub bits_of_write : ℕ → ℕ → List Bool
+bits_of_write register word = low_bits 32 word ++ low_bits 5 register
+
+-- the bits of writes, each the register's number and the word, in order
+abbrev pub bits_of_writes : List (ℕ × ℕ) → List Bool
+bits_of_writes [] = []
+bits_of_writes (w ∷ ws) = bits_of_write w.0 w.1 ++ bits_of_writes ws
+
+-- The polynomial whose remainder is the check of some bits after the check `before`: the first bit is the highest
+-- coefficient, times x^32, and a check's lowest bit is the coefficient of x^31.
+unfoldable pub dividend : ℕ → List Bool → ℕ
+dividend before bits = bit_xor (mirrored 32 before * 2 ^ length bits) (from_highest bits * 2 ^ 32)
+
+-- the check of writes that begins with the check `before`
+unfoldable pub check_after : ℕ → List (ℕ × ℕ) → ℕ
+check_after before writes =
+    mirrored 32 (remainder generator 32 (length (bits_of_writes writes)) (dividend before (bits_of_writes writes)))
+
+-- the check of writes
+abbrev pub check_of : List (ℕ × ℕ) → ℕ
+check_of writes = check_after 0 writes
+
+-- writes of these words to one register
+abbrev pub writes_to : ℕ → List ℕ → List (ℕ × ℕ)
+writes_to register words = map (λ word. (register, word)) words

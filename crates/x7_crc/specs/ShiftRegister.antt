@@ -1,0 +1,17 @@
+-- The shift register that computes the running check, a bit at a time.
+use Rattle.std.specs.Prelude.{ℕ, zero, suc, ◌*◌, ◌/◌, ◌%◌, Bool, List, [], ◌∷◌, bit_xor}
+use Rattle.x7_crc.specs.Polynomial.{digit}
+
+-- the register after one more bit; 82F63B78 is the polynomial with its coefficients in the other order
+abbrev pub shifted : ℕ → Bool → ℕ
+shifted v b = bit_xor (v / 2) (bit_xor (v % 2) (digit b) * 0x82F63B78)
+
+-- the register after these bits
+abbrev pub shifted_all : ℕ → List Bool → ℕ
+shifted_all v [] = v
+shifted_all v (b ∷ bs) = shifted_all (shifted v b) bs
+
+-- the register after `n` bits of 0
+unfoldable pub advanced : ℕ → ℕ → ℕ
+advanced zero v = v
+advanced (suc n) v = advanced n (bit_xor (v / 2) (v % 2 * 0x82F63B78))

@@ -1,0 +1,11 @@
+//! The running check over writes to registers: each word and the number of its register, as CRC-32C.
+#![tactic(auto)]
+
+mod check;
+mod law;
+mod table;
+#[cfg(test)]
+mod tests;
+
+pub use check::{fold, fold_slice};
+pub use law::{checks_are_linear, checks_are_remainders, checks_continue, checks_of_histories};

@@ -1,0 +1,104 @@
+//! The word of the boot history status register (UG470, boot history status register).
+ghost use Rattle.std.specs.Prelude.{◌≡◌, ◌<◌};
+ghost use Rattle.x7_regs.specs.BootStatus.{attempt_bits_of, before_bits_of, boot_status_of, cause_bits_of, kind_bits_of};
+
+/// What began a boot attempt.
+#[derive(Clone, Copy, Debug, PartialEq, Eq, Hash)]
+pub enum Kind {
+    /// Nothing: the device is on a bench and takes a stream.
+    Bench,
+    /// Power came.
+    Power,
+    /// An IPROG command.
+    Iprog,
+    /// The attempt before failed.
+    Fallback,
+}
+
+/// What a boot attempt failed by.
+#[derive(Clone, Copy, Debug, PartialEq, Eq, Hash)]
+pub enum Cause {
+    /// The watchdog fired.
+    Watchdog,
+    /// A written idcode was not the part's.
+    Id,
+    /// A written check differed from the running one.
+    Crc,
+    /// The flash ended first.
+    Wrap,
+}
+
+/// A boot attempt.
+#[derive(Clone, Copy, Debug, PartialEq, Eq, Hash)]
+pub struct Attempt {
+    pub kind: Kind,
+    /// What it failed by, if it did.
+    pub cause: Option<Cause>,
+    /// An IPROG command was ignored.
+    pub ignored: bool,
+}
+
+/// The bits that tell the kind of an attempt.
+#[tactic(auto, unfolding(crate::specs::Status::flag_of))]
+fn kind_bits(kind: Kind, ignored: bool) -> u32
+    ensures value { result ≡ kind_bits_of kind ignored }
+    ensures fits { result < 8 }
+{
+    let iprog = if ignored { 0b100 } else { 0 };
+    match kind {
+        Kind::Bench => 0,
+        Kind::Power => 0b001 + iprog,
+        Kind::Iprog => 0b101,
+        Kind::Fallback => 0b011 + iprog,
+    }
+}
+
+/// The bit that tells the cause of a failure.
+fn cause_bits(cause: Option<Cause>) -> u32
+    ensures value { result ≡ cause_bits_of cause }
+    ensures fits { result < 65 }
+{
+    match cause {
+        None => 0,
+        Some(Cause::Watchdog) => 1 << 3,
+        Some(Cause::Id) => 1 << 4,
+        Some(Cause::Crc) => 1 << 5,
+        Some(Cause::Wrap) => 1 << 6,
+    }
+}
+
+/// The bits of an attempt.
+fn attempt_bits(attempt: Attempt) -> u32
+    ensures value { result ≡ attempt_bits_of attempt }
+    ensures fits { result < 128 }
+{
+    match attempt.kind {
+        Kind::Bench => 0,
+        kind => kind_bits(kind, attempt.ignored) + cause_bits(attempt.cause),
+    }
+}
+
+/// The bits of the attempt before, 0 where there is none.
+fn before_bits(before: Option<Attempt>) -> u32
+    ensures value { result ≡ before_bits_of before }
+    ensures fits { result < 128 }
+{
+    match before {
+        Some(attempt) => attempt_bits(attempt),
+        None => 0,
+    }
+}
+
+/// The word of the boot history status register in this attempt and after the one before, if there was one.
+#[tactic(auto, unfolding(crate::specs::BootStatus::boot_status_of))]
+pub fn boot_word(latest: Attempt, before: Option<Attempt>) -> u32
+    ensures value { result ≡ boot_status_of latest before }
+{
+    match latest.kind {
+        Kind::Bench => 0,
+        _ => attempt_bits(latest) + before_bits(before) * 0x100,
+    }
+}
+
+#[cfg(test)]
+mod tests;
