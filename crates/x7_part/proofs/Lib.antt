@@ -1,0 +1,9 @@
+pub mod ColumnLemmas
+pub mod RowLemmas
+pub mod TableLemmas
+pub mod FieldLemmas
+pub mod PartLemmas
+pub mod FileLemmas
+pub mod RangeLemmas
+pub mod OrderLemmas
+pub mod PassLemmas

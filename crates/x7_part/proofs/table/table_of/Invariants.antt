@@ -1,0 +1,11 @@
+use Rattle.std.proofs.Common.{◌≡◌, ◌+◌, ◌*◌, ◌≤◌, ◌++◌, drop, length}
+use Rattle.x7_part.specs.AddressOrder.{addresses}
+use Rattle.x7_part.specs.Columns.{table_of as columns_of}
+use Rattle.x7_part.proofs.table.table_of.Given as goal
+
+abbrev pub invariant-loop-row : goal.invariant-loop-row
+invariant-loop-row l = record {
+  columns : l.columns.items ++ columns_of l.rank l.slot (drop l.row-index l.rows) ≡ columns_of 0 0 l.rows;
+  rank : l.rank + length (addresses (drop l.row-index l.rows)) ≡ length (addresses l.rows);
+  slot : l.slot ≤ l.rank + 2 * l.row-index;
+}

@@ -1,0 +1,21 @@
+-- The ranges of a part's numbers (this project's choice).
+use Rattle.std.specs.Prelude.{◌≡◌, ◌%◌, ◌^◌, ◌<◌, ◌≤◌, length, All}
+use Rattle.x7_part.specs.Part.{PartData}
+use Rattle.x7_part.specs.FrameAddress.{AreRows}
+use Rattle.x7_part.specs.AddressOrder.{addresses}
+
+-- a name of 1 to 64 printed bytes, an odd idcode of 32 bits, numbers in range, and 1 to 192 rows with at most 131,072 frames
+pub record IsPart (part : PartData) : Type 0 where
+  pub named : 1 ≤ length part.name
+  pub short : length part.name ≤ 64
+  pub printed : All (λ b. (0x21 ≤ b) × (b ≤ 0x7E)) part.name
+  pub idcode : part.idcode < 2 ^ 32
+  pub odd : part.idcode % 2 ≡ 1
+  pub mode : part.mode ≤ 7
+  pub bus_width : part.bus_width ≤ 3
+  pub lock : part.lock < 2 ^ 16
+  pub matched : part.matched < 2 ^ 16
+  pub some : 1 ≤ length part.rows
+  pub few : length part.rows ≤ 192
+  pub rows : AreRows 0 part.rows
+  pub frames : length (addresses part.rows) ≤ 131072

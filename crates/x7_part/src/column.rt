@@ -1,0 +1,201 @@
+//! The table of a part's columns, in which addresses and slots are searched by halves.
+ghost use Rattle.std.specs.Prelude.{◌≡◌, ◌<◌, ◌≤◌, ◌+◌, ◌-◌, ◌^◌, ◌⊎◌, ℕ, length, slice_index, slice_index_or, Contains, IfSome, IfNone};
+ghost use Rattle.x7_part.specs.AddressOrder.{Follows, IsLast};
+ghost use Rattle.x7_part.specs.Columns.{column_addresses, column_slots, IsTable};
+ghost use Rattle.x7_part.specs.Slots.{from};
+ghost use Rattle.x7_part.specs.declared.column.Column.{Column};
+ghost use Rattle.x7_part.specs.declared.slot.Slot.{Slot};
+
+use crate::slot::Slot;
+
+/// A column of a row: its addresses are `count` numbers from `first` on, and `pads` pads follow.
+#[derive(Clone, Copy, Drop)]
+pub struct Column {
+    pub first: u32,
+    pub count: u32,
+    pub pads: u32,
+    /// The number of addresses before it.
+    pub rank: u32,
+    /// The number of slots before it.
+    pub slot: u64,
+}
+
+/// The number of columns that begin at or before an address.
+fn begun_by_address(columns: &[Column], far: u32) -> usize
+    requires { IsTable 0 0 0 columns.now }
+    ensures within { result ≤ length columns.now }
+    ensures before { (k : ℕ) (d : Column) → k < result → (slice_index_or columns.now k d).first ≤ far }
+    ensures after { (k : ℕ) (d : Column) → result ≤ k → k < length columns.now → far < (slice_index_or columns.now k d).first }
+{
+    columns.partition_point(|column| column.first <= far)
+}
+
+/// The number of columns with at most so many addresses before them.
+fn begun_by_rank(columns: &[Column], rank: u32) -> usize
+    requires { IsTable 0 0 0 columns.now }
+    ensures within { result ≤ length columns.now }
+    ensures before { (k : ℕ) (d : Column) → k < result → (slice_index_or columns.now k d).rank ≤ rank }
+    ensures after { (k : ℕ) (d : Column) → result ≤ k → k < length columns.now → rank < (slice_index_or columns.now k d).rank }
+{
+    columns.partition_point(|column| column.rank <= rank)
+}
+
+/// The number of columns with at most so many slots before them.
+fn begun_by_slot(columns: &[Column], place: u64) -> usize
+    requires { IsTable 0 0 0 columns.now }
+    ensures within { result ≤ length columns.now }
+    ensures before { (k : ℕ) (d : Column) → k < result → (slice_index_or columns.now k d).slot ≤ place }
+    ensures after { (k : ℕ) (d : Column) → result ≤ k → k < length columns.now → place < (slice_index_or columns.now k d).slot }
+{
+    columns.partition_point(|column| column.slot <= place)
+}
+
+/// The place of the column that has the address.
+pub fn column_of(columns: &[Column], far: u32) -> Option<usize>
+    requires { IsTable 0 0 0 columns.now }
+    ensures found { IfSome result (λ i. (i < length columns.now) × ((d : Column) → ((slice_index_or columns.now i d).first ≤ far) × (far < (slice_index_or columns.now i d).first + (slice_index_or columns.now i d).count))) }
+    ensures address { IfSome result (λ i. Contains (column_addresses columns.now) far) }
+    ensures none { IfNone result (¬ Contains (column_addresses columns.now) far) }
+{
+    let after = begun_by_address(columns, far);
+    if after == 0 {
+        return None;
+    }
+    let column = columns[after - 1];
+    if far - column.first < column.count {
+        Some(after - 1)
+    } else {
+        None
+    }
+}
+
+/// The number of smaller addresses.
+pub fn rank_of(columns: &[Column], far: u32) -> Option<u32>
+    requires table { IsTable 0 0 0 columns.now }
+    requires fits { length (column_addresses columns.now) < 2 ^ 32 }
+    ensures found { IfSome result (λ r. (r < length (column_addresses columns.now)) × (slice_index (column_addresses columns.now) r ≡ far)) }
+    ensures none { IfNone result (¬ Contains (column_addresses columns.now) far) }
+{
+    let place = column_of(columns, far)?;
+    let column = columns[place];
+    Some(column.rank + (far - column.first))
+}
+
+/// The address with so many smaller ones.
+pub fn address_of(columns: &[Column], rank: u32) -> Option<u32>
+    requires { IsTable 0 0 0 columns.now }
+    ensures found { IfSome result (λ far. (rank < length (column_addresses columns.now)) × (slice_index (column_addresses columns.now) rank ≡ far)) }
+    ensures none { IfNone result (length (column_addresses columns.now) ≤ rank) }
+{
+    let after = begun_by_rank(columns, rank);
+    if after == 0 {
+        return None;
+    }
+    let column = columns[after - 1];
+    let minor = rank - column.rank;
+    if minor < column.count {
+        Some(column.first + minor)
+    } else {
+        None
+    }
+}
+
+/// The address behind an address.
+pub fn next_of(columns: &[Column], far: u32) -> Option<u32>
+    requires { IsTable 0 0 0 columns.now }
+    ensures found { IfSome result (λ y. Follows (column_addresses columns.now) far y) }
+    ensures none { IfNone result (IsLast (column_addresses columns.now) far ⊎ (¬ Contains (column_addresses columns.now) far)) }
+{
+    let place = column_of(columns, far)?;
+    let column = columns[place];
+    if far - column.first + 1 < column.count {
+        return Some(far + 1);
+    }
+    if place + 1 == columns.len() {
+        return None;
+    }
+    Some(columns[place + 1].first)
+}
+
+/// The slot at a place, `End` after the last.
+fn slot_at(columns: &[Column], place: u64) -> Slot
+    requires { IsTable 0 0 0 columns.now }
+    ensures { result ≡ slice_index_or (column_slots columns.now) place Slot.End }
+{
+    let after = begun_by_slot(columns, place);
+    if after == 0 {
+        return Slot::End;
+    }
+    let column = columns[after - 1];
+    let offset = place - column.slot;
+    if offset < u64::from(column.count) {
+        Slot::Frame(column.first + offset as u32)
+    } else if offset < u64::from(column.count) + u64::from(column.pads) {
+        Slot::Pad
+    } else {
+        Slot::End
+    }
+}
+
+/// The place of an address among the slots.
+fn slot_of(columns: &[Column], far: u32) -> u64
+    requires table { IsTable 0 0 0 columns.now }
+    requires address { Contains (column_addresses columns.now) far }
+    requires fits { length (column_slots columns.now) < 2 ^ 63 }
+    ensures within { result < length (column_slots columns.now) }
+    ensures slot { (n : ℕ) → slice_index_or (column_slots columns.now) (result + n) Slot.End ≡ slice_index_or (from far (column_slots columns.now)) n Slot.End }
+    ensures left { length (column_slots columns.now) - result ≡ length (from far (column_slots columns.now)) }
+{
+    let Some(place) = column_of(columns, far) else {
+        unreachable!()
+    };
+    let column = columns[place];
+    column.slot + u64::from(far - column.first)
+}
+
+/// Slot n of the slots from an address.
+pub fn slot_after(columns: &[Column], far: u32, n: u64) -> Slot
+    requires table { IsTable 0 0 0 columns.now }
+    requires address { Contains (column_addresses columns.now) far }
+    requires fits { length (column_slots columns.now) < 2 ^ 63 }
+    ensures { result ≡ slice_index_or (from far (column_slots columns.now)) n Slot.End }
+{
+    match slot_of(columns, far).checked_add(n) {
+        Some(place) => slot_at(columns, place),
+        None => Slot::End,
+    }
+}
+
+/// The number of addresses.
+pub fn frame_count(columns: &[Column]) -> u32
+    requires table { IsTable 0 0 0 columns.now }
+    requires fits { length (column_addresses columns.now) < 2 ^ 32 }
+    ensures { result ≡ length (column_addresses columns.now) }
+{
+    match columns.last() {
+        Some(last) => last.rank + last.count,
+        None => 0,
+    }
+}
+
+/// The number of slots.
+fn slot_count(columns: &[Column]) -> u64
+    requires table { IsTable 0 0 0 columns.now }
+    requires fits { length (column_slots columns.now) < 2 ^ 63 }
+    ensures { result ≡ length (column_slots columns.now) }
+{
+    match columns.last() {
+        Some(last) => last.slot + u64::from(last.count) + u64::from(last.pads),
+        None => 0,
+    }
+}
+
+/// The number of slots from an address on.
+pub fn slots_from(columns: &[Column], far: u32) -> u64
+    requires table { IsTable 0 0 0 columns.now }
+    requires address { Contains (column_addresses columns.now) far }
+    requires fits { length (column_slots columns.now) < 2 ^ 63 }
+    ensures { result ≡ length (from far (column_slots columns.now)) }
+{
+    slot_count(columns) - slot_of(columns, far)
+}

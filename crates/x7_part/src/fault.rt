@@ -1,0 +1,92 @@
+//! The keys of a part file, and why a part file is refused.
+ghost use Rattle.std.specs.Prelude.{◌≡◌};
+ghost use Rattle.x7_part.specs.PartKey.{name_of};
+ghost use Rattle.x7_part.specs.declared.fault.PartFault.TheVariants.{NoMemory};
+
+use std::alloc::AllocError;
+use std::fmt;
+use thiserror::Error;
+
+/// A key of a part file, or any other.
+#[derive(Clone, Copy, Debug, Drop, PartialEq, Eq)]
+pub enum PartKey {
+    Name,
+    Idcode,
+    Mode,
+    BusWidth,
+    Lock,
+    Match,
+    Row,
+    Block,
+    Half,
+    Minors,
+    Other,
+}
+
+impl PartKey {
+    /// The key as a part file writes it, `other` for any other.
+    pub fn name(self) -> &'static str
+        ensures { result.now ≡ name_of self }
+    {
+        match self {
+            PartKey::Name => "name",
+            PartKey::Idcode => "idcode",
+            PartKey::Mode => "mode",
+            PartKey::BusWidth => "bus_width",
+            PartKey::Lock => "lock",
+            PartKey::Match => "match",
+            PartKey::Row => "row",
+            PartKey::Block => "block",
+            PartKey::Half => "half",
+            PartKey::Minors => "minors",
+            PartKey::Other => "other",
+        }
+    }
+}
+
+/// A key of the top table, or of a row. Rows count from 1.
+#[derive(Clone, Copy, Debug, Drop, PartialEq, Eq)]
+pub struct Which {
+    pub row: Option<u32>,
+    pub key: PartKey,
+}
+
+impl fmt::Display for Which {
+    fn fmt<W: fmt::Write>(&self, f: &mut fmt::Formatter<W>) -> fmt::Result {
+        match self.row {
+            Some(row) => write!(f, "{} in row {row}", self.key.name()),
+            None => f.write_str(self.key.name()),
+        }
+    }
+}
+
+/// Why a part file was refused.
+#[derive(Clone, Copy, Debug, Drop, PartialEq, Eq, Error)]
+pub enum PartFault {
+    /// The text is no TOML, or no UTF-8.
+    #[error("the text is no TOML")]
+    Toml,
+    /// The key is missing, has a value of another type, or is unknown.
+    #[error("key {0}")]
+    Key(Which),
+    /// The key's value is out of range.
+    #[error("range {0}")]
+    Range(Which),
+    /// The row has the block type, the half and the row of an earlier one.
+    #[error("same row {0}")]
+    SameRow(u32),
+    /// The rows have so many frames, more than a part may have.
+    #[error("too many frames: {0}")]
+    TooMany(u32),
+    /// There was no memory for the part.
+    #[error("no memory")]
+    NoMemory,
+}
+
+impl From<AllocError> for PartFault {
+    ghost from_gives = { λ _ fault. fault ≡ NoMemory };
+
+    fn from(_error: AllocError) -> PartFault {
+        PartFault::NoMemory
+    }
+}

@@ -1,0 +1,22 @@
+//! Parts: their rows, the frame addresses in order, and the slots of frame data.
+#![tactic(auto)]
+
+mod address;
+mod column;
+mod fault;
+mod keys;
+mod lookup;
+mod parse;
+mod part;
+mod read;
+mod row;
+mod slot;
+mod table;
+#[cfg(test)]
+mod tests;
+mod values;
+
+pub use fault::{PartFault, PartKey, Which};
+pub use parse::part_of;
+pub use part::Part;
+pub use slot::Slot;

@@ -1,0 +1,214 @@
+//! A part, and the questions that are asked of its addresses and slots.
+ghost use Rattle.std.specs.Prelude.{◌≡◌, ◌<◌, ◌≤◌, ◌^◌, ◌⊎◌, ◌↔◌, ◌%◌, true, None, [], All, IsPermutation, length, slice_index, slice_index_or, count_by, nat_lt, string_bytes, Contains, IfSome, IfNone, IfOk};
+ghost use Rattle.x7_part.specs.AddressOrder.{addresses, Follows, IsLast, Rises};
+ghost use Rattle.x7_part.specs.Columns.{table_of as columns_of};
+ghost use Rattle.x7_part.specs.FrameAddress.{IsAddress, IsRow, AreRows};
+ghost use Rattle.x7_part.specs.Part.{PartData, frame_words};
+ghost use Rattle.toml.specs.View.{table_view};
+ghost use Rattle.x7_part.specs.PartFile.{part_with, same_row_fault, IsTopInRange};
+ghost use Rattle.x7_part.specs.PartRange.{IsPart};
+ghost use Rattle.x7_part.specs.Slots.{slots, from};
+ghost use Rattle.x7_part.specs.declared.slot.Slot.{Slot};
+
+use crate::column::{self, Column};
+use crate::fault::PartKey;
+use crate::lookup::text;
+use crate::row::{self, Row};
+use crate::slot::Slot;
+use crate::table::table_of;
+use crate::values::value;
+use std::alloc::{AllocError, Global};
+use std::marker::Model;
+use toml::Table;
+use x7_words::NoMemory;
+
+/// The words of a frame (UG470, frame data).
+const FRAME_WORDS: u32 = 101;
+
+/// A part: what its file says, with its rows in number order, and the table of its columns.
+#[derive(Drop)]
+pub struct Part {
+    name: String,
+    idcode: u32,
+    mode: u8,
+    bus_width: u8,
+    lock: u16,
+    matched: u16,
+    rows: Vec<Row>,
+    columns: Vec<Column>,
+}
+
+impl Model for Part {
+    ghost Value = { PartData };
+
+    ghost view = { λ p. record { name = string_bytes p.name; idcode = p.idcode; mode = p.mode; bus_width = p.bus_width; lock = p.lock; matched = p.matched; rows = p.rows.items } };
+
+    ghost invariant = { λ p. (p.columns.items ≡ columns_of 0 0 p.rows.items) × IsPart record { name = string_bytes p.name; idcode = p.idcode; mode = p.mode; bus_width = p.bus_width; lock = p.lock; matched = p.matched; rows = p.rows.items } };
+}
+
+impl Part {
+    /// The part of a table with these rows, whose checks found nothing.
+    pub(crate) fn of_table(alloc: Global, table: &Table, rows: Vec<Row>) -> Result<Part, AllocError>
+        requires top { IsTopInRange (table_view table.now) }
+        requires rows { All IsRow rows.items }
+        requires apart { same_row_fault [] rows.items ≡ None }
+        requires some { 1 ≤ length rows.items }
+        requires few { length rows.items ≤ 192 }
+        requires frames { length (addresses rows.items) ≤ 131072 }
+        ensures part { IfOk result (λ part. part ≡ part_with (table_view table.now) part.rows) }
+        ensures same { IfOk result (λ part. IsPermutation rows.items part.rows) }
+        ensures order { IfOk result (λ part. AreRows 0 part.rows) }
+    {
+        let mut rows = rows;
+        row::in_order(&mut rows);
+        let columns = table_of(alloc, &rows)?;
+        Ok(Part {
+            name: String::from_str(alloc, text(table, PartKey::Name))?,
+            idcode: value(table, PartKey::Idcode, 4_294_967_295),
+            mode: value(table, PartKey::Mode, 7) as u8,
+            bus_width: value(table, PartKey::BusWidth, 3) as u8,
+            lock: value(table, PartKey::Lock, 65_535) as u16,
+            matched: value(table, PartKey::Match, 65_535) as u16,
+            rows,
+            columns,
+        })
+    }
+
+    /// An equal part.
+    pub fn copy(&self, alloc: Global) -> Result<Part, NoMemory>
+        ensures { IfOk result (λ part. part ≡ self.now) }
+    {
+        match self.copied(alloc) {
+            Ok(part) => Ok(part),
+            Err(_) => Err(NoMemory),
+        }
+    }
+
+    fn copied(&self, alloc: Global) -> Result<Part, AllocError>
+        ensures { IfOk result (λ part. part ≡ self.now) }
+    {
+        Ok(Part {
+            name: String::from_str(alloc, self.name.as_str())?,
+            idcode: self.idcode,
+            mode: self.mode,
+            bus_width: self.bus_width,
+            lock: self.lock,
+            matched: self.matched,
+            rows: row::copy_of(alloc, &self.rows)?,
+            columns: self.columns.as_slice().to_vec(alloc)?,
+        })
+    }
+
+    /// Its name.
+    pub fn name(&self) -> &str
+        ensures { result.now ≡ self.now.name }
+    {
+        self.name.as_str()
+    }
+
+    /// The identification code that a stream must write.
+    pub fn idcode(&self) -> u32
+        ensures value { result ≡ self.now.idcode }
+        ensures odd { result % 2 ≡ 1 }
+    {
+        self.idcode
+    }
+
+    /// The mode pins, as STAT shows them.
+    pub fn mode(&self) -> u8
+        ensures value { result ≡ self.now.mode }
+        ensures range { result ≤ 7 }
+    {
+        self.mode
+    }
+
+    /// The bus width, as STAT shows it.
+    pub fn bus_width(&self) -> u8
+        ensures value { result ≡ self.now.bus_width }
+        ensures range { result ≤ 3 }
+    {
+        self.bus_width
+    }
+
+    /// The ticks that startup waits for the clocks to lock.
+    pub fn lock(&self) -> u16
+        ensures { result ≡ self.now.lock }
+    {
+        self.lock
+    }
+
+    /// The ticks that startup waits for the impedance to match.
+    pub fn matched(&self) -> u16
+        ensures { result ≡ self.now.matched }
+    {
+        self.matched
+    }
+
+    /// The words of a frame.
+    pub fn words(&self) -> u32
+        ensures { result ≡ frame_words self.now }
+    {
+        FRAME_WORDS
+    }
+
+    /// The number of its frames, which is that of its addresses.
+    pub fn frames(&self) -> u32
+        ensures value { result ≡ length (addresses self.now.rows) }
+        ensures some { 0 < result }
+        ensures limit { result ≤ 131072 }
+        ensures part { IsPart self.now }
+        ensures order { Rises 0 (addresses self.now.rows) }
+    {
+        column::frame_count(&self.columns)
+    }
+
+    /// Whether the part has a frame at the address.
+    pub fn is_address(&self, far: u32) -> bool
+        ensures listed { (result ≡ true) ↔ Contains (addresses self.now.rows) far }
+        ensures fields { (result ≡ true) ↔ IsAddress self.now.rows far }
+    {
+        column::column_of(&self.columns, far).is_some()
+    }
+
+    /// The next address in number order, none for the last one and for what is no address.
+    pub fn next(&self, far: u32) -> Option<u32>
+        ensures found { IfSome result (λ y. Follows (addresses self.now.rows) far y) }
+        ensures none { IfNone result (IsLast (addresses self.now.rows) far ⊎ (¬ Contains (addresses self.now.rows) far)) }
+    {
+        column::next_of(&self.columns, far)
+    }
+
+    /// The number of smaller addresses, none for what is no address.
+    pub fn rank(&self, far: u32) -> Option<u32>
+        ensures found { IfSome result (λ r. (r < length (addresses self.now.rows)) × (slice_index (addresses self.now.rows) r ≡ far)) }
+        ensures smaller { IfSome result (λ r. r ≡ count_by (λ y. nat_lt y far) (addresses self.now.rows)) }
+        ensures none { IfNone result (¬ Contains (addresses self.now.rows) far) }
+    {
+        column::rank_of(&self.columns, far)
+    }
+
+    /// The address with so many smaller ones, none from `frames()` on. It is the inverse of `rank`.
+    pub fn address(&self, rank: u32) -> Option<u32>
+        ensures found { IfSome result (λ far. (rank < length (addresses self.now.rows)) × (slice_index (addresses self.now.rows) rank ≡ far)) }
+        ensures smaller { IfSome result (λ far. rank ≡ count_by (λ y. nat_lt y far) (addresses self.now.rows)) }
+        ensures none { IfNone result (length (addresses self.now.rows) ≤ rank) }
+    {
+        column::address_of(&self.columns, rank)
+    }
+
+    /// Slot n of the slots from an address on, `End` where there are no more than n.
+    pub fn slot_after(&self, far: u32, n: u64) -> Slot
+        requires address { Contains (addresses self.now.rows) far }
+        ensures { result ≡ slice_index_or (from far (slots self.now.rows)) n Slot.End }
+    {
+        column::slot_after(&self.columns, far, n)
+    }
+
+    /// The number of slots from an address on.
+    pub fn slots_from(&self, far: u32) -> u64
+        requires address { Contains (addresses self.now.rows) far }
+        ensures { result ≡ length (from far (slots self.now.rows)) }
+    {
+        column::slots_from(&self.columns, far)
+    }
+}

@@ -1,0 +1,125 @@
+//! Rows of a part.
+ghost use Rattle.std.specs.Prelude.{◌≡◌, ◌≤◌, [], length, sum, IfOk, IsPermutation};
+ghost use Rattle.std.specs.List.Sorted.{IsNonDecreasingBy};
+ghost use Rattle.x7_part.specs.AddressOrder.{addresses};
+ghost use Rattle.x7_part.specs.FrameAddress.{row_address, IsRow};
+ghost use Rattle.x7_part.specs.PartFile.{is_same, has_same, same_row_fault, told};
+ghost use Rattle.x7_part.specs.Part.{RowData};
+
+use crate::address::{BLOCK, HALF, ROW};
+use crate::fault::PartFault;
+use crate::keys::require;
+use std::alloc::{AllocError, Global};
+use std::marker::Model;
+
+/// A row of one block type, with the number of minors of each column.
+#[derive(Drop)]
+pub struct Row {
+    pub block: u8,
+    pub half: u8,
+    pub row: u8,
+    pub minors: Vec<u8>,
+}
+
+impl Model for Row {
+    ghost Value = { RowData };
+
+    ghost view = { λ r. record { block = r.block; half = r.half; row = r.row; minors = r.minors.items } };
+
+    ghost invariant = { λ r. IsRow record { block = r.block; half = r.half; row = r.row; minors = r.minors.items } };
+}
+
+impl Row {
+    /// An equal row.
+    fn copy(&self, alloc: Global) -> Result<Row, AllocError>
+        ensures { IfOk result (λ row. row ≡ self.now) }
+    {
+        Ok(Row {
+            block: self.block,
+            half: self.half,
+            row: self.row,
+            minors: self.minors.as_slice().to_vec(alloc)?,
+        })
+    }
+
+    /// Whether the other has the same block type, half and row.
+    fn is_same(&self, other: &Row) -> bool
+        ensures { result ≡ is_same self.now other.now }
+    {
+        self.block == other.block && self.half == other.half && self.row == other.row
+    }
+
+    /// The address of its column 0, minor 0.
+    pub fn address(&self) -> u32
+        ensures { result ≡ row_address self.now }
+    {
+        u32::from(self.block) * BLOCK + u32::from(self.half) * HALF + u32::from(self.row) * ROW
+    }
+
+    /// The number of its frames.
+    pub fn frames(&self) -> u32
+        ensures value { result ≡ sum self.now.minors }
+        ensures most { result ≤ 261120 }
+    {
+        let mut frames = 0;
+        for count in &self.minors {
+            frames += u32::from(*count);
+        }
+        frames
+    }
+}
+
+/// Whether one of the rows has the same block type, half and row.
+fn has_same(row: &Row, rows: &[Row]) -> bool
+    ensures { result ≡ has_same row.now rows.now }
+{
+    for other in rows {
+        if row.is_same(other) {
+            return true;
+        }
+    }
+    false
+}
+
+/// The first row that is the same as an earlier one. Rows count from 1.
+pub fn check_same_rows(rows: &[Row]) -> Result<(), PartFault>
+    requires { length rows.now ≤ 192 }
+    ensures { told result ≡ same_row_fault [] rows.now }
+{
+    for (place, row) in rows.iter().enumerate() {
+        let same = has_same(row, &rows[..place]);
+        require(!same, PartFault::SameRow(place as u32 + 1))?;
+    }
+    Ok(())
+}
+
+/// The number of frames of the rows.
+pub fn frame_count(rows: &[Row]) -> u32
+    requires { length rows.now ≤ 192 }
+    ensures { result ≡ length (addresses rows.now) }
+{
+    let mut frames = 0;
+    for row in rows {
+        frames += row.frames();
+    }
+    frames
+}
+
+/// Puts the rows in number order.
+pub fn in_order(rows: &mut Vec<Row>)
+    ensures sorted { IsNonDecreasingBy row_address rows.new.items }
+    ensures same { IsPermutation rows.old.items rows.new.items }
+{
+    rows.sort_unstable_by_key(|row| row.address());
+}
+
+/// Equal rows in the same order.
+pub fn copy_of(alloc: Global, rows: &[Row]) -> Result<Vec<Row>, AllocError>
+    ensures { IfOk result (λ copies. copies.items ≡ rows.now) }
+{
+    let mut copies = Vec::with_capacity(alloc, rows.len())?;
+    for row in rows {
+        copies.push(row.copy(alloc)?)?;
+    }
+    Ok(copies)
+}

@@ -1,0 +1,12 @@
+//! Slots of frame data.
+
+/// A place in write order: of a frame, of a pad frame, or past the last one.
+#[derive(Clone, Copy, Debug, Drop, PartialEq, Eq)]
+pub enum Slot {
+    /// The frame at this address.
+    Frame(u32),
+    /// A pad frame, which belongs to no address.
+    Pad,
+    /// There is no such slot.
+    End,
+}

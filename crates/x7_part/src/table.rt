@@ -1,0 +1,68 @@
+//! The table of a part's columns, made from its rows.
+ghost use Rattle.std.specs.Prelude.{◌≡◌, ◌<◌, ◌≤◌, ◌+◌, ◌*◌, ◌^◌, ◌++◌, ◌==◌, if◌then◌else◌, length, IfOk, OnOk};
+ghost use Rattle.x7_part.specs.AddressOrder.{addresses};
+ghost use Rattle.x7_part.specs.Columns.{row_columns, table_of as columns_of};
+ghost use Rattle.x7_part.specs.FrameAddress.{row_address, AreRows, IsRow};
+
+use crate::address::COLUMN;
+use crate::column::Column;
+use crate::row::Row;
+use std::alloc::{AllocError, Global};
+
+/// The pads behind column `column` of so many: two behind a row's last one (this project's choice).
+fn pads_behind(column: usize, columns: usize) -> u32
+    requires { column < columns }
+    ensures { result ≡ (if column + 1 == columns then 2 else 0) }
+{
+    if column + 1 == columns { 2 } else { 0 }
+}
+
+/// Adds a row's columns, with the numbers of addresses and slots before it.
+#[tactic(auto, using(crate::proofs::RowLemmas::row_more))]
+fn add_row(
+    columns: &mut Vec<Column>,
+    base: u32,
+    minors: &[u8],
+    rank: u32,
+    slot: u64,
+) -> Result<(), AllocError>
+    requires base { base + 2 ^ 17 ≤ 2 ^ 26 }
+    requires columns { length minors.now ≤ 1024 }
+    requires rank { rank < 2 ^ 31 }
+    requires slot { slot < 2 ^ 62 }
+    ensures { OnOk result (columns.new.items ≡ columns.old.items ++ row_columns base 0 rank slot minors.now) }
+{
+    let mut rank = rank;
+    let mut slot = slot;
+    for (column, count) in minors.iter().enumerate() {
+        columns.push(Column {
+            first: base + column as u32 * COLUMN,
+            count: u32::from(*count),
+            pads: pads_behind(column, minors.len()),
+            rank,
+            slot,
+        })?;
+        rank += u32::from(*count);
+        slot += u64::from(*count);
+    }
+    Ok(())
+}
+
+/// The table of rows that stand in number order.
+pub fn table_of(alloc: Global, rows: &[Row]) -> Result<Vec<Column>, AllocError>
+    requires rows { AreRows 0 rows.now }
+    requires count { length rows.now ≤ 192 }
+    requires frames { length (addresses rows.now) ≤ 131072 }
+    ensures { IfOk result (λ columns. columns.items ≡ columns_of 0 0 rows.now) }
+{
+    let mut columns = Vec::new(alloc);
+    let mut rank = 0;
+    let mut slot = 0;
+    for row in rows {
+        add_row(&mut columns, row.address(), &row.minors, rank, slot)?;
+        let frames = row.frames();
+        rank += frames;
+        slot += u64::from(frames) + 2;
+    }
+    Ok(columns)
+}
