@@ -1,152 +1,140 @@
--- What may end a command: how the causes of its steps are those of the whole.
-use Rattle.std.proofs.Common.{◌≡◌, ℕ, List, [], ◌∷◌, ◌++◌, ◌≤◌, ◌<◌, length, Option, None, Some, Result, Ok, Err, IfErr, refl, ap, append-nil, sym, ◌∙◌, arith, inl, inr, ◌⊎◌, unwrap_or, Bool, true, false}
-use Rattle.std.proofs.lemmas.Grind.{common_steps}
-use Rattle.x7_words.specs.Input.{AtEnd, Lacks, Selects, preceded}
+-- What may end `list`: each of its ends has its cause.
+use Rattle.std.proofs.Common.{◌≡◌, ℕ, List, [], ◌∷◌, ◌++◌, ◌≤◌, ◌<◌, drop, length, length-append, Option, None, Some, Result, Ok, Err, IfErr, refl, ap, append-nil, sym, ◌∙◌, arith, inl, inr, ◌⊎◌, unwrap_or, Bool, true, false}
 use Rattle.std.specs.Prelude.{if◌then◌else◌, nat_eq, nat_lt}
+use Rattle.std.specs.Cmp.Lexicographic.{pointwise}
 use Rattle.std.specs.List.{starts_with}
+use Rattle.std.proofs.lemmas.Bool.Decides.{Decides-eqb, nat_tests}
+use Rattle.std.proofs.lemmas.List.{take-append-le}
+use Rattle.std.proofs.lemmas.Slice.Eq.{starts_is}
 use Rattle.x7_words.specs.Count.{HasRisen}
+use Rattle.x7_words.specs.Input.{AtEnd, Lacks, Selects, preceded}
 use Rattle.x7_words.specs.Sink.{appended, PutsFront}
+use Rattle.x7_words.specs.Word.{AreBytes}
 use Rattle.x7_words.proofs.SinkLemmas.{appended-nil}
 use Rattle.x7_listing.specs.Listing.{listing_of}
 use Rattle.x7_tool.specs.Form.{Listing}
-use Rattle.x7_tool.specs.Outcome.{Answer, Event, Usage, Missing, ReadFault, WriteFault, NoMemory, TooLarge, Unbuilt, Told, and_so, held, input, with_inputs, bit_header_start, raw, stream_limit}
-use Rattle.x7_tool.specs.Run.{Ends, IsCaused, IsDecidedResult, IsFrontOf, IsOpenResult, IsTextOf, ListsFront, RisesFor}
+use Rattle.x7_tool.specs.Outcome.{Answer, Event, Missing, ReadFault, WriteFault, NoMemory, TooLarge, Unbuilt, Told, and_so, bit_header_start, has_header, judged, listed, stream_limit, with_inputs}
+use Rattle.x7_tool.specs.Run.{Ends, IsCaused, IsDecidedResult, IsFrontOf, IsOpenResult, RisesFor}
 
 -- a name that isn't there
-pub absent : (contents : Option (List ℕ → Option (List ℕ))) (flash : Option (List ℕ)) (name : List ℕ) (limit a b : ℕ) (F : List ℕ → Type 0) → Lacks contents name ⊎ HasRisen a b
-    → IsCaused {A = List ℕ} (with_inputs contents flash) F (RisesFor (name ∷ []) a b) (λ told. input told name limit) (Err (Missing name))
-absent None flash name limit a b F (inl h) = absurd h
-absent (Some inputs) flash name limit a b F (inl h) = inr (tt, rw h refl)
-absent contents flash name limit a b F (inr h) = inl (inl refl, h)
-
-held_within : (name : List ℕ) (limit : ℕ) (bytes : List ℕ) → length bytes ≤ limit → held name limit (Some bytes) ≡ Ok bytes
-held_within name limit bytes k = grind (arith, common_steps)
-
-held_over : (name : List ℕ) (limit : ℕ) (bytes : List ℕ) → limit < length bytes → held name limit (Some bytes) ≡ Err (TooLarge name)
-held_over name limit bytes k = grind (arith, common_steps)
-
--- an input that was read to its end
-pub whole_is : (contents : Option (List ℕ → Option (List ℕ))) (flash : Option (List ℕ)) (F L : List ℕ → Type 0) (name : List ℕ) (limit : ℕ) (whole : List ℕ) (rest : Option (List ℕ))
-    → Selects contents name (preceded whole rest) → AtEnd rest → length whole ≤ limit → IsCaused (with_inputs contents flash) F L (λ told. input told name limit) (Ok whole)
-whole_is None flash F L name limit whole rest s e k = inr tt
-whole_is (Some inputs) flash F L name limit whole None s e k = let h = s.2 in absurd (cc)
-whole_is (Some inputs) flash F L name limit whole (Some rest) s e k =
-    let h = s.2 in
-    let same : whole ++ rest ≡ s.0 = cc in
-    let all : s.0 ≡ whole = sym same ∙ ap (λ r. whole ++ r) e ∙ append-nil whole in
-    inr (tt, rw (s.1, all) (held_within name limit whole k))
-
--- an input of which more than the limit was read
-pub too_large : (contents : Option (List ℕ → Option (List ℕ))) (flash : Option (List ℕ)) (F L : List ℕ → Type 0) (name : List ℕ) (limit : ℕ) (whole : List ℕ) (rest : Option (List ℕ))
-    → Selects contents name (preceded whole rest) → limit < length whole → IsCaused {A = List ℕ} (with_inputs contents flash) F L (λ told. input told name limit) (Err (TooLarge name))
-too_large None flash F L name limit whole rest s k = inr tt
-too_large (Some inputs) flash F L name limit whole None s k = let h = s.2 in absurd (cc)
-too_large (Some inputs) flash F L name limit whole (Some rest) s k =
-    let h = s.2 in
-    let same : whole ++ rest ≡ s.0 = cc in
-    let long : limit < length s.0 = rw (← same) (grind (arith, common_steps)) in
-    inr (tt, rw s.1 (held_over name limit s.0 long))
-
--- a step that ended the command
-pub stops : {A B : Type 0} (told : Option Told) (F L : List ℕ → Type 0) (due : Told → Result A Event) (next : Told → A → Result B Event) (event : Event) → IsCaused told F L due (Err event) → IsCaused told F L (λ t. and_so (due t) (next t)) (Err event)
-stops told F L due next event (inl h) = inl h
-stops None F L due next event (inr h) = inr h
-stops (Some t) F L due next event (inr h) = inr (h.0, rw h.1 refl)
-
--- a step that went on
-pub follows : {A B : Type 0} (told : Option Told) (F L : List ℕ → Type 0) (due : Told → Result A Event) (next : Told → A → Result B Event) (a : A) (got : Result B Event) → IsCaused told F L due (Ok a) → IsCaused told F L (λ t. next t a) got → IsCaused told F L (λ t. and_so (due t) (next t)) got
-follows told F L due next a got (inl h) q = absurd h
-follows told F L due next a got (inr h) (inl q) = inl q
-follows None F L due next a got (inr h) (inr q) = inr q
-follows (Some t) F L due next a got (inr h) (inr q) = inr (q.0, rw h.1 q.1)
-
--- a failing sink is no cause of what was read and worked out
-pub not_write : {A : Type 0} (told : Option Told) (F L : List ℕ → Type 0) (due : Told → Result A Event) → IsCaused told F L due (Err WriteFault) → ⊥
-not_write told F L due (inl h) = h
-not_write None F L due (inr h) = h
-not_write (Some t) F L due (inr h) = h.0
-
--- no words without a form where a form was taken
-pub not_usage : {A : Type 0} (told : Option Told) (F L : List ℕ → Type 0) (due : Told → Result A Event) → IsCaused told F L due (Err Usage) → ⊥
-not_usage told F L due (inl h) = h
-not_usage None F L due (inr h) = h
-not_usage (Some t) F L due (inr h) = h.0
-
-held_same : (name all bytes : List ℕ) (over : Bool) → (if over then Err (TooLarge name) else Ok all) ≡ Ok bytes → Some all ≡ Some bytes
-held_same name all bytes true e = absurd (cc)
-held_same name all bytes false e = cc
-
--- an input that is taken is told so
-held_is : (name : List ℕ) (limit : ℕ) (told : Option (List ℕ)) (bytes : List ℕ) → held name limit told ≡ Ok bytes → told ≡ Some bytes
-held_is name limit None bytes e = absurd (cc)
-held_is name limit (Some all) bytes e = held_same name all bytes (nat_lt limit (length all)) e
+pub absent : (contents : Option (List ℕ → Option (List ℕ))) (flash : Option (List ℕ)) (name : List ℕ) (a b : ℕ) (F : List ℕ → Type 0) → Lacks contents name ⊎ HasRisen a b
+    → IsCaused {A = Answer} (with_inputs contents flash) F (RisesFor (name ∷ []) a b) (λ told. listed told name) (Err (Missing name))
+absent None flash name a b F (inl h) = absurd h
+absent (Some inputs) flash name a b F (inl h) = inr (tt, rw h refl)
+absent contents flash name a b F (inr h) = inl (inl refl, h)
 
 front_none : (contents : Option (List ℕ → Option (List ℕ))) (flash : Option (List ℕ)) (name : List ℕ) → IsFrontOf (with_inputs contents flash) name []
 front_none None flash name = tt
 front_none (Some inputs) flash name = (unwrap_or (inputs name) [], refl)
 
-front_all : (contents : Option (List ℕ → Option (List ℕ))) (flash : Option (List ℕ)) (F L : List ℕ → Type 0) (name : List ℕ) (limit : ℕ) (bytes : List ℕ)
-    → IsCaused (with_inputs contents flash) F L (λ told. input told name limit) (Ok bytes) → IsFrontOf (with_inputs contents flash) name bytes
-front_all contents flash F L name limit bytes (inl h) = absurd h
-front_all None flash F L name limit bytes (inr h) = tt
-front_all (Some inputs) flash F L name limit bytes (inr h) = ([], ap (λ t. unwrap_or t []) (held_is name limit (inputs name) bytes h.1) ∙ sym (append-nil bytes))
-
 none_put : (old : Option (List ℕ)) (text : List ℕ) → PutsFront old text old
 none_put old text = ([], (text, refl, sym (appended-nil old)))
 
-lists_none : (contents : Option (List ℕ → Option (List ℕ))) (flash : Option (List ℕ)) (name : List ℕ) (old : Option (List ℕ)) → ListsFront (with_inputs contents flash) name old old
-lists_none contents flash name old = ([], (front_none contents flash name, none_put old (listing_of [])))
+-- a stream that could not be selected for its name
+pub not_there : (contents : Option (List ℕ → Option (List ℕ))) (flash : Option (List ℕ)) (F : List ℕ → Type 0) (stream : List ℕ) (a b : ℕ) (Full : Type 0) (old : Option (List ℕ)) → Lacks contents stream ⊎ HasRisen a b
+    → Ends (with_inputs contents flash) F (RisesFor (stream ∷ []) a b) (Some (Listing stream)) Full old old (Err (Missing stream))
+not_there contents flash F stream a b Full old h = (absent contents flash stream a b F h, refl)
 
-abbrev judged : List ℕ → List ℕ → Result Answer Event
-judged stream bytes = and_so (raw stream bytes) (λ taken. Ok (record { stopped = false; text = listing_of taken }))
+-- a stream that could not be selected
+pub not_selected : (contents : Option (List ℕ → Option (List ℕ))) (flash : Option (List ℕ)) (L : List ℕ → Type 0) (stream : List ℕ) (a b : ℕ) (Full : Type 0) (old : Option (List ℕ)) → HasRisen a b
+    → Ends (with_inputs contents flash) (RisesFor (stream ∷ []) a b) L (Some (Listing stream)) Full old old (Err (ReadFault stream))
+not_selected contents flash L stream a b Full old h = (inl (inl refl, h), ([], (front_none contents flash stream, none_put old (listing_of []))))
 
--- a stream that could not be read whole
-pub unread : (contents : Option (List ℕ → Option (List ℕ))) (flash : Option (List ℕ)) (F L : List ℕ → Type 0) (stream : List ℕ) (event : Event) (Full : Type 0) (old : Option (List ℕ))
-    → IsCaused {A = List ℕ} (with_inputs contents flash) F L (λ told. input told stream stream_limit) (Err event) → Ends (with_inputs contents flash) F L (Some (Listing stream)) Full old old (Err event)
-unread contents flash F L stream Usage Full old h = absurd (not_usage (with_inputs contents flash) F L (λ told. input told stream stream_limit) h)
-unread contents flash F L stream (Missing name) Full old h = (stops (with_inputs contents flash) F L (λ told. input told stream stream_limit) (λ told. judged stream) (Missing name) h, refl)
-unread contents flash F L stream (ReadFault name) Full old h = (stops (with_inputs contents flash) F L (λ told. input told stream stream_limit) (λ told. judged stream) (ReadFault name) h, lists_none contents flash stream old)
-unread contents flash F L stream WriteFault Full old h = absurd (not_write (with_inputs contents flash) F L (λ told. input told stream stream_limit) h)
-unread contents flash F L stream NoMemory Full old h = (stops (with_inputs contents flash) F L (λ told. input told stream stream_limit) (λ told. judged stream) NoMemory h, lists_none contents flash stream old)
-unread contents flash F L stream (TooLarge name) Full old h = (stops (with_inputs contents flash) F L (λ told. input told stream stream_limit) (λ told. judged stream) (TooLarge name) h, lists_none contents flash stream old)
-unread contents flash F L stream (Unbuilt name) Full old h = (stops (with_inputs contents flash) F L (λ told. input told stream stream_limit) (λ told. judged stream) (Unbuilt name) h, refl)
+-- the bytes that were taken are a front of the input
+front_taken : (contents : Option (List ℕ → Option (List ℕ))) (flash : Option (List ℕ)) (name taken : List ℕ) (rest : Option (List ℕ)) → Selects contents name (preceded taken rest) → IsFrontOf (with_inputs contents flash) name taken
+front_taken None flash name taken rest s = tt
+front_taken (Some inputs) flash name taken None s = let h = s.2 in absurd (cc)
+front_taken (Some inputs) flash name taken (Some rest) s =
+    let h = s.2 in
+    let same : taken ++ rest ≡ s.0 = cc in
+    (rest, ap (λ t. unwrap_or t []) s.1 ∙ sym same)
 
-due_here : {A : Type 0} (told : Option Told) (F L : List ℕ → Type 0) (got due : Result A Event) → IsOpenResult got → IsDecidedResult got → due ≡ got → IsCaused told F L (λ t. due) got
-due_here None F L got due o d e = inr o
-due_here (Some t) F L got due o d e = inr (d, e)
+-- a stream whose reading failed after these bytes
+pub broken : (contents : Option (List ℕ → Option (List ℕ))) (flash : Option (List ℕ)) (L : List ℕ → Type 0) (stream taken : List ℕ) (rest : Option (List ℕ)) (a b : ℕ) (Full : Type 0) (old now : Option (List ℕ))
+    → Selects contents stream (preceded taken rest) → HasRisen a b → PutsFront old (listing_of taken) now → Ends (with_inputs contents flash) (RisesFor (stream ∷ []) a b) L (Some (Listing stream)) Full old now (Err (ReadFault stream))
+broken contents flash L stream taken rest a b Full old now s h p = (inl (inl refl, h), (taken, (front_taken contents flash stream taken rest s, p)))
 
--- a stream that begins with a .bit header
-pub unbuilt : (contents : Option (List ℕ → Option (List ℕ))) (flash : Option (List ℕ)) (F L : List ℕ → Type 0) (stream bytes : List ℕ) (Full : Type 0) (old : Option (List ℕ))
-    → IsCaused (with_inputs contents flash) F L (λ told. input told stream stream_limit) (Ok bytes) → starts_with nat_eq bytes bit_header_start ≡ true → Ends (with_inputs contents flash) F L (Some (Listing stream)) Full old old (Err (Unbuilt stream))
-unbuilt contents flash F L stream bytes Full old h e = (
-  follows (with_inputs contents flash) F L (λ told. input told stream stream_limit) (λ told. judged stream) bytes (Err (Unbuilt stream)) h
-      (due_here (with_inputs contents flash) F L (Err (Unbuilt stream)) (judged stream bytes) tt tt (ap (λ b. and_so (if b then Err (Unbuilt stream) else Ok bytes) (λ taken. Ok (record { stopped = false; text = listing_of taken }))) e)),
-  refl,
-)
+-- memory that ended after these bytes
+pub no_memory : (contents : Option (List ℕ → Option (List ℕ))) (flash : Option (List ℕ)) (F L : List ℕ → Type 0) (stream taken : List ℕ) (rest : Option (List ℕ)) (Full : Type 0) (old now : Option (List ℕ))
+    → Selects contents stream (preceded taken rest) → PutsFront old (listing_of taken) now → Ends (with_inputs contents flash) F L (Some (Listing stream)) Full old now (Err NoMemory)
+no_memory contents flash F L stream taken rest Full old now s p = (inl tt, (taken, (front_taken contents flash stream taken rest s, p)))
+
+-- what is told of a stream of which these bytes were taken
+pub told_all : (inputs : List ℕ → Option (List ℕ)) (stream taken : List ℕ) (rest : Option (List ℕ)) → Selects (Some inputs) stream (preceded taken rest) → (left : List ℕ) × ((rest ≡ Some left) × (inputs stream ≡ Some (taken ++ left)))
+told_all inputs stream taken None s = let h = s.2 in absurd (cc)
+told_all inputs stream taken (Some left) s =
+    let h = s.2 in
+    let same : taken ++ left ≡ s.0 = cc in
+    (left, (refl, s.1 ∙ ap Some (sym same)))
+
+-- a sink that failed after a front of the listing of these bytes and any that may follow
+pub unwritten : (contents : Option (List ℕ → Option (List ℕ))) (flash : Option (List ℕ)) (F L : List ℕ → Type 0) (stream taken : List ℕ) (rest : Option (List ℕ)) (Full : Type 0) (old now : Option (List ℕ))
+    → Selects contents stream (preceded taken rest) → Full → PutsFront old (listing_of taken) now → ((left : List ℕ) → AreBytes (taken ++ left) → PutsFront old (listing_of (taken ++ left)) now)
+    → Ends (with_inputs contents flash) F L (Some (Listing stream)) Full old now (Err WriteFault)
+unwritten None flash F L stream taken rest Full old now s f here p = (f, (listing_of taken, here))
+unwritten (Some inputs) flash F L stream taken rest Full old now s f here p =
+    let all = told_all inputs stream taken rest s in
+    (f, (taken ++ all.0, (all.1.1, λ fits. p all.0 fits)))
+
+-- bytes that begin with a header, whatever follows
+header_stays : (xs ys p : List ℕ) → starts_with nat_eq xs p ≡ true → starts_with nat_eq (xs ++ ys) p ≡ true
+header_stays xs ys p h =
+    let split = (starts_is Decides-eqb xs p (starts_with nat_eq xs p) refl).0 h in
+    let long : length p ≤ length xs = omega (arith, ap length split, length-append p (drop (length p) xs)) in
+    ap (λ t. pointwise nat_eq p t) (take-append-le (length p) xs ys long) ∙ h
+
+-- bytes that are long enough and do not begin with a header, whatever follows
+pub no_header_stays : (xs ys p : List ℕ) → length p ≤ length xs → starts_with nat_eq xs p ≡ false → starts_with nat_eq (xs ++ ys) p ≡ false
+no_header_stays xs ys p long h = ap (λ t. pointwise nat_eq p t) (take-append-le (length p) xs ys long) ∙ h
+
+due_here : {A : Type 0} (contents : Option (List ℕ → Option (List ℕ))) (flash : Option (List ℕ)) (F L : List ℕ → Type 0) (due : Told → Result A Event) (got : Result A Event) → IsOpenResult got → IsDecidedResult got
+    → ((inputs : List ℕ → Option (List ℕ)) → contents ≡ Some inputs → due (record { inputs = inputs; flash = flash }) ≡ got) → IsCaused (with_inputs contents flash) F L due got
+due_here None flash F L due got o d e = inr o
+due_here (Some inputs) flash F L due got o d e = inr (d, e inputs refl)
+
+-- what is due for a stream of these bytes
+abbrev due_of : List ℕ → List ℕ → Result Answer Event
+due_of stream bytes = and_so (judged stream bytes) (λ bytes. Ok (record { stopped = false; text = listing_of bytes }))
+
+due_over : (stream bytes : List ℕ) (b : Bool) → has_header bytes ≡ false → nat_lt stream_limit (length bytes) ≡ b → due_of stream bytes ≡ (if b then Err (TooLarge stream) else Ok (record { stopped = false; text = listing_of bytes }))
+due_over stream bytes true h l = rw (h, l) refl
+due_over stream bytes false h l = rw (h, l) refl
+
+due_header : (stream bytes : List ℕ) → has_header bytes ≡ true → due_of stream bytes ≡ Err (Unbuilt stream)
+due_header stream bytes h = rw h refl
+
+listed_is : (inputs : List ℕ → Option (List ℕ)) (flash : Option (List ℕ)) (stream bytes : List ℕ) → inputs stream ≡ Some bytes → listed (record { inputs = inputs; flash = flash }) stream ≡ due_of stream bytes
+listed_is inputs flash stream bytes e = rw e refl
+
+-- a stream whose first bytes are a header's
+pub unbuilt : (contents : Option (List ℕ → Option (List ℕ))) (flash : Option (List ℕ)) (F L : List ℕ → Type 0) (stream piece : List ℕ) (rest : Option (List ℕ)) (Full : Type 0) (old now : Option (List ℕ))
+    → Selects contents stream (preceded piece rest) → has_header piece ≡ true → now ≡ old → Ends (with_inputs contents flash) F L (Some (Listing stream)) Full old now (Err (Unbuilt stream))
+unbuilt None flash F L stream piece rest Full old now s h e = (inr tt, e)
+unbuilt (Some inputs) flash F L stream piece rest Full old now s h e =
+    let all = told_all inputs stream piece rest s in
+    (inr (tt, listed_is inputs flash stream (piece ++ all.0) all.1.1 ∙ due_header stream (piece ++ all.0) (header_stays piece all.0 bit_header_start h)), e)
+
+-- a stream of which more than the limit was taken
+pub too_large : (contents : Option (List ℕ → Option (List ℕ))) (flash : Option (List ℕ)) (F L : List ℕ → Type 0) (stream taken listed_bytes : List ℕ) (rest more : Option (List ℕ)) (Full : Type 0) (old now : Option (List ℕ))
+    → Selects contents stream (preceded taken rest) → Selects contents stream (preceded listed_bytes more) → 13 ≤ length taken → has_header taken ≡ false → stream_limit < length taken → PutsFront old (listing_of listed_bytes) now
+    → Ends (with_inputs contents flash) F L (Some (Listing stream)) Full old now (Err (TooLarge stream))
+too_large None flash F L stream taken listed_bytes rest more Full old now s t k h l p = (inr tt, (listed_bytes, (tt, p)))
+too_large (Some inputs) flash F L stream taken listed_bytes rest more Full old now s t k h l p =
+    let all = told_all inputs stream taken rest s in
+    let long : nat_lt stream_limit (length (taken ++ all.0)) ≡ true = grind (arith, length-append taken all.0, l, nat_tests) in
+    (inr (tt, listed_is inputs flash stream (taken ++ all.0) all.1.1 ∙ due_over stream (taken ++ all.0) true (no_header_stays taken all.0 bit_header_start k h) long), (listed_bytes, (front_taken (Some inputs) flash stream listed_bytes more t, p)))
 
 -- a stream whose listing was written
-pub listed_whole : (contents : Option (List ℕ → Option (List ℕ))) (flash : Option (List ℕ)) (F L : List ℕ → Type 0) (stream bytes : List ℕ) (Full : Type 0) (old new : Option (List ℕ))
-    → IsCaused (with_inputs contents flash) F L (λ told. input told stream stream_limit) (Ok bytes) → starts_with nat_eq bytes bit_header_start ≡ false → new ≡ appended old (listing_of bytes)
-    → Ends (with_inputs contents flash) F L (Some (Listing stream)) Full old new (Ok (record { stopped = false; text = listing_of bytes }))
-listed_whole contents flash F L stream bytes Full old new h e p =
-    let got : Result Answer Event = Ok (record { stopped = false; text = listing_of bytes }) in (
-      follows (with_inputs contents flash) F L (λ told. input told stream stream_limit) (λ told. judged stream) bytes got h
-          (due_here (with_inputs contents flash) F L got (judged stream bytes) tt tt (ap (λ b. and_so (if b then Err (Unbuilt stream) else Ok bytes) (λ taken. Ok (record { stopped = false; text = listing_of taken }))) e)),
-      p,
-    )
-
-text_here : (contents : Option (List ℕ → Option (List ℕ))) (flash : Option (List ℕ)) (F L : List ℕ → Type 0) (stream bytes : List ℕ)
-    → IsCaused (with_inputs contents flash) F L (λ told. input told stream stream_limit) (Ok bytes) → IsTextOf (with_inputs contents flash) (Some (Listing stream)) (listing_of bytes)
-text_here contents flash F L stream bytes (inl h) = absurd h
-text_here None flash F L stream bytes (inr h) = tt
-text_here (Some inputs) flash F L stream bytes (inr h) = (bytes, (held_is stream stream_limit (inputs stream) bytes h.1, λ fits. refl))
-
--- a stream of whose listing a front was written
-pub listed_front : (contents : Option (List ℕ → Option (List ℕ))) (flash : Option (List ℕ)) (F L : List ℕ → Type 0) (stream bytes : List ℕ) (event : Event) (Full : Type 0) (old new : Option (List ℕ))
-    → IsCaused (with_inputs contents flash) F L (λ told. input told stream stream_limit) (Ok bytes) → PutsFront old (listing_of bytes) new → (event ≡ NoMemory) ⊎ ((event ≡ WriteFault) × Full)
-    → Ends (with_inputs contents flash) F L (Some (Listing stream)) Full old new (Err event)
-listed_front contents flash F L stream bytes event Full old new h p (inl e) = rw e (inl tt, (bytes, (front_all contents flash F L stream stream_limit bytes h, p)))
-listed_front contents flash F L stream bytes event Full old new h p (inr e) = rw e.0 (e.1, (listing_of bytes, (text_here contents flash F L stream bytes h, p)))
+pub listed_whole : (contents : Option (List ℕ → Option (List ℕ))) (flash : Option (List ℕ)) (F L : List ℕ → Type 0) (stream taken : List ℕ) (rest : Option (List ℕ)) (Full : Type 0) (old now : Option (List ℕ))
+    → Selects contents stream (preceded taken rest) → AtEnd rest → has_header taken ≡ false → length taken ≤ stream_limit → now ≡ appended old (listing_of taken)
+    → Ends (with_inputs contents flash) F L (Some (Listing stream)) Full old now (Ok (record { stopped = false; text = listing_of taken }))
+listed_whole None flash F L stream taken rest Full old now s e h l p = (inr tt, p)
+listed_whole (Some inputs) flash F L stream taken rest Full old now s e h l p =
+    let all = told_all inputs stream taken rest s in
+    let none : all.0 ≡ [] = let end = rw all.1.0 at e in end in
+    let whole : inputs stream ≡ Some taken = all.1.1 ∙ ap (λ t. Some (taken ++ t)) none ∙ ap Some (append-nil taken) in
+    let short : nat_lt stream_limit (length taken) ≡ false = grind (arith, l, nat_tests) in
+    (inr (tt, listed_is inputs flash stream taken whole ∙ due_over stream taken false h short), p)
 
 -- an error by two of its clauses
 pub both_err : {A B : Type 0} (r : Result A B) (P Q R : B → Type 0) → ((e : B) → P e → Q e → R e) → IfErr r P → IfErr r Q → IfErr r R

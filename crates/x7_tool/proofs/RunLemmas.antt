@@ -1,10 +1,10 @@
 -- What the end of a command says of its status.
 use Rattle.std.proofs.Common.{◌≡◌, ℕ, List, Option, None, Some, Result, Ok, Err, refl, ap, sym, ◌∙◌, inl, inr, ◌⊎◌}
-use Rattle.x7_words.specs.Sink.{PutsFront, Tells}
+use Rattle.x7_words.specs.Sink.{Tells}
 use Rattle.x7_tool.specs.Form.{Asked, Listing}
 use Rattle.x7_tool.specs.Message.{final_status, line_of, status_of}
 use Rattle.x7_tool.specs.Outcome.{Answer, Event, Usage, Missing, ReadFault, WriteFault, NoMemory, TooLarge, Unbuilt, Told, outcome_of}
-use Rattle.x7_tool.specs.Run.{Agrees, Comes, Ends, IsDone, IsTextOf, Leaves, Says, Shows}
+use Rattle.x7_tool.specs.Run.{Agrees, Comes, Ends, GetsFront, IsDone, Leaves, Says, Shows}
 use Rattle.x7_tool.specs.declared.status.Status.{Status}
 use Rattle.x7_tool.specs.declared.status.Status.TheVariants as status
 
@@ -126,7 +126,7 @@ run_missing told F L form Full Bad out0 out1 err0 err1 s (Err (Unbuilt name)) e 
 
 -- a write fault, and a front of the whole text
 pub run_write_fault : (told : Option Told) (F L : List ℕ → Type 0) (form : Option Asked) (Full Bad : Type 0) (out0 out1 err0 err1 : Option (List ℕ)) (s : Status) (whole : Result Answer Event)
-    → s ≡ final_status whole → Ends told F L form Full out0 out1 whole → Says Bad err0 err1 whole → s ≡ status.WriteFault → Full × ((text : List ℕ) × (IsTextOf told form text × PutsFront out0 text out1)) × Tells Bad err0 err1 (line_of WriteFault)
+    → s ≡ final_status whole → Ends told F L form Full out0 out1 whole → Says Bad err0 err1 whole → s ≡ status.WriteFault → Full × GetsFront told form out0 out1 × Tells Bad err0 err1 (line_of WriteFault)
 run_write_fault told F L form Full Bad out0 out1 err0 err1 s (Ok answer) e h t q = absurd (cc)
 run_write_fault told F L form Full Bad out0 out1 err0 err1 s (Err Usage) e h t q = absurd (cc)
 run_write_fault told F L form Full Bad out0 out1 err0 err1 s (Err (Missing name)) e h t q = absurd (cc)
@@ -188,7 +188,7 @@ no_form_event : (told : Option Told) (F L : List ℕ → Type 0) (Full : Type 0)
 no_form_event told F L Full out0 out1 Usage h = refl
 no_form_event told F L Full out0 out1 (Missing name) h = absurd (cc)
 no_form_event told F L Full out0 out1 (ReadFault name) h = absurd (cc)
-no_form_event told F L Full out0 out1 WriteFault h = absurd h.1.1.0
+no_form_event told F L Full out0 out1 WriteFault h = absurd h.1
 no_form_event told F L Full out0 out1 NoMemory h = absurd (cc)
 no_form_event told F L Full out0 out1 (TooLarge name) h = absurd (cc)
 no_form_event told F L Full out0 out1 (Unbuilt name) h = absurd (cc)

@@ -1,17 +1,25 @@
 -- A listing that is written turn by turn.
-use Rattle.std.proofs.Common.{◌≡◌, ℕ, ◌-◌, ◌≤◌, List, [], ◌++◌, false, Option, Result, Ok, Err, OnOk, take, drop, length, ap, sym, ◌∙◌, append_assoc, append-nil, arith}
+use Rattle.std.proofs.Common.{◌≡◌, ℕ, ◌+◌, ◌≤◌, ◌<◌, ◌==◌, ◌&&◌, Bool, true, List, [], ◌∷◌, ◌++◌, false, Option, None, Some, Result, Ok, Err, OnOk, take, length, refl, ap, sym, subst, ◌∙◌, append_assoc, append-nil, arith}
 use Rattle.std.specs.Result.{is_err}
-use Rattle.std.specs.List.{slice_range}
-use Rattle.std.proofs.Math.Seq.{take-add}
-use Rattle.std.proofs.lemmas.List.{take-append-drop, take_all}
+use Rattle.std.proofs.Math.Seq.{take-append-add}
+use Rattle.std.proofs.lemmas.List.{length-take-le, take-take}
 use Rattle.x7_words.specs.Sink.{appended, PutsFront}
 use Rattle.x7_words.specs.Word.{AreBytes}
-use Rattle.x7_words.proofs.SinkLemmas.{appended-appended, front_more}
+use Rattle.x7_words.proofs.SinkLemmas.{appended-appended, appended-nil, front_more}
 use Rattle.x7_packets.specs.ByHand.{reading_of}
 use Rattle.x7_packets.proofs.ByHandLemmas.{reading_is}
 use Rattle.x7_listing.specs.Listing.{IsListing, listing_of, reading_text}
 use Rattle.x7_listing.specs.Telling.{Finished, ListerStandsFor, ListerState}
 use Rattle.x7_listing.proofs.FrontLemmas.{told_front}
+use Rattle.x7_words.specs.Input.{AtEnd, Selects, preceded}
+use Rattle.x7_words.proofs.ListLemmas.{all-append}
+use Rattle.x7_tool.specs.Form.{Listing}
+use Rattle.x7_tool.specs.Run.{Ends}
+use Rattle.x7_words.proofs.InputLemmas.{preceded-preceded}
+use Rattle.std.proofs.lemmas.Bool.Decides.{nat_tests}
+use Rattle.x7_tool.specs.Outcome.{WriteFault, bit_header_start, has_header, stream_limit, with_inputs}
+use Rattle.x7_tool.specs.Turn.{Lists}
+use Rattle.x7_tool.proofs.Causes.{no_header_stays, told_all, unwritten}
 
 pub from_ok : {A B P : Type 0} (r : Result A B) → is_err r ≡ false → OnOk r P → P
 from_ok (Ok a) e h = h
@@ -23,45 +31,118 @@ listing_is bytes text l =
     let same = reading_is bytes l.sessions l.place l.reading in
     l.is ∙ ap (λ s. reading_text s l.place) same.0 ∙ ap (λ p. reading_text (reading_of bytes).sessions p) same.1
 
--- what a lister has told is a front of the listing of all
-told_of_all : (l : ListerState) (given bytes : List ℕ) (at : ℕ) → AreBytes bytes → ListerStandsFor l given [] (take at bytes) → (more : List ℕ) × (listing_of bytes ≡ given ++ (l.text ++ more))
-told_of_all l given bytes at fits stands =
-    let front = told_front l given (take at bytes) (drop at bytes) stands (rw (take-append-drop at bytes) fits) in
-    (front.0, ap listing_of (sym (take-append-drop at bytes)) ∙ front.1 ∙ append_assoc given l.text front.0)
+-- the bytes of which a lister has told are bytes
+stands_fit : (l : ListerState) (given bytes : List ℕ) → ListerStandsFor l given [] bytes → AreBytes bytes
+stands_fit l given bytes stands = stands.tells.cut.reading.fits
 
--- a text of which a front was written
-pub front_written : (old mid now : Option (List ℕ)) (l : ListerState) (given bytes text : List ℕ) (at : ℕ) → AreBytes bytes → text ≡ l.text → ListerStandsFor l given [] (take at bytes)
-    → mid ≡ appended old given → PutsFront mid text now → PutsFront old (listing_of bytes) now
-front_written old mid now l given bytes text at fits same stands put front =
-    let told = told_of_all l given bytes at fits stands in
-    let here : listing_of bytes ≡ given ++ (text ++ told.0) = told.1 ∙ ap (λ t. given ++ (t ++ told.0)) (sym same) in
-    rw here (front_more old mid now given text told.0 put front)
+-- before the first turn
+pub lists_none : (l : ListerState) (first : Option (List ℕ)) → l.text ≡ [] → ListerStandsFor l [] [] [] → Lists l first first []
+lists_none l first clear stands = record { given = []; stands = stands; put = sym (appended-nil first); clear = clear }
 
--- nothing more was written
-pub none_written : (old now : Option (List ℕ)) (l : ListerState) (given bytes : List ℕ) (at : ℕ) → AreBytes bytes → l.text ≡ [] → ListerStandsFor l given [] (take at bytes)
-    → now ≡ appended old given → PutsFront old (listing_of bytes) now
-none_written old now l given bytes at fits none stands put =
-    let told = told_of_all l given bytes at fits stands in
-    (given, (told.0, (told.1 ∙ ap (λ t. given ++ (t ++ told.0)) none), put))
+-- what was put is a front of the listing of the bytes and any that may follow
+pub lists_front : (l : ListerState) (first now : Option (List ℕ)) (bytes rest : List ℕ) → Lists l first now bytes → AreBytes (bytes ++ rest) → PutsFront first (listing_of (bytes ++ rest)) now
+lists_front l first now bytes rest t fits =
+    let front = told_front l t.given bytes rest t.stands fits in
+    (t.given, (front.0, front.1 ∙ ap (λ x. (t.given ++ x) ++ front.0) t.clear ∙ ap (λ x. x ++ front.0) (append-nil t.given), t.put))
 
--- the bytes that a turn takes are the next ones
-pub next_taken : (bytes : List ℕ) (at end : ℕ) → at ≤ end → take at bytes ++ slice_range bytes at end ≡ take end bytes
-next_taken bytes at end h = sym (take-add at (end - at) bytes) ∙ ap (λ n. take n bytes) (omega (arith, h))
+-- what was put is a front of the listing of the bytes
+pub lists_here : (l : ListerState) (first now : Option (List ℕ)) (bytes : List ℕ) → Lists l first now bytes → PutsFront first (listing_of bytes) now
+lists_here l first now bytes t =
+    let fits : AreBytes (bytes ++ []) = rw (append-nil bytes) (stands_fit l t.given bytes t.stands) in
+    let front = lists_front l first now bytes [] t fits in
+    let all : bytes ++ [] ≡ bytes = append-nil bytes in
+    rw all at front
 
--- a whole text was written after what was told
-pub text_written : (old mid now : Option (List ℕ)) (given text : List ℕ) → mid ≡ appended old given → now ≡ appended mid text → now ≡ appended old (given ++ text)
-text_written old mid now given text p q = rw (q, p) (appended-appended old given text)
+-- a turn that fed a piece, wrote its text and cleared it
+pub lists_more : (l fed clear : ListerState) (first mid now : Option (List ℕ)) (bytes piece text : List ℕ) → Lists l first mid bytes
+    → ((given before taken : List ℕ) → ListerStandsFor l given before taken → ListerStandsFor fed given before (taken ++ piece)) → text ≡ fed.text → now ≡ appended mid text → clear.text ≡ []
+    → ((given before taken : List ℕ) → ListerStandsFor fed given before taken → ListerStandsFor clear (given ++ fed.text) before taken) → Lists clear first now (bytes ++ piece)
+lists_more l fed clear first mid now bytes piece text t feeds same put none clears = record {
+  given = t.given ++ fed.text;
+  stands = clears t.given [] (bytes ++ piece) (feeds t.given [] bytes t.stands);
+  put = rw (put, t.put, same) (appended-appended first t.given fed.text);
+  clear = none;
+}
 
--- the whole listing was written
-pub all_written : (old mid now : Option (List ℕ)) (l : ListerState) (given bytes text : List ℕ) (at : ℕ) → length bytes ≤ at → text ≡ l.text → Finished l given [] (take at bytes)
-    → mid ≡ appended old given → now ≡ appended mid text → now ≡ appended old (listing_of bytes)
-all_written old mid now l given bytes text at long same f p q =
-    let whole : given ++ text ≡ listing_of bytes = ap (λ t. given ++ t) same ∙ f.told ∙ listing_is (take at bytes) f.listing f.is ∙ ap listing_of (take_all at bytes long) in
-    text_written old mid now given text p q ∙ ap (appended old) whole
+-- a turn whose text was written in part
+pub lists_part : (l fed : ListerState) (first mid now : Option (List ℕ)) (bytes piece rest text : List ℕ) → Lists l first mid bytes
+    → ((given before taken : List ℕ) → ListerStandsFor l given before taken → ListerStandsFor fed given before (taken ++ piece)) → text ≡ fed.text → PutsFront mid text now → AreBytes (bytes ++ (piece ++ rest))
+    → PutsFront first (listing_of (bytes ++ (piece ++ rest))) now
+lists_part l fed first mid now bytes piece rest text t feeds same front fits =
+    let all : (bytes ++ piece) ++ rest ≡ bytes ++ (piece ++ rest) = append_assoc bytes piece rest in
+    let fits2 : AreBytes ((bytes ++ piece) ++ rest) = rw all fits in
+    let told = told_front fed t.given (bytes ++ piece) rest (feeds t.given [] bytes t.stands) fits2 in
+    let here : listing_of (bytes ++ (piece ++ rest)) ≡ t.given ++ (text ++ told.0) = ap listing_of (sym all) ∙ told.1 ∙ append_assoc t.given fed.text told.0 ∙ ap (λ x. t.given ++ (x ++ told.0)) (sym same) in
+    rw here (front_more first mid now t.given text told.0 t.put front)
 
--- a front of the end of the listing was written
-pub end_written : (old mid now : Option (List ℕ)) (l : ListerState) (given bytes text : List ℕ) (at : ℕ) → length bytes ≤ at → text ≡ l.text → Finished l given [] (take at bytes)
-    → mid ≡ appended old given → PutsFront mid text now → PutsFront old (listing_of bytes) now
-end_written old mid now l given bytes text at long same f p q =
-    let whole : given ++ (text ++ []) ≡ listing_of bytes = ap (λ t. given ++ t) (append-nil text ∙ same) ∙ f.told ∙ listing_is (take at bytes) f.listing f.is ∙ ap listing_of (take_all at bytes long) in
-    rw (← whole) (front_more old mid now given text [] p q)
+-- the end of a listing was written
+pub end_put : (l done : ListerState) (first mid now : Option (List ℕ)) (bytes text : List ℕ) → Lists l first mid bytes
+    → ((given before taken : List ℕ) → ListerStandsFor l given before taken → Finished done given before taken) → text ≡ done.text → now ≡ appended mid text → now ≡ appended first (listing_of bytes)
+end_put l done first mid now bytes text t ends same put =
+    let f = ends t.given [] bytes t.stands in
+    let whole : t.given ++ text ≡ listing_of bytes = ap (λ x. t.given ++ x) same ∙ f.told ∙ listing_is bytes f.listing f.is in
+    rw (put, t.put) (appended-appended first t.given text) ∙ ap (appended first) whole
+
+-- the end of a listing was written in part
+pub end_part : (l done : ListerState) (first mid now : Option (List ℕ)) (bytes text : List ℕ) → Lists l first mid bytes
+    → ((given before taken : List ℕ) → ListerStandsFor l given before taken → Finished done given before taken) → text ≡ done.text → PutsFront mid text now → PutsFront first (listing_of bytes) now
+end_part l done first mid now bytes text t ends same front =
+    let f = ends t.given [] bytes t.stands in
+    let whole : listing_of bytes ≡ t.given ++ (text ++ []) = sym (ap (λ x. t.given ++ x) (append-nil text ∙ same) ∙ f.told ∙ listing_is bytes f.listing f.is) in
+    rw whole (front_more first mid now t.given text [] t.put front)
+
+-- the front of a buffer, where what was read stands behind what it held
+pub filled : (xs ys zs : List ℕ) (at n : ℕ) → at ≤ length xs → n ≤ length ys → take (at + length ys) zs ≡ take at xs ++ ys → take (at + n) zs ≡ take at xs ++ take n ys
+filled xs ys zs at n a k e =
+    let long : at + n ≤ at + length ys = omega (arith, k) in
+    sym (take-take (at + n) (at + length ys) zs long) ∙ ap (take (at + n)) e ∙ ap (λ m. take (m + n) (take at xs ++ ys)) (sym (length-take-le at xs a)) ∙ take-append-add (take at xs) ys n
+
+-- bytes more were taken
+pub taken_more : (contents : Option (List ℕ → Option (List ℕ))) (name taken piece : List ℕ) (old new : Option (List ℕ)) → Selects contents name (preceded taken old) → old ≡ preceded piece new → Selects contents name (preceded (taken ++ piece) new)
+taken_more contents name taken piece old new s e =
+    let whole : preceded taken old ≡ preceded (taken ++ piece) new = ap (preceded taken) e ∙ preceded-preceded taken piece new in
+    subst (λ r. Selects contents name r) whole s
+
+first_none : (taken : List ℕ) (left : ℕ) → length taken + left ≡ stream_limit → left ≡ stream_limit → taken ≡ []
+first_none [] left k e = refl
+first_none (x ∷ xs) left k e = absurd (omega (arith, k, e))
+
+judged_by : (taken piece : List ℕ) (left : ℕ) (b : Bool) → (left == stream_limit) ≡ b → length taken + left ≡ stream_limit → left ≤ stream_limit → (left < stream_limit → (13 ≤ length taken) × (has_header taken ≡ false)) → (b && has_header piece) ≡ false
+    → has_header (taken ++ piece) ≡ false
+judged_by taken piece left true t k m j h =
+    let none : taken ≡ [] = first_none taken left k (grind (arith, nat_tests, t)) in
+    ap (λ x. has_header (x ++ piece)) none ∙ h
+judged_by taken piece left false t k m j h =
+    let less : left < stream_limit = grind (arith, nat_tests, t, m) in
+    let both = j less in
+    no_header_stays taken piece bit_header_start both.0 both.1
+
+-- no header stands before the bytes that were taken
+pub judged_more : (taken piece : List ℕ) (left : ℕ) → length taken + left ≡ stream_limit → left ≤ stream_limit → (left < stream_limit → (13 ≤ length taken) × (has_header taken ≡ false)) → (left == stream_limit && has_header piece) ≡ false
+    → has_header (taken ++ piece) ≡ false
+judged_more taken piece left k m j h = judged_by taken piece left (left == stream_limit) refl k m j h
+
+-- a sink that failed in a turn
+pub write_failed : (contents : Option (List ℕ → Option (List ℕ))) (flash : Option (List ℕ)) (F L : List ℕ → Type 0) (stream taken piece same : List ℕ) (l : ListerState) (rest : Option (List ℕ)) (Full : Type 0) (old mid now : Option (List ℕ))
+    → same ≡ piece → Selects contents stream (preceded (taken ++ piece) rest) → Full → Lists l old mid taken → AreBytes same → ((left : List ℕ) → AreBytes (taken ++ (same ++ left)) → PutsFront old (listing_of (taken ++ (same ++ left))) now)
+    → Ends (with_inputs contents flash) F L (Some (Listing stream)) Full old now (Err WriteFault)
+write_failed contents flash F L stream taken piece same l rest Full old mid now e s f t fits p =
+    let joined : (left : List ℕ) → taken ++ (same ++ left) ≡ (taken ++ piece) ++ left = λ left. ap (λ x. taken ++ (x ++ left)) e ∙ sym (append_assoc taken piece left) in
+    let q : (left : List ℕ) → AreBytes ((taken ++ piece) ++ left) → PutsFront old (listing_of ((taken ++ piece) ++ left)) now
+    = λ left fit. subst (λ x. PutsFront old (listing_of x) now) (joined left) (p left (subst (λ x. AreBytes x) (sym (joined left)) fit)) in
+    let all : AreBytes ((taken ++ piece) ++ []) = subst (λ x. AreBytes x) (joined []) (all-append (λ b. b < 256) taken (same ++ []) (stands_fit l t.given taken t.stands) (subst (λ x. AreBytes x) (sym (append-nil same)) fits)) in
+    let here : PutsFront old (listing_of (taken ++ piece)) now = subst (λ x. PutsFront old (listing_of x) now) (append-nil (taken ++ piece)) (q [] all) in
+    unwritten contents flash F L stream (taken ++ piece) rest Full old now s f here q
+
+-- a sink that failed at the end
+pub end_failed : (contents : Option (List ℕ → Option (List ℕ))) (flash : Option (List ℕ)) (F L : List ℕ → Type 0) (stream taken : List ℕ) (rest : Option (List ℕ)) (Full : Type 0) (old now : Option (List ℕ))
+    → Selects contents stream (preceded taken rest) → AtEnd rest → Full → PutsFront old (listing_of taken) now → Ends (with_inputs contents flash) F L (Some (Listing stream)) Full old now (Err WriteFault)
+end_failed None flash F L stream taken rest Full old now s e f p = (f, (listing_of taken, p))
+end_failed (Some inputs) flash F L stream taken rest Full old now s e f p =
+    let all = told_all inputs stream taken rest s in
+    let none : all.0 ≡ [] = let end = rw all.1.0 at e in end in
+    (f, (taken, (all.1.1 ∙ ap (λ t. Some (taken ++ t)) none ∙ ap Some (append-nil taken), λ fits. p)))
+
+-- a turn that was filled within the limit is a long one
+pub turn_long : (left most n : ℕ) → (65536 ≤ left → most ≡ 65536) → (left < 65536 → most ≡ left + 1) → most ≤ n → n ≤ left → 13 ≤ n
+turn_long left most n full short more within = grind (arith, full, short, more, within)

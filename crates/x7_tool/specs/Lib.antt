@@ -2,3 +2,4 @@ pub mod Form
 pub mod Message
 pub mod Outcome
 pub mod Run
+pub mod Turn

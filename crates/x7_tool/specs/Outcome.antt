@@ -29,32 +29,42 @@ abbrev pub and_so : {A B : Type 0} → Result A Event → (A → Result B Event)
 and_so (Ok a) next = next a
 and_so (Err event) next = Err event
 
--- an input of this name within a limit of bytes
-abbrev pub held : List ℕ → ℕ → Option (List ℕ) → Result (List ℕ) Event
-held name limit None = Err (Missing name)
-held name limit (Some bytes) = if nat_lt limit (length bytes) then Err (TooLarge name) else Ok bytes
-
-abbrev pub input : Told → List ℕ → ℕ → Result (List ℕ) Event
-input told name limit = held name limit (told.inputs name)
+-- the bytes of an input
+abbrev pub present : List ℕ → Option (List ℕ) → Result (List ℕ) Event
+present name None = Err (Missing name)
+present name (Some bytes) = Ok bytes
 
 -- the bytes that each .bit header begins with
 abbrev pub bit_header_start : List ℕ
 bit_header_start = 0x00 ∷ 0x09 ∷ 0x0F ∷ 0xF0 ∷ 0x0F ∷ 0xF0 ∷ 0x0F ∷ 0xF0 ∷ 0x0F ∷ 0xF0 ∷ 0x00 ∷ 0x00 ∷ 0x01 ∷ []
 
+-- whether a stream begins with a .bit header
+abbrev pub has_header : List ℕ → Bool
+has_header bytes = starts_with nat_eq bytes bit_header_start
+
 -- a stream is taken that has no .bit header
 abbrev pub raw : List ℕ → List ℕ → Result (List ℕ) Event
-raw name bytes = if starts_with nat_eq bytes bit_header_start then Err (Unbuilt name) else Ok bytes
+raw name bytes = if has_header bytes then Err (Unbuilt name) else Ok bytes
+
+-- an input is taken that has no more than so many bytes
+abbrev pub within : List ℕ → ℕ → List ℕ → Result (List ℕ) Event
+within name limit bytes = if nat_lt limit (length bytes) then Err (TooLarge name) else Ok bytes
 
 -- the most bytes of a stream
 abbrev pub stream_limit : ℕ
 stream_limit = 67108864
 
--- `list STREAM`: the stream is read whole, then judged, then listed
+-- the bytes of a stream: its header is judged as soon as its bytes are read, and its length behind it
+abbrev pub judged : List ℕ → List ℕ → Result (List ℕ) Event
+judged stream bytes = and_so (raw stream bytes) (within stream stream_limit)
+
+-- the stream that a name stands for
+abbrev pub stream_of : Told → List ℕ → Result (List ℕ) Event
+stream_of told name = and_so (present name (told.inputs name)) (judged name)
+
+-- `list STREAM`: the listing of the stream
 abbrev pub listed : Told → List ℕ → Result Answer Event
-listed told stream =
-    and_so (input told stream stream_limit) (λ bytes.
-    and_so (raw stream bytes) (λ stream_data.
-    Ok (record { stopped = false; text = listing_of stream_data })))
+listed told stream = and_so (stream_of told stream) (λ bytes. Ok (record { stopped = false; text = listing_of bytes }))
 
 -- what a form comes to, each form one case
 abbrev pub text_of : Told → Asked → Result Answer Event

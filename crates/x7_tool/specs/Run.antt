@@ -93,16 +93,16 @@ Leaves told (Some (Listing stream)) (TooLarge name) old new = ListsFront told st
 Leaves told (Some (Listing stream)) NoMemory old new = ListsFront told stream old new
 Leaves told form event old new = new ≡ old
 
--- the text is the whole one of the form, whether or not the inputs are within their limits
-abbrev pub IsTextOf : Option Told → Option Asked → List ℕ → Type 0
-IsTextOf told None text = ⊥
-IsTextOf None (Some form) text = Unit {0}
-IsTextOf (Some told) (Some (Listing stream)) text = (bytes : List ℕ) × ((told.inputs stream ≡ Some bytes) × (AreBytes bytes → text ≡ listing_of bytes))
+-- the sink got a front of the whole text of the form, whether or not the inputs are within their limits
+abbrev pub GetsFront : Option Told → Option Asked → Option (List ℕ) → Option (List ℕ) → Type 0
+GetsFront told None old new = ⊥
+GetsFront None (Some form) old new = (text : List ℕ) × PutsFront old text new
+GetsFront (Some told) (Some (Listing stream)) old new = (bytes : List ℕ) × ((told.inputs stream ≡ Some bytes) × (AreBytes bytes → PutsFront old (listing_of bytes) new))
 
 -- how the command ended, and what the sink got: the whole text; a front of it where the sink failed; or what the event leaves
 abbrev pub Ends : Option Told → (List ℕ → Type 0) → (List ℕ → Type 0) → Option Asked → Type 0 → Option (List ℕ) → Option (List ℕ) → Result Answer Event → Type 0
 Ends told Fails Lacks form Full old new (Ok answer) = Comes told Fails Lacks form (Ok answer) × (new ≡ appended old answer.text)
-Ends told Fails Lacks form Full old new (Err WriteFault) = Full × ((text : List ℕ) × (IsTextOf told form text × PutsFront old text new))
+Ends told Fails Lacks form Full old new (Err WriteFault) = Full × GetsFront told form old new
 Ends told Fails Lacks form Full old new (Err event) = Comes told Fails Lacks form (Err event) × Leaves told form event old new
 
 -- what the sink of messages got: nothing after a whole text, and else the event's line, or a front of it where the sink failed

@@ -1,23 +1,25 @@
 //! The command `list`.
-ghost use Rattle.std.specs.Prelude.{◌≡◌, ℕ, List, [], ◌∷◌, ◌<◌, ◌≤◌, ◌⊎◌, false, Option, Some, Ok, Err, OnOk, IfErr};
+ghost use Rattle.std.specs.Prelude.{◌≡◌, ℕ, List, [], ◌∷◌, ◌++◌, ◌+◌, ◌<◌, ◌≤◌, ◌==◌, ◌&&◌, ◌⊎◌, false, Option, Some, Ok, Err, OnOk, IfErr};
 ghost use Rattle.x7_words.specs.Count.{HasRisen};
 ghost use Rattle.x7_words.specs.Sink.{appended, PutsFront};
+ghost use Rattle.x7_words.specs.Word.{AreBytes};
 ghost use Rattle.x7_listing.specs.Listing.{listing_of};
 ghost use Rattle.x7_tool.specs.Form.{Listing};
 ghost use Rattle.x7_tool.specs.Message.{event_of};
-ghost use Rattle.x7_tool.specs.Outcome.{NoMemory, WriteFault, with_inputs};
+ghost use Rattle.x7_tool.specs.Outcome.{NoMemory, WriteFault, has_header, with_inputs};
 ghost use Rattle.x7_tool.specs.Run.{Ends, RisesFor};
+ghost use Rattle.x7_tool.specs.Turn.{Lists};
 
-use crate::read::read_whole;
+use crate::read::fill;
 use crate::refusal::Refusal;
 use std::alloc::Global;
 use x7_listing::Lister;
-use x7_words::{Inputs, Sink, write_all};
+use x7_words::{Inputs, SelectFault, Sink, write_all};
 
 /// The most bytes of a stream.
 const STREAM_LIMIT: usize = 67_108_864;
 
-/// The bytes that are listed before their text is written.
+/// The most bytes that one turn reads and lists.
 const TURN: usize = 65_536;
 
 /// The bytes that each .bit header begins with.
@@ -25,34 +27,49 @@ const BIT_HEADER_START: [u8; 13] = [
     0x00, 0x09, 0x0F, 0xF0, 0x0F, 0xF0, 0x0F, 0xF0, 0x0F, 0xF0, 0x00, 0x00, 0x01,
 ];
 
-/// Where the turn from this place ends.
-fn turn_end(at: usize, len: usize) -> usize
-    requires { at < len }
-    ensures after { at < result }
-    ensures within { result ≤ len }
+/// How many bytes a turn asks for, where this many are still within the limit: one more than they at
+/// most.
+fn turn_len(left: usize) -> usize
+    ensures some { 0 < result }
+    ensures within { result ≤ 65536 }
+    ensures over { result ≤ left + 1 }
+    ensures full { 65536 ≤ left → result ≡ 65536 }
+    ensures short { left < 65536 → result ≡ left + 1 }
 {
-    if len - at < TURN { len } else { at + TURN }
+    if left < TURN { left + 1 } else { TURN }
 }
 
-/// Writes the listing of bytes, turn by turn. After an error a front of the listing was written.
-fn write_listing<'w, O: Sink>(alloc: Global, out: &mut O, bytes: &[u8]) -> Result<(), Refusal<'w>>
-    ensures ok { OnOk result (O.written out.new ≡ appended (O.written out.old) (listing_of bytes.now)) }
-    ensures err { IfErr result (λ r. PutsFront (O.written out.old) (listing_of bytes.now) (O.written out.new)) }
+/// Whether the stream's first piece begins with a .bit header.
+fn has_bit_header(left: usize, piece: &[u8]) -> bool
+    ensures { result ≡ (left == 67108864 && has_header piece.now) }
+{
+    left == STREAM_LIMIT && piece.starts_with(&BIT_HEADER_START)
+}
+
+/// Lists a piece, and writes what it told.
+fn put_turn<'w, O: Sink>(lister: &mut Lister, out: &mut O, piece: &[u8]) -> Result<(), Refusal<'w>>
+    ensures ok { OnOk result ((first : Option (List ℕ)) (bytes : List ℕ) → Lists lister.old first (O.written out.old) bytes → Lists lister.new first (O.written out.new) (bytes ++ piece.now)) }
+    ensures err { IfErr result (λ r. (first : Option (List ℕ)) (bytes rest : List ℕ) → Lists lister.old first (O.written out.old) bytes → AreBytes (bytes ++ (piece.now ++ rest)) → PutsFront first (listing_of (bytes ++ (piece.now ++ rest))) (O.written out.new)) }
+    ensures why { IfErr result (λ r. ((event_of r ≡ NoMemory) × (O.written out.new ≡ O.written out.old)) ⊎ ((event_of r ≡ WriteFault) × HasRisen (O.faults out.old) (O.faults out.new))) }
+    ensures fits { AreBytes piece.now }
+    ensures faults { O.faults out.old ≤ O.faults out.new }
+{
+    if lister.feed(piece).is_err() {
+        return Err(Refusal::NoMemory);
+    }
+    if write_all(out, lister.text()).is_err() {
+        return Err(Refusal::WriteFault);
+    }
+    lister.clear_text();
+    Ok(())
+}
+
+/// Ends the listing, and writes what that told.
+fn put_end<'w, O: Sink>(lister: &mut Lister, out: &mut O) -> Result<(), Refusal<'w>>
+    ensures ok { OnOk result ((first : Option (List ℕ)) (bytes : List ℕ) → Lists lister.old first (O.written out.old) bytes → O.written out.new ≡ appended first (listing_of bytes)) }
+    ensures err { IfErr result (λ r. (first : Option (List ℕ)) (bytes : List ℕ) → Lists lister.old first (O.written out.old) bytes → PutsFront first (listing_of bytes) (O.written out.new)) }
     ensures why { IfErr result (λ r. (event_of r ≡ NoMemory) ⊎ ((event_of r ≡ WriteFault) × HasRisen (O.faults out.old) (O.faults out.new))) }
 {
-    let mut lister = Lister::new(alloc);
-    let mut at = 0;
-    while at < bytes.len() {
-        let end = turn_end(at, bytes.len());
-        if lister.feed(&bytes[at..end]).is_err() {
-            return Err(Refusal::NoMemory);
-        }
-        if write_all(out, lister.text()).is_err() {
-            return Err(Refusal::WriteFault);
-        }
-        lister.clear_text();
-        at = end;
-    }
     if lister.finish().is_err() {
         return Err(Refusal::NoMemory);
     }
@@ -62,7 +79,7 @@ fn write_listing<'w, O: Sink>(alloc: Global, out: &mut O, bytes: &[u8]) -> Resul
     }
 }
 
-/// `list STREAM`: the stream is read whole, then judged, then listed.
+/// `list STREAM`: the stream is read in turns, and what each tells is written.
 pub(crate) fn list<'w, I: Inputs, O: Sink>(
     alloc: Global,
     inputs: &mut I,
@@ -72,12 +89,33 @@ pub(crate) fn list<'w, I: Inputs, O: Sink>(
     ensures ok { OnOk result ((flash : Option (List ℕ)) → (text : List ℕ) × Ends (with_inputs (I.contents inputs.old) flash) (RisesFor (stream.now ∷ []) (I.faults inputs.old) (I.faults inputs.new)) (RisesFor (stream.now ∷ []) (I.absences inputs.old) (I.absences inputs.new)) (Some (Listing stream.now)) (HasRisen (O.faults out.old) (O.faults out.new)) (O.written out.old) (O.written out.new) (Ok (record { stopped = false; text = text }))) }
     ensures err { IfErr result (λ r. (flash : Option (List ℕ)) → Ends (with_inputs (I.contents inputs.old) flash) (RisesFor (stream.now ∷ []) (I.faults inputs.old) (I.faults inputs.new)) (RisesFor (stream.now ∷ []) (I.absences inputs.old) (I.absences inputs.new)) (Some (Listing stream.now)) (HasRisen (O.faults out.old) (O.faults out.new)) (O.written out.old) (O.written out.new) (Err (event_of r))) }
 {
-    let bytes = match read_whole(alloc, inputs, stream, STREAM_LIMIT) {
-        Ok(bytes) => bytes,
-        Err(refusal) => return Err(refusal),
-    };
-    if bytes.starts_with(&BIT_HEADER_START) {
-        return Err(Refusal::Unbuilt(stream));
+    match inputs.select(stream) {
+        Ok(()) => (),
+        Err(SelectFault::Missing) => return Err(Refusal::Missing(stream)),
+        Err(SelectFault::Failed) => return Err(Refusal::ReadFault(stream)),
     }
-    write_listing(alloc, out, &bytes)
+    let mut lister = Lister::new(alloc);
+    let mut piece = [0u8; TURN];
+    let mut left = STREAM_LIMIT;
+    loop {
+        let most = turn_len(left);
+        let count = match fill(inputs, stream, &mut piece[..most]) {
+            Ok(count) => count,
+            Err(refusal) => return Err(refusal),
+        };
+        if has_bit_header(left, &piece[..count]) {
+            return Err(Refusal::Unbuilt(stream));
+        }
+        if count > left {
+            return Err(Refusal::TooLarge(stream));
+        }
+        match put_turn(&mut lister, out, &piece[..count]) {
+            Ok(()) => (),
+            Err(refusal) => return Err(refusal),
+        }
+        left -= count;
+        if count < most {
+            return put_end(&mut lister, out);
+        }
+    }
 }

@@ -1,8 +1,10 @@
 //! Whole runs of the command: its texts, its statuses and its messages.
+ghost use Rattle.std.specs.Prelude.{None};
+
 use crate::{Status, run};
 use std::alloc::Global;
 use std::test::Fail;
-use x7_words::{MemoryFlash, MemoryInputs, MemorySink, NoMemory};
+use x7_words::{Failed, MemoryFlash, MemoryInputs, MemorySink, NoMemory, Sink};
 
 /// A session of a no-op and DESYNC.
 const FIRST: &[u8] = &[
@@ -169,26 +171,45 @@ fn statuses_have_their_numbers(rt: HostRuntime) {
     }
 }
 
+/// A sink that takes all, and keeps nothing.
+#[derive(Drop)]
+struct Nowhere;
+
+impl Sink for Nowhere {
+    ghost written = { λ _. None };
+
+    ghost faults = { λ _. 0 };
+
+    fn write(&mut self, piece: &[u8]) -> Result<usize, Failed> {
+        Ok(piece.len())
+    }
+}
+
 #[test]
 fn a_stream_has_a_limit(rt: HostRuntime) -> Result<(), Fail> {
-    let mut bytes = Vec::new(rt.alloc());
-    bytes.resize(67_108_865, 0xFF)?;
+    // how many bytes, the status, the message
+    let cases = [
+        (67_108_864, Status::Done, b"".as_slice()),
+        (67_108_865, Status::TooLarge, b"x7: too large s\n"),
+    ];
     let words = listed(rt.alloc(), &["list", "s"])?;
-    let mut inputs = MemoryInputs::new(rt.alloc());
-    inputs.put("s", &bytes)?;
     let mut flash = MemoryFlash::new(rt.alloc(), "", &[])?;
-    let mut out = MemorySink::new(rt.alloc(), 0)?;
-    let mut err = MemorySink::new(rt.alloc(), 100)?;
-    let status = run(
-        rt.alloc(),
-        &words,
-        &mut inputs,
-        &mut flash,
-        &mut out,
-        &mut err,
-    );
-    assert_eq!(rt; status, Status::TooLarge);
-    assert_eq!(rt; out.bytes(), b"".as_slice());
-    assert_eq!(rt; err.bytes(), b"x7: too large s\n".as_slice());
+    for (len, status, message) in cases {
+        let mut bytes = Vec::new(rt.alloc());
+        bytes.resize(len, 0xFF)?;
+        let mut inputs = MemoryInputs::new(rt.alloc());
+        inputs.put("s", &bytes)?;
+        let mut err = MemorySink::new(rt.alloc(), 100)?;
+        let end = run(
+            rt.alloc(),
+            &words,
+            &mut inputs,
+            &mut flash,
+            &mut Nowhere,
+            &mut err,
+        );
+        assert_eq!(rt; end, status);
+        assert_eq!(rt; err.bytes(), message);
+    }
     Ok(())
 }

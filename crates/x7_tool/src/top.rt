@@ -1,11 +1,11 @@
 //! The top call.
 ghost use Rattle.std.specs.Prelude.{◌≡◌, ℕ, List, ◌⊎◌, map, string_bytes, Option, None, Some, Result, Ok, Err, OnOk, IfErr, false};
 ghost use Rattle.x7_words.specs.Count.{HasRisen};
-ghost use Rattle.x7_words.specs.Sink.{PutsFront, Tells};
+ghost use Rattle.x7_words.specs.Sink.{Tells};
 ghost use Rattle.x7_tool.specs.Form.{form_of, names_of};
 ghost use Rattle.x7_tool.specs.Message.{event_of, final_status, line_of};
 ghost use Rattle.x7_tool.specs.Outcome.{Answer, Event, Usage, Missing, ReadFault, WriteFault, TooLarge, Unbuilt, Told, outcome_of, told_of};
-ghost use Rattle.x7_tool.specs.Run.{Agrees, Ends, IsDone, IsTextOf, RisesFor, Says, Shows};
+ghost use Rattle.x7_tool.specs.Run.{Agrees, Ends, GetsFront, IsDone, RisesFor, Says, Shows};
 
 use crate::form::{Form, words_of};
 use crate::list::list;
@@ -74,7 +74,7 @@ pub fn run<I: Inputs, O: Sink, E: Sink, F: Flash>(
     ensures read_fault { let form = form_of (map string_bytes words.now.items) in result ≡ Status.ReadFault → (name : List ℕ) × (RisesFor (names_of form) (I.faults inputs.old) (I.faults inputs.new) name
         × Tells (HasRisen (E.faults err.old) (E.faults err.new)) (E.written err.old) (E.written err.new) (line_of (ReadFault name))) }
     ensures write_fault { let form = form_of (map string_bytes words.now.items) in result ≡ Status.WriteFault → HasRisen (O.faults out.old) (O.faults out.new)
-        × ((text : List ℕ) × (IsTextOf (told_of form (I.contents inputs.old) (F.bytes flash.old)) form text × PutsFront (O.written out.old) text (O.written out.new)))
+        × GetsFront (told_of form (I.contents inputs.old) (F.bytes flash.old)) form (O.written out.old) (O.written out.new)
         × Tells (HasRisen (E.faults err.old) (E.faults err.new)) (E.written err.old) (E.written err.new) (line_of WriteFault) }
     ensures too_large { let form = form_of (map string_bytes words.now.items) in result ≡ Status.TooLarge → (name : List ℕ) × (Agrees (told_of form (I.contents inputs.old) (F.bytes flash.old)) form (TooLarge name)
         × Tells (HasRisen (E.faults err.old) (E.faults err.new)) (E.written err.old) (E.written err.new) (line_of (TooLarge name))) }

@@ -1,0 +1,25 @@
+use Rattle.std.proofs.Common.{◌≡◌, ℕ, List, ◌+◌, ◌<◌, ◌≤◌, length, true, false}
+use Rattle.x7_words.specs.Input.{Selects, preceded}
+use Rattle.x7_tool.specs.Outcome.{has_header, stream_limit}
+use Rattle.x7_tool.specs.Turn.{Lists}
+use Rattle.x7_tool.proofs.list.list.Given as goal
+
+abbrev pub invariant-loop-count : goal.invariant-loop-count
+invariant-loop-count g l =
+    let i = g.I.Inputs in
+    let o = g.O.Sink in
+    record {
+      selected : i.selected l.inputs ≡ true;
+      map : i.contents l.inputs ≡ i.contents l.fn.inputs;
+      faults : i.faults l.fn.inputs ≤ i.faults l.inputs;
+      absences : i.absences l.fn.inputs ≤ i.absences l.inputs;
+      written : o.faults l.fn.out ≤ o.faults l.out;
+      left : l.left ≤ stream_limit;
+      piece : length l.piece ≡ 65536;
+      first : l.left ≡ stream_limit → o.written l.out ≡ o.written l.fn.out;
+      told : (taken : List ℕ) × (Selects (i.contents l.fn.inputs) l.stream (preceded taken (i.rest l.inputs)) × Lists l.lister (o.written l.fn.out) (o.written l.out) taken × (length taken + l.left ≡ stream_limit)
+          × (l.left < stream_limit → (13 ≤ length taken) × (has_header taken ≡ false)));
+    }
+
+abbrev pub decreases-loop-count : goal.decreases-loop-count
+decreases-loop-count g l = l.left

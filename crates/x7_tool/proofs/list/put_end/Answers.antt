@@ -1,0 +1,17 @@
+use Rattle.std.proofs.Common.{sym, ◌∙◌}
+use Rattle.x7_tool.proofs.TurnLemmas.{end_part, end_put, from_ok, lists_here}
+use Rattle.x7_tool.proofs.list.put_end.Goals as goal
+
+pub returns-then-is_err-clause-err : goal.returns-then-is_err-clause-err
+returns-then-is_err-clause-err g c = λ first bytes lists.
+    lists_here c.args.lister.now first (g.O.Sink.written c.args.out.now) bytes lists
+
+pub returns-in-Ok-clause-ok : goal.returns-in-Ok-clause-ok
+returns-in-Ok-clause-ok g c = λ first bytes lists.
+    let ends = from_ok c.finish.result (sym c.is_err.ensures.value ∙ c.if-is_err.false) c.finish.ensures.ok in
+    end_put c.args.lister.now c.finish.new.self first (g.O.Sink.written c.args.out.now) (g.O.Sink.written c.write_all.new.sink) bytes c.text.result.now lists ends c.text.ensures c.in-Ok.ensures.ok
+
+pub returns-in-Err-clause-err : goal.returns-in-Err-clause-err
+returns-in-Err-clause-err g c = λ first bytes lists.
+    let ends = from_ok c.finish.result (sym c.is_err.ensures.value ∙ c.if-is_err.false) c.finish.ensures.ok in
+    end_part c.args.lister.now c.finish.new.self first (g.O.Sink.written c.args.out.now) (g.O.Sink.written c.write_all.new.sink) bytes c.text.result.now lists ends c.text.ensures c.write_all.ensures.front
