@@ -1,0 +1,129 @@
+-- Rows of a plan by their addresses.
+use Rattle.std.proofs.Common.{◌≡◌, ℕ, zero, suc, ◌+◌, ◌-◌, ◌<◌, ◌≤◌, inl, inr, List, [], ◌∷◌, length, get_or, eq-eqb, ne_eqb, Some, None, Result, Ok, Err, IfOk, IfErr, refl, sym, ap, subst, ◌∙◌, ◌==◌, if◌then◌else◌, arith}
+use Rattle.std.specs.Prelude.{All, Contains}
+use Rattle.std.specs.List.{insert}
+use Rattle.std.specs.List.Sorted.{IsSearchInRange, IsBinarySearchResult, IsNonDecreasingBy}
+use Rattle.std.specs.Ordering.{nat_cmp, ordering_index}
+use Rattle.std.proofs.lemmas.Bool.Decides.{eqb_tells, nat_tests}
+use Rattle.std.proofs.lemmas.Cmp.{ranked}
+use Rattle.std.proofs.lemmas.List.{get_or-map, length-map}
+use Rattle.std.proofs.lemmas.List.Edits.{length-insert, get_or-insert_below, get_or-insert_at, get_or-insert_above}
+use Rattle.std.proofs.lemmas.List.Sorted.{IsNonDecreasingBy-from_default}
+use Rattle.x7_memory.specs.Planned.{PlanRow, IsPlan, AreInOrder, planned, planned_addresses}
+use Rattle.x7_memory.specs.Places.{IsPlace, IsGap}
+
+pub no_row : PlanRow
+no_row = record { far = 0; words = [] }
+
+-- ---- one row more
+
+pub planned_here : (row : PlanRow) (rows : List PlanRow) (far : ℕ) → far ≡ row.far → planned (row ∷ rows) far ≡ Some row.words
+unfolding planned
+planned_here row rows far e = rw (eq-eqb far row.far e) refl
+
+pub planned_behind : (row : PlanRow) (rows : List PlanRow) (far : ℕ) → (far ≡ row.far → ⊥) → planned (row ∷ rows) far ≡ planned rows far
+unfolding planned
+planned_behind row rows far n = rw (ne_eqb far row.far n) refl
+
+order_tail : (row : PlanRow) (rows : List PlanRow) → AreInOrder (row ∷ rows) → AreInOrder rows
+order_tail row rows order i j d h k = order (suc i) (suc j) d (omega arith) (omega arith)
+
+-- ---- the frame of an address
+
+pub planned_at : (rows : List PlanRow) (i far : ℕ) (d : PlanRow) → AreInOrder rows → i < length rows → (get_or rows i d).far ≡ far → planned rows far ≡ Some (get_or rows i d).words
+planned_at [] i far d order h e = absurd (omega arith)
+planned_at (row ∷ rows) zero far d order h e = planned_here row rows far (sym e)
+planned_at (row ∷ rows) (suc i) far d order h e =
+    let low = order 0 (suc i) d (omega arith) h in
+    planned_behind row rows far (λ same. absurd (omega arith)) ∙ planned_at rows i far d (order_tail row rows order) (omega arith) e
+
+pub planned_none : (rows : List PlanRow) (far : ℕ) → ((j : ℕ) → j < length rows → (get_or rows j no_row).far ≡ far → ⊥) → planned rows far ≡ None
+unfolding planned
+planned_none [] far free = refl
+planned_none (row ∷ rows) far free =
+    planned_behind row rows far (λ e. free 0 (omega arith) (sym e)) ∙ planned_none rows far (λ j h. free (suc j) (omega arith))
+
+-- ---- a row that is added
+
+pub planned_insert : (rows : List PlanRow) (i : ℕ) (row : PlanRow) (a : ℕ) → i ≤ length rows → ((j : ℕ) → j < i → (get_or rows j no_row).far ≡ row.far → ⊥) →
+    planned (insert rows i row) a ≡ (if a == row.far then Some row.words else planned rows a)
+planned_insert rows zero row a h free =
+    elim (eqb_tells a row.far) [
+      | inl y ↦ rw (eq-eqb a row.far y.1) (planned_here row rows a y.1)
+      | inr n ↦ rw (ne_eqb a row.far n.1) (planned_behind row rows a n.1)
+    ]
+planned_insert [] (suc i) row a h free = absurd (omega arith)
+planned_insert (first ∷ rows) (suc i) row a h free =
+    let ih = planned_insert rows i row a (omega arith) (λ j k. free (suc j) (omega arith)) in
+    let apart : first.far ≡ row.far → ⊥ = free 0 (omega arith) in
+    elim (eqb_tells a first.far) [
+      | inl y ↦ let n : a ≡ row.far → ⊥ = λ x. apart (sym y.1 ∙ x) in
+          rw (ne_eqb a row.far n) (planned_here first (insert rows i row) a y.1 ∙ sym (planned_here first rows a y.1))
+      | inr n ↦ rw (planned_behind first (insert rows i row) a n.1, planned_behind first rows a n.1) ih
+    ]
+
+module _ (rows : List PlanRow) (row : PlanRow) (at : ℕ) (gap : IsGap rows row.far at) where
+  -- each new row is an old one below the gap, the new one at it, or an old one moved up by one
+  pub order_insert : AreInOrder rows → AreInOrder (insert rows at row)
+  order_insert order i j d lt inside =
+      let new = insert rows at row in
+      let length_new = length-insert rows at row gap.inside in
+      let below : (i : ℕ) → i < at → (get_or new i d).far ≡ (get_or rows i d).far = λ i h. ap (λ r. r.far) (get_or-insert_below rows at row d i h gap.inside) in
+      let here : (i : ℕ) → i ≡ at → (get_or new i d).far ≡ row.far = λ i h. rw h (ap (λ r. r.far) (get_or-insert_at rows at row d gap.inside)) in
+      let above : (i : ℕ) → at < i → (get_or new i d).far ≡ (get_or rows (i - 1) d).far =
+      λ i h. subst (λ q. (get_or new q d).far ≡ (get_or rows (i - 1) d).far) {x = i - 1 + 1} (omega arith) (ap (λ r. r.far) (get_or-insert_above rows at row d (i - 1) (omega arith) gap.inside)) in
+      grind (arith, below i, here i, above i, below j, here j, above j, order i j d, order i (j - 1) d, order (i - 1) (j - 1) d, gap.smaller i d, gap.greater (j - 1) d)
+
+  pub width_insert : (n : ℕ) → All (λ r. length r.words ≡ n) rows → length row.words ≡ n → All (λ r. length r.words ≡ n) (insert rows at row)
+  width_insert n all is i d inside =
+      let new = insert rows at row in
+      let length_new = length-insert rows at row gap.inside in
+      let below : (i : ℕ) → i < at → length (get_or new i d).words ≡ length (get_or rows i d).words = λ i h. ap (λ r. length r.words) (get_or-insert_below rows at row d i h gap.inside) in
+      let here : (i : ℕ) → i ≡ at → length (get_or new i d).words ≡ length row.words = λ i h. rw h (ap (λ r. length r.words) (get_or-insert_at rows at row d gap.inside)) in
+      let above : (i : ℕ) → at < i → length (get_or new i d).words ≡ length (get_or rows (i - 1) d).words =
+      λ i h. subst (λ q. length (get_or new q d).words ≡ length (get_or rows (i - 1) d).words) {x = i - 1 + 1} (omega arith) (ap (λ r. length r.words) (get_or-insert_above rows at row d (i - 1) (omega arith) gap.inside)) in
+      let low : i < length rows → length (get_or rows i d).words ≡ n = all i d in
+      let high : i - 1 < length rows → length (get_or rows (i - 1) d).words ≡ n = all (i - 1) d in
+      grind (arith, below i, here i, above i, low, high)
+
+pub plan_insert : (width : ℕ) (rows : List PlanRow) (row : PlanRow) (at : ℕ) → IsPlan record { width = width; rows = rows } → IsGap rows row.far at → length row.words ≡ width →
+    IsPlan record { width = width; rows = insert rows at row }
+plan_insert width rows row at is gap e = record { order = order_insert rows row at gap is.order; width = width_insert rows row at gap width is.width e }
+
+-- ---- whether an address is planned
+
+pub place_listed : (rows : List PlanRow) (far i : ℕ) → IsPlace rows far i → Contains (planned_addresses rows) far
+place_listed rows far i place =
+    let long = length-map rows (λ row. row.far) in
+    (i, (let h = place.inside in omega arith), get_or-map (λ row. row.far) rows i no_row far place.inside ∙ place.same no_row)
+
+pub gap_free : (rows : List PlanRow) (far i : ℕ) → IsGap rows far i → (j : ℕ) → j < length rows → (get_or rows j no_row).far ≡ far → ⊥
+gap_free rows far i gap j h e = grind (arith, gap.smaller j no_row, gap.greater j no_row)
+
+pub gap_unlisted : (rows : List PlanRow) (far i : ℕ) → IsGap rows far i → Contains (planned_addresses rows) far → ⊥
+gap_unlisted rows far i gap has =
+    let long = length-map rows (λ row. row.far) in
+    let inside : has.0 < length rows = let h = has.1 in omega arith in
+    gap_free rows far i gap has.0 inside (sym (get_or-map (λ row. row.far) rows has.0 no_row far inside) ∙ has.2)
+
+pub gap_none : (rows : List PlanRow) (far i : ℕ) → IsGap rows far i → planned rows far ≡ None
+gap_none rows far i gap = planned_none rows far (gap_free rows far i gap)
+
+-- ---- a search by halves
+
+module _ (rows : List PlanRow) (order : AreInOrder rows) (far : ℕ) where
+  comparisons_rise : IsNonDecreasingBy (λ row. ordering_index (nat_cmp row.far far)) rows
+  comparisons_rise = IsNonDecreasingBy-from_default (λ row. ordering_index (nat_cmp row.far far)) rows no_row (λ i j le inside.
+      let rise : (get_or rows i no_row).far ≤ (get_or rows j no_row).far = grind (arith, order i j no_row, λ (same : i ≡ j). ap (λ k. (get_or rows k no_row).far) same) in
+      grind (arith, nat_tests))
+
+  pub searched : (r : Result ℕ ℕ) → IsSearchInRange r (length rows) → IsBinarySearchResult (λ row. nat_cmp row.far far) rows r → (IfOk r (IsPlace rows far)) × (IfErr r (IsGap rows far))
+  searched (Ok at) inside equal = (record { inside = inside; same = λ d. ranked _ far _ (sym (equal d)) }, tt)
+  searched (Err at) inside parted = (
+    tt,
+    record {
+      inside = inside;
+      smaller = λ j d lt. ranked _ far _ (sym ((parted comparisons_rise).0 j d (omega arith) lt));
+      greater = λ j d le lt. ranked _ far _ (sym ((parted comparisons_rise).1 j d le lt));
+    },
+  )

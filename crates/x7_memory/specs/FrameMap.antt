@@ -1,0 +1,30 @@
+-- Maps from frame addresses to frames, and one map over another (this project's choice).
+use Rattle.std.specs.Prelude.{◌≡◌, ℕ, List, Option, Some, None, ◌⊎◌, if◌then◌else◌, ◌==◌}
+
+-- the frame at an address, none where the map has no frame
+abbrev pub FrameMap : Type 0
+FrameMap = ℕ → Option (List ℕ)
+
+-- the first where there is one, else the second
+abbrev pub or_else : Option (List ℕ) → Option (List ℕ) → Option (List ℕ)
+or_else None below = below
+or_else (Some words) below = Some words
+
+-- p where p names the address, else m
+abbrev pub override : FrameMap → FrameMap → FrameMap
+override m p far = or_else (p far) (m far)
+
+-- no frame at all, and one frame alone
+abbrev pub nothing : FrameMap
+nothing far = None
+
+abbrev pub only : ℕ → List ℕ → FrameMap
+only at words far = if far == at then Some words else None
+
+-- no address has a frame in both
+abbrev pub AreDisjoint : FrameMap → FrameMap → Type 0
+AreDisjoint p q = (far : ℕ) → (p far ≡ None) ⊎ (q far ≡ None)
+
+-- the maps have the same frames
+abbrev pub AreSame : FrameMap → FrameMap → Type 0
+AreSame m n = (far : ℕ) → m far ≡ n far

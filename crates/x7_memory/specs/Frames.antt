@@ -1,0 +1,27 @@
+-- The frames of a memory: one for each address of its part, in number order.
+use Rattle.std.specs.Prelude.{◌≡◌, ℕ, List, ◌∷◌, length, replicate, All, Some, None, if◌then◌else◌, ◌==◌}
+use Rattle.x7_part.specs.Part.{PartData, frame_words}
+use Rattle.x7_part.specs.AddressOrder.{addresses, Rises}
+use Rattle.x7_memory.specs.FrameMap.{FrameMap}
+
+-- the first frame whose address is this one
+unfoldable pub frame_among : List ℕ → List (List ℕ) → FrameMap
+frame_among (a ∷ rest) (words ∷ frames) far = if far == a then Some words else frame_among rest frames far
+frame_among _ _ far = None
+
+-- the memory of a part as a map from its addresses to frames
+abbrev pub frame_at : PartData → List (List ℕ) → FrameMap
+frame_at part frames = frame_among (addresses part.rows) frames
+
+-- they are frames of this part, whose addresses rise
+pub record AreFramesOf (part : PartData) (frames : List (List ℕ)) : Type 0 where
+  pub order : Rises 0 (addresses part.rows)
+  pub count : length frames ≡ length (addresses part.rows)
+  pub width : All (λ words. length words ≡ frame_words part) frames
+
+-- all frames zero, as frames and as a map
+abbrev pub zero_frames : PartData → List (List ℕ)
+zero_frames part = replicate (length (addresses part.rows)) (replicate (frame_words part) 0)
+
+abbrev pub zeros : PartData → FrameMap
+zeros part = frame_at part (zero_frames part)

@@ -1,0 +1,4 @@
+pub mod FrameMap
+pub mod Frames
+pub mod Planned
+pub mod Places

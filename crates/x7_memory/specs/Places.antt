@@ -1,0 +1,14 @@
+-- Where an address stands among the rows of a plan, or would go.
+use Rattle.std.specs.Prelude.{◌≡◌, ℕ, ◌<◌, ◌≤◌, List, length, slice_index_or}
+use Rattle.x7_memory.specs.Planned.{PlanRow}
+
+-- the row at place i has the address
+pub record IsPlace (rows : List PlanRow) (far i : ℕ) : Type 0 where
+  pub inside : i < length rows
+  pub same : (d : PlanRow) → (slice_index_or rows i d).far ≡ far
+
+-- the address would go to place i: smaller ones before it, and greater ones from there on
+pub record IsGap (rows : List PlanRow) (far i : ℕ) : Type 0 where
+  pub inside : i ≤ length rows
+  pub smaller : (j : ℕ) (d : PlanRow) → j < i → (slice_index_or rows j d).far < far
+  pub greater : (j : ℕ) (d : PlanRow) → i ≤ j → j < length rows → far < (slice_index_or rows j d).far

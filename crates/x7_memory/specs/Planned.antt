@@ -1,0 +1,42 @@
+-- A plan: the frames that a user plans to write, in number order of their addresses.
+use Rattle.std.specs.Prelude.{◌≡◌, ℕ, ◌<◌, List, [], ◌∷◌, ◌++◌, length, map, slice_index_or, All, Some, None, if◌then◌else◌, ◌==◌}
+use Rattle.x7_part.specs.Part.{PartData}
+use Rattle.x7_memory.specs.FrameMap.{FrameMap, override}
+use Rattle.x7_memory.specs.Frames.{zeros}
+
+-- a frame and its address
+pub record PlanRow : Type 0 where
+  pub far : ℕ
+  pub words : List ℕ
+
+-- frames of one width
+pub record PlanData : Type 0 where
+  pub width : ℕ
+  pub rows : List PlanRow
+
+-- the addresses that the plan names
+abbrev pub planned_addresses : List PlanRow → List ℕ
+planned_addresses rows = map (λ row. row.far) rows
+
+-- the plan as a map
+unfoldable pub planned : List PlanRow → FrameMap
+planned [] far = None
+planned (row ∷ rows) far = if far == row.far then Some row.words else planned rows far
+
+-- the addresses rise, so none comes twice
+abbrev pub AreInOrder : List PlanRow → Type 0
+AreInOrder rows = (i j : ℕ) (d : PlanRow) → i < j → j < length rows → (slice_index_or rows i d).far < (slice_index_or rows j d).far
+
+-- a plan's rows stand in order and have its width
+pub record IsPlan (plan : PlanData) : Type 0 where
+  pub order : AreInOrder plan.rows
+  pub width : All (λ row. length row.words ≡ plan.width) plan.rows
+
+-- new is old with one row more
+abbrev pub HasMore : PlanData → PlanRow → PlanData → Type 0
+HasMore old row new =
+    (before : List PlanRow) × (after : List PlanRow) × (old.rows ≡ before ++ after) × (new.rows ≡ before ++ row ∷ after) × (new.width ≡ old.width)
+
+-- the memory that a full write of the plan leaves: zeros, overridden by the plan
+abbrev pub total : PartData → PlanData → FrameMap
+total part plan = override (zeros part) (planned plan.rows)

@@ -1,0 +1,36 @@
+//! Laws of maps, memories and plans, for the theorems above. The functions do nothing: their contracts are the laws.
+ghost use Rattle.std.specs.Prelude.{◌≡◌, ℕ, ◌<◌, ◌++◌, ◌==◌, ◌↔◌, if◌then◌else◌, List, length, replicate, slice_index_or, Contains, Some, None};
+ghost use Rattle.x7_part.specs.AddressOrder.{addresses};
+ghost use Rattle.x7_part.specs.Part.{PartData, frame_words};
+ghost use Rattle.x7_memory.specs.FrameMap.{FrameMap, override, nothing, only, AreDisjoint, AreSame};
+ghost use Rattle.x7_memory.specs.Frames.{frame_at, zeros, AreFramesOf};
+ghost use Rattle.x7_memory.specs.Planned.{PlanRow, PlanData, IsPlan, AreInOrder, planned, planned_addresses, total};
+
+/// One map over another: twice, in any order where no address is in both, and by one frame.
+pub fn override_laws()
+    ensures twice { (m p q : FrameMap) → AreSame (override (override m p) q) (override m (override p q)) }
+    ensures disjoint { (m p q : FrameMap) → AreDisjoint p q → AreSame (override (override m p) q) (override (override m q) p) }
+    ensures again { (m p : FrameMap) → AreSame (override (override m p) p) (override m p) }
+    ensures nothing { (m : FrameMap) → AreSame (override m nothing) m }
+    ensures same { (m n p q : FrameMap) → AreSame m n → AreSame p q → AreSame (override m p) (override n q) }
+    ensures one { (m n : FrameMap) (far : ℕ) (words : List ℕ) → ((a : ℕ) → n a ≡ (if a == far then Some words else m a)) → AreSame n (override m (only far words)) }
+{}
+
+/// A memory as a map: the part's addresses alone have frames, zeros are zeros, and equal maps are equal memories.
+pub fn memory_laws()
+    ensures outside { (part : PartData) (frames : List (List ℕ)) (far : ℕ) → (¬ Contains (addresses part.rows) far) → frame_at part frames far ≡ None }
+    ensures zeros { (part : PartData) (far : ℕ) → Contains (addresses part.rows) far → zeros part far ≡ Some (replicate (frame_words part) 0) }
+    ensures equal { (part : PartData) (m n : List (List ℕ)) → AreFramesOf part m → AreFramesOf part n → AreSame (frame_at part m) (frame_at part n) → m ≡ n }
+{}
+
+/// A plan as a map: its rows, the addresses that it names, its parts, and its total.
+pub fn plan_laws()
+    ensures rows { (plan : PlanData) (k : ℕ) (d : PlanRow) → IsPlan plan → k < length plan.rows → planned plan.rows (slice_index_or plan.rows k d).far ≡ Some (slice_index_or plan.rows k d).words }
+    ensures named { (rows : List PlanRow) (far : ℕ) → (planned rows far ≡ None) ↔ (¬ Contains (planned_addresses rows) far) }
+    ensures joined { (before after : List PlanRow) → AreSame (planned (before ++ after)) (override (planned after) (planned before)) }
+    ensures apart { (before after : List PlanRow) → AreInOrder (before ++ after) → AreDisjoint (planned before) (planned after) }
+    ensures total { (part : PartData) (plan : PlanData) → AreSame (total part plan) (override (zeros part) (planned plan.rows)) }
+    ensures unplanned { (part : PartData) (plan : PlanData) (far : ℕ) → (¬ Contains (planned_addresses plan.rows) far) → total part plan far ≡ zeros part far }
+    ensures planned { (part : PartData) (plan : PlanData) (far : ℕ) → Contains (planned_addresses plan.rows) far → total part plan far ≡ planned plan.rows far }
+    ensures whole { (part : PartData) (plan : PlanData) (frames : List (List ℕ)) → ((far : ℕ) → Contains (addresses part.rows) far → Contains (planned_addresses plan.rows) far) → AreSame (override (frame_at part frames) (planned plan.rows)) (total part plan) }
+{}

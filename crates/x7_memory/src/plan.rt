@@ -1,0 +1,123 @@
+//! The frames that a user plans to write.
+ghost use Rattle.std.specs.Prelude.{◌≡◌, ℕ, ◌<◌, ◌≤◌, ◌==◌, ◌↔◌, true, false, if◌then◌else◌, [], length, slice_index_or, Contains, Some, None, IfSome, IfNone, IfOk, IfErr, OnOk, OnErr};
+ghost use Rattle.std.specs.List.{insert};
+ghost use Rattle.x7_memory.specs.Planned.{PlanRow, PlanData, IsPlan, HasMore, planned, planned_addresses};
+ghost use Rattle.x7_memory.specs.Places.{IsPlace, IsGap};
+
+use std::alloc::{AllocError, Global};
+use std::marker::Model;
+use x7_words::NoMemory;
+
+/// A frame and its address.
+#[derive(Drop)]
+struct Row {
+    far: u32,
+    words: Vec<u32>,
+}
+
+impl Model for Row {
+    ghost Value = { PlanRow };
+
+    ghost view = { λ row. record { far = row.far; words = row.words.items } };
+}
+
+/// Frames of one width, in number order of their addresses.
+#[derive(Drop)]
+pub struct Plan {
+    alloc: Global,
+    /// The words of a frame.
+    width: u32,
+    rows: Vec<Row>,
+}
+
+impl Model for Plan {
+    ghost Value = { PlanData };
+
+    ghost view = { λ plan. record { width = plan.width; rows = plan.rows.items } };
+
+    ghost invariant = { λ plan. IsPlan record { width = plan.width; rows = plan.rows.items } };
+}
+
+impl Plan {
+    /// A plan of no frame, for frames of so many words.
+    pub fn new(alloc: Global, words: u32) -> Plan
+        ensures width { result.width ≡ words }
+        ensures empty { result.rows ≡ [] }
+    {
+        Plan {
+            alloc,
+            width: words,
+            rows: Vec::new(alloc),
+        }
+    }
+
+    /// Plans a frame. It is false, and changes nothing, where the address has one.
+    pub fn insert(&mut self, far: u32, words: &[u32]) -> Result<bool, NoMemory>
+        requires width { length words.now ≡ self.old.width }
+        ensures answer { IfOk result (λ added. (added ≡ false) ↔ Contains (planned_addresses self.old.rows) far) }
+        ensures added { IfOk result (λ added. added ≡ true → HasMore self.old record { far = far; words = words.now } self.new) }
+        ensures frames { IfOk result (λ added. added ≡ true → (a : ℕ) → planned self.new.rows a ≡ (if a == far then Some words.now else planned self.old.rows a)) }
+        ensures refused { IfOk result (λ added. added ≡ false → self.new ≡ self.old) }
+        ensures failed { OnErr result (self.new ≡ self.old) }
+        ensures width { self.new.width ≡ self.old.width }
+    {
+        match self.search(far) {
+            Ok(_) => Ok(false),
+            Err(place) => match self.insert_at(place, far, words) {
+                Ok(()) => Ok(true),
+                Err(_) => Err(NoMemory),
+            },
+        }
+    }
+
+    /// Where the address is, or where it would go.
+    fn search(&self, far: u32) -> Result<usize, usize>
+        ensures found { IfOk result (IsPlace self.now.rows far) }
+        ensures gap { IfErr result (IsGap self.now.rows far) }
+    {
+        self.rows.binary_search_by_key(&far, |row| row.far)
+    }
+
+    /// Adds a row where its address goes.
+    fn insert_at(&mut self, place: usize, far: u32, words: &[u32]) -> Result<(), AllocError>
+        requires gap { IsGap self.old.rows far place }
+        requires width { length words.now ≡ self.old.width }
+        ensures added { OnOk result (self.new.rows ≡ insert self.old.rows place record { far = far; words = words.now }) }
+        ensures width { self.new.width ≡ self.old.width }
+        ensures failed { OnErr result (self.new ≡ self.old) }
+    {
+        let words = Vec::from_slice(self.alloc, words)?;
+        Ok(self.rows.insert(place, Row { far, words })?)
+    }
+
+    /// The frame that is planned for an address.
+    pub fn get(&self, far: u32) -> Option<&[u32]>
+        ensures found { IfSome result (λ words. planned self.now.rows far ≡ Some words.now) }
+        ensures width { IfSome result (λ words. length words.now ≡ self.now.width) }
+        ensures none { IfNone result (¬ Contains (planned_addresses self.now.rows) far) }
+        ensures nothing { IfNone result (planned self.now.rows far ≡ None) }
+    {
+        match self.search(far) {
+            Ok(place) => Some(&self.rows[place].words),
+            Err(_) => None,
+        }
+    }
+
+    /// The number of planned frames.
+    pub fn len(&self) -> usize
+        ensures value { result ≡ length self.now.rows }
+        ensures plan { IsPlan self.now }
+    {
+        self.rows.len()
+    }
+
+    /// The i-th planned frame with its address, in number order from 0 on, none from `len()` on.
+    pub fn row(&self, i: usize) -> Option<(u32, &[u32])>
+        ensures found { IfSome result (λ row. (i < length self.now.rows) × ((d : PlanRow) → slice_index_or self.now.rows i d ≡ record { far = row.0; words = row.1.now })) }
+        ensures width { IfSome result (λ row. length row.1.now ≡ self.now.width) }
+        ensures none { IfNone result (length self.now.rows ≤ i) }
+    {
+        let row = self.rows.get(i)?;
+        Some((row.far, row.words.as_slice()))
+    }
+}
