@@ -1,0 +1,271 @@
+-- One call more at the end of a list of calls of a startup.
+use Rattle.std.proofs.Common.{◌≡◌, ℕ, zero, suc, ◌+◌, ◌/◌, ◌%◌, ◌<◌, ◌≤◌, min, Bool, true, false, List, [], ◌∷◌, ◌++◌, replicate, Option, Some, None, if◌then◌else◌, refl, sym, ap, ◌∙◌, arith}
+use Rattle.std.proofs.Math.Nat.{zero-add}
+use Rattle.x7_startup.specs.Arrivals.{wait_of, IsPhase}
+use Rattle.x7_startup.specs.Calls.{IsPhaseOf, Call, Arm, Desync, Byte, DropBack, Progress, NotBegun, Begun, has_taking, since_taking, count_bytes, is_armed, start_of, progress_of, Stored, StoresAt, StandsFor}
+use Rattle.x7_startup.specs.Runs.{Runs, first_some}
+use Rattle.x7_startup.proofs.PhaseLemmas.{phase_first, phase_rises, one_phase}
+
+has_taking_push : (calls t : List Call) → has_taking t ≡ false → has_taking (calls ++ t) ≡ has_taking calls
+has_taking_push [] t h = h
+has_taking_push (Arm ∷ calls) t h = has_taking_push calls t h
+has_taking_push (Desync c ∷ calls) t h = has_taking_push calls t h
+has_taking_push (Byte ∷ calls) t h = has_taking_push calls t h
+has_taking_push (DropBack ∷ calls) t h = refl
+
+has_taking_last : (calls : List Call) → has_taking (calls ++ DropBack ∷ []) ≡ true
+has_taking_last [] = refl
+has_taking_last (Arm ∷ calls) = has_taking_last calls
+has_taking_last (Desync c ∷ calls) = has_taking_last calls
+has_taking_last (Byte ∷ calls) = has_taking_last calls
+has_taking_last (DropBack ∷ calls) = refl
+
+since_none : (t : List Call) → has_taking t ≡ false → since_taking t ≡ t
+since_none [] h = refl
+since_none (c ∷ t) h = rw h refl
+
+choice : (b : Bool) (x y z : List Call) → (if b then x ++ z else y ++ z) ≡ (if b then x else y) ++ z
+choice true x y z = refl
+choice false x y z = refl
+
+pub since_push : (calls t : List Call) → has_taking t ≡ false → since_taking (calls ++ t) ≡ since_taking calls ++ t
+since_push [] t h = since_none t h
+since_push (c ∷ calls) t h =
+    rw (has_taking_push (c ∷ calls) t h, since_push calls t h)
+    (choice (has_taking (c ∷ calls)) (since_taking calls) (c ∷ calls) t)
+
+pub since_last : (calls : List Call) → since_taking (calls ++ DropBack ∷ []) ≡ []
+since_last [] = refl
+since_last (c ∷ calls) = rw (has_taking_last (c ∷ calls)) (since_last calls)
+
+pub armed_arm : (a : Bool) (calls : List Call) → is_armed a (calls ++ Arm ∷ []) ≡ true
+armed_arm a [] = refl
+armed_arm a (Arm ∷ calls) = armed_arm true calls
+armed_arm a (Desync c ∷ calls) = armed_arm false calls
+armed_arm a (Byte ∷ calls) = armed_arm a calls
+armed_arm a (DropBack ∷ calls) = armed_arm a calls
+
+pub armed_desync : (a : Bool) (calls : List Call) (d : ℕ) → is_armed a (calls ++ Desync d ∷ []) ≡ false
+armed_desync a [] d = refl
+armed_desync a (Arm ∷ calls) d = armed_desync true calls d
+armed_desync a (Desync c ∷ calls) d = armed_desync false calls d
+armed_desync a (Byte ∷ calls) d = armed_desync a calls d
+armed_desync a (DropBack ∷ calls) d = armed_desync a calls d
+
+armed_same : (a : Bool) (n : ℕ) → is_armed a (replicate n Byte) ≡ a
+armed_same a zero = refl
+armed_same a (suc n) = armed_same a n
+
+pub armed_bytes : (a : Bool) (calls : List Call) (n : ℕ) → is_armed a (calls ++ replicate n Byte) ≡ is_armed a calls
+armed_bytes a [] n = armed_same a n
+armed_bytes a (Arm ∷ calls) n = armed_bytes true calls n
+armed_bytes a (Desync c ∷ calls) n = armed_bytes false calls n
+armed_bytes a (Byte ∷ calls) n = armed_bytes a calls n
+armed_bytes a (DropBack ∷ calls) n = armed_bytes a calls n
+
+bytes_only : (n : ℕ) → count_bytes (replicate n Byte) ≡ n
+bytes_only zero = refl
+bytes_only (suc n) = let ih : count_bytes (replicate n Byte) ≡ n = bytes_only n in omega arith
+
+count_more : (calls : List Call) (n : ℕ) → count_bytes (calls ++ replicate n Byte) ≡ count_bytes calls + n
+count_more [] n = bytes_only n ∙ sym (zero-add n)
+count_more (Arm ∷ calls) n = count_more calls n
+count_more (Desync c ∷ calls) n = count_more calls n
+count_more (Byte ∷ calls) n = let ih : count_bytes (calls ++ replicate n Byte) ≡ count_bytes calls + n = count_more calls n in omega arith
+count_more (DropBack ∷ calls) n = count_more calls n
+
+count_arm : (calls : List Call) → count_bytes (calls ++ Arm ∷ []) ≡ count_bytes calls
+count_arm [] = refl
+count_arm (Arm ∷ calls) = count_arm calls
+count_arm (Desync c ∷ calls) = count_arm calls
+count_arm (Byte ∷ calls) = ap (λ x. x + 1) (count_arm calls)
+count_arm (DropBack ∷ calls) = count_arm calls
+
+count_desync : (calls : List Call) (d : ℕ) → count_bytes (calls ++ Desync d ∷ []) ≡ count_bytes calls
+count_desync [] d = refl
+count_desync (Arm ∷ calls) d = count_desync calls d
+count_desync (Desync c ∷ calls) d = count_desync calls d
+count_desync (Byte ∷ calls) d = ap (λ x. x + 1) (count_desync calls d)
+count_desync (DropBack ∷ calls) d = count_desync calls d
+
+-- the progress so many bytes later
+abbrev pub further : ℕ → Progress → Progress
+further n NotBegun = NotBegun
+further n (Begun cor0 bytes) = Begun cor0 (bytes + n)
+
+start_never : (a : Bool) (n : ℕ) → start_of a (replicate n Byte) ≡ NotBegun
+start_never a zero = refl
+start_never true (suc n) = start_never true n
+start_never false (suc n) = start_never false n
+
+pub start_bytes : (a : Bool) (calls : List Call) (n : ℕ) → start_of a (calls ++ replicate n Byte) ≡ further n (start_of a calls)
+start_bytes a [] n = start_never a n
+start_bytes true (Arm ∷ calls) n = start_bytes true calls n
+start_bytes false (Arm ∷ calls) n = start_bytes true calls n
+start_bytes true (Desync c ∷ calls) n = ap (Begun c) (count_more calls n)
+start_bytes false (Desync c ∷ calls) n = start_bytes false calls n
+start_bytes true (Byte ∷ calls) n = start_bytes true calls n
+start_bytes false (Byte ∷ calls) n = start_bytes false calls n
+start_bytes true (DropBack ∷ calls) n = start_bytes true calls n
+start_bytes false (DropBack ∷ calls) n = start_bytes false calls n
+
+pub start_arm : (a : Bool) (calls : List Call) → start_of a (calls ++ Arm ∷ []) ≡ start_of a calls
+start_arm true [] = refl
+start_arm false [] = refl
+start_arm true (Arm ∷ calls) = start_arm true calls
+start_arm false (Arm ∷ calls) = start_arm true calls
+start_arm true (Desync c ∷ calls) = ap (Begun c) (count_arm calls)
+start_arm false (Desync c ∷ calls) = start_arm false calls
+start_arm true (Byte ∷ calls) = start_arm true calls
+start_arm false (Byte ∷ calls) = start_arm false calls
+start_arm true (DropBack ∷ calls) = start_arm true calls
+start_arm false (DropBack ∷ calls) = start_arm false calls
+
+-- the progress after a DESYNC
+abbrev pub first_place : Progress → Bool → ℕ → Progress
+first_place (Begun cor0 bytes) armed d = Begun cor0 bytes
+first_place NotBegun true d = Begun d 0
+first_place NotBegun false d = NotBegun
+
+pub start_desync : (a : Bool) (calls : List Call) (d : ℕ) → start_of a (calls ++ Desync d ∷ []) ≡ first_place (start_of a calls) (is_armed a calls) d
+start_desync true [] d = refl
+start_desync false [] d = refl
+start_desync true (Arm ∷ calls) d = start_desync true calls d
+start_desync false (Arm ∷ calls) d = start_desync true calls d
+start_desync true (Desync c ∷ calls) d = ap (Begun c) (count_desync calls d)
+start_desync false (Desync c ∷ calls) d = start_desync false calls d
+start_desync true (Byte ∷ calls) d = start_desync true calls d
+start_desync false (Byte ∷ calls) d = start_desync false calls d
+start_desync true (DropBack ∷ calls) d = start_desync true calls d
+start_desync false (DropBack ∷ calls) d = start_desync false calls d
+
+-- ---- what a call leaves
+
+pub new_stands : (lock matched : ℕ) → StandsFor lock matched (record { armed = false; begun = None; tick_bytes = 0; ticks = 0; phase = 0 }) []
+new_stands lock matched = record { armed_is = refl; stores = record { begun_is = refl; tick_bytes_are = refl; ticks_are = refl; phase_is = refl } }
+
+pub arm_stands : (lock matched : ℕ) (s : Stored) (calls : List Call) → StandsFor lock matched s calls →
+    StandsFor lock matched (record s { armed = true }) (calls ++ Arm ∷ [])
+arm_stands lock matched s calls h =
+    let e = since_push calls (Arm ∷ []) refl in
+    record {
+      armed_is = sym (ap (is_armed false) e ∙ armed_arm false (since_taking calls));
+      stores = rw (e, start_arm false (since_taking calls)) h.stores;
+    }
+
+pub drop_stands : (lock matched : ℕ) (calls : List Call) →
+    StandsFor lock matched (record { armed = false; begun = None; tick_bytes = 0; ticks = 0; phase = 0 }) (calls ++ DropBack ∷ [])
+drop_stands lock matched calls =
+    let e = since_last calls in
+    record {
+      armed_is = sym (ap (is_armed false) e);
+      stores = rw e record { begun_is = refl; tick_bytes_are = refl; ticks_are = refl; phase_is = refl };
+    }
+
+desync_stores : (lock matched : ℕ) (begun : Option ℕ) (tick_bytes ticks phase : ℕ) (progress : Progress) (armed : Bool) (d : ℕ) →
+    StoresAt lock matched begun tick_bytes ticks phase progress →
+    StoresAt lock matched (first_some begun (if armed then Some d else None)) tick_bytes ticks phase (first_place progress armed d)
+desync_stores lock matched begun tick_bytes ticks phase NotBegun true d h =
+    let none : begun ≡ None = h.begun_is in
+    let first : phase ≡ 0 = h.phase_is in
+    record {
+      begun_is = rw none refl;
+      tick_bytes_are = h.tick_bytes_are;
+      ticks_are = h.ticks_are;
+      phase_is = rw first (phase_first (wait_of lock matched d));
+    }
+desync_stores lock matched begun tick_bytes ticks phase NotBegun false d h =
+    let none : begun ≡ None = h.begun_is in
+    record { begun_is = rw none refl; tick_bytes_are = h.tick_bytes_are; ticks_are = h.ticks_are; phase_is = h.phase_is }
+desync_stores lock matched begun tick_bytes ticks phase (Begun cor0 bytes) armed d h =
+    let some : begun ≡ Some cor0 = h.begun_is in
+    record { begun_is = rw some refl; tick_bytes_are = h.tick_bytes_are; ticks_are = h.ticks_are; phase_is = h.phase_is }
+
+pub desync_stands : (lock matched : ℕ) (s : Stored) (calls : List Call) (d : ℕ) → StandsFor lock matched s calls →
+    StandsFor lock matched (record s { armed = false; begun = first_some s.begun (if s.armed then Some d else None) }) (calls ++ Desync d ∷ [])
+desync_stands lock matched s calls d h =
+    let e = since_push calls (Desync d ∷ []) refl in
+    record {
+      armed_is = sym (ap (is_armed false) e ∙ armed_desync false (since_taking calls) d);
+      stores = rw (e, start_desync false (since_taking calls) d, ← h.armed_is)
+          (desync_stores lock matched s.begun s.tick_bytes s.ticks s.phase (progress_of calls) s.armed d h.stores);
+    }
+
+no_taking : (n : ℕ) → has_taking (replicate n Byte) ≡ false
+no_taking zero = refl
+no_taking (suc n) = no_taking n
+
+idle : (lock matched : ℕ) (begun : Option ℕ) (tick_bytes ticks phase : ℕ) (progress : Progress) (n : ℕ) → begun ≡ None →
+    StoresAt lock matched begun tick_bytes ticks phase progress → StoresAt lock matched begun tick_bytes ticks phase (further n progress)
+idle lock matched begun tick_bytes ticks phase NotBegun n none h = h
+idle lock matched begun tick_bytes ticks phase (Begun cor0 bytes) n none h =
+    let some : begun ≡ Some cor0 = h.begun_is in absurd (cc (none, some))
+
+-- bytes at a startup that hasn't begun
+pub idle_stands : (lock matched : ℕ) (s : Stored) (calls : List Call) (n : ℕ) → s.begun ≡ None → StandsFor lock matched s calls →
+    StandsFor lock matched s (calls ++ replicate n Byte)
+idle_stands lock matched s calls n none h =
+    let e = since_push calls (replicate n Byte) (no_taking n) in
+    record {
+      armed_is = h.armed_is ∙ sym (ap (is_armed false) e ∙ armed_bytes false (since_taking calls) n);
+      stores = rw (e, start_bytes false (since_taking calls) n)
+          (idle lock matched s.begun s.tick_bytes s.ticks s.phase (progress_of calls) n none h.stores);
+    }
+
+goes_on : (lock matched : ℕ) (begun : Option ℕ) (tick_bytes ticks phase : ℕ) (progress : Progress) (n cor0 more tick_bytes' ticks' phase' : ℕ) →
+    begun ≡ Some cor0 → more ≡ (tick_bytes + n) / 4 → tick_bytes' ≡ (tick_bytes + n) % 4 →
+    Runs (wait_of lock matched cor0) ticks phase more ticks' phase' →
+    StoresAt lock matched begun tick_bytes ticks phase progress →
+    StoresAt lock matched begun tick_bytes' ticks' phase' (further n progress)
+goes_on lock matched begun tick_bytes ticks phase NotBegun n cor0 more tick_bytes' ticks' phase' some m q runs h =
+    let none : begun ≡ None = h.begun_is in absurd (cc (some, none))
+goes_on lock matched begun tick_bytes ticks phase (Begun c b) n cor0 more tick_bytes' ticks' phase' some m q runs h =
+    let was : begun ≡ Some c = h.begun_is in
+    let same : c ≡ cor0 = cc (some, was) in
+    let before : tick_bytes ≡ b % 4 = h.tick_bytes_are in
+    let all : b / 4 + more ≡ (b + n) / 4 = omega arith in
+    let p : IsPhase (wait_of lock matched c) (b / 4) phase = h.phase_is in
+    let r = runs (b / 4) h.ticks_are (rw same at p) in
+    let t : ticks' ≡ min ((b + n) / 4) 65535 = rw (← all) r.0 in
+    let f : IsPhase (wait_of lock matched cor0) ((b + n) / 4) phase' = rw all at r.1 in
+    record { begun_is = was; tick_bytes_are = omega arith; ticks_are = t; phase_is = rw same f }
+
+-- bytes at a startup that has begun
+pub running_stands : (lock matched : ℕ) (s : Stored) (calls : List Call) (n cor0 more tick_bytes ticks phase : ℕ) → s.begun ≡ Some cor0 →
+    more ≡ (s.tick_bytes + n) / 4 → tick_bytes ≡ (s.tick_bytes + n) % 4 →
+    Runs (wait_of lock matched cor0) s.ticks s.phase more ticks phase → StandsFor lock matched s calls →
+    StandsFor lock matched (record s { tick_bytes = tick_bytes; ticks = ticks; phase = phase }) (calls ++ replicate n Byte)
+running_stands lock matched s calls n cor0 more tick_bytes ticks phase begun m q runs h =
+    let e = since_push calls (replicate n Byte) (no_taking n) in
+    record {
+      armed_is = h.armed_is ∙ sym (ap (is_armed false) e ∙ armed_bytes false (since_taking calls) n);
+      stores = rw (e, start_bytes false (since_taking calls) n)
+          (goes_on lock matched s.begun s.tick_bytes s.ticks s.phase (progress_of calls) n cor0 more tick_bytes ticks phase begun m q runs h.stores);
+    }
+
+-- a byte that ends no tick
+pub within_tick : (lock matched : ℕ) (s : Stored) (calls : List Call) (cor0 : ℕ) → s.begun ≡ Some cor0 → s.tick_bytes < 3 →
+    StandsFor lock matched s calls → StandsFor lock matched (record s { tick_bytes = s.tick_bytes + 1 }) (calls ++ Byte ∷ [])
+within_tick lock matched s calls cor0 begun small h =
+    running_stands lock matched s calls 1 cor0 0 (s.tick_bytes + 1) s.ticks s.phase begun (omega arith) (omega arith)
+    (λ t e p. let z : t + 0 ≡ t = omega arith in rw z (e, p)) h
+
+progress_bytes : (calls : List Call) (n : ℕ) → progress_of (calls ++ replicate n Byte) ≡ further n (progress_of calls)
+progress_bytes calls n = ap (start_of false) (since_push calls (replicate n Byte) (no_taking n)) ∙ start_bytes false (since_taking calls) n
+
+never_falls : (lock matched : ℕ) (progress : Progress) (n p q : ℕ) → IsPhaseOf lock matched progress p → IsPhaseOf lock matched (further n progress) q → p ≤ q
+never_falls lock matched NotBegun n p q h k = let first : p ≡ 0 = h in omega arith
+never_falls lock matched (Begun cor0 bytes) n p q h k = phase_rises (wait_of lock matched cor0) (bytes / 4) ((bytes + n) / 4) p q (omega arith) h k
+
+-- by bytes alone the phase never falls, so phase 7 lasts
+pub phase_never_falls : (lock matched : ℕ) (calls : List Call) (n p q : ℕ) → IsPhaseOf lock matched (progress_of calls) p →
+    IsPhaseOf lock matched (progress_of (calls ++ replicate n Byte)) q → p ≤ q
+phase_never_falls lock matched calls n p q h k = never_falls lock matched (progress_of calls) n p q h (rw (progress_bytes calls n) at k)
+
+one_phase_of : (lock matched : ℕ) (progress : Progress) (p q : ℕ) → IsPhaseOf lock matched progress p → IsPhaseOf lock matched progress q → p ≡ q
+one_phase_of lock matched NotBegun p q h k = let first : p ≡ 0 = h in let second : q ≡ 0 = k in omega arith
+one_phase_of lock matched (Begun cor0 bytes) p q h k = one_phase (wait_of lock matched cor0) (bytes / 4) p q h k
+
+-- a list of calls has one phase
+pub one_phase_after : (lock matched : ℕ) (calls : List Call) (p q : ℕ) → IsPhaseOf lock matched (progress_of calls) p → IsPhaseOf lock matched (progress_of calls) q → p ≡ q
+one_phase_after lock matched calls p q h k = one_phase_of lock matched (progress_of calls) p q h k

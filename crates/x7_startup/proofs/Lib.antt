@@ -1,0 +1,4 @@
+pub mod CallLemmas
+pub mod CountLemmas
+pub mod PhaseLemmas
+pub mod RunLemmas

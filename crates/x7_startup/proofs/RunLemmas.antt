@@ -1,0 +1,69 @@
+use Rattle.std.proofs.Common.{◌≡◌, ℕ, ◌+◌, ◌-◌, ◌<◌, ◌≤◌, min, arith, ◌^◌, ◌⊎◌, inl, inr}
+use Rattle.x7_startup.specs.Arrivals.{IsPhase}
+use Rattle.x7_startup.specs.Runs.{Runs}
+use Rattle.x7_startup.proofs.PhaseLemmas.{phase_stays, phase_moves, phase_ended}
+
+-- a run of `count` ticks of which `left` are left
+pub record Ran (w : ℕ → ℕ) (ticks₀ phase₀ count ticks phase left : ℕ) : Type 0 where
+  pub within : left ≤ count
+  pub last : phase ≤ 7
+  pub runs : Runs w ticks₀ phase₀ (count - left) ticks phase
+
+pub ran_none : (w : ℕ → ℕ) (ticks phase count : ℕ) → phase ≤ 7 → Ran w ticks phase count ticks phase count
+ran_none w ticks phase count h = record {
+  within = omega arith;
+  last = h;
+  runs = λ t e s. let z : t + (count - count) ≡ t = omega arith in rw z (e, s);
+}
+
+pub ran_stays : (w : ℕ → ℕ) (ticks₀ phase₀ count ticks phase left step wait : ℕ) → wait ≡ w phase → wait < 2 ^ 16 → step ≤ left → ticks < wait → ticks + step ≤ wait →
+    Ran w ticks₀ phase₀ count ticks phase left → Ran w ticks₀ phase₀ count (ticks + step) phase (left - step)
+ran_stays w ticks₀ phase₀ count ticks phase left step wait e small le early below h = record {
+  within = let k : left ≤ count = h.within in omega arith;
+  last = h.last;
+  runs = λ t first s.
+      let k : left ≤ count = h.within in
+      let r = h.runs t first s in
+      let now : ticks ≡ min (t + (count - left)) 65535 = r.0 in
+      let z : t + (count - (left - step)) ≡ t + (count - left) + step = omega arith in
+      let p : IsPhase w (t + (count - left) + step) phase = phase_stays w (t + (count - left)) step phase r.1 (omega arith) in
+      rw z (omega arith, p);
+}
+
+pub ran_moves : (w : ℕ → ℕ) (ticks₀ phase₀ count ticks phase left wait : ℕ) → wait ≡ w phase → wait < 2 ^ 16 → 0 < left → phase < 7 → wait ≤ ticks →
+    Ran w ticks₀ phase₀ count ticks phase left → Ran w ticks₀ phase₀ count (min (ticks + 1) 65535) (phase + 1) (left - 1)
+ran_moves w ticks₀ phase₀ count ticks phase left wait e small some early waited h = record {
+  within = let k : left ≤ count = h.within in omega arith;
+  last = omega arith;
+  runs = λ t first s.
+      let k : left ≤ count = h.within in
+      let r = h.runs t first s in
+      let now : ticks ≡ min (t + (count - left)) 65535 = r.0 in
+      let z : t + (count - (left - 1)) ≡ t + (count - left) + 1 = omega arith in
+      let p : IsPhase w (t + (count - left) + 1) (phase + 1) = phase_moves w (t + (count - left)) phase r.1 early (omega arith) in
+      rw z (omega arith, p);
+}
+
+pub ran_all : (w : ℕ → ℕ) (ticks₀ phase₀ count ticks phase left : ℕ) → (left ≡ 0) ⊎ (7 ≤ phase) →
+    Ran w ticks₀ phase₀ count ticks phase left → Runs w ticks₀ phase₀ count (min (ticks + left) 65535) phase
+ran_all w ticks₀ phase₀ count ticks phase left end h t first s =
+    let k : left ≤ count = h.within in
+    let r = h.runs t first s in
+    let now : ticks ≡ min (t + (count - left)) 65535 = r.0 in
+    let z : t + count ≡ t + (count - left) + left = omega arith in
+    let p : IsPhase w (t + (count - left) + left) phase =
+    elim end [
+      | inl none ↦ let y : t + (count - left) + left ≡ t + (count - left) = omega arith in rw y r.1
+      | inr late ↦ phase_ended w (t + (count - left)) left phase r.1 late
+    ] in
+    rw z (omega arith, p)
+
+-- one tick in the last phase, in a phase that waits, and in one that doesn't
+pub tick_ends : (w : ℕ → ℕ) (ticks phase : ℕ) → 7 ≤ phase → Runs w ticks phase 1 (min (ticks + 1) 65535) phase
+tick_ends w ticks phase late t e s = (omega arith, phase_ended w t 1 phase s late)
+
+pub tick_stays : (w : ℕ → ℕ) (ticks phase wait : ℕ) → wait ≡ w phase → wait < 2 ^ 16 → ticks < wait → Runs w ticks phase 1 (min (ticks + 1) 65535) phase
+tick_stays w ticks phase wait is small below t e s = (omega arith, phase_stays w t 1 phase s (omega arith))
+
+pub tick_moves : (w : ℕ → ℕ) (ticks phase wait : ℕ) → wait ≡ w phase → wait < 2 ^ 16 → phase < 7 → wait ≤ ticks → Runs w ticks phase 1 (min (ticks + 1) 65535) (phase + 1)
+tick_moves w ticks phase wait is small early waited t e s = (omega arith, phase_moves w t phase s early (omega arith))

@@ -1,0 +1,9 @@
+use Rattle.x7_startup.specs.Arrivals.{wait_of}
+use Rattle.x7_startup.proofs.RunLemmas.{Ran}
+use Rattle.x7_startup.proofs.phases.run.Given as goal
+
+abbrev pub invariant-loop-left : goal.invariant-loop-left
+invariant-loop-left l = Ran (wait_of l.lock l.matched l.cor0) l.fn.start.ticks l.fn.start.phase l.fn.count l.ticks l.phase l.left
+
+abbrev pub decreases-loop-left : goal.decreases-loop-left
+decreases-loop-left l = l.left

@@ -1,0 +1,16 @@
+use Rattle.std.proofs.Common.{sym, ap, ◌∙◌, arith}
+use Rattle.x7_startup.specs.Calls.{Stored}
+use Rattle.x7_startup.proofs.CallLemmas.{idle_stands, running_stands}
+use Rattle.x7_startup.proofs.startup.Startup.bytes.Goals as goal
+
+pub returns-in_default : goal.returns-in_default
+returns-in_default c = record {
+  stands = λ calls h. idle_stands _ _ _ calls c.args.count (ap (λ (v : Stored). v.begun) (sym c.self.view_is) ∙ c.in_default.is) h;
+}
+
+pub returns : goal.returns
+returns c = record {
+  stands = λ calls h.
+      running_stands _ _ _ calls c.args.count c.in-Some.cor0 _ _ c.run-next.result.ticks c.run-next.result.phase
+      c.in-Some.is (omega arith) (omega arith) c.run-next.ensures.runs (rw (← c.self.view_is) at h);
+}

@@ -1,0 +1,90 @@
+-- What a list of calls of a `Startup` means: where startup begins (UG470, startup; arming is this project's choice).
+use Rattle.std.specs.Prelude.{◌≡◌, ℕ, ◌+◌, ◌/◌, ◌%◌, min, Bool, true, false, List, [], ◌∷◌, Option, Some, None, if◌then◌else◌}
+use Rattle.x7_startup.specs.Arrivals.{wait_of, IsPhase}
+
+-- a call: START, DESYNC with COR0 as it stands there, a byte taken, a shutdown taken
+pub data Call : Type 0 where
+  Arm : Call
+  Desync : (cor0 : ℕ) → Call
+  Byte : Call
+  DropBack : Call
+
+-- whether a shutdown is taken among the calls
+abbrev pub has_taking : List Call → Bool
+has_taking [] = false
+has_taking (DropBack ∷ calls) = true
+has_taking (_ ∷ calls) = has_taking calls
+
+-- the calls after the last shutdown taken, or all
+abbrev pub since_taking : List Call → List Call
+since_taking [] = []
+since_taking (call ∷ calls) = if has_taking (call ∷ calls) then since_taking calls else call ∷ calls
+
+-- the bytes taken among the calls
+abbrev pub count_bytes : List Call → ℕ
+count_bytes [] = 0
+count_bytes (Byte ∷ calls) = count_bytes calls + 1
+count_bytes (_ ∷ calls) = count_bytes calls
+
+-- whether START came since the last DESYNC; at first as given
+abbrev pub is_armed : Bool → List Call → Bool
+is_armed armed [] = armed
+is_armed armed (Arm ∷ calls) = is_armed true calls
+is_armed armed (Desync _ ∷ calls) = is_armed false calls
+is_armed armed (_ ∷ calls) = is_armed armed calls
+
+-- how far startup is: not begun, or begun with a COR0 and so many bytes ago
+pub data Progress : Type 0 where
+  NotBegun : Progress
+  Begun : (cor0 bytes : ℕ) → Progress
+
+-- the first armed DESYNC begins startup; the bytes after it count
+abbrev pub start_of : Bool → List Call → Progress
+start_of armed [] = NotBegun
+start_of armed (Arm ∷ calls) = start_of true calls
+start_of true (Desync cor0 ∷ calls) = Begun cor0 (count_bytes calls)
+start_of false (Desync cor0 ∷ calls) = start_of false calls
+start_of armed (_ ∷ calls) = start_of armed calls
+
+-- how far startup is after the calls
+abbrev pub progress_of : List Call → Progress
+progress_of calls = start_of false (since_taking calls)
+
+-- the COR0 that startup began with
+abbrev pub cor0_of : Progress → Option ℕ
+cor0_of NotBegun = None
+cor0_of (Begun cor0 bytes) = Some cor0
+
+-- the bytes taken since startup began
+abbrev pub bytes_of : Progress → ℕ
+bytes_of NotBegun = 0
+bytes_of (Begun cor0 bytes) = bytes
+
+-- each fourth byte is a tick
+abbrev pub ticks_of : Progress → ℕ
+ticks_of progress = bytes_of progress / 4
+
+-- the phase, by the part's lock number and match number
+abbrev pub IsPhaseOf : ℕ → ℕ → Progress → ℕ → Type 0
+IsPhaseOf lock matched NotBegun phase = phase ≡ 0
+IsPhaseOf lock matched (Begun cor0 bytes) phase = IsPhase (wait_of lock matched cor0) (bytes / 4) phase
+
+-- what a startup keeps: the bytes past the last tick, and the ticks up to 65,535
+pub record Stored : Type 0 where
+  pub armed : Bool
+  pub begun : Option ℕ
+  pub tick_bytes : ℕ
+  pub ticks : ℕ
+  pub phase : ℕ
+
+-- what is kept is that of a progress
+pub record StoresAt (lock matched : ℕ) (begun : Option ℕ) (tick_bytes ticks phase : ℕ) (progress : Progress) : Type 0 where
+  pub begun_is : begun ≡ cor0_of progress
+  pub tick_bytes_are : tick_bytes ≡ bytes_of progress % 4
+  pub ticks_are : ticks ≡ min (ticks_of progress) 65535
+  pub phase_is : IsPhaseOf lock matched progress phase
+
+-- what is kept is that of the calls, each byte of which was taken with these lock and match numbers
+pub record StandsFor (lock matched : ℕ) (s : Stored) (calls : List Call) : Type 0 where
+  pub armed_is : s.armed ≡ is_armed false (since_taking calls)
+  pub stores : StoresAt lock matched s.begun s.tick_bytes s.ticks s.phase (progress_of calls)

@@ -1,0 +1,6 @@
+pub mod Options
+pub mod Arrivals
+pub mod Lines
+pub mod Calls
+pub mod Runs
+pub mod Count

@@ -1,0 +1,39 @@
+-- The phases in which the lines DONE, GTS and GWE rise (UG470, startup; codes 6 and 7 are this project's choice).
+--
+--     code       0  1  2  3  4  5  6             7
+--     DONE       1  2  3  4  5  6  6             6
+--     GTS, GWE   1  2  3  4  5  6  DONE's phase  never
+use Rattle.std.specs.Prelude.{◌≡◌, ◌==◌, ℕ, ◌+◌, Bool, false, not, nat_lt, Option, Some, None, if◌then◌else◌}
+use Rattle.x7_startup.specs.Options.{done_cycle_of, gts_cycle_of, gwe_cycle_of}
+
+-- DONE's phase by its code
+abbrev pub done_rise : ℕ → ℕ
+done_rise code = if nat_lt code 6 then code + 1 else 6
+
+-- the phase of GTS or GWE by its code, where DONE's is given
+abbrev pub line_rise : ℕ → ℕ → Option ℕ
+line_rise done code = if nat_lt code 6 then Some (code + 1) else if code == 6 then Some done else None
+
+-- whether a line is 1 in a phase: from its own phase on
+abbrev pub has_risen : Option ℕ → ℕ → Bool
+has_risen None phase = false
+has_risen (Some rise) phase = not (nat_lt phase rise)
+
+-- each line by the COR0 that startup began with, if it has begun, and the phase
+abbrev pub done_line : Option ℕ → ℕ → Bool
+done_line None phase = false
+done_line (Some cor0) phase = has_risen (Some (done_rise (done_cycle_of cor0))) phase
+
+abbrev pub gts_line : Option ℕ → ℕ → Bool
+gts_line None phase = false
+gts_line (Some cor0) phase = has_risen (line_rise (done_rise (done_cycle_of cor0)) (gts_cycle_of cor0)) phase
+
+abbrev pub gwe_line : Option ℕ → ℕ → Bool
+gwe_line None phase = false
+gwe_line (Some cor0) phase = has_risen (line_rise (done_rise (done_cycle_of cor0)) (gwe_cycle_of cor0)) phase
+
+-- the three lines at once
+pub record AreLines (begun : Option ℕ) (phase : ℕ) (done gts gwe : Bool) : Type 0 where
+  pub done_is : done ≡ done_line begun phase
+  pub gts_is : gts ≡ gts_line begun phase
+  pub gwe_is : gwe ≡ gwe_line begun phase

@@ -1,0 +1,13 @@
+//! The startup sequence, its three lines and its ticks, and the configuration watchdog, byte by byte.
+#![tactic(auto)]
+
+mod lines;
+mod phases;
+mod startup;
+#[cfg(test)]
+mod tests;
+mod watchdog;
+
+pub use lines::Lines;
+pub use startup::Startup;
+pub use watchdog::Watchdog;

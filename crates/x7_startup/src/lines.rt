@@ -1,0 +1,59 @@
+//! The lines DONE, GTS and GWE (UG470, startup).
+ghost use Rattle.std.specs.Prelude.{◌≡◌, ◌<◌, Some};
+ghost use Rattle.x7_startup.specs.Lines.{done_rise, line_rise, has_risen, done_line, gts_line, gwe_line};
+
+/// The three lines that startup releases.
+#[derive(Clone, Copy, Debug, PartialEq, Eq, Hash)]
+pub struct Lines {
+    /// DONE.
+    pub done: bool,
+    /// GTS: 1 where the outputs are on.
+    pub gts: bool,
+    /// GWE: 1 where flip-flops and memories can be written.
+    pub gwe: bool,
+}
+
+/// The phases in which DONE, and GTS or GWE, rise by their codes (codes 6 and 7 are this project's choice).
+/// `done` is DONE's own phase; a line without a phase never rises.
+#[rattlefmt::skip]
+fn rises_of(code: u32, done: u8) -> (u8, Option<u8>)
+    requires code { code < 8 }
+    ensures done { result.0 ≡ done_rise code }
+    ensures line { result.1 ≡ line_rise done code }
+{
+    match code {
+        0 => (1, Some(1)),
+        1 => (2, Some(2)),
+        2 => (3, Some(3)),
+        3 => (4, Some(4)),
+        4 => (5, Some(5)),
+        5 => (6, Some(6)),
+        6 => (6, Some(done)),
+        _ => (6, None),
+    }
+}
+
+fn is_up(rise: Option<u8>, phase: u8) -> bool
+    ensures { result ≡ has_risen rise phase }
+{
+    match rise {
+        Some(rise) => phase >= rise,
+        None => false,
+    }
+}
+
+/// The lines in a phase of a startup that began with this COR0.
+pub fn lines_in(cor0: u32, phase: u8) -> Lines
+    ensures done { result.done ≡ done_line (Some cor0) phase }
+    ensures gts { result.gts ≡ gts_line (Some cor0) phase }
+    ensures gwe { result.gwe ≡ gwe_line (Some cor0) phase }
+{
+    let (done, _) = rises_of(cor0 >> 12 & 7, 6);
+    let (_, gts) = rises_of(cor0 >> 3 & 7, done);
+    let (_, gwe) = rises_of(cor0 & 7, done);
+    Lines {
+        done: is_up(Some(done), phase),
+        gts: is_up(gts, phase),
+        gwe: is_up(gwe, phase),
+    }
+}

@@ -1,0 +1,74 @@
+//! Phases by ticks (UG470, startup).
+ghost use Rattle.std.specs.Prelude.{◌≡◌, ◌≤◌, ◌||◌, nat_lt, nat_le};
+ghost use Rattle.x7_startup.specs.Arrivals.{wait_of};
+ghost use Rattle.x7_startup.specs.Runs.{Runs};
+
+/// A phase of at most 7, and the ticks since startup began, at most 65,535.
+#[derive(Clone, Copy, Debug, PartialEq, Eq)]
+pub struct Place {
+    pub ticks: u16,
+    pub phase: u8,
+}
+
+/// The ticks that must have passed before the phase is left.
+fn wait_in(cor0: u32, phase: u8, lock: u16, matched: u16) -> u16
+    ensures { result ≡ wait_of lock matched cor0 phase }
+{
+    let for_lock = if cor0 >> 6 & 7 == u32::from(phase) {
+        lock
+    } else {
+        0
+    };
+    let for_match = if cor0 >> 9 & 7 == u32::from(phase) {
+        matched
+    } else {
+        0
+    };
+    for_lock.max(for_match)
+}
+
+/// The place one tick later.
+pub fn tick(cor0: u32, start: Place, lock: u16, matched: u16) -> Place
+    requires phase { start.phase ≤ 7 }
+    ensures last { result.phase ≤ 7 }
+    ensures runs { Runs (wait_of lock matched cor0) start.ticks start.phase 1 result.ticks result.phase }
+{
+    let ticks = start.ticks.saturating_add(1);
+    let phase = start.phase;
+    if phase == 7 {
+        return Place { ticks, phase };
+    }
+    if start.ticks < wait_in(cor0, phase, lock, matched) {
+        return Place { ticks, phase };
+    }
+    Place {
+        ticks,
+        phase: phase + 1,
+    }
+}
+
+/// The place after so many ticks, in at most fifteen turns.
+#[tactic(auto, using(crate::proofs::RunLemmas::ran_none, crate::proofs::RunLemmas::ran_stays, crate::proofs::RunLemmas::ran_moves, crate::proofs::RunLemmas::ran_all))]
+pub fn run(cor0: u32, start: Place, count: u64, lock: u16, matched: u16) -> Place
+    requires phase { start.phase ≤ 7 }
+    ensures last { result.phase ≤ 7 }
+    ensures runs { Runs (wait_of lock matched cor0) start.ticks start.phase count result.ticks result.phase }
+{
+    let mut ticks = start.ticks;
+    let mut phase = start.phase;
+    let mut left = count;
+    while left > 0 && phase < 7 {
+        let wait = wait_in(cor0, phase, lock, matched);
+        if ticks < wait {
+            let step = left.min(u64::from(wait - ticks));
+            ticks += step as u16;
+            left -= step;
+        } else {
+            phase += 1;
+            ticks = ticks.saturating_add(1);
+            left -= 1;
+        }
+    }
+    let all = u64::from(ticks).saturating_add(left).min(65535) as u16;
+    Place { ticks: all, phase }
+}

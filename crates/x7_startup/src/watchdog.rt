@@ -1,0 +1,122 @@
+//! The configuration watchdog (UG470, watchdog): it counts the bytes that have it on.
+ghost use Rattle.std.specs.Prelude.{◌≡◌, ◌<◌, ◌≤◌, ◌^◌, ◌+◌, ◌-◌, ◌*◌, ◌==◌, ◌&&◌, ◌↔◌, ◌∷◌, ◌++◌, not, min, ℕ, Bool, IsTrue, List, [], IfSome, IfNone, if◌then◌else◌};
+ghost use Rattle.x7_startup.specs.Count.{WatchCall, Load, Reload, Watched, Watch, WatchesFor, Fires, bytes_alike, full_count};
+
+use std::marker::Model;
+
+/// The watchdog of one attempt, as the calls so far have left it.
+#[derive(Clone, Copy, Debug, PartialEq, Eq)]
+pub struct Watchdog {
+    off: bool,
+    // the count at which it fires: four times TIMER's value, or 0 where TIMER or the attempt has it off
+    limit: u32,
+    // at most 2^32 - 1, which is above each limit
+    count: u32,
+}
+
+impl Model for Watchdog {
+    ghost Value = { Watch };
+
+    ghost view = { λ w. record { off = w.off; limit = w.limit; count = w.count } };
+
+    ghost inverse = { λ v. record { off = v.off; limit = v.limit; count = v.count } };
+}
+
+impl Watchdog {
+    /// A watchdog after a reset with this TIMER; `off` is for an attempt that has none.
+    pub fn new(timer: u32, off: bool) -> Self
+        ensures stands { WatchesFor off timer result [] }
+    {
+        Watchdog {
+            off,
+            limit: limit_of(off, timer),
+            count: 0,
+        }
+    }
+
+    /// A word was written to TIMER.
+    pub fn load(&mut self, timer: u32)
+        ensures stands { (off : Bool) (first : ℕ) (calls : List WatchCall) → WatchesFor off first self.old calls → WatchesFor off first self.new (calls ++ Load timer ∷ []) }
+    {
+        *self = Watchdog {
+            off: self.off,
+            limit: limit_of(self.off, timer),
+            count: 0,
+        };
+    }
+
+    /// LTIMER: the count begins anew.
+    pub fn reload(&mut self)
+        ensures stands { (off : Bool) (first : ℕ) (calls : List WatchCall) → WatchesFor off first self.old calls → WatchesFor off first self.new (calls ++ Reload ∷ []) }
+    {
+        self.count = 0;
+    }
+
+    /// One byte more was taken, in phase 7 or not: whether the watchdog fires at it.
+    pub fn byte(&mut self, eos: bool) -> bool
+        ensures stands { (off : Bool) (first : ℕ) (calls : List WatchCall) → WatchesFor off first self.old calls → WatchesFor off first self.new (calls ++ Watched eos ∷ []) }
+        ensures fires { (off : Bool) (first : ℕ) (calls : List WatchCall) → WatchesFor off first self.old calls → (IsTrue result ↔ Fires off first calls eos) }
+    {
+        if !counts(self.limit, eos) {
+            return false;
+        }
+        self.count = self.count.saturating_add(1);
+        self.count == self.limit
+    }
+
+    /// So many bytes more were taken, up to the one at which it fires: the number of that byte, from 1.
+    pub fn bytes(&mut self, count: u64, eos: bool) -> Option<u64>
+        ensures fires { (off : Bool) (first : ℕ) (calls : List WatchCall) → WatchesFor off first self.old calls →
+            IfSome result (λ n. (0 < n) × (n ≤ count) × Fires off first (calls ++ bytes_alike (n - 1) eos) eos × WatchesFor off first self.new (calls ++ bytes_alike n eos)
+            × ((k : ℕ) → k < n - 1 → ¬ Fires off first (calls ++ bytes_alike k eos) eos)) }
+        ensures quiet { (off : Bool) (first : ℕ) (calls : List WatchCall) → WatchesFor off first self.old calls →
+            IfNone result (WatchesFor off first self.new (calls ++ bytes_alike count eos) × ((k : ℕ) → k < count → ¬ Fires off first (calls ++ bytes_alike k eos) eos)) }
+    {
+        let on = counts(self.limit, eos);
+        let Some(n) = due_within(on, self.count, self.limit, count) else {
+            self.count = counted(on, self.count, count);
+            return None;
+        };
+        self.count = self.limit;
+        Some(n)
+    }
+}
+
+fn limit_of(off: bool, timer: u32) -> u32
+    ensures { result ≡ full_count off timer }
+{
+    if timer >> 30 & 1 == 1 && !off {
+        (timer & 0x3FFF_FFFF) * 4
+    } else {
+        0
+    }
+}
+
+/// Whether a byte counts.
+fn counts(limit: u32, eos: bool) -> bool
+    ensures { result ≡ not (limit == 0) && not eos }
+{
+    limit != 0 && !eos
+}
+
+/// How many of so many bytes bring the count to the limit.
+fn due_within(on: bool, count: u32, limit: u32, bytes: u64) -> Option<u64>
+    ensures some { IfSome result (λ n. (0 < n) × (n ≤ bytes) × IsTrue on × (count + n ≡ limit)) }
+    ensures none { IfNone result ((k : ℕ) → k < bytes → IsTrue on → ¬ (count + (k + 1) ≡ limit)) }
+{
+    if on && count < limit && u64::from(limit - count) <= bytes {
+        Some(u64::from(limit - count))
+    } else {
+        None
+    }
+}
+
+fn counted(on: bool, count: u32, bytes: u64) -> u32
+    ensures { result ≡ min (count + bytes * (if on then 1 else 0)) (2 ^ 32 - 1) }
+{
+    if on {
+        u64::from(count).saturating_add(bytes).min(0xFFFF_FFFF) as u32
+    } else {
+        count
+    }
+}
