@@ -1,0 +1,351 @@
+-- The two laws of headers: what is read is written so, and what is written is read again.
+use Rattle.std.proofs.Common.{◌≡◌, ◌≤◌, ℕ, ◌+◌, ◌-◌, ◌*◌, ◌/◌, ◌%◌, ◌^◌, ◌<◌, Bool, true, false, cond, List, [], ◌∷◌, ◌++◌, length, take, drop, Result, Ok, Err, nat_le, nat_eq, refl, sym, ap, subst, ◌∙◌, append_assoc, arith, length-append, take-append-drop}
+use Rattle.std.specs.Prelude.{◌≢◌, ◌↔◌, IfOk, IsOkAnd, IsErrOf}
+use Rattle.std.proofs.lemmas.Bool.{false≢true, eqb-true, leb-true, le-leb}
+use Rattle.std.proofs.lemmas.List.{take_at, drop_at, length-take-le}
+use Rattle.std.proofs.lemmas.Bool.Decides.{Decides-eqb}
+use Rattle.std.proofs.lemmas.Slice.Eq.{starts_is}
+use Rattle.std.specs.List.{AllByRecursion, starts_with}
+use Rattle.x7_words.specs.Word.{AreBytes, bytes_of_word, word_of_bytes}
+use Rattle.x7_words.proofs.ListLemmas.{all_front, all_back, shorter_front}
+use Rattle.x7_words.proofs.WordLemmas.{bytes-words, words-fit}
+use Rattle.x7_header.specs.Header.{fixed_bytes, Kind, Field, layout, Holds, count_bytes, field_bytes, fields_bytes, Contents, listed, HaveHeader, header_bytes}
+use Rattle.x7_header.specs.Reading.{◌>>=◌, letter_at, bytes_at, content_at, field_at, fields_at, contents_from, fixed_at, layout_at, header_at, Gives}
+use Rattle.x7_header.specs.declared.fault.HeaderFault.{HeaderFault}
+use Rattle.x7_header.specs.declared.fault.HeaderFault.TheVariants as fault
+
+-- the value of a step that did not fail
+pub bind_ok : {A B : Type 0} (r : Result A HeaderFault) (f : A → Result B HeaderFault) (y : B) → (r >>= f) ≡ Ok y → (x : A) × (r ≡ Ok x) × (f x ≡ Ok y)
+bind_ok (Ok x) f y e = (x, refl, e)
+bind_ok (Err d) f y e = absurd cc
+
+-- a test that did not fail
+test_ok : {A : Type 0} (b : Bool) (d : HeaderFault) (x y : A) → cond b (Ok x) (Err d) ≡ Ok y → (b ≡ true) × (x ≡ y)
+test_ok true d x y e = (refl, cc)
+test_ok false d x y e = absurd cc
+
+-- ---- what is written is read again
+
+-- a letter that is there
+letter_again : (total letter : ℕ) (bytes : List ℕ) → letter_at total letter (letter ∷ bytes) ≡ Ok bytes
+letter_again total letter bytes =
+    let same : nat_eq letter letter ≡ true = grind arith in rw same refl
+
+bytes_again : (total count : ℕ) (content rest : List ℕ) → length content ≡ count → bytes_at total count (content ++ rest) ≡ Ok (content, rest)
+bytes_again total count content rest e =
+    let fits : nat_le count (length (content ++ rest)) ≡ true = le-leb _ _ (omega (arith, e, length-append content rest)) in
+    rw (fits, take_at content rest count e, drop_at content rest count e) refl
+
+content_again : (total : ℕ) (kind : Kind) (content rest : List ℕ) → Holds kind content → content_at total kind (count_bytes kind content ++ (content ++ rest)) ≡ Ok (content, rest)
+content_again total Kind.Counted content rest h =
+    bytes_again total (length content / 256 * 256 + length content % 256) content rest (omega arith)
+content_again total Kind.Four content rest h = bytes_again total 4 content rest h
+
+pub field_again : (total : ℕ) (field : Field) (content rest : List ℕ) → Holds field.kind content → field_at total field (field_bytes field content ++ rest) ≡ Ok (content, rest)
+unfolding field_at
+field_again total field content rest h =
+    rw (append_assoc (count_bytes field.kind content) content rest, letter_again total field.letter (count_bytes field.kind content ++ (content ++ rest))) (content_again total field.kind content rest h)
+
+-- each field holds what it can hold
+abbrev pub Hold : List Field → List (List ℕ) → Type 0
+Hold (field ∷ fields) (content ∷ contents) = Holds field.kind content × Hold fields contents
+Hold (field ∷ fields) [] = ⊥
+Hold [] (content ∷ contents) = ⊥
+Hold [] [] = Unit {0}
+
+pub fields_again : (total : ℕ) (fields : List Field) (contents : List (List ℕ)) (rest : List ℕ) → Hold fields contents → fields_at total fields (fields_bytes fields contents ++ rest) ≡ Ok (contents, rest)
+unfolding fields_at
+fields_again total [] [] rest h = refl
+fields_again total [] (content ∷ contents) rest h = absurd h
+fields_again total (field ∷ fields) [] rest h = absurd h
+fields_again total (field ∷ fields) (content ∷ contents) rest h =
+    rw (append_assoc (field_bytes field content) (fields_bytes fields contents) rest, field_again total field content (fields_bytes fields contents ++ rest) h.0, fields_again total fields contents rest h.1) refl
+
+word-bytes : (w : ℕ) → w < 2 ^ 32 → word_of_bytes (bytes_of_word w) ≡ w
+word-bytes w h = omega arith
+
+-- a header that stands at the front is read, with its size
+pub header_again : (x : Contents) (rest : List ℕ) → HaveHeader x → header_at (header_bytes x ++ rest) ≡ Ok (x, length (header_bytes x))
+unfolding header_at layout_at
+header_again x rest h =
+    let size : length (header_bytes x ++ rest) - length rest ≡ length (header_bytes x) = omega (arith, length-append (header_bytes x) rest) in
+    rw (fields_again (length (header_bytes x ++ rest)) layout (listed x) rest (h.a, (h.b, (h.c, (h.d, (refl, tt))))), size, word-bytes x.data_length h.data_length) refl
+
+abbrev done : {A : Type 0} → A → Result A HeaderFault
+done x = Ok x
+
+abbrev failed : (A : Type 0) → HeaderFault → Result A HeaderFault
+failed A d = Err d
+
+ok_is : {A : Type 0} (x y : A) → done x ≡ done y → x ≡ y
+ok_is x y e = cc
+
+pub err_is : (A : Type 0) (d e : HeaderFault) → failed A d ≡ failed A e → d ≡ e
+err_is A d e p = cc
+
+ok_not_err : {A : Type 0} (x : A) (d : HeaderFault) → done x ≡ Err d → ⊥
+ok_not_err x d e = cc
+
+-- no two heads have the same bytes, whatever follows them
+pub header_tells : (x y : Contents) (more rest : List ℕ) → HaveHeader x → HaveHeader y → header_bytes x ++ more ≡ header_bytes y ++ rest → x ≡ y
+header_tells x y more rest p q e =
+    ap (λ (r : Contents × ℕ). r.0) (ok_is (x, length (header_bytes x)) (y, length (header_bytes y)) (sym (header_again x more p) ∙ ap header_at e ∙ header_again y rest q))
+
+pub header_same : (x y : Contents) → HaveHeader x → HaveHeader y → header_bytes x ≡ header_bytes y → x ≡ y
+header_same x y p q e = header_tells x y [] [] p q (ap (λ (r : List ℕ). r ++ []) e)
+
+-- ---- what is read is written so
+
+letter_takes : (total letter : ℕ) (bytes rest : List ℕ) → letter_at total letter bytes ≡ Ok rest → bytes ≡ letter ∷ rest
+letter_takes total letter [] rest e = absurd cc
+letter_takes total letter (first ∷ bytes) rest e =
+    let t = test_ok (nat_eq first letter) (fault.Field (total - length (first ∷ bytes))) bytes rest e in
+    rw (eqb-true _ _ t.0, t.1) refl
+
+bytes_take : (total count : ℕ) (bytes : List ℕ) (x : List ℕ × List ℕ) → bytes_at total count bytes ≡ Ok x → (bytes ≡ x.0 ++ x.1) × (length x.0 ≡ count)
+bytes_take total count bytes x e =
+    let t = test_ok (nat_le count (length bytes)) (fault.Cut total) (take count bytes, drop count bytes) x e in
+    subst (λ (y : List ℕ × List ℕ). (bytes ≡ y.0 ++ y.1) × (length y.0 ≡ count)) t.1 (sym (take-append-drop count bytes), length-take-le count bytes (leb-true _ _ t.0))
+
+-- what a field held, and what follows it
+record Takes (kind : Kind) (bytes : List ℕ) (x : List ℕ × List ℕ) : Type 0 where
+  pub parts : bytes ≡ count_bytes kind x.0 ++ (x.0 ++ x.1)
+  pub holds : Holds kind x.0
+
+count_again : (high low count : ℕ) → high < 256 → low < 256 → count ≡ high * 256 + low → (high ≡ count / 256) × (low ≡ count % 256) × (count < 2 ^ 16)
+count_again high low count h l e = (omega arith, omega arith, omega arith)
+
+two_and : (a b c d : ℕ) (xs ys : List ℕ) → a ≡ c → b ≡ d → xs ≡ ys → a ∷ b ∷ xs ≡ c ∷ d ∷ ys
+two_and a b c d xs ys p q r = rw (p, q, r) refl
+
+content_takes : (total : ℕ) (kind : Kind) (bytes : List ℕ) (x : List ℕ × List ℕ) → AreBytes bytes → content_at total kind bytes ≡ Ok x → Takes kind bytes x
+content_takes total Kind.Four bytes x f e =
+    let t = bytes_take total 4 bytes x e in record { parts = t.0; holds = t.1 }
+content_takes total Kind.Counted [] x f e = absurd cc
+content_takes total Kind.Counted (high ∷ []) x f e = absurd cc
+content_takes total Kind.Counted (high ∷ low ∷ bytes) x f e =
+    let t = bytes_take total (high * 256 + low) bytes x e in
+    let n = count_again high low (length x.0) f.0 f.1.0 t.1 in
+    record { parts = two_and high low _ _ bytes (x.0 ++ x.1) n.0 n.1 t.0; holds = n.2 }
+
+pub field_takes : (total : ℕ) (field : Field) (bytes : List ℕ) (x : List ℕ × List ℕ) → AreBytes bytes → field_at total field bytes ≡ Ok x → (bytes ≡ field_bytes field x.0 ++ x.1) × Holds field.kind x.0
+unfolding field_at
+field_takes total field bytes x f e =
+    let a = bind_ok (letter_at total field.letter bytes) (content_at total field.kind) x e in
+    let l = letter_takes total field.letter bytes a.0 a.1 in
+    let fits : AreBytes (field.letter ∷ a.0) = subst AreBytes l f in
+    let t = content_takes total field.kind a.0 x fits.1 a.2 in
+    (l ∙ ap (λ (r : List ℕ). field.letter ∷ r) (t.parts ∙ sym (append_assoc (count_bytes field.kind x.0) x.0 x.1)), t.holds)
+
+-- what the fields held, and what follows them
+record Take (fields : List Field) (bytes : List ℕ) (x : List (List ℕ) × List ℕ) : Type 0 where
+  pub parts : bytes ≡ fields_bytes fields x.0 ++ x.1
+  pub hold : Hold fields x.0
+  pub fit : AllByRecursion AreBytes x.0
+
+fields_take : (total : ℕ) (fields : List Field) (bytes : List ℕ) (x : List (List ℕ) × List ℕ) → AreBytes bytes → fields_at total fields bytes ≡ Ok x → Take fields bytes x
+unfolding fields_at
+fields_take total [] bytes x f e =
+    subst (Take [] bytes) (ok_is ([], bytes) x e) (record { parts = refl; hold = tt; fit = tt })
+fields_take total (field ∷ fields) bytes x f e =
+    let a = bind_ok (field_at total field bytes) (λ first. fields_at total fields first.1 >>= λ others. Ok (first.0 ∷ others.0, others.1)) x e in
+    let b = bind_ok (fields_at total fields a.0.1) (λ others. Ok (a.0.0 ∷ others.0, others.1)) x a.2 in
+    let first = field_takes total field bytes a.0 f a.1 in
+    let fits : AreBytes (field_bytes field a.0.0 ++ a.0.1) = subst AreBytes first.0 f in
+    let content : AreBytes (a.0.0 ++ a.0.1) = all_back (λ c. c < 256) (count_bytes field.kind a.0.0) (a.0.0 ++ a.0.1) (subst AreBytes (append_assoc (count_bytes field.kind a.0.0) a.0.0 a.0.1) fits.1) in
+    let others = fields_take total fields a.0.1 b.0 (all_back (λ c. c < 256) a.0.0 a.0.1 content) b.1 in
+    let made : List (List ℕ) × List ℕ = (a.0.0 ∷ b.0.0, b.0.1) in
+    subst (Take (field ∷ fields) bytes) (ok_is made x b.2) (record {
+      parts = first.0 ∙ ap (λ (r : List ℕ). field_bytes field a.0.0 ++ r) others.parts ∙ sym (append_assoc (field_bytes field a.0.0) (fields_bytes fields b.0.0) b.0.1);
+      hold = (first.1, others.hold);
+      fit = (all_front (λ c. c < 256) a.0.0 a.0.1 content, others.fit);
+    })
+
+-- the word of four bytes has these bytes
+four_again : (e : List ℕ) → AreBytes e → length e ≡ 4 → (bytes_of_word (word_of_bytes e) ≡ e) × (word_of_bytes e < 2 ^ 32)
+four_again [] f l = absurd (omega (arith, l))
+four_again (a ∷ []) f l = absurd (omega (arith, l))
+four_again (a ∷ b ∷ []) f l = absurd (omega (arith, l))
+four_again (a ∷ b ∷ c ∷ []) f l = absurd (omega (arith, l))
+four_again (a ∷ b ∷ c ∷ d ∷ x ∷ more) f l = absurd (omega (arith, l))
+four_again (a ∷ b ∷ c ∷ d ∷ []) f l = (bytes-words (a ∷ b ∷ c ∷ d ∷ []) 1 f refl, (words-fit (a ∷ b ∷ c ∷ d ∷ []) f).0)
+
+-- fields that hold what the layout's can are those of a head
+record FromHead (contents : List (List ℕ)) : Type 0 where
+  pub listed_again : listed (contents_from contents) ≡ contents
+  pub have_header : HaveHeader (contents_from contents)
+
+from_layout : (contents : List (List ℕ)) → Hold layout contents → AllByRecursion AreBytes contents → FromHead contents
+from_layout [] h f = absurd h
+from_layout (a ∷ []) h f = absurd h.1
+from_layout (a ∷ b ∷ []) h f = absurd h.1.1
+from_layout (a ∷ b ∷ c ∷ []) h f = absurd h.1.1.1
+from_layout (a ∷ b ∷ c ∷ d ∷ []) h f = absurd h.1.1.1.1
+from_layout (a ∷ b ∷ c ∷ d ∷ e ∷ x ∷ more) h f = absurd h.1.1.1.1.1
+from_layout (a ∷ b ∷ c ∷ d ∷ e ∷ []) h f =
+    let w = four_again e f.1.1.1.1.0 h.1.1.1.1.0 in
+    record {
+      listed_again = ap (λ (r : List ℕ). a ∷ b ∷ c ∷ d ∷ r ∷ []) w.0;
+      have_header = record { a = h.0; b = h.1.0; c = h.1.1.0; d = h.1.1.1.0; data_length = w.1 };
+    }
+
+-- what was read is at the front, with its size
+pub record IsFront (bytes : List ℕ) (x : Contents × ℕ) : Type 0 where
+  pub have_header : HaveHeader x.0
+  pub front : bytes ≡ header_bytes x.0 ++ drop x.1 bytes
+  pub size : x.1 ≡ length (header_bytes x.0)
+
+front_of : (bytes header rest : List ℕ) → bytes ≡ header ++ rest → (length bytes - length rest ≡ length header) × (bytes ≡ header ++ drop (length bytes - length rest) bytes)
+front_of bytes header rest e =
+    let n : length bytes - length rest ≡ length header = omega (arith, ap length e, length-append header rest) in
+    (n, e ∙ ap (λ (r : List ℕ). header ++ r) (sym (rw (n, e) (drop_at header rest (length header) refl))))
+
+fixed_takes : (bytes rest : List ℕ) → fixed_at bytes ≡ Ok rest → bytes ≡ fixed_bytes ++ rest
+fixed_takes bytes rest e =
+    let t = test_ok (starts_with nat_eq bytes fixed_bytes) fault.Raw (drop 13 bytes) rest e in
+    (starts_is Decides-eqb bytes fixed_bytes (starts_with nat_eq bytes fixed_bytes) refl).0 t.0 ∙ ap (λ (r : List ℕ). fixed_bytes ++ r) t.1
+
+pub header_takes : (bytes : List ℕ) (x : Contents × ℕ) → AreBytes bytes → header_at bytes ≡ Ok x → IsFront bytes x
+unfolding header_at layout_at
+header_takes bytes x f e =
+    let a = bind_ok (fixed_at bytes) (layout_at (length bytes)) x e in
+    let p = fixed_takes bytes a.0 a.1 in
+    let b = bind_ok (fields_at (length bytes) layout a.0) (λ read. Ok (contents_from read.0, length bytes - length read.1)) x a.2 in
+    let t = fields_take (length bytes) layout a.0 b.0 (all_back (λ c. c < 256) fixed_bytes a.0 (subst AreBytes p f)) b.1 in
+    let h = from_layout b.0.0 t.hold t.fit in
+    let whole : bytes ≡ header_bytes (contents_from b.0.0) ++ b.0.1 = p ∙ ap (λ (r : List ℕ). fixed_bytes ++ r) (t.parts ∙ ap (λ (c : List (List ℕ)). fields_bytes layout c ++ b.0.1) (sym h.listed_again)) in
+    let n = front_of bytes (header_bytes (contents_from b.0.0)) b.0.1 whole in
+    let made : Contents × ℕ = (contents_from b.0.0, length bytes - length b.0.1) in
+    subst (IsFront bytes) (ok_is made x b.2) (record { have_header = h.have_header; front = n.1; size = n.0 })
+
+-- ---- the clauses of what reads a header
+
+pub is_found : {X : Type 0} (view : X → Contents × ℕ) (result : Result X HeaderFault) (bytes : List ℕ) → AreBytes bytes → Gives view result (header_at bytes) →
+    IfOk result (λ x. HaveHeader (view x).0 × (bytes ≡ header_bytes (view x).0 ++ drop (view x).1 bytes) × ((view x).1 ≡ length (header_bytes (view x).0)))
+is_found view (Ok x) bytes f g = let t = header_takes bytes (view x) f g in (t.have_header, t.front, t.size)
+is_found view (Err e) bytes f g = tt
+
+pub is_only : {X : Type 0} (view : X → Contents × ℕ) (result : Result X HeaderFault) (bytes : List ℕ) → Gives view result (header_at bytes) →
+    (x : Contents) (rest : List ℕ) → HaveHeader x → bytes ≡ header_bytes x ++ rest → IsOkAnd result (λ head. (view head).0 ≡ x)
+is_only view (Ok y) bytes g x rest h e =
+    ap (λ (r : Contents × ℕ). r.0) (ok_is (view y) (x, length (header_bytes x)) (sym g ∙ ap header_at e ∙ header_again x rest h))
+is_only view (Err d) bytes g x rest h e =
+    let again : header_at bytes ≡ Ok (x, length (header_bytes x)) = ap header_at e ∙ header_again x rest h in
+    absurd (ok_not_err (x, length (header_bytes x)) d (sym again ∙ g))
+
+-- what a fault behind the fixed bytes can be
+abbrev pub IsInside : ℕ → HeaderFault → Type 0
+IsInside total fault.Raw = ⊥
+IsInside total (fault.Cut place) = place ≡ total
+IsInside total (fault.Field place) = Unit {0}
+
+abbrev FaultInside : {A : Type 0} → ℕ → Result A HeaderFault → Type 0
+FaultInside total (Ok x) = Unit {0}
+FaultInside total (Err d) = IsInside total d
+
+bind_inside : {A B : Type 0} (total : ℕ) (r : Result A HeaderFault) (f : A → Result B HeaderFault) → FaultInside total r → ((x : A) → FaultInside total (f x)) → FaultInside total (r >>= f)
+bind_inside total (Ok x) f i j = j x
+bind_inside total (Err d) f i j = i
+
+cond_inside : {A : Type 0} (total : ℕ) (b : Bool) (x : A) (d : HeaderFault) → IsInside total d → FaultInside total (cond b (Ok x) (Err d))
+cond_inside total true x d i = tt
+cond_inside total false x d i = i
+
+letter_inside : (total letter : ℕ) (bytes : List ℕ) → FaultInside total (letter_at total letter bytes)
+letter_inside total letter [] = refl
+letter_inside total letter (first ∷ bytes) = cond_inside total (nat_eq first letter) bytes (fault.Field (total - length (first ∷ bytes))) tt
+
+bytes_inside : (total count : ℕ) (bytes : List ℕ) → FaultInside total (bytes_at total count bytes)
+bytes_inside total count bytes = cond_inside total (nat_le count (length bytes)) (take count bytes, drop count bytes) (fault.Cut total) refl
+
+content_inside : (total : ℕ) (kind : Kind) (bytes : List ℕ) → FaultInside total (content_at total kind bytes)
+content_inside total Kind.Four bytes = bytes_inside total 4 bytes
+content_inside total Kind.Counted [] = refl
+content_inside total Kind.Counted (high ∷ []) = refl
+content_inside total Kind.Counted (high ∷ low ∷ bytes) = bytes_inside total (high * 256 + low) bytes
+
+field_inside : (total : ℕ) (field : Field) (bytes : List ℕ) → FaultInside total (field_at total field bytes)
+unfolding field_at
+field_inside total field bytes = bind_inside total (letter_at total field.letter bytes) (content_at total field.kind) (letter_inside total field.letter bytes) (content_inside total field.kind)
+
+fields_inside : (total : ℕ) (fields : List Field) (bytes : List ℕ) → FaultInside total (fields_at total fields bytes)
+unfolding fields_at
+fields_inside total [] bytes = tt
+fields_inside total (field ∷ fields) bytes =
+    bind_inside total (field_at total field bytes) (λ first. fields_at total fields first.1 >>= λ others. Ok (first.0 ∷ others.0, others.1)) (field_inside total field bytes)
+    (λ first. bind_inside total (fields_at total fields first.1) (λ others. Ok (first.0 ∷ others.0, others.1)) (fields_inside total fields first.1) (λ others. tt))
+
+layout_inside : (total : ℕ) (bytes : List ℕ) → FaultInside total (layout_at total bytes)
+unfolding layout_at
+layout_inside total bytes = bind_inside total (fields_at total layout bytes) (λ read. Ok (contents_from read.0, total - length read.1)) (fields_inside total layout bytes) (λ read. tt)
+
+inside_not : {A : Type 0} (total : ℕ) (r : Result A HeaderFault) → FaultInside total r → r ≡ Err fault.Raw → ⊥
+inside_not total (Ok x) i e = ok_not_err x fault.Raw e
+inside_not total (Err d) i e = subst (FaultInside total) e i
+
+-- Raw is told exactly where the fixed bytes aren't at the front
+raw_at : (bytes : List ℕ) (b : Bool) → starts_with nat_eq bytes fixed_bytes ≡ b → (header_at bytes ≡ Err fault.Raw) ↔ ((rest : List ℕ) → bytes ≢ fixed_bytes ++ rest)
+unfolding header_at
+raw_at bytes true s =
+    let at : header_at bytes ≡ layout_at (length bytes) (drop 13 bytes) = rw s refl in
+    let there = (starts_is Decides-eqb bytes fixed_bytes (starts_with nat_eq bytes fixed_bytes) refl).0 s in (
+      λ e. absurd (inside_not (length bytes) (layout_at (length bytes) (drop 13 bytes)) (layout_inside (length bytes) (drop 13 bytes)) (sym at ∙ e)),
+      λ n. absurd (n (drop 13 bytes) there),
+    )
+raw_at bytes false s =
+    let at : header_at bytes ≡ Err fault.Raw = rw s refl in (
+      λ e rest t. absurd (false≢true (sym s ∙ (starts_is Decides-eqb bytes fixed_bytes (starts_with nat_eq bytes fixed_bytes) refl).1 rest t)),
+      λ n. at,
+    )
+
+pub is_raw : {X : Type 0} (view : X → Contents × ℕ) (result : Result X HeaderFault) (bytes : List ℕ) → Gives view result (header_at bytes) → IsErrOf result fault.Raw ↔ ((rest : List ℕ) → bytes ≢ fixed_bytes ++ rest)
+is_raw {X = X} view (Ok x) bytes g =
+    let r = raw_at bytes (starts_with nat_eq bytes fixed_bytes) refl in
+    (λ i. absurd (ok_not_err x fault.Raw i), λ n. absurd (ok_not_err (view x) fault.Raw (sym g ∙ r.1 n)))
+is_raw {X = X} view (Err d) bytes g =
+    let r = raw_at bytes (starts_with nat_eq bytes fixed_bytes) refl in
+    (λ i. r.0 (g ∙ ap (failed (Contents × ℕ)) (err_is X d fault.Raw i)), λ n. ap (failed X) (err_is (Contents × ℕ) d fault.Raw (sym g ∙ r.1 n)))
+
+cut_at : (bytes : List ℕ) (place : ℕ) (b : Bool) → starts_with nat_eq bytes fixed_bytes ≡ b → header_at bytes ≡ Err (fault.Cut place) → place ≡ length bytes
+unfolding header_at
+cut_at bytes place true s e =
+    let at : header_at bytes ≡ layout_at (length bytes) (drop 13 bytes) = rw s refl in
+    subst (FaultInside (length bytes)) (sym at ∙ e) (layout_inside (length bytes) (drop 13 bytes))
+cut_at bytes place false s e =
+    let at : header_at bytes ≡ Err fault.Raw = rw s refl in
+    let same : fault.Raw ≡ fault.Cut place = err_is (Contents × ℕ) fault.Raw (fault.Cut place) (sym at ∙ e) in
+    absurd cc
+
+-- a cut is told with the input's length
+pub is_cut : {X : Type 0} (view : X → Contents × ℕ) (result : Result X HeaderFault) (bytes : List ℕ) → Gives view result (header_at bytes) → (place : ℕ) → IsErrOf result (fault.Cut place) → place ≡ length bytes
+is_cut view (Ok x) bytes g place i = absurd (ok_not_err x (fault.Cut place) i)
+is_cut {X = X} view (Err d) bytes g place i =
+    let same : d ≡ fault.Cut place = err_is X d (fault.Cut place) i in
+    cut_at bytes place (starts_with nat_eq bytes fixed_bytes) refl (rw same at g)
+
+-- ---- the fixed bytes of a piece
+
+fixed_more : (bytes left rest : List ℕ) → fixed_at bytes ≡ Ok left → fixed_at (bytes ++ rest) ≡ Ok (left ++ rest)
+fixed_more bytes left rest e =
+    let p = fixed_takes bytes left e in
+    ap (λ (r : List ℕ). fixed_at (r ++ rest)) p
+
+fixed_raw_at : (bytes rest : List ℕ) (b : Bool) → starts_with nat_eq (bytes ++ rest) fixed_bytes ≡ b → 13 ≤ length bytes → fixed_at bytes ≡ Err fault.Raw → fixed_at (bytes ++ rest) ≡ Err fault.Raw
+fixed_raw_at bytes rest false s l e = rw s refl
+fixed_raw_at bytes rest true s l e =
+    let there = (starts_is Decides-eqb (bytes ++ rest) fixed_bytes (starts_with nat_eq (bytes ++ rest) fixed_bytes) refl).0 s in
+    let m = shorter_front fixed_bytes bytes (drop 13 (bytes ++ rest)) rest l (sym there) in
+    let read : fixed_at bytes ≡ Ok m.0 = ap fixed_at m.1 in
+    absurd (ok_not_err m.0 fault.Raw (sym read ∙ e))
+
+pub is_fixed_more : {X : Type 0} (view : X → List ℕ) (result : Result X HeaderFault) (bytes : List ℕ) → Gives view result (fixed_at bytes) →
+    IfOk result (λ x. (rest : List ℕ) → fixed_at (bytes ++ rest) ≡ Ok (view x ++ rest))
+is_fixed_more view (Ok x) bytes g = λ rest. fixed_more bytes (view x) rest g
+is_fixed_more view (Err d) bytes g = tt
+
+pub is_fixed_raw : {X : Type 0} (view : X → List ℕ) (result : Result X HeaderFault) (bytes : List ℕ) → Gives view result (fixed_at bytes) →
+    (rest : List ℕ) → 13 ≤ length bytes → IsErrOf result fault.Raw → fixed_at (bytes ++ rest) ≡ Err fault.Raw
+is_fixed_raw view (Ok x) bytes g rest l i = absurd (ok_not_err x fault.Raw i)
+is_fixed_raw {X = X} view (Err d) bytes g rest l i =
+    let same : d ≡ fault.Raw = err_is X d fault.Raw i in
+    fixed_raw_at bytes rest (starts_with nat_eq (bytes ++ rest) fixed_bytes) refl l (rw same at g)

@@ -1,0 +1,76 @@
+-- The header in front of a stream, as a list of fields (not in UG470: the layout that the vendor's tool writes).
+use Rattle.std.specs.Prelude.{◌≡◌, ℕ, ◌/◌, ◌%◌, ◌<◌, ◌^◌, List, [], ◌∷◌, ◌++◌, length}
+use Rattle.x7_words.specs.Word.{bytes_of_word}
+use Rattle.x7_header.specs.declared.header.Head.{Head}
+
+-- the bytes in front of the first field
+abbrev pub fixed_bytes : List ℕ
+fixed_bytes = 0x00 ∷ 0x09 ∷ 0x0F ∷ 0xF0 ∷ 0x0F ∷ 0xF0 ∷ 0x0F ∷ 0xF0 ∷ 0x0F ∷ 0xF0 ∷ 0x00 ∷ 0x00 ∷ 0x01 ∷ []
+
+-- what stands behind a field's letter
+pub data Kind : Type 0 where
+  -- the number of the bytes that follow, in two bytes, the highest first, and these bytes
+  Counted : Kind
+  -- four bytes
+  Four : Kind
+
+pub record Field : Type 0 where
+  pub letter : ℕ
+  pub kind : Kind
+
+-- design, part, date and time, and the length of the data
+abbrev pub layout : List Field
+layout =
+    record { letter = 0x61; kind = Kind.Counted }
+    ∷ record { letter = 0x62; kind = Kind.Counted }
+    ∷ record { letter = 0x63; kind = Kind.Counted }
+    ∷ record { letter = 0x64; kind = Kind.Counted }
+    ∷ record { letter = 0x65; kind = Kind.Four }
+    ∷ []
+
+-- what a field can hold
+abbrev pub Holds : Kind → List ℕ → Type 0
+Holds Kind.Counted content = length content < 2 ^ 16
+Holds Kind.Four content = length content ≡ 4
+
+-- the bytes between a field's letter and what it holds
+abbrev pub count_bytes : Kind → List ℕ → List ℕ
+count_bytes Kind.Counted content = length content / 256 ∷ length content % 256 ∷ []
+count_bytes Kind.Four content = []
+
+-- a field with what it holds
+abbrev pub field_bytes : Field → List ℕ → List ℕ
+field_bytes field content = field.letter ∷ (count_bytes field.kind content ++ content)
+
+-- fields one after the other, each with what it holds
+abbrev pub fields_bytes : List Field → List (List ℕ) → List ℕ
+fields_bytes (field ∷ fields) (content ∷ contents) = field_bytes field content ++ fields_bytes fields contents
+fields_bytes (field ∷ fields) [] = []
+fields_bytes [] contents = []
+
+-- what the fields of a header hold
+pub record Contents : Type 0 where
+  pub a : List ℕ
+  pub b : List ℕ
+  pub c : List ℕ
+  pub d : List ℕ
+  pub data_length : ℕ
+
+-- in the layout's order
+abbrev pub listed : Contents → List (List ℕ)
+listed x = x.a ∷ x.b ∷ x.c ∷ x.d ∷ bytes_of_word x.data_length ∷ []
+
+-- what has a header
+pub record HaveHeader (x : Contents) : Type 0 where
+  pub a : length x.a < 2 ^ 16
+  pub b : length x.b < 2 ^ 16
+  pub c : length x.c < 2 ^ 16
+  pub d : length x.d < 2 ^ 16
+  pub data_length : x.data_length < 2 ^ 32
+
+abbrev pub header_bytes : Contents → List ℕ
+header_bytes x = fixed_bytes ++ fields_bytes layout (listed x)
+
+-- what a head holds, wherever it lies
+abbrev pub contents_of : Head → Contents
+contents_of head = record { a = head.a.now; b = head.b.now; c = head.c.now; d = head.d.now; data_length = head.length }

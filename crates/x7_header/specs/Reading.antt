@@ -1,0 +1,77 @@
+-- Reading a header from left to right by its layout, with the first fault that is met (not in UG470: the layout that the vendor's tool writes).
+use Rattle.std.specs.Prelude.{◌≡◌, ℕ, ◌+◌, ◌-◌, ◌*◌, List, [], ◌∷◌, length, take, drop, Result, Ok, Err, nat_le, nat_eq, ◌==◌, if◌then◌else◌}
+use Rattle.std.specs.List.{starts_with}
+use Rattle.x7_words.specs.Word.{word_of_bytes}
+use Rattle.x7_header.specs.Header.{fixed_bytes, Kind, Field, layout, Contents}
+use Rattle.x7_header.specs.declared.fault.HeaderFault.{HeaderFault}
+use Rattle.x7_header.specs.declared.fault.HeaderFault.TheVariants as fault
+
+infixl 10 ◌>>=◌
+abbrev pub ◌>>=◌ : {A B : Type 0} → Result A HeaderFault → (A → Result B HeaderFault) → Result B HeaderFault
+(Ok x) >>= f = f x
+(Err e) >>= f = Err e
+
+-- What a call returned, seen by view, is what the reading gives.
+abbrev pub Gives : {X Y : Type 0} → (X → Y) → Result X HeaderFault → Result Y HeaderFault → Type 0
+Gives view (Ok x) reading = reading ≡ Ok (view x)
+Gives view (Err e) reading = reading ≡ Err e
+
+-- All below reads at the front of what is left of an input of `total` bytes.
+
+-- what follows the letter
+abbrev pub letter_at : ℕ → ℕ → List ℕ → Result (List ℕ) HeaderFault
+letter_at total letter [] = Err (fault.Cut total)
+letter_at total letter (first ∷ bytes) = if first == letter then Ok bytes else Err (fault.Field (total - length (first ∷ bytes)))
+
+-- so many bytes, and what follows them
+abbrev pub bytes_at : ℕ → ℕ → List ℕ → Result (List ℕ × List ℕ) HeaderFault
+bytes_at total count bytes = if nat_le count (length bytes) then Ok (take count bytes, drop count bytes) else Err (fault.Cut total)
+
+-- what a field holds, read behind its letter, and what follows it
+abbrev pub content_at : ℕ → Kind → List ℕ → Result (List ℕ × List ℕ) HeaderFault
+content_at total Kind.Four bytes = bytes_at total 4 bytes
+content_at total Kind.Counted (high ∷ low ∷ bytes) = bytes_at total (high * 256 + low) bytes
+content_at total Kind.Counted (high ∷ []) = Err (fault.Cut total)
+content_at total Kind.Counted [] = Err (fault.Cut total)
+
+-- what a field holds, and what follows it
+unfoldable pub field_at : ℕ → Field → List ℕ → Result (List ℕ × List ℕ) HeaderFault
+field_at total field bytes = do
+  behind ← letter_at total field.letter bytes
+  content_at total field.kind behind
+
+-- how many bytes the field of text has whose front this is, with its letter; 3 until its count is there
+abbrev pub text_size : List ℕ → ℕ
+text_size (letter ∷ high ∷ low ∷ bytes) = 3 + high * 256 + low
+text_size (letter ∷ high ∷ []) = 3
+text_size (letter ∷ []) = 3
+text_size [] = 3
+
+-- what each of the fields holds, and what follows them
+unfoldable pub fields_at : ℕ → List Field → List ℕ → Result (List (List ℕ) × List ℕ) HeaderFault
+fields_at total [] bytes = Ok ([], bytes)
+fields_at total (field ∷ fields) bytes = do
+  first ← field_at total field bytes
+  others ← fields_at total fields first.1
+  Ok (first.0 ∷ others.0, others.1)
+
+-- what a list in the layout's order says
+abbrev pub contents_from : List (List ℕ) → Contents
+contents_from (a ∷ b ∷ c ∷ d ∷ length ∷ more) = record { a = a; b = b; c = c; d = d; data_length = word_of_bytes length }
+contents_from _ = record { a = []; b = []; c = []; d = []; data_length = 0 }
+
+-- what follows the fixed bytes
+abbrev pub fixed_at : List ℕ → Result (List ℕ) HeaderFault
+fixed_at bytes = if starts_with nat_eq bytes fixed_bytes then Ok (drop (length fixed_bytes) bytes) else Err fault.Raw
+
+-- what the layout's fields hold, and how many of the input's bytes stand before what follows them
+unfoldable pub layout_at : ℕ → List ℕ → Result (Contents × ℕ) HeaderFault
+layout_at total bytes = do
+  read ← fields_at total layout bytes
+  Ok (contents_from read.0, total - length read.1)
+
+-- what the header's fields hold, and the header's size in bytes
+unfoldable pub header_at : List ℕ → Result (Contents × ℕ) HeaderFault
+header_at bytes = do
+  behind ← fixed_at bytes
+  layout_at (length bytes) behind

@@ -1,0 +1,13 @@
+//! Why bytes have no header.
+ghost use Rattle.std.specs.Prelude.{◌≡◌};
+
+/// Why no header was read. Places count from 0.
+#[derive(Clone, Copy, Debug, Drop, PartialEq, Eq)]
+pub enum HeaderFault {
+    /// The thirteen fixed bytes are not at the front.
+    Raw,
+    /// The input ends inside the header, at this place, which is its length.
+    Cut(usize),
+    /// The byte at this place should be a field's letter and is not.
+    Field(usize),
+}

@@ -1,0 +1,16 @@
+//! The header that the vendor's tool writes in front of a stream, read and written.
+#![tactic(auto)]
+
+mod fault;
+mod field;
+mod header;
+mod reading;
+#[cfg(test)]
+mod tests;
+mod writing;
+
+pub use fault::HeaderFault;
+pub use field::{behind_fixed_bytes, number_field, size_of_text_field, text_field};
+pub use header::Head;
+pub use reading::header_of;
+pub use writing::write_header;
