@@ -8,9 +8,16 @@ import sys
 RUNS = 5
 
 
+def peak(command):
+    """The peak memory in MiB. A child of this process would count this process's own."""
+    timed = ["/usr/bin/time", "-f", "%M", *command]
+    run = subprocess.run(timed, stdout=subprocess.DEVNULL, stderr=subprocess.PIPE, check=True)
+    return int(run.stderr.split()[-1]) / 1024
+
+
 def cost(command):
-    """The least processor time in seconds of some runs, and the peak memory in MiB."""
-    least, peak = None, 0
+    """The least processor time in seconds of some runs."""
+    least = None
     for _ in range(RUNS):
         child = subprocess.Popen(command, stdout=subprocess.DEVNULL)
         _, status, usage = os.wait4(child.pid, 0)
@@ -18,8 +25,7 @@ def cost(command):
             sys.exit(f"{command} ended with {status}")
         spent = usage.ru_utime + usage.ru_stime
         least = spent if least is None else min(least, spent)
-        peak = max(peak, usage.ru_maxrss / 1024)
-    return least, peak
+    return least
 
 
 def main():
@@ -27,11 +33,12 @@ def main():
     print("stream   x7 s    xxd s   cat s   xxd/x7  x7/cat  x7 MiB")
     for name in ["long", "writes", "nops", "gap"]:
         stream = str(folder / f"{name}.bin")
-        ours, peak = cost([str(folder / "x7"), "list", stream])
-        xxd, _ = cost(["xxd", "-p", "-c", "32", stream])
-        cat, _ = cost(["cat", stream])
+        command = [str(folder / "x7"), "list", stream]
+        ours = cost(command)
+        xxd = cost(["xxd", "-p", "-c", "32", stream])
+        cat = cost(["cat", stream])
         print(
-            f"{name:8} {ours:.3f}   {xxd:.3f}   {cat:.3f}   {xxd / ours:6.1f}  {ours / max(cat, 0.001):6.1f}  {peak:6.1f}"
+            f"{name:8} {ours:.3f}   {xxd:.3f}   {cat:.3f}   {xxd / ours:6.1f}  {ours / max(cat, 0.001):6.1f}  {peak(command):6.1f}"
         )
 
 
