@@ -56,19 +56,28 @@ grown_enters : (n : ℕ) (packets all : List Packet) (more : List (ℕ × Step))
     → entered_all n (flat_map stepped all) h ≡ entered_all (n + 4 * length (flat_map stepped packets)) more (entered_all n (flat_map stepped packets) h)
 grown_enters n packets all more h e = ap (λ t. entered_all n t h) e ∙ entered_all-append n (flat_map stepped packets) more h
 
+-- a session that grew by words, the last of which ends it
+pub grown_ends : (gap tail : List ℕ) (packets all : List Packet) (more : List (ℕ × Step)) (sessions : List Session) → flat_map stepped all ≡ flat_map stepped packets ++ more
+    → history (sessions ++ record { gap = gap; packets = all } ∷ []) (Searching []) ≡ entered_all (next_word sessions (Synced gap packets tail)) more (history sessions (Synced gap packets tail))
+grown_ends gap tail packets all more sessions e =
+    sessions_more 0 sessions (record { gap = gap; packets = all }) []
+    ∙ ap (λ (x : ℕ). entered_all (x + length gap + 4) (flat_map stepped all) (entered_sessions 0 sessions [])) (omega arith)
+    ∙ grown_enters (length (flat_map session_bytes sessions) + length gap + 4) packets all more (entered_sessions 0 sessions []) e
+
+-- a session that grew by words and goes on
+pub grown_goes_on : (gap tail : List ℕ) (packets all : List Packet) (more : List (ℕ × Step)) (sessions : List Session) → flat_map stepped all ≡ flat_map stepped packets ++ more
+    → history sessions (Synced gap all []) ≡ entered_all (next_word sessions (Synced gap packets tail)) more (history sessions (Synced gap packets tail))
+grown_goes_on gap tail packets all more sessions e = grown_enters (length (flat_map session_bytes sessions) + length gap + 4) packets all more (entered_sessions 0 sessions []) e
+
 -- words more in a session, by whether they end it
 by_end : (gap tail : List ℕ) (packets : List Packet) (more : List (ℕ × Step)) (sessions new_sessions : List Session) (new : Place) (l : Longer gap packets more sessions new_sessions new) (b : Bool) → ended l.all ≡ b
     → history new_sessions new ≡ entered_all (next_word sessions (Synced gap packets tail)) more (history sessions (Synced gap packets tail))
 by_end gap tail packets more sessions new_sessions new l true e =
     let f : (new_sessions ≡ sessions ++ record { gap = gap; packets = l.all } ∷ []) × (new ≡ Searching []) = l.ends e in
-    rw (f.0, f.1) (
-    sessions_more 0 sessions (record { gap = gap; packets = l.all }) []
-    ∙ ap (λ (x : ℕ). entered_all (x + length gap + 4) (flat_map stepped l.all) (entered_sessions 0 sessions [])) (omega arith)
-    ∙ grown_enters (length (flat_map session_bytes sessions) + length gap + 4) packets l.all more (entered_sessions 0 sessions []) l.grown
-    )
+    rw (f.0, f.1) (grown_ends gap tail packets l.all more sessions l.grown)
 by_end gap tail packets more sessions new_sessions new l false e =
     let f : (new_sessions ≡ sessions) × (new ≡ Synced gap l.all []) = l.goes_on e in
-    rw (f.0, f.1) (grown_enters (length (flat_map session_bytes sessions) + length gap + 4) packets l.all more (entered_sessions 0 sessions []) l.grown)
+    rw (f.0, f.1) (grown_goes_on gap tail packets l.all more sessions l.grown)
 
 -- words more in a session enter their accesses
 pub words_enter : (gap tail : List ℕ) (packets : List Packet) (more : List (ℕ × Step)) (sessions new_sessions : List Session) (new : Place) → Longer gap packets more sessions new_sessions new

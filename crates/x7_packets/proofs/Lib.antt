@@ -2,6 +2,7 @@ pub mod ByHandLemmas
 pub mod CutLemmas
 pub mod EndLemmas
 pub mod FitLemmas
+pub mod GrowthLemmas
 pub mod HistoryLemmas
 pub mod PacketLemmas
 pub mod SearchLemmas

@@ -44,7 +44,8 @@ header_opens m n ps w register count f a e z l d r =
 abbrev pub extended : Packet → ℕ → Packet
 extended p w = record { head = p.head; step = p.step; payload = p.payload ++ w ∷ [] }
 
-stepped_more : (front : List Packet) (p : Packet) (w : ℕ) → flat_map stepped (front ++ extended p w ∷ []) ≡ flat_map stepped (front ++ p ∷ []) ++ (w, Payload (named_by p.step) w) ∷ []
+-- the stepped words of packets whose last has one payload word more
+pub stepped_more : (front : List Packet) (p : Packet) (w : ℕ) → flat_map stepped (front ++ extended p w ∷ []) ≡ flat_map stepped (front ++ p ∷ []) ++ (w, Payload (named_by p.step) w) ∷ []
 stepped_more front p w =
     flat_map-last stepped front (extended p w)
     ∙ ap (λ t. flat_map stepped front ++ (p.head, p.step) ∷ t) (map-append (λ x. (x, Payload (named_by p.step) x)) p.payload (w ∷ []))

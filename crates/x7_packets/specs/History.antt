@@ -1,6 +1,6 @@
 -- What a stream asks of the registers, and the commands that it executes (UG470, configuration registers).
 -- Places, and the commands that a write to FAR executes again, are this project's choice where the guide leaves them open.
-use Rattle.std.specs.Prelude.{ℕ, ◌+◌, ◌*◌, ◌%◌, ◌^◌, ◌<◌, ◌==◌, ◌&&◌, ◌||◌, Bool, false, not, if◌then◌else◌, List, [], ◌∷◌, length, Option, Some, None}
+use Rattle.std.specs.Prelude.{ℕ, ◌+◌, ◌*◌, ◌-◌, ◌%◌, ◌^◌, ◌<◌, ◌≤◌, ◌==◌, nat_lt, ◌&&◌, ◌||◌, Bool, false, not, if◌then◌else◌, List, [], ◌∷◌, length, Option, Some, None}
 use Rattle.std.specs.List.{flat_map}
 use Rattle.x7_packets.specs.declared.header.Step.{Step}
 use Rattle.x7_packets.specs.declared.header.Step.TheVariants as step
@@ -118,3 +118,18 @@ FitsAccess (Bad w) = w < 2 ^ 32
 abbrev pub AllFit : History → Type 0
 AllFit [] = Unit {0}
 AllFit (e ∷ h) = FitsAccess e.access × AllFit h
+
+-- the accesses whose last byte is among the first n bytes
+abbrev pub until : ℕ → History → History
+until n [] = []
+until n (e ∷ h) = if nat_lt n e.place then until n h else e ∷ h
+
+-- the places fall strictly from the newest on; each is at least 1, and none is past n
+abbrev pub Placed : ℕ → History → Type 0
+Placed n [] = Unit {0}
+Placed n (e ∷ h) = (0 < e.place) × (e.place ≤ n) × Placed (e.place - 1) h
+
+-- each place is past the first n bytes, and none is past the first m
+abbrev pub AllBehind : ℕ → ℕ → History → Type 0
+AllBehind n m [] = Unit {0}
+AllBehind n m (e ∷ h) = (n < e.place) × (e.place ≤ m) × AllBehind n m h

@@ -1,5 +1,5 @@
 -- A list of bytes as gaps, sync words, sessions and a tail (UG470, sync word; the search at every byte is this project's choice).
-use Rattle.std.specs.Prelude.{◌≡◌, ℕ, ◌<◌, List, [], ◌++◌, length, None, true, false}
+use Rattle.std.specs.Prelude.{◌≡◌, ℕ, ◌<◌, List, [], ◌++◌, length, None, Bool, true, false}
 use Rattle.std.specs.List.{flat_map, AllByRecursion}
 use Rattle.x7_words.specs.Word.{AreBytes, bytes_of_word}
 use Rattle.x7_packets.specs.SyncWord.{sync_bytes, HasNoSync, IsBeforeSync}
@@ -48,3 +48,8 @@ pub record IsReading (bytes : List ℕ) (sessions : List Session) (place : Place
 abbrev pub tail_of : Place → List ℕ
 tail_of (Searching gap) = []
 tail_of (Synced gap packets tail) = tail
+
+-- the bytes end in a session
+abbrev pub is_synced : Place → Bool
+is_synced (Searching gap) = false
+is_synced (Synced gap packets tail) = true

@@ -2,7 +2,7 @@
 ghost use Rattle.std.specs.Prelude.{◌≡◌, ℕ, List, [], ◌∷◌, ◌++◌, ◌≤◌, ◌<◌, ◌+◌, ◌-◌, ◌*◌, ◌/◌, ◌%◌, ◌^◌, ◌↔◌, take, length, if◌then◌else◌};
 ghost use Rattle.x7_words.specs.Word.{bytes_of_word};
 ghost use Rattle.x7_packets.specs.Cutting.{between, calls_left, CompletesNone, Cuts, CutterStandsFor, Goes, IsBody, IsLent, IsNeed, IsOneWord, IsRun, run_bytes, syncs_due, Went};
-ghost use Rattle.x7_packets.specs.Reading.{Place, Session, tail_of};
+ghost use Rattle.x7_packets.specs.Reading.{is_synced, Place, Session, tail_of};
 ghost use Rattle.x7_packets.specs.declared.cutter.Mode.TheVariants as mode;
 
 use crate::header::Step;
@@ -110,6 +110,16 @@ impl Cutter {
         ensures tail { (bytes : List ℕ) (sessions : List Session) (place : Place) → CutterStandsFor self.now bytes sessions place → result.now ≡ tail_of place }
     {
         &self.kept[..self.count]
+    }
+
+    /// Whether the bytes taken end in a session. It begins just behind its sync word, before that is told.
+    pub fn is_synced(&self) -> bool
+        ensures synced { (bytes : List ℕ) (sessions : List Session) (place : Place) → CutterStandsFor self.now bytes sessions place → result ≡ is_synced place }
+    {
+        match self.mode {
+            Mode::Searching => false,
+            Mode::Due | Mode::Synced => true,
+        }
     }
 
     /// The next run of the piece from `at` on, which it moves behind the bytes taken.

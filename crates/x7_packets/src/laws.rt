@@ -1,9 +1,9 @@
-//! Laws of the definitions: what is read has one reading, which is found by hand, and its history grows with each run.
-ghost use Rattle.std.specs.Prelude.{◌≡◌, ℕ, ◌+◌, ◌*◌, List, [], ◌++◌, length};
+//! Laws of the definitions: what is read has one reading, which is found by hand, and its history grows with each run and byte.
+ghost use Rattle.std.specs.Prelude.{◌≡◌, ℕ, ◌+◌, ◌*◌, ◌⊎◌, List, [], ◌∷◌, ◌++◌, length};
 ghost use Rattle.x7_words.specs.Word.{AreBytes, AreWords};
 ghost use Rattle.x7_packets.specs.ByHand.{AreOfOneSession, packets_of, reading_of};
 ghost use Rattle.x7_packets.specs.Cutting.{Adds, CutterStandsFor, CutterState, Longer, run_steps, Went};
-ghost use Rattle.x7_packets.specs.History.{AllFit, entered_all, History, history, history_of, next_word};
+ghost use Rattle.x7_packets.specs.History.{Access, AllBehind, AllFit, entered_all, entry, History, history, history_of, next_word, Placed, until};
 ghost use Rattle.x7_packets.specs.Packet.{Packet, Packets};
 ghost use Rattle.x7_packets.specs.Reading.{IsReading, Place, Searching, Session, Synced, tail_of};
 ghost use Rattle.x7_packets.specs.declared.cutter.Cut.{Cut};
@@ -64,4 +64,15 @@ pub fn nothing_enters()
 /// Each access of a reading has a register of five bits, and a word of 32 bits or a count of 27.
 pub fn accesses_fit()
     ensures { (bytes : List ℕ) (sessions : List Session) (place : Place) → IsReading bytes sessions place → AllFit (history sessions place) }
+{}
+
+/// The history of bytes grows byte by byte: by one access at most, which that byte ends.
+pub fn histories_grow()
+    ensures one { (bytes : List ℕ) (x : ℕ) → AreBytes (bytes ++ x ∷ [])
+        → (history_of (bytes ++ x ∷ []) ≡ history_of bytes)
+        ⊎ ((access : Access) × (history_of (bytes ++ x ∷ []) ≡ entry access (length bytes + 1) ∷ history_of bytes)) }
+    ensures newer { (bytes more : List ℕ) → AreBytes (bytes ++ more)
+        → (newer : History) × (history_of (bytes ++ more) ≡ newer ++ history_of bytes) × AllBehind (length bytes) (length (bytes ++ more)) newer }
+    ensures front { (bytes more : List ℕ) → AreBytes (bytes ++ more) → until (length bytes) (history_of (bytes ++ more)) ≡ history_of bytes }
+    ensures placed { (bytes : List ℕ) → AreBytes bytes → Placed (length bytes) (history_of bytes) }
 {}

@@ -7,8 +7,8 @@ use crate::examples::{
 };
 use crate::header::Step;
 use crate::laws::{
-    accesses_fit, nothing_enters, one_list_of_packets, one_reading, packets_are_found,
-    reading_is_found, words_after, words_enter,
+    accesses_fit, histories_grow, nothing_enters, one_list_of_packets, one_reading,
+    packets_are_found, reading_is_found, words_after, words_enter,
 };
 use crate::machine::Machine;
 use crate::sync::Matcher;
@@ -144,6 +144,29 @@ fn the_same_runs_in_pieces_of_any_length(rt: HostRuntime) -> Result<(), Fail> {
 }
 
 #[test]
+fn in_a_session_or_not(rt: HostRuntime) {
+    let mut cutter = Cutter::new();
+    assert_eq!(rt; cutter.is_synced(), false, "at first");
+    // a piece, and whether the bytes up to the end of its first run end in a session
+    let cases: [(&[u8], bool); 7] = [
+        (b"\xFF\xAA\x99\x55", false),
+        // the sync word comes, and then it is told
+        (b"\x66", true),
+        (b"", true),
+        // a word in two pieces, and then DESYNC
+        (b"\x20", true),
+        (b"\0\0\0", true),
+        (b"\x30\0\x80\x01", true),
+        (b"\0\0\0\x0D", false),
+    ];
+    for (piece, want) in cases {
+        let mut at = 0;
+        let _cut = cutter.cut(piece, &mut at);
+        assert_eq!(rt; cutter.is_synced(), want, "after {at} bytes");
+    }
+}
+
+#[test]
 fn the_sync_word_inside_a_failed_match(rt: HostRuntime) {
     let mut matcher = Matcher::new();
     for (byte, found) in [
@@ -200,6 +223,7 @@ fn laws_and_examples_are_called(_rt: HostRuntime) {
     words_after();
     nothing_enters();
     accesses_fit();
+    histories_grow();
     examples_of_ends();
     examples_of_headers();
     examples_of_the_history();

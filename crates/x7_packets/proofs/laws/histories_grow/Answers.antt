@@ -1,0 +1,14 @@
+use Rattle.x7_packets.proofs.GrowthLemmas.{byte_enters, front_of, newer_of, placed_of}
+use Rattle.x7_packets.proofs.laws.histories_grow.Goals as goal
+
+pub returns-clause-one : goal.returns-clause-one
+returns-clause-one c = byte_enters
+
+pub returns-clause-newer : goal.returns-clause-newer
+returns-clause-newer c = newer_of
+
+pub returns-clause-front : goal.returns-clause-front
+returns-clause-front c = front_of
+
+pub returns-clause-placed : goal.returns-clause-placed
+returns-clause-placed c = placed_of
