@@ -1,5 +1,5 @@
 -- Register numbers and names (UG470, configuration registers).
-use Rattle.std.specs.Prelude.{ℕ, List, [], ◌∷◌, get_or, codes}
+use Rattle.std.specs.Prelude.{ℕ, ◌==◌, if◌then◌else◌, List, [], ◌∷◌, Option, None, Some, get_or, codes}
 use Rattle.x7_regs.specs.declared.register.Reg.{Reg}
 use Rattle.x7_regs.specs.declared.register.Reg.TheVariants.{Crc, Far, Fdri, Fdro, Cmd, Ctl0, Mask, Stat, Lout, Cor0, Mfwr, Cbc, Idcode, Axss, Cor1, Wbstar, Timer, Bootsts, Ctl1, Bspi}
 
@@ -25,6 +25,30 @@ number_of Timer = 17
 number_of Bootsts = 22
 number_of Ctl1 = 24
 number_of Bspi = 31
+
+-- the register with this number, where one has it
+abbrev pub reg_with : ℕ → Option Reg
+reg_with n =
+    if n == 0 then Some Crc else
+    if n == 1 then Some Far else
+    if n == 2 then Some Fdri else
+    if n == 3 then Some Fdro else
+    if n == 4 then Some Cmd else
+    if n == 5 then Some Ctl0 else
+    if n == 6 then Some Mask else
+    if n == 7 then Some Stat else
+    if n == 8 then Some Lout else
+    if n == 9 then Some Cor0 else
+    if n == 10 then Some Mfwr else
+    if n == 11 then Some Cbc else
+    if n == 12 then Some Idcode else
+    if n == 13 then Some Axss else
+    if n == 14 then Some Cor1 else
+    if n == 16 then Some Wbstar else
+    if n == 17 then Some Timer else
+    if n == 22 then Some Bootsts else
+    if n == 24 then Some Ctl1 else
+    if n == 31 then Some Bspi else None
 
 -- the names by number, from 0 to 31; a number without a register is `R` and its two digits (this project's choice)
 abbrev pub reg_names : List (List ℕ)

@@ -1,6 +1,6 @@
 //! Configuration registers (UG470, configuration registers).
 ghost use Rattle.std.specs.Prelude.{◌≡◌, ◌≢◌, ◌<◌, IfSome, IfNone};
-ghost use Rattle.x7_regs.specs.Register.{number_of};
+ghost use Rattle.x7_regs.specs.Register.{number_of, reg_with};
 ghost use Rattle.x7_regs.specs.declared.register.Reg.{Reg};
 
 /// A configuration register, in the order of their numbers.
@@ -51,6 +51,7 @@ pub enum Reg {
 /// The register with this number, or `None` for a number without a register.
 #[rattlefmt::skip]
 pub fn reg_of(number: u8) -> Option<Reg>
+    ensures value { result ≡ reg_with number }
     ensures named { IfSome result (λ register. number_of register ≡ number) }
     ensures unnamed { IfNone result ((register : Reg) → number_of register ≢ number) }
 {
