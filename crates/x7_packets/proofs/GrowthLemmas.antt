@@ -120,7 +120,7 @@ newer_of bytes more f =
     bytes_keep (λ (b : List ℕ). (length bytes ≤ length b) × IsLater (length bytes) (history_of bytes) b) (later_more (length bytes) (history_of bytes)) bytes more f (omega arith, ([], refl, tt)) in
     all.1
 
-placed_within : (n m : ℕ) (h : History) → n ≤ m → Placed n h → Placed m h
+pub placed_within : (n m : ℕ) (h : History) → n ≤ m → Placed n h → Placed m h
 placed_within n m [] l p = tt
 placed_within n m (e ∷ h) l p = (p.0, omega (arith, p.1), p.2)
 
@@ -140,7 +140,7 @@ until_behind : (n m : ℕ) (newer h : History) → AllBehind n m newer → until
 until_behind n m [] h a = refl
 until_behind n m (e ∷ newer) h a = ap (λ (b : Bool). if b then until n (newer ++ h) else e ∷ (newer ++ h)) (lt-ltb n e.place a.0) ∙ until_behind n m newer h a.2
 
-until_placed : (n : ℕ) (h : History) → Placed n h → until n h ≡ h
+pub until_placed : (n : ℕ) (h : History) → Placed n h → until n h ≡ h
 until_placed n [] p = refl
 until_placed n (e ∷ h) p = ap (λ (b : Bool). if b then until n h else e ∷ h) (le-ltb n e.place p.1)
 

@@ -1,5 +1,6 @@
 -- Lemmas on specs/History: the accesses of words more.
-use Rattle.std.proofs.Common.{◌≡◌, ℕ, ◌+◌, ◌*◌, ◌==◌, inl, inr, Bool, true, false, if◌then◌else◌, List, [], ◌∷◌, ◌++◌, length, refl, ap, sym, ◌∙◌, append_assoc, arith, length-append}
+use Rattle.std.proofs.Common.{◌≡◌, ℕ, ◌+◌, ◌*◌, ◌==◌, inl, inr, Bool, true, false, if◌then◌else◌, List, [], ◌∷◌, ◌++◌, length, refl, ap, sym, ◌∙◌, append_assoc, append-nil, arith, length-append}
+use Rattle.std.proofs.lemmas.Grind.{flat_map-append}
 use Rattle.std.proofs.lemmas.List.{length-map}
 use Rattle.std.specs.List.{flat_map, fold}
 use Rattle.x7_words.specs.Word.{bytes_of_word}
@@ -117,6 +118,24 @@ length_of_place sessions (Synced gap packets tail) =
 -- the next word begins where the bytes end without their tail
 pub next_word-is : (bytes : List ℕ) (sessions : List Session) (place : Place) → IsReading bytes sessions place → next_word sessions place + length (tail_of place) ≡ length bytes
 next_word-is bytes sessions place r = length_of_place sessions place ∙ sym (ap length r.joined ∙ length-append (flat_map session_bytes sessions) (place_bytes place))
+
+-- words more in a session bring the place of the next word on by four bytes each, by whether they end it
+next_by_end : (gap tail : List ℕ) (packets : List Packet) (more : List (ℕ × Step)) (sessions new_sessions : List Session) (new : Place) (l : Longer gap packets more sessions new_sessions new) (b : Bool) → ended l.all ≡ b
+    → (next_word new_sessions new ≡ next_word sessions (Synced gap packets tail) + 4 * length more) × (tail_of new ≡ [])
+next_by_end gap tail packets more sessions new_sessions new l true e =
+    let f : (new_sessions ≡ sessions ++ record { gap = gap; packets = l.all } ∷ []) × (new ≡ Searching []) = l.ends e in
+    let last : Session = record { gap = gap; packets = l.all } in
+    let joined : length (flat_map session_bytes (sessions ++ last ∷ [])) ≡ length (flat_map session_bytes sessions) + length (session_bytes last) =
+    ap length (flat_map-append session_bytes sessions (last ∷ []) ∙ ap (λ t. flat_map session_bytes sessions ++ t) (append-nil (session_bytes last))) ∙ length-append (flat_map session_bytes sessions) (session_bytes last) in
+    rw (f.0, f.1)
+    (omega (arith, joined, length-append (gap ++ sync_bytes) (packet_bytes l.all), length-append gap sync_bytes, length_of_packets l.all, ap length l.grown, length-append (flat_map stepped packets) more), refl)
+next_by_end gap tail packets more sessions new_sessions new l false e =
+    let f : (new_sessions ≡ sessions) × (new ≡ Synced gap l.all []) = l.goes_on e in
+    rw (f.0, f.1) (omega (arith, ap length l.grown, length-append (flat_map stepped packets) more), refl)
+
+pub words_end : (gap tail : List ℕ) (packets : List Packet) (more : List (ℕ × Step)) (sessions new_sessions : List Session) (new : Place) → Longer gap packets more sessions new_sessions new
+    → (next_word new_sessions new ≡ next_word sessions (Synced gap packets tail) + 4 * length more) × (tail_of new ≡ [])
+words_end gap tail packets more sessions new_sessions new l = next_by_end gap tail packets more sessions new_sessions new l (ended l.all) refl
 
 -- the history of bytes is that of their reading
 pub history_is : (bytes : List ℕ) (sessions : List Session) (place : Place) → IsReading bytes sessions place → history sessions place ≡ history_of bytes

@@ -37,6 +37,9 @@ pub fn words_enter()
     ensures words { (gap tail : List ℕ) (packets : List Packet) (more : List (ℕ × Step)) (sessions new_sessions : List Session) (new : Place)
         → Longer gap packets more sessions new_sessions new
         → history new_sessions new ≡ entered_all (next_word sessions (Synced gap packets tail)) more (history sessions (Synced gap packets tail)) }
+    ensures next { (gap tail : List ℕ) (packets : List Packet) (more : List (ℕ × Step)) (sessions new_sessions : List Session) (new : Place)
+        → Longer gap packets more sessions new_sessions new
+        → (next_word new_sessions new ≡ next_word sessions (Synced gap packets tail) + 4 * length more) × (tail_of new ≡ []) }
     ensures run { (run : Cut) (sessions new_sessions : List Session) (place new : Place) → Adds run sessions place new_sessions new
         → history new_sessions new ≡ entered_all (next_word sessions place) (run_steps run) (history sessions place) }
     ensures place { (bytes : List ℕ) (sessions : List Session) (place : Place) → IsReading bytes sessions place
