@@ -1,0 +1,10 @@
+pub mod BodyLemmas
+pub mod DeviceLemmas
+pub mod FeedLemmas
+pub mod MaskLemmas
+pub mod PlainLemmas
+pub mod RunningLemmas
+pub mod StartupLemmas
+pub mod StateLemmas
+pub mod StopLemmas
+pub mod TurnLemmas

@@ -1,0 +1,37 @@
+-- Lemmas on the running check of a history that grows.
+use Rattle.std.proofs.Common.{◌≡◌, ◌==◌, ◌<◌, ◌+◌, ◌^◌, ℕ, true, false, [], ◌∷◌, List, refl, sym, ap, ◌∙◌, lit<}
+use Rattle.x7_packets.specs.History.{entered_all, entry, History, Write}
+use Rattle.x7_packets.specs.Packet.{payload_steps}
+use Rattle.x7_packets.specs.RunningCheck.{clears, open_writes}
+use Rattle.x7_crc.specs.OpenWrites.{in_order, running_check}
+use Rattle.x7_crc.specs.RunningCheck.{check_after, writes_to}
+use Rattle.x7_crc.proofs.CheckLemmas.{check_after-append, check_after-none, check_after_fits, check_of-more}
+
+-- the running check is one of 32 bits
+pub check_fits : (h : History) → running_check h < 2 ^ 32
+check_fits h = check_after_fits 0 (in_order (open_writes h))
+
+-- no write has the check 0
+pub check-none : running_check [] ≡ 0
+check-none = check_after-none 0 (lit< tt)
+
+-- a write that clears it
+pub check-cleared : (h : History) (register word place : ℕ) → clears h (Write register word) ≡ true → running_check (entry (Write register word) place ∷ h) ≡ 0
+check-cleared h register word place e = rw e (check_after-none 0 (lit< tt))
+
+-- any other write but one to LOUT
+pub check-folded : (h : History) (register word place : ℕ) → clears h (Write register word) ≡ false → (register == 8) ≡ false → running_check (entry (Write register word) place ∷ h) ≡ check_after (running_check h) ((register, word) ∷ [])
+check-folded h register word place e n = rw (e, n) (sym (check_of-more (running_check h) (in_order (open_writes h)) ((register, word) ∷ []) refl))
+
+-- a write to LOUT
+pub check-left : (h : History) (word place : ℕ) → clears h (Write 8 word) ≡ false → running_check (entry (Write 8 word) place ∷ h) ≡ running_check h
+check-left h word place e = refl
+
+-- words written to a register, none of which clears the check
+pub check-all_folded : (register n : ℕ) (ws : List ℕ) (h : History) → (register == 8) ≡ false → ((h : History) (w : ℕ) → clears h (Write register w) ≡ false)
+    → running_check (entered_all n (payload_steps register ws) h) ≡ check_after (running_check h) (writes_to register ws)
+check-all_folded register n [] h e f = sym (check_after-none (running_check h) (check_fits h))
+check-all_folded register n (w ∷ ws) h e f =
+    check-all_folded register (n + 4) ws (entry (Write register w) (n + 4) ∷ h) e f
+    ∙ ap (λ (c : ℕ). check_after c (writes_to register ws)) (check-folded h register w (n + 4) (f h w) e)
+    ∙ sym (check_after-append (running_check h) ((register, w) ∷ []) (writes_to register ws) (check_fits h))

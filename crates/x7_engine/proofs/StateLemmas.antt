@@ -1,0 +1,190 @@
+-- Lemmas on specs/State: the state of a device that stands for its bytes, and of bytes behind a stop.
+use Rattle.std.proofs.Common.{◌≡◌, ◌+◌, ◌-◌, ◌<◌, ◌≤◌, ℕ, zero, suc, Bool, true, false, if◌then◌else◌, Option, None, Some, List, [], ◌∷◌, ◌++◌, length, refl, ap, sym, ◌∙◌, arith, length-append}
+use Rattle.std.proofs.lemmas.Bool.{lt-ltb}
+use Rattle.x7_words.specs.Word.{AreBytes}
+use Rattle.x7_words.proofs.ListLemmas.{all_front}
+use Rattle.x7_packets.specs.ByHand.{reading_of}
+use Rattle.x7_packets.specs.History.{AllBehind, History, Placed, history_of, until}
+use Rattle.x7_packets.specs.Reading.{Place, is_synced}
+use Rattle.x7_packets.proofs.GrowthLemmas.{IsLater, newer_of, placed_of, placed_within}
+use Rattle.x7_part.specs.Part.{PartData}
+use Rattle.x7_startup.specs.Calls.{NotBegun}
+use Rattle.x7_engine.specs.declared.kept.Kept.{Kept}
+use Rattle.x7_engine.specs.declared.fault.Fault.TheVariants as fault
+use Rattle.x7_engine.specs.declared.stop.Stop.{Stop}
+use Rattle.x7_engine.specs.declared.stop.Stop.TheVariants as stop
+use Rattle.x7_engine.specs.Standing.{DeviceStandsFor, DeviceState}
+use Rattle.x7_engine.specs.Startup.{startup_progress}
+use Rattle.x7_engine.specs.State.{history_by, history_taken, last_counted, line_by, reads_of, state_by, state_of, stop_in, taken_by, taken_of}
+use Rattle.x7_engine.specs.Stops.{Stopped, line_at, or_else, stop_of, stopped_at, stopped_by_watchdog}
+use Rattle.x7_engine.specs.Watching.{fired_or, fires, first_firing}
+use Rattle.x7_engine.specs.Values.{read_out}
+use Rattle.x7_engine.proofs.StartupLemmas.{not_begun}
+
+line_at_end : (n : ℕ) (d : Option Stop) → line_by (stopped_at n d) ≡ d
+line_at_end n None = refl
+line_at_end n (Some line) = refl
+
+taken_at_end : (n : ℕ) (d : Option Stop) → taken_by (stopped_at n d) n ≡ n
+taken_at_end n None = refl
+taken_at_end n (Some line) = refl
+
+-- the line that the bytes come to is the device's
+pub line_is : (part : PartData) (kept : Kept) (d : DeviceState) (bytes : List ℕ) → DeviceStandsFor part kept d bytes → line_by (stop_in part kept bytes) ≡ d.registers.stop
+line_is part kept d bytes s = ap line_by s.stop_is ∙ line_at_end (length bytes) d.registers.stop
+
+-- all bytes are taken
+pub taken_is : (part : PartData) (kept : Kept) (d : DeviceState) (bytes : List ℕ) → DeviceStandsFor part kept d bytes → taken_of part kept bytes ≡ length bytes
+taken_is part kept d bytes s = ap (λ (o : Option Stopped). taken_by o (length bytes)) s.stop_is ∙ taken_at_end (length bytes) d.registers.stop
+
+-- a device that goes on is in a session where its bytes end in one
+pub synced_is : (c : Bool) (place : Place) (bytes : List ℕ) → c ≡ is_synced place → place ≡ (reading_of bytes).place → c ≡ is_synced (reading_of bytes).place
+synced_is c place bytes e f = e ∙ ap is_synced f
+
+-- startup has not begun
+pub progress_is : (part : PartData) (kept : Kept) (d : DeviceState) (bytes : List ℕ) (n : ℕ) → DeviceStandsFor part kept d bytes → startup_progress (history_taken part kept bytes) n ≡ NotBegun
+progress_is part kept d bytes n s = not_begun (history_taken part kept bytes) n s.registers_are.stop.before
+
+-- ---- a stop is final
+
+firing_later : (part : PartData) (kept : Kept) (h : History) (from count more place : ℕ) → first_firing part kept h from count ≡ Some place → first_firing part kept h from (count + more) ≡ Some place
+firing_later part kept h from count zero place e =
+    let same : count + 0 ≡ count = omega arith in
+    ap (first_firing part kept h from) same ∙ e
+firing_later part kept h from count (suc more) place e =
+    let next : count + suc more ≡ suc (count + more) = omega arith in
+    ap (first_firing part kept h from) next
+    ∙ ap (λ (o : Option ℕ). fired_or o (fires part kept h (from + (count + more) + 1)) (from + (count + more) + 1)) (firing_later part kept h from count more place e)
+
+-- a firing after more bytes is the one that there was
+watchdog_later : (part : PartData) (kept : Kept) (h : History) (from n m : ℕ) (s : Stopped) → n ≤ m → stopped_by_watchdog (first_firing part kept h from n) ≡ Some s → stopped_by_watchdog (first_firing part kept h from m) ≡ Some s
+watchdog_later part kept h from n m s l e = by_firing (first_firing part kept h from n) refl e
+  where
+    by_firing : (o : Option ℕ) → first_firing part kept h from n ≡ o → stopped_by_watchdog o ≡ Some s → stopped_by_watchdog (first_firing part kept h from m) ≡ Some s
+    by_firing None f g = absurd cc
+    by_firing (Some place) f g =
+        let sum : m ≡ n + (m - n) = omega arith in
+        ap stopped_by_watchdog (ap (first_firing part kept h from) sum ∙ firing_later part kept h from n (m - n) place f) ∙ g
+
+-- the later of two lines that may hold
+later_line : (first line : Option Stopped) (now next : Option Stopped) (s : Stopped) → (now ≡ Some s → next ≡ Some s) → or_else first (or_else line now) ≡ Some s → or_else first (or_else line next) ≡ Some s
+later_line (Some x) line now next s f e = e
+later_line None (Some x) now next s f e = e
+later_line None None now next s f e = f e
+
+stop_later : (part : PartData) (kept : Kept) (h : History) (n m : ℕ) (s : Stopped) → n ≤ m → stop_of part kept h n ≡ Some s → stop_of part kept h m ≡ Some s
+stop_later part kept [] n m s l e = watchdog_later part kept [] 0 n m s l e
+stop_later part kept (x ∷ h) n m s l e =
+    later_line (stop_of part kept h x.place) (stopped_at x.place (line_at part kept h x.access)) _ _ s
+    (watchdog_later part kept (x ∷ h) x.place (n - x.place) (m - x.place) s (omega arith)) e
+
+-- newer accesses leave a stop
+stop_stays_behind : (part : PartData) (kept : Kept) (newer h : History) (n k m : ℕ) (s : Stopped) → AllBehind n k newer → n ≤ m → stop_of part kept h n ≡ Some s → stop_of part kept (newer ++ h) m ≡ Some s
+stop_stays_behind part kept [] h n k m s a l e = stop_later part kept h n m s l e
+stop_stays_behind part kept (x ∷ newer) h n k m s a l e =
+    let before : stop_of part kept (newer ++ h) x.place ≡ Some s = stop_stays_behind part kept newer h n k x.place s a.2 (omega (arith, a.0)) e in
+    ap (λ (o : Option Stopped). or_else o (or_else (stopped_at x.place (line_at part kept (newer ++ h) x.access)) (stopped_by_watchdog (first_firing part kept (x ∷ (newer ++ h)) x.place (m - x.place))))) before
+
+-- the first stop of bytes is that of further bytes too
+pub stop_is_final-stop : (part : PartData) (kept : Kept) (bytes more : List ℕ) (s : Stopped) → AreBytes (bytes ++ more) → stop_in part kept bytes ≡ Some s → stop_in part kept (bytes ++ more) ≡ Some s
+stop_is_final-stop part kept bytes more s f e =
+    let n : IsLater (length bytes) (history_of bytes) (bytes ++ more) = newer_of bytes more f in
+    ap (λ (h : History). stop_of part kept h (length (bytes ++ more))) n.1
+    ∙ stop_stays_behind part kept n.0 (history_of bytes) (length bytes) (length (bytes ++ more)) (length (bytes ++ more)) s n.2 (omega (arith, length-append bytes more)) e
+
+-- the place of a stop lies in the bytes
+firing_by_sooner : (from count place : ℕ) (o : Option ℕ) (b : Bool) → (o ≡ Some place → (from < place) × (place ≤ from + count)) → fired_or o b (from + count + 1) ≡ Some place → (from < place) × (place ≤ from + suc count)
+firing_by_sooner from count place None true f g = let p : from + count + 1 ≡ place = cc in (omega arith, omega arith)
+firing_by_sooner from count place None false f g = absurd cc
+firing_by_sooner from count place (Some q) b f g = ((f g).0, omega (arith, (f g).1))
+
+firing_within : (part : PartData) (kept : Kept) (h : History) (from count place : ℕ) → first_firing part kept h from count ≡ Some place → (from < place) × (place ≤ from + count)
+firing_within part kept h from zero place e = absurd cc
+firing_within part kept h from (suc count) place e =
+    firing_by_sooner from count place (first_firing part kept h from count) (fires part kept h (from + count + 1)) (firing_within part kept h from count place) e
+
+watchdog_within : (part : PartData) (kept : Kept) (h : History) (from count n : ℕ) (s : Stopped) → stopped_by_watchdog (first_firing part kept h from count) ≡ Some s → from + count ≤ n → (0 < s.place) × (s.place ≤ n)
+watchdog_within part kept h from count n s e l = by_firing (first_firing part kept h from count) (firing_within part kept h from count) e
+  where
+    by_firing : (o : Option ℕ) → ((place : ℕ) → o ≡ Some place → (from < place) × (place ≤ from + count)) → stopped_by_watchdog o ≡ Some s → (0 < s.place) × (s.place ≤ n)
+    by_firing None f g = absurd cc
+    by_firing (Some place) f g =
+        let w : (from < place) × (place ≤ from + count) = f place refl in
+        let p : place ≡ s.place = cc in
+        (omega (arith, w.0), omega (arith, w.1))
+
+some_line : (place : ℕ) (o : Option Stop) (s : Stopped) → stopped_at place o ≡ Some s → s.place ≡ place
+some_line place None s e = absurd cc
+some_line place (Some line) s e = cc
+
+-- which of three lines holds
+of_three : {A : Type 0} (a b c : Option A) (x : A) (P : Type 0) → (a ≡ Some x → P) → (b ≡ Some x → P) → (c ≡ Some x → P) → or_else a (or_else b c) ≡ Some x → P
+of_three (Some y) b c x P f g h e = f e
+of_three None (Some y) c x P f g h e = g e
+of_three None None c x P f g h e = h e
+
+stop_within : (part : PartData) (kept : Kept) (h : History) (n : ℕ) (s : Stopped) → Placed n h → stop_of part kept h n ≡ Some s → (0 < s.place) × (s.place ≤ n)
+stop_within part kept [] n s p e = watchdog_within part kept [] 0 n n s e (omega arith)
+stop_within part kept (x ∷ h) n s p e =
+    of_three (stop_of part kept h x.place) (stopped_at x.place (line_at part kept h x.access)) (stopped_by_watchdog (first_firing part kept (x ∷ h) x.place (n - x.place))) s ((0 < s.place) × (s.place ≤ n))
+    (λ f. let w : (0 < s.place) × (s.place ≤ x.place) = stop_within part kept h x.place s (placed_within (x.place - 1) x.place h (omega arith) p.2) f in (w.0, omega (arith, w.1, p.1)))
+    (λ f. let w : s.place ≡ x.place = some_line x.place (line_at part kept h x.access) s f in (omega (arith, p.0), omega (arith, p.1)))
+    (λ f. watchdog_within part kept (x ∷ h) x.place (n - x.place) n s f (omega (arith, p.1)))
+    e
+
+pub stop_place : (part : PartData) (kept : Kept) (bytes : List ℕ) (s : Stopped) → AreBytes bytes → stop_in part kept bytes ≡ Some s → (0 < s.place) × (s.place ≤ length bytes)
+stop_place part kept bytes s f e = stop_within part kept (history_of bytes) (length bytes) s (placed_of bytes f) e
+
+counted_least : (line : Stop) (place : ℕ) → last_counted line place ≤ place
+counted_least (stop.Fault (fault.Packet w)) place = omega arith
+counted_least (stop.Fault (fault.Id want got)) place = omega arith
+counted_least (stop.Fault (fault.Crc want got)) place = omega arith
+counted_least (stop.Fault (fault.Address far)) place = omega arith
+counted_least (stop.Fault fault.Overrun) place = omega arith
+counted_least (stop.Fault fault.Multi) place = omega arith
+counted_least (stop.Fault fault.Encrypted) place = omega arith
+counted_least (stop.Fault fault.Watchdog) place = omega arith
+counted_least (stop.Fault fault.Unbuilt) place = omega arith
+counted_least stop.Iprog place = omega arith
+
+-- accesses past a place don't count up to it
+behind_it : (n k m : ℕ) (newer h : History) → AllBehind n m newer → k ≤ n → until k (newer ++ h) ≡ until k h
+behind_it n k m [] h a l = refl
+behind_it n k m (x ∷ newer) h a l = ap (λ (b : Bool). if b then until k (newer ++ h) else x ∷ (newer ++ h)) (lt-ltb k x.place (omega (arith, a.0))) ∙ behind_it n k m newer h a.2 l
+
+-- the history taken is that of further bytes too
+history_final : (part : PartData) (kept : Kept) (bytes more : List ℕ) (s : Stopped) → AreBytes (bytes ++ more) → stop_in part kept bytes ≡ Some s → history_taken part kept (bytes ++ more) ≡ history_taken part kept bytes
+history_final part kept bytes more s f e =
+    let n : IsLater (length bytes) (history_of bytes) (bytes ++ more) = newer_of bytes more f in
+    let least : last_counted s.line s.place ≤ length bytes = omega (arith, counted_least s.line s.place, (stop_place part kept bytes s (all_front (λ b. b < 256) bytes more f) e).1) in
+    ap (λ (o : Option Stopped). history_by o (history_of (bytes ++ more))) (stop_is_final-stop part kept bytes more s f e)
+    ∙ ap (until (last_counted s.line s.place)) n.1
+    ∙ behind_it (length bytes) (last_counted s.line s.place) (length (bytes ++ more)) n.0 (history_of bytes) n.2 least
+    ∙ sym (ap (λ (o : Option Stopped). history_by o (history_of bytes)) e)
+
+pub stop_is_final-reads : (part : PartData) (kept : Kept) (bytes more : List ℕ) (s : Stopped) → AreBytes (bytes ++ more) → stop_in part kept bytes ≡ Some s → reads_of part kept (bytes ++ more) ≡ reads_of part kept bytes
+stop_is_final-reads part kept bytes more s f e = ap (read_out part kept) (history_final part kept bytes more s f e)
+
+-- behind a stop it doesn't matter whether the bytes end in a session
+stopped_state : (part : PartData) (kept : Kept) (wrapped : Bool) (line : Stop) (h : History) (n : ℕ) (a b : Bool) → state_by part kept wrapped (Some line) h n a ≡ state_by part kept wrapped (Some line) h n b
+stopped_state part kept wrapped (stop.Fault f) h n a b = refl
+stopped_state part kept wrapped stop.Iprog h n a b = refl
+
+pub stop_is_final-state : (part : PartData) (kept : Kept) (wrapped : Bool) (bytes more : List ℕ) (s : Stopped) → AreBytes (bytes ++ more) → stop_in part kept bytes ≡ Some s → state_of part kept wrapped (bytes ++ more) ≡ state_of part kept wrapped bytes
+stop_is_final-state part kept wrapped bytes more s f e =
+    let later : stop_in part kept (bytes ++ more) ≡ Some s = stop_is_final-stop part kept bytes more s f e in
+    let session : Bool = is_synced (reading_of (bytes ++ more)).place in
+    ap (λ (o : Option Stopped). state_by part kept wrapped (line_by o) (history_taken part kept (bytes ++ more)) (taken_by o (length (bytes ++ more))) session) later
+    ∙ ap (λ (h : History). state_by part kept wrapped (Some s.line) h s.place session) (history_final part kept bytes more s f e)
+    ∙ stopped_state part kept wrapped s.line (history_taken part kept bytes) s.place session (is_synced (reading_of bytes).place)
+    ∙ sym (ap (λ (o : Option Stopped). state_by part kept wrapped (line_by o) (history_taken part kept bytes) (taken_by o (length bytes)) (is_synced (reading_of bytes).place)) e)
+
+-- no bytes before the place of a stop have one
+pub no_stop_before : (part : PartData) (kept : Kept) (bytes more : List ℕ) (s : Stopped) → AreBytes (bytes ++ more) → stop_in part kept (bytes ++ more) ≡ Some s → length bytes < s.place → stop_in part kept bytes ≡ None
+no_stop_before part kept bytes more s f e l = by_stop (stop_in part kept bytes) refl
+  where
+    by_stop : (o : Option Stopped) → stop_in part kept bytes ≡ o → stop_in part kept bytes ≡ None
+    by_stop None g = g
+    by_stop (Some t) g =
+        let same : t ≡ s = (let later : stop_in part kept (bytes ++ more) ≡ Some t = stop_is_final-stop part kept bytes more t f g in cc) in
+        absurd (omega (arith, (stop_place part kept bytes t (all_front (λ b. b < 256) bytes more f) g).1, ap (λ (x : Stopped). x.place) same, l))

@@ -1,0 +1,25 @@
+-- What a device keeps over a reset (this project's choice): three registers, and what the boot history says of its attempts.
+use Rattle.std.specs.Prelude.{ℕ, ◌==◌, if◌then◌else◌, Bool, true, false, None}
+use Rattle.x7_regs.specs.declared.boot_status.Kind.{Kind}
+use Rattle.x7_regs.specs.declared.boot_status.Kind.TheVariants.{Bench, Power, Iprog, Fallback}
+use Rattle.x7_regs.specs.declared.register.Reg.TheVariants.{Wbstar, Timer, Bspi}
+use Rattle.x7_regs.specs.Register.{number_of}
+use Rattle.x7_engine.specs.declared.kept.Kept.{Kept}
+
+-- a device on the bench keeps nothing
+abbrev pub on_the_bench : Kept
+on_the_bench = record { wbstar = 0; timer = 0; bspi = 0; kind = Bench; before = None }
+
+-- the word that a register has kept, and 0 for one that keeps none
+abbrev pub kept_word : Kept → ℕ → ℕ
+kept_word kept register =
+    if register == number_of Wbstar then kept.wbstar else
+    if register == number_of Timer then kept.timer else
+    if register == number_of Bspi then kept.bspi else 0
+
+-- whether the attempt is a fallback, which has no watchdog and ignores IPROG
+abbrev pub is_fallback : Kind → Bool
+is_fallback Bench = false
+is_fallback Power = false
+is_fallback Iprog = false
+is_fallback Fallback = true

@@ -1,0 +1,10 @@
+pub mod Kept
+pub mod ReadBuffer
+pub mod Registers
+pub mod Standing
+pub mod Startup
+pub mod State
+pub mod Stops
+pub mod Text
+pub mod Values
+pub mod Watching

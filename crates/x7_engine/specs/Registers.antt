@@ -1,0 +1,115 @@
+-- What a history leaves in the registers and flags of a device (UG470, configuration registers and command register).
+-- A history stands with its newest access first.
+use Rattle.std.specs.Prelude.{◌≡◌, ◌<◌, ℕ, ◌-◌, ◌%◌, ◌^◌, ◌==◌, ◌&&◌, ◌||◌, Bool, true, false, if◌then◌else◌, List, [], ◌∷◌, Option, bit_and, bit_or}
+use Rattle.std.specs.Int.{bit_at}
+use Rattle.std.specs.List.{list_any}
+use Rattle.x7_packets.specs.History.{Access, Write, History, last_word, command_held, executed_by, is_command}
+use Rattle.x7_crc.specs.OpenWrites.{running_check}
+use Rattle.x7_regs.specs.declared.command.Command.TheVariants.{Aghigh, Iprog, Lfrm, Rcrc, Shutdown}
+use Rattle.x7_regs.specs.declared.register.Reg.{Reg}
+use Rattle.x7_regs.specs.declared.register.Reg.TheVariants.{Cbc, Cmd, Crc, Ctl0, Ctl1, Far, Fdri, Idcode, Lout, Mask, Mfwr, Timer}
+use Rattle.x7_regs.specs.Command.{code_of}
+use Rattle.x7_regs.specs.Register.{number_of}
+use Rattle.x7_engine.specs.declared.kept.Kept.{Kept}
+use Rattle.x7_engine.specs.Kept.{kept_word}
+
+-- the last word written to a register; where none was, the one kept over the reset
+abbrev pub word_held : Kept → ℕ → History → ℕ
+word_held kept register h = last_word register (kept_word kept register) h
+
+-- the word of MASK, which stays until it is written again (this project's choice)
+abbrev pub mask_held : History → ℕ
+mask_held h = last_word (number_of Mask) 0 h
+
+-- a register under MASK after an access: the written bits where MASK has them, and the old ones elsewhere
+abbrev pub masked_word : ℕ → ℕ → Access → ℕ → ℕ
+masked_word register mask (Write r w) old = if r == register then bit_or (bit_and old (2 ^ 32 - 1 - mask)) (bit_and w mask) else old
+masked_word register mask _ old = old
+
+-- CTL0 or CTL1 by its number
+abbrev pub masked : ℕ → History → ℕ
+masked register [] = 0
+masked register (e ∷ h) = masked_word register (mask_held h) e.access (masked register h)
+
+-- the same bit by bit: each is that of the last word written there while MASK had it, and 0 where none was
+abbrev pub bit_written : ℕ → ℕ → ℕ → Access → ℕ → ℕ
+bit_written register i mask (Write r w) old = if r == register && bit_at mask i == 1 then bit_at w i else old
+bit_written register i mask _ old = old
+
+abbrev pub masked_bit : ℕ → ℕ → History → ℕ
+masked_bit register i [] = 0
+masked_bit register i (e ∷ h) = bit_written register i (mask_held h) e.access (masked_bit register i h)
+
+-- the number whose bits these are
+pub record HasMaskedBits (register n : ℕ) (h : History) : Type 0 where
+  pub fits : n < 2 ^ 32
+  pub bits : (i : ℕ) → i < 32 → bit_at n i ≡ masked_bit register i h
+
+abbrev pub ctl0_held : History → ℕ
+ctl0_held h = masked (number_of Ctl0) h
+
+-- the frame address that FAR was last loaded with: its word's bits 25:0
+abbrev pub far_loaded : History → ℕ
+far_loaded h = last_word (number_of Far) 0 h % 2 ^ 26
+
+-- a written IDCODE is the part's where the low 28 bits agree (that bits 31:28 aren't compared is this project's choice)
+abbrev pub same_idcode : ℕ → ℕ → Bool
+same_idcode idcode w = w % 2 ^ 28 == idcode % 2 ^ 28
+
+abbrev pub names_part : ℕ → Access → Bool
+names_part idcode (Write register w) = register == number_of Idcode && same_idcode idcode w
+names_part idcode _ = false
+
+-- the device is matched: a written IDCODE was the part's
+abbrev pub is_matched : ℕ → History → Bool
+is_matched idcode [] = false
+is_matched idcode (e ∷ h) = names_part idcode e.access || is_matched idcode h
+
+-- the access writes this word to CRC
+abbrev pub writes_check : ℕ → Access → Bool
+writes_check check (Write register w) = register == number_of Crc && w == check
+writes_check check _ = false
+
+-- an access at which the check was right: RCRC is executed, or the running check is written to CRC; here by the command executed and the check
+abbrev pub clears_by : Option ℕ → ℕ → Access → Bool
+clears_by command check access = is_command (code_of Rcrc) command || writes_check check access
+
+abbrev pub is_clearance : History → Access → Bool
+is_clearance h access = clears_by (executed_by (command_held h) access) (running_check h) access
+
+abbrev pub pending_after : Option ℕ → Bool → Bool → Bool
+pending_after command cleared pending = if cleared then false else is_command (code_of Shutdown) command || pending
+
+-- a shutdown is pending: SHUTDOWN was executed since the last clearance (this project's choice)
+abbrev pub is_pending : History → Bool
+is_pending [] = false
+is_pending (e ∷ h) = pending_after (executed_by (command_held h) e.access) (is_clearance h e.access) (is_pending h)
+
+-- the access takes a pending shutdown (this project's choice)
+abbrev pub takes_shutdown : History → Access → Bool
+takes_shutdown h access = is_clearance h access && is_pending h
+
+abbrev pub ghigh_after : Option ℕ → Bool → Bool → Bool
+ghigh_after command taken ghigh = if is_command (code_of Lfrm) command then true else if is_command (code_of Aghigh) command || taken then false else ghigh
+
+-- GHIGH_B: the latest of LFRM, AGHIGH and a taken shutdown is LFRM
+abbrev pub has_ghigh : History → Bool
+has_ghigh [] = false
+has_ghigh (e ∷ h) = ghigh_after (executed_by (command_held h) e.access) (takes_shutdown h e.access) (has_ghigh h)
+
+-- the access writes this command to CMD
+abbrev pub writes_command : ℕ → Access → Bool
+writes_command command (Write register w) = register == number_of Cmd && w % 2 ^ 5 == command
+writes_command command _ = false
+
+-- an IPROG command was written
+abbrev pub wrote_iprog : History → Bool
+wrote_iprog [] = false
+wrote_iprog (e ∷ h) = writes_command (code_of Iprog) e.access || wrote_iprog h
+
+-- a word written to this register does more than stay and be folded; a write to LOUT isn't folded (this project's choice)
+abbrev pub effective_registers : List Reg
+effective_registers = Crc ∷ Far ∷ Fdri ∷ Cmd ∷ Ctl0 ∷ Lout ∷ Mfwr ∷ Cbc ∷ Idcode ∷ Timer ∷ Ctl1 ∷ []
+
+abbrev pub has_effect : ℕ → Bool
+has_effect register = list_any (λ reg. register == number_of reg) effective_registers

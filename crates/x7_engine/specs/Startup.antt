@@ -1,0 +1,49 @@
+-- The startup sequence of a history: the calls that its accesses and the bytes taken make (UG470, startup).
+use Rattle.std.specs.Prelude.{ℕ, zero, suc, ◌-◌, ◌/◌, ◌==◌, nat_le, Bool, if◌then◌else◌, List, [], ◌∷◌, ◌++◌, replicate}
+use Rattle.x7_packets.specs.History.{Access, History, executes, last_word}
+use Rattle.x7_part.specs.Part.{PartData}
+use Rattle.x7_regs.specs.declared.command.Command.TheVariants.{Desync, Start}
+use Rattle.x7_regs.specs.declared.register.Reg.TheVariants.{Cor0}
+use Rattle.x7_regs.specs.Command.{code_of}
+use Rattle.x7_regs.specs.Register.{number_of}
+use Rattle.x7_startup.specs.Arrivals.{arrival, wait_of}
+use Rattle.x7_startup.specs.Calls.{Call, Progress, NotBegun, Begun, progress_of}
+use Rattle.x7_startup.specs.Calls as call
+use Rattle.x7_engine.specs.Registers.{takes_shutdown}
+
+-- what an access after this history asks of startup
+abbrev pub startup_call : History → Access → List Call
+startup_call h access =
+    if executes (code_of Start) h access then call.Arm ∷ [] else
+    if takes_shutdown h access then call.DropBack ∷ [] else
+    if executes (code_of Desync) h access then call.Desync (last_word (number_of Cor0) 0 h) ∷ [] else []
+
+-- the calls of a history with so many bytes taken: each byte's before that of the access that ends there
+abbrev pub startup_calls : History → ℕ → List Call
+startup_calls [] n = replicate n call.Byte
+startup_calls (e ∷ h) n = startup_calls h e.place ++ startup_call h e.access ++ replicate (n - e.place) call.Byte
+
+-- how far startup is
+abbrev pub startup_progress : History → ℕ → Progress
+startup_progress h n = progress_of (startup_calls h n)
+
+-- the greatest phase, up to the last one given, that has begun after so many ticks
+abbrev pub greatest_begun : (ℕ → ℕ) → ℕ → ℕ → ℕ
+greatest_begun wait ticks zero = 0
+greatest_begun wait ticks (suc p) = if nat_le (arrival wait (suc p)) ticks then suc p else greatest_begun wait ticks p
+
+-- the phase after so many ticks
+unfoldable pub phase_at : (ℕ → ℕ) → ℕ → ℕ
+phase_at wait ticks = greatest_begun wait ticks 7
+
+abbrev pub phase_by : PartData → Progress → ℕ
+phase_by part NotBegun = 0
+phase_by part (Begun cor0 bytes) = phase_at (wait_of part.lock part.matched cor0) (bytes / 4)
+
+-- the phase of startup
+abbrev pub phase_of : PartData → History → ℕ → ℕ
+phase_of part h n = phase_by part (startup_progress h n)
+
+-- startup has ended
+abbrev pub has_ended : PartData → History → ℕ → Bool
+has_ended part h n = phase_of part h n == 7

@@ -1,0 +1,88 @@
+-- The state of a device as a function of all bytes since its reset (this project's choice where UG470 leaves it open).
+use Rattle.std.specs.Prelude.{ℕ, ◌-◌, Bool, if◌then◌else◌, List, length, Option, None, Some}
+use Rattle.x7_packets.specs.ByHand.{reading_of}
+use Rattle.x7_packets.specs.History.{History, history_of, until}
+use Rattle.x7_packets.specs.Reading.{is_synced}
+use Rattle.x7_part.specs.Part.{PartData}
+use Rattle.x7_regs.specs.Register.{number_of}
+use Rattle.x7_regs.specs.declared.register.Reg.TheVariants.{Crc, Far, Cmd, Ctl0, Mask, Stat, Cor0, Idcode, Axss, Cor1, Wbstar, Timer, Bootsts, Ctl1, Bspi}
+use Rattle.x7_engine.specs.declared.fault.Fault.TheVariants as fault
+use Rattle.x7_engine.specs.declared.kept.Kept.{Kept}
+use Rattle.x7_engine.specs.declared.regs.End.{End}
+use Rattle.x7_engine.specs.declared.regs.End.TheVariants as at_end
+use Rattle.x7_engine.specs.declared.regs.Regs.{Regs}
+use Rattle.x7_engine.specs.declared.stop.Stop.{Stop}
+use Rattle.x7_engine.specs.declared.stop.Stop.TheVariants as stop
+use Rattle.x7_engine.specs.Registers.{word_held}
+use Rattle.x7_engine.specs.Startup.{phase_by, startup_progress}
+use Rattle.x7_engine.specs.Stops.{Stopped, fault_of, stop_of}
+use Rattle.x7_engine.specs.Values.{lines_by, read_out, value_of}
+
+-- the first stop in the bytes, where there is one
+abbrev pub stop_in : PartData → Kept → List ℕ → Option Stopped
+stop_in part kept bytes = stop_of part kept (history_of bytes) (length bytes)
+
+-- how many bytes are taken: all, or those up to the stop
+abbrev pub taken_by : Option Stopped → ℕ → ℕ
+taken_by None n = n
+taken_by (Some s) n = s.place
+
+-- the last byte whose access counts: a word that ends at a firing of the watchdog isn't executed
+abbrev pub last_counted : Stop → ℕ → ℕ
+last_counted (stop.Fault fault.Watchdog) place = place - 1
+last_counted _ place = place
+
+abbrev pub history_by : Option Stopped → History → History
+history_by None h = h
+history_by (Some s) h = until (last_counted s.line s.place) h
+
+-- the line of a stop
+abbrev pub line_by : Option Stopped → Option Stop
+line_by None = None
+line_by (Some s) = Some s.line
+
+-- where the bytes taken end; an obeyed IPROG shows WBSTAR
+abbrev pub end_by : Option Stop → Bool → ℕ → End
+end_by None synced wbstar = if synced then at_end.Synced else at_end.Searching
+end_by (Some (stop.Fault f)) synced wbstar = at_end.Fault f
+end_by (Some stop.Iprog) synced wbstar = at_end.Iprog wbstar
+
+-- the state after n bytes taken with this history and this stop
+abbrev pub state_by : PartData → Kept → Bool → Option Stop → History → ℕ → Bool → Regs
+state_by part kept wrapped line h n synced = record {
+  taken = n;
+  end = end_by line synced (word_held kept (number_of Wbstar) h);
+  phase = phase_by part (startup_progress h n);
+  lines = lines_by part (startup_progress h n);
+  crc = value_of part kept wrapped (fault_of line) h n Crc;
+  far = value_of part kept wrapped (fault_of line) h n Far;
+  cmd = value_of part kept wrapped (fault_of line) h n Cmd;
+  ctl0 = value_of part kept wrapped (fault_of line) h n Ctl0;
+  mask = value_of part kept wrapped (fault_of line) h n Mask;
+  stat = value_of part kept wrapped (fault_of line) h n Stat;
+  cor0 = value_of part kept wrapped (fault_of line) h n Cor0;
+  idcode = value_of part kept wrapped (fault_of line) h n Idcode;
+  axss = value_of part kept wrapped (fault_of line) h n Axss;
+  cor1 = value_of part kept wrapped (fault_of line) h n Cor1;
+  wbstar = value_of part kept wrapped (fault_of line) h n Wbstar;
+  timer = value_of part kept wrapped (fault_of line) h n Timer;
+  bootsts = value_of part kept wrapped (fault_of line) h n Bootsts;
+  ctl1 = value_of part kept wrapped (fault_of line) h n Ctl1;
+  bspi = value_of part kept wrapped (fault_of line) h n Bspi;
+}
+
+-- how many of the bytes are taken, and the history of those
+abbrev pub taken_of : PartData → Kept → List ℕ → ℕ
+taken_of part kept bytes = taken_by (stop_in part kept bytes) (length bytes)
+
+abbrev pub history_taken : PartData → Kept → List ℕ → History
+history_taken part kept bytes = history_by (stop_in part kept bytes) (history_of bytes)
+
+-- the state of a device after these bytes, whose attempt the end of the flash has wrapped or not
+abbrev pub state_of : PartData → Kept → Bool → List ℕ → Regs
+state_of part kept wrapped bytes =
+    state_by part kept wrapped (line_by (stop_in part kept bytes)) (history_taken part kept bytes) (taken_of part kept bytes) (is_synced (reading_of bytes).place)
+
+-- the words read out by then
+abbrev pub reads_of : PartData → Kept → List ℕ → List ℕ
+reads_of part kept bytes = read_out part kept (history_taken part kept bytes)

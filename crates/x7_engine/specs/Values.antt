@@ -1,0 +1,120 @@
+-- The values of the registers as they are read (UG470, configuration registers).
+use Rattle.std.specs.Prelude.{ℕ, ◌==◌, ◌&&◌, Bool, true, false, not, nat_le, if◌then◌else◌, List, [], ◌∷◌, ◌++◌, Option, None, Some, replicate, is_some}
+use Rattle.x7_packets.specs.History.{Access, Write, Read, Bad, History, command_held}
+use Rattle.x7_crc.specs.OpenWrites.{running_check}
+use Rattle.x7_part.specs.Part.{PartData}
+use Rattle.x7_regs.specs.BootStatus.{boot_status_of}
+use Rattle.x7_regs.specs.Register.{number_of, reg_with}
+use Rattle.x7_regs.specs.Status.{status_of}
+use Rattle.x7_regs.specs.declared.boot_status.Attempt.{Attempt}
+use Rattle.x7_regs.specs.declared.boot_status.Cause.{Cause}
+use Rattle.x7_regs.specs.declared.boot_status.Cause.TheVariants as cause
+use Rattle.x7_regs.specs.declared.register.Reg.{Reg}
+use Rattle.x7_regs.specs.declared.register.Reg.TheVariants.{Crc, Far, Fdri, Fdro, Cmd, Ctl0, Mask, Stat, Lout, Cor0, Mfwr, Cbc, Idcode, Axss, Cor1, Wbstar, Timer, Bootsts, Ctl1, Bspi}
+use Rattle.x7_regs.specs.declared.status.StatParts.{StatParts}
+use Rattle.x7_startup.specs.Calls.{Progress, cor0_of, ticks_of}
+use Rattle.x7_startup.specs.Lines.{done_line, gts_line, gwe_line}
+use Rattle.x7_startup.specs.declared.lines.Lines.{Lines}
+use Rattle.x7_engine.specs.declared.fault.Fault.{Fault}
+use Rattle.x7_engine.specs.declared.fault.Fault.TheVariants as fault
+use Rattle.x7_engine.specs.declared.kept.Kept.{Kept}
+use Rattle.x7_engine.specs.Kept.{is_fallback}
+use Rattle.x7_engine.specs.Registers.{ctl0_held, far_loaded, has_ghigh, mask_held, masked, word_held, wrote_iprog}
+use Rattle.x7_engine.specs.Startup.{phase_by, startup_progress}
+use Rattle.x7_engine.specs.Stops.{line_at}
+
+-- which fault a device has
+abbrev pub is_crc_fault : Option Fault → Bool
+is_crc_fault (Some (fault.Crc want got)) = true
+is_crc_fault _ = false
+
+abbrev pub is_id_fault : Option Fault → Bool
+is_id_fault (Some (fault.Id want got)) = true
+is_id_fault _ = false
+
+-- the lines, by how far startup is
+abbrev pub lines_by : PartData → Progress → Lines
+lines_by part p = record {
+  done = done_line (cor0_of p) (phase_by part p);
+  gts = gts_line (cor0_of p) (phase_by part p);
+  gwe = gwe_line (cor0_of p) (phase_by part p);
+}
+
+-- what STAT tells, by how far startup is
+abbrev pub stat_parts : PartData → Option Fault → Progress → Bool → StatParts
+stat_parts part fault p ghigh = record {
+  crc_error = is_crc_fault fault;
+  lock = nat_le part.lock (ticks_of p);
+  matched = nat_le part.matched (ticks_of p);
+  eos = phase_by part p == 7;
+  gts = (lines_by part p).gts;
+  gwe = (lines_by part p).gwe;
+  ghigh = ghigh;
+  mode = part.mode;
+  init_b = not (is_crc_fault fault);
+  done = (lines_by part p).done;
+  id_error = is_id_fault fault;
+  phase = phase_by part p;
+  bus_width = part.bus_width;
+}
+
+-- the check as CRC shows it: at the fault Crc the one that was wanted
+abbrev pub check_shown : Option Fault → History → ℕ
+check_shown (Some (fault.Crc want got)) h = want
+check_shown _ h = running_check h
+
+-- what an attempt failed by: a fault Id, Crc or Watchdog, or else the end of the flash
+abbrev pub wrap_cause : Bool → Option Cause
+wrap_cause wrapped = if wrapped then Some cause.Wrap else None
+
+abbrev pub cause_of : Option Fault → Bool → Option Cause
+cause_of (Some (fault.Id want got)) wrapped = Some cause.Id
+cause_of (Some (fault.Crc want got)) wrapped = Some cause.Crc
+cause_of (Some fault.Watchdog) wrapped = Some cause.Watchdog
+cause_of _ wrapped = wrap_cause wrapped
+
+-- the present boot attempt; a fallback ignores IPROG, and says so
+abbrev pub attempt_of : Kept → Bool → Option Fault → History → Attempt
+attempt_of kept wrapped fault h = record { kind = kept.kind; cause = cause_of fault wrapped; ignored = is_fallback kept.kind && wrote_iprog h }
+
+-- the value of a register after a history with n bytes taken, and 0 for one that is only written
+abbrev pub value_of : PartData → Kept → Bool → Option Fault → History → ℕ → Reg → ℕ
+value_of part kept wrapped fault h n Crc = check_shown fault h
+value_of part kept wrapped fault h n Far = far_loaded h
+value_of part kept wrapped fault h n Fdri = 0
+value_of part kept wrapped fault h n Fdro = 0
+value_of part kept wrapped fault h n Cmd = command_held h
+value_of part kept wrapped fault h n Ctl0 = ctl0_held h
+value_of part kept wrapped fault h n Mask = mask_held h
+value_of part kept wrapped fault h n Stat = status_of (stat_parts part fault (startup_progress h n) (has_ghigh h))
+value_of part kept wrapped fault h n Lout = 0
+value_of part kept wrapped fault h n Cor0 = word_held kept (number_of Cor0) h
+value_of part kept wrapped fault h n Mfwr = 0
+value_of part kept wrapped fault h n Cbc = 0
+value_of part kept wrapped fault h n Idcode = part.idcode
+value_of part kept wrapped fault h n Axss = word_held kept (number_of Axss) h
+value_of part kept wrapped fault h n Cor1 = word_held kept (number_of Cor1) h
+value_of part kept wrapped fault h n Wbstar = word_held kept (number_of Wbstar) h
+value_of part kept wrapped fault h n Timer = word_held kept (number_of Timer) h
+value_of part kept wrapped fault h n Bootsts = boot_status_of (attempt_of kept wrapped fault h) kept.before
+value_of part kept wrapped fault h n Ctl1 = masked (number_of Ctl1) h
+value_of part kept wrapped fault h n Bspi = word_held kept (number_of Bspi) h
+
+-- the same by the register's number, and 0 for a number without a register
+abbrev pub value_or_zero : PartData → Kept → History → ℕ → Option Reg → ℕ
+value_or_zero part kept h n None = 0
+value_or_zero part kept h n (Some reg) = value_of part kept false None h n reg
+
+abbrev pub read_value : PartData → Kept → History → ℕ → ℕ → ℕ
+read_value part kept h n register = value_or_zero part kept h n (reg_with register)
+
+-- the words that an access after this history reads out: a read's value as often as it asks, taken where its header ends
+abbrev pub answer_of : PartData → Kept → History → Access → ℕ → List ℕ
+answer_of part kept h (Write register w) n = []
+answer_of part kept h (Read register count) n = if is_some (line_at part kept h (Read register count)) then [] else replicate count (read_value part kept h n register)
+answer_of part kept h (Bad w) n = []
+
+-- all words that a history reads out, in order
+abbrev pub read_out : PartData → Kept → History → List ℕ
+read_out part kept [] = []
+read_out part kept (e ∷ h) = read_out part kept h ++ answer_of part kept h e.access e.place

@@ -1,0 +1,57 @@
+-- The configuration watchdog of a history: the calls that its accesses and the bytes taken make (UG470, watchdog).
+use Rattle.std.specs.Prelude.{ℕ, zero, suc, ◌+◌, ◌-◌, ◌*◌, ◌==◌, ◌&&◌, Bool, not, if◌then◌else◌, List, [], ◌∷◌, ◌++◌, Option, None, Some}
+use Rattle.x7_packets.specs.History.{Access, Write, Read, Bad, History, executes}
+use Rattle.x7_part.specs.Part.{PartData}
+use Rattle.x7_regs.specs.declared.command.Command.TheVariants.{Ltimer}
+use Rattle.x7_regs.specs.declared.register.Reg.TheVariants.{Timer}
+use Rattle.x7_regs.specs.Command.{code_of}
+use Rattle.x7_regs.specs.Register.{number_of}
+use Rattle.x7_startup.specs.Count.{WatchCall, Load, Reload, Watched, cfg_mon_of, count_of, is_on, timer_value_of}
+use Rattle.x7_engine.specs.declared.kept.Kept.{Kept}
+use Rattle.x7_engine.specs.Kept.{is_fallback}
+use Rattle.x7_engine.specs.Registers.{word_held}
+use Rattle.x7_engine.specs.Startup.{has_ended}
+
+-- a word written to TIMER loads the watchdog
+abbrev pub load_call : Access → List WatchCall
+load_call (Write register w) = if register == number_of Timer then Load w ∷ [] else []
+load_call (Read register count) = []
+load_call (Bad w) = []
+
+-- what an access after this history asks of the watchdog
+abbrev pub watch_call : History → Access → List WatchCall
+watch_call h access = if executes (code_of Ltimer) h access then Reload ∷ [] else load_call access
+
+-- so many bytes after this history, the first of them behind byte `from`
+abbrev pub watched_bytes : PartData → History → ℕ → ℕ → List WatchCall
+watched_bytes part h from zero = []
+watched_bytes part h from (suc count) = watched_bytes part h from count ++ Watched (has_ended part h (from + count + 1)) ∷ []
+
+-- the calls of a history with so many bytes taken: each byte's before that of the access that ends there
+abbrev pub watch_calls : PartData → History → ℕ → List WatchCall
+watch_calls part [] n = watched_bytes part [] 0 n
+watch_calls part (e ∷ h) n = watch_calls part h e.place ++ watch_call h e.access ++ watched_bytes part (e ∷ h) e.place (n - e.place)
+
+-- the word of TIMER turns the watchdog on: CFG_MON is 1, and the value isn't 0
+abbrev pub turns_on : ℕ → Bool
+turns_on timer = cfg_mon_of timer == 1 && not (timer_value_of timer == 0)
+
+-- the word of TIMER
+abbrev pub timer_held : Kept → History → ℕ
+timer_held kept h = word_held kept (number_of Timer) h
+
+-- the watchdog fires at byte n, before which this is the history: it is on, and its count comes to four times the value
+abbrev pub fires : PartData → Kept → History → ℕ → Bool
+fires part kept h n =
+    is_on (is_fallback kept.kind) (timer_held kept h) (has_ended part h n)
+    && count_of (is_fallback kept.kind) kept.timer (watch_calls part h n) == timer_value_of (timer_held kept h) * 4
+
+-- the place where it fired, or this one where it fires there
+abbrev pub fired_or : Option ℕ → Bool → ℕ → Option ℕ
+fired_or (Some place) now n = Some place
+fired_or None now n = if now then Some n else None
+
+-- the least of so many bytes behind byte `from` at which it fires
+abbrev pub first_firing : PartData → Kept → History → ℕ → ℕ → Option ℕ
+first_firing part kept h from zero = None
+first_firing part kept h from (suc count) = fired_or (first_firing part kept h from count) (fires part kept h (from + count + 1)) (from + count + 1)

@@ -1,0 +1,66 @@
+//! The registers that take only the bits of MASK.
+ghost use Rattle.std.specs.Prelude.{◌≡◌, ℕ, ◌∷◌, [], ◌==◌};
+ghost use Rattle.x7_words.specs.Word.{field_of};
+ghost use Rattle.x7_packets.specs.History.{entry, History, Write};
+ghost use Rattle.x7_regs.specs.Register.{number_of};
+ghost use Rattle.x7_engine.specs.Registers.{ctl0_held, mask_held, masked_word};
+ghost use Rattle.x7_engine.specs.Stops.{forbids_reading, forbids_writing, has_dec};
+
+use x7_regs::Reg;
+
+/// The bits of the word where MASK has them, and the old ones elsewhere.
+pub(crate) fn masked(old: u32, mask: u32, word: u32) -> u32
+    ensures { (register : ℕ) → result ≡ masked_word register mask (Write register word) old }
+{
+    old & !mask | word & mask
+}
+
+/// Whether CTL0 has DEC (UG470, control register 0).
+pub(crate) fn is_dec(ctl0: u32) -> bool
+    ensures { result ≡ has_dec ctl0 }
+{
+    ctl0 >> 6 & 1 == 1
+}
+
+/// CTL0 and CTL1.
+#[derive(Clone, Copy, Debug)]
+pub(crate) struct Controls {
+    pub(crate) ctl0: u32,
+    pub(crate) ctl1: u32,
+}
+
+impl Controls {
+    ghost use Rattle.x7_engine.specs.Standing.{AreControls};
+
+    /// Those of a device that took nothing.
+    pub(crate) fn new() -> Controls
+        ensures { AreControls result [] }
+    {
+        Controls { ctl0: 0, ctl1: 0 }
+    }
+
+    /// Stores a written word, where it is one of theirs.
+    pub(crate) fn write(&mut self, reg: Reg, word: u32, mask: u32)
+        ensures { (h : History) (place : ℕ) → mask ≡ mask_held h → AreControls self.old h → AreControls self.new (entry (Write (number_of reg) word) place ∷ h) }
+    {
+        match reg {
+            Reg::Ctl0 => self.ctl0 = masked(self.ctl0, mask, word),
+            Reg::Ctl1 => self.ctl1 = masked(self.ctl1, mask, word),
+            _ => (),
+        }
+    }
+
+    /// Whether SBITS of CTL0 forbid the writing of frames (UG470, control register 0).
+    pub(crate) fn forbid_writing(&self) -> bool
+        ensures { (h : History) → AreControls self.now h → result ≡ forbids_writing (ctl0_held h) }
+    {
+        self.ctl0 >> 5 & 1 == 1
+    }
+
+    /// Whether SBITS of CTL0 forbid the reading of frames.
+    pub(crate) fn forbid_reading(&self) -> bool
+        ensures { (h : History) → AreControls self.now h → result ≡ forbids_reading (ctl0_held h) }
+    {
+        self.ctl0 >> 4 & 3 != 0
+    }
+}

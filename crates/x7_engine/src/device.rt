@@ -1,0 +1,237 @@
+//! A device.
+ghost use Rattle.std.specs.Prelude.{◌≡◌, ◌≤◌, ◌<◌, ◌+◌, ◌-◌, ◌^◌, ◌++◌, ℕ, List, [], false, length, replicate, take, IfOk, IsSome, IsTrue, ◌↔◌, ◌==◌, Option, None, Some};
+ghost use Rattle.x7_packets.specs.Cutting.{between, calls_left, IsNeed};
+ghost use Rattle.x7_part.specs.Part.{PartData};
+ghost use Rattle.x7_engine.specs.Kept.{on_the_bench};
+ghost use Rattle.x7_engine.specs.ReadBuffer.{IsFull, with_words};
+ghost use Rattle.x7_engine.specs.Standing.{Answers, DeviceStandsFor, fed_by, taken_in, told_of, with_due};
+ghost use Rattle.x7_engine.specs.State.{end_by, line_by, state_of, stop_in};
+ghost use Rattle.x7_engine.specs.Stops.{fault_of};
+
+use crate::fault::Fault;
+use crate::fed::Fed;
+use crate::read_buffer::ReadBuf;
+use crate::registers::Registers;
+use crate::regs::{End, Regs};
+use crate::stop::Stop;
+use std::alloc::Global;
+use std::marker::Model;
+use x7_packets::{Cut, Cutter};
+use x7_part::Part;
+use x7_regs::Reg;
+use x7_startup::Lines;
+use x7_words::NoMemory;
+
+/// A device of a part: its state is a function of all bytes since it was made.
+#[derive(Drop)]
+pub struct Device {
+    part: Part,
+    cutter: Cutter,
+    registers: Registers,
+    taken: u64,
+}
+
+impl Model for Device {
+    ghost use Rattle.x7_engine.specs.Standing.{DeviceState};
+
+    ghost Value = { DeviceState };
+
+    ghost view = { λ d. record { part = d.part; cutter = d.cutter; registers = d.registers; taken = d.taken } };
+}
+
+/// What a feed answers for a stop at this place of a piece.
+fn stopped(stop: Stop, at: usize) -> Fed
+    ensures { result ≡ fed_by stop at }
+{
+    match stop {
+        Stop::Fault(_) => Fed::Stopped(at),
+        Stop::Iprog => Fed::Iprog(at),
+    }
+}
+
+/// Where bytes end, by the stop, and without one by whether they end in a session.
+fn end_of(stop: Option<Stop>, synced: bool, wbstar: u32) -> End
+    ensures { result ≡ end_by stop synced wbstar }
+{
+    match stop {
+        Some(Stop::Fault(fault)) => End::Fault(fault),
+        Some(Stop::Iprog) => End::Iprog(wbstar),
+        None if synced => End::Synced,
+        None => End::Searching,
+    }
+}
+
+/// Whether a run says that the piece is used up.
+fn is_need(run: &Cut<'_>) -> bool
+    ensures { IsTrue result ↔ IsNeed run.now }
+{
+    match run {
+        Cut::Need => true,
+        _ => false,
+    }
+}
+
+impl Device {
+    /// A device of this part as after a reset on the bench.
+    pub fn new(alloc: Global, part: &Part) -> Result<Device, NoMemory>
+        ensures { IfOk result (λ d. DeviceStandsFor part.now on_the_bench d []) }
+    {
+        match part.copy(alloc) {
+            Ok(part) => Ok(Device {
+                part,
+                cutter: Cutter::new(),
+                registers: Registers::new(),
+                taken: 0,
+            }),
+            Err(NoMemory) => Err(NoMemory),
+        }
+    }
+
+    /// What stopped the device.
+    fn stop(&self) -> Option<Stop>
+        ensures { result ≡ self.now.registers.stop }
+    {
+        self.registers.stop()
+    }
+
+    /// Gives the words due to a buffer, as many as it has room for, and says whether none is left.
+    fn give(&mut self, read: &mut ReadBuf) -> bool
+        ensures none_left { IsTrue result ↔ (self.new.registers.due ≡ 0) }
+        ensures fewer { self.new.registers.due ≤ self.old.registers.due }
+        ensures same { self.new ≡ with_due self.old self.new.registers.due }
+        ensures words { read.new ≡ with_words read.old (replicate (self.old.registers.due - self.new.registers.due) self.old.registers.due_word) }
+        ensures full { 0 < self.new.registers.due → IsFull read.new }
+    {
+        self.registers.give(read)
+    }
+
+    /// Takes the next run of the piece from `at` on, which it moves behind the bytes taken, and says whether the piece is
+    /// used up.
+    fn turn(&mut self, piece: &[u8], at: &mut usize) -> bool
+        requires within { at.old ≤ length piece.now }
+        requires going { self.old.registers.stop ≡ None }
+        requires none_due { self.old.registers.due ≡ 0 }
+        requires fits { self.old.taken + (length piece.now - at.old) ≤ 2 ^ 63 }
+        ensures forward { at.old ≤ at.new }
+        ensures within { at.new ≤ length piece.now }
+        ensures taken { self.new.taken ≡ self.old.taken + (at.new - at.old) }
+        ensures stands { (part : PartData) (bytes : List ℕ) → DeviceStandsFor part on_the_bench self.old bytes
+            → DeviceStandsFor part on_the_bench self.new (bytes ++ between piece.now at.old at.new) }
+        ensures told { (part : PartData) (bytes : List ℕ) → DeviceStandsFor part on_the_bench self.old bytes
+            → told_of part on_the_bench self.new (bytes ++ between piece.now at.old at.new) ≡ told_of part on_the_bench self.old bytes }
+        ensures used_up { IsTrue result → (at.new ≡ length piece.now) × (self.new.registers.stop ≡ None) × (self.new.registers.due ≡ 0) }
+        ensures goes { result ≡ false → self.new.registers.stop ≡ None
+            → calls_left self.new.cutter (length piece.now - at.new) < calls_left self.old.cutter (length piece.now - at.old) }
+    {
+        let from = *at;
+        let run = self.cutter.cut(piece, at);
+        let used_up = is_need(&run);
+        let left = self.registers.run(&self.part, run);
+        *at -= left;
+        self.taken += (*at - from) as u64;
+        used_up
+    }
+
+    /// Takes the bytes of a piece, up to one that stops the device or to a read whose words have no room. A device that
+    /// has stopped takes nothing.
+    pub fn feed(&mut self, piece: &[u8], read: &mut ReadBuf) -> Fed
+        requires { self.old.taken + length piece.now ≤ 2 ^ 63 }
+        ensures within { taken_in (length piece.now) result ≤ length piece.now }
+        ensures stands { (part : PartData) (bytes : List ℕ) → DeviceStandsFor part on_the_bench self.old bytes
+            → DeviceStandsFor part on_the_bench self.new (bytes ++ take (taken_in (length piece.now) result) piece.now) }
+        ensures answer { (part : PartData) (bytes : List ℕ) → DeviceStandsFor part on_the_bench self.old bytes
+            → Answers part on_the_bench self.new (bytes ++ take (taken_in (length piece.now) result) piece.now) read.new result }
+        ensures reads { (part : PartData) (bytes : List ℕ) → DeviceStandsFor part on_the_bench self.old bytes
+            → (more : List ℕ) × (read.new ≡ with_words read.old more)
+            × (told_of part on_the_bench self.new (bytes ++ take (taken_in (length piece.now) result) piece.now) ≡ told_of part on_the_bench self.old bytes ++ more) }
+        ensures stopped { (part : PartData) (bytes : List ℕ) → DeviceStandsFor part on_the_bench self.old bytes → IsSome (stop_in part on_the_bench bytes)
+            → (self.new ≡ self.old) × (read.new ≡ read.old) × (taken_in (length piece.now) result ≡ 0) }
+    {
+        let mut at = 0;
+        'runs: loop {
+            if let Some(stop) = self.stop() {
+                return stopped(stop, at);
+            }
+            if !self.give(read) {
+                return Fed::ReadFull(at);
+            }
+            if self.turn(piece, &mut at) {
+                return Fed::All;
+            }
+        }
+    }
+
+    /// The registers and all else that a report shows but the memory.
+    pub fn state(&self) -> Regs
+        ensures { (part : PartData) (bytes : List ℕ) → DeviceStandsFor part on_the_bench self.now bytes → result ≡ state_of part on_the_bench false bytes }
+    {
+        Regs {
+            taken: self.taken,
+            end: self.end(),
+            phase: 0,
+            lines: Lines {
+                done: false,
+                gts: false,
+                gwe: false,
+            },
+            crc: self.registers.value(&self.part, Reg::Crc),
+            far: self.registers.value(&self.part, Reg::Far),
+            cmd: self.registers.value(&self.part, Reg::Cmd),
+            ctl0: self.registers.value(&self.part, Reg::Ctl0),
+            mask: self.registers.value(&self.part, Reg::Mask),
+            stat: self.registers.value(&self.part, Reg::Stat),
+            cor0: self.registers.value(&self.part, Reg::Cor0),
+            idcode: self.registers.value(&self.part, Reg::Idcode),
+            axss: self.registers.value(&self.part, Reg::Axss),
+            cor1: self.registers.value(&self.part, Reg::Cor1),
+            wbstar: self.registers.value(&self.part, Reg::Wbstar),
+            timer: self.registers.value(&self.part, Reg::Timer),
+            bootsts: self.registers.value(&self.part, Reg::Bootsts),
+            ctl1: self.registers.value(&self.part, Reg::Ctl1),
+            bspi: self.registers.value(&self.part, Reg::Bspi),
+        }
+    }
+
+    /// Where the bytes taken end.
+    fn end(&self) -> End
+        ensures { (part : PartData) (bytes : List ℕ) → DeviceStandsFor part on_the_bench self.now bytes → result ≡ (state_of part on_the_bench false bytes).end }
+    {
+        end_of(
+            self.registers.stop(),
+            self.cutter.is_synced(),
+            self.registers.value(&self.part, Reg::Wbstar),
+        )
+    }
+
+    /// The part.
+    pub fn part(&self) -> &Part
+        ensures { (part : PartData) (bytes : List ℕ) → DeviceStandsFor part on_the_bench self.now bytes → result.now ≡ part }
+    {
+        &self.part
+    }
+
+    /// The fault that stopped the device.
+    pub fn fault(&self) -> Option<Fault>
+        ensures { (part : PartData) (bytes : List ℕ) → DeviceStandsFor part on_the_bench self.now bytes → result ≡ fault_of (line_by (stop_in part on_the_bench bytes)) }
+    {
+        match self.registers.stop() {
+            Some(Stop::Fault(fault)) => Some(fault),
+            _ => None,
+        }
+    }
+
+    /// Whether startup has ended.
+    pub fn started(&self) -> bool
+        ensures { (part : PartData) (bytes : List ℕ) → DeviceStandsFor part on_the_bench self.now bytes → result ≡ ((state_of part on_the_bench false bytes).phase == 7) }
+    {
+        false
+    }
+
+    /// The bytes taken since it was made.
+    pub fn taken(&self) -> u64
+        ensures now { result ≡ self.now.taken }
+        ensures value { (part : PartData) (bytes : List ℕ) → DeviceStandsFor part on_the_bench self.now bytes → result ≡ length bytes }
+    {
+        self.taken
+    }
+}

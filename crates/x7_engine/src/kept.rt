@@ -1,0 +1,18 @@
+//! What a device keeps over a reset.
+
+use x7_regs::{Attempt, Kind};
+
+/// What a device keeps over a reset (this project's choice): three registers, the kind of its boot attempt, and the attempt before.
+#[derive(Clone, Copy, Debug, PartialEq, Eq)]
+pub struct Kept {
+    /// WBSTAR.
+    pub wbstar: u32,
+    /// TIMER.
+    pub timer: u32,
+    /// BSPI.
+    pub bspi: u32,
+    /// What began the attempt.
+    pub kind: Kind,
+    /// The attempt before, if there was one.
+    pub before: Option<Attempt>,
+}

@@ -1,0 +1,28 @@
+//! A device: its state is a function of all bytes since its reset, in whatever pieces they come.
+#![tactic(auto)]
+
+mod controls;
+mod device;
+mod fault;
+mod fed;
+mod kept;
+mod law;
+mod progress;
+mod read_buffer;
+mod registers;
+mod regs;
+mod stop;
+#[cfg(test)]
+mod tests;
+mod text;
+mod value;
+mod words;
+
+pub use device::Device;
+pub use fault::Fault;
+pub use fed::Fed;
+pub use kept::Kept;
+pub use law::{controls_take_masked_bits, phases_are_the_greatest_begun, stops_are_final};
+pub use read_buffer::ReadBuf;
+pub use regs::{End, Regs};
+pub use text::{end_words, phase_line, reg_lines};

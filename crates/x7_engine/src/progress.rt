@@ -1,0 +1,125 @@
+//! The running check, and what is known of all accesses so far.
+ghost use Rattle.std.specs.Prelude.{◌≡◌, ◌<◌, false, ◌||◌, ◌&&◌, ◌==◌, not, ℕ, ◌∷◌, [], ◌++◌, if◌then◌else◌, List, length, ◌%◌, Option, None, Some};
+ghost use Rattle.x7_words.specs.Word.{words_of_bytes};
+ghost use Rattle.x7_packets.specs.History.{command_held, entered_all, entry, executed_by, executes, History, is_command, Write};
+ghost use Rattle.x7_packets.specs.Packet.{payload_steps};
+ghost use Rattle.x7_crc.specs.OpenWrites.{running_check};
+ghost use Rattle.x7_regs.specs.Command.{code_of};
+ghost use Rattle.x7_regs.specs.Register.{number_of};
+ghost use Rattle.x7_engine.specs.Registers.{clears_by, ghigh_after, has_effect, names_part, pending_after, same_idcode};
+
+use x7_crc::{fold, fold_slice};
+use x7_regs::{Command, Reg};
+
+/// Whether the command executed is this one.
+pub(crate) fn is(command: Command, executed: Option<u8>) -> bool
+    ensures { result ≡ is_command (code_of command) executed }
+{
+    match executed {
+        Some(code) => u32::from(code) == command.code(),
+        None => false,
+    }
+}
+
+/// Whether a written idcode is the part's.
+pub(crate) fn is_same_idcode(idcode: u32, word: u32) -> bool
+    ensures { result ≡ same_idcode idcode word }
+{
+    word & 0x0FFF_FFFF == idcode & 0x0FFF_FFFF
+}
+
+/// Whether a written word finds the check right: RCRC is executed, or the word is the running check.
+fn clears(executed: Option<u8>, check: u32, reg: Reg, word: u32) -> bool
+    ensures { result ≡ clears_by executed check (Write (number_of reg) word) }
+{
+    is(Command::Rcrc, executed) || reg.number() == Reg::Crc.number() && word == check
+}
+
+/// Whether a shutdown is pending after a written word.
+fn is_pending_after(pending: bool, executed: Option<u8>, cleared: bool) -> bool
+    ensures { result ≡ pending_after executed cleared pending }
+{
+    !cleared && (is(Command::Shutdown, executed) || pending)
+}
+
+/// GHIGH_B after a written word.
+fn is_ghigh_after(ghigh: bool, executed: Option<u8>, taken: bool) -> bool
+    ensures { result ≡ ghigh_after executed taken ghigh }
+{
+    is(Command::Lfrm, executed) || ghigh && !is(Command::Aghigh, executed) && !taken
+}
+
+/// Whether both hold.
+fn both(a: bool, b: bool) -> bool
+    ensures { result ≡ (a && b) }
+{
+    a && b
+}
+
+/// Whether the device is matched after a written word.
+fn is_matched_after(matched: bool, idcode: u32, reg: Reg, word: u32) -> bool
+    ensures { result ≡ (names_part idcode (Write (number_of reg) word) || matched) }
+{
+    reg.number() == Reg::Idcode.number() && is_same_idcode(idcode, word) || matched
+}
+
+/// The running check after a written word, where it executes RCRC or not. LOUT is not folded (this project's choice).
+fn check_after(check: u32, reg: Reg, word: u32, reset: bool) -> u32
+    ensures { (h : History) (place : ℕ) → check ≡ running_check h → reset ≡ executes (code_of Command.Rcrc) h (Write (number_of reg) word) → result ≡ running_check (entry (Write (number_of reg) word) place ∷ h) }
+{
+    match reg {
+        Reg::Crc => 0,
+        _ if reset => 0,
+        Reg::Lout => check,
+        _ => fold(check, reg.number(), word),
+    }
+}
+
+/// What is known of all accesses so far.
+#[derive(Clone, Copy, Debug)]
+pub(crate) struct Progress {
+    pub(crate) check: u32,
+    pub(crate) matched: bool,
+    pub(crate) pending: bool,
+    pub(crate) ghigh: bool,
+}
+
+impl Progress {
+    ghost use Rattle.x7_engine.specs.Standing.{IsProgress};
+
+    /// That of a device that took nothing.
+    pub(crate) fn new() -> Progress
+        ensures { (idcode : ℕ) → IsProgress idcode result [] }
+    {
+        Progress {
+            check: 0,
+            matched: false,
+            pending: false,
+            ghigh: false,
+        }
+    }
+
+    /// Takes a written word that executes a command, or none.
+    pub(crate) fn write(&mut self, idcode: u32, reg: Reg, word: u32, executed: Option<u8>)
+        ensures { (h : History) (place : ℕ) → executed ≡ executed_by (command_held h) (Write (number_of reg) word) → IsProgress idcode self.old h → IsProgress idcode self.new (entry (Write (number_of reg) word) place ∷ h) }
+    {
+        let cleared = clears(executed, self.check, reg, word);
+        let taken = both(cleared, self.pending);
+        *self = Progress {
+            check: check_after(self.check, reg, word, is(Command::Rcrc, executed)),
+            matched: is_matched_after(self.matched, idcode, reg, word),
+            pending: is_pending_after(self.pending, executed, cleared),
+            ghigh: is_ghigh_after(self.ghigh, executed, taken),
+        };
+    }
+
+    /// Takes words written to a register that has no effect beside the check.
+    pub(crate) fn pass(&mut self, register: u8, bytes: &[u8])
+        requires register { register < 32 }
+        requires plain { has_effect register ≡ false }
+        requires whole { length bytes.now % 4 ≡ 0 }
+        ensures { (idcode : ℕ) (h : History) (n : ℕ) → IsProgress idcode self.old h → IsProgress idcode self.new (entered_all n (payload_steps register (words_of_bytes bytes.now)) h) }
+    {
+        self.check = fold_slice(self.check, register, bytes);
+    }
+}

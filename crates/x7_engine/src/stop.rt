@@ -1,0 +1,12 @@
+//! What ends the taking of bytes.
+
+use crate::fault::Fault;
+
+/// What stopped a device.
+#[derive(Clone, Copy, Debug, PartialEq, Eq)]
+pub(crate) enum Stop {
+    /// A fault.
+    Fault(Fault),
+    /// An IPROG command that is obeyed.
+    Iprog,
+}

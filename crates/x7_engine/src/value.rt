@@ -1,0 +1,112 @@
+//! The values of the registers as they are read (UG470, configuration registers).
+ghost use Rattle.std.specs.Prelude.{◌≡◌, ℕ, None, false};
+ghost use Rattle.x7_packets.specs.History.{History};
+ghost use Rattle.x7_part.specs.Part.{PartData};
+ghost use Rattle.x7_regs.specs.Status.{status_of};
+ghost use Rattle.x7_engine.specs.Kept.{on_the_bench};
+ghost use Rattle.x7_engine.specs.Registers.{has_ghigh};
+ghost use Rattle.x7_engine.specs.Startup.{startup_progress};
+ghost use Rattle.x7_engine.specs.Stops.{fault_of};
+ghost use Rattle.x7_engine.specs.Values.{check_shown, is_crc_fault, is_id_fault, read_value, stat_parts, value_of};
+
+use crate::fault::Fault;
+use crate::registers::Registers;
+use crate::stop::Stop;
+use x7_part::Part;
+use x7_regs::{Reg, StatParts, reg_of, stat_word};
+
+/// Whether the stop is the fault `Crc`.
+fn is_crc(stop: Option<Stop>) -> bool
+    ensures { result ≡ is_crc_fault (fault_of stop) }
+{
+    match stop {
+        Some(Stop::Fault(Fault::Crc { .. })) => true,
+        _ => false,
+    }
+}
+
+/// Whether the stop is the fault `Id`.
+fn is_id(stop: Option<Stop>) -> bool
+    ensures { result ≡ is_id_fault (fault_of stop) }
+{
+    match stop {
+        Some(Stop::Fault(Fault::Id { .. })) => true,
+        _ => false,
+    }
+}
+
+impl Registers {
+    ghost use Rattle.x7_engine.specs.Standing.{RegistersStandFor};
+
+    /// The running check; at a fault `Crc` the one that was wanted.
+    fn check(&self) -> u32
+        ensures { (part : PartData) (h : History) → RegistersStandFor part on_the_bench self.now h → result ≡ check_shown (fault_of self.now.stop) h }
+    {
+        match self.stop {
+            Some(Stop::Fault(Fault::Crc { want, .. })) => want,
+            _ => self.progress.check,
+        }
+    }
+
+    /// The word of STAT. Startup, which isn't built yet, has not begun.
+    fn stat(&self, part: &Part) -> u32
+        ensures { (h : History) (n : ℕ) → RegistersStandFor part.now on_the_bench self.now h → result ≡ status_of (stat_parts part.now (fault_of self.now.stop) (startup_progress h n) (has_ghigh h)) }
+    {
+        let crc_error = is_crc(self.stop);
+        stat_word(&StatParts {
+            crc_error,
+            lock: part.lock() == 0,
+            matched: part.matched() == 0,
+            eos: false,
+            gts: false,
+            gwe: false,
+            ghigh: self.progress.ghigh,
+            mode: part.mode(),
+            init_b: !crc_error,
+            done: false,
+            id_error: is_id(self.stop),
+            phase: 0,
+            bus_width: part.bus_width(),
+        })
+    }
+
+    /// The value of a register as it is read, and 0 for one that is only written. Frame data isn't built yet, and a device
+    /// on the bench has no boot history.
+    #[rattlefmt::skip]
+    pub(crate) fn value(&self, part: &Part, reg: Reg) -> u32
+        ensures { (h : History) (n : ℕ) → RegistersStandFor part.now on_the_bench self.now h → result ≡ value_of part.now on_the_bench false (fault_of self.now.stop) h n reg }
+    {
+        match reg {
+            Reg::Crc     => self.check(),
+            Reg::Far     => self.words.held(Reg::Far) & 0x03FF_FFFF,
+            Reg::Fdri    => 0,
+            Reg::Fdro    => 0,
+            Reg::Cmd     => self.words.held(Reg::Cmd) & 31,
+            Reg::Ctl0    => self.controls.ctl0,
+            Reg::Mask    => self.words.held(Reg::Mask),
+            Reg::Stat    => self.stat(part),
+            Reg::Lout    => 0,
+            Reg::Cor0    => self.words.held(Reg::Cor0),
+            Reg::Mfwr    => 0,
+            Reg::Cbc     => 0,
+            Reg::Idcode  => part.idcode(),
+            Reg::Axss    => self.words.held(Reg::Axss),
+            Reg::Cor1    => self.words.held(Reg::Cor1),
+            Reg::Wbstar  => self.words.held(Reg::Wbstar),
+            Reg::Timer   => self.words.held(Reg::Timer),
+            Reg::Bootsts => 0,
+            Reg::Ctl1    => self.controls.ctl1,
+            Reg::Bspi    => self.words.held(Reg::Bspi),
+        }
+    }
+
+    /// What a read of a register number gives: its value, and 0 for a number without a register.
+    pub(crate) fn read_value(&self, part: &Part, register: u8) -> u32
+        ensures { (h : History) (n : ℕ) → self.now.stop ≡ None → RegistersStandFor part.now on_the_bench self.now h → result ≡ read_value part.now on_the_bench h n register }
+    {
+        match reg_of(register) {
+            Some(reg) => self.value(part, reg),
+            None => 0,
+        }
+    }
+}
