@@ -1,0 +1,73 @@
+-- FAR as read.
+use Rattle.std.proofs.Common.{◌≡◌, ℕ, ◌+◌, ◌-◌, ◌*◌, ◌/◌, ◌<◌, ◌≤◌, inl, inr, true, false, List, ◌∷◌, length, get_or, drop, max, min, Some, None, unwrap_or, refl, sym, ap, ◌∙◌, arith}
+use Rattle.std.proofs.lemmas.Bool.{cases_lt}
+use Rattle.std.proofs.lemmas.List.{drop_all, drop_more}
+use Rattle.std.proofs.Math.Nat.{mul-div_cancel_left, le-div_iff_mul-le}
+use Rattle.x7_part.specs.Part.{PartData}
+use Rattle.x7_part.specs.declared.slot.Slot.{Slot}
+use Rattle.x7_part.specs.declared.slot.Slot.TheVariants.{Frame, Pad, End}
+use Rattle.x7_pipeline.specs.Runs.{slots_from}
+use Rattle.x7_pipeline.specs.FarAsRead.{has_frame_at, first_address, last_address, far_at}
+
+-- a base that is no address is FAR itself
+pub far_at-none : (part : PartData) (base slot : ℕ) → has_frame_at part base ≡ false → base ≡ far_at part base slot
+unfolding far_at
+far_at-none part base slot f = rw f refl
+
+pub far_at-some : (part : PartData) (base slot : ℕ) → has_frame_at part base ≡ true → far_at part base slot ≡ unwrap_or (first_address (drop slot (slots_from part base))) (last_address part)
+unfolding far_at
+far_at-some part base slot t = rw t refl
+
+-- ---- the search from a slot on
+
+first_more : (places : List Slot) (i : ℕ) → i < length places → first_address (drop i places) ≡ first_address (get_or places i End ∷ drop (i + 1) places)
+first_more places i h = ap first_address (drop_more places i End h)
+
+-- a frame at the slot is found
+pub found_here : (part : PartData) (base slot place far : ℕ) → has_frame_at part base ≡ true → place < length (slots_from part base) →
+    first_address (drop place (slots_from part base)) ≡ first_address (drop slot (slots_from part base)) →
+    Frame far ≡ get_or (slots_from part base) place End → far ≡ far_at part base slot
+found_here part base slot place far t h same e =
+    let there : first_address (drop place (slots_from part base)) ≡ Some far = first_more (slots_from part base) place h ∙ rw (← e) refl in
+    sym (far_at-some part base slot t ∙ ap (λ o. unwrap_or o (last_address part)) (sym same ∙ there))
+
+-- a slot of no frame is passed over
+pub passed_over : (places : List Slot) (i : ℕ) → i < length places → ((far : ℕ) → get_or places i End ≡ Frame far → ⊥) → first_address (drop i places) ≡ first_address (drop (i + 1) places)
+passed_over places i h none = first_more places i h ∙ no_frame (get_or places i End) none
+  where
+    no_frame : (slot : Slot) → ((far : ℕ) → slot ≡ Frame far → ⊥) → first_address (slot ∷ drop (i + 1) places) ≡ first_address (drop (i + 1) places)
+    no_frame (Frame far) none = absurd (none far refl)
+    no_frame Pad none = refl
+    no_frame End none = refl
+
+-- past the last slot it is the last address
+pub far_past : (part : PartData) (base slot place : ℕ) → has_frame_at part base ≡ true → length (slots_from part base) ≤ place →
+    first_address (drop place (slots_from part base)) ≡ first_address (drop slot (slots_from part base)) → last_address part ≡ far_at part base slot
+far_past part base slot place t h same =
+    let none : first_address (drop slot (slots_from part base)) ≡ None = sym same ∙ ap first_address (drop_all place (slots_from part base) h) in
+    sym (far_at-some part base slot t ∙ ap (λ o. unwrap_or o (last_address part)) none)
+
+-- ---- by the count of words given as it is stored
+
+-- slots past the last are alike
+far_alike : (part : PartData) (base first second : ℕ) → length (slots_from part base) ≤ first → length (slots_from part base) ≤ second → far_at part base first ≡ far_at part base second
+unfolding far_at
+far_alike part base first second h k = rw (drop_all first (slots_from part base) h, drop_all second (slots_from part base) k) refl
+
+-- a count capped at the limit has the same FAR
+pub far_stored : (part : PartData) (base frames given width : ℕ) → 0 < width →
+    far_at part base (max frames (min given (width * (1 + length (slots_from part base))) / width) - 1) ≡ far_at part base (max frames (given / width) - 1)
+far_stored part base frames given width some =
+    let slots = length (slots_from part base) in
+    elim (cases_lt given (width * (1 + slots))) [
+      | inl low ↦ let e : min given (width * (1 + slots)) ≡ given = omega arith in rw e refl
+      | inr high ↦
+          let e : min given (width * (1 + slots)) ≡ width * (1 + slots) = omega arith in
+          let whole : min given (width * (1 + slots)) / width ≡ 1 + slots = ap (λ n. n / width) e ∙ mul-div_cancel_left (1 + slots) some in
+          let commuted : (1 + slots) * width ≤ given = commute width (1 + slots) given high in
+          let many : 1 + slots ≤ given / width = (le-div_iff_mul-le {k = width} {x = 1 + slots} {y = given} some).1 commuted in
+          far_alike part base (max frames (min given (width * (1 + slots)) / width) - 1) (max frames (given / width) - 1) (omega arith) (omega arith)
+    ]
+  where
+    commute : (a b n : ℕ) → a * b ≤ n → b * a ≤ n
+    commute a b n h = grind (arith, h)

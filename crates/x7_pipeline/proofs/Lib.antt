@@ -1,0 +1,7 @@
+pub mod RunLemmas
+pub mod SlotLemmas
+pub mod FarLemmas
+pub mod ReadLemmas
+pub mod StateLemmas
+pub mod LawLemmas
+pub mod WordLemmas

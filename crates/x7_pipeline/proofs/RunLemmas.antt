@@ -1,0 +1,47 @@
+-- A run and one word more.
+use Rattle.std.proofs.Common.{◌≡◌, ℕ, ◌+◌, ◌<◌, List, [], ◌∷◌, ◌++◌, length, inl, inr, refl, ap, arith, length-append, eq-eqb, ne_eqb}
+use Rattle.std.proofs.lemmas.Bool.{cases_eq}
+use Rattle.x7_pipeline.specs.Runs.{rest_of, frames_of}
+
+-- ---- within a frame
+
+pub rest-goes_on : (width w : ℕ) (run : List ℕ) → (length (rest_of width run) + 1 ≡ width → ⊥) → rest_of width (w ∷ run) ≡ rest_of width run ++ w ∷ []
+unfolding rest_of
+rest-goes_on width w run n = rw (ne_eqb (length (rest_of width run) + 1) width n) refl
+
+pub frames-goes_on : (width w : ℕ) (run : List ℕ) → (length (rest_of width run) + 1 ≡ width → ⊥) → frames_of width (w ∷ run) ≡ frames_of width run
+unfolding frames_of
+frames-goes_on width w run n = rw (ne_eqb (length (rest_of width run) + 1) width n) refl
+
+-- ---- at its last word
+
+pub rest-completes : (width w : ℕ) (run : List ℕ) → length (rest_of width run) + 1 ≡ width → rest_of width (w ∷ run) ≡ []
+unfolding rest_of
+rest-completes width w run e = rw (eq-eqb (length (rest_of width run) + 1) width e) refl
+
+pub frames-completes : (width w : ℕ) (run : List ℕ) → length (rest_of width run) + 1 ≡ width → frames_of width (w ∷ run) ≡ (rest_of width run ++ w ∷ []) ∷ frames_of width run
+unfolding frames_of
+frames-completes width w run e = rw (eq-eqb (length (rest_of width run) + 1) width e) refl
+
+-- ---- sizes
+
+-- a rest is shorter than a frame
+pub rest_short : (width : ℕ) (run : List ℕ) → 0 < width → length (rest_of width run) < width
+unfolding rest_of
+rest_short width [] some = some
+rest_short width (w ∷ run) some =
+    let ih : length (rest_of width run) < width = rest_short width run some in
+    elim (cases_eq (length (rest_of width run) + 1) width) [
+      | inl e ↦ rw (eq-eqb (length (rest_of width run) + 1) width e) some
+      | inr n ↦ rw (ne_eqb (length (rest_of width run) + 1) width n)
+          (let long = length-append (rest_of width run) (w ∷ []) in omega arith)
+    ]
+
+-- a run of some words has a rest or a frame
+pub some_words : (width w : ℕ) (run : List ℕ) → length (rest_of width (w ∷ run)) ≡ 0 → length (frames_of width (w ∷ run)) ≡ 0 → ⊥
+some_words width w run no_rest no_frame =
+    elim (cases_eq (length (rest_of width run) + 1) width) [
+      | inl e ↦ let c = ap length (frames-completes width w run e) in omega arith
+      | inr n ↦ let r = ap length (rest-goes_on width w run n) in
+          let long = length-append (rest_of width run) (w ∷ []) in omega arith
+    ]

@@ -1,0 +1,155 @@
+-- Words written in order.
+use Rattle.std.proofs.Common.{◌≡◌, ℕ, zero, suc, ◌+◌, ◌/◌, ◌<◌, ◌≤◌, List, [], ◌∷◌, length, get_or, drop, map, Option, Some, None, refl, sym, ap, ◌∙◌, arith}
+use Rattle.std.proofs.lemmas.List.{drop_all, drop_more}
+use Rattle.std.proofs.lemmas.Option.{none-some}
+use Rattle.x7_words.specs.Word.{word_of_bytes, words_of_bytes}
+use Rattle.std.specs.Simd.{first_chunks}
+use Rattle.x7_part.specs.Part.{PartData}
+use Rattle.x7_memory.specs.FrameMap.{FrameMap}
+use Rattle.x7_regs.specs.declared.command.Command.{Command}
+use Rattle.x7_pipeline.specs.declared.fault.RunFault.{RunFault}
+use Rattle.x7_pipeline.specs.Runs.{onto, Lands}
+use Rattle.x7_pipeline.specs.Faults.{write_fault}
+use Rattle.x7_pipeline.specs.Words.{Written, one_written, written, Refused}
+use Rattle.x7_pipeline.specs.Pipeline.{PipelineData, StandsFor}
+use Rattle.x7_pipeline.proofs.LawLemmas.{lands_none, lands_more}
+
+-- so many words were looked at before
+abbrev pub after : ℕ → Written → Written
+after count w = record w { count = count + w.count }
+
+-- ---- one word of the rest
+
+pub written_end : (part : PartData) (base : ℕ) (run : List ℕ) → written part base run [] ≡ record { run = run; count = 0; fault = None }
+unfolding written
+written_end part base run = refl
+
+pub written_next : (part : PartData) (base w : ℕ) (run words : List ℕ) → None ≡ write_fault part base run → written part base run (w ∷ words) ≡ after 1 (written part base (w ∷ run) words)
+unfolding written
+written_next part base w run words e = ap (λ o. one_written o run (written part base (w ∷ run) words)) (sym e)
+
+pub written_refused : (part : PartData) (base w : ℕ) (run words : List ℕ) (fault : RunFault) → Some fault ≡ write_fault part base run → written part base run (w ∷ words) ≡ record { run = run; count = 1; fault = Some fault }
+unfolding written
+written_refused part base w run words fault e = ap (λ o. one_written o run (written part base (w ∷ run) words)) (sym e)
+
+-- ---- on the way
+
+-- from a run that a pipeline stood for it has come to a longer one, with what the memory got, and the rest is to be written
+pub record Reached (part : PartData) (now : PipelineData) (old new : FrameMap) (command : Command) (base : ℕ) (run : List ℕ) (source : Option (List ℕ)) (given : ℕ) (all rest : List ℕ) (count : ℕ) : Type 0 where
+  pub longer : List ℕ
+  pub stands : StandsFor part now command base longer source given
+  pub lands : Lands part base run longer old new
+  pub later : written part base run all ≡ after count (written part base longer rest)
+
+-- the same of whatever the pipeline stood for
+abbrev pub Goes : PartData → PipelineData → PipelineData → FrameMap → FrameMap → List ℕ → List ℕ → ℕ → Type 0
+Goes part start now old new all rest count =
+    (command : Command) (base : ℕ) (run : List ℕ) (source : Option (List ℕ)) (given : ℕ) → StandsFor part start command base run source given →
+    Reached part now old new command base run source given all rest count
+
+pub goes_first : (part : PartData) (start : PipelineData) (memory : FrameMap) (all rest : List ℕ) → all ≡ rest → Goes part start start memory memory all rest 0
+goes_first part start memory all rest e command base run source given s = record {
+  longer = run;
+  stands = s;
+  lands = lands_none part base run memory memory (λ far. refl);
+  later = rw e (ap (λ n. record (written part base run rest) { count = n }) (omega arith));
+}
+
+-- a word that is taken
+pub goes_next : (part : PartData) (start now next : PipelineData) (old middle new : FrameMap) (all rest : List ℕ) (count w : ℕ) → Goes part start now old middle all (w ∷ rest) count →
+    ((command : Command) (base : ℕ) (run : List ℕ) (source : Option (List ℕ)) (given : ℕ) → StandsFor part now command base run source given → StandsFor part next command base (w ∷ run) source given) →
+    ((command : Command) (base : ℕ) (run : List ℕ) (source : Option (List ℕ)) (given : ℕ) → StandsFor part now command base run source given → Lands part base run (w ∷ run) middle new) →
+    ((command : Command) (base : ℕ) (run : List ℕ) (source : Option (List ℕ)) (given : ℕ) → StandsFor part now command base run source given → None ≡ write_fault part base run) →
+    Goes part start next old new all rest (count + 1)
+goes_next part start now next old middle new all rest count w before stands lands fault command base run source given s =
+    let r : Reached part now old middle command base run source given all (w ∷ rest) count = before command base run source given s in
+    record {
+      longer = w ∷ r.longer;
+      stands = stands command base r.longer source given r.stands;
+      lands = lands_more part base run r.longer (w ∷ r.longer) old middle new r.lands (lands command base r.longer source given r.stands);
+      later = r.later ∙ ap (after count) (written_next part base w r.longer rest (fault command base r.longer source given r.stands))
+          ∙ ap (λ n. record (written part base (w ∷ r.longer) rest) { count = n }) (omega arith);
+    }
+
+-- ---- at the end
+
+-- no word is left, or the next is refused
+pub ends_whole : (part : PartData) (base : ℕ) (run longer all : List ℕ) (count : ℕ) → written part base run all ≡ after count (written part base longer []) → written part base run all ≡ record { run = longer; count = count; fault = None }
+ends_whole part base run longer all count e = e ∙ ap (after count) (written_end part base longer) ∙ ap (λ n. record { run = longer; count = n; fault = None }) (omega arith)
+
+pub ends_refused : (part : PartData) (base w : ℕ) (run longer all rest : List ℕ) (count : ℕ) (fault : RunFault) → written part base run all ≡ after count (written part base longer (w ∷ rest)) → Some fault ≡ write_fault part base longer →
+    written part base run all ≡ record { run = longer; count = count + 1; fault = Some fault }
+ends_refused part base w run longer all rest count fault e f = e ∙ ap (after count) (written_refused part base w longer rest fault f)
+
+-- ---- the words of a slice, by its chunks
+
+pub chunks_left : (i : ℕ) (chunks : List (List ℕ)) → i < length chunks → map word_of_bytes (drop i chunks) ≡ word_of_bytes (get_or chunks i []) ∷ map word_of_bytes (drop (i + 1) chunks)
+chunks_left i chunks h = ap (map word_of_bytes) (drop_more chunks i [] h)
+
+pub no_chunk_left : (i : ℕ) (chunks : List (List ℕ)) → length chunks ≤ i → map word_of_bytes (drop i chunks) ≡ []
+no_chunk_left i chunks h = ap (map word_of_bytes) (drop_all i chunks h)
+
+pub words_by_chunks : (n : ℕ) (bs : List ℕ) → length bs / 4 ≡ n → words_of_bytes bs ≡ map word_of_bytes (first_chunks 4 n bs)
+words_by_chunks zero [] h = refl
+words_by_chunks zero (a ∷ []) h = refl
+words_by_chunks zero (a ∷ b ∷ []) h = refl
+words_by_chunks zero (a ∷ b ∷ c ∷ []) h = refl
+words_by_chunks zero (a ∷ b ∷ c ∷ d ∷ bs) h = absurd (omega arith)
+words_by_chunks (suc n) [] h = absurd (omega arith)
+words_by_chunks (suc n) (a ∷ []) h = absurd (omega arith)
+words_by_chunks (suc n) (a ∷ b ∷ []) h = absurd (omega arith)
+words_by_chunks (suc n) (a ∷ b ∷ c ∷ []) h = absurd (omega arith)
+words_by_chunks (suc n) (a ∷ b ∷ c ∷ d ∷ bs) h = ap (λ x. word_of_bytes (a ∷ b ∷ c ∷ d ∷ []) ∷ x) (words_by_chunks n bs (omega arith))
+
+-- the words left begin with the next chunk's
+pub goes_here : (part : PartData) (start now : PipelineData) (old new : FrameMap) (all : List ℕ) (count i w : ℕ) (chunks : List (List ℕ)) → Goes part start now old new all (map word_of_bytes (drop i chunks)) count →
+    i < length chunks → w ≡ word_of_bytes (get_or chunks i []) → Goes part start now old new all (w ∷ map word_of_bytes (drop (i + 1) chunks)) count
+goes_here part start now old new all count i w chunks goes h e =
+    let same : w ∷ map word_of_bytes (drop (i + 1) chunks) ≡ map word_of_bytes (drop i chunks) = ap (λ x. x ∷ map word_of_bytes (drop (i + 1) chunks)) e ∙ sym (chunks_left i chunks h) in
+    rw same goes
+
+-- no word is left
+pub goes_whole : (part : PartData) (start now : PipelineData) (old new : FrameMap) (all : List ℕ) (count i : ℕ) (chunks : List (List ℕ)) → Goes part start now old new all (map word_of_bytes (drop i chunks)) count →
+    length chunks ≤ i → Goes part start now old new all [] count
+goes_whole part start now old new all count i chunks goes h = rw (sym (no_chunk_left i chunks h)) goes
+
+-- ---- in plain words
+
+-- where no word is refused all are written
+pub all_written : (part : PartData) (base : ℕ) (run words : List ℕ) → (written part base run words).fault ≡ None → written part base run words ≡ record { run = onto words run; count = length words; fault = None }
+unfolding written
+all_written part base run [] e = refl
+all_written part base run (w ∷ words) e = by (write_fault part base run) e (all_written part base (w ∷ run) words)
+  where
+    by : (o : Option RunFault) → (one_written o run (written part base (w ∷ run) words)).fault ≡ None →
+        ((written part base (w ∷ run) words).fault ≡ None → written part base (w ∷ run) words ≡ record { run = onto words (w ∷ run); count = length words; fault = None }) →
+        one_written o run (written part base (w ∷ run) words) ≡ record { run = onto words (w ∷ run); count = length (w ∷ words); fault = None }
+    by (Some fault) e later = absurd (none-some fault (sym e))
+    by None e later = ap (after 1) (later e) ∙ ap (λ n. record { run = onto words (w ∷ run); count = n; fault = None }) (omega arith)
+
+pub some_refused : (part : PartData) (base : ℕ) (run words : List ℕ) (fault : RunFault) → (written part base run words).fault ≡ Some fault → Refused part base run words fault
+unfolding written
+some_refused part base run [] fault e = absurd (none-some fault e)
+some_refused part base run (w ∷ words) fault e = by (write_fault part base run) refl e (some_refused part base (w ∷ run) words fault)
+  where
+    by : (o : Option RunFault) → write_fault part base run ≡ o → (one_written o run (written part base (w ∷ run) words)).fault ≡ Some fault →
+        ((written part base (w ∷ run) words).fault ≡ Some fault → Refused part base (w ∷ run) words fault) → Refused part base run (w ∷ words) fault
+    by (Some f) is e later = record {
+      before = [];
+      word = w;
+      later = words;
+      words_are = refl;
+      written_is = ap (λ o. one_written o run (written part base (w ∷ run) words)) is ∙ ap (λ o. record { run = run; count = 1; fault = o }) e;
+      refused = is ∙ e;
+    }
+    by None is e later =
+        let r : Refused part base (w ∷ run) words fault = later e in
+        record {
+          before = w ∷ r.before;
+          word = r.word;
+          later = r.later;
+          words_are = ap (λ t. w ∷ t) r.words_are;
+          written_is = ap (λ o. one_written o run (written part base (w ∷ run) words)) is ∙ ap (after 1) r.written_is
+              ∙ ap (λ n. record { run = onto r.before (w ∷ run); count = n; fault = Some fault }) (omega arith);
+          refused = r.refused;
+        }

@@ -1,0 +1,39 @@
+-- The frame address register: what a load leaves in it, and what it reads as while frames are written or read
+-- (UG470, frame address register).
+use Rattle.std.specs.Prelude.{ℕ, ◌-◌, ◌/◌, ◌%◌, ◌^◌, max, nat_lt, Bool, if◌then◌else◌, List, [], ◌∷◌, length, drop, slice_index, Option, Some, None, unwrap_or}
+use Rattle.x7_part.specs.Part.{PartData, frame_words}
+use Rattle.x7_part.specs.FrameAddress.{far_width}
+use Rattle.x7_part.specs.AddressOrder.{addresses}
+use Rattle.x7_part.specs.declared.slot.Slot.{Slot}
+use Rattle.x7_part.specs.declared.slot.Slot.TheVariants.{Frame, Pad, End}
+use Rattle.x7_pipeline.specs.Runs.{frames_of, slots_from}
+
+-- the part has a frame at the address: there are slots from it on
+abbrev pub has_frame_at : PartData → ℕ → Bool
+has_frame_at part far = nat_lt 0 (length (slots_from part far))
+
+-- the base that a FAR load leaves: the bits of an address
+abbrev pub loaded_base : PartData → ℕ → ℕ
+loaded_base part word = word % 2 ^ far_width
+
+-- the first address among slots
+abbrev pub first_address : List Slot → Option ℕ
+first_address [] = None
+first_address (Frame far ∷ places) = Some far
+first_address (Pad ∷ places) = first_address places
+first_address (End ∷ places) = first_address places
+
+-- the part's greatest address
+abbrev pub last_address : PartData → ℕ
+last_address part = slice_index (addresses part.rows) (length (addresses part.rows) - 1)
+
+-- the first address at or after a slot of those from the base on, and the last address where there is none; a base that
+-- is no address stays as it is
+unfoldable pub far_at : PartData → ℕ → ℕ → ℕ
+far_at part base slot =
+    if has_frame_at part base then unwrap_or (first_address (drop slot (slots_from part base))) (last_address part) else base
+
+-- FAR as read, after a run from the base or so many words given: it stands at the slot of the newest whole frame
+unfoldable pub far_of : PartData → ℕ → List ℕ → ℕ → ℕ
+far_of part base run given =
+    far_at part base (max (length (frames_of (frame_words part) run)) (given / frame_words part) - 1)

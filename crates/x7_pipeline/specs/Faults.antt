@@ -1,0 +1,40 @@
+-- The faults of runs and copies, as functions of what a pipeline stands for.
+use Rattle.std.specs.Prelude.{ℕ, ◌+◌, ◌==◌, ◌&&◌, nat_le, Bool, if◌then◌else◌, List, [], ◌∷◌, length, Option, Some, None, is_some}
+use Rattle.x7_part.specs.Part.{PartData, frame_words}
+use Rattle.x7_regs.specs.declared.command.Command.{Command}
+use Rattle.x7_pipeline.specs.declared.fault.RunFault.{RunFault}
+use Rattle.x7_pipeline.specs.declared.fault.RunFault.TheVariants.{Address, Overrun, Multi}
+use Rattle.x7_pipeline.specs.Runs.{rest_of, frames_of, slots_from}
+use Rattle.x7_pipeline.specs.FarAsRead.{has_frame_at}
+use Rattle.x7_pipeline.specs.Copies.{is_mfw}
+
+-- the base is no address
+unfoldable pub address_fault : PartData → ℕ → Option RunFault
+address_fault part base = if has_frame_at part base then None else Some (Address base)
+
+-- the next word of a run completes a frame
+abbrev pub completes : PartData → List ℕ → Bool
+completes part run = length (rest_of (frame_words part) run) + 1 == frame_words part
+
+-- each slot from the base on has its frame already
+abbrev pub has_filled : PartData → ℕ → List ℕ → Bool
+has_filled part base run = nat_le (length (slots_from part base)) (length (frames_of (frame_words part) run))
+
+-- of one word more: at a run's first word Address, at the last word of a frame past the last slot Overrun
+unfoldable pub write_fault : PartData → ℕ → List ℕ → Option RunFault
+write_fault part base [] = address_fault part base
+write_fault part base (w ∷ run) =
+    if completes part (w ∷ run) && has_filled part base (w ∷ run) then Some Overrun else None
+
+-- of a copy: Multi where the command isn't MFW or there is no source, else Address
+unfoldable pub copy_fault : PartData → Command → ℕ → Option (List ℕ) → Option RunFault
+copy_fault part command base source =
+    if is_mfw command && is_some source then address_fault part base else Some Multi
+
+-- of a read of some words: Address at the first word of a run
+unfoldable pub read_fault : PartData → ℕ → ℕ → Option RunFault
+read_fault part base given = if given == 0 then address_fault part base else None
+
+-- the same of so many words at once, and nothing where there are none
+unfoldable pub drop_fault : PartData → ℕ → ℕ → ℕ → Option RunFault
+drop_fault part base given count = if count == 0 then None else read_fault part base given

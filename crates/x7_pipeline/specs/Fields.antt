@@ -1,0 +1,34 @@
+-- A pipeline as its fields hold it.
+use Rattle.std.specs.Prelude.{◌≡◌, ℕ, ◌<◌, ◌≤◌, ◌==◌, true, if◌then◌else◌, List, Option, Some, None, vec_len, vec_capacity}
+use Rattle.x7_pipeline.specs.declared.pipeline.Pipeline.TheInside.{Inside}
+use Rattle.x7_pipeline.specs.Pipeline.{PipelineData}
+
+-- the newest whole frame, where there is one
+abbrev pub newest_seen : Inside → Option (List ℕ)
+newest_seen p = if p.frame_count == 0 then None else Some p.held.items
+
+abbrev pub source_seen : Inside → Option (List ℕ)
+source_seen p = if p.has_source then Some p.source.items else None
+
+abbrev pub seen : Inside → PipelineData
+seen p = record {
+  width = p.width;
+  command = p.command;
+  base = p.base;
+  rest = p.rest.items;
+  newest = newest_seen p;
+  frame_count = p.frame_count;
+  source = source_seen p;
+  given = p.given;
+  slot = p.slot;
+}
+
+-- there is room for a frame in each, the rest is shorter than one, and what is held is one
+pub record HasRoom (p : Inside) : Type 0 where
+  pub some : 0 < p.width
+  pub short : vec_len p.rest < p.width
+  pub rest_room : p.width ≤ vec_capacity p.rest
+  pub held_room : p.width ≤ vec_capacity p.held
+  pub source_room : p.width ≤ vec_capacity p.source
+  pub held_whole : 0 < p.frame_count → vec_len p.held ≡ p.width
+  pub source_whole : p.has_source ≡ true → vec_len p.source ≡ p.width

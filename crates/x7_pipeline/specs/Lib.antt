@@ -1,0 +1,9 @@
+pub mod Runs
+pub mod FarAsRead
+pub mod Copies
+pub mod Readback
+pub mod Faults
+pub mod Words
+pub mod Pipeline
+pub mod Fields
+pub mod InWords

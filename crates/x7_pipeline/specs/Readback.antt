@@ -1,0 +1,35 @@
+-- Readback: the endless list of words from a base (UG470, frame data output register and readback; that the two pads of a
+-- row are read as frames of zeros, and that zeros follow the last slot, is this project's choice).
+use Rattle.std.specs.Prelude.{ℕ, ◌+◌, ◌*◌, ◌/◌, ◌%◌, min, List, ◌∷◌, length, slice_index, slice_index_or, Option, Some, None}
+use Rattle.x7_part.specs.Part.{PartData, frame_words}
+use Rattle.x7_part.specs.declared.slot.Slot.{Slot}
+use Rattle.x7_part.specs.declared.slot.Slot.TheVariants.{Frame, Pad, End}
+use Rattle.x7_memory.specs.FrameMap.{FrameMap}
+use Rattle.x7_pipeline.specs.Runs.{slots_from}
+
+-- the word of a frame, 0 where there is no frame
+abbrev pub word_of : Option (List ℕ) → ℕ → ℕ
+word_of (Some words) i = slice_index words i
+word_of None i = 0
+
+-- the word of the frame at a slot: 0 at a pad and past the last slot
+abbrev pub word_at : Slot → FrameMap → ℕ → ℕ
+word_at (Frame far) memory i = word_of (memory far) i
+word_at Pad memory i = 0
+word_at End memory i = 0
+
+-- the slot of a place of the list: one pad frame, then the slots from the base on
+unfoldable pub read_slot : PartData → ℕ → ℕ → Slot
+read_slot part base place = slice_index_or (Pad ∷ slots_from part base) (place / frame_words part) End
+
+-- the word at a place of the endless list
+unfoldable pub read_at : PartData → ℕ → FrameMap → ℕ → ℕ
+read_at part base memory place = word_at (read_slot part base place) memory (place % frame_words part)
+
+-- from this place on the list has zeros alone
+unfoldable pub read_limit : PartData → ℕ → ℕ
+read_limit part base = frame_words part * (1 + length (slots_from part base))
+
+-- the count of words given as it is stored: no count above the limit tells more than the limit
+abbrev pub given_stored : PartData → ℕ → ℕ → ℕ
+given_stored part base given = min given (read_limit part base)

@@ -1,0 +1,64 @@
+-- Runs: the words of frame data since the last FAR load or command, the newest first, and where their frames land
+-- (UG470, frame data input register; that the newest whole frame is held back is the frame buffer of the guide).
+use Rattle.std.specs.Prelude.{◌≡◌, ℕ, ◌+◌, ◌==◌, if◌then◌else◌, List, [], ◌∷◌, ◌++◌, length, slice_index_or}
+use Rattle.x7_part.specs.Part.{PartData, frame_words}
+use Rattle.x7_part.specs.Slots.{slots, from}
+use Rattle.x7_part.specs.declared.slot.Slot.{Slot}
+use Rattle.x7_part.specs.declared.slot.Slot.TheVariants.{Frame, Pad, End}
+use Rattle.x7_memory.specs.FrameMap.{FrameMap, override, AreSame}
+use Rattle.x7_memory.specs.Planned.{PlanRow, planned}
+
+-- ---- frames of a run
+
+-- the words behind the last whole frame of a run, the oldest first
+unfoldable pub rest_of : ℕ → List ℕ → List ℕ
+rest_of width [] = []
+rest_of width (w ∷ run) = if length (rest_of width run) + 1 == width then [] else rest_of width run ++ w ∷ []
+
+-- the whole frames of a run, the newest first
+unfoldable pub frames_of : ℕ → List ℕ → List (List ℕ)
+frames_of width [] = []
+frames_of width (w ∷ run) =
+    if length (rest_of width run) + 1 == width then (rest_of width run ++ w ∷ []) ∷ frames_of width run else frames_of width run
+
+-- a run to which words were written, the oldest first
+abbrev pub onto : List ℕ → List ℕ → List ℕ
+onto [] run = run
+onto (w ∷ words) run = onto words (w ∷ run)
+
+-- ---- where they land
+
+-- the slots from an address of a part on, none where it is no address
+abbrev pub slots_from : PartData → ℕ → List Slot
+slots_from part far = from far (slots part.rows)
+
+-- a frame lands where its slot is an address, and nowhere at a pad or past the last slot
+abbrev pub at_slot : Slot → List ℕ → List PlanRow → List PlanRow
+at_slot (Frame far) words pairs = record { far = far; words = words } ∷ pairs
+at_slot Pad words pairs = pairs
+at_slot End words pairs = pairs
+
+-- frames, the newest first, with slots: the oldest frame goes with the first slot
+unfoldable pub in_slots : List Slot → List (List ℕ) → List PlanRow
+in_slots places [] = []
+in_slots places (frame ∷ older) = at_slot (slice_index_or places (length older) End) frame (in_slots places older)
+
+abbrev pub but_newest : List (List ℕ) → List (List ℕ)
+but_newest [] = []
+but_newest (frame ∷ older) = older
+
+-- what a run from a base has put, the newest pair first: each whole frame but the newest, at its slot
+unfoldable pub landed : PartData → ℕ → List ℕ → List PlanRow
+landed part base run = in_slots (slots_from part base) (but_newest (frames_of (frame_words part) run))
+
+-- ---- what a memory gets
+
+-- frames put over a memory, each pair over those behind it
+abbrev pub put_over : List PlanRow → FrameMap → FrameMap
+put_over pairs memory = override memory (planned pairs)
+
+-- the run became longer, and the memory got just the pairs by which the landed frames grew
+pub record Lands (part : PartData) (base : ℕ) (run longer : List ℕ) (old new : FrameMap) : Type 0 where
+  pub added : List PlanRow
+  pub grows : landed part base longer ≡ added ++ landed part base run
+  pub memory : AreSame new (put_over added old)

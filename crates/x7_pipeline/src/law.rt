@@ -1,0 +1,88 @@
+//! Laws of runs, of FAR as read, of readback and of faults. The functions do nothing: their contracts are the laws.
+ghost use Rattle.std.specs.Prelude.{◌≡◌, ◌≢◌, ◌+◌, ◌*◌, ◌<◌, ◌≤◌, ◌↔◌, ℕ, true, false, reverse, min, List, [], ◌∷◌, ◌++◌, length, slice_index_or, Contains, Option, Some, None};
+ghost use Rattle.std.specs.List.{zip, filter_map};
+ghost use Rattle.x7_part.specs.Part.{PartData, frame_words};
+ghost use Rattle.x7_part.specs.AddressOrder.{addresses};
+ghost use Rattle.x7_part.specs.declared.slot.Slot.{Slot};
+ghost use Rattle.x7_memory.specs.FrameMap.{FrameMap, AreSame};
+ghost use Rattle.x7_memory.specs.Planned.{PlanRow};
+ghost use Rattle.x7_regs.specs.declared.command.Command.{Command};
+ghost use Rattle.x7_pipeline.specs.declared.fault.RunFault.{RunFault};
+ghost use Rattle.x7_pipeline.specs.Runs.{rest_of, frames_of, slots_from, but_newest, onto, landed, put_over, Lands};
+ghost use Rattle.x7_pipeline.specs.InWords.{AreCutFrom, pair_of};
+ghost use Rattle.x7_pipeline.specs.FarAsRead.{has_frame_at, far_of, last_address};
+ghost use Rattle.x7_pipeline.specs.Copies.{is_wcfg, is_mfw, newest_of, source_after};
+ghost use Rattle.x7_pipeline.specs.Readback.{word_at, read_at, read_limit, given_stored};
+ghost use Rattle.x7_pipeline.specs.Faults.{write_fault, copy_fault, read_fault};
+ghost use Rattle.x7_pipeline.specs.Words.{written, Refused};
+ghost use Rattle.x7_pipeline.specs.Pipeline.{PipelineData, StandsFor};
+
+/// A run is its whole frames and a rest. Its frames but the newest land with the slots in order, those at pads nowhere;
+/// and what a memory gets by one word after the other is what it gets by all.
+pub fn run_laws()
+    ensures frames { (width : ℕ) (run : List ℕ) → 0 < width → AreCutFrom width run (frames_of width run) (rest_of width run) }
+    ensures order { (part : PartData) (base : ℕ) (run : List ℕ) →
+        reverse (landed part base run) ≡ filter_map pair_of (zip (slots_from part base) (reverse (but_newest (frames_of (frame_words part) run)))) }
+    ensures empty { (part : PartData) (base : ℕ) → landed part base [] ≡ [] }
+    ensures nowhere { (part : PartData) (base : ℕ) (run : List ℕ) → has_frame_at part base ≡ false → landed part base run ≡ [] }
+    ensures none { (part : PartData) (base : ℕ) (run : List ℕ) (old new : FrameMap) → AreSame new old → Lands part base run run old new }
+    ensures twice { (first second : List PlanRow) (old middle new : FrameMap) → AreSame middle (put_over first old) → AreSame new (put_over second middle) →
+        AreSame new (put_over (second ++ first) old) }
+    ensures more { (part : PartData) (base : ℕ) (run longer longest : List ℕ) (old middle new : FrameMap) →
+        Lands part base run longer old middle → Lands part base longer longest middle new → Lands part base run longest old new }
+    ensures memory { (part : PartData) (base : ℕ) (run longer : List ℕ) (under old new : FrameMap) →
+        Lands part base run longer old new → AreSame old (put_over (landed part base run) under) → AreSame new (put_over (landed part base longer) under) }
+{}
+
+/// Words in order are all written, or they are written up to the first that is refused.
+pub fn word_laws()
+    ensures whole { (part : PartData) (base : ℕ) (run words : List ℕ) → (written part base run words).fault ≡ None →
+        written part base run words ≡ record { run = onto words run; count = length words; fault = None } }
+    ensures refused { (part : PartData) (base : ℕ) (run words : List ℕ) (fault : RunFault) → (written part base run words).fault ≡ Some fault →
+        Refused part base run words fault }
+{}
+
+/// MFW right after WCFG takes the newest whole frame, and there is no other source.
+pub fn source_laws()
+    ensures taken { (part : PartData) (run : List ℕ) → source_after part Command.Wcfg Command.Mfw run ≡ newest_of (frames_of (frame_words part) run) }
+    ensures not_after { (part : PartData) (old new : Command) (run : List ℕ) → is_wcfg old ≡ false → source_after part old new run ≡ None }
+    ensures not_under { (part : PartData) (old new : Command) (run : List ℕ) → is_mfw new ≡ false → source_after part old new run ≡ None }
+{}
+
+/// FAR as read is the base right behind a load and where the base is no address, and the last address past the limit of a
+/// readback.
+pub fn far_laws()
+    ensures loaded { (part : PartData) (base : ℕ) → far_of part base [] 0 ≡ base }
+    ensures nowhere { (part : PartData) (base : ℕ) (run : List ℕ) (given : ℕ) → has_frame_at part base ≡ false → far_of part base run given ≡ base }
+    ensures last { (part : PartData) (base : ℕ) (run : List ℕ) (given : ℕ) → has_frame_at part base ≡ true → read_limit part base ≤ given →
+        far_of part base run given ≡ last_address part }
+{}
+
+/// A readback gives a frame of zeros, then the frames at the slots, then zeros.
+pub fn read_laws()
+    ensures pad { (part : PartData) (base : ℕ) (memory : FrameMap) (i : ℕ) → i < frame_words part → read_at part base memory i ≡ 0 }
+    ensures frames { (part : PartData) (base : ℕ) (memory : FrameMap) (n i : ℕ) → i < frame_words part →
+        read_at part base memory (frame_words part * (1 + n) + i) ≡ word_at (slice_index_or (slots_from part base) n Slot.End) memory i }
+    ensures zeros { (part : PartData) (base : ℕ) (memory : FrameMap) (place : ℕ) → read_limit part base ≤ place → read_at part base memory place ≡ 0 }
+    ensures stored { (part : PartData) (base given n : ℕ) → given_stored part base (given + n) ≡ min (given_stored part base given + n) (read_limit part base) }
+{}
+
+/// When there are faults, and that a refused word would change neither the landed frames nor FAR as read.
+pub fn fault_laws()
+    ensures address { (part : PartData) (far : ℕ) → (has_frame_at part far ≡ true) ↔ Contains (addresses part.rows) far }
+    ensures overrun { (part : PartData) (base word newest : ℕ) (run : List ℕ) → (write_fault part base (newest ∷ run) ≡ Some RunFault.Overrun)
+        ↔ ((rest_of (frame_words part) (word ∷ newest ∷ run) ≡ []) × (length (slots_from part base) < length (frames_of (frame_words part) (word ∷ newest ∷ run)))) }
+    ensures landed { (part : PartData) (base : ℕ) (run : List ℕ) (word : ℕ) (fault : RunFault) → write_fault part base run ≡ Some fault →
+        landed part base (word ∷ run) ≡ landed part base run }
+    ensures far { (part : PartData) (base : ℕ) (run : List ℕ) (word given : ℕ) (fault : RunFault) → write_fault part base run ≡ Some fault →
+        far_of part base (word ∷ run) given ≡ far_of part base run given }
+    ensures written { (part : PartData) (base : ℕ) (run : List ℕ) → write_fault part base run ≢ Some RunFault.Multi }
+    ensures copied { (part : PartData) (command : Command) (base : ℕ) (source : Option (List ℕ)) → copy_fault part command base source ≢ Some RunFault.Overrun }
+    ensures read { (part : PartData) (base given : ℕ) (fault : RunFault) → read_fault part base given ≡ Some fault → fault ≡ RunFault.Address base }
+{}
+
+/// Two pipelines that stand for the same are equal.
+pub fn pipeline_laws()
+    ensures one { (part : PartData) (p q : PipelineData) (command : Command) (base : ℕ) (run : List ℕ) (source : Option (List ℕ)) (given : ℕ) →
+        StandsFor part p command base run source given → StandsFor part q command base run source given → p ≡ q }
+{}

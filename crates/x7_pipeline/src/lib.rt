@@ -1,0 +1,13 @@
+//! Frames on their way: where each frame of a write lands, what a copy and a readback do, and FAR as read.
+#![tactic(auto)]
+
+mod fault;
+mod law;
+mod pipeline;
+mod place;
+#[cfg(test)]
+mod tests;
+
+pub use fault::RunFault;
+pub use law::{far_laws, fault_laws, pipeline_laws, read_laws, run_laws, source_laws, word_laws};
+pub use pipeline::Pipeline;

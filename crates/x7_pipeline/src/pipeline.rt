@@ -1,0 +1,433 @@
+//! The frame pipeline (UG470, frame data): frames on their way into the memory, copies, and words on their way out.
+ghost use Rattle.std.specs.Prelude.{◌≡◌, ◌+◌, ◌-◌, ◌*◌, ◌/◌, ◌%◌, ◌<◌, ◌≤◌, ◌==◌, ◌&&◌, not, ℕ, List, [], ◌∷◌, ◌++◌, length, min, slice_index_or, is_some, vec_len, vec_capacity, Option, Some, None, IfOk, OnOk, OnErr};
+ghost use Rattle.std.specs.Result.{result_err};
+ghost use Rattle.x7_words.specs.Word.{words_of_bytes};
+ghost use Rattle.x7_part.specs.Part.{PartData, frame_words};
+ghost use Rattle.x7_memory.specs.FrameMap.{AreSame};
+ghost use Rattle.x7_memory.specs.Frames.{frame_at, AreFramesOf};
+ghost use Rattle.x7_part.specs.declared.slot.Slot.{Slot};
+ghost use Rattle.x7_regs.specs.declared.command.Command.{Command};
+ghost use Rattle.x7_pipeline.specs.Runs.{Lands, at_slot, put_over, slots_from};
+ghost use Rattle.x7_pipeline.specs.FarAsRead.{far_of, loaded_base, has_frame_at};
+ghost use Rattle.x7_pipeline.specs.Copies.{is_wcfg, is_mfw, source_with, source_after, copied};
+ghost use Rattle.x7_pipeline.specs.Readback.{read_at, word_at};
+ghost use Rattle.x7_pipeline.specs.Faults.{write_fault, copy_fault, read_fault, drop_fault};
+ghost use Rattle.x7_pipeline.specs.Words.{written};
+ghost use Rattle.x7_pipeline.specs.Pipeline.{PipelineData, StandsFor, IsPipelineOf};
+
+use crate::fault::RunFault;
+use crate::place::{far_at, is_base, slot_at, slot_count, slot_read};
+use std::alloc::Global;
+use std::marker::Model;
+use x7_memory::Memory;
+use x7_part::{Part, Slot};
+use x7_regs::Command;
+use x7_words::{NoMemory, word_of};
+
+/// The bits of a frame address (UG470, frame address register).
+const FAR_BITS: u32 = 0x03FF_FFFF;
+
+/// The words of a run that are in no frame of the memory yet, the frame that copies take, and how far a readback is.
+#[derive(Drop)]
+pub struct Pipeline {
+    /// The words of a frame.
+    width: u32,
+    /// The command that stands.
+    command: Command,
+    /// The address that the run or the readback began at.
+    base: u32,
+    /// The words behind the run's last whole frame.
+    rest: Vec<u32>,
+    /// The run's newest whole frame, where `frame_count` isn't 0.
+    held: Vec<u32>,
+    /// The number of the run's whole frames.
+    frame_count: u64,
+    /// The source of copies, where `has_source`.
+    source: Vec<u32>,
+    has_source: bool,
+    /// The words that a readback gave, counted up to where there are zeros alone.
+    given: u64,
+    /// The slot of the next one.
+    slot: Slot,
+}
+
+impl Model for Pipeline {
+    ghost use Rattle.x7_pipeline.specs.Pipeline.{PipelineData};
+
+    ghost Value = { PipelineData };
+
+    ghost use Rattle.x7_pipeline.specs.Fields.{seen, HasRoom};
+
+    ghost view = { seen };
+
+    ghost invariant = { HasRoom };
+}
+
+impl Pipeline {
+    /// A pipeline as after a reset: no command was written, FAR is 0. It takes room for three frames, and no other call
+    /// takes memory.
+    pub fn new(alloc: Global, part: &Part) -> Result<Pipeline, NoMemory>
+        ensures stands { IfOk result (λ pipeline. StandsFor part.now pipeline Command.Null 0 [] None 0) }
+        ensures part { IfOk result (IsPipelineOf part.now) }
+    {
+        let width = part.words();
+        Ok(Pipeline {
+            width,
+            command: Command::Null,
+            base: 0,
+            rest: room_for(alloc, width)?,
+            held: room_for(alloc, width)?,
+            frame_count: 0,
+            source: room_for(alloc, width)?,
+            has_source: false,
+            given: 0,
+            slot: Slot::Pad,
+        })
+    }
+
+    /// A FAR load: a new run begins at this address. The source stays.
+    pub fn load(&mut self, far: u32)
+        ensures stands { (part : PartData) (command : Command) (base : ℕ) (run : List ℕ) (source : Option (List ℕ)) (given : ℕ) →
+            StandsFor part self.old command base run source given → StandsFor part self.new command (loaded_base part far) [] source 0 }
+        ensures part { (part : PartData) → IsPipelineOf part self.old → IsPipelineOf part self.new }
+    {
+        self.base = far & FAR_BITS;
+        self.end_run();
+    }
+
+    /// A command: a new run begins at FAR as read. MFW takes the run's newest whole frame as the source.
+    pub fn command(&mut self, command: Command, part: &Part)
+        ensures stands { (old : Command) (base : ℕ) (run : List ℕ) (source : Option (List ℕ)) (given : ℕ) →
+            StandsFor part.now self.old old base run source given →
+            StandsFor part.now self.new command (far_of part.now base run given) [] (source_after part.now old command run) 0 }
+        ensures part { IsPipelineOf part.now self.old → IsPipelineOf part.now self.new }
+    {
+        self.base = self.far(part);
+        self.take_source(command);
+        self.command = command;
+        self.end_run();
+    }
+
+    /// Ends the run and the readback.
+    fn end_run(&mut self)
+        ensures { self.new ≡ record self.old { rest = []; newest = None; frame_count = 0; given = 0; slot = Slot.Pad } }
+    {
+        self.rest.clear();
+        self.frame_count = 0;
+        self.given = 0;
+        self.slot = Slot::Pad;
+    }
+
+    /// The source under the command that comes. The newest whole frame is used up.
+    fn take_source(&mut self, command: Command)
+        ensures { self.new ≡ record self.old { newest = None; frame_count = 0; source = source_with self.old.command command self.old.newest } }
+    {
+        if begins_copies(self.command, command) && self.frame_count > 0 {
+            std::mem::swap(&mut self.held, &mut self.source);
+            self.has_source = true;
+        } else {
+            self.has_source = false;
+        }
+        self.frame_count = 0;
+    }
+
+    /// One word more of a run under WCFG. A word that completes a frame puts the frame before it.
+    pub fn write(&mut self, word: u32, part: &Part, memory: &mut Memory) -> Result<(), RunFault>
+        requires part { IsPipelineOf part.now self.old }
+        requires memory { AreFramesOf part.now memory.old }
+        ensures stands { OnOk result ((command : Command) (base : ℕ) (run : List ℕ) (source : Option (List ℕ)) (given : ℕ) →
+            StandsFor part.now self.old command base run source given → StandsFor part.now self.new command base (word ∷ run) source given) }
+        ensures lands { OnOk result ((command : Command) (base : ℕ) (run : List ℕ) (source : Option (List ℕ)) (given : ℕ) →
+            StandsFor part.now self.old command base run source given →
+            Lands part.now base run (word ∷ run) (frame_at part.now memory.old) (frame_at part.now memory.new)) }
+        ensures fault { (command : Command) (base : ℕ) (run : List ℕ) (source : Option (List ℕ)) (given : ℕ) →
+            StandsFor part.now self.old command base run source given → result_err result ≡ write_fault part.now base run }
+
+        // Whatever the answer.
+        ensures part { IsPipelineOf part.now self.new }
+        ensures memory { AreFramesOf part.now memory.new }
+
+        // After a fault.
+        ensures refused { OnErr result (self.new ≡ self.old) }
+        ensures unchanged { OnErr result (memory.new ≡ memory.old) }
+    {
+        let filled = self.rest.len();
+        if filled > 0 && filled + 1 < self.width as usize {
+            push_word(&mut self.rest, word);
+            return Ok(());
+        }
+        self.write_at_edge(word, part, memory)
+    }
+
+    /// The words of a run in order, four bytes each, the highest first: as so many calls of `write`, up to the first fault.
+    /// It gives the number of words taken, a refused one included, and the fault.
+    pub fn write_bytes(
+        &mut self,
+        bytes: &[u8],
+        part: &Part,
+        memory: &mut Memory,
+    ) -> (usize, Option<RunFault>)
+        requires whole { length bytes.now % 4 ≡ 0 }
+        requires part { IsPipelineOf part.now self.old }
+        requires memory { AreFramesOf part.now memory.old }
+        ensures stands { (command : Command) (base : ℕ) (run : List ℕ) (source : Option (List ℕ)) (given : ℕ) →
+            StandsFor part.now self.old command base run source given →
+            StandsFor part.now self.new command base (written part.now base run (words_of_bytes bytes.now)).run source given }
+        ensures lands { (command : Command) (base : ℕ) (run : List ℕ) (source : Option (List ℕ)) (given : ℕ) →
+            StandsFor part.now self.old command base run source given →
+            Lands part.now base run (written part.now base run (words_of_bytes bytes.now)).run (frame_at part.now memory.old) (frame_at part.now memory.new) }
+        ensures count { (command : Command) (base : ℕ) (run : List ℕ) (source : Option (List ℕ)) (given : ℕ) →
+            StandsFor part.now self.old command base run source given → result.0 ≡ (written part.now base run (words_of_bytes bytes.now)).count }
+        ensures fault { (command : Command) (base : ℕ) (run : List ℕ) (source : Option (List ℕ)) (given : ℕ) →
+            StandsFor part.now self.old command base run source given → result.1 ≡ (written part.now base run (words_of_bytes bytes.now)).fault }
+        ensures part { IsPipelineOf part.now self.new }
+        ensures memory { AreFramesOf part.now memory.new }
+    {
+        let (words, _) = bytes.as_chunks::<4>();
+        let mut count = 0;
+        for word in words {
+            let answer = self.write(word_of(*word), part, memory);
+            count += 1;
+            if let Err(fault) = answer {
+                return (count, Some(fault));
+            }
+        }
+        (count, None)
+    }
+
+    /// The same as `write`, and meant for the first and the last word of a frame.
+    fn write_at_edge(&mut self, word: u32, part: &Part, memory: &mut Memory) -> Result<(), RunFault>
+        requires part { IsPipelineOf part.now self.old }
+        requires memory { AreFramesOf part.now memory.old }
+        ensures stands { OnOk result ((command : Command) (base : ℕ) (run : List ℕ) (source : Option (List ℕ)) (given : ℕ) →
+            StandsFor part.now self.old command base run source given → StandsFor part.now self.new command base (word ∷ run) source given) }
+        ensures lands { OnOk result ((command : Command) (base : ℕ) (run : List ℕ) (source : Option (List ℕ)) (given : ℕ) →
+            StandsFor part.now self.old command base run source given →
+            Lands part.now base run (word ∷ run) (frame_at part.now memory.old) (frame_at part.now memory.new)) }
+        ensures fault { (command : Command) (base : ℕ) (run : List ℕ) (source : Option (List ℕ)) (given : ℕ) →
+            StandsFor part.now self.old command base run source given → result_err result ≡ write_fault part.now base run }
+        ensures part { IsPipelineOf part.now self.new }
+        ensures memory { AreFramesOf part.now memory.new }
+        ensures refused { OnErr result (self.new ≡ self.old) }
+        ensures unchanged { OnErr result (memory.new ≡ memory.old) }
+    {
+        if self.writes_nowhere(part) {
+            return Err(RunFault::Address(self.base));
+        }
+        if self.rest.len() + 1 < self.width as usize {
+            push_word(&mut self.rest, word);
+            return Ok(());
+        }
+        if slot_count(part, self.base) <= self.frame_count {
+            return Err(RunFault::Overrun);
+        }
+        self.put_held(part, memory);
+        push_word(&mut self.rest, word);
+        std::mem::swap(&mut self.rest, &mut self.held);
+        self.rest.clear();
+        self.frame_count += 1;
+        Ok(())
+    }
+
+    /// Whether the next word would be a run's first, and the base is no address.
+    fn writes_nowhere(&self, part: &Part) -> bool
+        ensures { result ≡ ((self.now.frame_count == 0) && (length self.now.rest == 0) && not (has_frame_at part.now self.now.base)) }
+    {
+        self.frame_count == 0 && self.rest.is_empty() && !is_base(part, self.base)
+    }
+
+    /// Puts the newest whole frame, where there is one and its slot is an address.
+    fn put_held(&self, part: &Part, memory: &mut Memory)
+        requires part { IsPipelineOf part.now self.now }
+        requires memory { AreFramesOf part.now memory.old }
+        ensures none { self.now.newest ≡ None → memory.new ≡ memory.old }
+        ensures put { (frame : List ℕ) → self.now.newest ≡ Some frame →
+            AreSame (frame_at part.now memory.new) (put_over (at_slot (slice_index_or (slots_from part.now self.now.base) (self.now.frame_count - 1) Slot.End) frame []) (frame_at part.now memory.old)) }
+        ensures memory { AreFramesOf part.now memory.new }
+    {
+        if self.frame_count == 0 {
+            return;
+        }
+        if let Slot::Frame(far) = slot_at(part, self.base, self.frame_count - 1) {
+            memory.put(part, far, &self.held);
+        }
+    }
+
+    /// A copy, which is a word written to MFWR: the source is put at the base.
+    pub fn copy(&mut self, part: &Part, memory: &mut Memory) -> Result<(), RunFault>
+        requires part { IsPipelineOf part.now self.old }
+        requires memory { AreFramesOf part.now memory.old }
+        ensures put { OnOk result ((command : Command) (base : ℕ) (run : List ℕ) (source : Option (List ℕ)) (given : ℕ) →
+            StandsFor part.now self.old command base run source given →
+            AreSame (frame_at part.now memory.new) (put_over (copied base source) (frame_at part.now memory.old))) }
+        ensures fault { (command : Command) (base : ℕ) (run : List ℕ) (source : Option (List ℕ)) (given : ℕ) →
+            StandsFor part.now self.old command base run source given → result_err result ≡ copy_fault part.now command base source }
+
+        // Whatever the answer.
+        ensures same { self.new ≡ self.old }
+        ensures memory { AreFramesOf part.now memory.new }
+
+        // After a fault.
+        ensures unchanged { OnErr result (memory.new ≡ memory.old) }
+    {
+        if !self.may_copy() {
+            return Err(RunFault::Multi);
+        }
+        if !is_base(part, self.base) {
+            return Err(RunFault::Address(self.base));
+        }
+        memory.put(part, self.base, &self.source);
+        Ok(())
+    }
+
+    /// Whether the command is MFW and there is a source.
+    fn may_copy(&self) -> bool
+        ensures { result ≡ (is_mfw self.now.command && is_some self.now.source) }
+    {
+        match self.command {
+            Command::Mfw => self.has_source,
+            _ => false,
+        }
+    }
+
+    /// The next word of a readback under RCFG.
+    pub fn read_word(&mut self, part: &Part, memory: &Memory) -> Result<u32, RunFault>
+        requires part { IsPipelineOf part.now self.old }
+        requires memory { AreFramesOf part.now memory.now }
+        ensures word { IfOk result (λ word. (command : Command) (base : ℕ) (run : List ℕ) (source : Option (List ℕ)) (given : ℕ) →
+            StandsFor part.now self.old command base run source given → word ≡ read_at part.now base (frame_at part.now memory.now) given) }
+        ensures stands { OnOk result ((command : Command) (base : ℕ) (run : List ℕ) (source : Option (List ℕ)) (given : ℕ) →
+            StandsFor part.now self.old command base run source given → StandsFor part.now self.new command base run source (given + 1)) }
+        ensures fault { (command : Command) (base : ℕ) (run : List ℕ) (source : Option (List ℕ)) (given : ℕ) →
+            StandsFor part.now self.old command base run source given → result_err result ≡ read_fault part.now base given }
+
+        // Whatever the answer.
+        ensures part { IsPipelineOf part.now self.new }
+
+        // After a fault.
+        ensures refused { OnErr result (self.new ≡ self.old) }
+    {
+        if self.reads_nowhere(part) {
+            return Err(RunFault::Address(self.base));
+        }
+        let word = self.word(part, memory);
+        self.step(part);
+        Ok(word)
+    }
+
+    /// Whether the next word would be a readback's first, and the base is no address.
+    fn reads_nowhere(&self, part: &Part) -> bool
+        ensures { result ≡ ((self.now.given == 0) && not (has_frame_at part.now self.now.base)) }
+    {
+        self.given == 0 && !is_base(part, self.base)
+    }
+
+    /// The word at the place that the readback is at.
+    fn word(&self, part: &Part, memory: &Memory) -> u32
+        requires part { IsPipelineOf part.now self.now }
+        requires memory { AreFramesOf part.now memory.now }
+        ensures { result ≡ word_at self.now.slot (frame_at part.now memory.now) (self.now.given % self.now.width) }
+    {
+        let Slot::Frame(far) = self.slot else {
+            return 0;
+        };
+        match memory.frame(part, far) {
+            Some(words) => words[(self.given % u64::from(self.width)) as usize],
+            None => 0,
+        }
+    }
+
+    /// Counts a word that was given. The slot changes at the end of a frame alone.
+    fn step(&mut self, part: &Part)
+        ensures stands { (command : Command) (base : ℕ) (run : List ℕ) (source : Option (List ℕ)) (given : ℕ) →
+            StandsFor part.now self.old command base run source given → StandsFor part.now self.new command base run source (given + 1) }
+        ensures part { IsPipelineOf part.now self.old → IsPipelineOf part.now self.new }
+    {
+        // the part's range keeps the count from its last value
+        let _frames = part.frames();
+        if let Slot::End = self.slot {
+            return;
+        }
+        self.given = self.given.saturating_add(1);
+        if self.given % u64::from(self.width) != 0 {
+            return;
+        }
+        self.slot = slot_read(part, self.base, self.given / u64::from(self.width));
+    }
+
+    /// Passes over words of a readback: the same as so many calls of `read_word`.
+    pub fn drop_words(&mut self, n: u32, part: &Part) -> Result<(), RunFault>
+        ensures stands { OnOk result ((command : Command) (base : ℕ) (run : List ℕ) (source : Option (List ℕ)) (given : ℕ) →
+            StandsFor part.now self.old command base run source given → StandsFor part.now self.new command base run source (given + n)) }
+        ensures fault { (command : Command) (base : ℕ) (run : List ℕ) (source : Option (List ℕ)) (given : ℕ) →
+            StandsFor part.now self.old command base run source given → result_err result ≡ drop_fault part.now base given n }
+
+        // Whatever the answer.
+        ensures part { IsPipelineOf part.now self.old → IsPipelineOf part.now self.new }
+
+        // After a fault.
+        ensures refused { OnErr result (self.new ≡ self.old) }
+    {
+        if n == 0 {
+            return Ok(());
+        }
+        if self.reads_nowhere(part) {
+            return Err(RunFault::Address(self.base));
+        }
+        self.pass(n, part);
+        Ok(())
+    }
+
+    /// Counts words that were given.
+    fn pass(&mut self, n: u32, part: &Part)
+        ensures { let given = min (self.old.given + n) (self.old.width * (1 + length (slots_from part.now self.old.base)))
+            in self.new ≡ record self.old { given = given; slot = slice_index_or (Slot.Pad ∷ slots_from part.now self.old.base) (given / self.old.width) Slot.End } }
+    {
+        let limit = u64::from(self.width) * (1 + slot_count(part, self.base));
+        self.given = self.given.saturating_add(u64::from(n)).min(limit);
+        self.slot = slot_read(part, self.base, self.given / u64::from(self.width));
+    }
+
+    /// FAR as read.
+    pub fn far(&self, part: &Part) -> u32
+        ensures { (command : Command) (base : ℕ) (run : List ℕ) (source : Option (List ℕ)) (given : ℕ) →
+            StandsFor part.now self.now command base run source given → result ≡ far_of part.now base run given }
+    {
+        let frames = self.frame_count.max(self.given / u64::from(self.width));
+        far_at(part, self.base, frames.saturating_sub(1))
+    }
+}
+
+/// The command ends a run of frame data by one of copies.
+fn begins_copies(old: Command, new: Command) -> bool
+    ensures { result ≡ (is_wcfg old && is_mfw new) }
+{
+    match (old, new) {
+        (Command::Wcfg, Command::Mfw) => true,
+        _ => false,
+    }
+}
+
+/// Room for the words of a frame.
+fn room_for(alloc: Global, width: u32) -> Result<Vec<u32>, NoMemory>
+    ensures empty { IfOk result (λ words. words.items ≡ []) }
+    ensures room { IfOk result (λ words. width ≤ vec_capacity words) }
+{
+    match Vec::with_capacity(alloc, width as usize) {
+        Ok(words) => Ok(words),
+        Err(_) => Err(NoMemory),
+    }
+}
+
+/// Appends a word for which there is room.
+fn push_word(words: &mut Vec<u32>, word: u32)
+    requires { vec_len words.old + 1 ≤ vec_capacity words.old }
+    ensures items { words.new.items ≡ words.old.items ++ word ∷ [] }
+    ensures len { vec_len words.new ≡ vec_len words.old + 1 }
+    ensures room { vec_capacity words.old ≤ vec_capacity words.new }
+{
+    match words.push(word) {
+        Ok(()) => (),
+        Err(_) => (),
+    }
+}
