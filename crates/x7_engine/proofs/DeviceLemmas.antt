@@ -76,9 +76,9 @@ pub turned : (part : PartData) (kept : Kept) (d e : DeviceState) (bytes cut more
     → ((h : History) (n : ℕ) → RegistersStandFor part kept d.registers h → RegistersStandFor part kept e.registers (entered_all n (steps_without left run) h))
     → ((h : History) (n : ℕ) → RegistersStandFor part kept d.registers h → read_out part kept (entered_all n (steps_without left run) h) ≡ read_out part kept h ++ replicate e.registers.due e.registers.due_word)
     → cut ≡ more ++ rest → length rest ≡ left → left % 4 ≡ 0 → left ≤ length (run_bytes run) → (NotLent run → left ≡ 0) → IsRun run → IsLent d.cutter at run
-    → (e.registers.stop ≡ None → left ≡ 0) → e.part ≡ d.part → e.taken ≡ d.taken + length more
+    → (e.registers.stop ≡ None → left ≡ 0) → ((line : Stop) → e.registers.stop ≡ Some line → e.registers.due ≡ 0) → e.part ≡ d.part → e.taken ≡ d.taken + length more
     → DeviceStandsFor part kept e (bytes ++ more) × (reads_of part kept (bytes ++ more) ≡ reads_of part kept bytes ++ replicate e.registers.due e.registers.due_word)
-turned part kept d e bytes cut more rest run left at s going went stands reads j l m b z r k g p t =
+turned part kept d e bytes cut more rest run left at s going went stands reads j l m b z r k g q p t =
     let none : stop_in part kept bytes ≡ stopped_at (length bytes) None = s.stop_is ∙ ap (stopped_at (length bytes)) going in
     let old : history_taken part kept bytes ≡ history_of bytes = all_taken part kept bytes None s.fits none refl in
     let before : RegistersStandFor part kept d.registers (history_of bytes) = subst (λ (h : History). RegistersStandFor part kept d.registers h) old s.registers_are in
@@ -104,8 +104,9 @@ turned part kept d e bytes cut more rest run left at s going went stands reads j
         taken_is = omega (arith, t, s.taken_is, length-append bytes more);
         stop_is = stops;
         registers_are = subst (λ (x : History). RegistersStandFor part kept e.registers x) (sym new) after;
-        cutter_is = λ q. record { sessions = w.new_sessions; place = w.new_place; stands = subst (λ (x : List ℕ). CutterStandsFor e.cutter (bytes ++ x) w.new_sessions w.new_place) (sym (no_rest cut more rest j (l ∙ g q))) w.stands };
+        cutter_is = λ o. record { sessions = w.new_sessions; place = w.new_place; stands = subst (λ (x : List ℕ). CutterStandsFor e.cutter (bytes ++ x) w.new_sessions w.new_place) (sym (no_rest cut more rest j (l ∙ g o))) w.stands };
         due_are = record { told = reads_of part kept bytes; all = told };
+        at_rest = q;
       },
       told,
     )

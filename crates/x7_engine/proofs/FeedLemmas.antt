@@ -35,6 +35,7 @@ given part kept d bytes left l s =
         registers_are = record { words = s.registers_are.words; controls = s.registers_are.controls; progress = s.registers_are.progress; stop = s.registers_are.stop };
         cutter_is = s.cutter_is;
         due_are = record { told = told ++ replicate (r.due - left) r.due_word; all = all };
+        at_rest = λ line q. omega (arith, l, s.at_rest line q);
       },
       told_by part kept (with_due d left) bytes (told ++ replicate (r.due - left) r.due_word) all
           ∙ ap (λ t. t ++ replicate (r.due - left) r.due_word) (sym (told_by part kept d bytes told s.due_are.all)),
@@ -83,5 +84,5 @@ taken_by_stop (stop.Fault f) n at = refl
 taken_by_stop stop.Iprog n at = refl
 
 pub answers_stop : (part : PartData) (kept : Kept) (d : DeviceState) (bytes : List ℕ) (read : ReadBufState) (line : Stop) (at : ℕ) → DeviceStandsFor part kept d bytes → Some line ≡ d.registers.stop → Answers part kept d bytes read (fed_by line at)
-answers_stop part kept d bytes read (stop.Fault f) at s e = (f, s.stop_is ∙ ap (stopped_at (length bytes)) (sym e))
-answers_stop part kept d bytes read stop.Iprog at s e = s.stop_is ∙ ap (stopped_at (length bytes)) (sym e)
+answers_stop part kept d bytes read (stop.Fault f) at s e = (f, s.stop_is ∙ ap (stopped_at (length bytes)) (sym e), s.at_rest (stop.Fault f) (sym e))
+answers_stop part kept d bytes read stop.Iprog at s e = (s.stop_is ∙ ap (stopped_at (length bytes)) (sym e), s.at_rest stop.Iprog (sym e))

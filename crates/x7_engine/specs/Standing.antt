@@ -133,12 +133,13 @@ pub record DeviceStandsFor (part : PartData) (kept : Kept) (d : DeviceState) (by
   pub registers_are : RegistersStandFor part kept d.registers (history_taken part kept bytes)
   pub cutter_is : d.registers.stop ≡ None → IsCutterOf d.cutter bytes
   pub due_are : AreDue d.registers (reads_of part kept bytes)
+  pub at_rest : (line : Stop) → d.registers.stop ≡ Some line → d.registers.due ≡ 0
 
 -- the words read out so far, without those that are still due
 abbrev pub told_of : PartData → Kept → DeviceState → List ℕ → List ℕ
 told_of part kept d bytes = take (length (reads_of part kept bytes) - d.registers.due) (reads_of part kept bytes)
 
--- what a feed answers: that all bytes were taken and no word is due, the stop, or that a word is due and the buffer full
+-- what a feed answers: that all bytes were taken and no word is due, the stop, at which no word is due either, or that a word is due and the buffer full
 abbrev pub taken_in : ℕ → Fed → ℕ
 taken_in length fed.All = length
 taken_in length (fed.Stopped n) = n
@@ -152,6 +153,6 @@ fed_by stop.Iprog at = fed.Iprog at
 
 abbrev pub Answers : PartData → Kept → DeviceState → List ℕ → ReadBufState → Fed → Type 0
 Answers part kept d bytes read fed.All = (stop_in part kept bytes ≡ None) × (d.registers.due ≡ 0)
-Answers part kept d bytes read (fed.Stopped n) = (f : Fault) × (stop_in part kept bytes ≡ Some (record { place = length bytes; line = stop.Fault f }))
-Answers part kept d bytes read (fed.Iprog n) = stop_in part kept bytes ≡ Some (record { place = length bytes; line = stop.Iprog })
+Answers part kept d bytes read (fed.Stopped n) = (f : Fault) × (stop_in part kept bytes ≡ Some (record { place = length bytes; line = stop.Fault f })) × (d.registers.due ≡ 0)
+Answers part kept d bytes read (fed.Iprog n) = (stop_in part kept bytes ≡ Some (record { place = length bytes; line = stop.Iprog })) × (d.registers.due ≡ 0)
 Answers part kept d bytes read (fed.ReadFull n) = (stop_in part kept bytes ≡ None) × (0 < d.registers.due) × IsFull read

@@ -226,6 +226,7 @@ impl Registers {
         requires going { self.old.stop ≡ None }
         requires none_due { self.old.due ≡ 0 }
         requires some { 0 < count }
+        ensures at_rest { (line : Stop) → self.new.stop ≡ Some line → self.new.due ≡ 0 }
         ensures stands { (h : History) (place : ℕ) → RegistersStandFor part.now on_the_bench self.old h → RegistersStandFor part.now on_the_bench self.new (entry (Read register count) place ∷ h) }
         ensures reads { (h : History) (place : ℕ) → RegistersStandFor part.now on_the_bench self.old h
             → answer_of part.now on_the_bench h (Read register count) place ≡ replicate self.new.due self.new.due_word }
@@ -243,6 +244,7 @@ impl Registers {
         requires going { self.old.stop ≡ None }
         requires none_due { self.old.due ≡ 0 }
         requires header { IsHeaderStep step }
+        ensures at_rest { (line : Stop) → self.new.stop ≡ Some line → self.new.due ≡ 0 }
         ensures stands { (h : History) (place : ℕ) → RegistersStandFor part.now on_the_bench self.old h → RegistersStandFor part.now on_the_bench self.new (entered place step h) }
         ensures reads { (h : History) (place : ℕ) → RegistersStandFor part.now on_the_bench self.old h
             → read_out part.now on_the_bench (entered place step h) ≡ read_out part.now on_the_bench h ++ replicate self.new.due self.new.due_word }
@@ -264,6 +266,7 @@ impl Registers {
         ensures goes_on { self.new.stop ≡ None → result ≡ 0 }
         ensures whole { NotLent run.entry → result ≡ 0 }
         ensures quiet { TellsNothing run.entry → self.new ≡ self.old }
+        ensures at_rest { (line : Stop) → self.new.stop ≡ Some line → self.new.due ≡ 0 }
         ensures stands { (h : History) (n : ℕ) → RegistersStandFor part.now on_the_bench self.old h → RegistersStandFor part.now on_the_bench self.new (entered_all n (steps_without result run.entry) h) }
         ensures reads { (h : History) (n : ℕ) → RegistersStandFor part.now on_the_bench self.old h
             → read_out part.now on_the_bench (entered_all n (steps_without result run.entry) h) ≡ read_out part.now on_the_bench h ++ replicate self.new.due self.new.due_word }

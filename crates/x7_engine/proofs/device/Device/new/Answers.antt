@@ -12,4 +12,5 @@ returns-in-Ok c = record {
   registers_are = c.new-in-Ok.ensures.stands c.args.part.now;
   cutter_is = λ _. record { sessions = []; place = Searching []; stands = c.new.ensures };
   due_are = record { told = []; all = sym (ap (λ (k : ℕ). replicate k c.new-in-Ok.result.due_word) c.new-in-Ok.ensures.none_due) };
+  at_rest = λ line q. c.new-in-Ok.ensures.none_due;
 }

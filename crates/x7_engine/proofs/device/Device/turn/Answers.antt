@@ -64,7 +64,7 @@ turned_here c bytes s =
     (ap (λ (d : DeviceState). d.registers.stop) c.self.view_is ∙ c.requires.going)
     (c.cut-run.ensures.adds bytes) c.run-left.ensures.stands c.run-left.ensures.reads
     (between_front piece from at left forward) (length-drop (at - left - from) cut ∙ omega (arith, all, some)) c.run-left.ensures.words c.run-left.ensures.within c.run-left.ensures.whole c.cut-run.ensures.run c.cut-run.ensures.lent
-    c.run-left.ensures.goes_on refl (omega (arith, taken))
+    c.run-left.ensures.goes_on c.run-left.ensures.at_rest refl (omega (arith, taken))
 
 pub returns-clause-stands : goal.returns-clause-stands
 returns-clause-stands c = λ part bytes s.
