@@ -1,4 +1,4 @@
-"""Makes the streams that the benchmark lists, from a fixed rule."""
+"""Makes the streams that the benchmark lists and plays, from a fixed rule."""
 
 import pathlib
 import struct
@@ -27,6 +27,9 @@ def streams():
     single = b"\x30\x00\x20\x01" + words(1, 2)
     yield "writes", SYNC + single * (WORDS // 2)
     yield "nops", SYNC + b"\x20\x00\x00\x00" * WORDS
+    axss_and_cor1 = b"\x30\x01\xa0\x01" + words(1, 4) + b"\x30\x01\xc0\x01" + words(1, 5)
+    yield "registers", SYNC + axss_and_cor1 * (WORDS // 4)
+    yield "payload", SYNC + (b"\x30\x01\xa7\xff" + words(0x7FF, 6)) * (WORDS // 0x800)
     yield "gap", words(WORDS, 3).replace(SYNC, b"\x00\x00\x00\x00")
 
 

@@ -1,4 +1,4 @@
-"""Times the lister beside xxd and cat, and prints the ratios of processor time and the peak memory."""
+"""Times the lister beside xxd and cat, and the player beside md5sum: ratios of processor time, and the peak memory."""
 
 import os
 import pathlib
@@ -28,9 +28,8 @@ def cost(command):
     return least
 
 
-def main():
-    folder = pathlib.Path(sys.argv[1])
-    print("stream   x7 s    xxd s   cat s   xxd/x7  x7/cat  x7 MiB")
+def list_times(folder):
+    print("list     x7 s    xxd s   cat s   xxd/x7  x7/cat  x7 MiB")
     for name in ["long", "writes", "nops", "gap"]:
         stream = str(folder / f"{name}.bin")
         command = [str(folder / "x7"), "list", stream]
@@ -40,6 +39,22 @@ def main():
         print(
             f"{name:8} {ours:.3f}   {xxd:.3f}   {cat:.3f}   {xxd / ours:6.1f}  {ours / max(cat, 0.001):6.1f}  {peak(command):6.1f}"
         )
+
+
+def play_times(folder, part):
+    print("play       x7 s    md5sum s  x7/md5sum  x7 MiB")
+    for name in ["registers", "payload", "nops", "gap"]:
+        stream = str(folder / f"{name}.bin")
+        command = [str(folder / "x7"), "play", part, stream]
+        ours = cost(command)
+        md5sum = cost(["md5sum", stream])
+        print(f"{name:10} {ours:.3f}   {md5sum:.3f}     {ours / md5sum:6.2f}     {peak(command):6.1f}")
+
+
+def main():
+    folder = pathlib.Path(sys.argv[1])
+    list_times(folder)
+    play_times(folder, sys.argv[2])
 
 
 main()

@@ -1,5 +1,5 @@
 -- What may end `list`: each of its ends has its cause.
-use Rattle.std.proofs.Common.{◌≡◌, ℕ, List, [], ◌∷◌, ◌++◌, ◌≤◌, ◌<◌, drop, length, length-append, Option, None, Some, Result, Ok, Err, IfErr, refl, ap, append-nil, sym, ◌∙◌, arith, inl, inr, ◌⊎◌, unwrap_or, Bool, true, false}
+use Rattle.std.proofs.Common.{◌≡◌, ℕ, List, [], ◌∷◌, ◌++◌, ◌≤◌, ◌<◌, drop, length, length-append, Option, None, Some, Result, Ok, Err, IfErr, IfOk, refl, ap, append-nil, sym, ◌∙◌, arith, inl, inr, ◌⊎◌, unwrap_or, Bool, true, false}
 use Rattle.std.specs.Prelude.{if◌then◌else◌, nat_eq, nat_lt}
 use Rattle.std.specs.Cmp.Lexicographic.{pointwise}
 use Rattle.std.specs.List.{starts_with}
@@ -11,10 +11,11 @@ use Rattle.x7_words.specs.Input.{AtEnd, Lacks, Selects, preceded}
 use Rattle.x7_words.specs.Sink.{appended, PutsFront}
 use Rattle.x7_words.specs.Word.{AreBytes}
 use Rattle.x7_words.proofs.SinkLemmas.{appended-nil}
+use Rattle.x7_header.specs.Header.{fixed_bytes}
 use Rattle.x7_listing.specs.Listing.{listing_of}
 use Rattle.x7_tool.specs.Form.{Listing}
-use Rattle.x7_tool.specs.Outcome.{Answer, Event, Missing, ReadFault, WriteFault, NoMemory, TooLarge, Unbuilt, Told, and_so, bit_header_start, has_header, judged, listed, stream_limit, with_inputs}
-use Rattle.x7_tool.specs.Run.{Ends, IsCaused, IsDecidedResult, IsFrontOf, IsOpenResult, RisesFor}
+use Rattle.x7_tool.specs.Outcome.{Answer, Event, Missing, ReadFault, WriteFault, NoMemory, TooLarge, Unbuilt, and_so, has_header, judged, listed, stream_limit, with_inputs}
+use Rattle.x7_tool.specs.Run.{Ends, IsCaused, IsFrontOf, RisesFor}
 
 -- a name that isn't there
 pub absent : (contents : Option (List ℕ → Option (List ℕ))) (flash : Option (List ℕ)) (name : List ℕ) (a b : ℕ) (F : List ℕ → Type 0) → Lacks contents name ⊎ HasRisen a b
@@ -87,11 +88,6 @@ header_stays xs ys p h =
 pub no_header_stays : (xs ys p : List ℕ) → length p ≤ length xs → starts_with nat_eq xs p ≡ false → starts_with nat_eq (xs ++ ys) p ≡ false
 no_header_stays xs ys p long h = ap (λ t. pointwise nat_eq p t) (take-append-le (length p) xs ys long) ∙ h
 
-due_here : {A : Type 0} (contents : Option (List ℕ → Option (List ℕ))) (flash : Option (List ℕ)) (F L : List ℕ → Type 0) (due : Told → Result A Event) (got : Result A Event) → IsOpenResult got → IsDecidedResult got
-    → ((inputs : List ℕ → Option (List ℕ)) → contents ≡ Some inputs → due (record { inputs = inputs; flash = flash }) ≡ got) → IsCaused (with_inputs contents flash) F L due got
-due_here None flash F L due got o d e = inr o
-due_here (Some inputs) flash F L due got o d e = inr (d, e inputs refl)
-
 -- what is due for a stream of these bytes
 abbrev due_of : List ℕ → List ℕ → Result Answer Event
 due_of stream bytes = and_so (judged stream bytes) (λ bytes. Ok (record { stopped = false; text = listing_of bytes }))
@@ -106,14 +102,6 @@ due_header stream bytes h = rw h refl
 listed_is : (inputs : List ℕ → Option (List ℕ)) (flash : Option (List ℕ)) (stream bytes : List ℕ) → inputs stream ≡ Some bytes → listed (record { inputs = inputs; flash = flash }) stream ≡ due_of stream bytes
 listed_is inputs flash stream bytes e = rw e refl
 
--- a stream whose first bytes are a header's
-pub unbuilt : (contents : Option (List ℕ → Option (List ℕ))) (flash : Option (List ℕ)) (F L : List ℕ → Type 0) (stream piece : List ℕ) (rest : Option (List ℕ)) (Full : Type 0) (old now : Option (List ℕ))
-    → Selects contents stream (preceded piece rest) → has_header piece ≡ true → now ≡ old → Ends (with_inputs contents flash) F L (Some (Listing stream)) Full old now (Err (Unbuilt stream))
-unbuilt None flash F L stream piece rest Full old now s h e = (inr tt, e)
-unbuilt (Some inputs) flash F L stream piece rest Full old now s h e =
-    let all = told_all inputs stream piece rest s in
-    (inr (tt, listed_is inputs flash stream (piece ++ all.0) all.1.1 ∙ due_header stream (piece ++ all.0) (header_stays piece all.0 bit_header_start h)), e)
-
 -- a stream of which more than the limit was taken
 pub too_large : (contents : Option (List ℕ → Option (List ℕ))) (flash : Option (List ℕ)) (F L : List ℕ → Type 0) (stream taken listed_bytes : List ℕ) (rest more : Option (List ℕ)) (Full : Type 0) (old now : Option (List ℕ))
     → Selects contents stream (preceded taken rest) → Selects contents stream (preceded listed_bytes more) → 13 ≤ length taken → has_header taken ≡ false → stream_limit < length taken → PutsFront old (listing_of listed_bytes) now
@@ -122,7 +110,7 @@ too_large None flash F L stream taken listed_bytes rest more Full old now s t k 
 too_large (Some inputs) flash F L stream taken listed_bytes rest more Full old now s t k h l p =
     let all = told_all inputs stream taken rest s in
     let long : nat_lt stream_limit (length (taken ++ all.0)) ≡ true = grind (arith, length-append taken all.0, l, nat_tests) in
-    (inr (tt, listed_is inputs flash stream (taken ++ all.0) all.1.1 ∙ due_over stream (taken ++ all.0) true (no_header_stays taken all.0 bit_header_start k h) long), (listed_bytes, (front_taken (Some inputs) flash stream listed_bytes more t, p)))
+    (inr (tt, listed_is inputs flash stream (taken ++ all.0) all.1.1 ∙ due_over stream (taken ++ all.0) true (no_header_stays taken all.0 fixed_bytes k h) long), (listed_bytes, (front_taken (Some inputs) flash stream listed_bytes more t, p)))
 
 -- a stream whose listing was written
 pub listed_whole : (contents : Option (List ℕ → Option (List ℕ))) (flash : Option (List ℕ)) (F L : List ℕ → Type 0) (stream taken : List ℕ) (rest : Option (List ℕ)) (Full : Type 0) (old now : Option (List ℕ))
@@ -145,3 +133,8 @@ both_err (Err e) P Q R f p q = f e p q
 pub err_weaker : {A B : Type 0} {P Q : B → Type 0} (r : Result A B) → ((e : B) → P e → Q e) → IfErr r P → IfErr r Q
 err_weaker (Ok a) f p = tt
 err_weaker (Err e) f p = f e p
+
+-- a value by a weaker clause
+pub ok_weaker : {A B : Type 0} {P Q : A → Type 0} (r : Result A B) → ((a : A) → P a → Q a) → IfOk r P → IfOk r Q
+ok_weaker (Ok a) f p = f a p
+ok_weaker (Err e) f p = tt

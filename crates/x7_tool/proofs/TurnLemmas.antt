@@ -5,9 +5,10 @@ use Rattle.std.proofs.Math.Seq.{take-append-add}
 use Rattle.std.proofs.lemmas.List.{length-take-le, take-take}
 use Rattle.x7_words.specs.Sink.{appended, PutsFront}
 use Rattle.x7_words.specs.Word.{AreBytes}
-use Rattle.x7_words.proofs.SinkLemmas.{appended-appended, appended-nil, front_more}
+use Rattle.x7_words.proofs.SinkLemmas.{appended-appended, front_more}
 use Rattle.x7_packets.specs.ByHand.{reading_of}
 use Rattle.x7_packets.proofs.ByHandLemmas.{reading_is}
+use Rattle.x7_header.specs.Header.{fixed_bytes}
 use Rattle.x7_listing.specs.Listing.{IsListing, listing_of, reading_text}
 use Rattle.x7_listing.specs.Telling.{Finished, ListerStandsFor, ListerState}
 use Rattle.x7_listing.proofs.FrontLemmas.{told_front}
@@ -17,7 +18,7 @@ use Rattle.x7_tool.specs.Form.{Listing}
 use Rattle.x7_tool.specs.Run.{Ends}
 use Rattle.x7_words.proofs.InputLemmas.{preceded-preceded}
 use Rattle.std.proofs.lemmas.Bool.Decides.{nat_tests}
-use Rattle.x7_tool.specs.Outcome.{WriteFault, bit_header_start, has_header, stream_limit, with_inputs}
+use Rattle.x7_tool.specs.Outcome.{WriteFault, has_header, stream_limit, with_inputs}
 use Rattle.x7_tool.specs.Turn.{Lists}
 use Rattle.x7_tool.proofs.Causes.{no_header_stays, told_all, unwritten}
 
@@ -34,10 +35,6 @@ listing_is bytes text l =
 -- the bytes of which a lister has told are bytes
 stands_fit : (l : ListerState) (given bytes : List ℕ) → ListerStandsFor l given [] bytes → AreBytes bytes
 stands_fit l given bytes stands = stands.tells.cut.reading.fits
-
--- before the first turn
-pub lists_none : (l : ListerState) (first : Option (List ℕ)) → l.text ≡ [] → ListerStandsFor l [] [] [] → Lists l first first []
-lists_none l first clear stands = record { given = []; stands = stands; put = sym (appended-nil first); clear = clear }
 
 -- what was put is a front of the listing of the bytes and any that may follow
 pub lists_front : (l : ListerState) (first now : Option (List ℕ)) (bytes rest : List ℕ) → Lists l first now bytes → AreBytes (bytes ++ rest) → PutsFront first (listing_of (bytes ++ rest)) now
@@ -115,7 +112,7 @@ judged_by taken piece left true t k m j h =
 judged_by taken piece left false t k m j h =
     let less : left < stream_limit = grind (arith, nat_tests, t, m) in
     let both = j less in
-    no_header_stays taken piece bit_header_start both.0 both.1
+    no_header_stays taken piece fixed_bytes both.0 both.1
 
 -- no header stands before the bytes that were taken
 pub judged_more : (taken piece : List ℕ) (left : ℕ) → length taken + left ≡ stream_limit → left ≤ stream_limit → (left < stream_limit → (13 ≤ length taken) × (has_header taken ≡ false)) → (left == stream_limit && has_header piece) ≡ false

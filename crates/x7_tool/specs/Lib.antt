@@ -1,5 +1,8 @@
 pub mod Form
 pub mod Message
 pub mod Outcome
+pub mod Parts
+pub mod Play
+pub mod Report
 pub mod Run
 pub mod Turn

@@ -1,5 +1,5 @@
 -- What may end a command, and what the outside holds then (this project's choice).
-use Rattle.std.specs.Prelude.{◌≡◌, ℕ, List, [], ◌∷◌, ◌++◌, Option, None, Some, Result, Ok, Err, unwrap_or, ◌⊎◌}
+use Rattle.std.specs.Prelude.{◌≡◌, ℕ, List, [], ◌∷◌, ◌++◌, Option, None, Some, Result, Ok, Err, unwrap_or, map, string_bytes, ◌⊎◌}
 use Rattle.x7_words.specs.Word.{AreBytes}
 use Rattle.x7_words.specs.Count.{HasRisen}
 use Rattle.x7_words.specs.Sink.{appended, PutsFront, Tells}
@@ -8,14 +8,15 @@ use Rattle.x7_tool.specs.declared.status.Status.{Status}
 use Rattle.x7_tool.specs.declared.form.Form.{Form}
 use Rattle.x7_tool.specs.declared.form.Form.TheVariants as form
 use Rattle.x7_tool.specs.declared.refusal.Refusal.{Refusal}
-use Rattle.x7_tool.specs.Form.{Asked, Listing}
-use Rattle.x7_tool.specs.Outcome.{Answer, Event, Usage, Missing, ReadFault, WriteFault, NoMemory, TooLarge, Unbuilt, Told, outcome_of, text_of}
+use Rattle.x7_tool.specs.Form.{Asked, Listing, Playing}
+use Rattle.x7_tool.specs.Outcome.{Answer, Event, Usage, Missing, BadPart, ReadFault, WriteFault, NoMemory, TooLarge, TooLargeReads, Unbuilt, Told, outcome_of, played, text_of}
 use Rattle.x7_tool.specs.Message.{event_of, final_status, line_of, status_of}
 
 -- what a form of the code asks for
 abbrev pub asked : Form → Option Asked
 asked form.Usage = None
 asked (form.List stream) = Some (Listing stream.now)
+asked (form.Play part streams) = Some (Playing part.now (map string_bytes streams.now))
 
 -- the name is one of these
 abbrev pub Among : List (List ℕ) → List ℕ → Type 0
@@ -45,7 +46,9 @@ IsFreeResult Fails Lacks (Err event) = IsFree Fails Lacks event
 -- what told contents decide
 abbrev pub IsDecided : Event → Type 0
 IsDecided (Missing name) = Unit {0}
+IsDecided (BadPart name fault) = Unit {0}
 IsDecided (TooLarge name) = Unit {0}
+IsDecided TooLargeReads = Unit {0}
 IsDecided (Unbuilt name) = Unit {0}
 IsDecided _ = ⊥
 
@@ -55,7 +58,9 @@ IsDecidedResult (Err event) = IsDecided event
 
 -- what contents that are not told may come to
 abbrev pub IsOpen : Event → Type 0
+IsOpen (BadPart name fault) = Unit {0}
 IsOpen (TooLarge name) = Unit {0}
+IsOpen TooLargeReads = Unit {0}
 IsOpen (Unbuilt name) = Unit {0}
 IsOpen _ = ⊥
 
@@ -97,6 +102,7 @@ Leaves told form event old new = new ≡ old
 abbrev pub GetsFront : Option Told → Option Asked → Option (List ℕ) → Option (List ℕ) → Type 0
 GetsFront told None old new = ⊥
 GetsFront None (Some form) old new = (text : List ℕ) × PutsFront old text new
+GetsFront (Some told) (Some (Playing part streams)) old new = (answer : Answer) × ((played told part streams ≡ Ok answer) × PutsFront old answer.text new)
 GetsFront (Some told) (Some (Listing stream)) old new = (bytes : List ℕ) × ((told.inputs stream ≡ Some bytes) × (AreBytes bytes → PutsFront old (listing_of bytes) new))
 
 -- how the command ended, and what the sink got: the whole text; a front of it where the sink failed; or what the event leaves
@@ -124,3 +130,8 @@ Shows (Some told) form event = outcome_of told form ≡ Err event
 abbrev pub Agrees : Option Told → Option Asked → Event → Type 0
 Agrees None form event = Unit {0}
 Agrees (Some told) form event = outcome_of told form ≡ Err event
+
+-- where the contents are told, this whole text is their outcome
+abbrev pub AgreesText : Option Told → Option Asked → Answer → Type 0
+AgreesText None form answer = Unit {0}
+AgreesText (Some told) form answer = outcome_of told form ≡ Ok answer

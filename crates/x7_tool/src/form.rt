@@ -13,6 +13,13 @@ pub enum Form<'w> {
         /// The stream's name.
         stream: &'w str,
     },
+    /// `play PART STREAM..`: the report of what one to eight streams do.
+    Play {
+        /// The part file's name.
+        part: &'w str,
+        /// The streams' names.
+        streams: &'w [String],
+    },
 }
 
 /// The form of the words.
@@ -26,6 +33,13 @@ pub fn words_of(words: &Vec<String>) -> Form<'_>
         "list" => match names {
             [stream] => Form::List {
                 stream: stream.as_str(),
+            },
+            _ => Form::Usage,
+        },
+        "play" => match names {
+            [part, streams @ ..] if streams.len() >= 1 && streams.len() <= 8 => Form::Play {
+                part: part.as_str(),
+                streams,
             },
             _ => Form::Usage,
         },

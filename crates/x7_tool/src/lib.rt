@@ -1,15 +1,20 @@
 //! The command `x7`: its forms, what each reads, works out and writes, and what it says where it can't.
 #![tactic(auto)]
 
+mod bad_part;
 mod form;
 mod list;
+mod play;
 mod read;
 mod refusal;
+mod reports;
 mod status;
 #[cfg(test)]
 mod tests;
+mod text;
 mod top;
 
 pub use form::{Form, words_of};
+pub use reports::report;
 pub use status::Status;
 pub use top::run;

@@ -10,40 +10,18 @@ ghost use Rattle.x7_tool.specs.Outcome.{NoMemory, WriteFault, has_header, with_i
 ghost use Rattle.x7_tool.specs.Run.{Ends, RisesFor};
 ghost use Rattle.x7_tool.specs.Turn.{Lists};
 
-use crate::read::fill;
+use crate::read::{STREAM_LIMIT, TURN, fill, turn_len};
 use crate::refusal::Refusal;
 use std::alloc::Global;
+use x7_header::behind_fixed_bytes;
 use x7_listing::Lister;
 use x7_words::{Inputs, SelectFault, Sink, write_all};
-
-/// The most bytes of a stream.
-const STREAM_LIMIT: usize = 67_108_864;
-
-/// The most bytes that one turn reads and lists.
-const TURN: usize = 65_536;
-
-/// The bytes that each .bit header begins with.
-const BIT_HEADER_START: [u8; 13] = [
-    0x00, 0x09, 0x0F, 0xF0, 0x0F, 0xF0, 0x0F, 0xF0, 0x0F, 0xF0, 0x00, 0x00, 0x01,
-];
-
-/// How many bytes a turn asks for, where this many are still within the limit: one more than they at
-/// most.
-fn turn_len(left: usize) -> usize
-    ensures some { 0 < result }
-    ensures within { result ≤ 65536 }
-    ensures over { result ≤ left + 1 }
-    ensures full { 65536 ≤ left → result ≡ 65536 }
-    ensures short { left < 65536 → result ≡ left + 1 }
-{
-    if left < TURN { left + 1 } else { TURN }
-}
 
 /// Whether the stream's first piece begins with a .bit header.
 fn has_bit_header(left: usize, piece: &[u8]) -> bool
     ensures { result ≡ (left == 67108864 && has_header piece.now) }
 {
-    left == STREAM_LIMIT && piece.starts_with(&BIT_HEADER_START)
+    left == STREAM_LIMIT && behind_fixed_bytes(piece).is_ok()
 }
 
 /// Lists a piece, and writes what it told.

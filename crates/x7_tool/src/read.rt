@@ -1,12 +1,33 @@
 //! Reading an input in turns.
-ghost use Rattle.std.specs.Prelude.{◌≡◌, ◌<◌, ◌≤◌, length, take, true, IfErr, IfOk, OnOk};
+ghost use Rattle.std.specs.Prelude.{◌≡◌, ◌+◌, ◌<◌, ◌≤◌, ◌∷◌, [], ℕ, List, Option, length, map, string_bytes, take, true, vec_len, IfErr, IfOk, OnOk};
 ghost use Rattle.x7_words.specs.Count.{HasRisen};
 ghost use Rattle.x7_words.specs.Input.{AtEnd, preceded};
 ghost use Rattle.x7_tool.specs.Message.{event_of};
-ghost use Rattle.x7_tool.specs.Outcome.{ReadFault};
+ghost use Rattle.x7_tool.specs.Outcome.{ReadFault, and_so, behind, data_of, raw, stream_limit, whole_in, with_inputs};
+ghost use Rattle.x7_tool.specs.Run.{IsCaused, RisesFor, seen};
 
 use crate::refusal::Refusal;
-use x7_words::Inputs;
+use std::alloc::Global;
+use x7_header::behind_fixed_bytes;
+use x7_words::{Inputs, SelectFault};
+
+/// The most bytes of a stream, and of all streams of one command.
+pub(crate) const STREAM_LIMIT: usize = 67_108_864;
+
+/// The most bytes that one turn reads.
+pub(crate) const TURN: usize = 65_536;
+
+/// How many bytes a turn asks for, where this many are still within the limit: one more than they at
+/// most.
+pub(crate) fn turn_len(left: usize) -> usize
+    ensures some { 0 < result }
+    ensures within { result ≤ 65536 }
+    ensures over { result ≤ left + 1 }
+    ensures full { 65536 ≤ left → result ≡ 65536 }
+    ensures short { left < 65536 → result ≡ left + 1 }
+{
+    if left < TURN { left + 1 } else { TURN }
+}
 
 /// Fills the buffer with the next bytes of the selected input, and answers how many there were:
 /// fewer than it holds only where the input ended.
@@ -38,4 +59,95 @@ pub(crate) fn fill<'w, I: Inputs>(
         at += count;
     }
     Ok(at)
+}
+
+/// Appends all bytes of an input that has at most so many. Of a larger one at most one byte more than the limit is read.
+pub(crate) fn read_onto<'w, I: Inputs>(
+    inputs: &mut I,
+    name: &'w str,
+    limit: usize,
+    onto: &mut Vec<u8>,
+) -> Result<(), Refusal<'w>>
+    ensures due { (flash : Option (List ℕ)) → IsCaused (with_inputs (I.contents inputs.old) flash) (RisesFor (name.now ∷ []) (I.faults inputs.old) (I.faults inputs.new)) (RisesFor (name.now ∷ []) (I.absences inputs.old) (I.absences inputs.new))
+        (λ told. behind onto.old.items (whole_in told limit name.now)) (seen (λ _. onto.new.items) result) }
+    ensures within { OnOk result (vec_len onto.new ≤ vec_len onto.old + limit) }
+    ensures longer { OnOk result (vec_len onto.old ≤ vec_len onto.new) }
+    ensures map { I.contents inputs.new ≡ I.contents inputs.old }
+    ensures faults { I.faults inputs.old ≤ I.faults inputs.new }
+    ensures absences { I.absences inputs.old ≤ I.absences inputs.new }
+{
+    match inputs.select(name) {
+        Ok(()) => (),
+        Err(SelectFault::Missing) => return Err(Refusal::Missing(name)),
+        Err(SelectFault::Failed) => return Err(Refusal::ReadFault(name)),
+    }
+    let mut piece = [0u8; TURN];
+    let mut left = limit;
+    loop {
+        let most = turn_len(left);
+        let count = match fill(inputs, name, &mut piece[..most]) {
+            Ok(count) => count,
+            Err(refusal) => return Err(refusal),
+        };
+        if count > left {
+            return Err(Refusal::TooLarge(name));
+        }
+        match onto.extend_from_slice(&piece[..count]) {
+            Ok(()) => (),
+            Err(_) => return Err(Refusal::NoMemory),
+        }
+        left -= count;
+        if count < most {
+            return Ok(());
+        }
+    }
+}
+
+/// Appends the data of a stream of at most so many bytes. A .bit header isn't built yet.
+fn read_stream<'w, I: Inputs>(
+    inputs: &mut I,
+    name: &'w str,
+    limit: usize,
+    onto: &mut Vec<u8>,
+) -> Result<(), Refusal<'w>>
+    ensures due { (flash : Option (List ℕ)) → IsCaused (with_inputs (I.contents inputs.old) flash) (RisesFor (name.now ∷ []) (I.faults inputs.old) (I.faults inputs.new)) (RisesFor (name.now ∷ []) (I.absences inputs.old) (I.absences inputs.new))
+        (λ told. behind onto.old.items (and_so (whole_in told limit name.now) (raw name.now))) (seen (λ _. onto.new.items) result) }
+    ensures within { OnOk result (vec_len onto.new ≤ vec_len onto.old + limit) }
+    ensures map { I.contents inputs.new ≡ I.contents inputs.old }
+    ensures faults { I.faults inputs.old ≤ I.faults inputs.new }
+    ensures absences { I.absences inputs.old ≤ I.absences inputs.new }
+{
+    let start = onto.len();
+    match read_onto(inputs, name, limit, onto) {
+        Ok(()) => (),
+        Err(refusal) => return Err(refusal),
+    }
+    match behind_fixed_bytes(&onto[start..]) {
+        Ok(_) => Err(Refusal::Unbuilt(name)),
+        Err(_) => Ok(()),
+    }
+}
+
+/// The data of streams, one after the other, within the limit together.
+pub(crate) fn read_streams<'w, I: Inputs>(
+    alloc: Global,
+    inputs: &mut I,
+    streams: &'w [String],
+) -> Result<Vec<u8>, Refusal<'w>>
+    ensures due { (flash : Option (List ℕ)) → IsCaused (with_inputs (I.contents inputs.old) flash) (RisesFor (map string_bytes streams.now) (I.faults inputs.old) (I.faults inputs.new)) (RisesFor (map string_bytes streams.now) (I.absences inputs.old) (I.absences inputs.new))
+        (λ told. data_of told stream_limit (map string_bytes streams.now)) (seen (λ whole. whole.items) result) }
+    ensures within { IfOk result (λ whole. vec_len whole ≤ 67108864) }
+    ensures map { I.contents inputs.new ≡ I.contents inputs.old }
+    ensures faults { I.faults inputs.old ≤ I.faults inputs.new }
+    ensures absences { I.absences inputs.old ≤ I.absences inputs.new }
+{
+    let mut whole = Vec::new(alloc);
+    for name in streams {
+        let left = STREAM_LIMIT - whole.len();
+        match read_stream(inputs, name.as_str(), left, &mut whole) {
+            Ok(()) => (),
+            Err(refusal) => return Err(refusal),
+        }
+    }
+    Ok(whole)
 }

@@ -3,7 +3,9 @@ ghost use Rattle.std.specs.Prelude.{◌≡◌};
 ghost use Rattle.x7_words.specs.Count.{HasRisen};
 ghost use Rattle.x7_words.specs.Sink.{Tells};
 
+use crate::bad_part::say_bad_part;
 use crate::status::Status;
+use x7_part::PartFault;
 use x7_words::{Sink, write_pieces};
 
 /// Why a command has no whole text, with the name of the input concerned.
@@ -11,10 +13,12 @@ use x7_words::{Sink, write_pieces};
 pub(crate) enum Refusal<'w> {
     Usage,
     Missing(&'w str),
+    BadPart(&'w str, PartFault),
     ReadFault(&'w str),
     WriteFault,
     NoMemory,
     TooLarge(&'w str),
+    TooLargeReads,
     Unbuilt(&'w str),
 }
 
@@ -28,10 +32,11 @@ impl Refusal<'_> {
         match self {
             Refusal::Usage => Status::Usage,
             Refusal::Missing(_) => Status::Missing,
+            Refusal::BadPart(_, _) => Status::BadPart,
             Refusal::ReadFault(_) => Status::ReadFault,
             Refusal::WriteFault => Status::WriteFault,
             Refusal::NoMemory => Status::NoMemory,
-            Refusal::TooLarge(_) => Status::TooLarge,
+            Refusal::TooLarge(_) | Refusal::TooLargeReads => Status::TooLarge,
             Refusal::Unbuilt(_) => Status::Unbuilt,
         }
     }
@@ -43,6 +48,7 @@ impl Refusal<'_> {
         let _ = match self {
             Refusal::Usage => write_pieces(err, &[b"x7: usage\n"]),
             Refusal::Missing(name) => write_pieces(err, &[b"x7: missing ", name.as_bytes(), b"\n"]),
+            Refusal::BadPart(name, fault) => say_bad_part(err, name, *fault),
             Refusal::ReadFault(name) => write_pieces(
                 err,
                 &[b"x7: read fault ", name.as_bytes(), b"\n"],
@@ -53,6 +59,7 @@ impl Refusal<'_> {
                 err,
                 &[b"x7: too large ", name.as_bytes(), b"\n"],
             ),
+            Refusal::TooLargeReads => write_pieces(err, &[b"x7: too large reads\n"]),
             Refusal::Unbuilt(name) => write_pieces(
                 err,
                 &[b"x7: not built ", name.as_bytes(), b"\n"],

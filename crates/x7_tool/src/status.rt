@@ -6,24 +6,39 @@ ghost use Rattle.std.specs.Prelude.{◌≡◌};
 pub enum Status {
     /// The whole text was written.
     Done,
+    /// The whole text was written, and what it reports stopped at a fault.
+    Stopped,
     /// The words have no form.
     Usage,
     /// An input that is named isn't there.
     Missing,
+    /// A part file was refused.
+    BadPart,
     /// An input failed at selecting or reading.
     ReadFault,
     /// The output failed.
     WriteFault,
     /// There was no memory.
     NoMemory,
-    /// An input has more bytes than its limit.
+    /// An input has more bytes than its limit, or too many words were read out.
     TooLarge,
     /// A stream begins with a .bit header, which isn't built yet.
     Unbuilt,
 }
 
 impl Status {
-    ghost use Rattle.x7_tool.specs.Message.{number_of};
+    ghost use Rattle.x7_tool.specs.Message.{number_of, told_status};
+
+    /// The status after a whole text, by whether what it reports stopped at a fault.
+    pub(crate) fn of_text(stopped: bool) -> Status
+        ensures { result ≡ told_status stopped }
+    {
+        if stopped {
+            Status::Stopped
+        } else {
+            Status::Done
+        }
+    }
 
     /// The number that the program ends with.
     pub fn number(self) -> u8
@@ -31,8 +46,10 @@ impl Status {
     {
         match self {
             Status::Done => 0,
+            Status::Stopped => 1,
             Status::Usage => 2,
             Status::Missing => 3,
+            Status::BadPart => 4,
             Status::ReadFault => 6,
             Status::WriteFault => 7,
             Status::NoMemory => 8,

@@ -1,6 +1,8 @@
 //! Whole runs of the command: its texts, its statuses and its messages.
 ghost use Rattle.std.specs.Prelude.{None};
 
+mod play;
+
 use crate::{Status, run};
 use std::alloc::Global;
 use std::test::Fail;
@@ -19,25 +21,36 @@ const HEADER: &[u8] = &[
     0, 9, 0x0F, 0xF0, 0x0F, 0xF0, 0x0F, 0xF0, 0x0F, 0xF0, 0, 0, 1,
 ];
 
+/// A part file of four frames in two rows.
+const TINY: &[u8] =
+    b"name = \"tiny\"\nidcode = 0x0362D093\nmode = 1\n\n[[row]]\nblock = 0\nhalf = 0\nrow = 0\nminors = [2]\n\n[[row]]\nblock = 0\nhalf = 1\nrow = 0\nminors = [2]\n";
+
 /// A command line without words.
 const NO_WORDS: &[&str] = &[];
 
-/// What the outside of a run is: the words, an input `s`, and what fails.
+/// What the outside of a run is: the words, the inputs `p` and `s`, and `t` where there is one, the most bytes of one
+/// read and of one write, and which calls fail.
 #[derive(Drop)]
 struct Case {
     words: &'static [&'static str],
+    part: &'static [u8],
     bytes: &'static [u8],
+    second: Option<&'static [u8]>,
     read_most: usize,
+    write_most: usize,
     read_fails: u64,
     write_fails: u64,
 }
 
-/// A run of these words over an input `s`, where nothing fails.
+/// A run of these words over the part file `TINY` as `p` and an input `s`, where nothing fails.
 fn case_of(words: &'static [&'static str], bytes: &'static [u8]) -> Case {
     Case {
         words,
+        part: TINY,
         bytes,
+        second: None,
         read_most: 100_000,
+        write_most: 100_000,
         read_fails: 0,
         write_fails: 0,
     }
@@ -68,11 +81,16 @@ struct Ending {
 fn ran(alloc: Global, given: &Case) -> Result<Ending, NoMemory> {
     let words = listed(alloc, given.words)?;
     let mut inputs = MemoryInputs::new(alloc);
+    inputs.put("p", given.part)?;
     inputs.put("s", given.bytes)?;
+    if let Some(second) = given.second {
+        inputs.put("t", second)?;
+    }
     inputs.piece(given.read_most.max(1));
     inputs.fail_at(given.read_fails)?;
     let mut flash = MemoryFlash::new(alloc, "", &[])?;
     let mut out = MemorySink::new(alloc, 400_000)?;
+    out.piece(given.write_most.max(1));
     out.fail_at(given.write_fails)?;
     let mut err = MemorySink::new(alloc, 100)?;
     let status = run(alloc, &words, &mut inputs, &mut flash, &mut out, &mut err);
@@ -158,8 +176,10 @@ fn faults_are_told(rt: HostRuntime) -> Result<(), Fail> {
 fn statuses_have_their_numbers(rt: HostRuntime) {
     let cases = [
         (Status::Done, 0),
+        (Status::Stopped, 1),
         (Status::Usage, 2),
         (Status::Missing, 3),
+        (Status::BadPart, 4),
         (Status::ReadFault, 6),
         (Status::WriteFault, 7),
         (Status::NoMemory, 8),

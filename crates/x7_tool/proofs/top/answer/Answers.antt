@@ -1,16 +1,30 @@
-use Rattle.std.proofs.Common.{◌≡◌, Some, map, string_bytes, sym, ap, ◌∙◌}
-use Rattle.std.proofs.lemmas.Result.{on_ok_weaker}
-use Rattle.x7_tool.specs.Form.{Listing, form_of}
-use Rattle.x7_tool.specs.Run.{asked}
-use Rattle.x7_tool.proofs.Causes.{err_weaker}
+use Rattle.std.proofs.Common.{◌≡◌, Option, Some, Err, map, string_bytes, sym, ap, subst, ◌∙◌}
+use Rattle.x7_words.specs.Count.{HasRisen}
+use Rattle.x7_tool.specs.Form.{Asked, Listing, Playing, form_of, names_of}
+use Rattle.x7_tool.specs.Message.{event_of}
+use Rattle.x7_tool.specs.Outcome.{told_of}
+use Rattle.x7_tool.specs.Run.{Ends, RisesFor, asked}
+use Rattle.x7_tool.proofs.Causes.{err_weaker, ok_weaker}
 use Rattle.x7_tool.proofs.top.answer.Goals as goal
 
-pub returns-in-List-clause-ok : goal.returns-in-List-clause-ok
-returns-in-List-clause-ok g c =
+pub returns-in-Ok-clause-ok : goal.returns-in-Ok-clause-ok
+returns-in-Ok-clause-ok g c =
     let form : form_of (map string_bytes c.args.words.now.items) ≡ Some (Listing c.in-List.stream.now) = sym c.words_of.ensures ∙ ap asked c.in-List.is in
-    rw form (on_ok_weaker c.list.result (λ h. h (g.F.Flash.bytes c.args.flash.now)) c.list.ensures.ok)
+    rw form (c.in-Ok.ensures.ok (g.F.Flash.bytes c.args.flash.now))
 
-pub returns-in-List-clause-err : goal.returns-in-List-clause-err
-returns-in-List-clause-err g c =
+pub returns-in-Err-clause-err : goal.returns-in-Err-clause-err
+returns-in-Err-clause-err g c =
     let form : form_of (map string_bytes c.args.words.now.items) ≡ Some (Listing c.in-List.stream.now) = sym c.words_of.ensures ∙ ap asked c.in-List.is in
-    rw form (err_weaker c.list.result (λ r h. h (g.F.Flash.bytes c.args.flash.now)) c.list.ensures.err)
+    subst (λ (f : Option Asked). Ends (told_of f (g.I.Inputs.contents c.args.inputs.now) (g.F.Flash.bytes c.args.flash.now)) (RisesFor (names_of f) (g.I.Inputs.faults c.args.inputs.now) (g.I.Inputs.faults c.list.new.inputs))
+    (RisesFor (names_of f) (g.I.Inputs.absences c.args.inputs.now) (g.I.Inputs.absences c.list.new.inputs)) f (HasRisen (g.O.Sink.faults c.args.out.now) (g.O.Sink.faults c.list.new.out)) (g.O.Sink.written c.args.out.now) (g.O.Sink.written c.list.new.out) (Err (event_of c.in-Err.refusal)))
+    (sym form) (c.in-Err.ensures.err (g.F.Flash.bytes c.args.flash.now))
+
+pub returns-in-Play-clause-ok : goal.returns-in-Play-clause-ok
+returns-in-Play-clause-ok g c =
+    let form : form_of (map string_bytes c.args.words.now.items) ≡ Some (Playing c.in-Play.part.now (map string_bytes c.in-Play.streams.now)) = sym c.words_of.ensures ∙ ap asked c.in-Play.is in
+    rw form (ok_weaker c.play.result (λ stopped h. h (g.F.Flash.bytes c.args.flash.now)) c.play.ensures.ok)
+
+pub returns-in-Play-clause-err : goal.returns-in-Play-clause-err
+returns-in-Play-clause-err g c =
+    let form : form_of (map string_bytes c.args.words.now.items) ≡ Some (Playing c.in-Play.part.now (map string_bytes c.in-Play.streams.now)) = sym c.words_of.ensures ∙ ap asked c.in-Play.is in
+    rw form (err_weaker c.play.result (λ r h. h (g.F.Flash.bytes c.args.flash.now)) c.play.ensures.err)

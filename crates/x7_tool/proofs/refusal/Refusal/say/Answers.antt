@@ -17,3 +17,9 @@ returns-in-TooLarge g c = rw (c.in-TooLarge.is, ← c.as_bytes-in-TooLarge.ensur
 
 pub returns-in-Unbuilt : goal.returns-in-Unbuilt
 returns-in-Unbuilt g c = rw (c.in-Unbuilt.is, ← c.as_bytes-in-Unbuilt.ensures.value) c.write_pieces-in-Unbuilt.ensures.tells
+
+pub returns-in-BadPart : goal.returns-in-BadPart
+returns-in-BadPart g c = rw c.in-BadPart.is c.say_bad_part.ensures
+
+pub returns-in-TooLargeReads : goal.returns-in-TooLargeReads
+returns-in-TooLargeReads g c = rw c.in-TooLargeReads.is c.write_pieces-in-TooLargeReads.ensures.tells

@@ -1,0 +1,171 @@
+-- What is known where a play ends.
+use Rattle.std.proofs.Common.{◌≡◌, ℕ, zero, suc, ◌+◌, ◌-◌, ◌≤◌, ◌<◌, List, [], ◌∷◌, ◌++◌, length, length-append, take, drop, Bool, true, false, Option, None, Some, Ok, Err, refl, ap, subst, sym, ◌∙◌, append_assoc, append-nil, arith, inl, inr, ◌⊎◌}
+use Rattle.std.specs.Prelude.{is_some, nat_lt}
+use Rattle.std.proofs.lemmas.Bool.Decides.{nat_tests}
+use Rattle.std.proofs.Math.Seq.{take-add, take-length}
+use Rattle.std.proofs.lemmas.List.{length-take, take-append-drop}
+use Rattle.x7_words.specs.Word.{AreBytes}
+use Rattle.x7_part.specs.declared.fault.PartFault.{PartFault}
+use Rattle.x7_part.specs.declared.fault.PartFault.TheVariants as part
+use Rattle.x7_part.specs.Part.{PartData}
+use Rattle.x7_part.specs.PartFile.{IsFaultOf}
+use Rattle.x7_engine.specs.declared.fault.Fault.{Fault}
+use Rattle.x7_engine.specs.declared.fed.Fed.{Fed}
+use Rattle.x7_engine.specs.declared.fed.Fed.TheVariants as fed
+use Rattle.x7_engine.specs.Kept.{on_the_bench}
+use Rattle.x7_engine.specs.ReadBuffer.{IsFull, IsFullBy, ReadBufState, gathered, with_words}
+use Rattle.x7_engine.specs.Standing.{Answers, DeviceState, DeviceStandsFor, taken_in, told_of}
+use Rattle.x7_engine.specs.State.{line_by, reads_of, state_of, stop_in}
+use Rattle.x7_engine.specs.Stops.{Stopped, fault_of}
+use Rattle.x7_tool.specs.Outcome.{TooLargeReads, Told, part_by, reads_limit, report_of, reported}
+use Rattle.x7_tool.specs.Parts.{part_in}
+use Rattle.x7_tool.specs.Play.{IsPlayed, part_event}
+use Rattle.x7_tool.specs.Report.{report_text}
+use Rattle.x7_tool.specs.Run.{IsCaused}
+use Rattle.x7_tool.proofs.PartLemmas.{fault_is}
+use Rattle.x7_tool.proofs.ReadLemmas.{works}
+use Rattle.x7_tool.proofs.ReadsLemmas.{reads_grow_on}
+use Rattle.x7_words.proofs.ListLemmas.{all_front}
+use Rattle.x7_engine.proofs.StateLemmas.{stop_is_final-reads, stop_is_final-state, stop_is_final-stop}
+
+-- a part file that gave no part
+pub refused : (told : Option Told) (F L : List ℕ → Type 0) (name text : List ℕ) (fault : PartFault) → (fault ≡ part.NoMemory) ⊎ IsFaultOf text fault → IsCaused told F L (λ t. part_by name (part_in text)) (Err (part_event name fault))
+refused told F L name text part.NoMemory h = inl tt
+refused told F L name text fault (inl e) = absurd (cc)
+refused told F L name text part.Toml (inr h) = works told F L (part_by name (part_in text)) (Err (part_event name part.Toml)) tt tt (ap (part_by name) (fault_is text part.Toml h))
+refused told F L name text (part.Key which) (inr h) = works told F L (part_by name (part_in text)) (Err (part_event name (part.Key which))) tt tt (ap (part_by name) (fault_is text (part.Key which) h))
+refused told F L name text (part.Range which) (inr h) = works told F L (part_by name (part_in text)) (Err (part_event name (part.Range which))) tt tt (ap (part_by name) (fault_is text (part.Range which) h))
+refused told F L name text (part.SameRow n) (inr h) = works told F L (part_by name (part_in text)) (Err (part_event name (part.SameRow n))) tt tt (ap (part_by name) (fault_is text (part.SameRow n) h))
+refused told F L name text (part.TooMany n) (inr h) = works told F L (part_by name (part_in text)) (Err (part_event name (part.TooMany n))) tt tt (ap (part_by name) (fault_is text (part.TooMany n) h))
+
+-- ---- words read out
+
+-- the words read out by more bytes begin with those read out before
+reads_grow : (part : PartData) (bytes more : List ℕ) → AreBytes (bytes ++ more) → (rest : List ℕ) × (reads_of part on_the_bench (bytes ++ more) ≡ reads_of part on_the_bench bytes ++ rest)
+reads_grow part bytes more fits = by (stop_in part on_the_bench bytes) refl
+  where
+    by : (o : Option Stopped) → stop_in part on_the_bench bytes ≡ o → (rest : List ℕ) × (reads_of part on_the_bench (bytes ++ more) ≡ reads_of part on_the_bench bytes ++ rest)
+    by None e = reads_grow_on part on_the_bench bytes more (all_front (λ b. b < 256) bytes more fits) fits e
+    by (Some s) e = ([], stop_is_final-reads part on_the_bench bytes more s fits e ∙ sym (append-nil (reads_of part on_the_bench bytes)))
+
+-- ---- one turn of a play
+
+-- an empty buffer of so many words
+abbrev pub emptied : ReadBufState
+emptied = record { most = Some 4096; words = [] }
+
+pub words_are : (old new : ReadBufState) (more : List ℕ) → new ≡ with_words old more → old ≡ emptied → new.words ≡ more
+words_are old new more e o = ap (λ (b : ReadBufState). b.words) e ∙ ap (λ (b : ReadBufState). gathered b.most b.words more) o
+
+pub most_is : (old new : ReadBufState) (more : List ℕ) → new ≡ with_words old more → old ≡ emptied → new.most ≡ Some 4096
+most_is old new more e o = ap (λ (b : ReadBufState). b.most) e ∙ ap (λ (b : ReadBufState). b.most) o
+
+pub emptied_again : (full empty : ReadBufState) → empty ≡ record full { words = [] } → full.most ≡ Some 4096 → empty ≡ emptied
+emptied_again full empty e m = e ∙ ap (λ (most : Option ℕ). record { most = most; words = [] }) m
+
+pub full_words : (b : ReadBufState) → b.most ≡ Some 4096 → IsFull b → length b.words ≡ 4096
+full_words b m f = subst (λ (most : Option ℕ). IsFullBy most (length b.words)) m f
+
+pub taken_more : (bytes : List ℕ) (at n : ℕ) → take (at + n) bytes ≡ take at bytes ++ take n (drop at bytes)
+taken_more bytes at n = take-add at n bytes
+
+-- ---- the ends of a play
+
+-- what was taken, and what is left of the bytes
+pub bytes_split : (bytes : List ℕ) (at n : ℕ) → bytes ≡ (take at bytes ++ take n (drop at bytes)) ++ drop n (drop at bytes)
+bytes_split bytes at n =
+    sym (append_assoc (take at bytes) (take n (drop at bytes)) (drop n (drop at bytes)) ∙ ap (λ x. take at bytes ++ x) (take-append-drop n (drop at bytes)) ∙ take-append-drop at bytes)
+
+-- no word is due, so all that was read out was told
+told_all : (part : PartData) (d : DeviceState) (bytes : List ℕ) → d.registers.due ≡ 0 → told_of part on_the_bench d bytes ≡ reads_of part on_the_bench bytes
+told_all part d bytes e = ap (λ n. take (length (reads_of part on_the_bench bytes) - n) (reads_of part on_the_bench bytes)) e ∙ whole (reads_of part on_the_bench bytes)
+  where
+    whole : (xs : List ℕ) → take (length xs - 0) xs ≡ xs
+    whole xs =
+        let all : length xs - 0 ≡ length xs = omega arith in
+        ap (λ n. take n xs) all ∙ take-length xs
+
+-- more words than the limit were told
+pub over_limit : (part : PartData) (d : DeviceState) (bytes reads words front rest : List ℕ) → AreBytes bytes → bytes ≡ front ++ rest → told_of part on_the_bench d front ≡ reads ++ words → 16777216 < length reads + length words
+    → 16777216 < length (reads_of part on_the_bench bytes)
+over_limit part d bytes reads words front rest fits split told k =
+    let grown = reads_grow part front rest (subst (λ x. AreBytes x) split fits) in
+    let all : length (reads_of part on_the_bench bytes) ≡ length (reads_of part on_the_bench front) + length grown.0
+    = ap (λ x. length (reads_of part on_the_bench x)) split ∙ ap length grown.1 ∙ length-append (reads_of part on_the_bench front) grown.0 in
+    let some : length (told_of part on_the_bench d front) ≤ length (reads_of part on_the_bench front) = shorter (length (reads_of part on_the_bench front) - d.registers.due) (reads_of part on_the_bench front) in
+    omega (arith, all, some, ap length told, length-append reads words, k)
+  where
+    shorter : (n : ℕ) (xs : List ℕ) → length (take n xs) ≤ length xs
+    shorter n xs = omega (arith, length-take n xs)
+
+abbrev pub IsEnd : Fed → Type 0
+IsEnd (fed.ReadFull n) = ⊥
+IsEnd _ = Unit {0}
+
+pub is_end : (f : Fed) → ((n : ℕ) → f ≡ fed.ReadFull n → ⊥) → IsEnd f
+is_end (fed.ReadFull n) h = h n refl
+is_end fed.All h = tt
+is_end (fed.Stopped n) h = tt
+is_end (fed.Iprog n) h = tt
+
+stopped_end : (part : PartData) (bytes front rest : List ℕ) (d : DeviceState) (reads : List ℕ) (s : Stopped) → AreBytes bytes → bytes ≡ front ++ rest → DeviceStandsFor part on_the_bench d front → reads ≡ told_of part on_the_bench d front → length reads ≤ reads_limit
+    → stop_in part on_the_bench front ≡ Some s → d.registers.due ≡ 0 → IsPlayed part bytes d reads
+stopped_end part bytes front rest d reads s fits split stands told few stop due =
+    let all : AreBytes (front ++ rest) = subst (λ x. AreBytes x) split fits in
+    record {
+      front = front;
+      stands = stands;
+      stop = ap (stop_in part on_the_bench) split ∙ stop_is_final-stop part on_the_bench front rest s all stop ∙ sym stop;
+      state = ap (state_of part on_the_bench false) split ∙ stop_is_final-state part on_the_bench false front rest s all stop;
+      reads_are = told ∙ told_all part d front due ∙ sym (ap (reads_of part on_the_bench) split ∙ stop_is_final-reads part on_the_bench front rest s all stop);
+      few = few;
+    }
+
+-- where a feed doesn't wait for room, the play has ended
+pub play_end : (part : PartData) (bytes : List ℕ) (at : ℕ) (d : DeviceState) (read : ReadBufState) (reads : List ℕ) (f : Fed) → AreBytes bytes → IsEnd f
+    → DeviceStandsFor part on_the_bench d (take at bytes ++ take (taken_in (length (drop at bytes)) f) (drop at bytes))
+    → Answers part on_the_bench d (take at bytes ++ take (taken_in (length (drop at bytes)) f) (drop at bytes)) read f
+    → reads ≡ told_of part on_the_bench d (take at bytes ++ take (taken_in (length (drop at bytes)) f) (drop at bytes)) → length reads ≤ reads_limit → IsPlayed part bytes d reads
+play_end part bytes at d read reads (fed.ReadFull n) fits e stands answer told few = absurd e
+play_end part bytes at d read reads (fed.Stopped n) fits e stands answer told few =
+    stopped_end part bytes (take at bytes ++ take n (drop at bytes)) (drop n (drop at bytes)) d reads _ fits (bytes_split bytes at n) stands told few answer.1 answer.2
+play_end part bytes at d read reads (fed.Iprog n) fits e stands answer told few =
+    stopped_end part bytes (take at bytes ++ take n (drop at bytes)) (drop n (drop at bytes)) d reads _ fits (bytes_split bytes at n) stands told few answer.0 answer.1
+play_end part bytes at d read reads fed.All fits e stands answer told few =
+    let whole : take at bytes ++ take (length (drop at bytes)) (drop at bytes) ≡ bytes = ap (λ x. take at bytes ++ x) (take-length (drop at bytes)) ∙ take-append-drop at bytes in
+    record {
+      front = take at bytes ++ take (length (drop at bytes)) (drop at bytes);
+      stands = stands;
+      stop = ap (stop_in part on_the_bench) (sym whole);
+      state = ap (state_of part on_the_bench false) (sym whole);
+      reads_are = told ∙ told_all part d (take at bytes ++ take (length (drop at bytes)) (drop at bytes)) answer.1 ∙ ap (reads_of part on_the_bench) whole;
+      few = few;
+    }
+
+-- ---- the answer of a play
+
+pub reported_over : (part : PartData) (bytes : List ℕ) → 16777216 < length (reads_of part on_the_bench bytes) → reported part bytes ≡ Err TooLargeReads
+unfolding reported
+reported_over part bytes k =
+    let long : nat_lt reads_limit (length (reads_of part on_the_bench bytes)) ≡ true = grind (arith, k, nat_tests) in
+    rw long refl
+
+pub reported_is : (part : PartData) (bytes : List ℕ) (d : DeviceState) (reads text : List ℕ) (fault : Option Fault) (stopped : Bool) → (p : IsPlayed part bytes d reads) → fault ≡ fault_of (line_by (stop_in part on_the_bench p.front)) → stopped ≡ is_some fault
+    → text ≡ report_text part.name (state_of part on_the_bench false p.front) reads → reported part bytes ≡ Ok (record { stopped = stopped; text = text })
+unfolding reported
+reported_is part bytes d reads text fault stopped p f s t =
+    let few : length (reads_of part on_the_bench bytes) ≤ reads_limit = subst (λ x. length x ≤ reads_limit) p.reads_are p.few in
+    let short : nat_lt reads_limit (length (reads_of part on_the_bench bytes)) ≡ false = grind (arith, few, nat_tests) in
+    let stop : is_some (fault_of (line_by (stop_in part on_the_bench bytes))) ≡ stopped = ap (λ x. is_some (fault_of (line_by x))) p.stop ∙ sym (ap is_some f) ∙ sym s in
+    let whole : report_text part.name (state_of part on_the_bench false bytes) (reads_of part on_the_bench bytes) ≡ text
+    = ap (λ x. report_text part.name x (reads_of part on_the_bench bytes)) p.state ∙ ap (report_text part.name (state_of part on_the_bench false p.front)) (sym p.reads_are) ∙ sym t in
+    let answer : report_of part bytes ≡ record { stopped = stopped; text = text } = ap (λ x. record { stopped = x; text = report_text part.name (state_of part on_the_bench false bytes) (reads_of part on_the_bench bytes) }) stop ∙ ap (λ x. record { stopped = stopped; text = x }) whole in
+    rw short (ap Ok answer)
+
+-- ---- lists
+
+pub take_whole : (n : ℕ) (xs : List ℕ) → length xs ≤ n → take n xs ≡ xs
+take_whole zero [] h = refl
+take_whole zero (x ∷ xs) h = absurd (omega (arith, h))
+take_whole (suc n) [] h = refl
+take_whole (suc n) (x ∷ xs) h = ap (λ t. x ∷ t) (take_whole n xs (omega (arith, h)))

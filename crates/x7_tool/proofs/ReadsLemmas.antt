@@ -1,0 +1,135 @@
+-- The words that a device reads out of more bytes begin with those that it read out of the first of them.
+use Rattle.std.proofs.Common.{◌≡◌, ℕ, zero, suc, ◌+◌, ◌-◌, ◌≤◌, ◌<◌, List, [], ◌∷◌, ◌++◌, length, length-append, Bool, true, false, Option, None, Some, refl, ap, sym, ◌∙◌, append_assoc, append-nil, arith}
+use Rattle.std.specs.Prelude.{if◌then◌else◌, nat_lt}
+use Rattle.std.proofs.lemmas.Bool.Decides.{nat_tests}
+use Rattle.x7_words.specs.Word.{AreBytes}
+use Rattle.x7_packets.specs.History.{AllBehind, History, Placed, history_of, until}
+use Rattle.x7_packets.proofs.GrowthLemmas.{newer_of, placed_of}
+use Rattle.x7_part.specs.Part.{PartData}
+use Rattle.x7_engine.specs.declared.fault.Fault.TheVariants as fault
+use Rattle.x7_engine.specs.declared.kept.Kept.{Kept}
+use Rattle.x7_engine.specs.declared.stop.Stop.{Stop}
+use Rattle.x7_engine.specs.declared.stop.Stop.TheVariants as stop
+use Rattle.x7_engine.specs.State.{history_by, history_taken, last_counted, reads_of, stop_in}
+use Rattle.x7_engine.specs.Stops.{Stopped, line_at, or_else, stop_of, stopped_at, stopped_by_watchdog}
+use Rattle.x7_engine.specs.Values.{answer_of, read_out}
+use Rattle.x7_engine.specs.Watching.{fired_or, fires, first_firing}
+
+-- ---- where there is no stop in the first bytes, one comes behind them
+
+firing_behind : (part : PartData) (kept : Kept) (h : History) (from first more place : ℕ) → first_firing part kept h from first ≡ None → first_firing part kept h from (first + more) ≡ Some place → from + first < place
+firing_behind part kept h from first zero place none e =
+    let same : first + 0 ≡ first = omega arith in
+    let here = rw (same, none) at e in
+    absurd (cc)
+firing_behind part kept h from first (suc more) place none e =
+    let next : first + suc more ≡ suc (first + more) = omega arith in
+    let here = rw next at e in
+    by (first_firing part kept h from (first + more)) (fires part kept h (from + (first + more) + 1)) refl here (firing_behind part kept h from first more place none)
+  where
+    by : (o : Option ℕ) (now : Bool) → first_firing part kept h from (first + more) ≡ o → fired_or o now (from + (first + more) + 1) ≡ Some place → (first_firing part kept h from (first + more) ≡ Some place → from + first < place) → from + first < place
+    by (Some q) now p g before = before (p ∙ g)
+    by None true p g before =
+        let same : from + (first + more) + 1 ≡ place = cc in
+        omega (arith, same)
+    by None false p g before = absurd (cc)
+
+watchdog_behind : (part : PartData) (kept : Kept) (h : History) (from first n : ℕ) (s : Stopped) → first ≤ n → stopped_by_watchdog (first_firing part kept h from first) ≡ None → stopped_by_watchdog (first_firing part kept h from n) ≡ Some s → from + first < s.place
+watchdog_behind part kept h from first n s l none e = by (first_firing part kept h from first) (first_firing part kept h from n) refl refl none e
+  where
+    by : (a b : Option ℕ) → first_firing part kept h from first ≡ a → first_firing part kept h from n ≡ b → stopped_by_watchdog a ≡ None → stopped_by_watchdog b ≡ Some s → from + first < s.place
+    by (Some q) b p r x y = absurd (cc)
+    by None None p r x y = absurd (cc)
+    by None (Some q) p r x y =
+        let sum : n ≡ first + (n - first) = omega (arith, l) in
+        let place : q ≡ s.place = ap (λ (o : Option Stopped). place_of o) y in
+        let less : from + first < q = firing_behind part kept h from first (n - first) q p (sym (ap (first_firing part kept h from) sum) ∙ r) in
+        omega (arith, less, place)
+      where
+        place_of : Option Stopped → ℕ
+        place_of None = 0
+        place_of (Some t) = t.place
+
+parts_none : {A : Type 0} (first second : Option A) → or_else first second ≡ None → (first ≡ None) × (second ≡ None)
+parts_none None second e = (refl, e)
+parts_none (Some x) second e = absurd (cc)
+
+stop_behind : (part : PartData) (kept : Kept) (h : History) (first n : ℕ) (s : Stopped) → first ≤ n → stop_of part kept h first ≡ None → stop_of part kept h n ≡ Some s → first < s.place
+stop_behind part kept [] first n s l none e =
+    let less : 0 + first < s.place = watchdog_behind part kept [] 0 first n s l none e in
+    omega (arith, less)
+stop_behind part kept (x ∷ h) first n s l none e =
+    let parts = parts_none (stop_of part kept h x.place) _ none in
+    let lines = parts_none (stopped_at x.place (line_at part kept h x.access)) _ parts.1 in
+    let here : or_else (stopped_at x.place (line_at part kept h x.access)) (stopped_by_watchdog (first_firing part kept (x ∷ h) x.place (n - x.place))) ≡ Some s = ap (λ (o : Option Stopped). or_else o (or_else (stopped_at x.place (line_at part kept h x.access)) (stopped_by_watchdog (first_firing part kept (x ∷ h) x.place (n - x.place))))) (sym parts.0) ∙ e in
+    let fired : stopped_by_watchdog (first_firing part kept (x ∷ h) x.place (n - x.place)) ≡ Some s = ap (λ (o : Option Stopped). or_else o (stopped_by_watchdog (first_firing part kept (x ∷ h) x.place (n - x.place)))) (sym lines.0) ∙ here in
+    let less : x.place + (first - x.place) < s.place = watchdog_behind part kept (x ∷ h) x.place (first - x.place) (n - x.place) s (omega (arith, l)) lines.1 fired in
+    omega (arith, less)
+
+newer_stop : (part : PartData) (kept : Kept) (newer h : History) (first most n : ℕ) (s : Stopped) → AllBehind first most newer → first ≤ n → stop_of part kept h first ≡ None → stop_of part kept (newer ++ h) n ≡ Some s → first < s.place
+newer_stop part kept [] h first most n s a l none e = stop_behind part kept h first n s l none e
+newer_stop part kept (x ∷ newer) h first most n s a l none e =
+    by (stop_of part kept (newer ++ h) x.place) (line_at part kept (newer ++ h) x.access) refl (newer_stop part kept newer h first most x.place s a.2 (omega (arith, a.0)) none) e
+  where
+    by : (o : Option Stopped) (line : Option Stop) → stop_of part kept (newer ++ h) x.place ≡ o → (stop_of part kept (newer ++ h) x.place ≡ Some s → first < s.place)
+        → or_else o (or_else (stopped_at x.place line) (stopped_by_watchdog (first_firing part kept (x ∷ (newer ++ h)) x.place (n - x.place)))) ≡ Some s → first < s.place
+    by (Some q) line p before g = before (p ∙ g)
+    by None (Some q) p before g =
+        let place : x.place ≡ s.place = ap place_of g in
+        omega (arith, place, a.0)
+      where
+        place_of : Option Stopped → ℕ
+        place_of None = 0
+        place_of (Some t) = t.place
+    by None None p before g =
+        let less : x.place + 0 < s.place = watchdog_behind part kept (x ∷ (newer ++ h)) x.place 0 (n - x.place) s (omega arith) refl g in
+        omega (arith, less, a.0)
+
+-- ---- so all accesses of the first bytes are counted
+
+counted : (line : Stop) (place first : ℕ) → first < place → first ≤ last_counted line place
+counted (stop.Fault fault.Watchdog) place first k = omega (arith, k)
+counted (stop.Fault (fault.Packet w)) place first k = omega (arith, k)
+counted (stop.Fault f) place first k = omega (arith, k)
+counted stop.Iprog place first k = omega (arith, k)
+
+until_all : (first n : ℕ) (h : History) → Placed first h → first ≤ n → until n h ≡ h
+until_all first n [] p l = refl
+until_all first n (x ∷ h) p l =
+    let no : nat_lt n x.place ≡ false = grind (arith, nat_tests, p.1, l) in
+    rw no refl
+
+until_front : (first most n : ℕ) (newer h : History) → Placed first h → first ≤ n → (rest : History) × (until n (newer ++ h) ≡ rest ++ h)
+until_front first most n [] h p l = ([], until_all first n h p l)
+until_front first most n (x ∷ newer) h p l = by (nat_lt n x.place) (until_front first most n newer h p l)
+  where
+    by : (b : Bool) → (rest : History) × (until n (newer ++ h) ≡ rest ++ h) → (rest : History) × ((if b then until n (newer ++ h) else x ∷ (newer ++ h)) ≡ rest ++ h)
+    by true more = more
+    by false more = (x ∷ newer, refl)
+
+reads_front : (part : PartData) (kept : Kept) (newer h : History) → (rest : List ℕ) × (read_out part kept (newer ++ h) ≡ read_out part kept h ++ rest)
+reads_front part kept [] h = ([], sym (append-nil (read_out part kept h)))
+reads_front part kept (x ∷ newer) h =
+    let more = reads_front part kept newer h in
+    let answer = answer_of part kept (newer ++ h) x.access x.place in
+    (more.0 ++ answer, ap (λ (r : List ℕ). r ++ answer) more.1 ∙ append_assoc (read_out part kept h) more.0 answer)
+
+pub reads_grow_on : (part : PartData) (kept : Kept) (bytes more : List ℕ) → AreBytes bytes → AreBytes (bytes ++ more) → stop_in part kept bytes ≡ None → (rest : List ℕ) × (reads_of part kept (bytes ++ more) ≡ reads_of part kept bytes ++ rest)
+reads_grow_on part kept bytes more fits all none =
+    let grown = newer_of bytes more all in
+    let h = history_of bytes in
+    let placed = placed_of bytes fits in
+    let before : history_taken part kept bytes ≡ h = ap (λ (o : Option Stopped). history_by o h) none in
+    let kept_all : (rest : History) × (history_taken part kept (bytes ++ more) ≡ rest ++ h) = by grown.0 grown.1 grown.2 (stop_in part kept (bytes ++ more)) refl in
+    let reads = reads_front part kept kept_all.0 h in
+    (reads.0, ap (read_out part kept) kept_all.1 ∙ reads.1 ∙ ap (λ (x : History). read_out part kept x ++ reads.0) (sym before))
+  where
+    by : (newer : History) → history_of (bytes ++ more) ≡ newer ++ history_of bytes → AllBehind (length bytes) (length (bytes ++ more)) newer → (o : Option Stopped) → stop_in part kept (bytes ++ more) ≡ o
+        → (rest : History) × (history_taken part kept (bytes ++ more) ≡ rest ++ history_of bytes)
+    by newer e a None s = (newer, ap (λ (o : Option Stopped). history_by o (history_of (bytes ++ more))) s ∙ e)
+    by newer e a (Some t) s =
+        let long : length bytes ≤ length (bytes ++ more) = omega (arith, length-append bytes more) in
+        let at : stop_of part kept (newer ++ history_of bytes) (length (bytes ++ more)) ≡ Some t = ap (λ (x : History). stop_of part kept x (length (bytes ++ more))) (sym e) ∙ s in
+        let behind : length bytes < t.place = newer_stop part kept newer (history_of bytes) (length bytes) (length (bytes ++ more)) (length (bytes ++ more)) t a long none at in
+        let front = until_front (length bytes) (length (bytes ++ more)) (last_counted t.line t.place) newer (history_of bytes) (placed_of bytes fits) (counted t.line t.place (length bytes) behind) in
+        (front.0, ap (λ (o : Option Stopped). history_by o (history_of (bytes ++ more))) s ∙ ap (λ (x : History). until (last_counted t.line t.place) x) e ∙ front.1)

@@ -1,0 +1,24 @@
+use Rattle.std.proofs.Common.{◌≡◌, ◌<◌, ◌⊎◌, length, Err, inl, inr}
+use Rattle.x7_engine.specs.Kept.{on_the_bench}
+use Rattle.x7_engine.specs.State.{reads_of}
+use Rattle.x7_tool.specs.Message.{event_of}
+use Rattle.x7_tool.specs.Outcome.{NoMemory, TooLargeReads, reported}
+use Rattle.x7_tool.proofs.PlayLemmas.{reported_is, reported_over}
+use Rattle.x7_tool.proofs.play.text_of.Goals as goal
+
+pub returns-in-Err-clause-err : goal.returns-in-Err-clause-err
+returns-in-Err-clause-err c =
+    let part = c.args.part.now in
+    let bytes = c.args.bytes.now in
+    let end : (event_of c.in-Err.refusal ≡ NoMemory) ⊎ ((event_of c.in-Err.refusal ≡ TooLargeReads) × (16777216 < length (reads_of part on_the_bench bytes)))
+    → (event_of c.in-Err.refusal ≡ NoMemory) ⊎ ((event_of c.in-Err.refusal ≡ TooLargeReads) × (reported part bytes ≡ Err TooLargeReads))
+    = elim [ inl h ↦ inl h | inr h ↦ inr (h.0, reported_over part bytes h.1) ] in
+    end c.in-Err.ensures.err
+
+pub returns-in-Ok-report-clause-ok : goal.returns-in-Ok-report-clause-ok
+returns-in-Ok-report-clause-ok c =
+    let part = c.args.part.now in
+    let bytes = c.args.bytes.now in
+    let p = c.in-Ok.ensures.ok in
+    let text = rw c.deref.ensures.value at (c.in-Ok-report.ensures part p.front p.stands) in
+    reported_is part bytes c.in-Ok.played.device c.in-Ok.played.reads.items c.in-Ok-report.text.items c.fault.result c.is_some.result p (c.fault.ensures part p.front p.stands) c.is_some.ensures text

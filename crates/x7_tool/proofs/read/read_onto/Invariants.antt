@@ -1,0 +1,19 @@
+use Rattle.std.proofs.Common.{◌≡◌, ℕ, List, ◌+◌, ◌≤◌, ◌++◌, length, true}
+use Rattle.x7_words.specs.Input.{Selects, preceded}
+use Rattle.x7_tool.proofs.read.read_onto.Given as goal
+
+abbrev pub invariant-loop-count : goal.invariant-loop-count
+invariant-loop-count g l =
+    let i = g.I.Inputs in
+    record {
+      selected : i.selected l.inputs ≡ true;
+      map : i.contents l.inputs ≡ i.contents l.fn.inputs;
+      faults : i.faults l.fn.inputs ≤ i.faults l.inputs;
+      absences : i.absences l.fn.inputs ≤ i.absences l.inputs;
+      left : l.left ≤ l.limit;
+      piece : length l.piece ≡ 65536;
+      told : (taken : List ℕ) × ((l.onto.items ≡ l.fn.onto.items ++ taken) × Selects (i.contents l.fn.inputs) l.name (preceded taken (i.rest l.inputs)) × (length taken + l.left ≡ l.limit));
+    }
+
+abbrev pub decreases-loop-count : goal.decreases-loop-count
+decreases-loop-count g l = l.left
