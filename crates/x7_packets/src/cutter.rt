@@ -55,6 +55,9 @@ fn whole(kept: &[u8; 3], count: usize, missing: &[u8]) -> u32
     requires within { count ≤ 3 }
     ensures { bytes_of_word result ≡ take count kept.now ++ missing.now }
 {
+    if let [first, second, third, fourth] = missing {
+        return word_of([*first, *second, *third, *fourth]);
+    }
     let mut bytes = [0; 4];
     bytes[..count].copy_from_slice(&kept[..count]);
     bytes[count..].copy_from_slice(missing);
