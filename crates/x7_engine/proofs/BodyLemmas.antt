@@ -1,16 +1,19 @@
 -- Lemmas on the words of a payload that are taken one by one.
-use Rattle.std.proofs.Common.{◌≡◌, ◌+◌, ◌-◌, ◌*◌, ◌/◌, ◌%◌, ◌<◌, ◌≤◌, ℕ, zero, suc, [], ◌∷◌, ◌++◌, List, length, take, get_or, map, refl, sym, ap, ◌∙◌, append-nil, arith}
-use Rattle.std.proofs.lemmas.List.{get_or-map, length-map, map-append, take-map, take_more}
+use Rattle.std.proofs.Common.{◌≡◌, ◌+◌, ◌-◌, ◌*◌, ◌/◌, ◌<◌, ◌≤◌, ℕ, zero, suc, Bool, if◌then◌else◌, Option, None, [], ◌∷◌, ◌++◌, List, length, take, get_or, map, refl, sym, ap, subst, ◌∙◌, arith}
+use Rattle.std.proofs.lemmas.Bool.{le-ltb}
+use Rattle.std.proofs.lemmas.List.{get_or-map, length-map, length-take-le, map-append, take-map, take_all, take_more}
 use Rattle.std.proofs.Math.Seq.{take-length}
 use Rattle.std.specs.Simd.{first_chunks}
-use Rattle.x7_words.specs.Word.{bytes_of_word, word_of_bytes, words_of_bytes}
-use Rattle.x7_packets.specs.History.{History, Write, entered_all, entry}
+use Rattle.x7_words.specs.Word.{word_of_bytes, words_of_bytes}
+use Rattle.x7_packets.specs.History.{History, Write, entered_all, entry, until}
 use Rattle.x7_packets.specs.Packet.{payload_steps}
 use Rattle.x7_packets.proofs.HistoryLemmas.{entered_all-append}
 use Rattle.x7_crc.proofs.CheckLemmas.{words_by_chunks}
 use Rattle.x7_part.specs.Part.{PartData}
 use Rattle.x7_engine.specs.declared.kept.Kept.{Kept}
-use Rattle.x7_engine.specs.Values.{read_out}
+use Rattle.x7_engine.specs.declared.stop.Stop.{Stop}
+use Rattle.x7_engine.specs.Standing.{RegistersStandFor, RegistersState, counted_in}
+use Rattle.x7_engine.proofs.TurnLemmas.{all_counted, counted_within, front_until}
 
 -- one word more enters one write more, which ends four bytes on
 pub write_more : (register n w : ℕ) (ws : List ℕ) (h : History)
@@ -47,26 +50,62 @@ length_of_words bytes = by_fours (length bytes / 4) bytes refl
 pub all_words : (bytes : List ℕ) → take (length bytes / 4) (words_of_bytes bytes) ≡ words_of_bytes bytes
 all_words bytes = ap (λ (k : ℕ). take k (words_of_bytes bytes)) (sym (length_of_words bytes)) ∙ take-length (words_of_bytes bytes)
 
--- a body of one word is taken whole
-pub one_word : (taken : ℕ) (bytes : List ℕ) (w : ℕ) → bytes ≡ bytes_of_word w → taken ≤ length bytes → taken % 4 ≡ 0 → (0 < length bytes → 0 < taken) → taken / 4 ≡ 1
-one_word taken bytes w e l m f =
-    let four : length bytes ≡ 4 = ap length e in
-    let some : 0 < taken = f (omega arith) in
-    omega arith
-
--- the steps of a run without its last bytes are those of the words taken
-pub steps_taken : (register : ℕ) (bytes : List ℕ) (taken : ℕ) → length bytes % 4 ≡ 0 → taken ≤ length bytes → taken % 4 ≡ 0
-    → take (length (payload_steps register (words_of_bytes bytes)) - (length bytes - taken) / 4) (payload_steps register (words_of_bytes bytes)) ≡ payload_steps register (take (taken / 4) (words_of_bytes bytes))
-steps_taken register bytes taken h l m =
-    let steps : length (payload_steps register (words_of_bytes bytes)) ≡ length bytes / 4 = length-map (words_of_bytes bytes) _ ∙ length_of_words bytes in
-    let count : length (payload_steps register (words_of_bytes bytes)) - (length bytes - taken) / 4 ≡ taken / 4 = omega arith in
-    ap (λ (k : ℕ). take k (payload_steps register (words_of_bytes bytes))) count ∙ take-map _ (taken / 4) (words_of_bytes bytes)
-
--- words written read nothing out
-pub writes_tell_nothing : (part : PartData) (kept : Kept) (register n : ℕ) (ws : List ℕ) (h : History) → read_out part kept (entered_all n (payload_steps register ws) h) ≡ read_out part kept h
-writes_tell_nothing part kept register n [] h = refl
-writes_tell_nothing part kept register n (w ∷ ws) h = writes_tell_nothing part kept register (n + 4) ws (entry (Write register w) (n + 4) ∷ h) ∙ append-nil (read_out part kept h)
-
 -- all chunks are all words
 pub chunks_are : (bytes : List ℕ) (chunks : List (List ℕ)) → chunks ≡ first_chunks 4 (length bytes / 4) bytes → length (words_of_bytes bytes) ≡ length chunks
 chunks_are bytes chunks e = ap length (words_by_chunks (length bytes / 4) bytes refl ∙ ap (map word_of_bytes) (sym e)) ∙ length-map chunks word_of_bytes
+
+-- ---- words one by one, up to a byte that stops the device
+
+words_place : (register i : ℕ) (ws : List ℕ) → i ≤ length ws → length (payload_steps register (take i ws)) ≡ i
+words_place register i ws l = length-map (take i ws) _ ∙ length-take-le i ws l
+
+word_entered : (register n i w taken : ℕ) (ws : List ℕ) (h : History) → take (i + 1) ws ≡ take i ws ++ w ∷ [] → i < length ws → taken ≡ 4 * i
+    → entry (Write register w) (n + taken + 4) ∷ entered_all n (payload_steps register (take i ws)) h ≡ entered_all n (payload_steps register (take (i + 1) ws)) h
+word_entered register n i w taken ws h e l t =
+    let place : n + 4 * length (payload_steps register (take i ws)) + 4 ≡ n + taken + 4 = omega (arith, words_place register i ws (omega (arith, l)), t) in
+    sym (ap (λ (x : List ℕ). entered_all n (payload_steps register x) h) e ∙ write_more register n w (take i ws) h
+    ∙ ap (λ (k : ℕ). entry (Write register w) k ∷ entered_all n (payload_steps register (take i ws)) h) place)
+
+-- a word more, in which the device may have stopped
+pub word_after : (part : PartData) (kept : Kept) (old new : RegistersState) (register n i w left taken m : ℕ) (ws : List ℕ) (h : History) → take (i + 1) ws ≡ take i ws ++ w ∷ [] → i < length ws → taken ≡ 4 * i → left ≤ 4 → m ≡ n + (taken + (4 - left))
+    → ((h : History) (n : ℕ) → 0 < 4 → RegistersStandFor part kept old h n → RegistersStandFor part kept new (until (counted_in new.stop (n + (4 - left))) (entry (Write register w) (n + 4) ∷ h)) (n + (4 - left)))
+    → RegistersStandFor part kept old (entered_all n (payload_steps register (take i ws)) h) (n + taken)
+    → RegistersStandFor part kept new (until (counted_in new.stop m) (entered_all n (payload_steps register ws) h)) m
+word_after part kept old new register n i w left taken m ws h e l t k r f s =
+    let front : History = entered_all n (payload_steps register (take i ws)) h in
+    let here : n + taken + (4 - left) ≡ m = omega (arith, k, r) in
+    let one : RegistersStandFor part kept new (until (counted_in new.stop m) (entry (Write register w) (n + taken + 4) ∷ front)) m =
+    subst (λ (x : ℕ). RegistersStandFor part kept new (until (counted_in new.stop x) (entry (Write register w) (n + taken + 4) ∷ front)) x) here (f front (n + taken) (omega arith) s) in
+    let steps : length (payload_steps register ws) ≡ length ws = length-map ws _ in
+    let some : i + 1 ≤ length (payload_steps register ws) = omega (arith, steps, l) in
+    let behind : counted_in new.stop m < n + 4 * (i + 1) + 4 = omega (arith, counted_within new.stop m, r, t) in
+    let all : until (counted_in new.stop m) (entered_all n (payload_steps register ws) h) ≡ until (counted_in new.stop m) (entry (Write register w) (n + taken + 4) ∷ front) =
+    front_until n (i + 1) (counted_in new.stop m) (payload_steps register ws) h some behind
+    ∙ ap (λ t. until (counted_in new.stop m) (entered_all n t h)) (take-map _ (i + 1) ws)
+    ∙ ap (until (counted_in new.stop m)) (sym (word_entered register n i w taken ws h e l t)) in
+    subst (λ (x : History). RegistersStandFor part kept new x m) (sym all) one
+
+-- a word more, behind which the device goes on
+pub word_on : (part : PartData) (kept : Kept) (old new : RegistersState) (register n i w left taken m : ℕ) (ws : List ℕ) (h : History) → take (i + 1) ws ≡ take i ws ++ w ∷ [] → i < length ws → taken ≡ 4 * i → left ≡ 0 → m ≡ n + (taken + (4 - left)) → new.stop ≡ None
+    → ((h : History) (n : ℕ) → 0 < 4 → RegistersStandFor part kept old h n → RegistersStandFor part kept new (until (counted_in new.stop (n + (4 - left))) (entry (Write register w) (n + 4) ∷ h)) (n + (4 - left)))
+    → RegistersStandFor part kept old (entered_all n (payload_steps register (take i ws)) h) (n + taken)
+    → RegistersStandFor part kept new (entered_all n (payload_steps register (take (i + 1) ws)) h) m
+word_on part kept old new register n i w left taken m ws h e l t k r g f s =
+    let front : History = entered_all n (payload_steps register (take i ws)) h in
+    let here : n + taken + (4 - left) ≡ m = omega (arith, k, r) in
+    let last : n + taken + 4 ≤ m = omega (arith, k, r) in
+    let one : RegistersStandFor part kept new (until (counted_in new.stop m) (entry (Write register w) (n + taken + 4) ∷ front)) m =
+    subst (λ (x : ℕ). RegistersStandFor part kept new (until (counted_in new.stop x) (entry (Write register w) (n + taken + 4) ∷ front)) x) here (f front (n + taken) (omega arith) s) in
+    let all : until (counted_in new.stop m) (entry (Write register w) (n + taken + 4) ∷ front) ≡ entered_all n (payload_steps register (take (i + 1) ws)) h =
+    ap (λ (o : Option Stop). until (counted_in o m) (entry (Write register w) (n + taken + 4) ∷ front)) g
+    ∙ ap (λ (b : Bool). if b then until m front else entry (Write register w) (n + taken + 4) ∷ front) (le-ltb m (n + taken + 4) last)
+    ∙ word_entered register n i w taken ws h e l t in
+    subst (λ (x : History). RegistersStandFor part kept new x m) all one
+
+-- all words
+pub words_all : (part : PartData) (kept : Kept) (d : RegistersState) (register n i m : ℕ) (ws : List ℕ) (h : History) → length ws ≤ i → d.stop ≡ None → RegistersStandFor part kept d (entered_all n (payload_steps register (take i ws)) h) m
+    → RegistersStandFor part kept d (until (counted_in d.stop m) (entered_all n (payload_steps register ws) h)) m
+words_all part kept d register n i m ws h l e s =
+    let all : take i ws ≡ ws = take_all i ws l in
+    all_counted part kept d (entered_all n (payload_steps register ws) h) m (ap (λ (o : Option Stop). counted_in o m) e)
+    (subst (λ (t : List ℕ). RegistersStandFor part kept d (entered_all n (payload_steps register t) h) m) all s)

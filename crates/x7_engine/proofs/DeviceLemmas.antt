@@ -1,46 +1,30 @@
 -- Lemmas on specs/Standing: a device takes one run more.
-use Rattle.std.proofs.Common.{◌≡◌, ◌+◌, ◌-◌, ◌%◌, ◌<◌, ◌≤◌, ℕ, false, Option, None, Some, List, ◌++◌, length, take, drop, replicate, refl, ap, sym, subst, ◌∙◌, append_assoc, arith, length-append, length-drop}
+use Rattle.std.proofs.Common.{◌≡◌, ◌+◌, ◌-◌, ◌*◌, ◌/◌, ◌<◌, ◌≤◌, ℕ, Option, None, Some, List, [], ◌∷◌, ◌++◌, length, take, drop, replicate, refl, ap, sym, subst, ◌∙◌, append_assoc, arith, length-append, length-drop}
 use Rattle.std.proofs.Math.Seq.{take-append_seam}
-use Rattle.std.proofs.lemmas.List.{length-replicate, length-take-le, take-append-drop, take-take}
-use Rattle.x7_words.specs.Word.{AreBytes}
+use Rattle.std.proofs.lemmas.List.{length-map, length-replicate, length-take-le, take-append-drop, take-take}
+use Rattle.x7_words.specs.Word.{AreBytes, words_of_bytes}
 use Rattle.x7_words.proofs.ListLemmas.{all_front}
 use Rattle.x7_packets.specs.declared.cutter.Cut.{Cut}
 use Rattle.x7_packets.specs.declared.cutter.Cut.TheVariants.{Body, Head, Need, Skip, Sync, Word}
-use Rattle.x7_packets.specs.Cutting.{between, CutterState, CutterStandsFor, IsLent, IsRun, Went, run_bytes}
-use Rattle.x7_packets.specs.History.{History, entered_all, history_of, next_word, until}
-use Rattle.x7_packets.specs.Reading.{Place, Session}
-use Rattle.x7_packets.proofs.GrowthLemmas.{placed_of, until_placed}
+use Rattle.x7_packets.specs.declared.cutter.Mode.{Mode}
+use Rattle.x7_packets.specs.declared.cutter.Mode.TheVariants as mode
+use Rattle.x7_packets.specs.declared.header.Step.{Step}
+use Rattle.x7_packets.specs.declared.header.Step.TheVariants as step
+use Rattle.x7_packets.specs.Cutting.{AtPlace, between, CutterState, CutterStandsFor, IsLent, IsRun, Longer, Went, run_bytes, run_steps}
+use Rattle.x7_packets.specs.History.{History, Placed, entered_all, history_of, next_word, until}
+use Rattle.x7_packets.specs.Packet.{Packet, payload_steps}
+use Rattle.x7_packets.specs.Reading.{IsReading, Place, Searching, Session, Synced, tail_of}
+use Rattle.x7_packets.proofs.GrowthLemmas.{front_of, placed_of}
+use Rattle.x7_packets.proofs.HistoryLemmas.{cut_enters, next_word-is, words_end}
 use Rattle.x7_part.specs.Part.{PartData}
-use Rattle.x7_engine.specs.declared.fault.Fault.TheVariants as fault
 use Rattle.x7_engine.specs.declared.kept.Kept.{Kept}
 use Rattle.x7_engine.specs.declared.stop.Stop.{Stop}
-use Rattle.x7_engine.specs.declared.stop.Stop.TheVariants as stop
-use Rattle.x7_engine.specs.Standing.{DeviceStandsFor, DeviceState, IsCutterOf, IsStop, NotLent, RegistersStandFor, is_firing, steps_without, told_of}
-use Rattle.x7_engine.specs.State.{history_by, history_taken, last_counted, reads_of, stop_in}
+use Rattle.x7_engine.specs.Standing.{DeviceStandsFor, DeviceState, EndsWords, HoldsRun, IsCutterOf, RegistersStandFor, counted_in, told_of}
+use Rattle.x7_engine.specs.State.{history_by, history_taken, reads_of, stop_in}
 use Rattle.x7_engine.specs.Stops.{Stopped, stop_of, stopped_at}
 use Rattle.x7_engine.specs.Values.{read_out}
-use Rattle.x7_engine.proofs.TurnLemmas.{no_rest, run_history, run_newest, stop_here}
-
--- a stop by another line than the watchdog's counts all bytes up to it
-counts_all : (line : Stop) (place : ℕ) → is_firing (Some line) ≡ false → last_counted line place ≡ place
-counts_all (stop.Fault (fault.Packet w)) place e = refl
-counts_all (stop.Fault (fault.Id want got)) place e = refl
-counts_all (stop.Fault (fault.Crc want got)) place e = refl
-counts_all (stop.Fault (fault.Address far)) place e = refl
-counts_all (stop.Fault fault.Overrun) place e = refl
-counts_all (stop.Fault fault.Multi) place e = refl
-counts_all (stop.Fault fault.Encrypted) place e = refl
-counts_all (stop.Fault fault.Watchdog) place e = absurd cc
-counts_all (stop.Fault fault.Unbuilt) place e = refl
-counts_all stop.Iprog place e = refl
-
-counted : (d : Option Stop) (bytes : List ℕ) → AreBytes bytes → is_firing d ≡ false → history_by (stopped_at (length bytes) d) (history_of bytes) ≡ history_of bytes
-counted None bytes f e = refl
-counted (Some line) bytes f e = ap (λ (n : ℕ). until n (history_of bytes)) (counts_all line (length bytes) e) ∙ until_placed (length bytes) (history_of bytes) (placed_of bytes f)
-
--- where a stop comes at the last byte, or none, the history taken is that of all bytes
-pub all_taken : (part : PartData) (kept : Kept) (bytes : List ℕ) (d : Option Stop) → AreBytes bytes → stop_in part kept bytes ≡ stopped_at (length bytes) d → is_firing d ≡ false → history_taken part kept bytes ≡ history_of bytes
-all_taken part kept bytes d f e u = ap (λ (s : Option Stopped). history_by s (history_of bytes)) e ∙ counted d bytes f u
+use Rattle.x7_engine.proofs.BodyLemmas.{length_of_words}
+use Rattle.x7_engine.proofs.TurnLemmas.{history_until, no_rest, stop_until}
 
 -- the words told, where all that is read out are these and some more that are due
 pub front_told : (told : List ℕ) (due w : ℕ) → take (length (told ++ replicate due w) - due) (told ++ replicate due w) ≡ told
@@ -61,49 +45,102 @@ between_front piece from at left l =
 pub length_between : (piece : List ℕ) (from to : ℕ) → from ≤ to → to ≤ length piece → length (between piece from to) ≡ to - from
 length_between piece from to l m = length-take-le (to - from) (drop from piece) (omega (arith, length-drop from piece))
 
--- what isn't taken of a run lies in the piece
-pub left_within : (c n : CutterState) (run : Cut) (left at : ℕ) (cut : List ℕ) → (NotLent run → left ≡ 0) → left ≤ length (run_bytes run) → IsLent c at run → c.kept ++ cut ≡ run_bytes run ++ n.kept → left ≤ length cut
-left_within c n Need left at cut z l k e = omega (arith, z tt)
-left_within c n (Skip bs) left at cut z l k e = omega (arith, z tt)
-left_within c n Sync left at cut z l k e = omega (arith, z tt)
-left_within c n (Head w s) left at cut z l k e = omega (arith, z tt)
-left_within c n (Word r w) left at cut z l k e = omega (arith, z tt)
-left_within c n (Body r bs) left at cut z l k e = omega (arith, ap length e, length-append c.kept cut, length-append bs.now n.kept, ap length k.0, l)
+-- a lent run lies in the piece
+pub holds_run : (c n : CutterState) (run : Cut) (left count : ℕ) (cut : List ℕ) → IsLent c left run → c.kept ++ cut ≡ run_bytes run ++ n.kept → count ≡ length cut → HoldsRun run count
+holds_run c n Need left count cut k e l = tt
+holds_run c n (Skip bs) left count cut k e l = tt
+holds_run c n Sync left count cut k e l = tt
+holds_run c n (Head w s) left count cut k e l = tt
+holds_run c n (Word r w) left count cut k e l = tt
+holds_run c n (Body r bs) left count cut k e l = omega (arith, ap length e, length-append c.kept cut, length-append bs.now n.kept, ap length k.0, l)
+
+-- nothing of a lent run is kept before it
+no_tail : (c : CutterState) (m : Mode) (gap tail : List ℕ) (packets : List Packet) → AtPlace c m (Synced gap packets tail) → c.kept ≡ [] → tail ≡ []
+no_tail c mode.Searching gap tail packets a e = absurd a
+no_tail c mode.Due gap tail packets a e = a.1
+no_tail c mode.Synced gap tail packets a e = a.1 ∙ e
+
+-- a session's words end where the bytes do
+words_place : (n : CutterState) (bytes gap tail : List ℕ) (packets : List Packet) (more : List (ℕ × Step)) (sessions new_sessions : List Session) (new : Place) → CutterStandsFor n bytes new_sessions new → Longer gap packets more sessions new_sessions new
+    → length bytes ≡ next_word sessions (Synced gap packets tail) + 4 * length more
+words_place n bytes gap tail packets more sessions new_sessions new s l =
+    let ends : (next_word new_sessions new ≡ next_word sessions (Synced gap packets tail) + 4 * length more) × (tail_of new ≡ []) = words_end gap tail packets more sessions new_sessions new l in
+    omega (arith, next_word-is bytes new_sessions new s.reading, ap length ends.1, ends.0)
+
+body_words : (register : ℕ) (bs : List ℕ) → length (payload_steps register (words_of_bytes bs)) ≡ length bs / 4
+body_words register bs = length-map (words_of_bytes bs) _ ∙ length_of_words bs
+
+one_word_ends : (n : CutterState) (bytes cut gap tail : List ℕ) (packets : List Packet) (s : ℕ × Step) (sessions new_sessions : List Session) (new : Place) → IsReading bytes sessions (Synced gap packets tail) → CutterStandsFor n (bytes ++ cut) new_sessions new
+    → Longer gap packets (s ∷ []) sessions new_sessions new → (let from : ℕ = next_word sessions (Synced gap packets tail) in (length bytes < from + 4) × (from + 4 ≡ length bytes + length cut))
+one_word_ends n bytes cut gap tail packets s sessions new_sessions new r k l =
+    let few : length tail < 4 = r.ends.3 in
+    (omega (arith, next_word-is bytes sessions (Synced gap packets tail) r, few), omega (arith, words_place n (bytes ++ cut) gap tail packets (s ∷ []) sessions new_sessions new k l, length-append bytes cut))
+
+-- the words of a run end where its bytes do
+pub ends_words : (c n : CutterState) (bytes cut : List ℕ) (sessions : List Session) (place : Place) (run : Cut) (left : ℕ) → CutterStandsFor c bytes sessions place → Went c n (bytes ++ cut) sessions place run → IsRun run → IsLent c left run
+    → EndsWords run (next_word sessions place) (length bytes) (length cut)
+ends_words c n bytes cut sessions place Need left s w r k = tt
+ends_words c n bytes cut sessions place (Skip bs) left s w r k = tt
+ends_words c n bytes cut sessions place Sync left s w r k = tt
+ends_words c n bytes cut sessions (Searching gap) (Head x t) left s w r k = absurd w.adds
+ends_words c n bytes cut sessions (Synced gap packets tail) (Head x t) left s w r k = one_word_ends n bytes cut gap tail packets (x, t) sessions w.new_sessions w.new_place s.reading w.stands w.adds
+ends_words c n bytes cut sessions (Searching gap) (Word register x) left s w r k = absurd w.adds
+ends_words c n bytes cut sessions (Synced gap packets tail) (Word register x) left s w r k = one_word_ends n bytes cut gap tail packets (x, step.Payload register x) sessions w.new_sessions w.new_place s.reading w.stands w.adds
+ends_words c n bytes cut sessions (Searching gap) (Body register bs) left s w r k = absurd w.adds
+ends_words c n bytes cut sessions (Synced gap packets tail) (Body register bs) left s w r k =
+    let p : ℕ = next_word sessions (Synced gap packets tail) in
+    let ss : List (ℕ × Step) = payload_steps register (words_of_bytes bs.now) in
+    let first : p ≡ length bytes = omega (arith, next_word-is bytes sessions (Synced gap packets tail) s.reading, ap length (no_tail c c.mode gap tail packets s.at k.0)) in
+    let all : length (bytes ++ cut) ≡ p + 4 * length ss = words_place n (bytes ++ cut) gap tail packets ss sessions w.new_sessions w.new_place w.stands w.adds in
+    (first, omega (arith, all, first, body_words register bs.now, length-append bytes cut, r.2))
+
+-- the history of all bytes is taken where there is no stop
+pub going_taken : (part : PartData) (kept : Kept) (bytes : List ℕ) → stop_in part kept bytes ≡ None → history_taken part kept bytes ≡ history_of bytes
+going_taken part kept bytes e = ap (λ (o : Option Stopped). history_by o (history_of bytes)) e
 
 -- a run more
-pub turned : (part : PartData) (kept : Kept) (d e : DeviceState) (bytes cut more rest : List ℕ) (run : Cut) (left at : ℕ) → DeviceStandsFor part kept d bytes → d.registers.stop ≡ None
+pub turned : (part : PartData) (kept : Kept) (d e : DeviceState) (bytes cut more rest : List ℕ) (run : Cut) (count left room : ℕ) → DeviceStandsFor part kept d bytes → d.registers.stop ≡ None
     → ((sessions : List Session) (place : Place) → CutterStandsFor d.cutter bytes sessions place → Went d.cutter e.cutter (bytes ++ cut) sessions place run)
-    → ((h : History) (n : ℕ) → RegistersStandFor part kept d.registers h → RegistersStandFor part kept e.registers (entered_all n (steps_without left run) h))
-    → ((h : History) (n : ℕ) → RegistersStandFor part kept d.registers h → read_out part kept (entered_all n (steps_without left run) h) ≡ read_out part kept h ++ replicate e.registers.due e.registers.due_word)
-    → cut ≡ more ++ rest → length rest ≡ left → left % 4 ≡ 0 → left ≤ length (run_bytes run) → (NotLent run → left ≡ 0) → IsRun run → IsLent d.cutter at run
+    → ((h : History) (from n : ℕ) → EndsWords run from n count → RegistersStandFor part kept d.registers h n → RegistersStandFor part kept e.registers (until (counted_in e.registers.stop (n + (count - left))) (entered_all from (run_steps run) h)) (n + (count - left)))
+    → ((h : History) (from n : ℕ) → EndsWords run from n count → RegistersStandFor part kept d.registers h n
+    → read_out part kept (until (counted_in e.registers.stop (n + (count - left))) (entered_all from (run_steps run) h)) ≡ read_out part kept h ++ replicate e.registers.due e.registers.due_word)
+    → count ≡ length cut → cut ≡ more ++ rest → length rest ≡ left → IsRun run → IsLent d.cutter room run
     → (e.registers.stop ≡ None → left ≡ 0) → ((line : Stop) → e.registers.stop ≡ Some line → e.registers.due ≡ 0) → e.part ≡ d.part → e.taken ≡ d.taken + length more
     → DeviceStandsFor part kept e (bytes ++ more) × (reads_of part kept (bytes ++ more) ≡ reads_of part kept bytes ++ replicate e.registers.due e.registers.due_word)
-turned part kept d e bytes cut more rest run left at s going went stands reads j l m b z r k g q p t =
-    let none : stop_in part kept bytes ≡ stopped_at (length bytes) None = s.stop_is ∙ ap (stopped_at (length bytes)) going in
-    let old : history_taken part kept bytes ≡ history_of bytes = all_taken part kept bytes None s.fits none refl in
-    let before : RegistersStandFor part kept d.registers (history_of bytes) = subst (λ (h : History). RegistersStandFor part kept d.registers h) old s.registers_are in
+turned part kept d e bytes cut more rest run count left room s going went stands reads k j l r i g q p t =
+    let none : stop_in part kept bytes ≡ None = s.stop_is ∙ ap (stopped_at (length bytes)) going in
+    let old : history_taken part kept bytes ≡ history_of bytes = going_taken part kept bytes none in
+    let before : RegistersStandFor part kept d.registers (history_of bytes) (length bytes) = subst (λ (h : History). RegistersStandFor part kept d.registers h (length bytes)) old s.registers_are in
     let cutter : IsCutterOf d.cutter bytes = s.cutter_is going in
     let w : Went d.cutter e.cutter (bytes ++ cut) cutter.sessions cutter.place run = went cutter.sessions cutter.place cutter.stands in
-    let n : ℕ = next_word cutter.sessions cutter.place in
-    let h : History = entered_all n (steps_without left run) (history_of bytes) in
-    let grown : history_of (bytes ++ more) ≡ h = run_history d.cutter e.cutter bytes cut more rest cutter.sessions cutter.place run left at cutter.stands w j l m b z r k in
-    let after : RegistersStandFor part kept e.registers h = stands (history_of bytes) n before in
+    let from : ℕ = next_word cutter.sessions cutter.place in
+    let all : History = entered_all from (run_steps run) (history_of bytes) in
+    let whole : history_of (bytes ++ cut) ≡ all = cut_enters d.cutter e.cutter bytes cut cutter.sessions cutter.place run from cutter.stands w (next_word-is bytes cutter.sessions cutter.place cutter.stands.reading) in
     let joined : (bytes ++ more) ++ rest ≡ bytes ++ cut = append_assoc bytes more rest ∙ ap (λ t. bytes ++ t) (sym j) in
-    let fits : AreBytes (bytes ++ more) = all_front (λ b. b < 256) (bytes ++ more) rest (subst AreBytes (sym joined) w.stands.reading.fits) in
-    let old_stop : IsStop part kept None (history_of bytes) = subst (λ (o : Option Stop). IsStop part kept o (history_of bytes)) going before.stop in
-    let stops : stop_in part kept (bytes ++ more) ≡ stopped_at (length (bytes ++ more)) e.registers.stop =
-    ap (λ (x : History). stop_of part kept x (length (bytes ++ more))) grown
-    ∙ stop_here part kept (history_of bytes) h (length (bytes ++ more)) e.registers.stop old_stop after.stop
-    (run_newest d.cutter e.cutter bytes cut more rest cutter.sessions cutter.place run left at (history_of bytes) cutter.stands w j l m b z r k) in
-    let new : history_taken part kept (bytes ++ more) ≡ h = all_taken part kept (bytes ++ more) e.registers.stop fits stops after.stop.unfired ∙ grown in
+    let fits : AreBytes ((bytes ++ more) ++ rest) = subst AreBytes (sym joined) w.stands.reading.fits in
+    let here : AreBytes (bytes ++ more) = all_front (λ b. b < 256) (bytes ++ more) rest fits in
+    let m : ℕ = length (bytes ++ more) in
+    let count_is : length bytes + (count - left) ≡ m = omega (arith, k, ap length j, length-append more rest, l, length-append bytes more) in
+    let front : history_of (bytes ++ more) ≡ until m all = sym (front_of (bytes ++ more) rest fits) ∙ ap (until m) (ap history_of joined ∙ whole) in
+    let placed : Placed (length (bytes ++ cut)) all = subst (λ (h : History). Placed (length (bytes ++ cut)) h) whole (placed_of (bytes ++ cut) w.stands.reading.fits) in
+    let ends : EndsWords run from (length bytes) count = subst (λ (x : ℕ). EndsWords run from (length bytes) x) (sym k) (ends_words d.cutter e.cutter bytes cut cutter.sessions cutter.place run room cutter.stands w r i) in
+    let counted : History = until (counted_in e.registers.stop m) all in
+    let after : RegistersStandFor part kept e.registers counted m =
+    subst (λ (x : ℕ). RegistersStandFor part kept e.registers (until (counted_in e.registers.stop x) all) x) count_is (stands (history_of bytes) from (length bytes) ends before) in
+    let stops : stop_in part kept (bytes ++ more) ≡ stopped_at m e.registers.stop =
+    ap (λ (x : History). stop_of part kept x m) front ∙ stop_until part kept e.registers.stop (length (bytes ++ cut)) m all placed after.stop in
+    let new : history_taken part kept (bytes ++ more) ≡ counted =
+    ap (λ (o : Option Stopped). history_by o (history_of (bytes ++ more))) stops ∙ ap (history_by (stopped_at m e.registers.stop)) front ∙ history_until e.registers.stop m all in
     let told : reads_of part kept (bytes ++ more) ≡ reads_of part kept bytes ++ replicate e.registers.due e.registers.due_word =
-    ap (read_out part kept) new ∙ reads (history_of bytes) n before ∙ ap (λ (x : History). read_out part kept x ++ replicate e.registers.due e.registers.due_word) (sym old) in (
+    ap (read_out part kept) new
+    ∙ ap (λ (x : ℕ). read_out part kept (until (counted_in e.registers.stop x) all)) (sym count_is)
+    ∙ reads (history_of bytes) from (length bytes) ends before ∙ ap (λ (x : History). read_out part kept x ++ replicate e.registers.due e.registers.due_word) (sym old) in (
       record {
-        fits = fits;
+        fits = here;
         part_is = p ∙ s.part_is;
         taken_is = omega (arith, t, s.taken_is, length-append bytes more);
         stop_is = stops;
-        registers_are = subst (λ (x : History). RegistersStandFor part kept e.registers x) (sym new) after;
+        registers_are = subst (λ (x : History). RegistersStandFor part kept e.registers x m) (sym new) after;
         cutter_is = λ o. record { sessions = w.new_sessions; place = w.new_place; stands = subst (λ (x : List ℕ). CutterStandsFor e.cutter (bytes ++ x) w.new_sessions w.new_place) (sym (no_rest cut more rest j (l ∙ g o))) w.stands };
         due_are = record { told = reads_of part kept bytes; all = told };
         at_rest = q;

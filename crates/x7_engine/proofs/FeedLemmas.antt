@@ -1,14 +1,14 @@
 -- Lemmas on a feed: words given to a buffer, and the bytes taken of a piece.
 use Rattle.std.proofs.Common.{◌≡◌, ◌+◌, ◌-◌, ◌≤◌, ℕ, Option, None, Some, List, [], ◌++◌, length, take, drop, replicate, refl, ap, sym, subst, ◌∙◌, append_assoc, append-nil, arith}
-use Rattle.std.proofs.lemmas.List.{drop-take, replicate-append-replicate, take-append-drop, take-take}
+use Rattle.std.proofs.Math.Seq.{take-length}
+use Rattle.std.proofs.lemmas.List.{drop-take, length-take, replicate-append-replicate, take-append-drop, take-take}
 use Rattle.x7_packets.specs.Cutting.{between}
 use Rattle.x7_part.specs.Part.{PartData}
 use Rattle.x7_engine.specs.declared.kept.Kept.{Kept}
-use Rattle.x7_engine.specs.declared.registers.Registers.{Registers}
 use Rattle.x7_engine.specs.declared.stop.Stop.{Stop}
 use Rattle.x7_engine.specs.declared.stop.Stop.TheVariants as stop
 use Rattle.x7_engine.specs.ReadBuffer.{ReadBufState, gathered, with_words}
-use Rattle.x7_engine.specs.Standing.{Answers, DeviceStandsFor, DeviceState, fed_by, taken_in, told_of, with_due}
+use Rattle.x7_engine.specs.Standing.{Answers, DeviceStandsFor, DeviceState, NoWordDue, RegistersState, fed_by, taken_in, told_of, with_due}
 use Rattle.x7_engine.specs.State.{reads_of}
 use Rattle.x7_engine.specs.Stops.{stopped_at}
 use Rattle.x7_engine.proofs.DeviceLemmas.{told_by}
@@ -24,7 +24,7 @@ pub given : (part : PartData) (kept : Kept) (d : DeviceState) (bytes : List ℕ)
     → DeviceStandsFor part kept (with_due d left) bytes × (told_of part kept (with_due d left) bytes ≡ told_of part kept d bytes ++ replicate (d.registers.due - left) d.registers.due_word)
 given part kept d bytes left l s =
     let told : List ℕ = s.due_are.told in
-    let r : Registers = d.registers in
+    let r : RegistersState = d.registers in
     let all : reads_of part kept bytes ≡ (told ++ replicate (r.due - left) r.due_word) ++ replicate left r.due_word =
     s.due_are.all ∙ ap (λ t. told ++ t) (due_parts r.due left r.due_word l) ∙ sym (append_assoc told (replicate (r.due - left) r.due_word) (replicate left r.due_word)) in (
       record {
@@ -32,7 +32,7 @@ given part kept d bytes left l s =
         part_is = s.part_is;
         taken_is = s.taken_is;
         stop_is = s.stop_is;
-        registers_are = record { words = s.registers_are.words; controls = s.registers_are.controls; progress = s.registers_are.progress; stop = s.registers_are.stop };
+        registers_are = record { places = s.registers_are.places; clock = s.registers_are.clock; words = s.registers_are.words; controls = s.registers_are.controls; progress = s.registers_are.progress; kind = s.registers_are.kind; before = s.registers_are.before; stop = s.registers_are.stop };
         cutter_is = s.cutter_is;
         due_are = record { told = told ++ replicate (r.due - left) r.due_word; all = all };
         at_rest = λ line q. omega (arith, l, s.at_rest line q);
@@ -86,3 +86,18 @@ taken_by_stop stop.Iprog n at = refl
 pub answers_stop : (part : PartData) (kept : Kept) (d : DeviceState) (bytes : List ℕ) (read : ReadBufState) (line : Stop) (at : ℕ) → DeviceStandsFor part kept d bytes → Some line ≡ d.registers.stop → Answers part kept d bytes read (fed_by line at)
 answers_stop part kept d bytes read (stop.Fault f) at s e = (f, s.stop_is ∙ ap (stopped_at (length bytes)) (sym e), s.at_rest (stop.Fault f) (sym e))
 answers_stop part kept d bytes read stop.Iprog at s e = (s.stop_is ∙ ap (stopped_at (length bytes)) (sym e), s.at_rest stop.Iprog (sym e))
+
+-- ---- named facts for the crates above
+
+-- no word is due, so all that was read out was told
+pub told_all : (part : PartData) (kept : Kept) (d : DeviceState) (bytes : List ℕ) → NoWordDue d → told_of part kept d bytes ≡ reads_of part kept bytes
+told_all part kept d bytes e = ap (λ (n : ℕ). take (length (reads_of part kept bytes) - n) (reads_of part kept bytes)) e ∙ whole (reads_of part kept bytes)
+  where
+    whole : (xs : List ℕ) → take (length xs - 0) xs ≡ xs
+    whole xs =
+        let all : length xs - 0 ≡ length xs = omega arith in
+        ap (λ (n : ℕ). take n xs) all ∙ take-length xs
+
+-- no more was told than was read out
+pub told_within : (part : PartData) (kept : Kept) (d : DeviceState) (bytes : List ℕ) → length (told_of part kept d bytes) ≤ length (reads_of part kept bytes)
+told_within part kept d bytes = omega (arith, length-take (length (reads_of part kept bytes) - d.registers.due) (reads_of part kept bytes))

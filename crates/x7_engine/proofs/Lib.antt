@@ -1,4 +1,5 @@
 pub mod BodyLemmas
+pub mod ClockLemmas
 pub mod DeviceLemmas
 pub mod FeedLemmas
 pub mod MaskLemmas
@@ -6,5 +7,4 @@ pub mod PlainLemmas
 pub mod RunningLemmas
 pub mod StartupLemmas
 pub mod StateLemmas
-pub mod StopLemmas
 pub mod TurnLemmas

@@ -1,21 +1,33 @@
 -- Lemmas on words written to a register that has no effect beside the check.
-use Rattle.std.proofs.Common.{◌≡◌, ◌==◌, ◌&&◌, ◌||◌, ◌+◌, ◌-◌, ◌<◌, ℕ, Bool, true, false, if◌then◌else◌, None, Some, [], ◌∷◌, ◌++◌, List, length, take, map, refl, sym, ap, ◌∙◌, arith}
+use Rattle.std.proofs.Common.{◌≡◌, ◌==◌, ◌&&◌, ◌||◌, ◌+◌, ◌-◌, ◌*◌, ◌%◌, ◌^◌, ◌<◌, ◌≤◌, ℕ, zero, suc, Bool, true, false, if◌then◌else◌, Option, None, Some, [], ◌∷◌, ◌++◌, List, length, take, map, replicate, refl, sym, ap, subst, ◌∙◌, append-nil, arith}
 use Rattle.std.proofs.Math.Seq.{take-length}
-use Rattle.std.proofs.lemmas.List.{map-append, take_more}
+use Rattle.std.proofs.lemmas.List.{length-map, map-append, take-map, take_more}
 use Rattle.std.proofs.lemmas.Option.{get_or_from_slice_get, slice_get_within}
 use Rattle.std.specs.List.{slice_get}
-use Rattle.x7_words.specs.Word.{word_of_bytes}
-use Rattle.x7_packets.specs.History.{History, Write, command_held, entered_all, entry, executed_by}
+use Rattle.x7_words.specs.Word.{word_of_bytes, words_of_bytes}
+use Rattle.x7_packets.specs.History.{Access, History, Placed, Write, command_held, entered_all, entry, executed_by, until}
 use Rattle.x7_packets.specs.Packet.{payload_steps}
 use Rattle.x7_packets.specs.RunningCheck.{clears}
+use Rattle.x7_packets.proofs.GrowthLemmas.{placed_within, until_placed}
 use Rattle.x7_packets.proofs.HistoryLemmas.{kept_all}
 use Rattle.x7_part.specs.Part.{PartData}
-use Rattle.x7_engine.specs.declared.controls.Controls.{Controls}
+use Rattle.x7_startup.specs.Calls.{StandsFor, progress_of}
+use Rattle.x7_startup.specs.Calls as call
+use Rattle.x7_startup.specs.Count.{Watched, WatchesFor, count_of, is_on, timer_value_of}
+use Rattle.x7_engine.specs.declared.fault.Fault.TheVariants as fault
 use Rattle.x7_engine.specs.declared.kept.Kept.{Kept}
-use Rattle.x7_engine.specs.Registers.{ghigh_after, has_effect, has_ghigh, is_clearance, is_matched, is_pending, pending_after, same_idcode, takes_shutdown, word_held}
-use Rattle.x7_engine.specs.Standing.{AreControls, IsStop}
-use Rattle.x7_engine.specs.Stops.{line_at}
-use Rattle.x7_engine.proofs.StopLemmas.{stop_more}
+use Rattle.x7_engine.specs.declared.stop.Stop.{Stop}
+use Rattle.x7_engine.specs.declared.stop.Stop.TheVariants as stop
+use Rattle.x7_engine.specs.Clock.{ClockState, IsClock, newest_place}
+use Rattle.x7_engine.specs.Kept.{is_fallback}
+use Rattle.x7_engine.specs.Registers.{ghigh_after, has_effect, has_ghigh, is_clearance, is_matched, is_pending, pending_after, same_idcode, takes_shutdown, word_held, wrote_iprog}
+use Rattle.x7_engine.specs.Standing.{AreControls, ControlsState, counted_in}
+use Rattle.x7_engine.specs.Startup.{has_ended, phase_by, startup_call, startup_calls}
+use Rattle.x7_engine.specs.State.{last_counted}
+use Rattle.x7_engine.specs.Stops.{line_at, or_else, stop_of, stopped_at, stopped_by_watchdog}
+use Rattle.x7_engine.specs.Watching.{fired_or, fires, first_firing, timer_held, watch_call, watch_calls, watched_bytes}
+use Rattle.x7_engine.proofs.ClockLemmas.{startup_entered, startup_more, stop_more_bytes, watch_entered, watch_more}
+use Rattle.x7_engine.proofs.TurnLemmas.{front_until, newest_within}
 
 either_false : (a b : Bool) → (a || b) ≡ false → (a ≡ false) × (b ≡ false)
 either_false true b e = absurd cc
@@ -63,7 +75,43 @@ pub clears_none : (h : History) (register w : ℕ) → IsPlain register → clea
 clears_none h register w p = rw (executes_none (command_held h) register w p, p.crc) refl
 
 pub line_none : (part : PartData) (kept : Kept) (h : History) (register w : ℕ) → IsPlain register → None ≡ line_at part kept h (Write register w)
-line_none part kept h register w p = rw (executes_none (command_held h) register w p, p.crc, p.fdri, p.cmd, p.ctl0, p.mfwr, p.cbc, p.idcode, p.timer) refl
+line_none part kept h register w p = rw (executes_none (command_held h) register w p, p.crc, p.fdri, p.cmd, p.ctl0, p.mfwr, p.cbc, p.idcode) refl
+
+-- the flags stay
+pub record AreFlags (idcode : ℕ) (matched pending ghigh iprog : Bool) (h : History) : Type 0 where
+  pub matched_is : matched ≡ is_matched idcode h
+  pub pending_is : pending ≡ is_pending h
+  pub ghigh_is : ghigh ≡ has_ghigh h
+  pub iprog_is : iprog ≡ wrote_iprog h
+
+-- and so they are behind a word of it
+pub flags_more : (idcode : ℕ) (matched pending ghigh iprog : Bool) (h : History) (register w place : ℕ) → IsPlain register → AreFlags idcode matched pending ghigh iprog h → AreFlags idcode matched pending ghigh iprog (entry (Write register w) place ∷ h)
+flags_more idcode matched pending ghigh iprog h register w place p s =
+    let none : executed_by (command_held h) (Write register w) ≡ None = executes_none (command_held h) register w p in
+    let cleared : is_clearance h (Write register w) ≡ false = rw (none, p.crc) refl in
+    record {
+      matched_is = s.matched_is ∙ sym (ap (λ b. b && same_idcode idcode w || is_matched idcode h) p.idcode);
+      pending_is = s.pending_is ∙ sym (ap (λ o. pending_after o (is_clearance h (Write register w)) (is_pending h)) none ∙ ap (λ b. pending_after None b (is_pending h)) cleared);
+      ghigh_is = s.ghigh_is ∙ sym (ap (λ o. ghigh_after o (takes_shutdown h (Write register w)) (has_ghigh h)) none ∙ ap (λ b. ghigh_after None (b && is_pending h) (has_ghigh h)) cleared);
+      iprog_is = s.iprog_is ∙ sym (ap (λ b. b && w % 2 ^ 5 == 15 || wrote_iprog h) p.cmd);
+    }
+
+-- a read or a word that is no header asks nothing of it
+pub clock_other : (part : PartData) (kept : Kept) (c : ClockState) (h : History) (access : Access) (place : ℕ) → startup_call h access ≡ [] → watch_call h access ≡ [] → IsClock part kept c h place → IsClock part kept c (entry access place ∷ h) place
+clock_other part kept c h access place start watch s =
+    let calls : startup_calls (entry access place ∷ h) place ≡ startup_calls h place = startup_entered h access place ∙ ap (λ t. startup_calls h place ++ t) start ∙ append-nil (startup_calls h place) in
+    let watched : watch_calls part (entry access place ∷ h) place ≡ watch_calls part h place = watch_entered part h access place ∙ ap (λ t. watch_calls part h place ++ t) watch ∙ append-nil (watch_calls part h place) in
+    record {
+      startup = subst (λ t. StandsFor part.lock part.matched c.startup t) (sym calls) s.startup;
+      watchdog = subst (λ t. WatchesFor (is_fallback kept.kind) kept.timer c.watchdog t) (sym watched) s.watchdog;
+    }
+
+-- its words ask nothing of the clock
+pub clock_plain : (part : PartData) (kept : Kept) (c : ClockState) (h : History) (register w place : ℕ) → IsPlain register → IsClock part kept c h place → IsClock part kept c (entry (Write register w) place ∷ h) place
+clock_plain part kept c h register w place p s =
+    let start : startup_call h (Write register w) ≡ [] = rw (executes_none (command_held h) register w p, p.crc) refl in
+    let watch : watch_call h (Write register w) ≡ [] = rw (executes_none (command_held h) register w p, p.timer) refl in
+    clock_other part kept c h (Write register w) place start watch s
 
 -- the last of the words is the one that is held
 pub word_held-all : (kept : Kept) (r register n last : ℕ) (front : List ℕ) (h : History) → word_held kept r (entered_all n (payload_steps register (front ++ last ∷ [])) h) ≡ (if register == r then last else word_held kept r h)
@@ -90,31 +138,122 @@ words_last chunks last w e f =
     ∙ ap (λ x. map word_of_bytes (take (length chunks - 1) chunks) ++ x ∷ []) (sym f)
 
 -- registers under MASK stay
-pub controls_stay : (d : Controls) (register n : ℕ) (ws : List ℕ) (h : History) → IsPlain register → AreControls d h → AreControls d (entered_all n (payload_steps register ws) h)
+pub controls_stay : (d : ControlsState) (register n : ℕ) (ws : List ℕ) (h : History) → IsPlain register → AreControls d h → AreControls d (entered_all n (payload_steps register ws) h)
 controls_stay d register n ws h p s =
     kept_all (AreControls d) register (λ (h : History) (w place : ℕ) (s : AreControls d h). record { ctl0 = rw p.ctl0 s.ctl0; ctl1 = rw p.ctl1 s.ctl1 }) n ws h s
 
--- the flags stay
-pub record AreFlags (idcode : ℕ) (matched pending ghigh : Bool) (h : History) : Type 0 where
-  pub matched_is : matched ≡ is_matched idcode h
-  pub pending_is : pending ≡ is_pending h
-  pub ghigh_is : ghigh ≡ has_ghigh h
+-- the flags stay behind all of them
+pub flags_stay : (idcode : ℕ) (matched pending ghigh iprog : Bool) (register n : ℕ) (ws : List ℕ) (h : History) → IsPlain register → AreFlags idcode matched pending ghigh iprog h → AreFlags idcode matched pending ghigh iprog (entered_all n (payload_steps register ws) h)
+flags_stay idcode matched pending ghigh iprog register n ws h p s =
+    kept_all (AreFlags idcode matched pending ghigh iprog) register (λ (h : History) (w place : ℕ) (s : AreFlags idcode matched pending ghigh iprog h). flags_more idcode matched pending ghigh iprog h register w place p s) n ws h s
 
-flags_more : (idcode : ℕ) (matched pending ghigh : Bool) (h : History) (register w place : ℕ) → IsPlain register → AreFlags idcode matched pending ghigh h → AreFlags idcode matched pending ghigh (entry (Write register w) place ∷ h)
-flags_more idcode matched pending ghigh h register w place p s =
-    let none : executed_by (command_held h) (Write register w) ≡ None = executes_none (command_held h) register w p in
-    let cleared : is_clearance h (Write register w) ≡ false = rw (none, p.crc) refl in
+-- ---- its words behind bytes that the clock took already
+
+plain_calls : (h : History) (register w : ℕ) → IsPlain register → startup_call h (Write register w) ≡ []
+plain_calls h register w p = rw (executes_none (command_held h) register w p, p.crc) refl
+
+plain_watches : (h : History) (register w : ℕ) → IsPlain register → watch_call h (Write register w) ≡ []
+plain_watches h register w p = rw (executes_none (command_held h) register w p, p.timer) refl
+
+plain_startup : (h : History) (register w place m : ℕ) → IsPlain register → newest_place h ≤ place → place ≤ m → startup_calls (entry (Write register w) place ∷ h) m ≡ startup_calls h m
+plain_startup h register w place m p l k =
+    let sum : place + (m - place) ≡ m = omega (arith, k) in
+    ap (λ t. (startup_calls h place ++ t) ++ replicate (m - place) call.Byte) (plain_calls h register w p)
+    ∙ ap (λ t. t ++ replicate (m - place) call.Byte) (append-nil (startup_calls h place))
+    ∙ sym (startup_more h place (m - place) l)
+    ∙ ap (startup_calls h) sum
+
+plain_ended : (part : PartData) (h : History) (register w place m : ℕ) → IsPlain register → newest_place h ≤ place → place ≤ m → has_ended part (entry (Write register w) place ∷ h) m ≡ has_ended part h m
+plain_ended part h register w place m p l k = ap (λ t. phase_by part (progress_of t) == 7) (plain_startup h register w place m p l k)
+
+plain_watched : (part : PartData) (h : History) (register w place count : ℕ) → IsPlain register → newest_place h ≤ place → watched_bytes part (entry (Write register w) place ∷ h) place count ≡ watched_bytes part h place count
+plain_watched part h register w place zero p l = refl
+plain_watched part h register w place (suc count) p l =
+    ap (λ t. t ++ Watched (has_ended part (entry (Write register w) place ∷ h) (place + count + 1)) ∷ []) (plain_watched part h register w place count p l)
+    ∙ ap (λ (b : Bool). watched_bytes part h place count ++ Watched b ∷ []) (plain_ended part h register w place (place + count + 1) p l (omega arith))
+
+plain_watch : (part : PartData) (h : History) (register w place m : ℕ) → IsPlain register → newest_place h ≤ place → place ≤ m → watch_calls part (entry (Write register w) place ∷ h) m ≡ watch_calls part h m
+plain_watch part h register w place m p l k =
+    let sum : place + (m - place) ≡ m = omega (arith, k) in
+    ap (λ t. (watch_calls part h place ++ t) ++ watched_bytes part (entry (Write register w) place ∷ h) place (m - place)) (plain_watches h register w p)
+    ∙ ap (λ t. t ++ watched_bytes part (entry (Write register w) place ∷ h) place (m - place)) (append-nil (watch_calls part h place))
+    ∙ ap (λ t. watch_calls part h place ++ t) (plain_watched part h register w place (m - place) p l)
+    ∙ sym (watch_more part h place (m - place) l)
+    ∙ ap (watch_calls part h) sum
+
+plain_fires : (part : PartData) (kept : Kept) (h : History) (register w place m : ℕ) → IsPlain register → newest_place h ≤ place → place ≤ m → fires part kept (entry (Write register w) place ∷ h) m ≡ fires part kept h m
+plain_fires part kept h register w place m p l k =
+    let timer : timer_held kept (entry (Write register w) place ∷ h) ≡ timer_held kept h = rw p.timer refl in
+    ap (λ (t : ℕ). is_on (is_fallback kept.kind) t (has_ended part (entry (Write register w) place ∷ h) m) && count_of (is_fallback kept.kind) kept.timer (watch_calls part (entry (Write register w) place ∷ h) m) == timer_value_of t * 4) timer
+    ∙ ap (λ (b : Bool). is_on (is_fallback kept.kind) (timer_held kept h) b && count_of (is_fallback kept.kind) kept.timer (watch_calls part (entry (Write register w) place ∷ h) m) == timer_value_of (timer_held kept h) * 4) (plain_ended part h register w place m p l k)
+    ∙ ap (λ t. is_on (is_fallback kept.kind) (timer_held kept h) (has_ended part h m) && count_of (is_fallback kept.kind) kept.timer t == timer_value_of (timer_held kept h) * 4) (plain_watch part h register w place m p l k)
+
+plain_firing : (part : PartData) (kept : Kept) (h : History) (register w place count : ℕ) → IsPlain register → newest_place h ≤ place → first_firing part kept (entry (Write register w) place ∷ h) place count ≡ first_firing part kept h place count
+plain_firing part kept h register w place zero p l = refl
+plain_firing part kept h register w place (suc count) p l =
+    ap (λ (o : Option ℕ). fired_or o (fires part kept (entry (Write register w) place ∷ h) (place + count + 1)) (place + count + 1)) (plain_firing part kept h register w place count p l)
+    ∙ ap (λ (b : Bool). fired_or (first_firing part kept h place count) b (place + count + 1)) (plain_fires part kept h register w place (place + count + 1) p l (omega arith))
+
+plain_stop : (part : PartData) (kept : Kept) (h : History) (register w place m : ℕ) → IsPlain register → newest_place h ≤ place → place ≤ m → stop_of part kept (entry (Write register w) place ∷ h) m ≡ stop_of part kept h m
+plain_stop part kept h register w place m p l k =
+    let sum : place + (m - place) ≡ m = omega (arith, k) in
+    ap (λ (o : Option Stop). or_else (stop_of part kept h place) (or_else (stopped_at place o) (stopped_by_watchdog (first_firing part kept (entry (Write register w) place ∷ h) place (m - place))))) (sym (line_none part kept h register w p))
+    ∙ ap (λ (o : Option ℕ). or_else (stop_of part kept h place) (stopped_by_watchdog o)) (plain_firing part kept h register w place (m - place) p l)
+    ∙ sym (stop_more_bytes part kept h place (m - place) l)
+    ∙ ap (stop_of part kept h) sum
+
+-- the clock and the stop after m bytes are those of a history
+pub record Clocked (part : PartData) (kept : Kept) (c : ClockState) (d : Option Stop) (h : History) (n m : ℕ) : Type 0 where
+  pub places : Placed n h
+  pub clock : IsClock part kept c h m
+  pub stop : stop_of part kept h m ≡ stopped_at m d
+
+clocked_more : (part : PartData) (kept : Kept) (c : ClockState) (d : Option Stop) (h : History) (n m register w : ℕ) → IsPlain register → n + 4 ≤ m → Clocked part kept c d h n m → Clocked part kept c d (entry (Write register w) (n + 4) ∷ h) (n + 4) m
+clocked_more part kept c d h n m register w p l s =
+    let before : newest_place h ≤ n + 4 = omega (arith, newest_within n h s.places) in
     record {
-      matched_is = s.matched_is ∙ sym (ap (λ b. b && same_idcode idcode w || is_matched idcode h) p.idcode);
-      pending_is = s.pending_is ∙ sym (ap (λ o. pending_after o (is_clearance h (Write register w)) (is_pending h)) none ∙ ap (λ b. pending_after None b (is_pending h)) cleared);
-      ghigh_is = s.ghigh_is ∙ sym (ap (λ o. ghigh_after o (takes_shutdown h (Write register w)) (has_ghigh h)) none ∙ ap (λ b. ghigh_after None (b && is_pending h) (has_ghigh h)) cleared);
+      places = (omega arith, omega arith, placed_within n (n + 4 - 1) h (omega arith) s.places);
+      clock = record {
+        startup = subst (λ t. StandsFor part.lock part.matched c.startup t) (sym (plain_startup h register w (n + 4) m p before l)) s.clock.startup;
+        watchdog = subst (λ t. WatchesFor (is_fallback kept.kind) kept.timer c.watchdog t) (sym (plain_watch part h register w (n + 4) m p before l)) s.clock.watchdog;
+      };
+      stop = plain_stop part kept h register w (n + 4) m p before l ∙ s.stop;
     }
 
-pub flags_stay : (idcode : ℕ) (matched pending ghigh : Bool) (register n : ℕ) (ws : List ℕ) (h : History) → IsPlain register → AreFlags idcode matched pending ghigh h → AreFlags idcode matched pending ghigh (entered_all n (payload_steps register ws) h)
-flags_stay idcode matched pending ghigh register n ws h p s =
-    kept_all (AreFlags idcode matched pending ghigh) register (λ (h : History) (w place : ℕ) (s : AreFlags idcode matched pending ghigh h). flags_more idcode matched pending ghigh h register w place p s) n ws h s
+pub clocked_all : (part : PartData) (kept : Kept) (c : ClockState) (d : Option Stop) (register n m : ℕ) (ws : List ℕ) (h : History) → IsPlain register → n + 4 * length ws ≤ m → Clocked part kept c d h n m
+    → Clocked part kept c d (entered_all n (payload_steps register ws) h) (n + 4 * length ws) m
+clocked_all part kept c d register n m [] h p l s = let same : n ≡ n + 0 = omega arith in subst (λ (k : ℕ). Clocked part kept c d h k m) same s
+clocked_all part kept c d register n m (w ∷ ws) h p l s =
+    let place : n + 4 + 4 * length ws ≡ n + 4 * length (w ∷ ws) = omega arith in
+    subst (λ (k : ℕ). Clocked part kept c d (entered_all (n + 4) (payload_steps register ws) (entry (Write register w) (n + 4) ∷ h)) k m) place
+    (clocked_all part kept c d register (n + 4) m ws (entry (Write register w) (n + 4) ∷ h) p (omega (arith, l)) (clocked_more part kept c d h n m register w p (omega (arith, l)) s))
 
--- no line stops the device
-pub stop_stays : (part : PartData) (kept : Kept) (register n : ℕ) (ws : List ℕ) (h : History) → IsPlain register → IsStop part kept None h → IsStop part kept None (entered_all n (payload_steps register ws) h)
-stop_stays part kept register n ws h p s =
-    kept_all (IsStop part kept None) register (λ (h : History) (w place : ℕ) (s : IsStop part kept None h). stop_more part kept h (Write register w) place None s (line_none part kept h register w p)) n ws h s
+-- the accesses of the words that end before a byte
+pub front_all : (n k m : ℕ) (register : ℕ) (ws : List ℕ) (h : History) → k ≤ length ws → n + 4 * k ≤ m → m < n + 4 * k + 4 → Placed (n + 4 * k) (entered_all n (payload_steps register (take k ws)) h)
+    → until m (entered_all n (payload_steps register ws) h) ≡ entered_all n (payload_steps register (take k ws)) h
+front_all n k m register ws h l a b p =
+    let steps : length (payload_steps register ws) ≡ length ws = length-map ws _ in
+    front_until n k m (payload_steps register ws) h (omega (arith, steps, l)) b
+    ∙ ap (λ t. until m (entered_all n t h)) (take-map _ k ws)
+    ∙ until_placed m (entered_all n (payload_steps register (take k ws)) h) (placed_within (n + 4 * k) m (entered_all n (payload_steps register (take k ws)) h) a p)
+
+-- the words of the first bytes
+pub words_front : (k : ℕ) (bytes : List ℕ) → words_of_bytes (take (k * 4) bytes) ≡ take k (words_of_bytes bytes)
+words_front zero bytes = refl
+words_front (suc k) bytes = ap (λ (n : ℕ). words_of_bytes (take n bytes)) next ∙ by bytes (words_front k)
+  where
+    next : suc k * 4 ≡ suc (suc (suc (suc (k * 4))))
+    next = omega arith
+    by : (bytes : List ℕ) → ((bytes : List ℕ) → words_of_bytes (take (k * 4) bytes) ≡ take k (words_of_bytes bytes)) → words_of_bytes (take (suc (suc (suc (suc (k * 4))))) bytes) ≡ take (suc k) (words_of_bytes bytes)
+    by [] f = refl
+    by (a ∷ []) f = refl
+    by (a ∷ b ∷ []) f = refl
+    by (a ∷ b ∷ c ∷ []) f = refl
+    by (a ∷ b ∷ c ∷ d ∷ rest) f = ap (λ t. word_of_bytes (a ∷ b ∷ c ∷ d ∷ []) ∷ t) (f rest)
+
+-- the byte up to which words count, behind some bytes
+pub counted_behind : (d : Option Stop) (n count left : ℕ) → ((line : Stop) → d ≡ Some line → (line ≡ stop.Fault fault.Watchdog) × (left < count)) → counted_in d (n + (count - left)) ≡ n + counted_in d (count - left)
+counted_behind None n count left f = refl
+counted_behind (Some line) n count left f =
+    let w : (line ≡ stop.Fault fault.Watchdog) × (left < count) = f line refl in
+    ap (λ (l : Stop). last_counted l (n + (count - left))) w.0 ∙ omega (arith, w.1) ∙ sym (ap (λ (l : Stop). n + last_counted l (count - left)) w.0)

@@ -8,18 +8,15 @@ use Rattle.x7_packets.specs.History.{AllBehind, History, Placed, history_of, unt
 use Rattle.x7_packets.specs.Reading.{Place, is_synced}
 use Rattle.x7_packets.proofs.GrowthLemmas.{IsLater, newer_of, placed_of, placed_within}
 use Rattle.x7_part.specs.Part.{PartData}
-use Rattle.x7_startup.specs.Calls.{NotBegun}
 use Rattle.x7_engine.specs.declared.kept.Kept.{Kept}
 use Rattle.x7_engine.specs.declared.fault.Fault.TheVariants as fault
 use Rattle.x7_engine.specs.declared.stop.Stop.{Stop}
 use Rattle.x7_engine.specs.declared.stop.Stop.TheVariants as stop
 use Rattle.x7_engine.specs.Standing.{DeviceStandsFor, DeviceState}
-use Rattle.x7_engine.specs.Startup.{startup_progress}
 use Rattle.x7_engine.specs.State.{history_by, history_taken, last_counted, line_by, reads_of, state_by, state_of, stop_in, taken_by, taken_of}
 use Rattle.x7_engine.specs.Stops.{Stopped, line_at, or_else, stop_of, stopped_at, stopped_by_watchdog}
 use Rattle.x7_engine.specs.Watching.{fired_or, fires, first_firing}
 use Rattle.x7_engine.specs.Values.{read_out}
-use Rattle.x7_engine.proofs.StartupLemmas.{not_begun}
 
 line_at_end : (n : ℕ) (d : Option Stop) → line_by (stopped_at n d) ≡ d
 line_at_end n None = refl
@@ -40,10 +37,6 @@ taken_is part kept d bytes s = ap (λ (o : Option Stopped). taken_by o (length b
 -- a device that goes on is in a session where its bytes end in one
 pub synced_is : (c : Bool) (place : Place) (bytes : List ℕ) → c ≡ is_synced place → place ≡ (reading_of bytes).place → c ≡ is_synced (reading_of bytes).place
 synced_is c place bytes e f = e ∙ ap is_synced f
-
--- startup has not begun
-pub progress_is : (part : PartData) (kept : Kept) (d : DeviceState) (bytes : List ℕ) (n : ℕ) → DeviceStandsFor part kept d bytes → startup_progress (history_taken part kept bytes) n ≡ NotBegun
-progress_is part kept d bytes n s = not_begun (history_taken part kept bytes) n s.registers_are.stop.before
 
 -- ---- a stop is final
 
@@ -98,7 +91,7 @@ firing_by_sooner from count place None true f g = let p : from + count + 1 ≡ p
 firing_by_sooner from count place None false f g = absurd cc
 firing_by_sooner from count place (Some q) b f g = ((f g).0, omega (arith, (f g).1))
 
-firing_within : (part : PartData) (kept : Kept) (h : History) (from count place : ℕ) → first_firing part kept h from count ≡ Some place → (from < place) × (place ≤ from + count)
+pub firing_within : (part : PartData) (kept : Kept) (h : History) (from count place : ℕ) → first_firing part kept h from count ≡ Some place → (from < place) × (place ≤ from + count)
 firing_within part kept h from zero place e = absurd cc
 firing_within part kept h from (suc count) place e =
     firing_by_sooner from count place (first_firing part kept h from count) (fires part kept h (from + count + 1)) (firing_within part kept h from count place) e

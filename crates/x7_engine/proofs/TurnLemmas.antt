@@ -1,28 +1,29 @@
--- Lemmas on one run more of a stream: the history, the place of a stop in it, and the words read out.
-use Rattle.std.proofs.Common.{◌≡◌, ◌==◌, ◌+◌, ◌-◌, ◌*◌, ◌/◌, ◌%◌, ◌<◌, ◌≤◌, ◌⊎◌, inl, inr, ℕ, Bool, true, false, if◌then◌else◌, Option, None, Some, List, [], ◌∷◌, ◌++◌, length, take, drop, refl, ap, sym, subst, ◌∙◌, append_assoc, append-nil, arith, length-append}
-use Rattle.std.proofs.Math.Seq.{take-length}
-use Rattle.std.proofs.lemmas.Bool.{lt-ltb}
-use Rattle.std.proofs.lemmas.List.{length-map, length-take-le, take-append-drop, take-map}
-use Rattle.std.specs.Borrow.{Bor}
-use Rattle.x7_words.specs.Word.{AreBytes, words_of_bytes}
-use Rattle.x7_packets.specs.declared.cutter.Cut.{Cut}
-use Rattle.x7_packets.specs.declared.cutter.Cut.TheVariants.{Body, Head, Need, Skip, Sync, Word}
-use Rattle.x7_packets.specs.declared.cutter.Mode.{Mode}
-use Rattle.x7_packets.specs.declared.cutter.Mode.TheVariants as mode
+-- Lemmas on one run more of a stream: the accesses up to a byte, and the stop at it.
+use Rattle.std.proofs.Common.{◌≡◌, ◌==◌, ◌+◌, ◌-◌, ◌*◌, ◌<◌, ◌≤◌, ◌⊎◌, inl, inr, ℕ, Bool, true, false, if◌then◌else◌, Option, None, Some, List, [], ◌∷◌, ◌++◌, length, take, drop, replicate, refl, ap, sym, subst, ◌∙◌, append-nil, arith}
+use Rattle.std.specs.Option.{is_some}
+use Rattle.std.specs.Prelude.{nat_lt}
+use Rattle.std.proofs.lemmas.Bool.{le-ltb, lt-ltb}
+use Rattle.std.proofs.lemmas.Bool.Decides.{nat_tests}
+use Rattle.std.proofs.lemmas.List.{length-take-le, take-append-drop}
 use Rattle.x7_packets.specs.declared.header.Step.{Step}
 use Rattle.x7_packets.specs.declared.header.Step.TheVariants as step
-use Rattle.x7_packets.specs.Cutting.{AtPlace, CutterState, CutterStandsFor, IsLent, IsRun, Longer, Went, run_bytes, run_steps}
-use Rattle.x7_packets.specs.History.{Bad, History, Placed, Read, Write, entered, entered_all, entry, history_of, next_word, until}
-use Rattle.x7_packets.specs.Packet.{Packet, payload_steps}
-use Rattle.x7_packets.specs.Reading.{Place, Searching, Session, Synced, tail_of}
-use Rattle.x7_packets.proofs.GrowthLemmas.{front_of, placed_of, placed_within, until_placed}
-use Rattle.x7_packets.proofs.HistoryLemmas.{cut_enters, entered_all-append, next_word-is, words_end}
+use Rattle.x7_packets.specs.History.{Access, Bad, History, Placed, Read, Write, entered, entered_all, entry, until}
+use Rattle.x7_packets.specs.Packet.{payload_steps}
+use Rattle.x7_packets.proofs.GrowthLemmas.{placed_within, until_placed}
+use Rattle.x7_packets.proofs.HistoryLemmas.{entered_all-append}
 use Rattle.x7_part.specs.Part.{PartData}
+use Rattle.x7_engine.specs.declared.fault.Fault.TheVariants as fault
 use Rattle.x7_engine.specs.declared.kept.Kept.{Kept}
 use Rattle.x7_engine.specs.declared.stop.Stop.{Stop}
-use Rattle.x7_engine.specs.Standing.{IsStop, NotLent, newest_place, steps_without}
-use Rattle.x7_engine.specs.Stops.{stop_of, stopped_at}
-use Rattle.x7_engine.proofs.BodyLemmas.{length_of_words}
+use Rattle.x7_engine.specs.declared.stop.Stop.TheVariants as stop
+use Rattle.x7_engine.specs.Clock.{ClockState, IsClock, Ticks, newest_place}
+use Rattle.x7_engine.specs.Standing.{IsNext, RegistersStandFor, RegistersState, counted_in}
+use Rattle.x7_engine.specs.State.{history_by, last_counted}
+use Rattle.x7_engine.specs.Stops.{Stopped, line_at, or_else, stop_of, stopped_at, stopped_by_watchdog}
+use Rattle.x7_engine.specs.Values.{read_out}
+use Rattle.x7_engine.specs.Watching.{first_firing}
+use Rattle.x7_engine.proofs.ClockLemmas.{firing_more, stop_more_bytes}
+use Rattle.x7_engine.proofs.StateLemmas.{firing_within}
 
 -- ---- accesses behind a place
 
@@ -35,167 +36,215 @@ step_behind m p step.Filler h l = refl
 step_behind m p step.Nop h l = refl
 step_behind m p (step.Open r n) h l = refl
 
-steps_behind : (m p : ℕ) (ss : List (ℕ × Step)) (h : History) → m ≤ p → until m (entered_all p ss h) ≡ until m h
+steps_behind : (m p : ℕ) (ss : List (ℕ × Step)) (h : History) → m < p + 4 → until m (entered_all p ss h) ≡ until m h
 steps_behind m p [] h l = refl
-steps_behind m p (s ∷ ss) h l = steps_behind m (p + 4) ss (entered (p + 4) s.1 h) (omega arith) ∙ step_behind m (p + 4) s.1 h (omega arith)
+steps_behind m p (s ∷ ss) h l = steps_behind m (p + 4) ss (entered (p + 4) s.1 h) (omega (arith, l)) ∙ step_behind m (p + 4) s.1 h l
 
-entry_placed : (n : ℕ) (h : History) → Placed n h → Placed (n + 4 - 1) h
-entry_placed n h p = placed_within n (n + 4 - 1) h (omega arith) p
-
-step_placed : (n : ℕ) (s : Step) (h : History) → Placed n h → Placed (n + 4) (entered (n + 4) s h)
-step_placed n (step.Payload r w) h p = (omega arith, omega arith, entry_placed n h p)
-step_placed n (step.Read r c) h p = elim (c == 0) as (λ b. Placed (n + 4) (if b then h else entry (Read r c) (n + 4) ∷ h)) [ true ↦ placed_within n (n + 4) h (omega arith) p | false ↦ (omega arith, omega arith, entry_placed n h p) ]
-step_placed n (step.Bad w) h p = (omega arith, omega arith, entry_placed n h p)
-step_placed n step.Filler h p = placed_within n (n + 4) h (omega arith) p
-step_placed n step.Nop h p = placed_within n (n + 4) h (omega arith) p
-step_placed n (step.Open r c) h p = placed_within n (n + 4) h (omega arith) p
-
-steps_placed : (n : ℕ) (ss : List (ℕ × Step)) (h : History) → Placed n h → Placed (n + 4 * length ss) (entered_all n ss h)
-steps_placed n [] h p = subst (λ (k : ℕ). Placed k h) (omega arith) p
-steps_placed n (s ∷ ss) h p = subst (λ (k : ℕ). Placed k (entered_all (n + 4) ss (entered (n + 4) s.1 h))) (omega arith) (steps_placed (n + 4) ss (entered (n + 4) s.1 h) (step_placed n s.1 h p))
-
--- the accesses of the first k of some words are those of all that end by the k-th word
-front_steps : (n k m : ℕ) (ss : List (ℕ × Step)) (h : History) → Placed n h → k ≤ length ss → m ≡ n + 4 * k → until m (entered_all n ss h) ≡ entered_all n (take k ss) h
-front_steps n k m ss h p l e =
+-- the accesses of some words up to a byte before the end of the k-th word behind them
+pub front_until : (n k m : ℕ) (ss : List (ℕ × Step)) (h : History) → k ≤ length ss → m < n + 4 * k + 4 → until m (entered_all n ss h) ≡ until m (entered_all n (take k ss) h)
+front_until n k m ss h l e =
     let count : length (take k ss) ≡ k = length-take-le k ss l in
-    let at : n + 4 * length (take k ss) ≡ m = omega arith in
     ap (λ t. until m (entered_all n t h)) (sym (take-append-drop k ss))
     ∙ ap (until m) (entered_all-append n (take k ss) (drop k ss) h)
-    ∙ steps_behind m (n + 4 * length (take k ss)) (drop k ss) (entered_all n (take k ss) h) (omega arith)
-    ∙ until_placed m (entered_all n (take k ss) h) (subst (λ (x : ℕ). Placed x (entered_all n (take k ss) h)) at (steps_placed n (take k ss) h p))
+    ∙ steps_behind m (n + 4 * length (take k ss)) (drop k ss) (entered_all n (take k ss) h) (omega (arith, count, e))
 
--- ---- the history of a run, of which the last bytes may not be taken
+-- up to a byte before it, a word more is none
+pub step_until : (n m p : ℕ) (s : Step) (h : History) → Placed n h → n ≤ m → m < p → until m (entered p s h) ≡ h
+step_until n m p s h a l e = step_behind m p s h e ∙ until_placed m h (placed_within n m h l a)
 
-without_none : (left : ℕ) (run : Cut) → left ≡ 0 → steps_without left run ≡ run_steps run
-without_none left run e =
-    let all : length (run_steps run) - left / 4 ≡ length (run_steps run) = omega arith in
-    ap (λ (k : ℕ). take k (run_steps run)) all ∙ take-length (run_steps run)
+pub until_until : (k m : ℕ) (h : History) → k ≤ m → until k (until m h) ≡ until k h
+until_until k m [] l = refl
+until_until k m (e ∷ h) l = by (until_until k m h l) (nat_lt m e.place) refl
+  where
+    by : until k (until m h) ≡ until k h → (b : Bool) → nat_lt m e.place ≡ b → until k (if b then until m h else e ∷ h) ≡ until k (e ∷ h)
+    by i true f =
+        let behind : m < e.place = grind (arith, nat_tests, f) in
+        i ∙ sym (ap (λ (b : Bool). if b then until k h else e ∷ h) (lt-ltb k e.place (omega (arith, l, behind))))
+    by i false f = refl
+
+-- ---- the stop at the last byte taken
+
+counted_least : (line : Stop) (place : ℕ) → last_counted line place ≤ place
+counted_least (stop.Fault (fault.Packet w)) place = omega arith
+counted_least (stop.Fault (fault.Id want got)) place = omega arith
+counted_least (stop.Fault (fault.Crc want got)) place = omega arith
+counted_least (stop.Fault (fault.Address far)) place = omega arith
+counted_least (stop.Fault fault.Overrun) place = omega arith
+counted_least (stop.Fault fault.Multi) place = omega arith
+counted_least (stop.Fault fault.Encrypted) place = omega arith
+counted_least (stop.Fault fault.Watchdog) place = omega arith
+counted_least (stop.Fault fault.Unbuilt) place = omega arith
+counted_least stop.Iprog place = omega arith
+
+pub counted_within : (d : Option Stop) (n : ℕ) → counted_in d n ≤ n
+counted_within None n = omega arith
+counted_within (Some line) n = counted_least line n
+
+-- the history taken, where the stop comes at the last byte
+pub history_until : (d : Option Stop) (m : ℕ) (h : History) → history_by (stopped_at m d) (until m h) ≡ until (counted_in d m) h
+history_until None m h = refl
+history_until (Some line) m h = until_until (last_counted line m) m h (counted_least line m)
+
+-- the access at the last byte doesn't matter for a stop that comes before it
+stop_at_last : (part : PartData) (kept : Kept) (k m : ℕ) (h : History) (s : Stopped) → Placed k h → stop_of part kept (until (m - 1) h) m ≡ Some s → stop_of part kept (until m h) m ≡ Some s
+stop_at_last part kept k m [] s p e = e
+stop_at_last part kept k m (x ∷ h) s p e = by (λ q. stop_at_last part kept (x.place - 1) m h s p.2 q) (nat_lt m x.place) (nat_lt (m - 1) x.place) refl refl e
+  where
+    by : (stop_of part kept (until (m - 1) h) m ≡ Some s → stop_of part kept (until m h) m ≡ Some s) → (b c : Bool) → nat_lt m x.place ≡ b → nat_lt (m - 1) x.place ≡ c → stop_of part kept (if c then until (m - 1) h else x ∷ h) m ≡ Some s → stop_of part kept (if b then until m h else x ∷ h) m ≡ Some s
+    by i true true f g e = i e
+    by i true false f g e = absurd (let a : m < x.place = grind (arith, nat_tests, f) in let b : x.place ≤ m - 1 = grind (arith, nat_tests, g) in omega (arith, a, b))
+    by i false false f g e = e
+    by i false true f g e =
+        let a : x.place ≤ m = grind (arith, nat_tests, f) in
+        let b : m - 1 < x.place = grind (arith, nat_tests, g) in
+        let here : m ≡ x.place = omega (arith, a, b, p.0) in
+        let all : until (m - 1) h ≡ h = until_placed (m - 1) h (placed_within (x.place - 1) (m - 1) h (omega (arith, here)) p.2) in
+        let before : stop_of part kept h x.place ≡ Some s = ap (stop_of part kept h) (sym here) ∙ sym (ap (λ (t : History). stop_of part kept t m) all) ∙ e in
+        ap (λ (o : Option Stopped). or_else o (or_else (stopped_at x.place (line_at part kept h x.access)) (stopped_by_watchdog (first_firing part kept (x ∷ h) x.place (m - x.place))))) before
+
+pub stop_until : (part : PartData) (kept : Kept) (d : Option Stop) (k m : ℕ) (h : History) → Placed k h → stop_of part kept (until (counted_in d m) h) m ≡ stopped_at m d → stop_of part kept (until m h) m ≡ stopped_at m d
+stop_until part kept None k m h p e = e
+stop_until part kept (Some (stop.Fault (fault.Packet w))) k m h p e = e
+stop_until part kept (Some (stop.Fault (fault.Id want got))) k m h p e = e
+stop_until part kept (Some (stop.Fault (fault.Crc want got))) k m h p e = e
+stop_until part kept (Some (stop.Fault (fault.Address far))) k m h p e = e
+stop_until part kept (Some (stop.Fault fault.Overrun)) k m h p e = e
+stop_until part kept (Some (stop.Fault fault.Multi)) k m h p e = e
+stop_until part kept (Some (stop.Fault fault.Encrypted)) k m h p e = e
+stop_until part kept (Some (stop.Fault fault.Watchdog)) k m h p e = stop_at_last part kept k m h (record { place = m; line = stop.Fault fault.Watchdog }) p e
+stop_until part kept (Some (stop.Fault fault.Unbuilt)) k m h p e = e
+stop_until part kept (Some stop.Iprog) k m h p e = e
+
+-- ---- registers, bytes more
+
+pub newest_within : (n : ℕ) (h : History) → Placed n h → newest_place h ≤ n
+newest_within n [] p = omega arith
+newest_within n (e ∷ h) p = p.1
+
+-- bytes that fire no watchdog
+pub ticked : (part : PartData) (kept : Kept) (d : RegistersState) (clock : ClockState) (h : History) (n count m : ℕ) → m ≡ n + count → d.stop ≡ None → RegistersStandFor part kept d h n → Ticks part kept clock h n count None
+    → RegistersStandFor part kept (record d { clock = clock }) h m
+ticked part kept d clock h n count m i e s t = subst (λ (x : ℕ). RegistersStandFor part kept (record d { clock = clock }) h x) (sym i) record {
+  places = placed_within n (n + count) h (omega arith) s.places;
+  words = s.words;
+  controls = s.controls;
+  progress = s.progress;
+  kind = s.kind;
+  before = s.before;
+  clock = t.0;
+  stop =
+      stop_more_bytes part kept h n count (newest_within n h s.places)
+      ∙ ap (λ (o : Option Stopped). or_else o (stopped_by_watchdog (first_firing part kept h n count))) (s.stop ∙ ap (stopped_at n) e)
+      ∙ ap stopped_by_watchdog t.1
+      ∙ sym (ap (stopped_at (n + count)) e);
+}
+
+-- the firing is that of the bytes up to it
+some_some : (o p : Option ℕ) (k : ℕ) → or_else o p ≡ Some k → (o ≡ Some k) ⊎ ((o ≡ None) × (p ≡ Some k))
+some_some None p k e = inr (refl, e)
+some_some (Some x) p k e = inl e
+
+fires_last : (part : PartData) (kept : Kept) (h : History) (n count k : ℕ) → 0 < k → k ≤ count → first_firing part kept h n count ≡ Some (n + k) → first_firing part kept h n k ≡ Some (n + k)
+fires_last part kept h n count k a b e =
+    let sum : k + (count - k) ≡ count = omega (arith, b) in
+    elim (some_some (first_firing part kept h n k) (first_firing part kept h (n + k) (count - k)) (n + k) (sym (firing_more part kept h n k (count - k)) ∙ ap (first_firing part kept h n) sum ∙ e)) [
+      | inl f ↦ f
+      | inr f ↦ absurd (omega (arith, (firing_within part kept h (n + k) (count - k) (n + k) f.1).0))
+    ]
+
+-- bytes up to the one at which it fires
+pub fired : (part : PartData) (kept : Kept) (d : RegistersState) (clock : ClockState) (h : History) (n count k m : ℕ) → m ≡ n + k → d.stop ≡ None → RegistersStandFor part kept d h n → Ticks part kept clock h n count (Some k)
+    → RegistersStandFor part kept (record d { clock = clock; stop = Some (stop.Fault fault.Watchdog) }) h m
+fired part kept d clock h n count k m i e s t =
+    let rest : n + count ≡ n + k + (count - k) = omega (arith, t.1) in
+    let first : first_firing part kept h n k ≡ Some (n + k) = fires_last part kept h n count k t.0 t.1 t.3 in
+    subst (λ (x : ℕ). RegistersStandFor part kept (record d { clock = clock; stop = Some (stop.Fault fault.Watchdog) }) h x) (sym i) record {
+      places = placed_within n (n + k) h (omega arith) s.places;
+      words = s.words;
+      controls = s.controls;
+      progress = s.progress;
+      kind = s.kind;
+      before = s.before;
+      clock = t.2;
+      stop =
+          stop_more_bytes part kept h n k (newest_within n h s.places)
+          ∙ ap (λ (o : Option Stopped). or_else o (stopped_by_watchdog (first_firing part kept h n k))) (s.stop ∙ ap (stopped_at n) e)
+          ∙ ap stopped_by_watchdog first;
+    }
+
+-- the registers are those of all accesses up to the last byte that counts
+pub all_counted : (part : PartData) (kept : Kept) (d : RegistersState) (h : History) (m : ℕ) → counted_in d.stop m ≡ m → RegistersStandFor part kept d h m → RegistersStandFor part kept d (until (counted_in d.stop m) h) m
+all_counted part kept d h m e s = subst (λ (t : History). RegistersStandFor part kept d t m) (sym (ap (λ (k : ℕ). until k h) e ∙ until_placed m h s.places)) s
+
+-- at a firing the word that ends there, or behind it, is none
+pub fired_until : (d : Option Stop) (n count left : ℕ) (s : Step) (h : History) → is_some d ≡ true → ((line : Stop) → d ≡ Some line → (line ≡ stop.Fault fault.Watchdog) × (left < count)) → Placed n h
+    → until (counted_in d (n + (count - left))) (entered (n + count) s h) ≡ h
+fired_until None n count left s h e f p = absurd cc
+fired_until (Some line) n count left s h e f p =
+    let w : (line ≡ stop.Fault fault.Watchdog) × (left < count) = f line refl in
+    ap (λ (l : Stop). until (last_counted l (n + (count - left))) (entered (n + count) s h)) w.0
+    ∙ step_until n (n + (count - left) - 1) (n + count) s h p (omega (arith, w.1)) (omega (arith, w.1))
+
+-- ---- the words read out
+
+pub write_until : (part : PartData) (kept : Kept) (n m place register w : ℕ) (h : History) → Placed n h → n ≤ m → read_out part kept (until m (entry (Write register w) place ∷ h)) ≡ read_out part kept h
+write_until part kept n m place register w h p l = by (nat_lt m place)
+  where
+    by : (b : Bool) → read_out part kept (if b then until m h else entry (Write register w) place ∷ h) ≡ read_out part kept h
+    by true = ap (read_out part kept) (until_placed m h (placed_within n m h l p))
+    by false = append-nil (read_out part kept h)
+
+pub writes_until : (part : PartData) (kept : Kept) (n m register : ℕ) (ws : List ℕ) (h : History) → Placed n h → n ≤ m → read_out part kept (until m (entered_all n (payload_steps register ws) h)) ≡ read_out part kept h
+writes_until part kept n m register [] h p l = ap (read_out part kept) (until_placed m h (placed_within n m h l p))
+writes_until part kept n m register (w ∷ ws) h p l =
+    by (λ far. writes_until part kept (n + 4) m register ws (entry (Write register w) (n + 4) ∷ h) (omega arith, omega arith, placed_within n (n + 4 - 1) h (omega arith) p) far) (nat_lt m (n + 4)) refl
+  where
+    by : (n + 4 ≤ m → read_out part kept (until m (entered_all (n + 4) (payload_steps register ws) (entry (Write register w) (n + 4) ∷ h))) ≡ read_out part kept (entry (Write register w) (n + 4) ∷ h)) → (b : Bool) → nat_lt m (n + 4) ≡ b → read_out part kept (until m (entered_all n (payload_steps register (w ∷ ws)) h)) ≡ read_out part kept h
+    by i true f =
+        let near : m < n + 4 = grind (arith, nat_tests, f) in
+        ap (read_out part kept) (steps_behind m n (payload_steps register (w ∷ ws)) h near ∙ until_placed m h (placed_within n m h l p))
+    by i false f =
+        let far : n + 4 ≤ m = grind (arith, nat_tests, f) in
+        i far
+        ∙ append-nil (read_out part kept h)
 
 pub no_rest : (cut more rest : List ℕ) → cut ≡ more ++ rest → length rest ≡ 0 → more ≡ cut
 no_rest cut more [] e l = sym (e ∙ append-nil more)
 no_rest cut more (x ∷ rest) e l = absurd (omega arith)
 
--- nothing of a lent run is kept before it
-no_tail : (c : CutterState) (m : Mode) (gap tail : List ℕ) (packets : List Packet) → AtPlace c m (Synced gap packets tail) → c.kept ≡ [] → tail ≡ []
-no_tail c mode.Searching gap tail packets a e = absurd a
-no_tail c mode.Due gap tail packets a e = a.1
-no_tail c mode.Synced gap tail packets a e = a.1 ∙ e
+pub none_there : {A : Type 0} (o : Option A) → is_some o ≡ false → o ≡ None
+none_there None e = refl
+none_there (Some x) e = absurd cc
 
--- a whole run
-whole_run : (c n : CutterState) (bytes cut more rest : List ℕ) (sessions : List Session) (place : Place) (run : Cut) (left : ℕ) → CutterStandsFor c bytes sessions place → Went c n (bytes ++ cut) sessions place run
-    → cut ≡ more ++ rest → length rest ≡ left → left ≡ 0 → history_of (bytes ++ more) ≡ entered_all (next_word sessions place) (steps_without left run) (history_of bytes)
-whole_run c n bytes cut more rest sessions place run left s w e l z =
-    ap (λ t. history_of (bytes ++ t)) (no_rest cut more rest e (l ∙ z))
-    ∙ cut_enters c n bytes cut sessions place run (next_word sessions place) s w (next_word-is bytes sessions place s.reading)
-    ∙ ap (λ t. entered_all (next_word sessions place) t (history_of bytes)) (sym (without_none left run z))
+-- an access may come next behind some bytes more
+pub next_at : (n count : ℕ) (h : History) → 0 < count → Placed n h → IsNext (n + count) h
+next_at n count h l p = (omega (arith, l), placed_within n (n + count - 1) h (omega (arith, l)) p)
 
--- a session's words end where the bytes do
-pub words_place : (n : CutterState) (bytes gap tail : List ℕ) (packets : List Packet) (more : List (ℕ × Step)) (sessions new_sessions : List Session) (new : Place) → CutterStandsFor n bytes new_sessions new → Longer gap packets more sessions new_sessions new
-    → length bytes ≡ next_word sessions (Synced gap packets tail) + 4 * length more
-words_place n bytes gap tail packets more sessions new_sessions new s l =
-    let ends : (next_word new_sessions new ≡ next_word sessions (Synced gap packets tail) + 4 * length more) × (tail_of new ≡ []) = words_end gap tail packets more sessions new_sessions new l in
-    omega (arith, next_word-is bytes new_sessions new s.reading, ap length ends.1, ends.0)
+-- no words are due
+pub none_due : (reads : List ℕ) (due w : ℕ) → due ≡ 0 → reads ≡ reads ++ replicate due w
+none_due reads due w e = sym (ap (λ (k : ℕ). reads ++ replicate k w) e ∙ append-nil reads)
 
-body_words : (register : ℕ) (bs : List ℕ) → length (payload_steps register (words_of_bytes bs)) ≡ length bs / 4
-body_words register bs = length-map (words_of_bytes bs) _ ∙ length_of_words bs
+pub until_all : (part : PartData) (kept : Kept) (d : RegistersState) (h : History) (m : ℕ) → counted_in d.stop m ≡ m → RegistersStandFor part kept d h m → until (counted_in d.stop m) h ≡ h
+until_all part kept d h m e s = ap (λ (k : ℕ). until k h) e ∙ until_placed m h s.places
 
--- a lent run, of which the last words may not be taken
-lent_run : (c n : CutterState) (bytes cut more rest : List ℕ) (sessions : List Session) (place : Place) (register : ℕ) (bs : Bor (List ℕ)) (left : ℕ) → CutterStandsFor c bytes sessions place → Went c n (bytes ++ cut) sessions place (Body register bs)
-    → cut ≡ more ++ rest → length rest ≡ left → left % 4 ≡ 0 → left ≤ length bs.now → length bs.now ≡ 4 * (length bs.now / 4) → c.kept ≡ []
-    → (history_of (bytes ++ more) ≡ entered_all (next_word sessions place) (steps_without left (Body register bs)) (history_of bytes))
-    × (length (bytes ++ more) ≡ next_word sessions place + 4 * length (steps_without left (Body register bs)))
-lent_run c n bytes cut more rest sessions (Searching gap) register bs left s w e l m b f k = absurd w.adds
-lent_run c n bytes cut more rest sessions (Synced gap packets tail) register bs left s w e l m b f k =
-    let ss : List (ℕ × Step) = payload_steps register (words_of_bytes bs.now) in
-    let p : ℕ = next_word sessions (Synced gap packets tail) in
-    let count : ℕ = length ss - left / 4 in
-    let words : length ss ≡ length bs.now / 4 = body_words register bs.now in
-    let some : count ≤ length ss = omega arith in
-    let taken : length (take count ss) ≡ count = length-take-le count ss some in
-    let joined : bytes ++ cut ≡ (bytes ++ more) ++ rest = ap (λ t. bytes ++ t) e ∙ sym (append_assoc bytes more rest) in
-    let all : length (bytes ++ cut) ≡ p + 4 * length ss = words_place n (bytes ++ cut) gap tail packets ss sessions w.new_sessions w.new_place w.stands w.adds in
-    let here : length (bytes ++ more) ≡ p + 4 * count = omega (arith, all, ap length joined, length-append (bytes ++ more) rest, l, words) in
-    let first : p ≡ length bytes = omega (arith, next_word-is bytes sessions (Synced gap packets tail) s.reading, ap length (no_tail c c.mode gap tail packets s.at k)) in
-    let placed : Placed p (history_of bytes) = subst (λ (x : ℕ). Placed x (history_of bytes)) (sym first) (placed_of bytes s.reading.fits) in
-    let fits : AreBytes ((bytes ++ more) ++ rest) = subst AreBytes joined w.stands.reading.fits in (
-      sym (front_of (bytes ++ more) rest fits)
-          ∙ ap (λ t. until (length (bytes ++ more)) (history_of t)) (sym joined)
-          ∙ ap (until (length (bytes ++ more))) (cut_enters c n bytes cut sessions (Synced gap packets tail) (Body register bs) p s w (next_word-is bytes sessions (Synced gap packets tail) s.reading))
-          ∙ front_steps p count (length (bytes ++ more)) ss (history_of bytes) placed some here,
-      omega arith,
-    )
+-- where a byte is taken, no access before it is left out
+pub counted_more : (d : Option Stop) (n k : ℕ) → 0 < k → n ≤ counted_in d (n + k)
+counted_more None n k l = omega arith
+counted_more (Some (stop.Fault (fault.Packet w))) n k l = omega arith
+counted_more (Some (stop.Fault (fault.Id want got))) n k l = omega arith
+counted_more (Some (stop.Fault (fault.Crc want got))) n k l = omega arith
+counted_more (Some (stop.Fault (fault.Address far))) n k l = omega arith
+counted_more (Some (stop.Fault fault.Overrun)) n k l = omega arith
+counted_more (Some (stop.Fault fault.Multi)) n k l = omega arith
+counted_more (Some (stop.Fault fault.Encrypted)) n k l = omega arith
+counted_more (Some (stop.Fault fault.Watchdog)) n k l = omega (arith, l)
+counted_more (Some (stop.Fault fault.Unbuilt)) n k l = omega arith
+counted_more (Some stop.Iprog) n k l = omega arith
 
--- any run
-pub run_history : (c n : CutterState) (bytes cut more rest : List ℕ) (sessions : List Session) (place : Place) (run : Cut) (left at : ℕ) → CutterStandsFor c bytes sessions place → Went c n (bytes ++ cut) sessions place run
-    → cut ≡ more ++ rest → length rest ≡ left → left % 4 ≡ 0 → left ≤ length (run_bytes run) → (NotLent run → left ≡ 0) → IsRun run → IsLent c at run
-    → history_of (bytes ++ more) ≡ entered_all (next_word sessions place) (steps_without left run) (history_of bytes)
-run_history c n bytes cut more rest sessions place Need left at s w e l m b z r k = whole_run c n bytes cut more rest sessions place Need left s w e l (z tt)
-run_history c n bytes cut more rest sessions place (Skip bs) left at s w e l m b z r k = whole_run c n bytes cut more rest sessions place (Skip bs) left s w e l (z tt)
-run_history c n bytes cut more rest sessions place Sync left at s w e l m b z r k = whole_run c n bytes cut more rest sessions place Sync left s w e l (z tt)
-run_history c n bytes cut more rest sessions place (Head x t) left at s w e l m b z r k = whole_run c n bytes cut more rest sessions place (Head x t) left s w e l (z tt)
-run_history c n bytes cut more rest sessions place (Word register x) left at s w e l m b z r k = whole_run c n bytes cut more rest sessions place (Word register x) left s w e l (z tt)
-run_history c n bytes cut more rest sessions place (Body register bs) left at s w e l m b z r k = (lent_run c n bytes cut more rest sessions place register bs left s w e l m b r.2 k.0).0
-
--- ---- the place of a stop
-
--- words of a payload end where the last one does
-payload_place : (register n w : ℕ) (ws : List ℕ) (h : History) → newest_place (entered_all n (payload_steps register (w ∷ ws)) h) ≡ n + 4 * length (payload_steps register (w ∷ ws))
-payload_place register n w [] h = omega arith
-payload_place register n w (x ∷ ws) h = payload_place register (n + 4) x ws (entry (Write register w) (n + 4) ∷ h) ∙ omega arith
-
--- words of a payload: the newest access is the last one's, or there is none
-payload_newest : (register n : ℕ) (ws : List ℕ) (h : History) → (newest_place (entered_all n (payload_steps register ws) h) ≡ n + 4 * length (payload_steps register ws)) ⊎ (entered_all n (payload_steps register ws) h ≡ h)
-payload_newest register n [] h = inr refl
-payload_newest register n (w ∷ ws) h = inl (payload_place register n w ws h)
-
-head_newest : (n m : ℕ) (s : Step) (h : History) → m ≡ n → (newest_place (entered n s h) ≡ m) ⊎ (entered n s h ≡ h)
-head_newest n m (step.Payload r w) h e = inl (sym e)
-head_newest n m (step.Read r c) h e = elim (c == 0) as (λ b. (newest_place (if b then h else entry (Read r c) n ∷ h) ≡ m) ⊎ ((if b then h else entry (Read r c) n ∷ h) ≡ h)) [ true ↦ inr refl | false ↦ inl (sym e) ]
-head_newest n m (step.Bad w) h e = inl (sym e)
-head_newest n m step.Filler h e = inr refl
-head_newest n m step.Nop h e = inr refl
-head_newest n m (step.Open r c) h e = inr refl
-
-nothing_newest : (n left m : ℕ) (run : Cut) (h : History) → run_steps run ≡ [] → left ≡ 0 → (newest_place (entered_all n (steps_without left run) h) ≡ m) ⊎ (entered_all n (steps_without left run) h ≡ h)
-nothing_newest n left m run h e z = inr (ap (λ t. entered_all n t h) (without_none left run z ∙ e))
-
--- a word by itself ends where the bytes do
-one_place : (n : CutterState) (bytes cut more rest gap tail : List ℕ) (packets : List Packet) (s : ℕ × Step) (sessions new_sessions : List Session) (new : Place) → CutterStandsFor n (bytes ++ cut) new_sessions new
-    → Longer gap packets (s ∷ []) sessions new_sessions new → cut ≡ more ++ rest → length rest ≡ 0 → length (bytes ++ more) ≡ next_word sessions (Synced gap packets tail) + 4
-one_place n bytes cut more rest gap tail packets s sessions new_sessions new k l e z =
-    ap (λ t. length (bytes ++ t)) (no_rest cut more rest e z) ∙ words_place n (bytes ++ cut) gap tail packets (s ∷ []) sessions new_sessions new k l
-
--- of a run: the newest access ends where the bytes taken do, or there is none
-pub run_newest : (c n : CutterState) (bytes cut more rest : List ℕ) (sessions : List Session) (place : Place) (run : Cut) (left at : ℕ) (h : History) → CutterStandsFor c bytes sessions place → Went c n (bytes ++ cut) sessions place run
-    → cut ≡ more ++ rest → length rest ≡ left → left % 4 ≡ 0 → left ≤ length (run_bytes run) → (NotLent run → left ≡ 0) → IsRun run → IsLent c at run
-    → (newest_place (entered_all (next_word sessions place) (steps_without left run) h) ≡ length (bytes ++ more)) ⊎ (entered_all (next_word sessions place) (steps_without left run) h ≡ h)
-run_newest c n bytes cut more rest sessions place Need left at h s w e l m b z r k = nothing_newest (next_word sessions place) left (length (bytes ++ more)) Need h refl (z tt)
-run_newest c n bytes cut more rest sessions place (Skip bs) left at h s w e l m b z r k = nothing_newest (next_word sessions place) left (length (bytes ++ more)) (Skip bs) h refl (z tt)
-run_newest c n bytes cut more rest sessions place Sync left at h s w e l m b z r k = nothing_newest (next_word sessions place) left (length (bytes ++ more)) Sync h refl (z tt)
-run_newest c n bytes cut more rest sessions (Searching gap) (Head x t) left at h s w e l m b z r k = absurd w.adds
-run_newest c n bytes cut more rest sessions (Synced gap packets tail) (Head x t) left at h s w e l m b z r k =
-    let p : ℕ = next_word sessions (Synced gap packets tail) in
-    let here : length (bytes ++ more) ≡ p + 4 = one_place n bytes cut more rest gap tail packets (x, t) sessions w.new_sessions w.new_place w.stands w.adds e (l ∙ z tt) in
-    subst (λ (ss : List (ℕ × Step)). (newest_place (entered_all p ss h) ≡ length (bytes ++ more)) ⊎ (entered_all p ss h ≡ h)) (sym (without_none left (Head x t) (z tt))) (head_newest (p + 4) (length (bytes ++ more)) t h here)
-run_newest c n bytes cut more rest sessions (Searching gap) (Word register x) left at h s w e l m b z r k = absurd w.adds
-run_newest c n bytes cut more rest sessions (Synced gap packets tail) (Word register x) left at h s w e l m b z r k =
-    let p : ℕ = next_word sessions (Synced gap packets tail) in
-    let here : length (bytes ++ more) ≡ p + 4 = one_place n bytes cut more rest gap tail packets (x, step.Payload register x) sessions w.new_sessions w.new_place w.stands w.adds e (l ∙ z tt) in
-    subst (λ (ss : List (ℕ × Step)). (newest_place (entered_all p ss h) ≡ length (bytes ++ more)) ⊎ (entered_all p ss h ≡ h)) (sym (without_none left (Word register x) (z tt))) (head_newest (p + 4) (length (bytes ++ more)) (step.Payload register x) h here)
-run_newest c n bytes cut more rest sessions place (Body register bs) left at h s w e l m b z r k =
-    let p : ℕ = next_word sessions place in
-    let ws : List ℕ = take (length (payload_steps register (words_of_bytes bs.now)) - left / 4) (words_of_bytes bs.now) in
-    let steps : steps_without left (Body register bs) ≡ payload_steps register ws = take-map _ (length (payload_steps register (words_of_bytes bs.now)) - left / 4) (words_of_bytes bs.now) in
-    let here : length (bytes ++ more) ≡ p + 4 * length (steps_without left (Body register bs)) = (lent_run c n bytes cut more rest sessions place register bs left s w e l m b r.2 k.0).1 in
-    let newest : (newest_place (entered_all p (payload_steps register ws) h) ≡ p + 4 * length (payload_steps register ws)) ⊎ (entered_all p (payload_steps register ws) h ≡ h) = payload_newest register p ws h in
-    subst (λ (ss : List (ℕ × Step)). (newest_place (entered_all p ss h) ≡ length (bytes ++ more)) ⊎ (entered_all p ss h ≡ h)) (sym steps)
-    (elim newest [ inl q ↦ inl (q ∙ sym (here ∙ ap (λ t. p + 4 * length t) steps)) | inr q ↦ inr q ])
-
--- a stop in it came at its last byte
-pub stop_here : (part : PartData) (kept : Kept) (old new : History) (m : ℕ) (d : Option Stop) → IsStop part kept None old → IsStop part kept d new → (newest_place new ≡ m) ⊎ (new ≡ old) → stop_of part kept new m ≡ stopped_at m d
-stop_here part kept old new m None s t n = t.line m
-stop_here part kept old new m (Some line) s t n =
-    elim n [
-      | inl e ↦ t.line m ∙ ap (λ (k : ℕ). stopped_at k (Some line)) e
-      | inr e ↦ absurd (let none : stop_of part kept new m ≡ None = ap (λ (h : History). stop_of part kept h m) e ∙ s.line m in let some : stop_of part kept new m ≡ Some (record { place = newest_place new; line = line }) = t.line m in cc)
-    ]
+-- bytes without a word leave all accesses
+pub quiet_until : (d : Option Stop) (n count left : ℕ) (h : History) → ((line : Stop) → d ≡ Some line → (line ≡ stop.Fault fault.Watchdog) × (left < count)) → Placed n h → until (counted_in d (n + (count - left))) h ≡ h
+quiet_until None n count left h f p = until_placed (n + (count - left)) h (placed_within n (n + (count - left)) h (omega arith) p)
+quiet_until (Some line) n count left h f p =
+    let w : (line ≡ stop.Fault fault.Watchdog) × (left < count) = f line refl in
+    ap (λ (l : Stop). until (last_counted l (n + (count - left))) h) w.0
+    ∙ until_placed (n + (count - left) - 1) h (placed_within n (n + (count - left) - 1) h (omega (arith, w.1)) p)

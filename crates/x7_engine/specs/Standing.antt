@@ -1,18 +1,18 @@
 -- What a device stands for: all bytes that it took since its reset. Each stored value is that of the bytes.
-use Rattle.std.specs.Prelude.{◌≡◌, ℕ, ◌<◌, ◌++◌, ◌-◌, ◌/◌, ◌||◌, Bool, true, false, take, List, [], ◌∷◌, length, slice_index, Option, None, Some, replicate}
+use Rattle.std.specs.Prelude.{◌≡◌, ℕ, ◌<◌, ◌≤◌, ◌+◌, ◌++◌, ◌-◌, Bool, true, false, take, List, [], ◌∷◌, length, slice_index, Option, None, Some, replicate}
 use Rattle.x7_words.specs.Word.{AreBytes}
-use Rattle.x7_packets.specs.Cutting.{CutterState, CutterStandsFor, run_steps}
+use Rattle.x7_packets.specs.Cutting.{CutterState, CutterStandsFor}
 use Rattle.x7_packets.specs.declared.cutter.Cut.{Cut}
-use Rattle.x7_packets.specs.declared.cutter.Cut.TheVariants.{Body, Need, Skip, Sync}
+use Rattle.x7_packets.specs.declared.cutter.Cut.TheVariants.{Body, Head, Need, Skip, Sync, Word}
 use Rattle.x7_packets.specs.declared.header.Step.{Step}
 use Rattle.x7_packets.specs.declared.header.Step.TheVariants.{Payload}
-use Rattle.x7_packets.specs.History.{History, executes}
+use Rattle.x7_packets.specs.History.{History, Placed}
 use Rattle.x7_packets.specs.Reading.{Place, Session}
 use Rattle.x7_crc.specs.OpenWrites.{running_check}
 use Rattle.x7_part.specs.Part.{PartData}
-use Rattle.x7_regs.specs.declared.command.Command.TheVariants.{Start}
+use Rattle.x7_regs.specs.declared.boot_status.Attempt.{Attempt}
+use Rattle.x7_regs.specs.declared.boot_status.Kind.{Kind}
 use Rattle.x7_regs.specs.declared.register.Reg.TheVariants.{Ctl0, Ctl1}
-use Rattle.x7_regs.specs.Command.{code_of}
 use Rattle.x7_regs.specs.Register.{number_of}
 use Rattle.x7_engine.specs.declared.controls.Controls.{Controls}
 use Rattle.x7_engine.specs.declared.fault.Fault.{Fault}
@@ -24,72 +24,98 @@ use Rattle.x7_engine.specs.declared.progress.Progress.{Progress}
 use Rattle.x7_engine.specs.declared.registers.Registers.{Registers}
 use Rattle.x7_engine.specs.declared.stop.Stop.{Stop}
 use Rattle.x7_engine.specs.declared.stop.Stop.TheVariants as stop
-use Rattle.x7_engine.specs.declared.words.Words.{Words}
+use Rattle.x7_engine.specs.Clock.{ClockState, IsClock, clock_in}
 use Rattle.x7_engine.specs.ReadBuffer.{IsFull, ReadBufState}
-use Rattle.x7_engine.specs.Registers.{has_ghigh, is_matched, is_pending, masked, word_held}
-use Rattle.x7_engine.specs.State.{reads_of, history_taken, stop_in}
+use Rattle.x7_engine.specs.Registers.{has_ghigh, is_matched, is_pending, masked, word_held, wrote_iprog}
+use Rattle.x7_engine.specs.State.{reads_of, history_taken, last_counted, stop_in}
 use Rattle.x7_engine.specs.Stops.{stop_of, stopped_at}
-use Rattle.x7_engine.specs.Watching.{timer_held, turns_on}
-
--- the last words written
-pub record AreLastWords (kept : Kept) (d : Words) (h : History) : Type 0 where
-  pub each : (register : ℕ) → register < 32 → slice_index d.last register ≡ word_held kept register h
 
 -- the registers under MASK
-pub record AreControls (d : Controls) (h : History) : Type 0 where
+pub record ControlsState : Type 0 where
+  pub ctl0 : ℕ
+  pub ctl1 : ℕ
+
+-- the check and the flags
+pub record ProgressState : Type 0 where
+  pub check : ℕ
+  pub matched : Bool
+  pub pending : Bool
+  pub ghigh : Bool
+  pub iprog : Bool
+
+-- the stored values of a device's registers: the last words written by register number, those under MASK, the check and the flags, what the boot history says of the attempt, the stop, and how many words are due, all this one
+pub record RegistersState : Type 0 where
+  pub words : List ℕ
+  pub controls : ControlsState
+  pub progress : ProgressState
+  pub kind : Kind
+  pub before : Option Attempt
+  pub clock : ClockState
+  pub stop : Option Stop
+  pub due : ℕ
+  pub due_word : ℕ
+
+-- how the registers keep them
+abbrev pub controls_in : Controls → ControlsState
+controls_in d = record { ctl0 = d.ctl0; ctl1 = d.ctl1 }
+
+abbrev pub progress_in : Progress → ProgressState
+progress_in d = record { check = d.check; matched = d.matched; pending = d.pending; ghigh = d.ghigh; iprog = d.iprog }
+
+abbrev pub registers_in : Registers → RegistersState
+registers_in d = record {
+  words = d.words.last;
+  controls = controls_in d.controls;
+  progress = progress_in d.progress;
+  kind = d.kind;
+  before = d.before;
+  clock = clock_in d.clock;
+  stop = d.stop;
+  due = d.due;
+  due_word = d.due_word;
+}
+
+-- the last words written
+pub record AreLastWords (kept : Kept) (last : List ℕ) (h : History) : Type 0 where
+  pub each : (register : ℕ) → register < 32 → slice_index last register ≡ word_held kept register h
+
+-- the registers under MASK
+pub record AreControls (d : ControlsState) (h : History) : Type 0 where
   pub ctl0 : d.ctl0 ≡ masked (number_of Ctl0) h
   pub ctl1 : d.ctl1 ≡ masked (number_of Ctl1) h
 
 -- the check and the flags
-pub record IsProgress (idcode : ℕ) (d : Progress) (h : History) : Type 0 where
+pub record IsProgress (idcode : ℕ) (d : ProgressState) (h : History) : Type 0 where
   pub check : d.check ≡ running_check h
   pub matched : d.matched ≡ is_matched idcode h
   pub pending : d.pending ≡ is_pending h
   pub ghigh : d.ghigh ≡ has_ghigh h
+  pub iprog : d.iprog ≡ wrote_iprog h
 
--- the place of the newest access
-abbrev pub newest_place : History → ℕ
-newest_place [] = 0
-newest_place (e ∷ h) = e.place
+-- an access may come next at this place
+abbrev pub IsNext : ℕ → History → Type 0
+IsNext place h = (0 < place) × Placed (place - 1) h
 
-abbrev pub older : History → History
-older [] = []
-older (e ∷ h) = h
-
--- START was executed
-abbrev pub has_start : History → Bool
-has_start [] = false
-has_start (e ∷ h) = executes (code_of Start) h e.access || has_start h
-
--- the watchdog fired
-abbrev pub is_firing : Option Stop → Bool
-is_firing (Some (stop.Fault fault.Watchdog)) = true
-is_firing _ = false
-
--- The stop: it came at the newest access, whatever number of bytes was taken since. While startup and the watchdog aren't built, a device that goes on has executed no START, and its watchdog is off.
-pub record IsStop (part : PartData) (kept : Kept) (d : Option Stop) (h : History) : Type 0 where
-  pub line : (n : ℕ) → stop_of part kept h n ≡ stopped_at (newest_place h) d
-  pub unfired : is_firing d ≡ false
-  pub watchdog : d ≡ None → turns_on (timer_held kept h) ≡ false
-  pub start : d ≡ None → has_start h ≡ false
-  pub before : has_start (older h) ≡ false
-
--- the registers are those of a history
-pub record RegistersStandFor (part : PartData) (kept : Kept) (d : Registers) (h : History) : Type 0 where
+-- The registers are those of a history with n bytes taken: there is no stop in them, or it came at the last one. A word that ends at a firing of the watchdog is not of the history.
+pub record RegistersStandFor (part : PartData) (kept : Kept) (d : RegistersState) (h : History) (n : ℕ) : Type 0 where
+  pub places : Placed n h
   pub words : AreLastWords kept d.words h
   pub controls : AreControls d.controls h
   pub progress : IsProgress part.idcode d.progress h
-  pub stop : IsStop part kept d.stop h
+  pub kind : d.kind ≡ kept.kind
+  pub before : d.before ≡ kept.before
+  pub clock : IsClock part kept d.clock h n
+  pub stop : stop_of part kept h n ≡ stopped_at n d.stop
+
+-- the last byte whose access counts, where n bytes are taken and this is the stop
+abbrev pub counted_in : Option Stop → ℕ → ℕ
+counted_in None n = n
+counted_in (Some line) n = last_counted line n
 
 -- a step of a word in a header's place
 abbrev pub IsHeaderStep : Step → Type 0
 IsHeaderStep (Payload register w) = ⊥
 IsHeaderStep _ = Unit {0}
-
--- a run that isn't lent payload
-abbrev pub NotLent : Cut → Type 0
-NotLent (Body register bytes) = ⊥
-NotLent _ = Unit {0}
 
 -- a run without a word
 abbrev pub TellsNothing : Cut → Type 0
@@ -98,20 +124,32 @@ TellsNothing (Skip bytes) = Unit {0}
 TellsNothing Sync = Unit {0}
 TellsNothing _ = ⊥
 
--- the words that a run adds without those of its last bytes that were not taken, each with its step
-abbrev pub steps_without : ℕ → Cut → List (ℕ × Step)
-steps_without left run = take (length (run_steps run) - left / 4) (run_steps run)
+-- Of a run of so many bytes behind the first n: a lent slice lies in them.
+abbrev pub HoldsRun : Cut → ℕ → Type 0
+HoldsRun (Body register bytes) count = length bytes.now ≤ count
+HoldsRun _ count = Unit {0}
+
+-- its words, the first of which begins at `from`, end where its bytes do
+abbrev pub EndsWords : Cut → ℕ → ℕ → ℕ → Type 0
+EndsWords (Head w step) from n count = (n < from + 4) × (from + 4 ≡ n + count)
+EndsWords (Word register w) from n count = (n < from + 4) × (from + 4 ≡ n + count)
+EndsWords (Body register bytes) from n count = (from ≡ n) × (length bytes.now ≡ count)
+EndsWords _ from n count = Unit {0}
 
 -- a device: its part and its stored values
 pub record DeviceState : Type 0 where
   pub part : PartData
   pub cutter : CutterState
-  pub registers : Registers
+  pub registers : RegistersState
   pub taken : ℕ
 
 -- a device of which this many words are still due
 abbrev pub with_due : DeviceState → ℕ → DeviceState
 with_due d due = record d { registers = record d.registers { due = due } }
+
+-- no word that was read out is still to be given
+abbrev pub NoWordDue : DeviceState → Type 0
+NoWordDue d = d.registers.due ≡ 0
 
 -- the cutter took these bytes
 pub record IsCutterOf (c : CutterState) (bytes : List ℕ) : Type 0 where
@@ -120,7 +158,7 @@ pub record IsCutterOf (c : CutterState) (bytes : List ℕ) : Type 0 where
   pub stands : CutterStandsFor c bytes sessions place
 
 -- the words read out: those that were told already, and then those that are still due, all the same
-pub record AreDue (d : Registers) (reads : List ℕ) : Type 0 where
+pub record AreDue (d : RegistersState) (reads : List ℕ) : Type 0 where
   pub told : List ℕ
   pub all : reads ≡ told ++ replicate d.due d.due_word
 
@@ -130,7 +168,7 @@ pub record DeviceStandsFor (part : PartData) (kept : Kept) (d : DeviceState) (by
   pub part_is : d.part ≡ part
   pub taken_is : d.taken ≡ length bytes
   pub stop_is : stop_in part kept bytes ≡ stopped_at (length bytes) d.registers.stop
-  pub registers_are : RegistersStandFor part kept d.registers (history_taken part kept bytes)
+  pub registers_are : RegistersStandFor part kept d.registers (history_taken part kept bytes) (length bytes)
   pub cutter_is : d.registers.stop ≡ None → IsCutterOf d.cutter bytes
   pub due_are : AreDue d.registers (reads_of part kept bytes)
   pub at_rest : (line : Stop) → d.registers.stop ≡ Some line → d.registers.due ≡ 0
@@ -152,7 +190,7 @@ fed_by (stop.Fault f) at = fed.Stopped at
 fed_by stop.Iprog at = fed.Iprog at
 
 abbrev pub Answers : PartData → Kept → DeviceState → List ℕ → ReadBufState → Fed → Type 0
-Answers part kept d bytes read fed.All = (stop_in part kept bytes ≡ None) × (d.registers.due ≡ 0)
-Answers part kept d bytes read (fed.Stopped n) = (f : Fault) × (stop_in part kept bytes ≡ Some (record { place = length bytes; line = stop.Fault f })) × (d.registers.due ≡ 0)
-Answers part kept d bytes read (fed.Iprog n) = (stop_in part kept bytes ≡ Some (record { place = length bytes; line = stop.Iprog })) × (d.registers.due ≡ 0)
+Answers part kept d bytes read fed.All = (stop_in part kept bytes ≡ None) × NoWordDue d
+Answers part kept d bytes read (fed.Stopped n) = (f : Fault) × (stop_in part kept bytes ≡ Some (record { place = length bytes; line = stop.Fault f })) × NoWordDue d
+Answers part kept d bytes read (fed.Iprog n) = (stop_in part kept bytes ≡ Some (record { place = length bytes; line = stop.Iprog })) × NoWordDue d
 Answers part kept d bytes read (fed.ReadFull n) = (stop_in part kept bytes ≡ None) × (0 < d.registers.due) × IsFull read

@@ -15,7 +15,7 @@ use Rattle.x7_engine.specs.declared.stop.Stop.{Stop}
 use Rattle.x7_engine.specs.declared.stop.Stop.TheVariants as stop
 use Rattle.x7_engine.specs.Kept.{is_fallback}
 use Rattle.x7_engine.specs.Registers.{ctl0_held, is_matched, mask_held, masked_word, same_idcode}
-use Rattle.x7_engine.specs.Watching.{first_firing, turns_on}
+use Rattle.x7_engine.specs.Watching.{first_firing}
 
 -- the first of two, where there is one
 abbrev pub or_else : {A : Type 0} → Option A → Option A → Option A
@@ -72,18 +72,8 @@ reads_frame_data h _ = false
 abbrev pub copies_frame : ℕ → History → Access → Bool
 copies_frame idcode h access = writes (number_of reg.Mfwr) access && (is_matched idcode h && not (forbids_writing (ctl0_held h)))
 
--- START on a matched device
-abbrev pub arms_startup : ℕ → History → Access → Bool
-arms_startup idcode h access = executes (code_of command.Start) h access && is_matched idcode h
-
--- a word of TIMER that turns the watchdog on
-abbrev pub sets_watchdog : Access → Bool
-sets_watchdog (Write register w) = register == number_of reg.Timer && turns_on w
-sets_watchdog _ = false
-
 abbrev pub is_unbuilt : ℕ → History → Access → Bool
-is_unbuilt idcode h access =
-    writes_frame_data idcode h access || (reads_frame_data h access || (copies_frame idcode h access || (arms_startup idcode h access || sets_watchdog access)))
+is_unbuilt idcode h access = writes_frame_data idcode h access || (reads_frame_data h access || copies_frame idcode h access)
 
 abbrev pub unbuilt_line : ℕ → History → Access → Option Stop
 unbuilt_line idcode h access = if is_unbuilt idcode h access then Some (stop.Fault fault.Unbuilt) else None

@@ -30,18 +30,18 @@ pub(crate) struct Controls {
 }
 
 impl Controls {
-    ghost use Rattle.x7_engine.specs.Standing.{AreControls};
+    ghost use Rattle.x7_engine.specs.Standing.{AreControls, controls_in};
 
     /// Those of a device that took nothing.
     pub(crate) fn new() -> Controls
-        ensures { AreControls result [] }
+        ensures { AreControls (controls_in result) [] }
     {
         Controls { ctl0: 0, ctl1: 0 }
     }
 
     /// Stores a written word, where it is one of theirs.
     pub(crate) fn write(&mut self, reg: Reg, word: u32, mask: u32)
-        ensures { (h : History) (place : ℕ) → mask ≡ mask_held h → AreControls self.old h → AreControls self.new (entry (Write (number_of reg) word) place ∷ h) }
+        ensures { (h : History) (place : ℕ) → mask ≡ mask_held h → AreControls (controls_in self.old) h → AreControls (controls_in self.new) (entry (Write (number_of reg) word) place ∷ h) }
     {
         match reg {
             Reg::Ctl0 => self.ctl0 = masked(self.ctl0, mask, word),
@@ -52,14 +52,14 @@ impl Controls {
 
     /// Whether SBITS of CTL0 forbid the writing of frames (UG470, control register 0).
     pub(crate) fn forbid_writing(&self) -> bool
-        ensures { (h : History) → AreControls self.now h → result ≡ forbids_writing (ctl0_held h) }
+        ensures { (h : History) → AreControls (controls_in self.now) h → result ≡ forbids_writing (ctl0_held h) }
     {
         self.ctl0 >> 5 & 1 == 1
     }
 
     /// Whether SBITS of CTL0 forbid the reading of frames.
     pub(crate) fn forbid_reading(&self) -> bool
-        ensures { (h : History) → AreControls self.now h → result ≡ forbids_reading (ctl0_held h) }
+        ensures { (h : History) → AreControls (controls_in self.now) h → result ≡ forbids_reading (ctl0_held h) }
     {
         self.ctl0 >> 4 & 3 != 0
     }

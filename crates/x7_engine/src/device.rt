@@ -7,9 +7,11 @@ ghost use Rattle.x7_engine.specs.ReadBuffer.{IsFull, with_words};
 ghost use Rattle.x7_engine.specs.Standing.{Answers, DeviceStandsFor, fed_by, taken_in, told_of, with_due};
 ghost use Rattle.x7_engine.specs.State.{end_by, line_by, state_of, stop_in};
 ghost use Rattle.x7_engine.specs.Stops.{fault_of};
+ghost use Rattle.x7_engine.specs.declared.kept.Kept.{Kept as KeptData};
 
 use crate::fault::Fault;
 use crate::fed::Fed;
+use crate::kept::Kept;
 use crate::read_buffer::ReadBuf;
 use crate::registers::Registers;
 use crate::regs::{End, Regs};
@@ -18,8 +20,7 @@ use std::alloc::Global;
 use std::marker::Model;
 use x7_packets::{Cut, Cutter};
 use x7_part::Part;
-use x7_regs::Reg;
-use x7_startup::Lines;
+use x7_regs::{Kind, Reg};
 use x7_words::NoMemory;
 
 /// A device of a part: its state is a function of all bytes since it was made.
@@ -32,11 +33,11 @@ pub struct Device {
 }
 
 impl Model for Device {
-    ghost use Rattle.x7_engine.specs.Standing.{DeviceState};
+    ghost use Rattle.x7_engine.specs.Standing.{DeviceState, registers_in};
 
     ghost Value = { DeviceState };
 
-    ghost view = { λ d. record { part = d.part; cutter = d.cutter; registers = d.registers; taken = d.taken } };
+    ghost view = { λ d. record { part = d.part; cutter = d.cutter; registers = registers_in d.registers; taken = d.taken } };
 }
 
 /// What a feed answers for a stop at this place of a piece.
@@ -71,6 +72,26 @@ fn is_need(run: &Cut<'_>) -> bool
     }
 }
 
+/// Whether the piece is used up and no stop came.
+fn is_done(used_up: bool, stop: Option<Stop>) -> bool
+    ensures yes { IsTrue result → IsTrue used_up × (stop ≡ None) }
+    ensures no { result ≡ false → stop ≡ None → used_up ≡ false }
+{
+    match stop {
+        Some(_) => false,
+        None => used_up,
+    }
+}
+
+/// What a device on the bench keeps.
+const ON_THE_BENCH: Kept = Kept {
+    wbstar: 0,
+    timer: 0,
+    bspi: 0,
+    kind: Kind::Bench,
+    before: None,
+};
+
 impl Device {
     /// A device of this part as after a reset on the bench.
     pub fn new(alloc: Global, part: &Part) -> Result<Device, NoMemory>
@@ -80,11 +101,20 @@ impl Device {
             Ok(part) => Ok(Device {
                 part,
                 cutter: Cutter::new(),
-                registers: Registers::new(),
+                registers: Registers::new(&ON_THE_BENCH),
                 taken: 0,
             }),
             Err(NoMemory) => Err(NoMemory),
         }
+    }
+
+    /// Resets the device, which keeps this.
+    pub fn reset(&mut self, keep: &Kept)
+        ensures { DeviceStandsFor self.old.part keep.now self.new [] }
+    {
+        self.cutter = Cutter::new();
+        self.registers = Registers::new(keep);
+        self.taken = 0;
     }
 
     /// What stopped the device.
@@ -115,10 +145,10 @@ impl Device {
         ensures forward { at.old ≤ at.new }
         ensures within { at.new ≤ length piece.now }
         ensures taken { self.new.taken ≡ self.old.taken + (at.new - at.old) }
-        ensures stands { (part : PartData) (bytes : List ℕ) → DeviceStandsFor part on_the_bench self.old bytes
-            → DeviceStandsFor part on_the_bench self.new (bytes ++ between piece.now at.old at.new) }
-        ensures told { (part : PartData) (bytes : List ℕ) → DeviceStandsFor part on_the_bench self.old bytes
-            → told_of part on_the_bench self.new (bytes ++ between piece.now at.old at.new) ≡ told_of part on_the_bench self.old bytes }
+        ensures stands { (part : PartData) (kept : KeptData) (bytes : List ℕ) → DeviceStandsFor part kept self.old bytes
+            → DeviceStandsFor part kept self.new (bytes ++ between piece.now at.old at.new) }
+        ensures told { (part : PartData) (kept : KeptData) (bytes : List ℕ) → DeviceStandsFor part kept self.old bytes
+            → told_of part kept self.new (bytes ++ between piece.now at.old at.new) ≡ told_of part kept self.old bytes }
         ensures used_up { IsTrue result → (at.new ≡ length piece.now) × (self.new.registers.stop ≡ None) × (self.new.registers.due ≡ 0) }
         ensures goes { result ≡ false → self.new.registers.stop ≡ None
             → calls_left self.new.cutter (length piece.now - at.new) < calls_left self.old.cutter (length piece.now - at.old) }
@@ -126,10 +156,10 @@ impl Device {
         let from = *at;
         let run = self.cutter.cut(piece, at);
         let used_up = is_need(&run);
-        let left = self.registers.run(&self.part, run);
+        let left = self.registers.run(&self.part, run, *at - from);
         *at -= left;
         self.taken += (*at - from) as u64;
-        used_up
+        is_done(used_up, self.registers.stop())
     }
 
     /// Takes the bytes of a piece, up to one that stops the device or to a read whose words have no room. A device that
@@ -137,14 +167,14 @@ impl Device {
     pub fn feed(&mut self, piece: &[u8], read: &mut ReadBuf) -> Fed
         requires { self.old.taken + length piece.now ≤ 2 ^ 63 }
         ensures within { taken_in (length piece.now) result ≤ length piece.now }
-        ensures stands { (part : PartData) (bytes : List ℕ) → DeviceStandsFor part on_the_bench self.old bytes
-            → DeviceStandsFor part on_the_bench self.new (bytes ++ take (taken_in (length piece.now) result) piece.now) }
-        ensures answer { (part : PartData) (bytes : List ℕ) → DeviceStandsFor part on_the_bench self.old bytes
-            → Answers part on_the_bench self.new (bytes ++ take (taken_in (length piece.now) result) piece.now) read.new result }
-        ensures reads { (part : PartData) (bytes : List ℕ) → DeviceStandsFor part on_the_bench self.old bytes
+        ensures stands { (part : PartData) (kept : KeptData) (bytes : List ℕ) → DeviceStandsFor part kept self.old bytes
+            → DeviceStandsFor part kept self.new (bytes ++ take (taken_in (length piece.now) result) piece.now) }
+        ensures answer { (part : PartData) (kept : KeptData) (bytes : List ℕ) → DeviceStandsFor part kept self.old bytes
+            → Answers part kept self.new (bytes ++ take (taken_in (length piece.now) result) piece.now) read.new result }
+        ensures reads { (part : PartData) (kept : KeptData) (bytes : List ℕ) → DeviceStandsFor part kept self.old bytes
             → (more : List ℕ) × (read.new ≡ with_words read.old more)
-            × (told_of part on_the_bench self.new (bytes ++ take (taken_in (length piece.now) result) piece.now) ≡ told_of part on_the_bench self.old bytes ++ more) }
-        ensures stopped { (part : PartData) (bytes : List ℕ) → DeviceStandsFor part on_the_bench self.old bytes → IsSome (stop_in part on_the_bench bytes)
+            × (told_of part kept self.new (bytes ++ take (taken_in (length piece.now) result) piece.now) ≡ told_of part kept self.old bytes ++ more) }
+        ensures stopped { (part : PartData) (kept : KeptData) (bytes : List ℕ) → DeviceStandsFor part kept self.old bytes → IsSome (stop_in part kept bytes)
             → (self.new ≡ self.old) × (read.new ≡ read.old) × (taken_in (length piece.now) result ≡ 0) }
     {
         let mut at = 0;
@@ -163,17 +193,13 @@ impl Device {
 
     /// The registers and all else that a report shows but the memory.
     pub fn state(&self) -> Regs
-        ensures { (part : PartData) (bytes : List ℕ) → DeviceStandsFor part on_the_bench self.now bytes → result ≡ state_of part on_the_bench false bytes }
+        ensures { (part : PartData) (kept : KeptData) (bytes : List ℕ) → DeviceStandsFor part kept self.now bytes → result ≡ state_of part kept false bytes }
     {
         Regs {
             taken: self.taken,
             end: self.end(),
-            phase: 0,
-            lines: Lines {
-                done: false,
-                gts: false,
-                gwe: false,
-            },
+            phase: self.registers.clock.phase(),
+            lines: self.registers.clock.lines(),
             crc: self.registers.value(&self.part, Reg::Crc),
             far: self.registers.value(&self.part, Reg::Far),
             cmd: self.registers.value(&self.part, Reg::Cmd),
@@ -194,7 +220,7 @@ impl Device {
 
     /// Where the bytes taken end.
     fn end(&self) -> End
-        ensures { (part : PartData) (bytes : List ℕ) → DeviceStandsFor part on_the_bench self.now bytes → result ≡ (state_of part on_the_bench false bytes).end }
+        ensures { (part : PartData) (kept : KeptData) (bytes : List ℕ) → DeviceStandsFor part kept self.now bytes → result ≡ (state_of part kept false bytes).end }
     {
         end_of(
             self.registers.stop(),
@@ -205,14 +231,15 @@ impl Device {
 
     /// The part.
     pub fn part(&self) -> &Part
-        ensures { (part : PartData) (bytes : List ℕ) → DeviceStandsFor part on_the_bench self.now bytes → result.now ≡ part }
+        ensures now { result.now ≡ self.now.part }
+        ensures value { (part : PartData) (kept : KeptData) (bytes : List ℕ) → DeviceStandsFor part kept self.now bytes → result.now ≡ part }
     {
         &self.part
     }
 
     /// The fault that stopped the device.
     pub fn fault(&self) -> Option<Fault>
-        ensures { (part : PartData) (bytes : List ℕ) → DeviceStandsFor part on_the_bench self.now bytes → result ≡ fault_of (line_by (stop_in part on_the_bench bytes)) }
+        ensures { (part : PartData) (kept : KeptData) (bytes : List ℕ) → DeviceStandsFor part kept self.now bytes → result ≡ fault_of (line_by (stop_in part kept bytes)) }
     {
         match self.registers.stop() {
             Some(Stop::Fault(fault)) => Some(fault),
@@ -222,15 +249,15 @@ impl Device {
 
     /// Whether startup has ended.
     pub fn started(&self) -> bool
-        ensures { (part : PartData) (bytes : List ℕ) → DeviceStandsFor part on_the_bench self.now bytes → result ≡ ((state_of part on_the_bench false bytes).phase == 7) }
+        ensures { (part : PartData) (kept : KeptData) (bytes : List ℕ) → DeviceStandsFor part kept self.now bytes → result ≡ ((state_of part kept false bytes).phase == 7) }
     {
-        false
+        self.registers.clock.has_ended()
     }
 
     /// The bytes taken since it was made.
     pub fn taken(&self) -> u64
         ensures now { result ≡ self.now.taken }
-        ensures value { (part : PartData) (bytes : List ℕ) → DeviceStandsFor part on_the_bench self.now bytes → result ≡ length bytes }
+        ensures value { (part : PartData) (kept : KeptData) (bytes : List ℕ) → DeviceStandsFor part kept self.now bytes → result ≡ length bytes }
     {
         self.taken
     }

@@ -1,6 +1,7 @@
 //! A device: its state is a function of all bytes since its reset, in whatever pieces they come.
 #![tactic(auto)]
 
+mod clock;
 mod controls;
 mod device;
 mod fault;

@@ -1,12 +1,12 @@
 //! The running check, and what is known of all accesses so far.
 ghost use Rattle.std.specs.Prelude.{◌≡◌, ◌<◌, false, ◌||◌, ◌&&◌, ◌==◌, not, ℕ, ◌∷◌, [], ◌++◌, if◌then◌else◌, List, length, ◌%◌, Option, None, Some};
-ghost use Rattle.x7_words.specs.Word.{words_of_bytes};
 ghost use Rattle.x7_packets.specs.History.{command_held, entered_all, entry, executed_by, executes, History, is_command, Write};
 ghost use Rattle.x7_packets.specs.Packet.{payload_steps};
+ghost use Rattle.x7_words.specs.Word.{words_of_bytes};
 ghost use Rattle.x7_crc.specs.OpenWrites.{running_check};
 ghost use Rattle.x7_regs.specs.Command.{code_of};
 ghost use Rattle.x7_regs.specs.Register.{number_of};
-ghost use Rattle.x7_engine.specs.Registers.{clears_by, ghigh_after, has_effect, names_part, pending_after, same_idcode};
+ghost use Rattle.x7_engine.specs.Registers.{clears_by, ghigh_after, has_effect, names_part, pending_after, same_idcode, takes_shutdown, writes_command};
 
 use x7_crc::{fold, fold_slice};
 use x7_regs::{Command, Reg};
@@ -63,6 +63,13 @@ fn is_matched_after(matched: bool, idcode: u32, reg: Reg, word: u32) -> bool
     reg.number() == Reg::Idcode.number() && is_same_idcode(idcode, word) || matched
 }
 
+/// Whether an IPROG command was written, after a written word.
+fn wrote_iprog_after(wrote: bool, reg: Reg, word: u32) -> bool
+    ensures { result ≡ (writes_command (code_of Command.Iprog) (Write (number_of reg) word) || wrote) }
+{
+    reg.number() == Reg::Cmd.number() && word & 31 == Command::Iprog.code() || wrote
+}
+
 /// The running check after a written word, where it executes RCRC or not. LOUT is not folded (this project's choice).
 fn check_after(check: u32, reg: Reg, word: u32, reset: bool) -> u32
     ensures { (h : History) (place : ℕ) → check ≡ running_check h → reset ≡ executes (code_of Command.Rcrc) h (Write (number_of reg) word) → result ≡ running_check (entry (Write (number_of reg) word) place ∷ h) }
@@ -82,26 +89,45 @@ pub(crate) struct Progress {
     pub(crate) matched: bool,
     pub(crate) pending: bool,
     pub(crate) ghigh: bool,
+    pub(crate) iprog: bool,
 }
 
 impl Progress {
-    ghost use Rattle.x7_engine.specs.Standing.{IsProgress};
+    ghost use Rattle.x7_engine.specs.Standing.{IsProgress, progress_in};
 
     /// That of a device that took nothing.
     pub(crate) fn new() -> Progress
-        ensures { (idcode : ℕ) → IsProgress idcode result [] }
+        ensures { (idcode : ℕ) → IsProgress idcode (progress_in result) [] }
     {
         Progress {
             check: 0,
             matched: false,
             pending: false,
             ghigh: false,
+            iprog: false,
         }
+    }
+
+    /// Whether a written word takes a pending shutdown.
+    pub(crate) fn takes(&self, reg: Reg, word: u32, executed: Option<u8>) -> bool
+        ensures { (idcode : ℕ) (h : History) → executed ≡ executed_by (command_held h) (Write (number_of reg) word) → IsProgress idcode (progress_in self.now) h → result ≡ takes_shutdown h (Write (number_of reg) word) }
+    {
+        let cleared = clears(executed, self.check, reg, word);
+        both(cleared, self.pending)
+    }
+
+    /// Takes a word written to a register that has no effect beside the check.
+    pub(crate) fn pass(&mut self, register: u8, word: u32)
+        requires register { register < 32 }
+        requires plain { has_effect register ≡ false }
+        ensures { (idcode : ℕ) (h : History) (place : ℕ) → IsProgress idcode (progress_in self.old) h → IsProgress idcode (progress_in self.new) (entry (Write register word) place ∷ h) }
+    {
+        self.check = fold(self.check, register, word);
     }
 
     /// Takes a written word that executes a command, or none.
     pub(crate) fn write(&mut self, idcode: u32, reg: Reg, word: u32, executed: Option<u8>)
-        ensures { (h : History) (place : ℕ) → executed ≡ executed_by (command_held h) (Write (number_of reg) word) → IsProgress idcode self.old h → IsProgress idcode self.new (entry (Write (number_of reg) word) place ∷ h) }
+        ensures { (h : History) (place : ℕ) → executed ≡ executed_by (command_held h) (Write (number_of reg) word) → IsProgress idcode (progress_in self.old) h → IsProgress idcode (progress_in self.new) (entry (Write (number_of reg) word) place ∷ h) }
     {
         let cleared = clears(executed, self.check, reg, word);
         let taken = both(cleared, self.pending);
@@ -110,15 +136,16 @@ impl Progress {
             matched: is_matched_after(self.matched, idcode, reg, word),
             pending: is_pending_after(self.pending, executed, cleared),
             ghigh: is_ghigh_after(self.ghigh, executed, taken),
+            iprog: wrote_iprog_after(self.iprog, reg, word),
         };
     }
 
     /// Takes words written to a register that has no effect beside the check.
-    pub(crate) fn pass(&mut self, register: u8, bytes: &[u8])
+    pub(crate) fn pass_all(&mut self, register: u8, bytes: &[u8])
         requires register { register < 32 }
         requires plain { has_effect register ≡ false }
         requires whole { length bytes.now % 4 ≡ 0 }
-        ensures { (idcode : ℕ) (h : History) (n : ℕ) → IsProgress idcode self.old h → IsProgress idcode self.new (entered_all n (payload_steps register (words_of_bytes bytes.now)) h) }
+        ensures { (idcode : ℕ) (h : History) (n : ℕ) → IsProgress idcode (progress_in self.old) h → IsProgress idcode (progress_in self.new) (entered_all n (payload_steps register (words_of_bytes bytes.now)) h) }
     {
         self.check = fold_slice(self.check, register, bytes);
     }

@@ -1,28 +1,31 @@
 //! The registers of a device, and what an access does to them.
-ghost use Rattle.std.specs.Prelude.{◌≡◌, ◌≤◌, ◌<◌, ◌+◌, ◌*◌, ◌/◌, ◌%◌, ◌==◌, ◌&&◌, not, ℕ, ◌∷◌, [], List, Bool, true, false, Option, None, Some, IfSome, IfNone, IsTrue, ◌↔◌, ◌-◌, ◌++◌, length, take, replicate};
+ghost use Rattle.std.specs.Prelude.{◌≡◌, ◌≤◌, ◌<◌, ◌+◌, ◌*◌, ◌/◌, ◌%◌, ◌==◌, ◌&&◌, not, ℕ, ◌∷◌, [], List, Bool, true, false, Option, None, Some, IfSome, IfNone, IsTrue, ◌↔◌, ◌-◌, ◌++◌, length, replicate};
 ghost use Rattle.x7_words.specs.Word.{words_of_bytes};
-ghost use Rattle.x7_packets.specs.Cutting.{IsRun, run_bytes};
-ghost use Rattle.x7_packets.specs.History.{command_held, entered, entered_all, entry, executed_by, History, Read, Write};
+ghost use Rattle.x7_packets.specs.Cutting.{IsRun, run_steps};
+ghost use Rattle.x7_packets.specs.History.{command_held, entered, entered_all, entry, executed_by, History, Read, until, Write};
 ghost use Rattle.x7_packets.specs.Packet.{payload_steps};
 ghost use Rattle.x7_part.specs.Part.{PartData};
 ghost use Rattle.x7_regs.specs.Register.{number_of};
-ghost use Rattle.x7_engine.specs.Kept.{on_the_bench};
+ghost use Rattle.x7_engine.specs.Kept.{is_fallback};
 ghost use Rattle.x7_engine.specs.Registers.{ctl0_held, has_effect};
 ghost use Rattle.x7_engine.specs.ReadBuffer.{IsFull, with_words};
+ghost use Rattle.x7_engine.specs.Standing.{counted_in};
 ghost use Rattle.x7_engine.specs.Stops.{forbids_writing, line_at, reads_frame_data};
 ghost use Rattle.x7_engine.specs.Values.{answer_of, read_out};
-ghost use Rattle.x7_engine.specs.Watching.{turns_on};
+ghost use Rattle.x7_engine.specs.declared.kept.Kept.{Kept as KeptData};
 
+use crate::clock::Clock;
 use crate::controls::{Controls, is_dec, masked};
 use crate::fault::Fault;
+use crate::kept::Kept;
 use crate::progress::{Progress, is, is_same_idcode};
 use crate::read_buffer::ReadBuf;
 use crate::stop::Stop;
 use crate::words::Words;
 use x7_packets::{Cut, Step};
 use x7_part::Part;
-use x7_regs::{Command, Reg, reg_of};
-use x7_words::{bytes_of, word_of};
+use x7_regs::{Attempt, Command, Kind, Reg, reg_of};
+use x7_words::word_of;
 
 /// The register with this number, where a word written to it does more than stay and be folded.
 #[rattlefmt::skip]
@@ -58,37 +61,57 @@ fn executed(held: u8, reg: Reg, word: u32) -> Option<u8>
     }
 }
 
-/// Whether a word of TIMER turns the watchdog on (UG470, watchdog timer register).
-fn is_on(timer: u32) -> bool
-    ensures { result ≡ turns_on timer }
+/// How many of the bytes taken end words that count, where this is the stop.
+fn counted(stop: Option<Stop>, taken: usize) -> usize
+    ensures value { result ≡ counted_in stop taken }
+    ensures within { result ≤ taken }
 {
-    timer >> 30 & 1 == 1 && timer & 0x3FFF_FFFF != 0
+    match stop {
+        Some(Stop::Fault(Fault::Watchdog)) => taken.saturating_sub(1),
+        _ => taken,
+    }
 }
 
-/// The registers of a device, what stopped it, and the words of a read that are still to be read out.
+/// Whether an attempt is a fallback, which has no watchdog and ignores IPROG.
+fn is_a_fallback(kind: Kind) -> bool
+    ensures { result ≡ is_fallback kind }
+{
+    match kind {
+        Kind::Fallback => true,
+        _ => false,
+    }
+}
+
+/// The registers of a device, its clock, what stopped it, and the words of a read that are still to be read out.
 #[derive(Clone, Copy, Debug)]
 pub(crate) struct Registers {
     pub(crate) words: Words,
     pub(crate) controls: Controls,
     pub(crate) progress: Progress,
+    pub(crate) kind: Kind,
+    pub(crate) before: Option<Attempt>,
+    pub(crate) clock: Clock,
     pub(crate) stop: Option<Stop>,
     due: u32,
     due_word: u32,
 }
 
 impl Registers {
-    ghost use Rattle.x7_engine.specs.Standing.{IsHeaderStep, NotLent, RegistersStandFor, steps_without, TellsNothing};
+    ghost use Rattle.x7_engine.specs.Standing.{EndsWords, HoldsRun, IsHeaderStep, IsNext, RegistersStandFor, registers_in, TellsNothing};
 
-    /// Those of a device on the bench that took nothing.
-    pub(crate) fn new() -> Registers
-        ensures stands { (part : PartData) → RegistersStandFor part on_the_bench result [] }
+    /// Those of a device that took nothing, with what the reset kept.
+    pub(crate) fn new(kept: &Kept) -> Registers
+        ensures stands { (part : PartData) → RegistersStandFor part kept.now (registers_in result) [] 0 }
         ensures going { result.stop ≡ None }
         ensures none_due { result.due ≡ 0 }
     {
         Registers {
-            words: Words::new(),
+            words: Words::new(kept),
             controls: Controls::new(),
             progress: Progress::new(),
+            kind: kept.kind,
+            before: kept.before,
+            clock: Clock::new(kept.timer, is_a_fallback(kept.kind)),
             stop: None,
             due: 0,
             due_word: 0,
@@ -104,22 +127,23 @@ impl Registers {
 
     /// The command that CMD holds, five bits.
     fn command(&self) -> u8
-        ensures { (part : PartData) (h : History) → RegistersStandFor part on_the_bench self.now h → result ≡ command_held h }
+        ensures { (part : PartData) (kept : KeptData) (h : History) (n : ℕ) → RegistersStandFor part kept (registers_in self.now) h n → result ≡ command_held h }
     {
         (self.words.held(Reg::Cmd) & 31) as u8
     }
 
     /// Whether frames may be written: CMD holds WCFG, and SBITS allow it.
     fn takes_frames(&self) -> bool
-        ensures { (part : PartData) (h : History) → RegistersStandFor part on_the_bench self.now h → result ≡ (command_held h == 1 && not (forbids_writing (ctl0_held h))) }
+        ensures { (part : PartData) (kept : KeptData) (h : History) (n : ℕ) → RegistersStandFor part kept (registers_in self.now) h n → result ≡ (command_held h == 1 && not (forbids_writing (ctl0_held h))) }
     {
         u32::from(self.command()) == Command::Wcfg.code() && !self.controls.forbid_writing()
     }
 
     /// The line that a written word comes to, which executes a command or none.
     fn line_of(&self, idcode: u32, reg: Reg, word: u32, executed: Option<u8>) -> Option<Stop>
-        ensures { (part : PartData) (h : History) → idcode ≡ part.idcode → RegistersStandFor part on_the_bench self.now h → executed ≡ executed_by (command_held h) (Write (number_of reg) word)
-            → result ≡ line_at part on_the_bench h (Write (number_of reg) word) }
+        ensures value { (part : PartData) (kept : KeptData) (h : History) (n : ℕ) → idcode ≡ part.idcode → RegistersStandFor part kept (registers_in self.now) h n → executed ≡ executed_by (command_held h) (Write (number_of reg) word)
+            → result ≡ line_at part kept h (Write (number_of reg) word) }
+        ensures counts { (n : ℕ) → counted_in result n ≡ n }
     {
         let Progress { check, matched, .. } = self.progress;
         let unmatched = Some(Stop::Fault(Fault::Id {
@@ -132,14 +156,10 @@ impl Registers {
                 want: check,
                 got: word,
             })),
-            Reg::Far | Reg::Cmd if is(Command::Start, executed) => if matched {
-                unbuilt
-            } else {
-                unmatched
-            },
+            Reg::Far | Reg::Cmd if is(Command::Start, executed) && !matched => unmatched,
             Reg::Fdri | Reg::Mfwr if !matched => unmatched,
             Reg::Fdri if self.takes_frames() => unbuilt,
-            Reg::Cmd if is(Command::Iprog, executed) => Some(Stop::Iprog),
+            Reg::Cmd if is(Command::Iprog, executed) && !is_a_fallback(self.kind) => Some(Stop::Iprog),
             Reg::Ctl0 if is_dec(masked(self.controls.ctl0, self.words.held(Reg::Mask), word)) =>
                 Some(Stop::Fault(Fault::Encrypted)),
             Reg::Mfwr if !self.controls.forbid_writing() => unbuilt,
@@ -148,7 +168,6 @@ impl Registers {
                 want: idcode,
                 got: word,
             })),
-            Reg::Timer if is_on(word) => unbuilt,
             _ => None,
         }
     }
@@ -156,55 +175,131 @@ impl Registers {
     /// Takes a written word: it is folded, then stored, and then come its faults and effects.
     fn write(&mut self, idcode: u32, reg: Reg, word: u32)
         requires { self.old.stop ≡ None }
-        ensures stands { (part : PartData) (h : History) (place : ℕ) → idcode ≡ part.idcode → RegistersStandFor part on_the_bench self.old h
-            → RegistersStandFor part on_the_bench self.new (entry (Write (number_of reg) word) place ∷ h) }
+        ensures stands { (part : PartData) (kept : KeptData) (h : History) (place : ℕ) → idcode ≡ part.idcode → IsNext place h → RegistersStandFor part kept (registers_in self.old) h place
+            → RegistersStandFor part kept (registers_in self.new) (entry (Write (number_of reg) word) place ∷ h) place }
+        ensures counts { (n : ℕ) → counted_in self.new.stop n ≡ n }
         ensures due { self.new.due ≡ self.old.due }
     {
         let executed = executed(self.command(), reg, word);
         let stop = self.line_of(idcode, reg, word, executed);
+        let taken = self.progress.takes(reg, word, executed);
         let mask = self.words.held(Reg::Mask);
+        let cor0 = self.words.held(Reg::Cor0);
         self.progress.write(idcode, reg, word, executed);
         self.controls.write(reg, word, mask);
         self.words.write(reg.number(), word);
+        self.clock.write(executed, taken, cor0, reg, word);
         self.stop = stop;
     }
 
-    /// Takes words written to a register without an effect beside the check.
-    fn pass(&mut self, register: u8, bytes: &[u8])
+    /// Takes a word written to a register without an effect beside the check.
+    fn pass(&mut self, register: u8, word: u32)
         requires register { register < 32 }
         requires plain { has_effect register ≡ false }
-        requires whole { length bytes.now % 4 ≡ 0 }
-        ensures stands { (part : PartData) (h : History) (n : ℕ) → self.old.stop ≡ None → RegistersStandFor part on_the_bench self.old h
-            → RegistersStandFor part on_the_bench self.new (entered_all n (payload_steps register (words_of_bytes bytes.now)) h) }
+        requires going { self.old.stop ≡ None }
+        ensures stands { (part : PartData) (kept : KeptData) (h : History) (place : ℕ) → IsNext place h → RegistersStandFor part kept (registers_in self.old) h place
+            → RegistersStandFor part kept (registers_in self.new) (entry (Write register word) place ∷ h) place }
         ensures stop { self.new.stop ≡ self.old.stop }
         ensures due { self.new.due ≡ self.old.due }
     {
-        self.progress.pass(register, bytes);
-        self.words.pass(register, bytes);
+        self.progress.pass(register, word);
+        self.words.write(register, word);
     }
 
-    /// Takes the payload words of a packet up to one that stops the device, and says how many bytes these are.
-    fn body(&mut self, idcode: u32, register: u8, bytes: &[u8]) -> usize
+    /// Takes a word written to a register by its number.
+    fn write_to(&mut self, idcode: u32, register: u8, word: u32)
+        requires register { register < 32 }
+        requires going { self.old.stop ≡ None }
+        ensures stands { (part : PartData) (kept : KeptData) (h : History) (place : ℕ) → idcode ≡ part.idcode → IsNext place h → RegistersStandFor part kept (registers_in self.old) h place
+            → RegistersStandFor part kept (registers_in self.new) (entry (Write register word) place ∷ h) place }
+        ensures counts { (n : ℕ) → counted_in self.new.stop n ≡ n }
+        ensures due { self.new.due ≡ self.old.due }
+    {
+        let Some(reg) = effective(register) else {
+            self.pass(register, word);
+            return;
+        };
+        self.write(idcode, reg, word);
+    }
+
+    /// Takes bytes before the word that they complete, up to the one at which the watchdog fires. Says how many are left.
+    fn tick(&mut self, part: &Part, count: usize) -> usize
+        requires going { self.old.stop ≡ None }
+        ensures within { result ≤ count }
+        ensures goes_on { self.new.stop ≡ None → result ≡ 0 }
+        ensures some { 0 < count → result < count }
+        ensures fired { (line : Stop) → self.new.stop ≡ Some line → (line ≡ Stop.Fault Fault.Watchdog) × (result < count) }
+        ensures due { self.new.due ≡ self.old.due }
+        ensures stands { (kept : KeptData) (h : History) (n : ℕ) → RegistersStandFor part.now kept (registers_in self.old) h n → RegistersStandFor part.now kept (registers_in self.new) h (n + (count - result)) }
+    {
+        let Some(taken) = self.clock.bytes(part, count) else {
+            return 0;
+        };
+        self.stop = Some(Stop::Fault(Fault::Watchdog));
+        count - taken
+    }
+
+    /// Takes the last bytes of a payload word, and then the word. Says how many bytes are left.
+    fn word(&mut self, part: &Part, register: u8, word: u32, count: usize) -> usize
+        requires register { register < 32 }
+        requires going { self.old.stop ≡ None }
+        ensures within { result ≤ count }
+        ensures some { 0 < count → result < count }
+        ensures goes_on { self.new.stop ≡ None → result ≡ 0 }
+        ensures due { self.new.due ≡ self.old.due }
+        ensures stands { (kept : KeptData) (h : History) (n : ℕ) → 0 < count → RegistersStandFor part.now kept (registers_in self.old) h n
+            → RegistersStandFor part.now kept (registers_in self.new) (until (counted_in self.new.stop (n + (count - result))) (entry (Write register word) (n + count) ∷ h)) (n + (count - result)) }
+    {
+        let left = self.tick(part, count);
+        if self.stop.is_some() {
+            return left;
+        }
+        self.write_to(part.idcode(), register, word);
+        0
+    }
+
+    /// Takes words written to a register without an effect beside the check, up to a byte at which the watchdog fires, and
+    /// says how many bytes these are.
+    fn pass_all(&mut self, part: &Part, register: u8, bytes: &[u8]) -> usize
+        requires going { self.old.stop ≡ None }
+        requires register { register < 32 }
+        requires plain { has_effect register ≡ false }
+        ensures within { result ≤ length bytes.now }
+        ensures some { 0 < length bytes.now → 0 < result }
+        ensures goes_on { self.new.stop ≡ None → result ≡ length bytes.now }
+        ensures due { self.new.due ≡ self.old.due }
+        ensures stands { (kept : KeptData) (h : History) (n : ℕ) → length bytes.now % 4 ≡ 0 → RegistersStandFor part.now kept (registers_in self.old) h n
+            → RegistersStandFor part.now kept (registers_in self.new) (until (counted_in self.new.stop (n + result)) (entered_all n (payload_steps register (words_of_bytes bytes.now)) h)) (n + result) }
+    {
+        let left = self.tick(part, bytes.len());
+        let taken = bytes.len() - left;
+        let whole = counted(self.stop, taken) / 4 * 4;
+        let front = &bytes[..whole];
+        self.progress.pass_all(register, front);
+        self.words.pass_all(register, front);
+        taken
+    }
+
+    /// Takes the payload words of a packet up to a byte that stops the device, and says how many bytes these are.
+    fn body(&mut self, part: &Part, register: u8, bytes: &[u8]) -> usize
         requires going { self.old.stop ≡ None }
         requires register { register < 32 }
         requires whole { length bytes.now % 4 ≡ 0 }
         ensures within { result ≤ length bytes.now }
-        ensures words { result % 4 ≡ 0 }
-        ensures stands { (part : PartData) (h : History) (n : ℕ) → idcode ≡ part.idcode → RegistersStandFor part on_the_bench self.old h
-            → RegistersStandFor part on_the_bench self.new (entered_all n (payload_steps register (take (result / 4) (words_of_bytes bytes.now))) h) }
         ensures some { 0 < length bytes.now → 0 < result }
         ensures goes_on { self.new.stop ≡ None → result ≡ length bytes.now }
         ensures due { self.new.due ≡ self.old.due }
+        ensures stands { (kept : KeptData) (h : History) (n : ℕ) → RegistersStandFor part.now kept (registers_in self.old) h n
+            → RegistersStandFor part.now kept (registers_in self.new) (until (counted_in self.new.stop (n + result)) (entered_all n (payload_steps register (words_of_bytes bytes.now)) h)) (n + result) }
     {
-        let Some(reg) = effective(register) else {
-            self.pass(register, bytes);
-            return bytes.len();
+        let Some(_) = effective(register) else {
+            return self.pass_all(part, register, bytes);
         };
         let (words, _) = bytes.as_chunks::<4>();
         let mut taken = 0;
         for word in words {
-            taken += 4;
-            self.write(idcode, reg, word_of(*word));
+            let left = self.word(part, register, word_of(*word), 4);
+            taken += 4 - left;
             if self.stop.is_some() {
                 return taken;
             }
@@ -214,7 +309,7 @@ impl Registers {
 
     /// Whether a read of this register asks for frame data: CMD holds RCFG, and SBITS allow it.
     fn reads_frames(&self, register: u8) -> bool
-        ensures { (part : PartData) (h : History) (count : ℕ) → 0 < count → RegistersStandFor part on_the_bench self.now h → result ≡ reads_frame_data h (Read register count) }
+        ensures { (part : PartData) (kept : KeptData) (h : History) (n count : ℕ) → 0 < count → RegistersStandFor part kept (registers_in self.now) h n → result ≡ reads_frame_data h (Read register count) }
     {
         register == Reg::Fdro.number()
             && u32::from(self.command()) == Command::Rcfg.code()
@@ -227,9 +322,10 @@ impl Registers {
         requires none_due { self.old.due ≡ 0 }
         requires some { 0 < count }
         ensures at_rest { (line : Stop) → self.new.stop ≡ Some line → self.new.due ≡ 0 }
-        ensures stands { (h : History) (place : ℕ) → RegistersStandFor part.now on_the_bench self.old h → RegistersStandFor part.now on_the_bench self.new (entry (Read register count) place ∷ h) }
-        ensures reads { (h : History) (place : ℕ) → RegistersStandFor part.now on_the_bench self.old h
-            → answer_of part.now on_the_bench h (Read register count) place ≡ replicate self.new.due self.new.due_word }
+        ensures counts { (n : ℕ) → counted_in self.new.stop n ≡ n }
+        ensures stands { (kept : KeptData) (h : History) (place : ℕ) → IsNext place h → RegistersStandFor part.now kept (registers_in self.old) h place → RegistersStandFor part.now kept (registers_in self.new) (entry (Read register count) place ∷ h) place }
+        ensures reads { (kept : KeptData) (h : History) (place : ℕ) → RegistersStandFor part.now kept (registers_in self.old) h place
+            → answer_of part.now kept h (Read register count) place ≡ replicate self.new.due self.new.due_word }
     {
         if self.reads_frames(register) {
             self.stop = Some(Stop::Fault(Fault::Unbuilt));
@@ -245,9 +341,10 @@ impl Registers {
         requires none_due { self.old.due ≡ 0 }
         requires header { IsHeaderStep step }
         ensures at_rest { (line : Stop) → self.new.stop ≡ Some line → self.new.due ≡ 0 }
-        ensures stands { (h : History) (place : ℕ) → RegistersStandFor part.now on_the_bench self.old h → RegistersStandFor part.now on_the_bench self.new (entered place step h) }
-        ensures reads { (h : History) (place : ℕ) → RegistersStandFor part.now on_the_bench self.old h
-            → read_out part.now on_the_bench (entered place step h) ≡ read_out part.now on_the_bench h ++ replicate self.new.due self.new.due_word }
+        ensures counts { (n : ℕ) → counted_in self.new.stop n ≡ n }
+        ensures stands { (kept : KeptData) (h : History) (place : ℕ) → IsNext place h → RegistersStandFor part.now kept (registers_in self.old) h place → RegistersStandFor part.now kept (registers_in self.new) (entered place step h) place }
+        ensures reads { (kept : KeptData) (h : History) (place : ℕ) → RegistersStandFor part.now kept (registers_in self.old) h place
+            → read_out part.now kept (entered place step h) ≡ read_out part.now kept h ++ replicate self.new.due self.new.due_word }
     {
         match step {
             Step::Read(register, count) if count > 0 => self.read(part, register, count),
@@ -256,32 +353,50 @@ impl Registers {
         }
     }
 
-    /// Takes a run of a stream up to what stops the device, and says how many of its last bytes it didn't take.
-    pub(crate) fn run(&mut self, part: &Part, run: Cut<'_>) -> usize
+    /// Takes the last bytes of a word in a header's place, and then the word. Says how many bytes are left.
+    fn header(&mut self, part: &Part, step: Step, count: usize) -> usize
+        requires going { self.old.stop ≡ None }
+        requires none_due { self.old.due ≡ 0 }
+        requires header { IsHeaderStep step }
+        ensures within { result ≤ count }
+        ensures goes_on { self.new.stop ≡ None → result ≡ 0 }
+        ensures at_rest { (line : Stop) → self.new.stop ≡ Some line → self.new.due ≡ 0 }
+        ensures stands { (kept : KeptData) (h : History) (n : ℕ) → 0 < count → RegistersStandFor part.now kept (registers_in self.old) h n
+            → RegistersStandFor part.now kept (registers_in self.new) (until (counted_in self.new.stop (n + (count - result))) (entered (n + count) step h)) (n + (count - result)) }
+        ensures reads { (kept : KeptData) (h : History) (n : ℕ) → 0 < count → RegistersStandFor part.now kept (registers_in self.old) h n
+            → read_out part.now kept (until (counted_in self.new.stop (n + (count - result))) (entered (n + count) step h)) ≡ read_out part.now kept h ++ replicate self.new.due self.new.due_word }
+    {
+        let left = self.tick(part, count);
+        if self.stop.is_some() {
+            return left;
+        }
+        self.head(part, step);
+        0
+    }
+
+    /// Takes a run of a stream, so many bytes of which are new, up to the byte that stops the device. Says how many of the
+    /// last bytes are left.
+    pub(crate) fn run(&mut self, part: &Part, run: Cut<'_>, count: usize) -> usize
         requires going { self.old.stop ≡ None }
         requires none_due { self.old.due ≡ 0 }
         requires run { IsRun run }
-        ensures within { result ≤ length (run_bytes run.entry) }
-        ensures words { result % 4 ≡ 0 }
+        requires holds { HoldsRun run count }
+        ensures within { result ≤ count }
         ensures goes_on { self.new.stop ≡ None → result ≡ 0 }
-        ensures whole { NotLent run.entry → result ≡ 0 }
-        ensures quiet { TellsNothing run.entry → self.new ≡ self.old }
+        ensures quiet { TellsNothing run.entry → self.new.due ≡ 0 }
         ensures at_rest { (line : Stop) → self.new.stop ≡ Some line → self.new.due ≡ 0 }
-        ensures stands { (h : History) (n : ℕ) → RegistersStandFor part.now on_the_bench self.old h → RegistersStandFor part.now on_the_bench self.new (entered_all n (steps_without result run.entry) h) }
-        ensures reads { (h : History) (n : ℕ) → RegistersStandFor part.now on_the_bench self.old h
-            → read_out part.now on_the_bench (entered_all n (steps_without result run.entry) h) ≡ read_out part.now on_the_bench h ++ replicate self.new.due self.new.due_word }
+        ensures stands { (kept : KeptData) (h : History) (from n : ℕ) → EndsWords run.entry from n count → RegistersStandFor part.now kept (registers_in self.old) h n
+            → RegistersStandFor part.now kept (registers_in self.new) (until (counted_in self.new.stop (n + (count - result))) (entered_all from (run_steps run.entry) h)) (n + (count - result)) }
+        ensures reads { (kept : KeptData) (h : History) (from n : ℕ) → EndsWords run.entry from n count → RegistersStandFor part.now kept (registers_in self.old) h n
+            → read_out part.now kept (until (counted_in self.new.stop (n + (count - result))) (entered_all from (run_steps run.entry) h)) ≡ read_out part.now kept h ++ replicate self.new.due self.new.due_word }
     {
         match run {
-            Cut::Need | Cut::Skip(_) | Cut::Sync => 0,
-            Cut::Head(_, step) => {
-                self.head(part, step);
-                0
-            }
-            Cut::Word(register, word) => {
-                self.body(part.idcode(), register, &bytes_of(word));
-                0
-            }
-            Cut::Body(register, bytes) => bytes.len() - self.body(part.idcode(), register, bytes),
+            Cut::Need => self.tick(part, count),
+            Cut::Skip(_) => self.tick(part, count),
+            Cut::Sync => self.tick(part, count),
+            Cut::Head(_, step) => self.header(part, step, count),
+            Cut::Word(register, word) => self.word(part, register, word, count),
+            Cut::Body(register, bytes) => bytes.len() - self.body(part, register, bytes),
         }
     }
 

@@ -58,9 +58,10 @@ struct Case {
 
 /// The state where the words of the stream are the first that a device took.
 #[rattlefmt::skip]
-fn worked_streams() -> [Case; 21] {
+fn worked_streams() -> [Case; 27] {
     let synced = fresh(End::Synced);
     let unbuilt = fresh(End::Fault(Fault::Unbuilt));
+    let fired = fresh(End::Fault(Fault::Watchdog));
     [
         // the sync word inside a match that failed
         Case { stream: b"\xFF\xAA\xAA\x99\x55\x66\x20\0\0\0", reads: &[], want: Regs { taken: 10, ..synced } },
@@ -95,11 +96,25 @@ fn worked_streams() -> [Case; 21] {
         // DESYNC, and an IPROG with its address
         Case { stream: b"\xAA\x99\x55\x66\x30\0\x80\x01\0\0\0\x0D\xFF", reads: &[], want: Regs { taken: 13, crc: 0xC923_5AB6, cmd: 13, ..fresh(End::Searching) } },
         Case { stream: b"\xAA\x99\x55\x66\x30\x02\0\x01\0\x02\0\0\x30\0\x80\x01\0\0\0\x0F", reads: &[], want: Regs { taken: 20, crc: 0x9245_13B1, cmd: 15, wbstar: 0x2_0000, ..fresh(End::Iprog(0x2_0000)) } },
-        // what isn't built: a read of frame data, a copy, START, a word that turns the watchdog on
+        // what isn't built: a read of frame data, a copy
         Case { stream: b"\xAA\x99\x55\x66\x30\0\x80\x01\0\0\0\x04\x28\0\x60\x01", reads: &[], want: Regs { taken: 16, crc: 0x3B15_3B89, cmd: 4, ..unbuilt } },
         Case { stream: b"\xAA\x99\x55\x66\x30\x01\x80\x01\x03\x62\xD0\x93\x30\x01\x40\x01\0\0\0\0", reads: &[], want: Regs { taken: 20, crc: 0xAB1B_2743, ..unbuilt } },
-        Case { stream: b"\xAA\x99\x55\x66\x30\x01\x80\x01\x03\x62\xD0\x93\x30\0\x80\x01\0\0\0\x05", reads: &[], want: Regs { taken: 20, crc: 0x044C_CD88, cmd: 5, ..unbuilt } },
-        Case { stream: b"\xAA\x99\x55\x66\x30\x02\x20\x01\x40\0\0\x02", reads: &[], want: Regs { taken: 12, crc: 0x6636_7293, timer: 0x4000_0002, ..unbuilt } },
+        // START arms, and DESYNC begins startup, which ends seven ticks later
+        Case { stream: b"\xAA\x99\x55\x66\x30\x01\x80\x01\x03\x62\xD0\x93\x30\0\x80\x01\0\0\0\x05", reads: &[], want: Regs { taken: 20, crc: 0x044C_CD88, cmd: 5, ..synced } },
+        Case { stream: b"\xAA\x99\x55\x66\x30\x01\x80\x01\x03\x62\xD0\x93\x30\0\x80\x01\0\0\0\x05\x30\0\x80\x01\0\0\0\x0D0123456789012345678901234567", reads: &[],
+            want: Regs { taken: 56, crc: 0xA0C9_7757, cmd: 13, phase: 7, lines: x7_startup::Lines { done: true, gts: true, gwe: true }, stat: 0x0010_797C, ..fresh(End::Searching) } },
+        // the watchdog, which counts from the load of TIMER: a word that ends where it fires isn't executed
+        Case { stream: b"\xAA\x99\x55\x66\x30\x02\x20\x01\x40\0\0\x02", reads: &[], want: Regs { taken: 12, crc: 0x6636_7293, timer: 0x4000_0002, ..synced } },
+        Case { stream: b"\xAA\x99\x55\x66\x30\x02\x20\x01\x40\0\0\x02\x30\0\x80\x01\0\0\0\x0F\xFF", reads: &[], want: Regs { taken: 20, crc: 0x6636_7293, timer: 0x4000_0002, ..fired } },
+        // it fires in a gap, in a payload's first word, and in its second one
+        Case { stream: b"\xAA\x99\x55\x66\x30\x02\x20\x01\x40\0\0\x04\x30\0\x80\x01\0\0\0\x0D0123456789", reads: &[], want: Regs { taken: 28, crc: 0x1350_599B, cmd: 13, timer: 0x4000_0004, ..fired } },
+        Case { stream: b"\xAA\x99\x55\x66\x30\x02\x20\x01\x40\0\0\x05\x30\0\x80\x01\0\0\0\x0D\xFF\xAA\x99\x55\x66\x30\x01\xA0\x02\0\0\0\x01\0\0\0\x02", reads: &[],
+            want: Regs { taken: 32, crc: 0x2E5F_EC09, cmd: 13, timer: 0x4000_0005, ..fired } },
+        Case { stream: b"\xAA\x99\x55\x66\x30\x02\x20\x01\x40\0\0\x06\x30\0\x80\x01\0\0\0\x0D\xFF\xAA\x99\x55\x66\x30\x01\xA0\x02\0\0\0\x01\0\0\0\x02", reads: &[],
+            want: Regs { taken: 36, crc: 0xA640_2FC8, cmd: 13, axss: 1, timer: 0x4000_0006, ..fired } },
+        // a byte that brings phase 7 isn't counted
+        Case { stream: b"\xAA\x99\x55\x66\x30\x01\x80\x01\x03\x62\xD0\x93\x30\x02\x20\x01\x40\0\0\x0B\x30\0\x80\x01\0\0\0\x05\x30\0\x80\x01\0\0\0\x0D012345678901234567890123456789", reads: &[],
+            want: Regs { taken: 66, crc: 0xF760_B689, cmd: 13, timer: 0x4000_000B, phase: 7, lines: x7_startup::Lines { done: true, gts: true, gwe: true }, stat: 0x0010_797C, ..fresh(End::Searching) } },
     ]
 }
 

@@ -1,19 +1,20 @@
 //! The values of the registers as they are read (UG470, configuration registers).
-ghost use Rattle.std.specs.Prelude.{◌≡◌, ℕ, None, false};
+ghost use Rattle.std.specs.Prelude.{◌≡◌, ◌&&◌, ℕ, None, false};
 ghost use Rattle.x7_packets.specs.History.{History};
 ghost use Rattle.x7_part.specs.Part.{PartData};
 ghost use Rattle.x7_regs.specs.Status.{status_of};
-ghost use Rattle.x7_engine.specs.Kept.{on_the_bench};
+ghost use Rattle.x7_engine.specs.Kept.{is_fallback};
 ghost use Rattle.x7_engine.specs.Registers.{has_ghigh};
 ghost use Rattle.x7_engine.specs.Startup.{startup_progress};
 ghost use Rattle.x7_engine.specs.Stops.{fault_of};
-ghost use Rattle.x7_engine.specs.Values.{check_shown, is_crc_fault, is_id_fault, read_value, stat_parts, value_of};
+ghost use Rattle.x7_engine.specs.Values.{attempt_of, cause_of, check_shown, is_crc_fault, is_id_fault, read_value, stat_parts, value_of};
+ghost use Rattle.x7_engine.specs.declared.kept.Kept.{Kept};
 
 use crate::fault::Fault;
 use crate::registers::Registers;
 use crate::stop::Stop;
 use x7_part::Part;
-use x7_regs::{Reg, StatParts, reg_of, stat_word};
+use x7_regs::{Attempt, Cause, Kind, Reg, StatParts, boot_word, reg_of, stat_word};
 
 /// Whether the stop is the fault `Crc`.
 fn is_crc(stop: Option<Stop>) -> bool
@@ -35,12 +36,34 @@ fn is_id(stop: Option<Stop>) -> bool
     }
 }
 
+/// What an attempt with this stop failed by, if it did.
+fn cause_in(stop: Option<Stop>) -> Option<Cause>
+    ensures { result ≡ cause_of (fault_of stop) false }
+{
+    match stop {
+        Some(Stop::Fault(Fault::Id { .. })) => Some(Cause::Id),
+        Some(Stop::Fault(Fault::Crc { .. })) => Some(Cause::Crc),
+        Some(Stop::Fault(Fault::Watchdog)) => Some(Cause::Watchdog),
+        _ => None,
+    }
+}
+
+/// Whether an attempt ignored an IPROG, where one was written: a fallback does.
+fn is_ignored(kind: Kind, wrote: bool) -> bool
+    ensures { result ≡ (is_fallback kind && wrote) }
+{
+    match kind {
+        Kind::Fallback => wrote,
+        _ => false,
+    }
+}
+
 impl Registers {
-    ghost use Rattle.x7_engine.specs.Standing.{RegistersStandFor};
+    ghost use Rattle.x7_engine.specs.Standing.{RegistersStandFor, registers_in};
 
     /// The running check; at a fault `Crc` the one that was wanted.
     fn check(&self) -> u32
-        ensures { (part : PartData) (h : History) → RegistersStandFor part on_the_bench self.now h → result ≡ check_shown (fault_of self.now.stop) h }
+        ensures { (part : PartData) (kept : Kept) (h : History) (n : ℕ) → RegistersStandFor part kept (registers_in self.now) h n → result ≡ check_shown (fault_of self.now.stop) h }
     {
         match self.stop {
             Some(Stop::Fault(Fault::Crc { want, .. })) => want,
@@ -48,33 +71,44 @@ impl Registers {
         }
     }
 
-    /// The word of STAT. Startup, which isn't built yet, has not begun.
+    /// The word of STAT.
     fn stat(&self, part: &Part) -> u32
-        ensures { (h : History) (n : ℕ) → RegistersStandFor part.now on_the_bench self.now h → result ≡ status_of (stat_parts part.now (fault_of self.now.stop) (startup_progress h n) (has_ghigh h)) }
+        ensures { (kept : Kept) (h : History) (n : ℕ) → RegistersStandFor part.now kept (registers_in self.now) h n → result ≡ status_of (stat_parts part.now (fault_of self.now.stop) (startup_progress h n) (has_ghigh h)) }
     {
         let crc_error = is_crc(self.stop);
+        let lines = self.clock.lines();
         stat_word(&StatParts {
             crc_error,
-            lock: part.lock() == 0,
-            matched: part.matched() == 0,
-            eos: false,
-            gts: false,
-            gwe: false,
+            lock: self.clock.have_passed(part.lock()),
+            matched: self.clock.have_passed(part.matched()),
+            eos: self.clock.has_ended(),
+            gts: lines.gts,
+            gwe: lines.gwe,
             ghigh: self.progress.ghigh,
             mode: part.mode(),
             init_b: !crc_error,
-            done: false,
+            done: lines.done,
             id_error: is_id(self.stop),
-            phase: 0,
+            phase: self.clock.phase(),
             bus_width: part.bus_width(),
         })
     }
 
-    /// The value of a register as it is read, and 0 for one that is only written. Frame data isn't built yet, and a device
-    /// on the bench has no boot history.
+    /// The present boot attempt.
+    fn attempt(&self) -> Attempt
+        ensures { (part : PartData) (kept : Kept) (h : History) (n : ℕ) → RegistersStandFor part kept (registers_in self.now) h n → result ≡ attempt_of kept false (fault_of self.now.stop) h }
+    {
+        Attempt {
+            kind: self.kind,
+            cause: cause_in(self.stop),
+            ignored: is_ignored(self.kind, self.progress.iprog),
+        }
+    }
+
+    /// The value of a register as it is read, and 0 for one that is only written. Frame data isn't built yet.
     #[rattlefmt::skip]
     pub(crate) fn value(&self, part: &Part, reg: Reg) -> u32
-        ensures { (h : History) (n : ℕ) → RegistersStandFor part.now on_the_bench self.now h → result ≡ value_of part.now on_the_bench false (fault_of self.now.stop) h n reg }
+        ensures { (kept : Kept) (h : History) (n : ℕ) → RegistersStandFor part.now kept (registers_in self.now) h n → result ≡ value_of part.now kept false (fault_of self.now.stop) h n reg }
     {
         match reg {
             Reg::Crc     => self.check(),
@@ -94,7 +128,7 @@ impl Registers {
             Reg::Cor1    => self.words.held(Reg::Cor1),
             Reg::Wbstar  => self.words.held(Reg::Wbstar),
             Reg::Timer   => self.words.held(Reg::Timer),
-            Reg::Bootsts => 0,
+            Reg::Bootsts => boot_word(self.attempt(), self.before),
             Reg::Ctl1    => self.controls.ctl1,
             Reg::Bspi    => self.words.held(Reg::Bspi),
         }
@@ -102,7 +136,7 @@ impl Registers {
 
     /// What a read of a register number gives: its value, and 0 for a number without a register.
     pub(crate) fn read_value(&self, part: &Part, register: u8) -> u32
-        ensures { (h : History) (n : ℕ) → self.now.stop ≡ None → RegistersStandFor part.now on_the_bench self.now h → result ≡ read_value part.now on_the_bench h n register }
+        ensures { (kept : Kept) (h : History) (n : ℕ) → self.now.stop ≡ None → RegistersStandFor part.now kept (registers_in self.now) h n → result ≡ read_value part.now kept h n register }
     {
         match reg_of(register) {
             Some(reg) => self.value(part, reg),

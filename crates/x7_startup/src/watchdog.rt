@@ -66,6 +66,7 @@ impl Watchdog {
 
     /// So many bytes more were taken, up to the one at which it fires: the number of that byte, from 1.
     pub fn bytes(&mut self, count: u64, eos: bool) -> Option<u64>
+        ensures within { IfSome result (λ n. (0 < n) × (n ≤ count)) }
         ensures fires { (off : Bool) (first : ℕ) (calls : List WatchCall) → WatchesFor off first self.old calls →
             IfSome result (λ n. (0 < n) × (n ≤ count) × Fires off first (calls ++ bytes_alike (n - 1) eos) eos × WatchesFor off first self.new (calls ++ bytes_alike n eos)
             × ((k : ℕ) → k < n - 1 → ¬ Fires off first (calls ++ bytes_alike k eos) eos)) }

@@ -14,7 +14,8 @@ use Rattle.x7_engine.specs.declared.fed.Fed.{Fed}
 use Rattle.x7_engine.specs.declared.fed.Fed.TheVariants as fed
 use Rattle.x7_engine.specs.Kept.{on_the_bench}
 use Rattle.x7_engine.specs.ReadBuffer.{IsFull, IsFullBy, ReadBufState, gathered, with_words}
-use Rattle.x7_engine.specs.Standing.{Answers, DeviceState, DeviceStandsFor, taken_in, told_of}
+use Rattle.x7_engine.proofs.FeedLemmas.{told_all, told_within}
+use Rattle.x7_engine.specs.Standing.{NoWordDue, Answers, DeviceState, DeviceStandsFor, taken_in, told_of}
 use Rattle.x7_engine.specs.State.{line_by, reads_of, state_of, stop_in}
 use Rattle.x7_engine.specs.Stops.{Stopped, fault_of}
 use Rattle.x7_tool.specs.Outcome.{TooLargeReads, Told, part_by, reads_limit, report_of, reported}
@@ -76,15 +77,6 @@ pub bytes_split : (bytes : List ℕ) (at n : ℕ) → bytes ≡ (take at bytes +
 bytes_split bytes at n =
     sym (append_assoc (take at bytes) (take n (drop at bytes)) (drop n (drop at bytes)) ∙ ap (λ x. take at bytes ++ x) (take-append-drop n (drop at bytes)) ∙ take-append-drop at bytes)
 
--- no word is due, so all that was read out was told
-told_all : (part : PartData) (d : DeviceState) (bytes : List ℕ) → d.registers.due ≡ 0 → told_of part on_the_bench d bytes ≡ reads_of part on_the_bench bytes
-told_all part d bytes e = ap (λ n. take (length (reads_of part on_the_bench bytes) - n) (reads_of part on_the_bench bytes)) e ∙ whole (reads_of part on_the_bench bytes)
-  where
-    whole : (xs : List ℕ) → take (length xs - 0) xs ≡ xs
-    whole xs =
-        let all : length xs - 0 ≡ length xs = omega arith in
-        ap (λ n. take n xs) all ∙ take-length xs
-
 -- more words than the limit were told
 pub over_limit : (part : PartData) (d : DeviceState) (bytes reads words front rest : List ℕ) → AreBytes bytes → bytes ≡ front ++ rest → told_of part on_the_bench d front ≡ reads ++ words → 16777216 < length reads + length words
     → 16777216 < length (reads_of part on_the_bench bytes)
@@ -92,11 +84,8 @@ over_limit part d bytes reads words front rest fits split told k =
     let grown = reads_grow part front rest (subst (λ x. AreBytes x) split fits) in
     let all : length (reads_of part on_the_bench bytes) ≡ length (reads_of part on_the_bench front) + length grown.0
     = ap (λ x. length (reads_of part on_the_bench x)) split ∙ ap length grown.1 ∙ length-append (reads_of part on_the_bench front) grown.0 in
-    let some : length (told_of part on_the_bench d front) ≤ length (reads_of part on_the_bench front) = shorter (length (reads_of part on_the_bench front) - d.registers.due) (reads_of part on_the_bench front) in
+    let some : length (told_of part on_the_bench d front) ≤ length (reads_of part on_the_bench front) = told_within part on_the_bench d front in
     omega (arith, all, some, ap length told, length-append reads words, k)
-  where
-    shorter : (n : ℕ) (xs : List ℕ) → length (take n xs) ≤ length xs
-    shorter n xs = omega (arith, length-take n xs)
 
 abbrev pub IsEnd : Fed → Type 0
 IsEnd (fed.ReadFull n) = ⊥
@@ -109,7 +98,7 @@ is_end (fed.Stopped n) h = tt
 is_end (fed.Iprog n) h = tt
 
 stopped_end : (part : PartData) (bytes front rest : List ℕ) (d : DeviceState) (reads : List ℕ) (s : Stopped) → AreBytes bytes → bytes ≡ front ++ rest → DeviceStandsFor part on_the_bench d front → reads ≡ told_of part on_the_bench d front → length reads ≤ reads_limit
-    → stop_in part on_the_bench front ≡ Some s → d.registers.due ≡ 0 → IsPlayed part bytes d reads
+    → stop_in part on_the_bench front ≡ Some s → NoWordDue d → IsPlayed part bytes d reads
 stopped_end part bytes front rest d reads s fits split stands told few stop due =
     let all : AreBytes (front ++ rest) = subst (λ x. AreBytes x) split fits in
     record {
@@ -117,7 +106,7 @@ stopped_end part bytes front rest d reads s fits split stands told few stop due 
       stands = stands;
       stop = ap (stop_in part on_the_bench) split ∙ stop_is_final-stop part on_the_bench front rest s all stop ∙ sym stop;
       state = ap (state_of part on_the_bench false) split ∙ stop_is_final-state part on_the_bench false front rest s all stop;
-      reads_are = told ∙ told_all part d front due ∙ sym (ap (reads_of part on_the_bench) split ∙ stop_is_final-reads part on_the_bench front rest s all stop);
+      reads_are = told ∙ told_all part on_the_bench d front due ∙ sym (ap (reads_of part on_the_bench) split ∙ stop_is_final-reads part on_the_bench front rest s all stop);
       few = few;
     }
 
@@ -138,7 +127,7 @@ play_end part bytes at d read reads fed.All fits e stands answer told few =
       stands = stands;
       stop = ap (stop_in part on_the_bench) (sym whole);
       state = ap (state_of part on_the_bench false) (sym whole);
-      reads_are = told ∙ told_all part d (take at bytes ++ take (length (drop at bytes)) (drop at bytes)) answer.1 ∙ ap (reads_of part on_the_bench) whole;
+      reads_are = told ∙ told_all part on_the_bench d (take at bytes ++ take (length (drop at bytes)) (drop at bytes)) answer.1 ∙ ap (reads_of part on_the_bench) whole;
       few = few;
     }
 

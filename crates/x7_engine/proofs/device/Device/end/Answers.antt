@@ -1,4 +1,4 @@
-use Rattle.std.proofs.Common.{◌≡◌, ℕ, Bool, Option, None, Some, refl, sym, ap, subst, ◌∙◌}
+use Rattle.std.proofs.Common.{◌≡◌, ℕ, Bool, List, length, Option, None, Some, refl, sym, ap, subst, ◌∙◌}
 use Rattle.x7_packets.specs.ByHand.{reading_of}
 use Rattle.x7_packets.specs.History.{History}
 use Rattle.x7_packets.specs.Reading.{is_synced}
@@ -6,9 +6,9 @@ use Rattle.x7_packets.proofs.ByHandLemmas.{reading_is}
 use Rattle.x7_part.specs.Part.{PartData}
 use Rattle.x7_engine.specs.declared.stop.Stop.{Stop}
 use Rattle.x7_engine.specs.declared.stop.Stop.TheVariants as stop
-use Rattle.x7_engine.specs.Kept.{on_the_bench}
+use Rattle.x7_engine.specs.declared.kept.Kept.{Kept}
 use Rattle.x7_engine.specs.Registers.{word_held}
-use Rattle.x7_engine.specs.Standing.{DeviceStandsFor, DeviceState, IsCutterOf}
+use Rattle.x7_engine.specs.Standing.{DeviceStandsFor, DeviceState, IsCutterOf, registers_in}
 use Rattle.x7_engine.specs.State.{end_by, history_taken, line_by, stop_in}
 use Rattle.x7_engine.proofs.StateLemmas.{line_is}
 use Rattle.x7_engine.proofs.device.Device.end.Goals as goal
@@ -20,19 +20,19 @@ same_end (Some (stop.Fault g)) b c w f = refl
 same_end (Some stop.Iprog) b c w f = refl
 
 pub returns : goal.returns
-returns c = λ given bytes s.
+returns c = λ given kept bytes s.
     let part : PartData = c.self.inside.part in
-    let fields : DeviceState = record { part = part; cutter = c.self.inside.cutter; registers = c.self.inside.registers; taken = c.self.inside.taken } in
+    let fields : DeviceState = record { part = part; cutter = c.self.inside.cutter; registers = registers_in c.self.inside.registers; taken = c.self.inside.taken } in
     let here : part ≡ given = ap (λ (d : DeviceState). d.part) c.self.view_is ∙ s.part_is in
-    let now : DeviceStandsFor part on_the_bench c.args.self.now bytes = subst (λ (p : PartData). DeviceStandsFor p on_the_bench c.args.self.now bytes) (sym here) s in
-    let stands : DeviceStandsFor part on_the_bench fields bytes = subst (λ (d : DeviceState). DeviceStandsFor part on_the_bench d bytes) (sym c.self.view_is) now in
-    let h : History = history_taken part on_the_bench bytes in
+    let now : DeviceStandsFor part kept c.args.self.now bytes = subst (λ (p : PartData). DeviceStandsFor p kept c.args.self.now bytes) (sym here) s in
+    let stands : DeviceStandsFor part kept fields bytes = subst (λ (d : DeviceState). DeviceStandsFor part kept d bytes) (sym c.self.view_is) now in
+    let h : History = history_taken part kept bytes in
     let session : (d : c.self.inside.registers.stop ≡ None) → c.is_synced.result ≡ is_synced (reading_of bytes).place = λ d.
     let cutter : IsCutterOf c.self.inside.cutter bytes = stands.cutter_is d in
     c.is_synced.ensures.synced bytes cutter.sessions cutter.place cutter.stands ∙ ap is_synced (reading_is bytes cutter.sessions cutter.place cutter.stands.reading).1 in
     c.end_of.ensures
     ∙ ap (λ (o : Option Stop). end_by o c.is_synced.result c.value.result) c.stop.ensures
     ∙ same_end c.self.inside.registers.stop c.is_synced.result (is_synced (reading_of bytes).place) c.value.result session
-    ∙ ap (end_by c.self.inside.registers.stop (is_synced (reading_of bytes).place)) (c.value.ensures h 0 stands.registers_are)
-    ∙ ap (λ (o : Option Stop). end_by o (is_synced (reading_of bytes).place) (word_held on_the_bench 16 h)) (sym (line_is part on_the_bench fields bytes stands))
-    ∙ ap (λ (p : PartData). end_by (line_by (stop_in p on_the_bench bytes)) (is_synced (reading_of bytes).place) (word_held on_the_bench 16 (history_taken p on_the_bench bytes))) here
+    ∙ ap (end_by c.self.inside.registers.stop (is_synced (reading_of bytes).place)) (c.value.ensures kept h (length bytes) stands.registers_are)
+    ∙ ap (λ (o : Option Stop). end_by o (is_synced (reading_of bytes).place) (word_held kept 16 h)) (sym (line_is part kept fields bytes stands))
+    ∙ ap (λ (p : PartData). end_by (line_by (stop_in p kept bytes)) (is_synced (reading_of bytes).place) (word_held kept 16 (history_taken p kept bytes))) here

@@ -2,7 +2,7 @@ use Rattle.std.proofs.Common.{◌≡◌, ◌+◌, ◌-◌, ◌^◌, ◌≤◌, �
 use Rattle.std.specs.Option.{is_some}
 use Rattle.x7_packets.specs.Cutting.{calls_left}
 use Rattle.x7_part.specs.Part.{PartData}
-use Rattle.x7_engine.specs.Kept.{on_the_bench}
+use Rattle.x7_engine.specs.declared.kept.Kept.{Kept}
 use Rattle.x7_engine.specs.ReadBuffer.{with_words}
 use Rattle.x7_engine.specs.Standing.{DeviceStandsFor, told_of}
 use Rattle.x7_engine.proofs.device.Device.feed.Given as goal
@@ -11,9 +11,9 @@ abbrev pub invariant-runs : goal.invariant-runs
 invariant-runs l = record {
   within : l.at ≤ length l.piece;
   fits : l.self.taken + (length l.piece - l.at) ≤ 2 ^ 63;
-  stands : (part : PartData) (bytes : List ℕ) → DeviceStandsFor part on_the_bench l.initial.self bytes → DeviceStandsFor part on_the_bench l.self (bytes ++ take l.at l.piece);
-  reads : (part : PartData) (bytes : List ℕ) → DeviceStandsFor part on_the_bench l.initial.self bytes
-      → (more : List ℕ) × (l.read ≡ with_words l.initial.read more) × (told_of part on_the_bench l.self (bytes ++ take l.at l.piece) ≡ told_of part on_the_bench l.initial.self bytes ++ more);
+  stands : (part : PartData) (kept : Kept) (bytes : List ℕ) → DeviceStandsFor part kept l.initial.self bytes → DeviceStandsFor part kept l.self (bytes ++ take l.at l.piece);
+  reads : (part : PartData) (kept : Kept) (bytes : List ℕ) → DeviceStandsFor part kept l.initial.self bytes
+      → (more : List ℕ) × (l.read ≡ with_words l.initial.read more) × (told_of part kept l.self (bytes ++ take l.at l.piece) ≡ told_of part kept l.initial.self bytes ++ more);
   stopped : is_some l.initial.self.registers.stop ≡ true → (l.self ≡ l.initial.self) × (l.read ≡ l.initial.read) × (l.at ≡ 0);
 }
 

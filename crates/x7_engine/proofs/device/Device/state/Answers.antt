@@ -1,51 +1,52 @@
-use Rattle.std.proofs.Common.{◌≡◌, ℕ, false, Option, sym, ap, subst, ◌∙◌}
+use Rattle.std.proofs.Common.{◌≡◌, ℕ, List, length, false, Option, sym, ap, subst, ◌∙◌}
 use Rattle.x7_packets.specs.History.{History}
 use Rattle.x7_part.specs.Part.{PartData}
 use Rattle.x7_regs.specs.declared.register.Reg.{Reg}
 use Rattle.x7_regs.specs.declared.register.Reg.TheVariants as reg
-use Rattle.x7_startup.specs.Calls.{NotBegun}
 use Rattle.x7_engine.specs.declared.stop.Stop.{Stop}
-use Rattle.x7_engine.specs.Kept.{on_the_bench}
-use Rattle.x7_engine.specs.Standing.{DeviceStandsFor, DeviceState, RegistersStandFor}
+use Rattle.x7_engine.specs.declared.kept.Kept.{Kept}
+use Rattle.x7_engine.specs.Standing.{DeviceStandsFor, DeviceState, RegistersStandFor, registers_in}
 use Rattle.x7_engine.specs.Startup.{phase_by, startup_progress}
 use Rattle.x7_engine.specs.State.{history_taken, line_by, state_of, stop_in, taken_of}
 use Rattle.x7_engine.specs.Stops.{fault_of}
 use Rattle.x7_engine.specs.Values.{lines_by, value_of}
-use Rattle.x7_engine.proofs.StateLemmas.{line_is, progress_is, taken_is}
+use Rattle.x7_engine.proofs.StateLemmas.{line_is, taken_is}
 use Rattle.x7_engine.proofs.device.Device.state.Goals as goal
 
 -- the device as its fields
 abbrev fields_of : goal.After-value-15 → DeviceState
-fields_of c = record { part = c.self.inside.part; cutter = c.self.inside.cutter; registers = c.self.inside.registers; taken = c.self.inside.taken }
+fields_of c = record { part = c.self.inside.part; cutter = c.self.inside.cutter; registers = registers_in c.self.inside.registers; taken = c.self.inside.taken }
 
 pub returns : goal.returns
-returns c = λ given bytes s.
+returns c = λ given kept bytes s.
     let part : PartData = c.self.inside.part in
     let here : part ≡ given = ap (λ (d : DeviceState). d.part) c.self.view_is ∙ s.part_is in
-    let now : DeviceStandsFor part on_the_bench c.args.self.now bytes = subst (λ (p : PartData). DeviceStandsFor p on_the_bench c.args.self.now bytes) (sym here) s in
-    let stands : DeviceStandsFor part on_the_bench (fields_of c) bytes = subst (λ (d : DeviceState). DeviceStandsFor part on_the_bench d bytes) (sym c.self.view_is) now in
-    let h : History = history_taken part on_the_bench bytes in
-    let n : ℕ = taken_of part on_the_bench bytes in
-    let regs : RegistersStandFor part on_the_bench c.self.inside.registers h = stands.registers_are in
-    let shown : (r : Reg) → value_of part on_the_bench false (fault_of c.self.inside.registers.stop) h n r ≡ value_of part on_the_bench false (fault_of (line_by (stop_in part on_the_bench bytes))) h n r =
-    λ r. ap (λ (o : Option Stop). value_of part on_the_bench false (fault_of o) h n r) (sym (line_is part on_the_bench (fields_of c) bytes stands)) in
-    let taken : c.self.inside.taken ≡ n = stands.taken_is ∙ sym (taken_is part on_the_bench (fields_of c) bytes stands) in
-    let begun : NotBegun ≡ startup_progress h n = sym (progress_is part on_the_bench (fields_of c) bytes n stands) in
-    let end : c.end.result ≡ (state_of part on_the_bench false bytes).end = c.end.ensures part bytes now in
-    let crc : c.value.result ≡ value_of part on_the_bench false (fault_of (line_by (stop_in part on_the_bench bytes))) h n reg.Crc = c.value.ensures h n regs ∙ shown reg.Crc in
-    let far : c.value-2.result ≡ value_of part on_the_bench false (fault_of (line_by (stop_in part on_the_bench bytes))) h n reg.Far = c.value-2.ensures h n regs ∙ shown reg.Far in
-    let cmd : c.value-3.result ≡ value_of part on_the_bench false (fault_of (line_by (stop_in part on_the_bench bytes))) h n reg.Cmd = c.value-3.ensures h n regs ∙ shown reg.Cmd in
-    let ctl0 : c.value-4.result ≡ value_of part on_the_bench false (fault_of (line_by (stop_in part on_the_bench bytes))) h n reg.Ctl0 = c.value-4.ensures h n regs ∙ shown reg.Ctl0 in
-    let mask : c.value-5.result ≡ value_of part on_the_bench false (fault_of (line_by (stop_in part on_the_bench bytes))) h n reg.Mask = c.value-5.ensures h n regs ∙ shown reg.Mask in
-    let stat : c.value-6.result ≡ value_of part on_the_bench false (fault_of (line_by (stop_in part on_the_bench bytes))) h n reg.Stat = c.value-6.ensures h n regs ∙ shown reg.Stat in
-    let cor0 : c.value-7.result ≡ value_of part on_the_bench false (fault_of (line_by (stop_in part on_the_bench bytes))) h n reg.Cor0 = c.value-7.ensures h n regs ∙ shown reg.Cor0 in
-    let idcode : c.value-8.result ≡ value_of part on_the_bench false (fault_of (line_by (stop_in part on_the_bench bytes))) h n reg.Idcode = c.value-8.ensures h n regs ∙ shown reg.Idcode in
-    let axss : c.value-9.result ≡ value_of part on_the_bench false (fault_of (line_by (stop_in part on_the_bench bytes))) h n reg.Axss = c.value-9.ensures h n regs ∙ shown reg.Axss in
-    let cor1 : c.value-10.result ≡ value_of part on_the_bench false (fault_of (line_by (stop_in part on_the_bench bytes))) h n reg.Cor1 = c.value-10.ensures h n regs ∙ shown reg.Cor1 in
-    let wbstar : c.value-11.result ≡ value_of part on_the_bench false (fault_of (line_by (stop_in part on_the_bench bytes))) h n reg.Wbstar = c.value-11.ensures h n regs ∙ shown reg.Wbstar in
-    let timer : c.value-12.result ≡ value_of part on_the_bench false (fault_of (line_by (stop_in part on_the_bench bytes))) h n reg.Timer = c.value-12.ensures h n regs ∙ shown reg.Timer in
-    let bootsts : c.value-13.result ≡ value_of part on_the_bench false (fault_of (line_by (stop_in part on_the_bench bytes))) h n reg.Bootsts = c.value-13.ensures h n regs ∙ shown reg.Bootsts in
-    let ctl1 : c.value-14.result ≡ value_of part on_the_bench false (fault_of (line_by (stop_in part on_the_bench bytes))) h n reg.Ctl1 = c.value-14.ensures h n regs ∙ shown reg.Ctl1 in
-    let bspi : c.value-15.result ≡ value_of part on_the_bench false (fault_of (line_by (stop_in part on_the_bench bytes))) h n reg.Bspi = c.value-15.ensures h n regs ∙ shown reg.Bspi in
-    let all : _ ≡ state_of part on_the_bench false bytes = λ i. record { taken = taken i; end = end i; phase = phase_by part (begun i); lines = lines_by part (begun i); crc = crc i; far = far i; cmd = cmd i; ctl0 = ctl0 i; mask = mask i; stat = stat i; cor0 = cor0 i; idcode = idcode i; axss = axss i; cor1 = cor1 i; wbstar = wbstar i; timer = timer i; bootsts = bootsts i; ctl1 = ctl1 i; bspi = bspi i } in
-    all ∙ ap (λ (p : PartData). state_of p on_the_bench false bytes) here
+    let now : DeviceStandsFor part kept c.args.self.now bytes = subst (λ (p : PartData). DeviceStandsFor p kept c.args.self.now bytes) (sym here) s in
+    let stands : DeviceStandsFor part kept (fields_of c) bytes = subst (λ (d : DeviceState). DeviceStandsFor part kept d bytes) (sym c.self.view_is) now in
+    let h : History = history_taken part kept bytes in
+    let n : ℕ = taken_of part kept bytes in
+    let all_taken : length bytes ≡ n = sym (taken_is part kept (fields_of c) bytes stands) in
+    let regs : RegistersStandFor part kept (registers_in c.self.inside.registers) h n = subst (λ (k : ℕ). RegistersStandFor part kept (registers_in c.self.inside.registers) h k) all_taken stands.registers_are in
+    let shown : (r : Reg) → value_of part kept false (fault_of c.self.inside.registers.stop) h n r ≡ value_of part kept false (fault_of (line_by (stop_in part kept bytes))) h n r =
+    λ r. ap (λ (o : Option Stop). value_of part kept false (fault_of o) h n r) (sym (line_is part kept (fields_of c) bytes stands)) in
+    let taken : c.self.inside.taken ≡ n = stands.taken_is ∙ sym (taken_is part kept (fields_of c) bytes stands) in
+    let phase : c.phase.result ≡ phase_by part (startup_progress h n) = c.phase.ensures.value part h n regs.clock.startup in
+    let lines : c.lines.result ≡ lines_by part (startup_progress h n) = c.lines.ensures part h n regs.clock.startup in
+    let end : c.end.result ≡ (state_of part kept false bytes).end = c.end.ensures part kept bytes now in
+    let crc : c.value.result ≡ value_of part kept false (fault_of (line_by (stop_in part kept bytes))) h n reg.Crc = c.value.ensures kept h n regs ∙ shown reg.Crc in
+    let far : c.value-2.result ≡ value_of part kept false (fault_of (line_by (stop_in part kept bytes))) h n reg.Far = c.value-2.ensures kept h n regs ∙ shown reg.Far in
+    let cmd : c.value-3.result ≡ value_of part kept false (fault_of (line_by (stop_in part kept bytes))) h n reg.Cmd = c.value-3.ensures kept h n regs ∙ shown reg.Cmd in
+    let ctl0 : c.value-4.result ≡ value_of part kept false (fault_of (line_by (stop_in part kept bytes))) h n reg.Ctl0 = c.value-4.ensures kept h n regs ∙ shown reg.Ctl0 in
+    let mask : c.value-5.result ≡ value_of part kept false (fault_of (line_by (stop_in part kept bytes))) h n reg.Mask = c.value-5.ensures kept h n regs ∙ shown reg.Mask in
+    let stat : c.value-6.result ≡ value_of part kept false (fault_of (line_by (stop_in part kept bytes))) h n reg.Stat = c.value-6.ensures kept h n regs ∙ shown reg.Stat in
+    let cor0 : c.value-7.result ≡ value_of part kept false (fault_of (line_by (stop_in part kept bytes))) h n reg.Cor0 = c.value-7.ensures kept h n regs ∙ shown reg.Cor0 in
+    let idcode : c.value-8.result ≡ value_of part kept false (fault_of (line_by (stop_in part kept bytes))) h n reg.Idcode = c.value-8.ensures kept h n regs ∙ shown reg.Idcode in
+    let axss : c.value-9.result ≡ value_of part kept false (fault_of (line_by (stop_in part kept bytes))) h n reg.Axss = c.value-9.ensures kept h n regs ∙ shown reg.Axss in
+    let cor1 : c.value-10.result ≡ value_of part kept false (fault_of (line_by (stop_in part kept bytes))) h n reg.Cor1 = c.value-10.ensures kept h n regs ∙ shown reg.Cor1 in
+    let wbstar : c.value-11.result ≡ value_of part kept false (fault_of (line_by (stop_in part kept bytes))) h n reg.Wbstar = c.value-11.ensures kept h n regs ∙ shown reg.Wbstar in
+    let timer : c.value-12.result ≡ value_of part kept false (fault_of (line_by (stop_in part kept bytes))) h n reg.Timer = c.value-12.ensures kept h n regs ∙ shown reg.Timer in
+    let bootsts : c.value-13.result ≡ value_of part kept false (fault_of (line_by (stop_in part kept bytes))) h n reg.Bootsts = c.value-13.ensures kept h n regs ∙ shown reg.Bootsts in
+    let ctl1 : c.value-14.result ≡ value_of part kept false (fault_of (line_by (stop_in part kept bytes))) h n reg.Ctl1 = c.value-14.ensures kept h n regs ∙ shown reg.Ctl1 in
+    let bspi : c.value-15.result ≡ value_of part kept false (fault_of (line_by (stop_in part kept bytes))) h n reg.Bspi = c.value-15.ensures kept h n regs ∙ shown reg.Bspi in
+    let all : _ ≡ state_of part kept false bytes = λ i. record { taken = taken i; end = end i; phase = phase i; lines = lines i; crc = crc i; far = far i; cmd = cmd i; ctl0 = ctl0 i; mask = mask i; stat = stat i; cor0 = cor0 i; idcode = idcode i; axss = axss i; cor1 = cor1 i; wbstar = wbstar i; timer = timer i; bootsts = bootsts i; ctl1 = ctl1 i; bspi = bspi i } in
+    all ∙ ap (λ (p : PartData). state_of p kept false bytes) here

@@ -2,7 +2,7 @@ use Rattle.std.proofs.Common.{ℕ, ◌≡◌, ◌&&◌, ◌||◌, Option, ap, �
 use Rattle.x7_packets.specs.History.{Access, Write, command_held, executed_by, is_command}
 use Rattle.x7_regs.specs.Register.{number_of}
 use Rattle.x7_crc.specs.OpenWrites.{running_check}
-use Rattle.x7_engine.specs.Registers.{clears_by, ghigh_after, has_ghigh, is_clearance, is_pending, names_part, pending_after, takes_shutdown}
+use Rattle.x7_engine.specs.Registers.{clears_by, ghigh_after, has_ghigh, is_clearance, is_pending, names_part, pending_after, takes_shutdown, writes_command}
 use Rattle.x7_engine.proofs.progress.Progress.write.Goals as goal
 
 pub returns : goal.returns
@@ -16,4 +16,5 @@ returns c = λ h place e p.
       matched = c.is_matched_after.ensures ∙ ap (λ b. names_part c.args.idcode access || b) p.matched;
       pending = c.is_pending_after.ensures ∙ ap (λ b. pending_after c.args.executed b c.args.self.now.pending) cleared ∙ ap (λ b. pending_after c.args.executed (is_clearance h access) b) p.pending ∙ ap (λ o. pending_after o (is_clearance h access) (is_pending h)) e;
       ghigh = c.is_ghigh_after.ensures ∙ ap (λ b. ghigh_after c.args.executed b c.args.self.now.ghigh) taken ∙ ap (λ b. ghigh_after c.args.executed (takes_shutdown h access) b) p.ghigh ∙ ap (λ o. ghigh_after o (takes_shutdown h access) (has_ghigh h)) e;
+      iprog = c.wrote_iprog_after.ensures ∙ ap (λ b. writes_command 15 access || b) p.iprog;
     }

@@ -1,10 +1,9 @@
-use Rattle.std.proofs.Common.{◌≡◌, ◌*◌, ℕ, take, None}
+use Rattle.std.proofs.Common.{◌≡◌, ◌*◌, ◌+◌, ℕ, take, None}
 use Rattle.x7_words.specs.Word.{words_of_bytes}
 use Rattle.x7_packets.specs.History.{History, entered_all}
 use Rattle.x7_packets.specs.Packet.{payload_steps}
-use Rattle.x7_part.specs.Part.{PartData}
-use Rattle.x7_engine.specs.Kept.{on_the_bench}
-use Rattle.x7_engine.specs.Standing.{RegistersStandFor}
+use Rattle.x7_engine.specs.declared.kept.Kept.{Kept}
+use Rattle.x7_engine.specs.Standing.{RegistersStandFor, registers_in}
 use Rattle.x7_engine.proofs.registers.Registers.body.Given as goal
 
 abbrev pub invariant-loop-word : goal.invariant-loop-word
@@ -12,6 +11,6 @@ invariant-loop-word l = record {
   going : l.self.stop ≡ None;
   count : l.taken ≡ 4 * l.word-index;
   due : l.self.due ≡ l.initial.self.due;
-  stands : (part : PartData) (h : History) (n : ℕ) → l.idcode ≡ part.idcode → RegistersStandFor part on_the_bench l.initial.self h
-      → RegistersStandFor part on_the_bench l.self (entered_all n (payload_steps l.register (take l.word-index (words_of_bytes l.bytes))) h);
+  stands : (kept : Kept) (h : History) (n : ℕ) → RegistersStandFor l.part kept (registers_in l.initial.self) h n
+      → RegistersStandFor l.part kept (registers_in l.self) (entered_all n (payload_steps l.register (take l.word-index (words_of_bytes l.bytes))) h) (n + l.taken);
 }

@@ -1,8 +1,27 @@
-use Rattle.std.proofs.Common.{◌≡◌, ◌==◌, false, arith}
+use Rattle.std.proofs.Common.{◌≡◌, ◌==◌, ◌∷◌, None, false, refl, sym, ap, subst, ◌∙◌, arith}
 use Rattle.std.proofs.lemmas.Bool.Decides.{nat_tests}
+use Rattle.x7_packets.specs.History.{Bad}
+use Rattle.x7_engine.specs.Standing.{registers_in}
+use Rattle.x7_engine.specs.Stops.{stop_of, stopped_at}
+use Rattle.x7_engine.proofs.ClockLemmas.{stop_of-access}
+use Rattle.x7_engine.proofs.PlainLemmas.{clock_other}
 use Rattle.x7_engine.proofs.registers.Registers.head.Goals as goal
 
 pub returns-in-Read-clause-stands : goal.returns-in-Read-clause-stands
-returns-in-Read-clause-stands c = λ h place s.
+returns-in-Read-clause-stands c = λ kept h place next s.
     let some : (c.in-Read.count == 0) ≡ false = grind (arith, nat_tests, c.if-count-gt0.true) in
-    rw (c.in-Read.is, some) (c.read.ensures.stands h place s)
+    rw (c.in-Read.is, some) (c.read.ensures.stands kept h place next s)
+
+pub returns-in-Bad-clause-stands : goal.returns-in-Bad-clause-stands
+returns-in-Bad-clause-stands c = λ kept h place next s.
+    let going : stop_of c.args.part.now kept h place ≡ None = s.stop ∙ ap (stopped_at place) c.requires.going in
+    rw c.in-Bad.is record {
+      places = (next.0, omega arith, next.1);
+      words = record { each = s.words.each };
+      controls = record { ctl0 = s.controls.ctl0; ctl1 = s.controls.ctl1 };
+      progress = record { check = s.progress.check; matched = s.progress.matched; pending = s.progress.pending; ghigh = s.progress.ghigh; iprog = s.progress.iprog };
+      kind = s.kind;
+      before = s.before;
+      clock = clock_other c.args.part.now kept (registers_in c.args.self.now).clock h (Bad c.in-Bad.word) place refl refl s.clock;
+      stop = stop_of-access c.args.part.now kept h (Bad c.in-Bad.word) place going;
+    }

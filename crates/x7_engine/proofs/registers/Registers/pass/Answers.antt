@@ -1,20 +1,22 @@
-use Rattle.std.proofs.Common.{ℕ, List, Option, sym, subst}
-use Rattle.x7_words.specs.Word.{words_of_bytes}
-use Rattle.x7_packets.specs.History.{entered_all}
-use Rattle.x7_packets.specs.Packet.{payload_steps}
-use Rattle.x7_engine.specs.declared.stop.Stop.{Stop}
-use Rattle.x7_engine.specs.Kept.{on_the_bench}
-use Rattle.x7_engine.specs.Standing.{IsStop}
-use Rattle.x7_engine.proofs.PlainLemmas.{IsPlain, controls_stay, plain_is, stop_stays}
+use Rattle.std.proofs.Common.{◌≡◌, None, sym, ap, ◌∙◌, arith}
+use Rattle.x7_packets.specs.History.{Write}
+use Rattle.x7_engine.specs.Standing.{registers_in}
+use Rattle.x7_engine.specs.Stops.{stop_of, stopped_at}
+use Rattle.x7_engine.proofs.ClockLemmas.{stop_of-access}
+use Rattle.x7_engine.proofs.PlainLemmas.{IsPlain, clock_plain, line_none, plain_is}
 use Rattle.x7_engine.proofs.registers.Registers.pass.Goals as goal
 
 pub returns-clause-stands : goal.returns-clause-stands
-returns-clause-stands c = λ part h n e s.
-    let ws : List ℕ = words_of_bytes c.args.bytes.now in
+returns-clause-stands c = λ part kept h place next s.
     let p : IsPlain c.args.register = plain_is c.args.register c.requires.plain in
+    let going : stop_of part kept h place ≡ None = s.stop ∙ ap (stopped_at place) c.requires.going in
     record {
-      words = c.pass-2.ensures on_the_bench h n s.words;
-      controls = controls_stay c.args.self.now.controls c.args.register n ws h p s.controls;
-      progress = c.pass.ensures part.idcode h n s.progress;
-      stop = subst (λ (o : Option Stop). IsStop part on_the_bench o (entered_all n (payload_steps c.args.register ws) h)) (sym e) (stop_stays part on_the_bench c.args.register n ws h p (subst (λ (o : Option Stop). IsStop part on_the_bench o h) e s.stop));
+      places = (next.0, omega arith, next.1);
+      words = c.write.ensures kept h place s.words;
+      controls = record { ctl0 = rw p.ctl0 s.controls.ctl0; ctl1 = rw p.ctl1 s.controls.ctl1 };
+      progress = c.pass.ensures part.idcode h place s.progress;
+      kind = s.kind;
+      before = s.before;
+      clock = clock_plain part kept (registers_in c.args.self.now).clock h c.args.register c.args.word place p s.clock;
+      stop = stop_of-access part kept h (Write c.args.register c.args.word) place going ∙ ap (stopped_at place) (sym (line_none part kept h c.args.register c.args.word p)) ∙ sym (ap (stopped_at place) c.requires.going);
     }

@@ -1,42 +1,71 @@
-use Rattle.std.proofs.Common.{◌≡◌, ◌*◌, ◌/◌, ◌%◌, ℕ, List, [], ◌∷◌, ◌++◌, length, take, replicate, append-nil, sym, ap, subst, ◌∙◌, arith}
-use Rattle.x7_words.specs.Word.{bytes_of_word, word_of_bytes, words_of_bytes}
+use Rattle.std.proofs.Common.{◌≡◌, ◌+◌, ◌-◌, ◌*◌, ◌/◌, ◌<◌, ◌≤◌, ℕ, List, [], ◌∷◌, length, sym, ap, subst, ◌∙◌, arith}
+use Rattle.x7_words.specs.Word.{words_of_bytes}
 use Rattle.x7_packets.specs.Cutting.{IsRun}
 use Rattle.x7_packets.specs.declared.cutter.Cut.{Cut}
-use Rattle.x7_packets.specs.declared.cutter.Cut.TheVariants.{Body}
-use Rattle.x7_packets.specs.History.{entered_all}
+use Rattle.x7_packets.specs.declared.cutter.Cut.TheVariants.{Body, Head, Word}
+use Rattle.x7_packets.specs.declared.header.Step.TheVariants.{Payload}
+use Rattle.x7_packets.specs.History.{History, Write, entered, entered_all, entry, until}
 use Rattle.x7_packets.specs.Packet.{payload_steps}
-use Rattle.x7_engine.specs.Kept.{on_the_bench}
-use Rattle.x7_engine.specs.Standing.{RegistersStandFor}
+use Rattle.x7_engine.specs.Standing.{EndsWords, RegistersStandFor, counted_in, registers_in}
 use Rattle.x7_engine.specs.Values.{read_out}
-use Rattle.x7_engine.proofs.BodyLemmas.{one_word, steps_taken, writes_tell_nothing}
+use Rattle.x7_engine.proofs.TurnLemmas.{counted_more, none_due, quiet_until, write_until, writes_until}
 use Rattle.x7_engine.proofs.registers.Registers.run.Goals as goal
 
--- the bytes of a word are those of that one
-word_again : (bytes : List ℕ) (w : ℕ) → bytes ≡ bytes_of_word w → word_of_bytes bytes ≡ w → words_of_bytes bytes ≡ w ∷ []
-word_again bytes w e f = ap words_of_bytes e ∙ ap (λ (k : ℕ). k ∷ []) (sym (ap word_of_bytes e) ∙ f)
+pub returns-in-Need-clause-stands : goal.returns-in-Need-clause-stands
+returns-in-Need-clause-stands c = λ kept h from n e s.
+    rw c.in-Need.is (subst (λ (t : History). RegistersStandFor c.args.part.now kept (registers_in c.tick.new.self) t (n + (c.args.count - c.tick.result)))
+    (sym (quiet_until c.tick.new.self.stop n c.args.count c.tick.result h c.tick.ensures.fired s.places)) (c.tick.ensures.stands kept h n s))
 
-pub returns-in-Word-clause-stands : goal.returns-in-Word-clause-stands
-returns-in-Word-clause-stands c = λ h n s.
-    let whole : c.body.result / 4 ≡ 1 = one_word c.body.result c.bytes_of.result c.in-Word.word c.bytes_of.ensures.value c.body.ensures.within c.body.ensures.words c.body.ensures.some in
-    let words : take (c.body.result / 4) (words_of_bytes c.bytes_of.result) ≡ c.in-Word.word ∷ [] = rw whole (ap (take 1) (word_again c.bytes_of.result c.in-Word.word c.bytes_of.ensures.value c.bytes_of.ensures.back)) in
-    rw c.in-Word.is (subst (λ (t : List ℕ). RegistersStandFor c.args.part.now on_the_bench c.body.new.self (entered_all n (payload_steps c.in-Word.register t) h)) words
-    (c.body.ensures.stands c.args.part.now h n c.idcode.ensures.value s))
+pub returns-in-Need-clause-reads : goal.returns-in-Need-clause-reads
+returns-in-Need-clause-reads c = λ kept h from n e s.
+    rw c.in-Need.is (ap (read_out c.args.part.now kept) (quiet_until c.tick.new.self.stop n c.args.count c.tick.result h c.tick.ensures.fired s.places)
+    ∙ none_due (read_out c.args.part.now kept h) c.tick.new.self.due c.tick.new.self.due_word (c.tick.ensures.due ∙ c.requires.none_due))
 
-whole_words : (n : ℕ) → n ≡ 4 * (n / 4) → n % 4 ≡ 0
-whole_words n e = omega arith
+pub returns-in-Skip-clause-stands : goal.returns-in-Skip-clause-stands
+returns-in-Skip-clause-stands c = λ kept h from n e s.
+    rw c.in-Skip.is (subst (λ (t : History). RegistersStandFor c.args.part.now kept (registers_in c.tick-in-Skip.new.self) t (n + (c.args.count - c.tick-in-Skip.result)))
+    (sym (quiet_until c.tick-in-Skip.new.self.stop n c.args.count c.tick-in-Skip.result h c.tick-in-Skip.ensures.fired s.places)) (c.tick-in-Skip.ensures.stands kept h n s))
+
+pub returns-in-Skip-clause-reads : goal.returns-in-Skip-clause-reads
+returns-in-Skip-clause-reads c = λ kept h from n e s.
+    rw c.in-Skip.is (ap (read_out c.args.part.now kept) (quiet_until c.tick-in-Skip.new.self.stop n c.args.count c.tick-in-Skip.result h c.tick-in-Skip.ensures.fired s.places)
+    ∙ none_due (read_out c.args.part.now kept h) c.tick-in-Skip.new.self.due c.tick-in-Skip.new.self.due_word (c.tick-in-Skip.ensures.due ∙ c.requires.none_due))
+
+pub returns-in-Sync-clause-stands : goal.returns-in-Sync-clause-stands
+returns-in-Sync-clause-stands c = λ kept h from n e s.
+    rw c.in-Sync.is (subst (λ (t : History). RegistersStandFor c.args.part.now kept (registers_in c.tick-in-Sync.new.self) t (n + (c.args.count - c.tick-in-Sync.result)))
+    (sym (quiet_until c.tick-in-Sync.new.self.stop n c.args.count c.tick-in-Sync.result h c.tick-in-Sync.ensures.fired s.places)) (c.tick-in-Sync.ensures.stands kept h n s))
+
+pub returns-in-Sync-clause-reads : goal.returns-in-Sync-clause-reads
+returns-in-Sync-clause-reads c = λ kept h from n e s.
+    rw c.in-Sync.is (ap (read_out c.args.part.now kept) (quiet_until c.tick-in-Sync.new.self.stop n c.args.count c.tick-in-Sync.result h c.tick-in-Sync.ensures.fired s.places)
+    ∙ none_due (read_out c.args.part.now kept h) c.tick-in-Sync.new.self.due c.tick-in-Sync.new.self.due_word (c.tick-in-Sync.ensures.due ∙ c.requires.none_due))
+
+pub returns-in-Word-clause-reads : goal.returns-in-Word-clause-reads
+returns-in-Word-clause-reads c = λ kept h from n e s.
+    let w : EndsWords (Word c.in-Word.register c.in-Word.word) from n c.args.count = subst (λ (r : Cut). EndsWords r from n c.args.count) c.in-Word.is e in
+    let some : 0 < c.args.count = omega (arith, w.0, w.1) in
+    let few : c.word.result < c.args.count = c.word.ensures.some some in
+    rw c.in-Word.is (write_until c.args.part.now kept n (counted_in c.word.new.self.stop (n + (c.args.count - c.word.result))) (from + 4) c.in-Word.register c.in-Word.word h s.places (counted_more c.word.new.self.stop n (c.args.count - c.word.result) (omega (arith, few)))
+    ∙ none_due (read_out c.args.part.now kept h) c.word.new.self.due c.word.new.self.due_word (c.word.ensures.due ∙ c.requires.none_due))
 
 pub returns-in-Body-clause-stands : goal.returns-in-Body-clause-stands
-returns-in-Body-clause-stands c = λ h n s.
-    let run : IsRun (Body c.in-Body.register c.in-Body.bytes) = subst (λ (r : Cut). IsRun r) c.in-Body.is c.requires.run in
-    let whole : length c.in-Body.bytes.now % 4 ≡ 0 = whole_words (length c.in-Body.bytes.now) run.2 in
-    rw c.in-Body.is (rw (steps_taken c.in-Body.register c.in-Body.bytes.now c.body-in-Body.result whole c.body-in-Body.ensures.within c.body-in-Body.ensures.words)
-    (c.body-in-Body.ensures.stands c.args.part.now h n c.idcode-in-Body.ensures.value s))
+returns-in-Body-clause-stands c = λ kept h from n e s.
+    let w : EndsWords (Body c.in-Body.register c.in-Body.bytes) from n c.args.count = subst (λ (r : Cut). EndsWords r from n c.args.count) c.in-Body.is e in
+    let ws : List ℕ = words_of_bytes c.in-Body.bytes.now in
+    let here : n + c.body.result ≡ n + (c.args.count - (length c.in-Body.bytes.now - c.body.result)) = omega (arith, w.1, c.body.ensures.within) in
+    rw c.in-Body.is (subst (λ (p : ℕ). RegistersStandFor c.args.part.now kept (registers_in c.body.new.self) (until (counted_in c.body.new.self.stop (n + (c.args.count - (length c.in-Body.bytes.now - c.body.result)))) (entered_all p (payload_steps c.in-Body.register ws) h)) (n + (c.args.count - (length c.in-Body.bytes.now - c.body.result)))) (sym w.0)
+    (subst (λ (m : ℕ). RegistersStandFor c.args.part.now kept (registers_in c.body.new.self) (until (counted_in c.body.new.self.stop m) (entered_all n (payload_steps c.in-Body.register ws) h)) m) here
+    (c.body.ensures.stands kept h n s)))
 
 pub returns-in-Body-clause-reads : goal.returns-in-Body-clause-reads
-returns-in-Body-clause-reads c = λ h n s.
+returns-in-Body-clause-reads c = λ kept h from n e s.
+    let w : EndsWords (Body c.in-Body.register c.in-Body.bytes) from n c.args.count = subst (λ (r : Cut). EndsWords r from n c.args.count) c.in-Body.is e in
     let run : IsRun (Body c.in-Body.register c.in-Body.bytes) = subst (λ (r : Cut). IsRun r) c.in-Body.is c.requires.run in
-    let whole : length c.in-Body.bytes.now % 4 ≡ 0 = whole_words (length c.in-Body.bytes.now) run.2 in
-    let none : c.body-in-Body.new.self.due ≡ 0 = c.body-in-Body.ensures.due ∙ c.requires.none_due in
-    rw c.in-Body.is (rw (steps_taken c.in-Body.register c.in-Body.bytes.now c.body-in-Body.result whole c.body-in-Body.ensures.within c.body-in-Body.ensures.words)
-    (writes_tell_nothing c.args.part.now on_the_bench c.in-Body.register n (take (c.body-in-Body.result / 4) (words_of_bytes c.in-Body.bytes.now)) h
-    ∙ sym (ap (λ (k : ℕ). read_out c.args.part.now on_the_bench h ++ replicate k c.body-in-Body.new.self.due_word) none ∙ append-nil (read_out c.args.part.now on_the_bench h))))
+    let some : 0 < c.body.result = c.body.ensures.some run.1 in
+    let ws : List ℕ = words_of_bytes c.in-Body.bytes.now in
+    let k : ℕ = c.args.count - (length c.in-Body.bytes.now - c.body.result) in
+    let more : 0 < k = omega (arith, w.1, some, c.body.ensures.within) in
+    rw c.in-Body.is (ap (λ (p : ℕ). read_out c.args.part.now kept (until (counted_in c.body.new.self.stop (n + k)) (entered_all p (payload_steps c.in-Body.register ws) h))) w.0
+    ∙ writes_until c.args.part.now kept n (counted_in c.body.new.self.stop (n + k)) c.in-Body.register ws h s.places (counted_more c.body.new.self.stop n k more)
+    ∙ none_due (read_out c.args.part.now kept h) c.body.new.self.due c.body.new.self.due_word (c.body.ensures.due ∙ c.requires.none_due))

@@ -1,20 +1,27 @@
-use Rattle.std.proofs.Common.{◌≡◌, ℕ, ◌∷◌, Option, sym, ap, subst, ◌∙◌}
-use Rattle.x7_packets.specs.History.{Access, Write, command_held, entry, executed_by}
+use Rattle.std.proofs.Common.{◌≡◌, ℕ, ◌∷◌, None, sym, ap, subst, ◌∙◌, arith}
+use Rattle.x7_packets.specs.History.{Access, Write, command_held, entry, executed_by, last_word}
 use Rattle.x7_regs.specs.Register.{number_of}
-use Rattle.x7_engine.specs.declared.stop.Stop.{Stop}
-use Rattle.x7_engine.specs.Kept.{on_the_bench}
-use Rattle.x7_engine.specs.Standing.{AreLastWords, IsProgress, IsStop}
-use Rattle.x7_engine.proofs.StopLemmas.{stop_more}
+use Rattle.x7_engine.specs.Registers.{takes_shutdown}
+use Rattle.x7_engine.specs.Standing.{AreLastWords, IsProgress, progress_in}
+use Rattle.x7_engine.specs.Stops.{stop_of, stopped_at}
+use Rattle.x7_engine.proofs.ClockLemmas.{stop_of-access}
 use Rattle.x7_engine.proofs.registers.Registers.write.Goals as goal
 
 pub returns-clause-stands : goal.returns-clause-stands
-returns-clause-stands c = λ part h place e s.
+returns-clause-stands c = λ part kept h place e next s.
     let access : Access = Write (number_of c.args.reg) c.args.word in
-    let command : c.executed-executed.result ≡ executed_by (command_held h) access = c.executed-executed.ensures ∙ ap (λ (k : ℕ). executed_by k access) (c.command.ensures part h s) in
-    let progress : IsProgress c.args.idcode c.args.self.now.progress h = subst (λ (i : ℕ). IsProgress i c.args.self.now.progress h) (sym e) s.progress in
+    let command : c.executed-executed.result ≡ executed_by (command_held h) access = c.executed-executed.ensures ∙ ap (λ (k : ℕ). executed_by k access) (c.command.ensures part kept h place s) in
+    let progress : IsProgress c.args.idcode (progress_in c.args.self.now.progress) h = subst (λ (i : ℕ). IsProgress i (progress_in c.args.self.now.progress) h) (sym e) s.progress in
+    let taken : c.takes-taken.result ≡ takes_shutdown h access = c.takes-taken.ensures c.args.idcode h command progress in
+    let cor0 : c.held-cor0.result ≡ last_word 9 0 h = c.held-cor0.ensures kept h s.words in
+    let going : stop_of part kept h place ≡ None = s.stop ∙ ap (stopped_at place) c.requires in
     record {
-      words = subst (λ (r : ℕ). AreLastWords on_the_bench c.write-3.new.self (entry (Write r c.args.word) place ∷ h)) c.number.ensures.value (c.write-3.ensures on_the_bench h place s.words);
-      controls = c.write-2.ensures h place (c.held-mask.ensures on_the_bench h s.words) s.controls;
-      progress = subst (λ (i : ℕ). IsProgress i c.write.new.self (entry access place ∷ h)) e (c.write.ensures h place command progress);
-      stop = stop_more part on_the_bench h access place c.line_of-stop.result (subst (λ (o : Option Stop). IsStop part on_the_bench o h) c.requires s.stop) (c.line_of-stop.ensures part h e s command);
+      places = (next.0, omega arith, next.1);
+      words = subst (λ (r : ℕ). AreLastWords kept c.write-3.new.self.last (entry (Write r c.args.word) place ∷ h)) c.number.ensures.value (c.write-3.ensures kept h place s.words);
+      controls = c.write-2.ensures h place (c.held-mask.ensures kept h s.words) s.controls;
+      progress = subst (λ (i : ℕ). IsProgress i (progress_in c.write.new.self) (entry access place ∷ h)) e (c.write.ensures h place command progress);
+      kind = s.kind;
+      before = s.before;
+      clock = c.write-4.ensures part kept h place command taken cor0 s.clock;
+      stop = stop_of-access part kept h access place going ∙ ap (stopped_at place) (sym (c.line_of-stop.ensures.value part kept h place e s command));
     }

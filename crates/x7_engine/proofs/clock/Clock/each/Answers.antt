@@ -1,0 +1,36 @@
+use Rattle.std.proofs.Common.{◌≡◌, ◌+◌, ◌<◌, ◌≤◌, ℕ, Bool, true, false, None, sym, ap, subst, ◌∙◌, arith, refl}
+use Rattle.x7_packets.specs.History.{History}
+use Rattle.x7_engine.specs.Clock.{newest_place, IsClock, clock_in}
+use Rattle.x7_engine.specs.Watching.{fires}
+use Rattle.x7_engine.proofs.ClockLemmas.{first_is, none_more}
+use Rattle.x7_engine.proofs.clock.Clock.each.Goals as goal
+
+pub loop-i-init : goal.loop-i-init
+loop-i-init c = record {
+  within = omega arith;
+  clock = λ kept h n l s. let none : n + 0 ≡ n = omega arith in (subst (λ (k : ℕ). IsClock c.args.part.now kept (clock_in c.args.self.now) h k) (sym none) s, refl);
+}
+
+pub returns-then-byte-clause-ticks : goal.returns-then-byte-clause-ticks
+returns-then-byte-clause-ticks c = λ kept h n l s.
+    let before = c.loop-i.invariant.clock kept h n l s in
+    let sum : n + c.loop-i.i + 1 ≡ n + (c.loop-i.i + 1) = omega arith in
+    let within : newest_place h ≤ n + c.loop-i.i = omega (arith, l) in
+    let few : c.loop-i.i < c.args.count = c.loop-i-test.true in (
+      omega arith,
+      omega (arith, few),
+      subst (λ (k : ℕ). IsClock c.args.part.now kept (clock_in c.byte.new.self) h k) sum (c.byte.ensures.stands kept h (n + c.loop-i.i) within before.0),
+      first_is c.args.part.now kept h n c.loop-i.i c.args.count few before.1 (sym (c.byte.ensures.fires kept h (n + c.loop-i.i) within before.0) ∙ c.if-byte.true),
+    )
+
+pub loop-i-preserved : goal.loop-i-preserved
+loop-i-preserved c = record {
+  within = let few : c.loop-i.i < c.args.count = c.loop-i-test.true in omega (arith, few);
+  clock = λ kept h n l s.
+      let before = c.loop-i.invariant.clock kept h n l s in
+      let sum : n + c.loop-i.i + 1 ≡ n + (c.loop-i.i + 1) = omega arith in
+      let within : newest_place h ≤ n + c.loop-i.i = omega (arith, l) in (
+        subst (λ (k : ℕ). IsClock c.args.part.now kept (clock_in c.byte.new.self) h k) sum (c.byte.ensures.stands kept h (n + c.loop-i.i) within before.0),
+        none_more c.args.part.now kept h n c.loop-i.i before.1 (sym (c.byte.ensures.fires kept h (n + c.loop-i.i) within before.0) ∙ c.if-byte.false),
+      );
+}

@@ -1,0 +1,45 @@
+use Rattle.std.proofs.Common.{◌≡◌, ◌+◌, ◌-◌, ◌++◌, ℕ, false, Option, None, Some, List, replicate, sym, ap, subst, ◌∙◌, append-nil, arith}
+use Rattle.std.specs.Option.{is_some}
+use Rattle.x7_packets.specs.History.{History, entered, until}
+use Rattle.x7_engine.specs.Standing.{IsNext, RegistersStandFor, counted_in, registers_in}
+use Rattle.x7_engine.specs.Values.{read_out}
+use Rattle.x7_engine.proofs.TurnLemmas.{all_counted, fired_until, next_at, none_due, none_there, until_all}
+use Rattle.x7_engine.proofs.registers.Registers.header.Goals as goal
+
+pub returns-then-is_some-clause-stands : goal.returns-then-is_some-clause-stands
+returns-then-is_some-clause-stands c = λ kept h n some s.
+    let left : ℕ = c.tick-left.result in
+    let m : ℕ = n + (c.args.count - left) in
+    subst (λ (t : History). RegistersStandFor c.args.part.now kept (registers_in c.tick-left.new.self) t m)
+    (sym (fired_until c.tick-left.new.self.stop n c.args.count left c.args.step h (sym c.is_some.ensures ∙ c.if-is_some.true) c.tick-left.ensures.fired s.places))
+    (c.tick-left.ensures.stands kept h n s)
+
+pub returns-then-is_some-clause-reads : goal.returns-then-is_some-clause-reads
+returns-then-is_some-clause-reads c = λ kept h n some s.
+    ap (read_out c.args.part.now kept) (fired_until c.tick-left.new.self.stop n c.args.count c.tick-left.result c.args.step h (sym c.is_some.ensures ∙ c.if-is_some.true) c.tick-left.ensures.fired s.places)
+    ∙ none_due (read_out c.args.part.now kept h) c.tick-left.new.self.due c.tick-left.new.self.due_word (c.tick-left.ensures.due ∙ c.requires.none_due)
+
+before : (c : goal.After-head) (n : ℕ) → n + (c.args.count - c.tick-left.result) ≡ n + c.args.count
+before c n =
+    let none : c.tick-left.result ≡ 0 = c.tick-left.ensures.goes_on (none_there c.tick-left.new.self.stop (sym c.is_some.ensures ∙ c.if-is_some.false)) in
+    omega (arith, none)
+
+pub returns-clause-stands : goal.returns-clause-stands
+returns-clause-stands c = λ kept h n some s.
+    let same : n + c.args.count ≡ n + (c.args.count - 0) = omega arith in
+    let now : RegistersStandFor c.args.part.now kept (registers_in c.tick-left.new.self) h (n + c.args.count) =
+    subst (λ (m : ℕ). RegistersStandFor c.args.part.now kept (registers_in c.tick-left.new.self) h m) (before c n) (c.tick-left.ensures.stands kept h n s) in
+    subst (λ (m : ℕ). RegistersStandFor c.args.part.now kept (registers_in c.head.new.self) (until (counted_in c.head.new.self.stop m) (entered (n + c.args.count) c.args.step h)) m) same
+    (all_counted c.args.part.now kept (registers_in c.head.new.self) (entered (n + c.args.count) c.args.step h) (n + c.args.count) (c.head.ensures.counts (n + c.args.count))
+    (c.head.ensures.stands kept h (n + c.args.count) (next_at n c.args.count h some s.places) now))
+
+pub returns-clause-reads : goal.returns-clause-reads
+returns-clause-reads c = λ kept h n some s.
+    let same : n + c.args.count ≡ n + (c.args.count - 0) = omega arith in
+    let now : RegistersStandFor c.args.part.now kept (registers_in c.tick-left.new.self) h (n + c.args.count) =
+    subst (λ (m : ℕ). RegistersStandFor c.args.part.now kept (registers_in c.tick-left.new.self) h m) (before c n) (c.tick-left.ensures.stands kept h n s) in
+    let after : RegistersStandFor c.args.part.now kept (registers_in c.head.new.self) (entered (n + c.args.count) c.args.step h) (n + c.args.count) =
+    c.head.ensures.stands kept h (n + c.args.count) (next_at n c.args.count h some s.places) now in
+    ap (λ (m : ℕ). read_out c.args.part.now kept (until (counted_in c.head.new.self.stop m) (entered (n + c.args.count) c.args.step h))) (sym same)
+    ∙ ap (read_out c.args.part.now kept) (until_all c.args.part.now kept (registers_in c.head.new.self) (entered (n + c.args.count) c.args.step h) (n + c.args.count) (c.head.ensures.counts (n + c.args.count)) after)
+    ∙ c.head.ensures.reads kept h (n + c.args.count) now

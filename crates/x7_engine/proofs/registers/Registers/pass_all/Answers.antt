@@ -1,0 +1,49 @@
+use Rattle.std.proofs.Common.{◌≡◌, ◌+◌, ◌-◌, ◌*◌, ◌/◌, ◌%◌, ◌<◌, ◌≤◌, ℕ, List, length, take, sym, ap, subst, ◌∙◌, arith}
+use Rattle.std.proofs.lemmas.List.{length-take-le}
+use Rattle.x7_words.specs.Word.{words_of_bytes}
+use Rattle.x7_packets.specs.History.{History, Placed, entered_all, until}
+use Rattle.x7_packets.specs.Packet.{payload_steps}
+use Rattle.x7_packets.proofs.GrowthLemmas.{placed_within}
+use Rattle.x7_part.specs.Part.{PartData}
+use Rattle.x7_engine.specs.declared.kept.Kept.{Kept}
+use Rattle.x7_engine.specs.Standing.{AreLastWords, IsProgress, RegistersStandFor, RegistersState, controls_in, counted_in, progress_in, registers_in}
+use Rattle.x7_engine.proofs.BodyLemmas.{length_of_words}
+use Rattle.x7_engine.proofs.PlainLemmas.{Clocked, IsPlain, clocked_all, controls_stay, counted_behind, front_all, plain_is, words_front}
+use Rattle.x7_engine.proofs.registers.Registers.pass_all.Goals as goal
+
+until_stands : (part : PartData) (kept : Kept) (d : RegistersState) (all front : History) (m : ℕ) → all ≡ front → RegistersStandFor part kept d front m → RegistersStandFor part kept d all m
+until_stands part kept d all front m e s = subst (λ (h : History). RegistersStandFor part kept d h m) (sym e) s
+
+pub returns-clause-stands : goal.returns-clause-stands
+returns-clause-stands c = λ kept h n four s.
+    let part : PartData = c.args.part.now in
+    let bytes : List ℕ = c.args.bytes.now in
+    let ws : List ℕ = words_of_bytes bytes in
+    let left : ℕ = c.tick-left.result in
+    let m : ℕ = n + (length bytes - left) in
+    let k : ℕ = c.counted.result / 4 in
+    let p : IsPlain c.args.register = plain_is c.args.register c.requires.plain in
+    let t : RegistersStandFor part kept (registers_in c.tick-left.new.self) h m = c.tick-left.ensures.stands kept h n s in
+    let words : length ws ≡ length bytes / 4 = length_of_words bytes in
+    let within : c.counted.result ≤ length bytes - left = c.counted.ensures.within in
+    let few : k ≤ length ws = omega (arith, words, within) in
+    let front : List ℕ = take k ws in
+    let size : length front ≡ k = length-take-le k ws few in
+    let same : words_of_bytes (take (k * 4) bytes) ≡ front = words_front k bytes in
+    let here : counted_in c.tick-left.new.self.stop m ≡ n + c.counted.result = counted_behind c.tick-left.new.self.stop n (length bytes) left c.tick-left.ensures.fired ∙ sym (ap (λ (x : ℕ). n + x) c.counted.ensures.value) in
+    let start : Clocked part kept (registers_in c.tick-left.new.self).clock c.tick-left.new.self.stop h n m = record { places = s.places; clock = t.clock; stop = t.stop } in
+    let clocked : Clocked part kept (registers_in c.tick-left.new.self).clock c.tick-left.new.self.stop (entered_all n (payload_steps c.args.register front) h) (n + 4 * length front) m =
+    clocked_all part kept (registers_in c.tick-left.new.self).clock c.tick-left.new.self.stop c.args.register n m front h p (omega (arith, size, within)) start in
+    let all : until (counted_in c.tick-left.new.self.stop m) (entered_all n (payload_steps c.args.register ws) h) ≡ entered_all n (payload_steps c.args.register front) h =
+    front_all n k (counted_in c.tick-left.new.self.stop m) c.args.register ws h few (omega (arith, here)) (omega (arith, here))
+    (subst (λ (x : ℕ). Placed (n + 4 * x) (entered_all n (payload_steps c.args.register front) h)) size clocked.places) in
+    until_stands part kept _ (until (counted_in c.tick-left.new.self.stop m) (entered_all n (payload_steps c.args.register ws) h)) (entered_all n (payload_steps c.args.register front) h) m all record {
+      places = placed_within (n + 4 * length front) m (entered_all n (payload_steps c.args.register front) h) (omega (arith, size, within)) clocked.places;
+      words = subst (λ (x : List ℕ). AreLastWords kept c.pass_all-2.new.self.last (entered_all n (payload_steps c.args.register x) h)) same (c.pass_all-2.ensures kept h n t.words);
+      controls = controls_stay (controls_in c.tick-left.new.self.controls) c.args.register n front h p t.controls;
+      progress = subst (λ (x : List ℕ). IsProgress part.idcode (progress_in c.pass_all.new.self) (entered_all n (payload_steps c.args.register x) h)) same (c.pass_all.ensures part.idcode h n t.progress);
+      kind = t.kind;
+      before = t.before;
+      clock = clocked.clock;
+      stop = clocked.stop;
+    }

@@ -1,0 +1,29 @@
+use Rattle.std.proofs.Common.{◌≡◌, ◌+◌, ◌-◌, ◌<◌, ℕ, ◌∷◌, false, Option, None, Some, sym, ap, subst, ◌∙◌, arith}
+use Rattle.std.specs.Option.{is_some}
+use Rattle.x7_packets.specs.History.{History, Write, entry, until}
+use Rattle.x7_packets.specs.declared.header.Step.TheVariants.{Payload}
+use Rattle.x7_engine.specs.Standing.{IsNext, RegistersStandFor, counted_in, registers_in}
+use Rattle.x7_engine.proofs.TurnLemmas.{all_counted, fired_until, next_at, none_there}
+use Rattle.x7_engine.proofs.registers.Registers.word.Goals as goal
+
+pub returns-then-is_some-clause-stands : goal.returns-then-is_some-clause-stands
+returns-then-is_some-clause-stands c = λ kept h n some s.
+    let left : ℕ = c.tick-left.result in
+    let m : ℕ = n + (c.args.count - left) in
+    subst (λ (t : History). RegistersStandFor c.args.part.now kept (registers_in c.tick-left.new.self) t m)
+    (sym (fired_until c.tick-left.new.self.stop n c.args.count left (Payload c.args.register c.args.word) h (sym c.is_some.ensures ∙ c.if-is_some.true) c.tick-left.ensures.fired s.places))
+    (c.tick-left.ensures.stands kept h n s)
+
+pub returns-clause-goes_on : goal.returns-clause-goes_on
+returns-clause-goes_on c = λ e. omega arith
+
+pub returns-clause-stands : goal.returns-clause-stands
+returns-clause-stands c = λ kept h n some s.
+    let none : c.tick-left.result ≡ 0 = c.tick-left.ensures.goes_on (none_there c.tick-left.new.self.stop (sym c.is_some.ensures ∙ c.if-is_some.false)) in
+    let all : n + (c.args.count - c.tick-left.result) ≡ n + c.args.count = omega (arith, none) in
+    let same : n + c.args.count ≡ n + (c.args.count - 0) = omega arith in
+    let before : RegistersStandFor c.args.part.now kept (registers_in c.tick-left.new.self) h (n + c.args.count) =
+    subst (λ (m : ℕ). RegistersStandFor c.args.part.now kept (registers_in c.tick-left.new.self) h m) all (c.tick-left.ensures.stands kept h n s) in
+    subst (λ (m : ℕ). RegistersStandFor c.args.part.now kept (registers_in c.write_to.new.self) (until (counted_in c.write_to.new.self.stop m) (entry (Write c.args.register c.args.word) (n + c.args.count) ∷ h)) m) same
+    (all_counted c.args.part.now kept (registers_in c.write_to.new.self) (entry (Write c.args.register c.args.word) (n + c.args.count) ∷ h) (n + c.args.count) (c.write_to.ensures.counts (n + c.args.count))
+    (c.write_to.ensures.stands c.args.part.now kept h (n + c.args.count) c.idcode.ensures.value (next_at n c.args.count h some s.places) before))

@@ -1,0 +1,9 @@
+use Rattle.std.proofs.Common.{ℕ, ◌∷◌, ap, subst}
+use Rattle.x7_packets.specs.History.{Write, entry}
+use Rattle.x7_engine.specs.Standing.{RegistersStandFor, counted_in, registers_in}
+use Rattle.x7_engine.proofs.registers.Registers.write_to.Goals as goal
+
+pub returns-clause-stands : goal.returns-clause-stands
+returns-clause-stands c = λ part kept h place e next s.
+    subst (λ (r : ℕ). RegistersStandFor part kept (registers_in c.write.new.self) (entry (Write r c.args.word) place ∷ h) place) c.in-Some.ensures.some
+    (c.write.ensures.stands part kept h place e next s)

@@ -1,0 +1,48 @@
+-- What the clock of a device stands for: startup and the watchdog after a history with so many bytes taken.
+use Rattle.std.specs.Prelude.{◌≡◌, ℕ, ◌+◌, ◌<◌, ◌≤◌, Bool, if◌then◌else◌, List, [], ◌∷◌, Option, None, Some}
+use Rattle.x7_packets.specs.History.{Access, History, is_command}
+use Rattle.x7_part.specs.Part.{PartData}
+use Rattle.x7_regs.specs.declared.command.Command.TheVariants.{Desync, Ltimer, Start}
+use Rattle.x7_regs.specs.Command.{code_of}
+use Rattle.x7_startup.specs.Calls.{Call, StandsFor, Stored}
+use Rattle.x7_startup.specs.Calls as call
+use Rattle.x7_startup.specs.Count.{Reload, Watch, WatchCall, WatchesFor}
+use Rattle.x7_engine.specs.declared.clock.Clock.{Clock}
+use Rattle.x7_engine.specs.declared.kept.Kept.{Kept}
+use Rattle.x7_engine.specs.Kept.{is_fallback}
+use Rattle.x7_engine.specs.Startup.{startup_calls}
+use Rattle.x7_engine.specs.Watching.{first_firing, load_call, watch_calls}
+
+-- the stored values of a clock
+pub record ClockState : Type 0 where
+  pub startup : Stored
+  pub watchdog : Watch
+
+abbrev pub clock_in : Clock → ClockState
+clock_in c = record { startup = c.startup; watchdog = c.watchdog }
+
+-- the clock is that of a history with n bytes taken
+pub record IsClock (part : PartData) (kept : Kept) (c : ClockState) (h : History) (n : ℕ) : Type 0 where
+  pub startup : StandsFor part.lock part.matched c.startup (startup_calls h n)
+  pub watchdog : WatchesFor (is_fallback kept.kind) kept.timer c.watchdog (watch_calls part h n)
+
+-- the place of the newest access
+abbrev pub newest_place : History → ℕ
+newest_place [] = 0
+newest_place (e ∷ h) = e.place
+
+-- So many bytes more: none of them fires, or the first that does is this one, and the bytes up to it are taken.
+abbrev pub Ticks : PartData → Kept → ClockState → History → ℕ → ℕ → Option ℕ → Type 0
+Ticks part kept c h n count None = IsClock part kept c h (n + count) × (first_firing part kept h n count ≡ None)
+Ticks part kept c h n count (Some k) = (0 < k) × (k ≤ count) × IsClock part kept c h (n + k) × (first_firing part kept h n count ≡ Some (n + k))
+
+-- what an access asks of startup, by the command that it executes, whether it takes a shutdown, and COR0
+abbrev pub startup_call_by : Option ℕ → Bool → ℕ → List Call
+startup_call_by command taken cor0 =
+    if is_command (code_of Start) command then call.Arm ∷ [] else
+    if taken then call.DropBack ∷ [] else
+    if is_command (code_of Desync) command then call.Desync cor0 ∷ [] else []
+
+-- what it asks of the watchdog
+abbrev pub watch_call_by : Option ℕ → Access → List WatchCall
+watch_call_by command access = if is_command (code_of Ltimer) command then Reload ∷ [] else load_call access

@@ -1,0 +1,174 @@
+//! Startup and the watchdog of a device, which the bytes taken move.
+ghost use Rattle.std.specs.Prelude.{◌≡◌, ◌<◌, ◌≤◌, ◌+◌, ◌∷◌, ◌++◌, [], ℕ, Bool, List, IfSome, IsTrue, ◌↔◌, ◌==◌, nat_le};
+ghost use Rattle.x7_packets.specs.History.{command_held, entry, executed_by, last_word, History, Write};
+ghost use Rattle.x7_part.specs.Part.{PartData};
+ghost use Rattle.x7_regs.specs.Register.{number_of};
+ghost use Rattle.x7_startup.specs.Calls.{Call, StandsFor, ticks_of};
+ghost use Rattle.x7_startup.specs.Count.{WatchCall, WatchesFor};
+ghost use Rattle.x7_engine.specs.Clock.{newest_place, startup_call_by, watch_call_by, Ticks};
+ghost use Rattle.x7_engine.specs.Kept.{is_fallback};
+ghost use Rattle.x7_engine.specs.Registers.{takes_shutdown};
+ghost use Rattle.x7_engine.specs.Startup.{has_ended, phase_of, startup_calls, startup_progress};
+ghost use Rattle.x7_engine.specs.Values.{lines_by};
+ghost use Rattle.x7_engine.specs.Watching.{fires};
+ghost use Rattle.x7_engine.specs.declared.kept.Kept.{Kept};
+
+use crate::progress::is;
+use x7_part::Part;
+use x7_regs::{Command, Reg};
+use x7_startup::{Lines, Startup, Watchdog};
+
+/// What a written word asks of startup.
+fn move_startup(startup: &mut Startup, executed: Option<u8>, taken: bool, cor0: u32)
+    ensures { (lock matched : ℕ) (calls : List Call) → StandsFor lock matched startup.old calls → StandsFor lock matched startup.new (calls ++ startup_call_by executed taken cor0) }
+{
+    if is(Command::Start, executed) {
+        startup.arm();
+        return;
+    }
+    if taken {
+        startup.drop_back();
+        return;
+    }
+    if is(Command::Desync, executed) {
+        startup.desync(cor0);
+    }
+}
+
+/// What a written word asks of the watchdog.
+fn move_watchdog(watchdog: &mut Watchdog, executed: Option<u8>, reg: Reg, word: u32)
+    ensures { (off : Bool) (first : ℕ) (calls : List WatchCall) → WatchesFor off first watchdog.old calls → WatchesFor off first watchdog.new (calls ++ watch_call_by executed (Write (number_of reg) word)) }
+{
+    if is(Command::Ltimer, executed) {
+        watchdog.reload();
+        return;
+    }
+    match reg {
+        Reg::Timer => watchdog.load(word),
+        _ => (),
+    }
+}
+
+/// Whether both are true or neither.
+fn are_same(a: bool, b: bool) -> bool
+    ensures { IsTrue result ↔ (a ≡ b) }
+{
+    a == b
+}
+
+/// Startup and the watchdog as the bytes taken and the accesses have left them.
+#[derive(Clone, Copy, Debug)]
+pub(crate) struct Clock {
+    pub(crate) startup: Startup,
+    pub(crate) watchdog: Watchdog,
+}
+
+impl Clock {
+    ghost use Rattle.x7_engine.specs.Clock.{IsClock, clock_in};
+
+    /// That of a device that took nothing, with this TIMER; `off` is for an attempt that has no watchdog.
+    pub(crate) fn new(timer: u32, off: bool) -> Clock
+        ensures { (part : PartData) (kept : Kept) → timer ≡ kept.timer → off ≡ is_fallback kept.kind → IsClock part kept (clock_in result) [] 0 }
+    {
+        Clock {
+            startup: Startup::new(),
+            watchdog: Watchdog::new(timer, off),
+        }
+    }
+
+    /// Takes a written word that executes a command or none, and takes a shutdown or not.
+    pub(crate) fn write(&mut self, executed: Option<u8>, taken: bool, cor0: u32, reg: Reg, word: u32)
+        ensures { (part : PartData) (kept : Kept) (h : History) (place : ℕ) → executed ≡ executed_by (command_held h) (Write (number_of reg) word) → taken ≡ takes_shutdown h (Write (number_of reg) word) → cor0 ≡ last_word 9 0 h
+            → IsClock part kept (clock_in self.old) h place → IsClock part kept (clock_in self.new) (entry (Write (number_of reg) word) place ∷ h) place }
+    {
+        move_startup(&mut self.startup, executed, taken, cor0);
+        move_watchdog(&mut self.watchdog, executed, reg, word);
+    }
+
+    /// The phase of startup.
+    pub(crate) fn phase(&self) -> u8
+        ensures last { result ≤ 7 }
+        ensures value { (part : PartData) (h : History) (n : ℕ) → StandsFor part.lock part.matched self.now.startup (startup_calls h n) → result ≡ phase_of part h n }
+    {
+        self.startup.phase()
+    }
+
+    /// Whether startup has ended.
+    pub(crate) fn has_ended(&self) -> bool
+        ensures { (part : PartData) (h : History) (n : ℕ) → StandsFor part.lock part.matched self.now.startup (startup_calls h n) → result ≡ has_ended part h n }
+    {
+        self.phase() == 7
+    }
+
+    /// Whether so many ticks have passed since startup began.
+    pub(crate) fn have_passed(&self, ticks: u16) -> bool
+        ensures { (part : PartData) (h : History) (n : ℕ) → StandsFor part.lock part.matched self.now.startup (startup_calls h n) → result ≡ nat_le ticks (ticks_of (startup_progress h n)) }
+    {
+        ticks <= self.startup.ticks()
+    }
+
+    /// The three lines.
+    pub(crate) fn lines(&self) -> Lines
+        ensures { (part : PartData) (h : History) (n : ℕ) → StandsFor part.lock part.matched self.now.startup (startup_calls h n) → result ≡ lines_by part (startup_progress h n) }
+    {
+        self.startup.lines()
+    }
+
+    /// Takes a byte: whether the watchdog fires at it.
+    fn byte(&mut self, part: &Part) -> bool
+        ensures stands { (kept : Kept) (h : History) (n : ℕ) → newest_place h ≤ n → IsClock part.now kept (clock_in self.old) h n → IsClock part.now kept (clock_in self.new) h (n + 1) }
+        ensures fires { (kept : Kept) (h : History) (n : ℕ) → newest_place h ≤ n → IsClock part.now kept (clock_in self.old) h n → result ≡ fires part.now kept h (n + 1) }
+    {
+        self.startup.byte(part.lock(), part.matched());
+        let eos = self.has_ended();
+        self.watchdog.byte(eos)
+    }
+
+    /// Takes bytes one by one, up to the one at which the watchdog fires: the number of that byte, from 1.
+    fn each(&mut self, part: &Part, count: usize) -> Option<usize>
+        ensures within { IfSome result (λ k. (0 < k) × (k ≤ count)) }
+        ensures ticks { (kept : Kept) (h : History) (n : ℕ) → newest_place h ≤ n → IsClock part.now kept (clock_in self.old) h n → Ticks part.now kept (clock_in self.new) h n count result }
+    {
+        for i in 0..count {
+            if self.byte(part) {
+                return Some(i + 1);
+            }
+        }
+        None
+    }
+
+    /// Takes bytes, in each of which startup has ended or in none, up to the one at which the watchdog fires.
+    fn alike(&mut self, part: &Part, count: usize, eos: bool) -> Option<usize>
+        ensures within { IfSome result (λ k. (0 < k) × (k ≤ count)) }
+        ensures ticks { (kept : Kept) (h : History) (n : ℕ) → newest_place h ≤ n → ((i : ℕ) → i < count → has_ended part.now h (n + i + 1) ≡ eos)
+            → IsClock part.now kept (clock_in self.old) h n → Ticks part.now kept (clock_in self.new) h n count result }
+    {
+        let Some(k) = self.watchdog.bytes(count as u64, eos) else {
+            self.startup.bytes(count as u64, part.lock(), part.matched());
+            return None;
+        };
+        self.startup.bytes(k, part.lock(), part.matched());
+        Some(k as usize)
+    }
+
+    /// Whether startup would have ended after so many bytes more.
+    fn ends_within(&self, part: &Part, count: usize) -> bool
+        ensures { (kept : Kept) (h : History) (n : ℕ) → newest_place h ≤ n → IsClock part.now kept (clock_in self.now) h n → result ≡ has_ended part.now h (n + count) }
+    {
+        let mut then = *self;
+        then.startup.bytes(count as u64, part.lock(), part.matched());
+        then.has_ended()
+    }
+
+    /// Takes bytes before the word that they complete, up to the one at which the watchdog fires: the number of that byte, from 1.
+    pub(crate) fn bytes(&mut self, part: &Part, count: usize) -> Option<usize>
+        ensures within { IfSome result (λ k. (0 < k) × (k ≤ count)) }
+        ensures ticks { (kept : Kept) (h : History) (n : ℕ) → newest_place h ≤ n → IsClock part.now kept (clock_in self.old) h n → Ticks part.now kept (clock_in self.new) h n count result }
+    {
+        let eos = self.has_ended();
+        if are_same(eos, self.ends_within(part, count)) {
+            return self.alike(part, count, eos);
+        }
+        self.each(part, count)
+    }
+}
