@@ -85,6 +85,17 @@ impl Pipeline {
         })
     }
 
+    /// What `new` gives, whatever it stood for.
+    pub fn reset(&mut self)
+        ensures stands { (part : PartData) → IsPipelineOf part self.old → StandsFor part self.new Command.Null 0 [] None 0 }
+        ensures part { (part : PartData) → IsPipelineOf part self.old → IsPipelineOf part self.new }
+    {
+        self.command = Command::Null;
+        self.base = 0;
+        self.has_source = false;
+        self.end_run();
+    }
+
     /// A FAR load: a new run begins at this address. The source stays.
     pub fn load(&mut self, far: u32)
         ensures stands { (part : PartData) (command : Command) (base : ℕ) (run : List ℕ) (source : Option (List ℕ)) (given : ℕ) →
@@ -313,6 +324,17 @@ impl Pipeline {
         let word = self.word(part, memory);
         self.step(part);
         Ok(word)
+    }
+
+    /// The fault that the next word of a readback would have.
+    pub fn fault_of_read(&self, part: &Part) -> Option<RunFault>
+        ensures { (command : Command) (base : ℕ) (run : List ℕ) (source : Option (List ℕ)) (given : ℕ) →
+            StandsFor part.now self.now command base run source given → result ≡ read_fault part.now base given }
+    {
+        if self.reads_nowhere(part) {
+            return Some(RunFault::Address(self.base));
+        }
+        None
     }
 
     /// Whether the next word would be a readback's first, and the base is no address.
