@@ -9,4 +9,5 @@ mod pen;
 mod tests;
 
 pub use laws::{one_listing, told_is_a_front};
+pub use line::HeadLine;
 pub use lister::Lister;

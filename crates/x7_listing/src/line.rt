@@ -11,7 +11,7 @@ use x7_text::{hex_of_word, put, put_close, put_decimal};
 
 /// The line of a word in a header's place.
 #[derive(Clone, Copy, Debug, PartialEq, Eq)]
-pub(crate) enum HeadLine {
+pub enum HeadLine {
     /// The no-op 20000000.
     Nop,
     /// The sync word.

@@ -38,7 +38,7 @@ fn halves_of(bytes: u8x32) -> u8x64
 
 /// The two upper-case digits of each byte.
 #[inline(always)]
-pub(crate) fn hex_of_block(bytes: &[u8; 32]) -> [u8; 64]
+pub fn hex_of_block(bytes: &[u8; 32]) -> [u8; 64]
     ensures { result ≡ flat_map hex_byte bytes.now }
 {
     hex_digits(halves_of(u8x32::from_array(*bytes))).to_array()
@@ -56,7 +56,7 @@ fn write_spaced(text: &mut [u8; 77], at: usize, digits: &[u8; 8])
 
 /// The `data` line of eight words, with its line end.
 #[inline(always)]
-pub(crate) fn data_line(bytes: &[u8; 32]) -> [u8; 77]
+pub fn data_line(bytes: &[u8; 32]) -> [u8; 77]
     ensures { result ≡ line (codes "data") spaced (words_of_bytes bytes.now) }
 {
     let digits = hex_of_block(bytes);
