@@ -5,4 +5,5 @@ pub mod Parts
 pub mod Play
 pub mod Report
 pub mod Run
+pub mod Runs
 pub mod Turn

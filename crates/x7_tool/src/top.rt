@@ -1,12 +1,11 @@
 //! The top call.
-ghost use Rattle.std.specs.Prelude.{◌≡◌, ℕ, List, ◌⊎◌, map, string_bytes, Option, None, Some, Result, Ok, Err, IfOk, IfErr, true, false};
+ghost use Rattle.std.specs.Prelude.{◌≡◌, ℕ, List, map, string_bytes, Result, Ok, Err, IfOk, IfErr};
 ghost use Rattle.x7_words.specs.Count.{HasRisen};
-ghost use Rattle.x7_words.specs.Sink.{Tells, appended};
-ghost use Rattle.x7_part.specs.declared.fault.PartFault.{PartFault};
-ghost use Rattle.x7_tool.specs.Form.{form_of, names_of, Playing};
-ghost use Rattle.x7_tool.specs.Message.{event_of, final_status, line_of};
-ghost use Rattle.x7_tool.specs.Outcome.{Answer, Event, Usage, Missing, BadPart, ReadFault, WriteFault, TooLarge, TooLargeReads, Unbuilt, Told, outcome_of, told_of};
-ghost use Rattle.x7_tool.specs.Run.{Agrees, AgreesText, Ends, GetsFront, IsDone, RisesFor, Says, Shows};
+ghost use Rattle.x7_tool.specs.Form.{form_of, names_of};
+ghost use Rattle.x7_tool.specs.Message.{event_of, final_status};
+ghost use Rattle.x7_tool.specs.Outcome.{Answer, Event, told_of};
+ghost use Rattle.x7_tool.specs.Run.{Ends, RisesFor, Says};
+ghost use Rattle.x7_tool.specs.Runs.{Runs};
 
 use crate::form::{Form, words_of};
 use crate::list::list;
@@ -67,37 +66,10 @@ pub fn run<I: Inputs, O: Sink, E: Sink, F: Flash>(
     out: &mut O,
     err: &mut E,
 ) -> Status
-    ensures ended { let form = form_of (map string_bytes words.now.items) in (whole : Result Answer Event) × ((result ≡ final_status whole)
-        × Ends (told_of form (I.contents inputs.old) (F.bytes flash.old)) (RisesFor (names_of form) (I.faults inputs.old) (I.faults inputs.new)) (RisesFor (names_of form) (I.absences inputs.old) (I.absences inputs.new)) form (HasRisen (O.faults out.old) (O.faults out.new)) (O.written out.old) (O.written out.new) whole
-        × Says (HasRisen (E.faults err.old) (E.faults err.new)) (E.written err.old) (E.written err.new) whole) }
-    ensures outcome { let form = form_of (map string_bytes words.now.items) in (told : Told) → told_of form (I.contents inputs.old) (F.bytes flash.old) ≡ Some told
-        → ¬ HasRisen (I.faults inputs.old) (I.faults inputs.new) → ¬ HasRisen (I.absences inputs.old) (I.absences inputs.new) → ¬ HasRisen (O.faults out.old) (O.faults out.new)
-        → (result ≡ Status.NoMemory) ⊎ IsDone (outcome_of told form) result (O.written out.old) (O.written out.new) }
-    ensures done { let form = form_of (map string_bytes words.now.items) in result ≡ Status.Done → (text : List ℕ) × (AgreesText (told_of form (I.contents inputs.old) (F.bytes flash.old)) form (record { stopped = false; text = text })
-        × (O.written out.new ≡ appended (O.written out.old) text)) }
-    ensures stopped { let form = form_of (map string_bytes words.now.items) in result ≡ Status.Stopped → (text : List ℕ) × (AgreesText (told_of form (I.contents inputs.old) (F.bytes flash.old)) form (record { stopped = true; text = text })
-        × (O.written out.new ≡ appended (O.written out.old) text) × (E.written err.new ≡ E.written err.old)) }
-    ensures usage { result ≡ Status.Usage → (form_of (map string_bytes words.now.items) ≡ None) × Tells (HasRisen (E.faults err.old) (E.faults err.new)) (E.written err.old) (E.written err.new) (line_of Usage) }
-    ensures no_form { form_of (map string_bytes words.now.items) ≡ None → result ≡ Status.Usage }
-    ensures missing { let form = form_of (map string_bytes words.now.items) in result ≡ Status.Missing → (name : List ℕ) × ((RisesFor (names_of form) (I.absences inputs.old) (I.absences inputs.new) name ⊎ Shows (told_of form (I.contents inputs.old) (F.bytes flash.old)) form (Missing name))
-        × Tells (HasRisen (E.faults err.old) (E.faults err.new)) (E.written err.old) (E.written err.new) (line_of (Missing name))) }
-    ensures bad_part { let form = form_of (map string_bytes words.now.items) in result ≡ Status.BadPart → (name : List ℕ) × (fault : PartFault) × (Agrees (told_of form (I.contents inputs.old) (F.bytes flash.old)) form (BadPart name fault)
-        × Tells (HasRisen (E.faults err.old) (E.faults err.new)) (E.written err.old) (E.written err.new) (line_of (BadPart name fault))) }
-    ensures read_fault { let form = form_of (map string_bytes words.now.items) in result ≡ Status.ReadFault → (name : List ℕ) × (RisesFor (names_of form) (I.faults inputs.old) (I.faults inputs.new) name
-        × Tells (HasRisen (E.faults err.old) (E.faults err.new)) (E.written err.old) (E.written err.new) (line_of (ReadFault name))) }
-    ensures write_fault { let form = form_of (map string_bytes words.now.items) in result ≡ Status.WriteFault → HasRisen (O.faults out.old) (O.faults out.new)
-        × GetsFront (told_of form (I.contents inputs.old) (F.bytes flash.old)) form (O.written out.old) (O.written out.new)
-        × Tells (HasRisen (E.faults err.old) (E.faults err.new)) (E.written err.old) (E.written err.new) (line_of WriteFault) }
-    ensures too_large { let form = form_of (map string_bytes words.now.items) in result ≡ Status.TooLarge → ((name : List ℕ) × (Agrees (told_of form (I.contents inputs.old) (F.bytes flash.old)) form (TooLarge name)
-        × Tells (HasRisen (E.faults err.old) (E.faults err.new)) (E.written err.old) (E.written err.new) (line_of (TooLarge name))))
-        ⊎ (Agrees (told_of form (I.contents inputs.old) (F.bytes flash.old)) form TooLargeReads
-        × Tells (HasRisen (E.faults err.old) (E.faults err.new)) (E.written err.old) (E.written err.new) (line_of TooLargeReads)) }
-    ensures unbuilt { let form = form_of (map string_bytes words.now.items) in result ≡ Status.Unbuilt → (name : List ℕ) × (Agrees (told_of form (I.contents inputs.old) (F.bytes flash.old)) form (Unbuilt name)
-        × Tells (HasRisen (E.faults err.old) (E.faults err.new)) (E.written err.old) (E.written err.new) (line_of (Unbuilt name))) }
-    ensures unwritten { (result ≡ Status.Usage) ⊎ ((result ≡ Status.Missing) ⊎ (result ≡ Status.Unbuilt)) → O.written out.new ≡ O.written out.old }
-    ensures unplayed { (part : List ℕ) (streams : List (List ℕ)) → form_of (map string_bytes words.now.items) ≡ Some (Playing part streams)
-        → ((result ≡ Status.Done) ⊎ ((result ≡ Status.Stopped) ⊎ (result ≡ Status.WriteFault))) ⊎ (O.written out.new ≡ O.written out.old) }
-    ensures silent { result ≡ Status.Done → E.written err.new ≡ E.written err.old }
+    ensures { Runs (form_of (map string_bytes words.now.items))
+        (record { inputs = I.contents inputs.old; faults = I.faults inputs.old; absences = I.absences inputs.old; flash = F.bytes flash.old; out = O.written out.old; out_faults = O.faults out.old; err = E.written err.old; err_faults = E.faults err.old })
+        (record { inputs = I.contents inputs.new; faults = I.faults inputs.new; absences = I.absences inputs.new; flash = F.bytes flash.new; out = O.written out.new; out_faults = O.faults out.new; err = E.written err.new; err_faults = E.faults err.new })
+        result }
 {
     carry_out(alloc, words, inputs, flash, out, err)
 }
