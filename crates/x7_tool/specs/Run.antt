@@ -13,10 +13,13 @@ use Rattle.x7_tool.specs.Outcome.{Answer, Event, Usage, Missing, BadPart, ReadFa
 use Rattle.x7_tool.specs.Message.{event_of, final_status, line_of, status_of}
 
 -- what a form of the code asks for
-abbrev pub asked : Form → Option Asked
-asked form.Usage = None
-asked (form.List stream) = Some (Listing stream.now)
-asked (form.Play part streams) = Some (Playing part.now (map string_bytes streams.now))
+abbrev pub asked_by : Form → Asked
+asked_by (form.List stream) = Listing stream.now
+asked_by (form.Play part streams) = Playing part.now (map string_bytes streams.now)
+
+abbrev pub asked : Option Form → Option Asked
+asked None = None
+asked (Some form) = Some (asked_by form)
 
 -- the name is one of these
 abbrev pub Among : List (List ℕ) → List ℕ → Type 0

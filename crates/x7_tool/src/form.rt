@@ -6,8 +6,6 @@ ghost use Rattle.x7_tool.specs.Run.{asked};
 /// What the words ask for, with the names as they were given.
 #[derive(Clone, Copy, Drop)]
 pub enum Form<'w> {
-    /// The words have no form.
-    Usage,
     /// `list STREAM`: the listing of a stream.
     List {
         /// The stream's name.
@@ -22,27 +20,27 @@ pub enum Form<'w> {
     },
 }
 
-/// The form of the words.
-pub fn words_of(words: &Vec<String>) -> Form<'_>
+/// The form of the words, where they have one.
+pub fn words_of(words: &Vec<String>) -> Option<Form<'_>>
     ensures { asked result ≡ form_of (map string_bytes words.now.items) }
 {
     let Some((command, names)) = words.split_first() else {
-        return Form::Usage;
+        return None;
     };
     match command.as_str() {
         "list" => match names {
-            [stream] => Form::List {
+            [stream] => Some(Form::List {
                 stream: stream.as_str(),
-            },
-            _ => Form::Usage,
+            }),
+            _ => None,
         },
         "play" => match names {
-            [part, streams @ ..] if streams.len() >= 1 && streams.len() <= 8 => Form::Play {
+            [part, streams @ ..] if streams.len() >= 1 && streams.len() <= 8 => Some(Form::Play {
                 part: part.as_str(),
                 streams,
-            },
-            _ => Form::Usage,
+            }),
+            _ => None,
         },
-        _ => Form::Usage,
+        _ => None,
     }
 }

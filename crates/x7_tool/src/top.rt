@@ -27,12 +27,12 @@ fn answer<'w, I: Inputs, O: Sink, F: Flash>(
     ensures err { let form = form_of (map string_bytes words.now.items) in IfErr result (λ r. Ends (told_of form (I.contents inputs.old) (F.bytes flash.old)) (RisesFor (names_of form) (I.faults inputs.old) (I.faults inputs.new)) (RisesFor (names_of form) (I.absences inputs.old) (I.absences inputs.new)) form (HasRisen (O.faults out.old) (O.faults out.new)) (O.written out.old) (O.written out.new) (Err (event_of r))) }
 {
     match words_of(words) {
-        Form::Usage => Err(Refusal::Usage),
-        Form::List { stream } => match list(alloc, inputs, out, stream) {
+        None => Err(Refusal::Usage),
+        Some(Form::List { stream }) => match list(alloc, inputs, out, stream) {
             Ok(()) => Ok(false),
             Err(refusal) => Err(refusal),
         },
-        Form::Play { part, streams } => play(alloc, inputs, out, part, streams),
+        Some(Form::Play { part, streams }) => play(alloc, inputs, out, part, streams),
     }
 }
 
