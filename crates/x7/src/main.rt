@@ -1,5 +1,8 @@
 //! The program `x7`: the real objects of the system, and the command over them.
 #![tactic(auto)]
+ghost use Rattle.std.specs.Prelude.{◌≡◌};
+ghost use Rattle.std.specs.Process.{exit_status};
+ghost use Rattle.x7_tool.specs.Message.{number_of};
 
 use std::env;
 use std::io::{self, ErrorKind};
@@ -19,16 +22,23 @@ fn words(rt: &HostRuntime) -> io::Result<Vec<String>> {
     Ok(words)
 }
 
+/// The exit status of a run that ended so.
+fn end_of(status: Status) -> ExitCode
+    ensures { exit_status result ≡ number_of status }
+{
+    ExitCode::from(status.number())
+}
+
 fn main(rt: HostRuntime) -> ExitCode {
     let words = match words(&rt) {
         Ok(words) => words,
         Err(error) if error.kind() == ErrorKind::OutOfMemory => {
-            return ExitCode::from(Status::NoMemory.number());
+            return end_of(Status::NoMemory);
         }
         Err(_) => return ExitCode::from(NO_WORDS),
     };
     let Ok(mut flash) = MemoryFlash::new(rt.alloc(), "", &[]) else {
-        return ExitCode::from(Status::NoMemory.number());
+        return end_of(Status::NoMemory);
     };
     let mut inputs = FileInputs::new(&rt);
     let mut out = StdSink::new(rt.stdout());
@@ -41,5 +51,5 @@ fn main(rt: HostRuntime) -> ExitCode {
         &mut out,
         &mut err,
     );
-    ExitCode::from(status.number())
+    end_of(status)
 }

@@ -18,7 +18,8 @@ use Rattle.x7_engine.proofs.FeedLemmas.{told_all, told_within}
 use Rattle.x7_engine.specs.Standing.{NoWordDue, Answers, DeviceState, DeviceStandsFor, taken_in, told_of}
 use Rattle.x7_engine.specs.State.{line_by, reads_of, state_of, stop_in}
 use Rattle.x7_engine.specs.Stops.{Stopped, fault_of}
-use Rattle.x7_tool.specs.Outcome.{TooLargeReads, Told, part_by, reads_limit, report_of, reported}
+use Rattle.x7_tool.specs.Event.{too_many_reads}
+use Rattle.x7_tool.specs.Outcome.{Told, part_by, reads_limit, report_of, reported}
 use Rattle.x7_tool.specs.Parts.{part_in}
 use Rattle.x7_tool.specs.Play.{IsPlayed, part_event}
 use Rattle.x7_tool.specs.Report.{report_text}
@@ -133,7 +134,7 @@ play_end part bytes at d read reads fed.All fits e stands answer told few =
 
 -- ---- the answer of a play
 
-pub reported_over : (part : PartData) (bytes : List ℕ) → 16777216 < length (reads_of part on_the_bench bytes) → reported part bytes ≡ Err TooLargeReads
+pub reported_over : (part : PartData) (bytes : List ℕ) → 16777216 < length (reads_of part on_the_bench bytes) → reported part bytes ≡ Err too_many_reads
 unfolding reported
 reported_over part bytes k =
     let long : nat_lt reads_limit (length (reads_of part on_the_bench bytes)) ≡ true = grind (arith, k, nat_tests) in

@@ -1,33 +1,38 @@
 -- Inputs that are read whole, one after the other, and what that comes to.
-use Rattle.std.proofs.Common.{◌≡◌, ℕ, zero, suc, List, [], ◌∷◌, ◌++◌, ◌+◌, ◌-◌, ◌≤◌, ◌<◌, drop, drop-cons, get_or, add-one, length, length-append, map, Option, None, Some, Result, Ok, Err, refl, ap, append_assoc, sym, ◌∙◌, arith, inl, inr}
+use Rattle.std.proofs.Common.{◌≡◌, ℕ, zero, suc, List, [], ◌∷◌, ◌++◌, ◌+◌, ◌-◌, ◌≤◌, ◌<◌, drop, drop-cons, get_or, add-one, length, length-append, map, Option, None, Some, Result, Ok, Err, refl, ap, append_assoc, subst, sym, ◌∙◌, arith, inl, inr}
 use Rattle.x7_words.proofs.CountLemmas.{risen_from}
 use Rattle.x7_part.specs.Part.{PartData}
-use Rattle.x7_tool.specs.Outcome.{Event, Missing, ReadFault, NoMemory, Told, and_so, behind, data_of, part_by, raw, whole_in, with_inputs}
+use Rattle.x7_tool.specs.Event.{Event, Cause, Want, Fault, Absence, cause_of}
+use Rattle.x7_tool.specs.Outcome.{Told, and_so, put_before, data_of, part_by, raw, whole_in, with_inputs}
 use Rattle.x7_tool.specs.Parts.{part_in}
-use Rattle.x7_tool.specs.Run.{Among, IsCaused, IsDecidedResult, IsFree, IsFreeResult, IsOpenResult, RisesFor}
+use Rattle.x7_tool.specs.Run.{Among, FreeBy, IsCaused, IsDecided, IsFree, IsOpen, RisesFor}
 
 -- ---- one input
 
 -- what is due for an input behind bytes that were read before
-abbrev pub due_behind : List ℕ → ℕ → List ℕ → Told → Result (List ℕ) Event
-due_behind front limit name told = behind front (whole_in told limit name)
+abbrev pub due_after : List ℕ → ℕ → List ℕ → Told → Result (List ℕ) Event
+due_after front limit name told = put_before front (whole_in told limit name)
 
 -- ---- causes of steps one after the other
 
-is_free_on : (F L G M : List ℕ → Type 0) (event : Event) → ((n : List ℕ) → F n → G n) → ((n : List ℕ) → L n → M n) → IsFree F L event → IsFree G M event
-is_free_on F L G M (Missing name) f l h = l name h
-is_free_on F L G M (ReadFault name) f l h = f name h
-is_free_on F L G M NoMemory f l h = h
-is_free_on F L G M event f l h = absurd h
+free_by_on : (F L G M : List ℕ → Type 0) (cause : Cause) (name : List ℕ) → ((n : List ℕ) → F n → G n) → ((n : List ℕ) → L n → M n) → FreeBy cause F L name → FreeBy cause G M name
+free_by_on F L G M Absence name f l h = l name h
+free_by_on F L G M Fault name f l h = f name h
+free_by_on F L G M Want name f l h = h
+free_by_on F L G M cause name f l h = absurd h
 
-free_on : {A : Type 0} (F L G M : List ℕ → Type 0) (got : Result A Event) → ((n : List ℕ) → F n → G n) → ((n : List ℕ) → L n → M n) → IsFreeResult F L got → IsFreeResult G M got
+free_on : {A : Type 0} (F L G M : List ℕ → Type 0) (got : Result A Event) → ((n : List ℕ) → F n → G n) → ((n : List ℕ) → L n → M n) → IsFree F L got → IsFree G M got
 free_on F L G M (Ok a) f l h = h
-free_on F L G M (Err event) f l h = is_free_on F L G M event f l h
+free_on F L G M (Err event) f l h = free_by_on F L G M (cause_of event) event.concerned f l h
 
 -- more names, and counts of more calls
 pub caused_on : {A : Type 0} (told : Option Told) (F L G M : List ℕ → Type 0) (due : Told → Result A Event) (got : Result A Event) → ((n : List ℕ) → F n → G n) → ((n : List ℕ) → L n → M n) → IsCaused told F L due got → IsCaused told G M due got
 caused_on told F L G M due got f l (inl h) = inl (free_on F L G M got f l h)
 caused_on told F L G M due got f l (inr h) = inr h
+
+-- the same event
+pub caused_event : {A : Type 0} (told : Option Told) (F L : List ℕ → Type 0) (due : Told → Result A Event) (x y : Event) → x ≡ y → IsCaused told F L due (Err y) → IsCaused told F L due (Err x)
+caused_event told F L due x y e h = subst (λ (event : Event). IsCaused told F L due (Err event)) (sym e) h
 
 -- the same outcome
 pub caused_same : {A : Type 0} (told : Option Told) (F L : List ℕ → Type 0) (due other : Told → Result A Event) (got : Result A Event) → ((t : Told) → due t ≡ other t) → IsCaused told F L due got → IsCaused told F L other got
@@ -43,53 +48,53 @@ follows None F L G M due next a got (inr h) (inr q) = inr q
 follows (Some t) F L G M due next a got (inr h) (inr q) = inr (q.0, rw h.1 q.1)
 
 -- a step that reads nothing
-pub works : {A : Type 0} (told : Option Told) (F L : List ℕ → Type 0) (due got : Result A Event) → IsOpenResult got → IsDecidedResult got → due ≡ got → IsCaused told F L (λ t. due) got
+pub works : {A : Type 0} (told : Option Told) (F L : List ℕ → Type 0) (due got : Result A Event) → IsOpen got → IsDecided got → due ≡ got → IsCaused told F L (λ t. due) got
 works None F L due got o d e = inr o
 works (Some t) F L due got o d e = inr (d, e)
 
 -- ---- streams one after the other
 
-pub behind_none : (more : Result (List ℕ) Event) → behind [] more ≡ more
-behind_none (Ok more) = refl
-behind_none (Err event) = refl
+pub before_none : (more : Result (List ℕ) Event) → put_before [] more ≡ more
+before_none (Ok more) = refl
+before_none (Err event) = refl
 
-behind_behind : (front bytes : List ℕ) (more : Result (List ℕ) Event) → behind front (behind bytes more) ≡ behind (front ++ bytes) more
-behind_behind front bytes (Ok more) = ap Ok (sym (append_assoc front bytes more))
-behind_behind front bytes (Err event) = refl
+before_before : (front bytes : List ℕ) (more : Result (List ℕ) Event) → put_before front (put_before bytes more) ≡ put_before (front ++ bytes) more
+before_before front bytes (Ok more) = ap Ok (sym (append_assoc front bytes more))
+before_before front bytes (Err event) = refl
 
--- what is due for the streams that are left, behind what was read
+-- what is due for the streams that are left, after what was read
 abbrev pub Rests : Option (List ℕ → Option (List ℕ)) → List (List ℕ) → ℕ → List (List ℕ) → List ℕ → Type 0
 Rests None names limit left whole = Unit {0}
-Rests (Some inputs) names limit left whole = (flash : Option (List ℕ)) → data_of (record { inputs = inputs; flash = flash }) limit names ≡ behind whole (data_of (record { inputs = inputs; flash = flash }) (limit - length whole) left)
+Rests (Some inputs) names limit left whole = (flash : Option (List ℕ)) → data_of (record { inputs = inputs; flash = flash }) limit names ≡ put_before whole (data_of (record { inputs = inputs; flash = flash }) (limit - length whole) left)
 
-one_more : (r : Result (List ℕ) Event) (rest : ℕ → Result (List ℕ) Event) (limit : ℕ) (whole new : List ℕ) → behind whole r ≡ Ok new
-    → behind whole (and_so r (λ bytes. behind bytes (rest (limit - length whole - length bytes)))) ≡ behind new (rest (limit - length new))
+one_more : (r : Result (List ℕ) Event) (rest : ℕ → Result (List ℕ) Event) (limit : ℕ) (whole new : List ℕ) → put_before whole r ≡ Ok new
+    → put_before whole (and_so r (λ bytes. put_before bytes (rest (limit - length whole - length bytes)))) ≡ put_before new (rest (limit - length new))
 one_more (Err event) rest limit whole new e = absurd (cc)
 one_more (Ok bytes) rest limit whole new e =
     let same : whole ++ bytes ≡ new = cc in
     let size : limit - length whole - length bytes ≡ limit - length new = let long : length new ≡ length whole + length bytes = ap length (sym same) ∙ length-append whole bytes in omega arith in
-    rw (size, ← same) (behind_behind whole bytes (rest (limit - length (whole ++ bytes))))
+    rw (size, ← same) (before_before whole bytes (rest (limit - length (whole ++ bytes))))
 
 pub rests_next : (contents : Option (List ℕ → Option (List ℕ))) (F L : List ℕ → Type 0) (names : List (List ℕ)) (limit : ℕ) (name : List ℕ) (left : List (List ℕ)) (whole new : List ℕ) → Rests contents names limit (name ∷ left) whole
-    → ((flash : Option (List ℕ)) → IsCaused (with_inputs contents flash) F L (λ t. behind whole (and_so (whole_in t (limit - length whole) name) (raw name))) (Ok new)) → Rests contents names limit left new
+    → ((flash : Option (List ℕ)) → IsCaused (with_inputs contents flash) F L (λ t. put_before whole (and_so (whole_in t (limit - length whole) name) (raw name))) (Ok new)) → Rests contents names limit left new
 rests_next None F L names limit name left whole new r h = tt
 rests_next (Some inputs) F L names limit name left whole new r h = λ flash. at flash (h flash)
   where
-    at : (flash : Option (List ℕ)) → IsCaused (Some (record { inputs = inputs; flash = flash })) F L (λ t. behind whole (and_so (whole_in t (limit - length whole) name) (raw name))) (Ok new)
-        → data_of (record { inputs = inputs; flash = flash }) limit names ≡ behind new (data_of (record { inputs = inputs; flash = flash }) (limit - length new) left)
+    at : (flash : Option (List ℕ)) → IsCaused (Some (record { inputs = inputs; flash = flash })) F L (λ t. put_before whole (and_so (whole_in t (limit - length whole) name) (raw name))) (Ok new)
+        → data_of (record { inputs = inputs; flash = flash }) limit names ≡ put_before new (data_of (record { inputs = inputs; flash = flash }) (limit - length new) left)
     at flash (inl q) = absurd q
     at flash (inr q) =
         r flash ∙ one_more (and_so (whole_in (record { inputs = inputs; flash = flash }) (limit - length whole) name) (raw name)) (λ room. data_of (record { inputs = inputs; flash = flash }) room left) limit whole new q.1
 
 pub rests_stop : (contents : Option (List ℕ → Option (List ℕ))) (flash : Option (List ℕ)) (F L : List ℕ → Type 0) (names : List (List ℕ)) (limit : ℕ) (name : List ℕ) (left : List (List ℕ)) (whole : List ℕ) (event : Event) → Rests contents names limit (name ∷ left) whole
-    → IsCaused (with_inputs contents flash) F L (λ t. behind whole (and_so (whole_in t (limit - length whole) name) (raw name))) (Err event)
+    → IsCaused (with_inputs contents flash) F L (λ t. put_before whole (and_so (whole_in t (limit - length whole) name) (raw name))) (Err event)
     → IsCaused (with_inputs contents flash) F L (λ t. data_of t limit names) (Err event)
 rests_stop contents flash F L names limit name left whole event r (inl q) = inl q
 rests_stop None flash F L names limit name left whole event r (inr q) = inr q
 rests_stop (Some inputs) flash F L names limit name left whole event r (inr q) =
     inr (q.0, r flash ∙ at (and_so (whole_in (record { inputs = inputs; flash = flash }) (limit - length whole) name) (raw name)) q.1)
   where
-    at : (x : Result (List ℕ) Event) → behind whole x ≡ Err event → behind whole (and_so x (λ bytes. behind bytes (data_of (record { inputs = inputs; flash = flash }) (limit - length whole - length bytes) left))) ≡ Err event
+    at : (x : Result (List ℕ) Event) → put_before whole x ≡ Err event → put_before whole (and_so x (λ bytes. put_before bytes (data_of (record { inputs = inputs; flash = flash }) (limit - length whole - length bytes) left))) ≡ Err event
     at (Err other) p = p
     at (Ok bytes) p = absurd (cc)
 
@@ -110,7 +115,7 @@ left_at f ss k s h e =
 -- a stream that ended the command
 pub stream_err : {X : Type 0} (f : X → List ℕ) (contents now : Option (List ℕ → Option (List ℕ))) (flash : Option (List ℕ)) (ss : List X) (k limit room : ℕ) (s : X) (name whole : List ℕ) (f0 f1 f2 a0 a1 a2 : ℕ) (event : Event)
     → now ≡ contents → k < length ss → s ≡ get_or ss k s → name ≡ f s → room ≡ limit - length whole → f0 ≤ f1 → a0 ≤ a1 → Rests contents (map f ss) limit (map f (drop k ss)) whole
-    → IsCaused (with_inputs now flash) (RisesFor (name ∷ []) f1 f2) (RisesFor (name ∷ []) a1 a2) (λ t. behind whole (and_so (whole_in t room name) (raw name))) (Err event)
+    → IsCaused (with_inputs now flash) (RisesFor (name ∷ []) f1 f2) (RisesFor (name ∷ []) a1 a2) (λ t. put_before whole (and_so (whole_in t room name) (raw name))) (Err event)
     → IsCaused (with_inputs contents flash) (RisesFor (map f ss) f0 f2) (RisesFor (map f ss) a0 a2) (λ t. data_of t limit (map f ss)) (Err event)
 stream_err f contents now flash ss k limit room s name whole f0 f1 f2 a0 a1 a2 event same h e nm rm fl al due got =
     let got1 = rw (same, rm) at got in
@@ -124,7 +129,7 @@ stream_err f contents now flash ss k limit room s name whole f0 f1 f2 a0 a1 a2 e
 -- a stream whose data were read
 pub stream_next : {X : Type 0} (f : X → List ℕ) (contents now : Option (List ℕ → Option (List ℕ))) (F L : List ℕ → Type 0) (ss : List X) (k limit room : ℕ) (s : X) (name whole new : List ℕ)
     → now ≡ contents → k < length ss → s ≡ get_or ss k s → name ≡ f s → room ≡ limit - length whole → Rests contents (map f ss) limit (map f (drop k ss)) whole
-    → ((flash : Option (List ℕ)) → IsCaused (with_inputs now flash) F L (λ t. behind whole (and_so (whole_in t room name) (raw name))) (Ok new))
+    → ((flash : Option (List ℕ)) → IsCaused (with_inputs now flash) F L (λ t. put_before whole (and_so (whole_in t room name) (raw name))) (Ok new))
     → Rests contents (map f ss) limit (map f (drop (k + 1) ss)) new
 stream_next f contents now F L ss k limit room s name whole new same h e nm rm due got =
     let got1 = rw (same, rm) at got in
@@ -133,8 +138,8 @@ stream_next f contents now F L ss k limit room s name whole new same h e nm rm d
     rw add-one (rests_next contents F L (map f ss) limit name (map f (drop (suc k) ss)) whole new due1 got1)
 
 -- a part file that was read whole
-pub after_text : (told : Option Told) (F L : List ℕ → Type 0) (limit : ℕ) (name text : List ℕ) (got : Result PartData Event) → IsCaused told F L (due_behind [] limit name) (Ok text) → IsCaused told F L (λ t. part_by name (part_in text)) got
+pub after_text : (told : Option Told) (F L : List ℕ → Type 0) (limit : ℕ) (name text : List ℕ) (got : Result PartData Event) → IsCaused told F L (due_after [] limit name) (Ok text) → IsCaused told F L (λ t. part_by name (part_in text)) got
     → IsCaused told F L (λ t. and_so (whole_in t limit name) (λ bytes. part_by name (part_in bytes))) got
 after_text told F L limit name text got whole next =
     follows told F L F L (λ t. whole_in t limit name) (λ t bytes. part_by name (part_in bytes)) text got
-    (caused_same told F L (due_behind [] limit name) (λ t. whole_in t limit name) (Ok text) (λ t. behind_none (whole_in t limit name)) whole) next
+    (caused_same told F L (due_after [] limit name) (λ t. whole_in t limit name) (Ok text) (λ t. before_none (whole_in t limit name)) whole) next

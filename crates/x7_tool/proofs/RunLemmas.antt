@@ -1,135 +1,210 @@
 -- What the end of a command says of its status.
-use Rattle.std.proofs.Common.{◌≡◌, ℕ, List, [], Bool, true, false, Option, None, Some, Result, Ok, Err, refl, ap, sym, ◌∙◌, inl, inr, ◌⊎◌}
-use Rattle.x7_words.specs.Sink.{appended, Tells}
-use Rattle.x7_part.specs.declared.fault.PartFault.{PartFault}
-use Rattle.x7_part.specs.declared.fault.PartFault.TheVariants.{Toml}
-use Rattle.x7_tool.specs.Form.{Asked, Listing, Playing}
-use Rattle.x7_tool.specs.Message.{final_status, line_of, status_of, told_status}
-use Rattle.x7_tool.specs.Outcome.{Answer, Event, Usage, Missing, BadPart, ReadFault, WriteFault, NoMemory, TooLarge, TooLargeReads, Unbuilt, Told, outcome_of}
-use Rattle.x7_tool.specs.Run.{Agrees, AgreesText, Comes, Ends, GetsFront, IsDone, Leaves, Says, Shows}
-use Rattle.x7_tool.specs.Runs.{Fails, HasCause, Lacks, Outside, Runs, Writes, told_in}
+use Rattle.std.proofs.Common.{◌≡◌, ℕ, List, [], Bool, true, false, Option, None, Some, Result, Ok, Err, refl, ap, subst, sym, ◌∙◌, inl, inr, ◌⊎◌}
 use Rattle.x7_words.specs.Count.{HasRisen}
+use Rattle.x7_words.specs.Sink.{PutsFront, appended}
+use Rattle.x7_tool.specs.declared.refusal.Why.{Why}
+use Rattle.x7_tool.specs.declared.refusal.Why.TheVariants as why
 use Rattle.x7_tool.specs.declared.status.Status.{Status}
 use Rattle.x7_tool.specs.declared.status.Status.TheVariants as status
+use Rattle.x7_tool.specs.Event.{Event, Cause, Wording, Want, Fault, Absence, Break, Contents, cause_of, no_memory, row_of, status_of, usage, write_fault}
+use Rattle.x7_tool.specs.Form.{Asked, names_flash}
+use Rattle.x7_tool.specs.Message.{final_status}
+use Rattle.x7_tool.specs.Outcome.{Answer, Told, outcome_of, text_of}
+use Rattle.x7_tool.specs.Run.{Agrees, Comes, DecidedBy, OpenBy, Ends, EndsAs, EndsBy, FreeBy, GetsPrefix, IsCaused, IsDone, Leaves, Puts, Says, Shows}
+use Rattle.x7_tool.specs.Runs.{CausedBy, Fails, FlashState, HasCause, KeepsFlash, Lacks, LeftBy, Outside, Runs, Wrote, told_in}
 
--- where contents are told and nothing failed, an event is the outcome or want of memory
-event_is : (told : Told) (F L : List ℕ → Type 0) (form : Option Asked) (event : Event) → ((n : List ℕ) → F n → ⊥) → ((n : List ℕ) → L n → ⊥) → Comes (Some told) F L form (Err event) → (event ≡ NoMemory) ⊎ (outcome_of told form ≡ Err event)
+-- ---- which status an event has
+
+-- want of memory has a status of its own
+want_is : (reason : Why) → (row_of reason).cause ≡ Want → (row_of reason).ends_as ≡ status.NoMemory
+want_is why.NoMemory e = refl
+want_is reason e = absurd (cc)
+
+-- words without a form have a status of their own
+wording_is : (reason : Why) → (row_of reason).cause ≡ Wording → (row_of reason).ends_as ≡ status.Usage
+wording_is why.Usage e = refl
+wording_is reason e = absurd (cc)
+
+-- ---- where contents are told and nothing failed
+
+-- an event is want of memory or the outcome
+event_by : (told : Told) (F L : List ℕ → Type 0) (form : Asked) (event : Event) (cause : Cause) → cause_of event ≡ cause → ((n : List ℕ) → F n → ⊥) → ((n : List ℕ) → L n → ⊥)
+    → FreeBy cause F L event.concerned ⊎ (DecidedBy cause × (text_of told form ≡ Err event)) → (cause_of event ≡ Want) ⊎ (text_of told form ≡ Err event)
+event_by told F L form event cause e f l (inr h) = inr h.1
+event_by told F L form event Want e f l (inl h) = inl e
+event_by told F L form event Fault e f l (inl h) = absurd (f event.concerned h)
+event_by told F L form event Absence e f l (inl h) = absurd (l event.concerned h)
+event_by told F L form event cause e f l (inl h) = absurd h
+
+event_is : (told : Told) (F L : List ℕ → Type 0) (form : Option Asked) (event : Event) → ((n : List ℕ) → F n → ⊥) → ((n : List ℕ) → L n → ⊥) → Comes (Some told) F L form (Err event) → (cause_of event ≡ Want) ⊎ (outcome_of told form ≡ Err event)
 event_is told F L None event f l h = inr (sym h)
-event_is told F L (Some form) event f l (inr h) = inr h.1
-event_is told F L (Some form) (Missing name) f l (inl h) = absurd (l name h)
-event_is told F L (Some form) (ReadFault name) f l (inl h) = absurd (f name h)
-event_is told F L (Some form) NoMemory f l (inl h) = inl refl
-event_is told F L (Some form) event f l (inl h) = absurd h
+event_is told F L (Some form) event f l h = event_by told F L form event (cause_of event) refl f l h
 
 text_is : (told : Told) (F L : List ℕ → Type 0) (form : Option Asked) (answer : Answer) → Comes (Some told) F L form (Ok answer) → outcome_of told form ≡ Ok answer
 text_is told F L None answer h = absurd (cc)
 text_is told F L (Some form) answer (inl h) = absurd h
 text_is told F L (Some form) answer (inr h) = h.1
 
-ended_came : (told : Option Told) (F L : List ℕ → Type 0) (form : Option Asked) (Full : Type 0) (old new : Option (List ℕ)) (event : Event) → (Full → ⊥) → Ends told F L form Full old new (Err event) → Comes told F L form (Err event)
-ended_came told F L form Full old new WriteFault n h = absurd (n h.0)
-ended_came told F L form Full old new event n h = h.0
+-- an event other than the output's failure came as it should
+came_by : (cause : Cause) (told : Option Told) (F L : List ℕ → Type 0) (form : Option Asked) (Full : Type 0) (old new : Option (List ℕ)) (event : Event) → (Full → ⊥) → EndsBy cause told F L form Full old new event → Comes told F L form (Err event)
+came_by Break told F L form Full old new event n h = absurd (n h.0)
+came_by cause told F L form Full old new event n h = h.0
 
--- where contents are told and nothing failed, the end is the outcome or want of memory
-pub outcome_is : (now : Option Told) (F L : List ℕ → Type 0) (form : Option Asked) (Full : Type 0) (old new : Option (List ℕ)) (s : Status) (whole : Result Answer Event) → s ≡ final_status whole → Ends now F L form Full old new whole
+-- the end is the outcome or want of memory
+outcome_is : (now : Option Told) (F L : List ℕ → Type 0) (form : Option Asked) (Full : Type 0) (old new : Option (List ℕ)) (s : Status) (end : Result Answer Event) → s ≡ final_status end → Ends now F L form Full old new end
     → (told : Told) → now ≡ Some told → ((n : List ℕ) → F n → ⊥) → ((n : List ℕ) → L n → ⊥) → (Full → ⊥) → (s ≡ status.NoMemory) ⊎ IsDone (outcome_of told form) s old new
 outcome_is now F L form Full old new s (Ok answer) e h told t f l n =
     let came : Comes now F L form (Ok answer) = h.0 in
     let here = rw t at came in
     inr (rw (text_is told F L form answer here) (e, h.1))
 outcome_is now F L form Full old new s (Err event) e h told t f l n =
-    let came : Comes now F L form (Err event) = ended_came now F L form Full old new event n h in
+    let came : Comes now F L form (Err event) = came_by (cause_of event) now F L form Full old new event n h in
     let here = rw t at came in
-    let by : (event ≡ NoMemory) ⊎ (outcome_of told form ≡ Err event) → (s ≡ status.NoMemory) ⊎ IsDone (outcome_of told form) s old new
-    = elim [ inl q ↦ inl (e ∙ ap status_of q) | inr q ↦ inr (rw q e) ] in
+    let by : (cause_of event ≡ Want) ⊎ (outcome_of told form ≡ Err event) → (s ≡ status.NoMemory) ⊎ IsDone (outcome_of told form) s old new
+    = elim [ inl q ↦ inl (e ∙ want_is event.reason q) | inr q ↦ inr (rw q e) ] in
     by (event_is told F L form event f l here)
 
-fault_is : (told : Option Told) (F L : List ℕ → Type 0) (form : Option Asked) (name : List ℕ) → Comes told F L form (Err (ReadFault name)) → F name
-fault_is told F L None name h = absurd (cc)
-fault_is told F L (Some form) name (inl h) = h
-fault_is None F L (Some form) name (inr h) = absurd h
-fault_is (Some t) F L (Some form) name (inr h) = absurd h.0
+-- ---- words without a form
 
-absence_is : (told : Option Told) (F L : List ℕ → Type 0) (form : Option Asked) (name : List ℕ) → Comes told F L form (Err (Missing name)) → L name ⊎ Shows told form (Missing name)
-absence_is told F L None name h = absurd (cc)
-absence_is told F L (Some form) name (inl h) = inl h
-absence_is None F L (Some form) name (inr h) = absurd h
-absence_is (Some t) F L (Some form) name (inr h) = inr h.1
+-- the event of a result
+abbrev event_in : {A : Type 0} → Result A Event → Event
+event_in (Ok a) = usage
+event_in (Err event) = event
 
-size_is : (told : Option Told) (F L : List ℕ → Type 0) (form : Option Asked) (name : List ℕ) → Comes told F L form (Err (TooLarge name)) → Agrees told form (TooLarge name)
-size_is told F L None name h = absurd (cc)
-size_is told F L (Some form) name (inl h) = absurd h
-size_is None F L (Some form) name (inr h) = tt
-size_is (Some t) F L (Some form) name (inr h) = h.1
+abbrev is_ok : {A : Type 0} → Result A Event → Bool
+is_ok (Ok a) = true
+is_ok (Err event) = false
 
-reads_are : (told : Option Told) (F L : List ℕ → Type 0) (form : Option Asked) → Comes told F L form (Err TooLargeReads) → Agrees told form TooLargeReads
-reads_are told F L None h = absurd (cc)
-reads_are told F L (Some form) (inl h) = absurd h
-reads_are None F L (Some form) (inr h) = tt
-reads_are (Some t) F L (Some form) (inr h) = h.1
+no_form_by : (cause : Cause) (told : Option Told) (F L : List ℕ → Type 0) (Full : Type 0) (old new : Option (List ℕ)) (event : Event) → EndsBy cause told F L None Full old new event → event ≡ usage
+no_form_by Break told F L Full old new event h = absurd h.1
+no_form_by cause told F L Full old new event h = ap event_in h.0
 
-part_is : (told : Option Told) (F L : List ℕ → Type 0) (form : Option Asked) (name : List ℕ) (fault : PartFault) → Comes told F L form (Err (BadPart name fault)) → Agrees told form (BadPart name fault)
-part_is told F L None name fault h = absurd (cc)
-part_is told F L (Some form) name fault (inl h) = absurd h
-part_is None F L (Some form) name fault (inr h) = tt
-part_is (Some t) F L (Some form) name fault (inr h) = h.1
+no_form_end : (told : Option Told) (F L : List ℕ → Type 0) (Full : Type 0) (old new : Option (List ℕ)) (s : Status) (end : Result Answer Event) → s ≡ final_status end → Ends told F L None Full old new end → s ≡ status.Usage
+no_form_end told F L Full old new s (Ok answer) e h = absurd (cc)
+no_form_end told F L Full old new s (Err event) e h = e ∙ ap status_of (no_form_by (cause_of event) told F L Full old new event h)
 
-header_is : (told : Option Told) (F L : List ℕ → Type 0) (form : Option Asked) (name : List ℕ) → Comes told F L form (Err (Unbuilt name)) → Agrees told form (Unbuilt name)
-header_is told F L None name h = absurd (cc)
-header_is told F L (Some form) name (inl h) = absurd h
-header_is None F L (Some form) name (inr h) = tt
-header_is (Some t) F L (Some form) name (inr h) = h.1
+-- words without a form end as a wrong usage
+run_no_form : (told : Option Told) (F L : List ℕ → Type 0) (form : Option Asked) (Full : Type 0) (old new : Option (List ℕ)) (s : Status) (end : Result Answer Event) → s ≡ final_status end → Ends told F L form Full old new end → form ≡ None → s ≡ status.Usage
+run_no_form told F L form Full old new s end e h n =
+    let here = rw n at h in
+    no_form_end told F L Full old new s end e here
 
-usage_is : (told : Option Told) (F L : List ℕ → Type 0) (form : Option Asked) → Comes told F L form (Err Usage) → form ≡ None
-usage_is told F L None h = refl
-usage_is told F L (Some form) (inl h) = absurd h
-usage_is None F L (Some form) (inr h) = absurd h
-usage_is (Some t) F L (Some form) (inr h) = absurd h.0
+-- ---- the cause of an end
 
-agrees_text : (told : Option Told) (F L : List ℕ → Type 0) (form : Option Asked) (answer : Answer) → Comes told F L form (Ok answer) → AgreesText told form answer
+told_cause : (cause : Cause) (told : Told) (form : Asked) (old new : Outside) (event : Event) → FreeBy cause (Fails (Some form) old new) (Lacks (Some form) old new) event.concerned ⊎ (DecidedBy cause × (text_of told form ≡ Err event)) → CausedBy cause (Some told) (Some form) old new event
+told_cause Want told form old new event h = tt
+told_cause Fault told form old new event (inl h) = h
+told_cause Fault told form old new event (inr h) = absurd h.0
+told_cause Absence told form old new event (inl h) = inl h
+told_cause Absence told form old new event (inr h) = inr h.1
+told_cause Contents told form old new event (inl h) = absurd h
+told_cause Contents told form old new event (inr h) = h.1
+told_cause cause told form old new event (inl h) = absurd h
+told_cause cause told form old new event (inr h) = absurd h.0
+
+open_cause : (cause : Cause) (form : Asked) (old new : Outside) (event : Event) → FreeBy cause (Fails (Some form) old new) (Lacks (Some form) old new) event.concerned ⊎ OpenBy cause → CausedBy cause None (Some form) old new event
+open_cause Want form old new event h = tt
+open_cause Fault form old new event (inl h) = h
+open_cause Fault form old new event (inr h) = absurd h
+open_cause Absence form old new event (inl h) = inl h
+open_cause Absence form old new event (inr h) = absurd h
+open_cause Contents form old new event h = tt
+open_cause cause form old new event (inl h) = absurd h
+open_cause cause form old new event (inr h) = absurd h
+
+came_cause : (told : Option Told) (form : Option Asked) (old new : Outside) (event : Event) → Comes told (Fails form old new) (Lacks form old new) form (Err event) → CausedBy (cause_of event) told form old new event
+came_cause told None old new event h =
+    subst (λ (e : Event). CausedBy (cause_of e) told None old new e) (sym (ap event_in h)) refl
+came_cause None (Some form) old new event h = open_cause (cause_of event) form old new event h
+came_cause (Some told) (Some form) old new event h = told_cause (cause_of event) told form old new event h
+
+-- what an event's cause says, and what it leaves
+ended_by : (cause : Cause) (told : Option Told) (form : Option Asked) (old new : Outside) (event : Event) → cause_of event ≡ cause
+    → EndsBy cause told (Fails form old new) (Lacks form old new) form (HasRisen old.out_faults new.out_faults) old.out new.out event → CausedBy cause told form old new event
+ended_by Break told form old new event e h = h.0
+ended_by Wording told form old new event e h = rw e at (came_cause told form old new event h.0)
+ended_by Want told form old new event e h = tt
+ended_by Fault told form old new event e h = rw e at (came_cause told form old new event h.0)
+ended_by Absence told form old new event e h = rw e at (came_cause told form old new event h.0)
+ended_by Contents told form old new event e h = rw e at (came_cause told form old new event h.0)
+
+left_by : (cause : Cause) (form : Option Asked) (old new : Outside) (event : Event)
+    → EndsBy cause (told_in form old) (Fails form old new) (Lacks form old new) form (HasRisen old.out_faults new.out_faults) old.out new.out event → LeftBy cause form old new event
+left_by Break form old new event h = h.1
+left_by cause form old new event h = h.1
+
+agrees_text : (told : Option Told) (F L : List ℕ → Type 0) (form : Option Asked) (answer : Answer) → Comes told F L form (Ok answer) → Agrees told form (Ok answer)
 agrees_text None F L form answer h = tt
 agrees_text (Some t) F L form answer h = text_is t F L form answer h
 
-no_form_event : (told : Option Told) (F L : List ℕ → Type 0) (Full : Type 0) (out0 out1 : Option (List ℕ)) (event : Event) → Ends told F L None Full out0 out1 (Err event) → event ≡ Usage
-no_form_event told F L Full out0 out1 Usage h = refl
-no_form_event told F L Full out0 out1 WriteFault h = absurd h.1
-no_form_event told F L Full out0 out1 event h = absurd (cc)
+cause_is : (form : Option Asked) (old new : Outside) (end : Result Answer Event)
+    → Ends (told_in form old) (Fails form old new) (Lacks form old new) form (HasRisen old.out_faults new.out_faults) old.out new.out end → HasCause form old new end
+cause_is form old new (Ok answer) h = agrees_text (told_in form old) (Fails form old new) (Lacks form old new) form answer h.0
+cause_is form old new (Err event) h = ended_by (cause_of event) (told_in form old) form old new event refl h
 
-no_form_end : (told : Option Told) (F L : List ℕ → Type 0) (Full : Type 0) (out0 out1 : Option (List ℕ)) (s : Status) (whole : Result Answer Event) → s ≡ final_status whole → Ends told F L None Full out0 out1 whole → s ≡ status.Usage
-no_form_end told F L Full out0 out1 s (Ok answer) e h = absurd (cc)
-no_form_end told F L Full out0 out1 s (Err event) e h = e ∙ ap status_of (no_form_event told F L Full out0 out1 event h)
-
--- words without a form end as a wrong usage
-pub run_no_form : (told : Option Told) (F L : List ℕ → Type 0) (form : Option Asked) (Full : Type 0) (out0 out1 : Option (List ℕ)) (s : Status) (whole : Result Answer Event) → s ≡ final_status whole → Ends told F L form Full out0 out1 whole → form ≡ None → s ≡ status.Usage
-run_no_form told F L form Full out0 out1 s whole e h n =
-    let here = rw n at h in
-    no_form_end told F L Full out0 out1 s whole e here
-
--- the cause of a status
-cause_is : (form : Option Asked) (old new : Outside) (whole : Result Answer Event)
-    → Ends (told_in form old) (Fails form old new) (Lacks form old new) form (HasRisen old.out_faults new.out_faults) old.out new.out whole
-    → Says (HasRisen old.err_faults new.err_faults) old.err new.err whole → HasCause form old new (final_status whole)
-cause_is form old new (Ok answer) h t = by answer.stopped answer.text (agrees_text (told_in form old) (Fails form old new) (Lacks form old new) form answer h.0) h.1
-  where
-    by : (stopped : Bool) (text : List ℕ) → AgreesText (told_in form old) form (record { stopped = stopped; text = text }) → new.out ≡ appended old.out text → HasCause form old new (told_status stopped)
-    by true text a w = (text, (a, w, t))
-    by false text a w = (text, (a, w, t))
-cause_is form old new (Err Usage) h t = (usage_is (told_in form old) (Fails form old new) (Lacks form old new) form h.0, (h.1, t))
-cause_is form old new (Err (Missing name)) h t = (name, (absence_is (told_in form old) (Fails form old new) (Lacks form old new) form name h.0, (h.1, t)))
-cause_is form old new (Err (BadPart name fault)) h t = (name, fault, (part_is (told_in form old) (Fails form old new) (Lacks form old new) form name fault h.0, (h.1, t)))
-cause_is form old new (Err (ReadFault name)) h t = (name, (fault_is (told_in form old) (Fails form old new) (Lacks form old new) form name h.0, (h.1, t)))
-cause_is form old new (Err WriteFault) h t = (h.0, h.1, t)
-cause_is form old new (Err NoMemory) h t = (h.1, t)
-cause_is form old new (Err (TooLarge name)) h t = inl (name, (size_is (told_in form old) (Fails form old new) (Lacks form old new) form name h.0, (h.1, t)))
-cause_is form old new (Err TooLargeReads) h t = inr (reads_are (told_in form old) (Fails form old new) (Lacks form old new) form h.0, (h.1, t))
-cause_is form old new (Err (Unbuilt name)) h t = (name, (header_is (told_in form old) (Fails form old new) (Lacks form old new) form name h.0, (h.1, t)))
+wrote_is : (form : Option Asked) (old new : Outside) (end : Result Answer Event)
+    → Ends (told_in form old) (Fails form old new) (Lacks form old new) form (HasRisen old.out_faults new.out_faults) old.out new.out end → Wrote form old new end
+wrote_is form old new (Ok answer) h = h.1
+wrote_is form old new (Err event) h = left_by (cause_of event) form old new event h
 
 -- how a command ended is what its run comes to
-pub runs : (form : Option Asked) (old new : Outside) (s : Status) (whole : Result Answer Event) → s ≡ final_status whole
-    → Ends (told_in form old) (Fails form old new) (Lacks form old new) form (HasRisen old.out_faults new.out_faults) old.out new.out whole
-    → Says (HasRisen old.err_faults new.err_faults) old.err new.err whole → Runs form old new s
-runs form old new s whole e h t = record {
-  outcome = λ told m q. outcome_is (told_in form old) (Fails form old new) (Lacks form old new) form (HasRisen old.out_faults new.out_faults) old.out new.out s whole e h told m (λ x p. q.0 p.1) (λ x p. q.1 p.1) q.2;
-  cause = rw e (cause_is form old new whole h t);
-  no_form = λ n. run_no_form (told_in form old) (Fails form old new) (Lacks form old new) form (HasRisen old.out_faults new.out_faults) old.out new.out s whole e h n;
+pub runs : (form : Option Asked) (old new : Outside) (s : Status) (end : Result Answer Event) → s ≡ final_status end
+    → Ends (told_in form old) (Fails form old new) (Lacks form old new) form (HasRisen old.out_faults new.out_faults) old.out new.out end
+    → Says (HasRisen old.err_faults new.err_faults) old.err new.err end → KeepsFlash (names_flash form) old.flash new.flash → Runs form old new s
+runs form old new s end e h t f = record {
+  end = end;
+  ends_as = e;
+  cause = cause_is form old new end h;
+  wrote = wrote_is form old new end h;
+  said = t;
+  outcome = λ told m q. outcome_is (told_in form old) (Fails form old new) (Lacks form old new) form (HasRisen old.out_faults new.out_faults) old.out new.out s end e h told m (λ x p. q.0 p.1) (λ x p. q.1 p.1) q.2;
+  no_form = λ n. run_no_form (told_in form old) (Fails form old new) (Lacks form old new) form (HasRisen old.out_faults new.out_faults) old.out new.out s end e h n;
+  flash = f;
 }
+
+-- an untouched flash is kept by every form
+pub flash_kept : (names : Bool) (old new : FlashState) → new ≡ old → KeepsFlash names old new
+flash_kept false old new e = e
+flash_kept true old new e = ap (λ (f : FlashState). f.bytes) e
+
+-- ---- a text that is whole before it is written
+
+-- a cause other than the output's own failure
+abbrev CanCome : Cause → Type 0
+CanCome Break = ⊥
+CanCome _ = Unit {0}
+
+free_can : (cause : Cause) (F L : List ℕ → Type 0) (name : List ℕ) → FreeBy cause F L name → CanCome cause
+free_can Break F L name h = h
+free_can cause F L name h = tt
+
+decided_can : (cause : Cause) → DecidedBy cause → CanCome cause
+decided_can Break h = h
+decided_can cause h = tt
+
+open_can : (cause : Cause) → OpenBy cause → CanCome cause
+open_can Break h = h
+open_can cause h = tt
+
+caused_can : (told : Option Told) (F L : List ℕ → Type 0) (due : Told → Result Answer Event) (event : Event) → IsCaused told F L due (Err event) → CanCome (cause_of event)
+caused_can told F L due event (inl h) = free_can (cause_of event) F L event.concerned h
+caused_can None F L due event (inr h) = open_can (cause_of event) h
+caused_can (Some t) F L due event (inr h) = decided_can (cause_of event) h.0
+
+ends_by : (cause : Cause) (told : Option Told) (F L : List ℕ → Type 0) (form : Option Asked) (Full : Type 0) (old new : Option (List ℕ)) (event : Event) → CanCome cause → Comes told F L form (Err event) → Leaves told form event old new → EndsBy cause told F L form Full old new event
+ends_by Break told F L form Full old new event c h l = absurd c
+ends_by cause told F L form Full old new event c h l = (h, l)
+
+-- a whole text that was put ends the command as it should
+pub puts_end : (told : Option Told) (F L : List ℕ → Type 0) (form : Asked) (Full : Type 0) (old new : Option (List ℕ)) (whole : Result Answer Event) (got : Result Bool Event)
+    → ((t : Told) (answer : Answer) → text_of t form ≡ Ok answer → PutsFront old answer.text new → GetsPrefix (Some t) (Some form) old new)
+    → ((event : Event) → new ≡ old → Leaves told (Some form) event old new)
+    → IsCaused told F L (λ t. text_of t form) whole → Puts whole Full old new got → EndsAs told F L (Some form) Full old new got
+puts_end told F L form Full old new (Ok answer) (Ok stopped) gets leaves c p = (answer.text, (subst (λ (s : Bool). IsCaused told F L (λ t. text_of t form) (Ok (record { stopped = s; text = answer.text }))) (sym p.0) c, p.1))
+puts_end None F L form Full old new (Ok answer) (Err event) gets leaves c p = subst (λ (e : Event). Ends None F L (Some form) Full old new (Err e)) (sym p.0) (p.1, (answer.text, p.2))
+puts_end (Some t) F L form Full old new (Ok answer) (Err event) gets leaves (inl c) p = absurd c
+puts_end (Some t) F L form Full old new (Ok answer) (Err event) gets leaves (inr c) p = subst (λ (e : Event). Ends (Some t) F L (Some form) Full old new (Err e)) (sym p.0) (p.1, gets t answer c.1 p.2)
+puts_end told F L form Full old new (Err event) (Ok stopped) gets leaves c p = let e : true ≡ false = ap is_ok p.0 in absurd (cc)
+puts_end told F L form Full old new (Err event) (Err other) gets leaves c p =
+    let same : other ≡ event = ap event_in p.0 in
+    subst (λ (e : Event). Ends told F L (Some form) Full old new (Err e)) (sym same) (ends_by (cause_of event) told F L (Some form) Full old new event (caused_can told F L (λ t. text_of t form) event c) c (leaves event p.1))

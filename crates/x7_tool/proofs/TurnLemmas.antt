@@ -18,7 +18,8 @@ use Rattle.x7_tool.specs.Form.{Listing}
 use Rattle.x7_tool.specs.Run.{Ends}
 use Rattle.x7_words.proofs.InputLemmas.{preceded-preceded}
 use Rattle.std.proofs.lemmas.Bool.Decides.{nat_tests}
-use Rattle.x7_tool.specs.Outcome.{WriteFault, has_header, stream_limit, with_inputs}
+use Rattle.x7_tool.specs.Event.{write_fault}
+use Rattle.x7_tool.specs.Outcome.{has_header, stream_limit, with_inputs}
 use Rattle.x7_tool.specs.Turn.{Lists}
 use Rattle.x7_tool.proofs.Causes.{no_header_stays, told_all, unwritten}
 
@@ -88,7 +89,7 @@ end_part l done first mid now bytes text t ends same front =
     let whole : listing_of bytes ≡ t.given ++ (text ++ []) = sym (ap (λ x. t.given ++ x) (append-nil text ∙ same) ∙ f.told ∙ listing_is bytes f.listing f.is) in
     rw whole (front_more first mid now t.given text [] t.put front)
 
--- the front of a buffer, where what was read stands behind what it held
+-- the front of a buffer, where what was read stands after what it held
 pub filled : (xs ys zs : List ℕ) (at n : ℕ) → at ≤ length xs → n ≤ length ys → take (at + length ys) zs ≡ take at xs ++ ys → take (at + n) zs ≡ take at xs ++ take n ys
 filled xs ys zs at n a k e =
     let long : at + n ≤ at + length ys = omega (arith, k) in
@@ -122,7 +123,7 @@ judged_more taken piece left k m j h = judged_by taken piece left (left == strea
 -- a sink that failed in a turn
 pub write_failed : (contents : Option (List ℕ → Option (List ℕ))) (flash : Option (List ℕ)) (F L : List ℕ → Type 0) (stream taken piece same : List ℕ) (l : ListerState) (rest : Option (List ℕ)) (Full : Type 0) (old mid now : Option (List ℕ))
     → same ≡ piece → Selects contents stream (preceded (taken ++ piece) rest) → Full → Lists l old mid taken → AreBytes same → ((left : List ℕ) → AreBytes (taken ++ (same ++ left)) → PutsFront old (listing_of (taken ++ (same ++ left))) now)
-    → Ends (with_inputs contents flash) F L (Some (Listing stream)) Full old now (Err WriteFault)
+    → Ends (with_inputs contents flash) F L (Some (Listing stream)) Full old now (Err write_fault)
 write_failed contents flash F L stream taken piece same l rest Full old mid now e s f t fits p =
     let joined : (left : List ℕ) → taken ++ (same ++ left) ≡ (taken ++ piece) ++ left = λ left. ap (λ x. taken ++ (x ++ left)) e ∙ sym (append_assoc taken piece left) in
     let q : (left : List ℕ) → AreBytes ((taken ++ piece) ++ left) → PutsFront old (listing_of ((taken ++ piece) ++ left)) now
@@ -133,7 +134,7 @@ write_failed contents flash F L stream taken piece same l rest Full old mid now 
 
 -- a sink that failed at the end
 pub end_failed : (contents : Option (List ℕ → Option (List ℕ))) (flash : Option (List ℕ)) (F L : List ℕ → Type 0) (stream taken : List ℕ) (rest : Option (List ℕ)) (Full : Type 0) (old now : Option (List ℕ))
-    → Selects contents stream (preceded taken rest) → AtEnd rest → Full → PutsFront old (listing_of taken) now → Ends (with_inputs contents flash) F L (Some (Listing stream)) Full old now (Err WriteFault)
+    → Selects contents stream (preceded taken rest) → AtEnd rest → Full → PutsFront old (listing_of taken) now → Ends (with_inputs contents flash) F L (Some (Listing stream)) Full old now (Err write_fault)
 end_failed None flash F L stream taken rest Full old now s e f p = (f, (listing_of taken, p))
 end_failed (Some inputs) flash F L stream taken rest Full old now s e f p =
     let all = told_all inputs stream taken rest s in

@@ -8,6 +8,7 @@ use Rattle.x7_part.specs.Part.{PartData}
 use Rattle.x7_engine.specs.Kept.{on_the_bench}
 use Rattle.x7_engine.specs.State.{line_by, reads_of, state_of, stop_in}
 use Rattle.x7_engine.specs.Stops.{fault_of}
+use Rattle.x7_tool.specs.Event.{Event, bad_part, missing, too_large, too_many_reads, unbuilt, usage}
 use Rattle.x7_tool.specs.Form.{Asked, Listing, Playing, names_flash}
 use Rattle.x7_tool.specs.Parts.{part_in}
 use Rattle.x7_tool.specs.Report.{report_text}
@@ -16,18 +17,6 @@ use Rattle.x7_tool.specs.Report.{report_text}
 pub record Told : Type 0 where
   pub inputs : List ℕ → Option (List ℕ)
   pub flash : Option (List ℕ)
-
--- what ends a command before its text is whole, with the name of the input concerned; `TooLargeReads`: too many words were read out
-pub data Event : Type 0 where
-  Usage : Event
-  Missing : (name : List ℕ) → Event
-  BadPart : (name : List ℕ) (fault : PartFault) → Event
-  ReadFault : (name : List ℕ) → Event
-  WriteFault : Event
-  NoMemory : Event
-  TooLarge : (name : List ℕ) → Event
-  TooLargeReads : Event
-  Unbuilt : (name : List ℕ) → Event
 
 -- a whole text, and whether what it reports stopped at a fault
 pub record Answer : Type 0 where
@@ -41,7 +30,7 @@ and_so (Err event) next = Err event
 
 -- the bytes of an input
 abbrev pub present : List ℕ → Option (List ℕ) → Result (List ℕ) Event
-present name None = Err (Missing name)
+present name None = Err (missing name)
 present name (Some bytes) = Ok bytes
 
 -- whether a stream begins with a .bit header
@@ -50,17 +39,17 @@ has_header bytes = starts_with nat_eq bytes fixed_bytes
 
 -- a stream is taken that has no .bit header
 abbrev pub raw : List ℕ → List ℕ → Result (List ℕ) Event
-raw name bytes = if has_header bytes then Err (Unbuilt name) else Ok bytes
+raw name bytes = if has_header bytes then Err (unbuilt name) else Ok bytes
 
 -- an input is taken that has no more than so many bytes
 abbrev pub within : List ℕ → ℕ → List ℕ → Result (List ℕ) Event
-within name limit bytes = if nat_lt limit (length bytes) then Err (TooLarge name) else Ok bytes
+within name limit bytes = if nat_lt limit (length bytes) then Err (too_large name) else Ok bytes
 
 -- the most bytes of a stream
 abbrev pub stream_limit : ℕ
 stream_limit = 67108864
 
--- the bytes of a stream: its header is judged as soon as its bytes are read, and its length behind it
+-- the bytes of a stream: its header is judged as soon as its bytes are read, and its length after it
 abbrev pub judged : List ℕ → List ℕ → Result (List ℕ) Event
 judged stream bytes = and_so (raw stream bytes) (within stream stream_limit)
 
@@ -85,19 +74,19 @@ part_limit = 1048576
 -- the part of a part file of this name
 abbrev pub part_by : List ℕ → Result PartData PartFault → Result PartData Event
 part_by name (Ok part) = Ok part
-part_by name (Err fault) = Err (BadPart name fault)
+part_by name (Err fault) = Err (bad_part name fault)
 
 abbrev pub part_of : Told → List ℕ → Result PartData Event
 part_of told name = and_so (whole_in told part_limit name) (λ text. part_by name (part_in text))
 
 -- bytes before those that a step gives
-abbrev pub behind : List ℕ → Result (List ℕ) Event → Result (List ℕ) Event
-behind front more = and_so more (λ bytes. Ok (front ++ bytes))
+abbrev pub put_before : List ℕ → Result (List ℕ) Event → Result (List ℕ) Event
+put_before prefix more = and_so more (λ bytes. Ok (prefix ++ bytes))
 
 -- the data of streams, one after the other, within a limit together; a stream's limit is judged before its header
 abbrev pub data_of : Told → ℕ → List (List ℕ) → Result (List ℕ) Event
 data_of told limit [] = Ok []
-data_of told limit (name ∷ names) = and_so (and_so (whole_in told limit name) (raw name)) (λ bytes. behind bytes (data_of told (limit - length bytes) names))
+data_of told limit (name ∷ names) = and_so (and_so (whole_in told limit name) (raw name)) (λ bytes. put_before bytes (data_of told (limit - length bytes) names))
 
 -- the most words that a play reads out
 abbrev pub reads_limit : ℕ
@@ -111,7 +100,7 @@ report_of part bytes = record {
 }
 
 unfoldable pub reported : PartData → List ℕ → Result Answer Event
-reported part bytes = if nat_lt reads_limit (length (reads_of part on_the_bench bytes)) then Err TooLargeReads else Ok (report_of part bytes)
+reported part bytes = if nat_lt reads_limit (length (reads_of part on_the_bench bytes)) then Err too_many_reads else Ok (report_of part bytes)
 
 -- `play PART STREAM..`: the report of the streams' data, one after the other
 abbrev pub played : Told → List ℕ → List (List ℕ) → Result Answer Event
@@ -124,7 +113,7 @@ text_of told (Playing part streams) = played told part streams
 
 -- what the words come to: words without a form are a wrong usage
 abbrev pub outcome_of : Told → Option Asked → Result Answer Event
-outcome_of told None = Err Usage
+outcome_of told None = Err usage
 outcome_of told (Some form) = text_of told form
 
 -- what is told of the inputs, and of the flash where it is told

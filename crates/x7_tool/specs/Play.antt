@@ -6,10 +6,11 @@ use Rattle.x7_engine.specs.Standing.{DeviceState, DeviceStandsFor}
 use Rattle.x7_engine.specs.State.{reads_of, state_of, stop_in}
 use Rattle.x7_part.specs.declared.fault.PartFault.{PartFault}
 use Rattle.x7_part.specs.declared.fault.PartFault.TheVariants as part
-use Rattle.x7_tool.specs.Outcome.{Answer, BadPart, Event, NoMemory, reads_limit}
+use Rattle.x7_tool.specs.Outcome.{Answer, reads_limit}
+use Rattle.x7_tool.specs.Event.{Event, bad_part, no_memory}
 use Rattle.x7_tool.specs.declared.text.Text.{Text}
 
--- The device took a front of the data, behind which nothing changes: its state, its stop and the words read out are those of all data.
+-- The device took a prefix of the data, after which nothing changes: its state, its stop and the words read out are those of all data.
 pub record IsPlayed (part : PartData) (bytes : List ℕ) (d : DeviceState) (reads : List ℕ) : Type 0 where
   pub front : List ℕ
   pub stands : DeviceStandsFor part on_the_bench d front
@@ -24,5 +25,5 @@ whole_of t = record { stopped = t.stopped; text = t.text.items }
 
 -- the event of a part file that gave no part
 abbrev pub part_event : List ℕ → PartFault → Event
-part_event name part.NoMemory = NoMemory
-part_event name fault = BadPart name fault
+part_event name part.NoMemory = no_memory
+part_event name fault = bad_part name fault

@@ -2,8 +2,7 @@
 ghost use Rattle.std.specs.Prelude.{◌≡◌, ◌++◌, codes, decimal};
 ghost use Rattle.x7_words.specs.Count.{HasRisen};
 ghost use Rattle.x7_words.specs.Sink.{Tells};
-ghost use Rattle.x7_tool.specs.Message.{line_of, which_text};
-ghost use Rattle.x7_tool.specs.Outcome.{BadPart};
+ghost use Rattle.x7_tool.specs.Event.{bad_part, line_of, which_text};
 
 use itoa::Buffer;
 use x7_part::{PartFault, Which};
@@ -79,7 +78,7 @@ fn say_key<E: Sink>(err: &mut E, name: &str, kind: &[u8], which: Which) -> Resul
 
 /// Writes the line of a part file that was refused.
 pub(crate) fn say_bad_part<E: Sink>(err: &mut E, name: &str, fault: PartFault) -> Result<(), Failed>
-    ensures { Tells (HasRisen (E.faults err.old) (E.faults err.new)) (E.written err.old) (E.written err.new) (line_of (BadPart name.now fault)) }
+    ensures { Tells (HasRisen (E.faults err.old) (E.faults err.new)) (E.written err.old) (E.written err.new) (line_of (bad_part name.now fault)) }
 {
     match fault {
         PartFault::Toml => write_pieces(err, &[START, name.as_bytes(), b": toml\n"]),

@@ -15,6 +15,7 @@ mod text;
 mod top;
 
 pub use form::{Form, words_of};
+pub use refusal::Why;
 pub use reports::report;
 pub use status::Status;
 pub use top::run;

@@ -6,12 +6,13 @@ ghost use Rattle.x7_words.specs.Word.{AreBytes};
 ghost use Rattle.x7_listing.specs.Listing.{listing_of};
 ghost use Rattle.x7_tool.specs.Form.{Listing};
 ghost use Rattle.x7_tool.specs.Message.{event_of};
-ghost use Rattle.x7_tool.specs.Outcome.{NoMemory, WriteFault, has_header, with_inputs};
+ghost use Rattle.x7_tool.specs.Event.{no_memory, write_fault};
+ghost use Rattle.x7_tool.specs.Outcome.{has_header, with_inputs};
 ghost use Rattle.x7_tool.specs.Run.{Ends, RisesFor};
 ghost use Rattle.x7_tool.specs.Turn.{Lists};
 
 use crate::read::{STREAM_LIMIT, TURN, fill, turn_len};
-use crate::refusal::Refusal;
+use crate::refusal::{Refusal, Why};
 use std::alloc::Global;
 use x7_header::behind_fixed_bytes;
 use x7_listing::Lister;
@@ -28,15 +29,15 @@ fn has_bit_header(left: usize, piece: &[u8]) -> bool
 fn put_turn<'w, O: Sink>(lister: &mut Lister, out: &mut O, piece: &[u8]) -> Result<(), Refusal<'w>>
     ensures ok { OnOk result ((first : Option (List ℕ)) (bytes : List ℕ) → Lists lister.old first (O.written out.old) bytes → Lists lister.new first (O.written out.new) (bytes ++ piece.now)) }
     ensures err { IfErr result (λ r. (first : Option (List ℕ)) (bytes rest : List ℕ) → Lists lister.old first (O.written out.old) bytes → AreBytes (bytes ++ (piece.now ++ rest)) → PutsFront first (listing_of (bytes ++ (piece.now ++ rest))) (O.written out.new)) }
-    ensures why { IfErr result (λ r. ((event_of r ≡ NoMemory) × (O.written out.new ≡ O.written out.old)) ⊎ ((event_of r ≡ WriteFault) × HasRisen (O.faults out.old) (O.faults out.new))) }
+    ensures why { IfErr result (λ r. ((event_of r ≡ no_memory) × (O.written out.new ≡ O.written out.old)) ⊎ ((event_of r ≡ write_fault) × HasRisen (O.faults out.old) (O.faults out.new))) }
     ensures fits { AreBytes piece.now }
     ensures faults { O.faults out.old ≤ O.faults out.new }
 {
     if lister.feed(piece).is_err() {
-        return Err(Refusal::NoMemory);
+        return Err(Refusal::unnamed(Why::NoMemory));
     }
     if write_all(out, lister.text()).is_err() {
-        return Err(Refusal::WriteFault);
+        return Err(Refusal::unnamed(Why::WriteFault));
     }
     lister.clear_text();
     Ok(())
@@ -46,14 +47,14 @@ fn put_turn<'w, O: Sink>(lister: &mut Lister, out: &mut O, piece: &[u8]) -> Resu
 fn put_end<'w, O: Sink>(lister: &mut Lister, out: &mut O) -> Result<(), Refusal<'w>>
     ensures ok { OnOk result ((first : Option (List ℕ)) (bytes : List ℕ) → Lists lister.old first (O.written out.old) bytes → O.written out.new ≡ appended first (listing_of bytes)) }
     ensures err { IfErr result (λ r. (first : Option (List ℕ)) (bytes : List ℕ) → Lists lister.old first (O.written out.old) bytes → PutsFront first (listing_of bytes) (O.written out.new)) }
-    ensures why { IfErr result (λ r. (event_of r ≡ NoMemory) ⊎ ((event_of r ≡ WriteFault) × HasRisen (O.faults out.old) (O.faults out.new))) }
+    ensures why { IfErr result (λ r. (event_of r ≡ no_memory) ⊎ ((event_of r ≡ write_fault) × HasRisen (O.faults out.old) (O.faults out.new))) }
 {
     if lister.finish().is_err() {
-        return Err(Refusal::NoMemory);
+        return Err(Refusal::unnamed(Why::NoMemory));
     }
     match write_all(out, lister.text()) {
         Ok(()) => Ok(()),
-        Err(_) => Err(Refusal::WriteFault),
+        Err(_) => Err(Refusal::unnamed(Why::WriteFault)),
     }
 }
 
@@ -69,8 +70,14 @@ pub(crate) fn list<'w, I: Inputs, O: Sink>(
 {
     match inputs.select(stream) {
         Ok(()) => (),
-        Err(SelectFault::Missing) => return Err(Refusal::Missing(stream)),
-        Err(SelectFault::Failed) => return Err(Refusal::ReadFault(stream)),
+        Err(SelectFault::Missing) => return Err(Refusal {
+            reason: Why::Missing,
+            name: stream,
+        }),
+        Err(SelectFault::Failed) => return Err(Refusal {
+            reason: Why::ReadFault,
+            name: stream,
+        }),
     }
     let mut lister = Lister::new(alloc);
     let mut piece = [0u8; TURN];
@@ -82,10 +89,16 @@ pub(crate) fn list<'w, I: Inputs, O: Sink>(
             Err(refusal) => return Err(refusal),
         };
         if has_bit_header(left, &piece[..count]) {
-            return Err(Refusal::Unbuilt(stream));
+            return Err(Refusal {
+                reason: Why::Unbuilt,
+                name: stream,
+            });
         }
         if count > left {
-            return Err(Refusal::TooLarge(stream));
+            return Err(Refusal {
+                reason: Why::TooLarge,
+                name: stream,
+            });
         }
         match put_turn(&mut lister, out, &piece[..count]) {
             Ok(()) => (),

@@ -1,22 +1,21 @@
 //! The command `play`.
 ghost use Rattle.std.specs.Prelude.{◌≡◌, ℕ, List, [], ◌∷◌, ◌++◌, ◌+◌, ◌<◌, ◌≤◌, ◌⊎◌, false, length, map, string_bytes, vec_len, Option, Some, Ok, Err, IfErr, IfOk, OnOk};
-ghost use Rattle.x7_words.specs.Count.{HasRisen};
 ghost use Rattle.x7_engine.specs.Kept.{on_the_bench};
 ghost use Rattle.x7_engine.specs.State.{reads_of};
-ghost use Rattle.x7_tool.specs.Form.{Playing};
 ghost use Rattle.x7_tool.specs.Message.{event_of};
-ghost use Rattle.x7_tool.specs.Outcome.{NoMemory, TooLargeReads, part_of as part_due, played, reported, with_inputs};
+ghost use Rattle.x7_tool.specs.Event.{no_memory, too_many_reads};
+ghost use Rattle.x7_tool.specs.Outcome.{part_of as part_due, played, reported, with_inputs};
 ghost use Rattle.x7_tool.specs.Play.{IsPlayed, part_event, whole_of};
-ghost use Rattle.x7_tool.specs.Run.{Ends, IsCaused, RisesFor, seen};
+ghost use Rattle.x7_tool.specs.Run.{IsCaused, RisesFor, seen};
 
 use crate::read::{read_onto, read_streams};
-use crate::refusal::Refusal;
+use crate::refusal::{Refusal, Why};
 use crate::reports::report;
 use crate::text::Text;
 use std::alloc::Global;
 use x7_engine::{Device, Fed, ReadBuf};
 use x7_part::{Part, PartFault, part_of};
-use x7_words::{Inputs, Sink};
+use x7_words::Inputs;
 
 /// The most bytes of a part file.
 const PART_LIMIT: usize = 1_048_576;
@@ -32,8 +31,11 @@ fn refusal_of<'w>(name: &'w str, fault: PartFault) -> Refusal<'w>
     ensures { event_of result ≡ part_event name.now fault }
 {
     match fault {
-        PartFault::NoMemory => Refusal::NoMemory,
-        _ => Refusal::BadPart(name, fault),
+        PartFault::NoMemory => Refusal::unnamed(Why::NoMemory),
+        _ => Refusal {
+            reason: Why::BadPart(fault),
+            name,
+        },
     }
 }
 
@@ -66,14 +68,17 @@ fn gather<'w>(buffer: &mut ReadBuf, reads: &mut Vec<u32>) -> Result<(), Refusal<
     ensures words { OnOk result (reads.new.items ≡ reads.old.items ++ buffer.old.words) }
     ensures within { OnOk result (vec_len reads.new ≤ 16777216) }
     ensures cleared { OnOk result (buffer.new ≡ record buffer.old { words = [] }) }
-    ensures err { IfErr result (λ r. (event_of r ≡ NoMemory) ⊎ ((event_of r ≡ TooLargeReads) × (16777216 < vec_len reads.old + length buffer.old.words))) }
+    ensures err { IfErr result (λ r. (event_of r ≡ no_memory) ⊎ ((event_of r ≡ too_many_reads) × (16777216 < vec_len reads.old + length buffer.old.words))) }
 {
     if buffer.words().len() > READS_LIMIT - reads.len() {
-        return Err(Refusal::TooLargeReads);
+        return Err(Refusal {
+            reason: Why::TooLarge,
+            name: "reads",
+        });
     }
     match reads.extend_from_slice(buffer.words()) {
         Ok(()) => (),
-        Err(_) => return Err(Refusal::NoMemory),
+        Err(_) => return Err(Refusal::unnamed(Why::NoMemory)),
     }
     buffer.clear();
     Ok(())
@@ -90,13 +95,13 @@ struct Played {
 fn play_data<'w>(alloc: Global, part: &Part, bytes: &[u8]) -> Result<Played, Refusal<'w>>
     requires { length bytes.now ≤ 67108864 }
     ensures ok { IfOk result (λ p. IsPlayed part.now bytes.now p.device p.reads.items) }
-    ensures err { IfErr result (λ r. (event_of r ≡ NoMemory) ⊎ ((event_of r ≡ TooLargeReads) × (16777216 < length (reads_of part.now on_the_bench bytes.now)))) }
+    ensures err { IfErr result (λ r. (event_of r ≡ no_memory) ⊎ ((event_of r ≡ too_many_reads) × (16777216 < length (reads_of part.now on_the_bench bytes.now)))) }
 {
     let Ok(mut device) = Device::new(alloc, part) else {
-        return Err(Refusal::NoMemory);
+        return Err(Refusal::unnamed(Why::NoMemory));
     };
     let Ok(mut buffer) = ReadBuf::new(alloc, READS_ROOM) else {
-        return Err(Refusal::NoMemory);
+        return Err(Refusal::unnamed(Why::NoMemory));
     };
     let mut reads = Vec::new(alloc);
     let mut at = 0;
@@ -119,7 +124,7 @@ fn play_data<'w>(alloc: Global, part: &Part, bytes: &[u8]) -> Result<Played, Ref
 fn text_of<'w>(alloc: Global, part: &Part, bytes: &[u8]) -> Result<Text, Refusal<'w>>
     requires { length bytes.now ≤ 67108864 }
     ensures ok { IfOk result (λ text. reported part.now bytes.now ≡ Ok (whole_of text)) }
-    ensures err { IfErr result (λ r. (event_of r ≡ NoMemory) ⊎ ((event_of r ≡ TooLargeReads) × (reported part.now bytes.now ≡ Err TooLargeReads))) }
+    ensures err { IfErr result (λ r. (event_of r ≡ no_memory) ⊎ ((event_of r ≡ too_many_reads) × (reported part.now bytes.now ≡ Err too_many_reads))) }
 {
     let played = match play_data(alloc, part, bytes) {
         Ok(played) => played,
@@ -130,18 +135,19 @@ fn text_of<'w>(alloc: Global, part: &Part, bytes: &[u8]) -> Result<Text, Refusal
             stopped: played.device.fault().is_some(),
             text,
         }),
-        Err(_) => Err(Refusal::NoMemory),
+        Err(_) => Err(Refusal::unnamed(Why::NoMemory)),
     }
 }
 
-/// All inputs are read, and then played.
-fn whole_text<'w, I: Inputs>(
+/// The text of `play PART STREAM..`: the inputs are read in the order of the words, and the streams' data are played as
+/// one stream.
+pub(crate) fn play<'w, I: Inputs>(
     alloc: Global,
     inputs: &mut I,
     part: &'w str,
     streams: &'w [String],
 ) -> Result<Text, Refusal<'w>>
-    ensures due { (flash : Option (List ℕ)) → IsCaused (with_inputs (I.contents inputs.old) flash) (RisesFor (part.now ∷ map string_bytes streams.now) (I.faults inputs.old) (I.faults inputs.new)) (RisesFor (part.now ∷ map string_bytes streams.now) (I.absences inputs.old) (I.absences inputs.new))
+    ensures { (flash : Option (List ℕ)) → IsCaused (with_inputs (I.contents inputs.old) flash) (RisesFor (part.now ∷ map string_bytes streams.now) (I.faults inputs.old) (I.faults inputs.new)) (RisesFor (part.now ∷ map string_bytes streams.now) (I.absences inputs.old) (I.absences inputs.new))
         (λ told. played told part.now (map string_bytes streams.now)) (seen whole_of result) }
 {
     let part = match read_part(alloc, inputs, part) {
@@ -153,22 +159,4 @@ fn whole_text<'w, I: Inputs>(
         Err(refusal) => return Err(refusal),
     };
     text_of(alloc, &part, &bytes)
-}
-
-/// `play PART STREAM..`: the inputs are read in the order of the words, the streams' data are played as one stream, and
-/// the report is written. Says whether the device stopped at a fault.
-pub(crate) fn play<'w, I: Inputs, O: Sink>(
-    alloc: Global,
-    inputs: &mut I,
-    out: &mut O,
-    part: &'w str,
-    streams: &'w [String],
-) -> Result<bool, Refusal<'w>>
-    ensures ok { IfOk result (λ stopped. (flash : Option (List ℕ)) → (text : List ℕ) × Ends (with_inputs (I.contents inputs.old) flash) (RisesFor (part.now ∷ map string_bytes streams.now) (I.faults inputs.old) (I.faults inputs.new)) (RisesFor (part.now ∷ map string_bytes streams.now) (I.absences inputs.old) (I.absences inputs.new)) (Some (Playing part.now (map string_bytes streams.now))) (HasRisen (O.faults out.old) (O.faults out.new)) (O.written out.old) (O.written out.new) (Ok (record { stopped = stopped; text = text }))) }
-    ensures err { IfErr result (λ r. (flash : Option (List ℕ)) → Ends (with_inputs (I.contents inputs.old) flash) (RisesFor (part.now ∷ map string_bytes streams.now) (I.faults inputs.old) (I.faults inputs.new)) (RisesFor (part.now ∷ map string_bytes streams.now) (I.absences inputs.old) (I.absences inputs.new)) (Some (Playing part.now (map string_bytes streams.now))) (HasRisen (O.faults out.old) (O.faults out.new)) (O.written out.old) (O.written out.new) (Err (event_of r))) }
-{
-    match whole_text(alloc, inputs, part, streams) {
-        Ok(text) => text.put(out),
-        Err(refusal) => Err(refusal),
-    }
 }

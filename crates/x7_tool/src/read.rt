@@ -3,10 +3,11 @@ ghost use Rattle.std.specs.Prelude.{◌≡◌, ◌+◌, ◌<◌, ◌≤◌, ◌�
 ghost use Rattle.x7_words.specs.Count.{HasRisen};
 ghost use Rattle.x7_words.specs.Input.{AtEnd, preceded};
 ghost use Rattle.x7_tool.specs.Message.{event_of};
-ghost use Rattle.x7_tool.specs.Outcome.{ReadFault, and_so, behind, data_of, raw, stream_limit, whole_in, with_inputs};
+ghost use Rattle.x7_tool.specs.Event.{read_fault};
+ghost use Rattle.x7_tool.specs.Outcome.{and_so, put_before, data_of, raw, stream_limit, whole_in, with_inputs};
 ghost use Rattle.x7_tool.specs.Run.{IsCaused, RisesFor, seen};
 
-use crate::refusal::Refusal;
+use crate::refusal::{Refusal, Why};
 use std::alloc::Global;
 use x7_header::behind_fixed_bytes;
 use x7_words::{Inputs, SelectFault};
@@ -42,7 +43,7 @@ pub(crate) fn fill<'w, I: Inputs>(
     ensures taken { IfOk result (λ n. I.rest inputs.old ≡ preceded (take n buf.new) (I.rest inputs.new)) }
     ensures end { IfOk result (λ n. n < length buf.old → AtEnd (I.rest inputs.new)) }
     ensures length { length buf.new ≡ length buf.old }
-    ensures failed { IfErr result (λ r. (event_of r ≡ ReadFault name.now) × HasRisen (I.faults inputs.old) (I.faults inputs.new)) }
+    ensures failed { IfErr result (λ r. (event_of r ≡ read_fault name.now) × HasRisen (I.faults inputs.old) (I.faults inputs.new)) }
     ensures map { I.contents inputs.new ≡ I.contents inputs.old }
     ensures faults { I.faults inputs.old ≤ I.faults inputs.new }
     ensures absences { I.absences inputs.old ≤ I.absences inputs.new }
@@ -51,7 +52,10 @@ pub(crate) fn fill<'w, I: Inputs>(
     while at < buf.len() {
         let count = match inputs.read(&mut buf[at..]) {
             Ok(count) => count,
-            Err(_) => return Err(Refusal::ReadFault(name)),
+            Err(_) => return Err(Refusal {
+                reason: Why::ReadFault,
+                name,
+            }),
         };
         if count == 0 {
             return Ok(at);
@@ -69,7 +73,7 @@ pub(crate) fn read_onto<'w, I: Inputs>(
     onto: &mut Vec<u8>,
 ) -> Result<(), Refusal<'w>>
     ensures due { (flash : Option (List ℕ)) → IsCaused (with_inputs (I.contents inputs.old) flash) (RisesFor (name.now ∷ []) (I.faults inputs.old) (I.faults inputs.new)) (RisesFor (name.now ∷ []) (I.absences inputs.old) (I.absences inputs.new))
-        (λ told. behind onto.old.items (whole_in told limit name.now)) (seen (λ _. onto.new.items) result) }
+        (λ told. put_before onto.old.items (whole_in told limit name.now)) (seen (λ _. onto.new.items) result) }
     ensures within { OnOk result (vec_len onto.new ≤ vec_len onto.old + limit) }
     ensures longer { OnOk result (vec_len onto.old ≤ vec_len onto.new) }
     ensures map { I.contents inputs.new ≡ I.contents inputs.old }
@@ -78,8 +82,14 @@ pub(crate) fn read_onto<'w, I: Inputs>(
 {
     match inputs.select(name) {
         Ok(()) => (),
-        Err(SelectFault::Missing) => return Err(Refusal::Missing(name)),
-        Err(SelectFault::Failed) => return Err(Refusal::ReadFault(name)),
+        Err(SelectFault::Missing) => return Err(Refusal {
+            reason: Why::Missing,
+            name,
+        }),
+        Err(SelectFault::Failed) => return Err(Refusal {
+            reason: Why::ReadFault,
+            name,
+        }),
     }
     let mut piece = [0u8; TURN];
     let mut left = limit;
@@ -90,11 +100,14 @@ pub(crate) fn read_onto<'w, I: Inputs>(
             Err(refusal) => return Err(refusal),
         };
         if count > left {
-            return Err(Refusal::TooLarge(name));
+            return Err(Refusal {
+                reason: Why::TooLarge,
+                name,
+            });
         }
         match onto.extend_from_slice(&piece[..count]) {
             Ok(()) => (),
-            Err(_) => return Err(Refusal::NoMemory),
+            Err(_) => return Err(Refusal::unnamed(Why::NoMemory)),
         }
         left -= count;
         if count < most {
@@ -111,7 +124,7 @@ fn read_stream<'w, I: Inputs>(
     onto: &mut Vec<u8>,
 ) -> Result<(), Refusal<'w>>
     ensures due { (flash : Option (List ℕ)) → IsCaused (with_inputs (I.contents inputs.old) flash) (RisesFor (name.now ∷ []) (I.faults inputs.old) (I.faults inputs.new)) (RisesFor (name.now ∷ []) (I.absences inputs.old) (I.absences inputs.new))
-        (λ told. behind onto.old.items (and_so (whole_in told limit name.now) (raw name.now))) (seen (λ _. onto.new.items) result) }
+        (λ told. put_before onto.old.items (and_so (whole_in told limit name.now) (raw name.now))) (seen (λ _. onto.new.items) result) }
     ensures within { OnOk result (vec_len onto.new ≤ vec_len onto.old + limit) }
     ensures map { I.contents inputs.new ≡ I.contents inputs.old }
     ensures faults { I.faults inputs.old ≤ I.faults inputs.new }
@@ -123,7 +136,10 @@ fn read_stream<'w, I: Inputs>(
         Err(refusal) => return Err(refusal),
     }
     match behind_fixed_bytes(&onto[start..]) {
-        Ok(_) => Err(Refusal::Unbuilt(name)),
+        Ok(_) => Err(Refusal {
+            reason: Why::Unbuilt,
+            name,
+        }),
         Err(_) => Ok(()),
     }
 }

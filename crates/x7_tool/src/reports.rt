@@ -2,7 +2,7 @@
 ghost use Rattle.std.specs.Prelude.{◌≡◌, ◌++◌, ◌+◌, ◌≤◌, ℕ, List, codes, decimal, false, length, vec_len, vec_capacity, IfOk, OnOk};
 ghost use Rattle.x7_part.specs.Part.{PartData};
 ghost use Rattle.x7_text.specs.Row.{data_text};
-ghost use Rattle.x7_engine.specs.Kept.{on_the_bench};
+ghost use Rattle.x7_engine.specs.declared.kept.Kept.{Kept};
 ghost use Rattle.x7_engine.specs.Standing.{DeviceStandsFor};
 ghost use Rattle.x7_engine.specs.State.{state_of};
 ghost use Rattle.x7_tool.specs.Report.{reads_text, report_text, state_text};
@@ -88,8 +88,8 @@ fn put_reads(text: &mut Vec<u8>, reads: &[u32]) -> Result<(), NoMemory>
 /// words in `data` lines of eight; `frames 0`, while a device has no memory.
 #[tactic(auto, unfolding(crate::specs::Report::report_text))]
 pub fn report(alloc: Global, device: &Device, reads: &[u32]) -> Result<Vec<u8>, NoMemory>
-    ensures { IfOk result (λ text. (part : PartData) (bytes : List ℕ) → DeviceStandsFor part on_the_bench device.now bytes
-        → text.items ≡ report_text part.name (state_of part on_the_bench false bytes) reads.now) }
+    ensures { IfOk result (λ text. (part : PartData) (kept : Kept) (bytes : List ℕ) → DeviceStandsFor part kept device.now bytes
+        → text.items ≡ report_text part.name (state_of part kept false bytes) reads.now) }
 {
     let mut text = Vec::new(alloc);
     put_state(&mut text, device.part().name(), &device.state())?;

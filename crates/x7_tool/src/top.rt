@@ -1,17 +1,19 @@
 //! The top call.
-ghost use Rattle.std.specs.Prelude.{◌≡◌, ℕ, List, map, string_bytes, Result, Ok, Err, IfOk, IfErr};
+ghost use Rattle.std.specs.Prelude.{◌≡◌, map, string_bytes, Result};
 ghost use Rattle.x7_words.specs.Count.{HasRisen};
+ghost use Rattle.x7_tool.specs.Event.{Event};
 ghost use Rattle.x7_tool.specs.Form.{form_of, names_of};
-ghost use Rattle.x7_tool.specs.Message.{event_of, final_status};
-ghost use Rattle.x7_tool.specs.Outcome.{Answer, Event, told_of};
-ghost use Rattle.x7_tool.specs.Run.{Ends, RisesFor, Says};
+ghost use Rattle.x7_tool.specs.Message.{final_status};
+ghost use Rattle.x7_tool.specs.Outcome.{Answer, told_of};
+ghost use Rattle.x7_tool.specs.Run.{Ends, EndsAs, RisesFor, Says, seen};
 ghost use Rattle.x7_tool.specs.Runs.{Runs};
 
 use crate::form::{Form, words_of};
 use crate::list::list;
 use crate::play::play;
-use crate::refusal::Refusal;
+use crate::refusal::{Refusal, Why};
 use crate::status::Status;
+use crate::text::put_whole;
 use std::alloc::Global;
 use x7_words::{Flash, Inputs, Sink};
 
@@ -23,16 +25,17 @@ fn answer<'w, I: Inputs, O: Sink, F: Flash>(
     flash: &mut F,
     out: &mut O,
 ) -> Result<bool, Refusal<'w>>
-    ensures ok { let form = form_of (map string_bytes words.now.items) in IfOk result (λ stopped. (text : List ℕ) × Ends (told_of form (I.contents inputs.old) (F.bytes flash.old)) (RisesFor (names_of form) (I.faults inputs.old) (I.faults inputs.new)) (RisesFor (names_of form) (I.absences inputs.old) (I.absences inputs.new)) form (HasRisen (O.faults out.old) (O.faults out.new)) (O.written out.old) (O.written out.new) (Ok (record { stopped = stopped; text = text }))) }
-    ensures err { let form = form_of (map string_bytes words.now.items) in IfErr result (λ r. Ends (told_of form (I.contents inputs.old) (F.bytes flash.old)) (RisesFor (names_of form) (I.faults inputs.old) (I.faults inputs.new)) (RisesFor (names_of form) (I.absences inputs.old) (I.absences inputs.new)) form (HasRisen (O.faults out.old) (O.faults out.new)) (O.written out.old) (O.written out.new) (Err (event_of r))) }
+    ensures ends { let form = form_of (map string_bytes words.now.items) in EndsAs (told_of form (I.contents inputs.old) (F.bytes flash.old)) (RisesFor (names_of form) (I.faults inputs.old) (I.faults inputs.new)) (RisesFor (names_of form) (I.absences inputs.old) (I.absences inputs.new)) form
+        (HasRisen (O.faults out.old) (O.faults out.new)) (O.written out.old) (O.written out.new) (seen (λ stopped. stopped) result) }
+    ensures flash { flash.new ≡ flash.old }
 {
     match words_of(words) {
-        None => Err(Refusal::Usage),
+        None => Err(Refusal::unnamed(Why::Usage)),
         Some(Form::List { stream }) => match list(alloc, inputs, out, stream) {
             Ok(()) => Ok(false),
             Err(refusal) => Err(refusal),
         },
-        Some(Form::Play { part, streams }) => play(alloc, inputs, out, part, streams),
+        Some(Form::Play { part, streams }) => put_whole(play(alloc, inputs, part, streams), out),
     }
 }
 
@@ -45,9 +48,10 @@ fn carry_out<I: Inputs, O: Sink, E: Sink, F: Flash>(
     out: &mut O,
     err: &mut E,
 ) -> Status
-    ensures { let form = form_of (map string_bytes words.now.items) in (whole : Result Answer Event) × ((result ≡ final_status whole)
-        × Ends (told_of form (I.contents inputs.old) (F.bytes flash.old)) (RisesFor (names_of form) (I.faults inputs.old) (I.faults inputs.new)) (RisesFor (names_of form) (I.absences inputs.old) (I.absences inputs.new)) form (HasRisen (O.faults out.old) (O.faults out.new)) (O.written out.old) (O.written out.new) whole
-        × Says (HasRisen (E.faults err.old) (E.faults err.new)) (E.written err.old) (E.written err.new) whole) }
+    ensures ends { let form = form_of (map string_bytes words.now.items) in (end : Result Answer Event) × ((result ≡ final_status end)
+        × Ends (told_of form (I.contents inputs.old) (F.bytes flash.old)) (RisesFor (names_of form) (I.faults inputs.old) (I.faults inputs.new)) (RisesFor (names_of form) (I.absences inputs.old) (I.absences inputs.new)) form (HasRisen (O.faults out.old) (O.faults out.new)) (O.written out.old) (O.written out.new) end
+        × Says (HasRisen (E.faults err.old) (E.faults err.new)) (E.written err.old) (E.written err.new) end) }
+    ensures flash { flash.new ≡ flash.old }
 {
     match answer(alloc, words, inputs, flash, out) {
         Ok(stopped) => Status::of_text(stopped),
@@ -67,8 +71,26 @@ pub fn run<I: Inputs, O: Sink, E: Sink, F: Flash>(
     err: &mut E,
 ) -> Status
     ensures { Runs (form_of (map string_bytes words.now.items))
-        (record { inputs = I.contents inputs.old; faults = I.faults inputs.old; absences = I.absences inputs.old; flash = F.bytes flash.old; out = O.written out.old; out_faults = O.faults out.old; err = E.written err.old; err_faults = E.faults err.old })
-        (record { inputs = I.contents inputs.new; faults = I.faults inputs.new; absences = I.absences inputs.new; flash = F.bytes flash.new; out = O.written out.new; out_faults = O.faults out.new; err = E.written err.new; err_faults = E.faults err.new })
+        (record {
+          inputs = I.contents inputs.old;
+          faults = I.faults inputs.old;
+          absences = I.absences inputs.old;
+          flash = record { bytes = F.bytes flash.old; extent = F.extent flash.old; attached = F.attached flash.old; faults = F.faults flash.old; absences = F.absences flash.old };
+          out = O.written out.old;
+          out_faults = O.faults out.old;
+          err = E.written err.old;
+          err_faults = E.faults err.old;
+        })
+        (record {
+          inputs = I.contents inputs.new;
+          faults = I.faults inputs.new;
+          absences = I.absences inputs.new;
+          flash = record { bytes = F.bytes flash.new; extent = F.extent flash.new; attached = F.attached flash.new; faults = F.faults flash.new; absences = F.absences flash.new };
+          out = O.written out.new;
+          out_faults = O.faults out.new;
+          err = E.written err.new;
+          err_faults = E.faults err.new;
+        })
         result }
 {
     carry_out(alloc, words, inputs, flash, out, err)

@@ -8,10 +8,11 @@ use Rattle.x7_words.proofs.CountLemmas.{risen_from}
 use Rattle.x7_listing.specs.Listing.{listing_of}
 use Rattle.x7_tool.specs.Form.{Listing}
 use Rattle.x7_tool.specs.Message.{event_of}
-use Rattle.x7_tool.specs.Outcome.{NoMemory, WriteFault, has_header, stream_limit, with_inputs}
+use Rattle.x7_tool.specs.Event.{no_memory, read_fault, write_fault}
+use Rattle.x7_tool.specs.Outcome.{has_header, stream_limit, with_inputs}
 use Rattle.x7_tool.specs.Run.{Ends, RisesFor}
 use Rattle.x7_tool.specs.Turn.{Lists}
-use Rattle.x7_tool.proofs.Causes.{both_err, broken, listed_whole, no_memory, not_selected, too_large}
+use Rattle.x7_tool.proofs.Causes.{both_err, broken, ends_same, listed_whole, not_selected, out_of_memory, oversized}
 use Rattle.x7_tool.proofs.TurnLemmas.{end_failed, judged_more, lists_here, taken_more, turn_long, write_failed}
 use Rattle.x7_tool.proofs.list.list.Goals as goal
 
@@ -42,7 +43,7 @@ returns-in-Err-clause-err g c =
     let front = lists_here c.loop-count.lister old (o.written c.loop-count.out) taken v.told.1.1 in
     let failed = c.in-Err.ensures.failed in
     let risen = risen_from (i.faults c.args.inputs.now) (i.faults c.loop-count.inputs) (i.faults c.fill.new.inputs) v.faults failed.1 in
-    λ flash. rw failed.0 (broken contents flash L stream taken (i.rest c.loop-count.inputs) (i.faults c.args.inputs.now) (i.faults c.fill.new.inputs) Full old (o.written c.loop-count.out) v.told.1.0 risen front)
+    λ flash. ends_same (with_inputs contents flash) F L (Some (Listing stream)) Full old (o.written c.loop-count.out) (event_of c.in-Err.refusal) (read_fault stream) failed.0 (broken contents flash L stream taken (i.rest c.loop-count.inputs) (i.faults c.args.inputs.now) (i.faults c.fill.new.inputs) Full old (o.written c.loop-count.out) v.told.1.0 risen front)
 
 pub returns-then-count-left-clause-err : goal.returns-then-count-left-clause-err
 returns-then-count-left-clause-err g c =
@@ -70,7 +71,7 @@ returns-then-count-left-clause-err g c =
     let less : c.loop-count.left < stream_limit = omega (arith, c.if-count-left.true, c.in-Ok-fill.ensures.within, c.turn_len-most.ensures.within, room) in
     let long : 13 ≤ length (taken ++ piece) = omega (arith, size, (v.told.1.3 less).0) in
     let over : stream_limit < length (taken ++ piece) = omega (arith, size, c.if-count-left.true, v.told.1.2) in
-    λ flash. too_large contents flash F L stream (taken ++ piece) taken (i.rest c.fill.new.inputs) (i.rest c.loop-count.inputs) Full old (o.written c.loop-count.out) sel v.told.1.0 long raw over front
+    λ flash. oversized contents flash F L stream (taken ++ piece) taken (i.rest c.fill.new.inputs) (i.rest c.loop-count.inputs) Full old (o.written c.loop-count.out) sel v.told.1.0 long raw over front
 
 pub returns-in-Err-put_turn-clause-err : goal.returns-in-Err-put_turn-clause-err
 returns-in-Err-put_turn-clause-err g c =
@@ -96,18 +97,18 @@ returns-in-Err-put_turn-clause-err g c =
     let Full : Type 0 = HasRisen (o.faults c.args.out.now) (o.faults c.put_turn.new.out) in
     let r = event_of c.in-Err-put_turn.refusal in
     λ flash.
-    let end : ((r ≡ NoMemory) × (now ≡ o.written c.loop-count.out)) ⊎ ((r ≡ WriteFault) × HasRisen (o.faults c.loop-count.out) (o.faults c.put_turn.new.out)) → Ends (with_inputs contents flash) F L (Some (Listing stream)) Full old now (Err r)
+    let end : ((r ≡ no_memory) × (now ≡ o.written c.loop-count.out)) ⊎ ((r ≡ write_fault) × HasRisen (o.faults c.loop-count.out) (o.faults c.put_turn.new.out)) → Ends (with_inputs contents flash) F L (Some (Listing stream)) Full old now (Err r)
     = elim [
       | inl h ↦
           let front = lists_here c.loop-count.lister old (o.written c.loop-count.out) taken v.told.1.1 in
           let front2 : PutsFront old (listing_of taken) now = rw h.1 front in
-          rw h.0 (no_memory contents flash F L stream taken (i.rest c.loop-count.inputs) Full old now v.told.1.0 front2)
+          ends_same (with_inputs contents flash) F L (Some (Listing stream)) Full old now r no_memory h.0 (out_of_memory contents flash F L stream taken (i.rest c.loop-count.inputs) Full old now v.told.1.0 front2)
       | inr h ↦
           let risen = risen_from (o.faults c.args.out.now) (o.faults c.loop-count.out) (o.faults c.put_turn.new.out) v.written h.1 in
           let err : (left : List ℕ) → AreBytes (taken ++ (take n (c.fill.new.buf ++ drop c.turn_len-most.result c.loop-count.piece) ++ left)) → PutsFront old (listing_of (taken ++ (take n (c.fill.new.buf ++ drop c.turn_len-most.result c.loop-count.piece) ++ left))) now
           = λ left fits. c.in-Err-put_turn.ensures.err old taken left v.told.1.1 fits in
           let fits = c.put_turn.ensures.fits in
-          rw h.0 (write_failed contents flash F L stream taken piece (take n (c.fill.new.buf ++ drop c.turn_len-most.result c.loop-count.piece)) c.loop-count.lister (i.rest c.fill.new.inputs) Full old (o.written c.loop-count.out) now whole sel risen v.told.1.1 fits err)
+          ends_same (with_inputs contents flash) F L (Some (Listing stream)) Full old now r write_fault h.0 (write_failed contents flash F L stream taken piece (take n (c.fill.new.buf ++ drop c.turn_len-most.result c.loop-count.piece)) c.loop-count.lister (i.rest c.fill.new.inputs) Full old (o.written c.loop-count.out) now whole sel risen v.told.1.1 fits err)
     ] in
     end c.in-Err-put_turn.ensures.why
 
@@ -168,17 +169,17 @@ returns-then-count-most-clause-err g c =
     let Full : Type 0 = HasRisen (o.faults c.args.out.now) (o.faults c.put_end.new.out) in
     let size : length (taken ++ piece) ≡ length taken + n = length-append taken piece ∙ ap (λ k. length taken + k) (length-take-le n c.fill.new.buf (omega (arith, c.in-Ok-fill.ensures.within, c.fill.ensures.length))) in
     both_err c.put_end.result (λ r. (first : Option (List ℕ)) (bytes : List ℕ) → Lists c.put_turn.new.lister first (o.written c.put_turn.new.out) bytes → PutsFront first (listing_of bytes) now)
-    (λ r. (event_of r ≡ NoMemory) ⊎ ((event_of r ≡ WriteFault) × HasRisen (o.faults c.put_turn.new.out) (o.faults c.put_end.new.out)))
+    (λ r. (event_of r ≡ no_memory) ⊎ ((event_of r ≡ write_fault) × HasRisen (o.faults c.put_turn.new.out) (o.faults c.put_end.new.out)))
     (λ r. (flash : Option (List ℕ)) → Ends (with_inputs contents flash) F L (Some (Listing stream)) Full old now (Err (event_of r)))
     (λ r p w flash.
     let front = p old (taken ++ piece) lists in
-    let end : (event_of r ≡ NoMemory) ⊎ ((event_of r ≡ WriteFault) × HasRisen (o.faults c.put_turn.new.out) (o.faults c.put_end.new.out)) → Ends (with_inputs contents flash) F L (Some (Listing stream)) Full old now (Err (event_of r))
+    let end : (event_of r ≡ no_memory) ⊎ ((event_of r ≡ write_fault) × HasRisen (o.faults c.put_turn.new.out) (o.faults c.put_end.new.out)) → Ends (with_inputs contents flash) F L (Some (Listing stream)) Full old now (Err (event_of r))
     = elim [
-      | inl h ↦ rw h (no_memory contents flash F L stream (taken ++ piece) (i.rest c.fill.new.inputs) Full old now sel front)
+      | inl h ↦ ends_same (with_inputs contents flash) F L (Some (Listing stream)) Full old now (event_of r) no_memory h (out_of_memory contents flash F L stream (taken ++ piece) (i.rest c.fill.new.inputs) Full old now sel front)
       | inr h ↦
           let risen = risen_from (o.faults c.args.out.now) (o.faults c.put_turn.new.out) (o.faults c.put_end.new.out) (omega (arith, v.written, c.put_turn.ensures.faults)) h.1 in
           let atend = c.in-Ok-fill.ensures.end (omega (arith, c.if-count-most.true, room)) in
-          rw h.0 (end_failed contents flash F L stream (taken ++ piece) (i.rest c.fill.new.inputs) Full old now sel atend risen front)
+          ends_same (with_inputs contents flash) F L (Some (Listing stream)) Full old now (event_of r) write_fault h.0 (end_failed contents flash F L stream (taken ++ piece) (i.rest c.fill.new.inputs) Full old now sel atend risen front)
     ] in
     end w)
     c.put_end.ensures.err c.put_end.ensures.why

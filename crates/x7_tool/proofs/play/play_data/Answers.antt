@@ -6,7 +6,7 @@ use Rattle.x7_engine.specs.Kept.{on_the_bench}
 use Rattle.x7_engine.specs.Standing.{DeviceStandsFor, taken_in, told_of}
 use Rattle.x7_engine.specs.State.{reads_of}
 use Rattle.x7_tool.specs.Message.{event_of}
-use Rattle.x7_tool.specs.Outcome.{NoMemory, TooLargeReads}
+use Rattle.x7_tool.specs.Event.{no_memory, too_many_reads}
 use Rattle.x7_tool.proofs.PlayLemmas.{bytes_split, emptied_again, full_words, is_end, most_is, over_limit, play_end, taken_more, words_are}
 use Rattle.x7_tool.proofs.play.play_data.Goals as goal
 
@@ -21,8 +21,8 @@ returns-in-Err-clause-err c =
     let words = words_are c.loop-refusal.buffer c.feed-fed.new.read reads.0 reads.1 v.buffer in
     let fits : AreBytes bytes = all_from_places (λ b. b < 256) bytes (λ k h. omega (arith, c.type_inv.bytes k)) in
     let told : told_of part on_the_bench c.feed-fed.new.self (take at bytes ++ take n (drop at bytes)) ≡ c.loop-refusal.reads.items ++ reads.0 = reads.2 ∙ ap (λ x. x ++ reads.0) (sym v.told) in
-    let end : (event_of c.in-Err.refusal ≡ NoMemory) ⊎ ((event_of c.in-Err.refusal ≡ TooLargeReads) × (16777216 < c.loop-refusal.reads.len + length c.feed-fed.new.read.words))
-    → (event_of c.in-Err.refusal ≡ NoMemory) ⊎ ((event_of c.in-Err.refusal ≡ TooLargeReads) × (16777216 < length (reads_of part on_the_bench bytes)))
+    let end : (event_of c.in-Err.refusal ≡ no_memory) ⊎ ((event_of c.in-Err.refusal ≡ too_many_reads) × (16777216 < c.loop-refusal.reads.len + length c.feed-fed.new.read.words))
+    → (event_of c.in-Err.refusal ≡ no_memory) ⊎ ((event_of c.in-Err.refusal ≡ too_many_reads) × (16777216 < length (reads_of part on_the_bench bytes)))
     = elim [
       | inl h ↦ inl h
       | inr h ↦ inr (h.0, over_limit part c.feed-fed.new.self bytes c.loop-refusal.reads.items reads.0 (take at bytes ++ take n (drop at bytes)) (drop n (drop at bytes)) fits (bytes_split bytes at n) told (omega (arith, h.1, ap length words, c.loop-refusal.reads.ok.0)))

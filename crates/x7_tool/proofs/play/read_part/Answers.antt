@@ -1,11 +1,12 @@
 use Rattle.std.proofs.Common.{ℕ, List, [], ◌∷◌, Ok, Err, ap}
-use Rattle.x7_tool.specs.Outcome.{part_by, part_limit, with_inputs}
+use Rattle.x7_tool.specs.Message.{event_of}
+use Rattle.x7_tool.specs.Outcome.{part_by, part_limit, part_of, with_inputs}
 use Rattle.x7_tool.specs.Parts.{part_in}
 use Rattle.x7_tool.specs.Play.{part_event}
 use Rattle.x7_tool.specs.Run.{RisesFor}
 use Rattle.x7_tool.proofs.PartLemmas.{part_is}
 use Rattle.x7_tool.proofs.PlayLemmas.{refused}
-use Rattle.x7_tool.proofs.ReadLemmas.{after_text, works}
+use Rattle.x7_tool.proofs.ReadLemmas.{after_text, caused_event, works}
 use Rattle.x7_tool.proofs.play.read_part.Goals as goal
 
 pub returns-in-Ok-part_of-clause-due : goal.returns-in-Ok-part_of-clause-due
@@ -30,4 +31,4 @@ returns-clause-due g c = λ flash.
     let text = c.read_onto.new.onto.items in
     let due = rw c.new-text.ensures.items at (c.in-Ok.ensures.due flash) in
     let why = rw c.deref.ensures.value at c.in-Err-part_of.ensures.fault in
-    rw c.refusal_of.ensures (after_text told F L part_limit name text (Err (part_event name c.in-Err-part_of.fault)) due (refused told F L name text c.in-Err-part_of.fault why))
+    caused_event told F L (λ told. part_of told name) (event_of c.refusal_of.result) (part_event name c.in-Err-part_of.fault) c.refusal_of.ensures (after_text told F L part_limit name text (Err (part_event name c.in-Err-part_of.fault)) due (refused told F L name text c.in-Err-part_of.fault why))

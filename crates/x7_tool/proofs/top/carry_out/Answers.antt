@@ -2,12 +2,14 @@ use Rattle.std.proofs.Common.{refl, Ok, Err}
 use Rattle.x7_tool.specs.Message.{event_of}
 use Rattle.x7_tool.proofs.top.carry_out.Goals as goal
 
-pub returns-in-Ok : goal.returns-in-Ok
-returns-in-Ok g c =
-    let here = c.in-Ok.ensures.ok in
-    (Ok (record { stopped = c.in-Ok.stopped; text = here.0 }), (c.of_text.ensures, here.1, refl))
+pub returns-in-Ok-clause-ends : goal.returns-in-Ok-clause-ends
+returns-in-Ok-clause-ends g c =
+    let here = c.answer.ensures.ends in
+    let end = rw c.in-Ok.is at here in
+    (Ok (record { stopped = c.in-Ok.stopped; text = end.0 }), (c.of_text.ensures, end.1, refl))
 
-pub returns-in-Err : goal.returns-in-Err
-returns-in-Err g c =
-    let here = c.in-Err.ensures.err in
-    (Err (event_of c.in-Err.refusal), (c.tell.ensures.status, here, c.tell.ensures.line))
+pub returns-in-Err-clause-ends : goal.returns-in-Err-clause-ends
+returns-in-Err-clause-ends g c =
+    let here = c.answer.ensures.ends in
+    let end = rw c.in-Err.is at here in
+    (Err (event_of c.in-Err.refusal), (c.tell.ensures.status, end, c.tell.ensures.line))

@@ -1,6 +1,7 @@
-use Rattle.std.proofs.Common.{map, string_bytes}
-use Rattle.x7_tool.specs.Form.{form_of}
-use Rattle.x7_tool.proofs.RunLemmas.{runs}
+use Rattle.std.proofs.Common.{◌≡◌, ap, map, string_bytes}
+use Rattle.x7_tool.specs.Form.{form_of, names_flash}
+use Rattle.x7_tool.specs.Runs.{FlashState}
+use Rattle.x7_tool.proofs.RunLemmas.{flash_kept, runs}
 use Rattle.x7_tool.proofs.top.run.Goals as goal
 
 pub returns : goal.returns
@@ -8,8 +9,13 @@ returns g c =
     let i = g.I.Inputs in
     let o = g.O.Sink in
     let e = g.E.Sink in
-    let r = c.carry_out.ensures in
-    runs (form_of (map string_bytes c.args.words.now.items))
-        (record { inputs = i.contents c.args.inputs.now; faults = i.faults c.args.inputs.now; absences = i.absences c.args.inputs.now; flash = g.F.Flash.bytes c.args.flash.now; out = o.written c.args.out.now; out_faults = o.faults c.args.out.now; err = e.written c.args.err.now; err_faults = e.faults c.args.err.now })
-        (record { inputs = i.contents c.carry_out.new.inputs; faults = i.faults c.carry_out.new.inputs; absences = i.absences c.carry_out.new.inputs; flash = g.F.Flash.bytes c.carry_out.new.flash; out = o.written c.carry_out.new.out; out_faults = o.faults c.carry_out.new.out; err = e.written c.carry_out.new.err; err_faults = e.faults c.carry_out.new.err })
-        c.carry_out.result r.0 r.1.0 r.1.1 r.1.2
+    let f = g.F.Flash in
+    let r = c.carry_out.ensures.ends in
+    let form = form_of (map string_bytes c.args.words.now.items) in
+    let before : FlashState = record { bytes = f.bytes c.args.flash.now; extent = f.extent c.args.flash.now; attached = f.attached c.args.flash.now; faults = f.faults c.args.flash.now; absences = f.absences c.args.flash.now } in
+    let after : FlashState = record { bytes = f.bytes c.carry_out.new.flash; extent = f.extent c.carry_out.new.flash; attached = f.attached c.carry_out.new.flash; faults = f.faults c.carry_out.new.flash; absences = f.absences c.carry_out.new.flash } in
+    let same : after ≡ before = ap (λ x. record { bytes = f.bytes x; extent = f.extent x; attached = f.attached x; faults = f.faults x; absences = f.absences x }) c.carry_out.ensures.flash in
+    runs form
+    (record { inputs = i.contents c.args.inputs.now; faults = i.faults c.args.inputs.now; absences = i.absences c.args.inputs.now; flash = before; out = o.written c.args.out.now; out_faults = o.faults c.args.out.now; err = e.written c.args.err.now; err_faults = e.faults c.args.err.now })
+    (record { inputs = i.contents c.carry_out.new.inputs; faults = i.faults c.carry_out.new.inputs; absences = i.absences c.carry_out.new.inputs; flash = after; out = o.written c.carry_out.new.out; out_faults = o.faults c.carry_out.new.out; err = e.written c.carry_out.new.err; err_faults = e.faults c.carry_out.new.err })
+    c.carry_out.result r.0 r.1.0 r.1.1 r.1.2 (flash_kept (names_flash form) before after same)
