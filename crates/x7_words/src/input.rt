@@ -3,9 +3,23 @@ ghost use Rattle.std.specs.Prelude.{◌≡◌, ℕ, List, ◌<◌, ◌≤◌, �
 ghost use Rattle.x7_words.specs.Count.{HasRisen};
 ghost use Rattle.x7_words.specs.Input.{Selects, Lacks, AtEnd, preceded};
 
+use std::alloc::{AllocError, AllocFailed};
+
 /// There was no memory for what was asked. The call that answers it says what it leaves.
 #[derive(Clone, Copy, Debug, Drop, PartialEq, Eq)]
 pub struct NoMemory;
+
+impl From<AllocError> for NoMemory {
+    fn from(_: AllocError) -> NoMemory {
+        NoMemory
+    }
+}
+
+impl<T: Drop> From<AllocFailed<T>> for NoMemory {
+    fn from(_: AllocFailed<T>) -> NoMemory {
+        NoMemory
+    }
+}
 
 /// The outside failed: a read or a write did not happen.
 #[derive(Clone, Copy, Debug, Drop, PartialEq, Eq)]

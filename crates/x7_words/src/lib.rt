@@ -1,6 +1,7 @@
 //! Words of 32 bits, and the outside: inputs by name, sinks for text and a flash.
 #![tactic(auto)]
 
+mod count;
 mod files;
 mod flash;
 mod input;
