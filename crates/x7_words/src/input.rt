@@ -71,7 +71,8 @@ pub trait Inputs {
         ensures last_absence { absences self.new < 2 ^ 64 };
 
     /// Puts the next bytes of the selected input at the front of the buffer, and answers how many.
-    /// 0 for a buffer that is not empty is the end. After an error no input is selected.
+    /// 0 for a buffer that is not empty is the end. After an error no input is selected, and the
+    /// buffer may hold anything: a system's failed read promises nothing of it.
     fn read(&mut self, buf: &mut [u8]) -> Result<usize, Failed>
         requires { selected self.old ≡ true }
         ensures ok { OnOk result (selected self.new ≡ true) }

@@ -16,4 +16,4 @@ pub use flash::Flash;
 pub use input::{Failed, Inputs, NoMemory, SelectFault};
 pub use memory::{MemoryFlash, MemoryInputs, MemorySink};
 pub use sink::{Sink, write_all, write_pieces};
-pub use word::{bytes_of, word_of};
+pub use word::{bytes_of, word_of, words_are_big_endian};

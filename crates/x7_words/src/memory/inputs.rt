@@ -72,9 +72,7 @@ impl MemoryInputs {
     {
         let bytes = Vec::from_slice(self.alloc, bytes)?;
         let name = String::from_str(self.alloc, name)?;
-        let Ok(()) = self.puts.insert(0, Put { name, bytes }) else {
-            return Err(NoMemory);
-        };
+        self.puts.insert(0, Put { name, bytes })?;
         if let Some(which) = self.selected {
             self.selected = Some(which + 1);
         }
