@@ -29,7 +29,7 @@ fn read_once<F: Read>(file: &mut F, buf: &mut [u8]) -> Result<usize, Failed>
     ensures bytes { ReadConsumes (F.remaining file.old) (F.remaining file.new) result buf.new }
 {
     match file.read(buf) {
-        Ok(count) => Ok(count),
+        Ok(taken) => Ok(taken),
         Err(_) => Err(Failed),
     }
 }

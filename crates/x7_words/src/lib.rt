@@ -1,6 +1,7 @@
 //! Words of 32 bits, and the outside: inputs by name, sinks for text and a flash.
 #![tactic(auto)]
 
+mod bytes;
 mod count;
 mod files;
 mod flash;
@@ -11,6 +12,7 @@ mod sink;
 mod tests;
 mod word;
 
+pub use bytes::is_same;
 pub use files::{FileInputs, StdSink};
 pub use flash::Flash;
 pub use input::{Failed, Inputs, NoMemory, SelectFault};
