@@ -1,25 +1,15 @@
 //! The state of a device as text, appended where room is made first.
 ghost use Rattle.std.specs.Prelude.{◌≡◌, ◌∷◌, ◌++◌, ◌≤◌, ◌+◌, ◌*◌, length, vec_len, vec_capacity, OnOk, OnErr};
 ghost use Rattle.std.specs.List.{flat_map};
+ghost use Rattle.x7_text.specs.Appends.{Appends};
 ghost use Rattle.x7_text.specs.Digits.{hex_word};
 ghost use Rattle.x7_engine.specs.Text.{bit_text, end_text, fault_text, phase_text, reg_line, reg_text, reg_words};
 
 use crate::fault::Fault;
 use crate::regs::{End, Regs};
 use x7_regs::{Reg, name_of};
-use x7_text::{hex_of_word, put, put_decimal};
+use x7_text::{hex_of_word, make_room, put, put_decimal};
 use x7_words::NoMemory;
-
-/// Makes room for so many bytes more.
-fn make_room(out: &mut Vec<u8>, more: usize) -> Result<(), NoMemory>
-    ensures items { out.new.items ≡ out.old.items }
-    ensures room { OnOk result (vec_len out.new + more ≤ vec_capacity out.new) }
-{
-    match out.reserve(more) {
-        Ok(()) => Ok(()),
-        Err(_) => Err(NoMemory),
-    }
-}
 
 /// Appends a name and the digits of a word.
 fn put_named_word(out: &mut Vec<u8>, name: &[u8], word: u32)
@@ -91,9 +81,7 @@ pub fn end_words(out: &mut Vec<u8>, r: &Regs) -> Result<(), NoMemory>
 /// Appends a name and the digit of a line, 0 or 1.
 fn put_bit(out: &mut Vec<u8>, name: &[u8], bit: bool)
     requires { vec_len out.old + (length name.now + 1) ≤ vec_capacity out.old }
-    ensures items { out.new.items ≡ out.old.items ++ (name.now ++ bit_text bit) }
-    ensures length { vec_len out.new ≡ vec_len out.old + (length name.now + 1) }
-    ensures room { vec_capacity out.old ≤ vec_capacity out.new }
+    ensures appends { Appends out.old out.new (name.now ++ bit_text bit) (length name.now + 1) }
 {
     put(out, name);
     put(out, if bit { b"1" } else { b"0" });
@@ -151,9 +139,7 @@ fn rows_of(r: &Regs) -> [(Reg, u32); 15]
 /// Appends the line of a register.
 fn put_row(out: &mut Vec<u8>, row: (Reg, u32))
     requires { vec_len out.old + 21 ≤ vec_capacity out.old }
-    ensures items { out.new.items ≡ out.old.items ++ reg_line row }
-    ensures length { vec_len out.new ≤ vec_len out.old + 21 }
-    ensures room { vec_capacity out.old ≤ vec_capacity out.new }
+    ensures appends { Appends out.old out.new (reg_line row) 21 }
 {
     let (reg, word) = row;
     put(out, b"reg ");

@@ -26,9 +26,9 @@ synced_pen run synced s2 line l2 l3 held h2 all all2 e f w = subst (λ s. Writes
 longer : (given old new more : List ℕ) → new ≡ old ++ more → given ++ new ≡ given ++ old ++ more
 longer given old new more e = ap (λ x. given ++ x) e ∙ sym (append_assoc given old more)
 
-pub by_sync : (run : Cut) (synced s2 : Bool) (line l2 : ℕ) (held h2 given old new : List ℕ) → run ≡ Sync → s2 ≡ true → l2 ≡ 0 → new ≡ old ++ close line ++ codes "sync\n" → Writes run synced line held (given ++ old) s2 l2 h2 (given ++ new)
+pub by_sync : (run : Cut) (synced s2 : Bool) (line l2 : ℕ) (held h2 given old new : List ℕ) → run ≡ Sync → s2 ≡ true → l2 ≡ 0 → new ≡ old ++ (close line ++ codes "sync\n") → Writes run synced line held (given ++ old) s2 l2 h2 (given ++ new)
 by_sync run synced s2 line l2 held h2 given old new is e f t =
-    let all2 : given ++ new ≡ given ++ old ++ close line ++ codes "sync\n" = ap (λ x. given ++ x) t ∙ sym (append_assoc given (old ++ close line) (codes "sync\n")) ∙ ap (λ x. x ++ codes "sync\n") (sym (append_assoc given old (close line))) in
+    let all2 : given ++ new ≡ given ++ old ++ close line ++ codes "sync\n" = ap (λ x. given ++ x) (t ∙ sym (append_assoc old (close line) (codes "sync\n"))) ∙ sym (append_assoc given (old ++ close line) (codes "sync\n")) ∙ ap (λ x. x ++ codes "sync\n") (sym (append_assoc given old (close line))) in
     as_run run Sync synced s2 line l2 held h2 (given ++ old) (given ++ new) is (synced_pen Sync synced s2 line l2 0 held h2 (given ++ old) (given ++ new) e f
     (λ before bytes sessions new_sessions spot np o n told adds turns is_run reading. sync_told synced line held h2 (given ++ old) (given ++ new) before sessions new_sessions spot np o n told adds turns all2))
 

@@ -1,6 +1,7 @@
 //! The lines of single words.
 ghost use Rattle.std.specs.Prelude.{◌≡◌, ℕ, List, [], ◌∷◌, ◌++◌, ◌<◌, ◌≤◌, ◌+◌, length, vec_len, vec_capacity, codes, decimal};
 ghost use Rattle.x7_regs.specs.Register.{reg_name};
+ghost use Rattle.x7_text.specs.Appends.{Appends};
 ghost use Rattle.x7_text.specs.Digits.{hex_word};
 ghost use Rattle.x7_text.specs.Row.{close};
 ghost use Rattle.x7_listing.specs.HeadLine.{command_line, head_line, head_text};
@@ -64,9 +65,7 @@ impl HeadLine {
     fn put(self, text: &mut Vec<u8>)
         requires room { vec_len text.old + 47 ≤ vec_capacity text.old }
         requires register { HasRegister self }
-        ensures items { text.new.items ≡ text.old.items ++ line_text self }
-        ensures len { vec_len text.new ≤ vec_len text.old + 47 }
-        ensures room { vec_capacity text.old ≤ vec_capacity text.new }
+        ensures appends { Appends text.old text.new (line_text self) 47 }
     {
         match self {
             HeadLine::Nop => put(text, b"nop\n"),
@@ -85,9 +84,7 @@ fn put_access(text: &mut Vec<u8>, word: &[u8], register: u8, count: u32)
     requires room { vec_len text.old + 47 ≤ vec_capacity text.old }
     requires short { length word.now ≤ 6 }
     requires register { register < 32 }
-    ensures items { text.new.items ≡ text.old.items ++ (word.now ++ reg_name register ++ 32 ∷ decimal count ++ 10 ∷ []) }
-    ensures len { vec_len text.new ≤ vec_len text.old + 47 }
-    ensures room { vec_capacity text.old ≤ vec_capacity text.new }
+    ensures appends { Appends text.old text.new (word.now ++ reg_name register ++ 32 ∷ decimal count ++ 10 ∷ []) 47 }
 {
     put(text, word);
     put(text, name_of(register).bytes());
@@ -100,9 +97,7 @@ fn put_access(text: &mut Vec<u8>, word: &[u8], register: u8, count: u32)
 fn put_count(text: &mut Vec<u8>, word: &[u8], count: u32)
     requires room { vec_len text.old + 47 ≤ vec_capacity text.old }
     requires short { length word.now ≤ 7 }
-    ensures items { text.new.items ≡ text.old.items ++ (word.now ++ decimal count ++ 10 ∷ []) }
-    ensures len { vec_len text.new ≤ vec_len text.old + 47 }
-    ensures room { vec_capacity text.old ≤ vec_capacity text.new }
+    ensures appends { Appends text.old text.new (word.now ++ decimal count ++ 10 ∷ []) 47 }
 {
     put(text, word);
     put_decimal(text, u64::from(count));
@@ -113,9 +108,7 @@ fn put_count(text: &mut Vec<u8>, word: &[u8], count: u32)
 fn put_whole_word(text: &mut Vec<u8>, word: &[u8], w: u32)
     requires room { vec_len text.old + 47 ≤ vec_capacity text.old }
     requires short { length word.now ≤ 7 }
-    ensures items { text.new.items ≡ text.old.items ++ (word.now ++ hex_word w ++ 10 ∷ []) }
-    ensures len { vec_len text.new ≤ vec_len text.old + 47 }
-    ensures room { vec_capacity text.old ≤ vec_capacity text.new }
+    ensures appends { Appends text.old text.new (word.now ++ hex_word w ++ 10 ∷ []) 47 }
 {
     put(text, word);
     put(text, &hex_of_word(w));
@@ -125,9 +118,7 @@ fn put_whole_word(text: &mut Vec<u8>, word: &[u8], w: u32)
 /// Appends the line of a word in a header's place, behind an open line of `in_line` words.
 pub(crate) fn put_head(text: &mut Vec<u8>, in_line: usize, step: Step, w: u32)
     requires { vec_len text.old + 48 ≤ vec_capacity text.old }
-    ensures items { text.new.items ≡ text.old.items ++ (close in_line ++ head_text step w) }
-    ensures len { vec_len text.new ≤ vec_len text.old + 48 }
-    ensures room { vec_capacity text.old ≤ vec_capacity text.new }
+    ensures appends { Appends text.old text.new (close in_line ++ head_text step w) 48 }
 {
     put_close(text, in_line);
     HeadLine::new(step, w).put(text);
@@ -136,9 +127,7 @@ pub(crate) fn put_head(text: &mut Vec<u8>, in_line: usize, step: Step, w: u32)
 /// Appends the line of a payload word of CMD, behind an open line of `in_line` words.
 pub(crate) fn put_command(text: &mut Vec<u8>, in_line: usize, w: u32)
     requires { vec_len text.old + 48 ≤ vec_capacity text.old }
-    ensures items { text.new.items ≡ text.old.items ++ (close in_line ++ command_line w) }
-    ensures len { vec_len text.new ≤ vec_len text.old + 48 }
-    ensures room { vec_capacity text.old ≤ vec_capacity text.new }
+    ensures appends { Appends text.old text.new (close in_line ++ command_line w) 48 }
 {
     put_close(text, in_line);
     let command = command_of(w);
@@ -153,9 +142,7 @@ pub(crate) fn put_command(text: &mut Vec<u8>, in_line: usize, w: u32)
 /// Appends the line of a sync word, behind an open line of `in_line` bytes.
 pub(crate) fn put_sync(text: &mut Vec<u8>, in_line: usize)
     requires { vec_len text.old + 48 ≤ vec_capacity text.old }
-    ensures items { text.new.items ≡ text.old.items ++ close in_line ++ codes "sync\n" }
-    ensures len { vec_len text.new ≤ vec_len text.old + 48 }
-    ensures room { vec_capacity text.old ≤ vec_capacity text.new }
+    ensures appends { Appends text.old text.new (close in_line ++ codes "sync\n") 48 }
 {
     put_close(text, in_line);
     put(text, b"sync\n");

@@ -6,6 +6,7 @@ ghost use Rattle.x7_packets.specs.Reading.{IsReading, Place, Session, tail_of};
 ghost use Rattle.x7_packets.specs.Cutting.{IsRun, run_bytes};
 ghost use Rattle.x7_packets.specs.declared.cutter.Mode.{Mode};
 ghost use Rattle.x7_packets.specs.declared.cutter.Mode.TheVariants as mode;
+ghost use Rattle.x7_text.specs.Appends.{Appends};
 ghost use Rattle.x7_text.specs.Digits.{hex_byte};
 ghost use Rattle.x7_text.specs.Row.{close, in_line_after, open_text};
 ghost use Rattle.x7_listing.specs.Listing.{reading_text};
@@ -154,9 +155,7 @@ fn put_payload(text: &mut Vec<u8>, in_line: usize, register: u8, w: u32) -> usiz
     requires room { vec_len text.old + 48 ≤ vec_capacity text.old }
     ensures within { result < 8 }
     ensures count { result ≡ words_place in_line (payload_steps register (w ∷ [])) }
-    ensures items { text.new.items ≡ text.old.items ++ words_told in_line (payload_steps register (w ∷ [])) }
-    ensures len { vec_len text.new ≤ vec_len text.old + 48 }
-    ensures room { vec_capacity text.old ≤ vec_capacity text.new }
+    ensures appends { Appends text.old text.new (words_told in_line (payload_steps register (w ∷ []))) 48 }
 {
     if register == 4 {
         put_command(text, in_line, w);
@@ -173,9 +172,7 @@ fn put_body(text: &mut Vec<u8>, in_line: usize, register: u8, body: &[u8]) -> us
     requires room { vec_len text.old + (64 + 3 * length body.now) ≤ vec_capacity text.old }
     ensures within { result < 8 }
     ensures count { result ≡ words_place in_line (payload_steps register (words_of_bytes body.now)) }
-    ensures items { text.new.items ≡ text.old.items ++ words_told in_line (payload_steps register (words_of_bytes body.now)) }
-    ensures len { vec_len text.new ≤ vec_len text.old + (64 + 3 * length body.now) }
-    ensures room { vec_capacity text.old ≤ vec_capacity text.new }
+    ensures appends { Appends text.old text.new (words_told in_line (payload_steps register (words_of_bytes body.now))) (64 + 3 * length body.now) }
 {
     if register == 4 {
         return put_payload(

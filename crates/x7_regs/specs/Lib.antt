@@ -1,4 +1,5 @@
 pub mod BootStatus
 pub mod Command
+pub mod Named
 pub mod Register
 pub mod Status

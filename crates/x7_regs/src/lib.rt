@@ -6,6 +6,7 @@ mod boot_status;
 mod command;
 mod law;
 mod name;
+mod named;
 mod register;
 mod status;
 
@@ -13,5 +14,6 @@ pub use boot_status::{Attempt, Cause, Kind, boot_word};
 pub use command::{Command, command_of};
 pub use law::{codes_are_distinct, names_are_distinct, numbers_are_distinct};
 pub use name::{CommandName, RegName, command_text, name_of};
+pub use named::{command_named, reg_named};
 pub use register::{Reg, reg_of};
 pub use status::{StatParts, stat_word};

@@ -1,5 +1,5 @@
 //! Configuration registers (UG470, configuration registers).
-ghost use Rattle.std.specs.Prelude.{◌≡◌, ◌≢◌, ◌<◌, IfSome, IfNone};
+ghost use Rattle.std.specs.Prelude.{◌≡◌, ◌≢◌, ◌<◌, Some, IfSome, IfNone};
 ghost use Rattle.x7_regs.specs.Register.{number_of, reg_with};
 ghost use Rattle.x7_regs.specs.declared.register.Reg.{Reg};
 
@@ -86,6 +86,7 @@ impl Reg {
     pub fn number(self) -> u8
         ensures value { result ≡ number_of self }
         ensures fits { result < 32 }
+        ensures back { reg_with result ≡ Some self }
     {
         match self {
             Reg::Crc     => 0,

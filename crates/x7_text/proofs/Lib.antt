@@ -1,3 +1,4 @@
+pub mod AppendsLemmas
 pub mod BlockLemmas
 pub mod LineLemmas
 pub mod RowLemmas

@@ -1,5 +1,6 @@
 //! Digits of words, bytes and counts.
 ghost use Rattle.std.specs.Prelude.{◌≡◌, ◌≤◌, ◌+◌, ◌%◌, ◌++◌, vec_len, vec_capacity, decimal};
+ghost use Rattle.x7_text.specs.Appends.{Appends};
 ghost use Rattle.x7_text.specs.Digits.{hex_digit, hex_byte, hex_word};
 
 use crate::room::put;
@@ -46,9 +47,7 @@ pub fn hex_of_byte(b: u8) -> [u8; 2]
 /// Appends the decimal digits of a number, without leading zeros. It takes no memory.
 pub fn put_decimal(text: &mut Vec<u8>, n: u64)
     requires { vec_len text.old + 20 ≤ vec_capacity text.old }
-    ensures items { text.new.items ≡ text.old.items ++ decimal n }
-    ensures length { vec_len text.new ≤ vec_len text.old + 20 }
-    ensures room { vec_capacity text.old ≤ vec_capacity text.new }
+    ensures appends { Appends text.old text.new (decimal n) 20 }
 {
     let mut buffer = Buffer::new();
     put(text, buffer.format(n).as_bytes());

@@ -10,5 +10,5 @@ mod row;
 pub use block::{data_line, hex_of_block};
 pub use digits::{hex_of_byte, hex_of_word, put_decimal};
 pub use law::{rows_are_the_elements, told_in_parts, told_one_by_one, whole_rows};
-pub use room::put;
+pub use room::{make_room, put};
 pub use row::{put_bytes, put_close, put_word, put_words};

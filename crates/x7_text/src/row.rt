@@ -1,6 +1,7 @@
 //! Lines of a row, written as the elements come: an open line takes more elements until it is full.
 ghost use Rattle.std.specs.Prelude.{◌≡◌, [], ◌∷◌, ◌<◌, ◌≤◌, ◌+◌, ◌*◌, ◌%◌, ◌++◌, length, vec_len, vec_capacity, codes};
 ghost use Rattle.std.specs.List.{flat_map};
+ghost use Rattle.x7_text.specs.Appends.{Appends};
 ghost use Rattle.x7_text.specs.Digits.{hex_byte};
 ghost use Rattle.x7_text.specs.Row.{line, line_start, line_end, next_in_line, open_text, in_line_after, spaced, close};
 ghost use Rattle.x7_words.specs.Word.{words_of_bytes};
@@ -13,9 +14,7 @@ use x7_words::word_of;
 /// Appends the word that a line begins with, where no line is open.
 fn put_line_start(text: &mut Vec<u8>, word: &[u8], in_line: usize)
     requires { vec_len text.old + length word.now ≤ vec_capacity text.old }
-    ensures items { text.new.items ≡ text.old.items ++ line_start word.now in_line }
-    ensures length { vec_len text.new ≤ vec_len text.old + length word.now }
-    ensures room { vec_capacity text.old ≤ vec_capacity text.new }
+    ensures appends { Appends text.old text.new (line_start word.now in_line) (length word.now) }
 {
     if in_line == 0 {
         put(text, word);
@@ -28,9 +27,7 @@ fn put_line_end(text: &mut Vec<u8>, full: usize, in_line: usize) -> usize
     requires room { vec_len text.old + 1 ≤ vec_capacity text.old }
     ensures next { result ≡ next_in_line full in_line }
     ensures open { result < full }
-    ensures items { text.new.items ≡ text.old.items ++ line_end full in_line }
-    ensures length { vec_len text.new ≤ vec_len text.old + 1 }
-    ensures room { vec_capacity text.old ≤ vec_capacity text.new }
+    ensures appends { Appends text.old text.new (line_end full in_line) 1 }
 {
     if in_line + 1 == full {
         put(text, b"\n");
@@ -45,9 +42,7 @@ pub fn put_word(text: &mut Vec<u8>, in_line: usize, w: u32) -> usize
     requires room { vec_len text.old + 14 ≤ vec_capacity text.old }
     ensures count { result ≡ in_line_after 8 in_line (w ∷ []) }
     ensures open { result < 8 }
-    ensures items { text.new.items ≡ text.old.items ++ open_text 8 (codes "data") spaced in_line (w ∷ []) }
-    ensures length { vec_len text.new ≤ vec_len text.old + 14 }
-    ensures room { vec_capacity text.old ≤ vec_capacity text.new }
+    ensures appends { Appends text.old text.new (open_text 8 (codes "data") spaced in_line (w ∷ [])) 14 }
 {
     put_line_start(text, b"data", in_line);
     put(text, b" ");
@@ -61,9 +56,7 @@ fn put_byte(text: &mut Vec<u8>, in_line: usize, byte: u8) -> usize
     requires room { vec_len text.old + 9 ≤ vec_capacity text.old }
     ensures count { result ≡ in_line_after 32 in_line (byte ∷ []) }
     ensures open { result < 32 }
-    ensures items { text.new.items ≡ text.old.items ++ open_text 32 (codes "bytes ") hex_byte in_line (byte ∷ []) }
-    ensures length { vec_len text.new ≤ vec_len text.old + 9 }
-    ensures room { vec_capacity text.old ≤ vec_capacity text.new }
+    ensures appends { Appends text.old text.new (open_text 32 (codes "bytes ") hex_byte in_line (byte ∷ [])) 9 }
 {
     put_line_start(text, b"bytes ", in_line);
     put(text, &hex_of_byte(byte));
@@ -73,9 +66,7 @@ fn put_byte(text: &mut Vec<u8>, in_line: usize, byte: u8) -> usize
 /// Appends the end of an open line, and nothing where none is open.
 pub fn put_close(text: &mut Vec<u8>, in_line: usize)
     requires { vec_len text.old + 1 ≤ vec_capacity text.old }
-    ensures items { text.new.items ≡ text.old.items ++ close in_line }
-    ensures length { vec_len text.new ≤ vec_len text.old + 1 }
-    ensures room { vec_capacity text.old ≤ vec_capacity text.new }
+    ensures appends { Appends text.old text.new (close in_line) 1 }
 {
     if in_line > 0 {
         put(text, b"\n");
@@ -85,10 +76,7 @@ pub fn put_close(text: &mut Vec<u8>, in_line: usize)
 /// Appends whole `data` lines of eight words each.
 fn put_data_lines(text: &mut Vec<u8>, lines: &[[u8; 32]])
     requires { vec_len text.old + 77 * length lines.now ≤ vec_capacity text.old }
-    ensures items { text.new.items ≡ text.old.items
-        ++ flat_map (λ bytes. line (codes "data") spaced (words_of_bytes bytes)) lines.now }
-    ensures length { vec_len text.new ≡ vec_len text.old + 77 * length lines.now }
-    ensures room { vec_capacity text.old ≤ vec_capacity text.new }
+    ensures appends { Appends text.old text.new (flat_map (λ bytes. line (codes "data") spaced (words_of_bytes bytes)) lines.now) (77 * length lines.now) }
 {
     for bytes in lines {
         put(text, &data_line(bytes));
@@ -99,9 +87,7 @@ fn put_data_lines(text: &mut Vec<u8>, lines: &[[u8; 32]])
 #[inline(always)]
 fn put_bytes_line(text: &mut Vec<u8>, bytes: &[u8; 32])
     requires { vec_len text.old + 71 ≤ vec_capacity text.old }
-    ensures items { text.new.items ≡ text.old.items ++ line (codes "bytes ") hex_byte bytes.now }
-    ensures length { vec_len text.new ≡ vec_len text.old + 71 }
-    ensures room { vec_capacity text.old ≤ vec_capacity text.new }
+    ensures appends { Appends text.old text.new (line (codes "bytes ") hex_byte bytes.now) 71 }
 {
     put(text, b"bytes ");
     put(text, &hex_of_block(bytes));
@@ -111,9 +97,7 @@ fn put_bytes_line(text: &mut Vec<u8>, bytes: &[u8; 32])
 /// Appends whole `bytes` lines.
 fn put_bytes_lines(text: &mut Vec<u8>, lines: &[[u8; 32]])
     requires { vec_len text.old + 71 * length lines.now ≤ vec_capacity text.old }
-    ensures items { text.new.items ≡ text.old.items ++ flat_map (line (codes "bytes ") hex_byte) lines.now }
-    ensures length { vec_len text.new ≡ vec_len text.old + 71 * length lines.now }
-    ensures room { vec_capacity text.old ≤ vec_capacity text.new }
+    ensures appends { Appends text.old text.new (flat_map (line (codes "bytes ") hex_byte) lines.now) (71 * length lines.now) }
 {
     for bytes in lines {
         put_bytes_line(text, bytes);
@@ -127,10 +111,7 @@ fn put_each_word(text: &mut Vec<u8>, in_line: usize, bytes: &[u8]) -> usize
     requires room { vec_len text.old + (3 * length bytes.now + 4) ≤ vec_capacity text.old }
     ensures count { result ≡ in_line_after 8 in_line (words_of_bytes bytes.now) }
     ensures open { result < 8 }
-    ensures items { text.new.items ≡ text.old.items
-        ++ open_text 8 (codes "data") spaced in_line (words_of_bytes bytes.now) }
-    ensures length { vec_len text.new ≤ vec_len text.old + (3 * length bytes.now + 1) }
-    ensures room { vec_capacity text.old ≤ vec_capacity text.new }
+    ensures appends { Appends text.old text.new (open_text 8 (codes "data") spaced in_line (words_of_bytes bytes.now)) (3 * length bytes.now + 1) }
 {
     let (words, _) = bytes.as_chunks::<4>();
     let mut count = in_line;
@@ -146,10 +127,7 @@ fn put_each_byte(text: &mut Vec<u8>, in_line: usize, bytes: &[u8]) -> usize
     requires room { vec_len text.old + (3 * length bytes.now + 11) ≤ vec_capacity text.old }
     ensures count { result ≡ in_line_after 32 in_line bytes.now }
     ensures open { result < 32 }
-    ensures items { text.new.items ≡ text.old.items
-        ++ open_text 32 (codes "bytes ") hex_byte in_line bytes.now }
-    ensures length { vec_len text.new ≤ vec_len text.old + (3 * length bytes.now + 5) }
-    ensures room { vec_capacity text.old ≤ vec_capacity text.new }
+    ensures appends { Appends text.old text.new (open_text 32 (codes "bytes ") hex_byte in_line bytes.now) (3 * length bytes.now + 5) }
 {
     let mut count = in_line;
     for byte in bytes {
@@ -166,10 +144,7 @@ pub fn put_words(text: &mut Vec<u8>, in_line: usize, bytes: &[u8]) -> usize
     requires room { vec_len text.old + (3 * length bytes.now + 16) ≤ vec_capacity text.old }
     ensures count { result ≡ in_line_after 8 in_line (words_of_bytes bytes.now) }
     ensures open { result < 8 }
-    ensures items { text.new.items ≡ text.old.items
-        ++ open_text 8 (codes "data") spaced in_line (words_of_bytes bytes.now) }
-    ensures length { vec_len text.new ≤ vec_len text.old + (3 * length bytes.now + 16) }
-    ensures room { vec_capacity text.old ≤ vec_capacity text.new }
+    ensures appends { Appends text.old text.new (open_text 8 (codes "data") spaced in_line (words_of_bytes bytes.now)) (3 * length bytes.now + 16) }
 {
     let open = 4 * (8 - in_line);
     if bytes.len() < open {
@@ -189,10 +164,7 @@ pub fn put_bytes(text: &mut Vec<u8>, in_line: usize, bytes: &[u8]) -> usize
     requires room { vec_len text.old + (3 * length bytes.now + 16) ≤ vec_capacity text.old }
     ensures count { result ≡ in_line_after 32 in_line bytes.now }
     ensures open { result < 32 }
-    ensures items { text.new.items ≡ text.old.items
-        ++ open_text 32 (codes "bytes ") hex_byte in_line bytes.now }
-    ensures length { vec_len text.new ≤ vec_len text.old + (3 * length bytes.now + 16) }
-    ensures room { vec_capacity text.old ≤ vec_capacity text.new }
+    ensures appends { Appends text.old text.new (open_text 32 (codes "bytes ") hex_byte in_line bytes.now) (3 * length bytes.now + 16) }
 {
     let open = 32 - in_line;
     if bytes.len() < open {

@@ -1,5 +1,5 @@
 -- Lemmas on lists that several crates cite: common fronts and ends, and a list with one element more at its end.
-use Rattle.std.proofs.Common.{◌≡◌, ℕ, zero, suc, ◌+◌, ◌*◌, ◌<◌, ◌≤◌, List, [], ◌∷◌, ◌++◌, ◌⊎◌, inl, inr, length, map, refl, ap, sym, ◌∙◌, append_assoc, append-nil, arith, length-append, get_or, take, drop, take-append-drop}
+use Rattle.std.proofs.Common.{◌≡◌, ℕ, suc, ◌<◌, ◌≤◌, List, [], ◌∷◌, ◌++◌, ◌⊎◌, inl, inr, length, map, refl, ap, sym, ◌∙◌, append_assoc, append-nil, arith, length-append, get_or, take, drop, take-append-drop}
 use Rattle.std.specs.List.{flat_map, AllByRecursion}
 
 pub flat_map-last : {X Y : Type 0} → (f : X → List Y) (xs : List X) (x : X) → flat_map f (xs ++ x ∷ []) ≡ flat_map f xs ++ f x

@@ -1,5 +1,6 @@
 -- What is told of the real inputs and sinks (this project's choice).
-use Rattle.std.specs.Prelude.{ℕ, Bool, true, false, Result, Ok, Err}
+use Rattle.std.specs.Prelude.{◌≡◌, ◌<◌, ℕ, Bool, true, false, List, length, take, Option, None, Some, Result, Ok, Err}
+use Rattle.std.specs.Io.KnownBytes.{Consumes, IsAtEnd}
 use Rattle.x7_words.specs.Count.{raised}
 use Rattle.x7_words.specs.declared.input.SelectFault.{SelectFault}
 use Rattle.x7_words.specs.declared.input.SelectFault.TheVariants.{Missing, Failed}
@@ -8,18 +9,31 @@ use Rattle.x7_words.specs.declared.input.SelectFault.TheVariants.{Missing, Faile
 pub record RealInputs : Type 0 where
   -- whether a file is open
   pub selected : Bool
+  -- the bytes that reads of the open file will give, where its reader knows them
+  pub rest : Option (List ℕ)
   -- the faults counted; the last u64 stays
   pub faults : ℕ
   -- the absences counted; the last u64 stays
   pub absences : ℕ
 
+-- what is left of an open file, as its reader knows it
+abbrev pub rest_of : {F : Type 0} → (F → Option (List ℕ)) → Option F → Option (List ℕ)
+rest_of remaining None = None
+rest_of remaining (Some file) = remaining file
+
 -- the files after an open with this answer: each fault and each absence is counted once
-abbrev pub after_open : RealInputs → Result (Unit {0}) SelectFault → RealInputs
-after_open f (Ok _) = record f { selected = true }
-after_open f (Err Missing) = record f { selected = false; absences = raised f.absences }
-after_open f (Err Failed) = record f { selected = false; faults = raised f.faults }
+abbrev pub after_open : RealInputs → Option (List ℕ) → Result (Unit {0}) SelectFault → RealInputs
+after_open f rest (Ok _) = record f { selected = true; rest = rest }
+after_open f rest (Err Missing) = record f { selected = false; rest = None; absences = raised f.absences }
+after_open f rest (Err Failed) = record f { selected = false; rest = None; faults = raised f.faults }
+
+-- a read gave the first n bytes of the buffer and took them from the file, and gave none only at the end or with no room
+abbrev pub Gives : Option (List ℕ) → Option (List ℕ) → List ℕ → ℕ → Type 0
+Gives old new buf n = Consumes old new (take n buf) × (n ≡ 0 → 0 < length buf → IsAtEnd new)
 
 -- a writer as a sink
 pub record RealSink : Type 0 where
+  -- what the writer holds, where it knows that
+  pub contents : Option (List ℕ)
   -- the faults counted; the last u64 stays
   pub faults : ℕ

@@ -12,12 +12,10 @@ pub record CallPlan : Type 0 where
   pub last : ℕ
   -- the numbers of the calls that are to fail
   pub failing : List ℕ
-  -- the faults counted; the last u64 stays
-  pub faults : ℕ
 
 -- no call yet, and none that is to fail
 abbrev pub no_calls : CallPlan
-no_calls = record { last = 0; failing = []; faults = 0 }
+no_calls = record { last = 0; failing = [] }
 
 -- one more call is to fail
 abbrev pub planned : CallPlan → ℕ → CallPlan
@@ -27,17 +25,13 @@ planned calls call = record calls { failing = calls.failing ++ call ∷ [] }
 abbrev pub next_fails : CallPlan → Bool
 next_fails calls = list_any (λ call. call == raised calls.last) calls.failing
 
--- the calls after a fault that was not planned
-abbrev pub after_fault : CallPlan → CallPlan
-after_fault calls = record calls { faults = raised calls.faults }
-
 -- the calls after the next one
-abbrev pub after_call : CallPlan → CallPlan
-after_call calls =
-    record calls {
-      last = raised calls.last;
-      faults = if next_fails calls then raised calls.faults else calls.faults;
-    }
+abbrev pub numbered : CallPlan → CallPlan
+numbered calls = record calls { last = raised calls.last }
+
+-- a count after a call that it counts where this holds
+abbrev pub raised_if : Bool → ℕ → ℕ
+raised_if counts count = if counts then raised count else count
 
 -- inputs in memory
 pub record InputsInMemory : Type 0 where
@@ -48,6 +42,8 @@ pub record InputsInMemory : Type 0 where
   -- the most bytes that a read gives
   pub most : ℕ
   pub calls : CallPlan
+  -- the faults counted; the last u64 stays
+  pub faults : ℕ
 
 -- the bytes that were put under the name last
 abbrev pub bytes_under : List (List ℕ × List ℕ) → List ℕ → Option (List ℕ)
@@ -69,7 +65,8 @@ select_answer m name =
 abbrev pub after_select : InputsInMemory → List ℕ → InputsInMemory
 after_select m name =
     record m {
-      calls = after_call m.calls;
+      calls = numbered m.calls;
+      faults = raised_if (next_fails m.calls) m.faults;
       rest = if next_fails m.calls then None else bytes_under m.entries name;
     }
 
@@ -81,7 +78,8 @@ read_count m len = min (min len m.most) (length (unwrap_or m.rest []))
 abbrev pub after_read : InputsInMemory → ℕ → InputsInMemory
 after_read m len =
     record m {
-      calls = after_call m.calls;
+      calls = numbered m.calls;
+      faults = raised_if (next_fails m.calls) m.faults;
       rest = if next_fails m.calls then None else option_map (drop (read_count m len)) m.rest;
     }
 
@@ -94,6 +92,8 @@ pub record SinkInMemory : Type 0 where
   -- the most bytes that a write takes
   pub most : ℕ
   pub calls : CallPlan
+  -- the faults counted; the last u64 stays
+  pub faults : ℕ
 
 -- a write of the piece fails, as planned or since the room is full
 abbrev pub write_fails : SinkInMemory → List ℕ → Bool
@@ -103,17 +103,12 @@ write_fails s piece = next_fails s.calls || (nat_le s.room (length s.bytes) && n
 abbrev pub write_count : SinkInMemory → List ℕ → ℕ
 write_count s piece = min (min (length piece) s.most) (s.room - length s.bytes)
 
--- the calls after a write of the piece
-abbrev pub calls_after_write : SinkInMemory → List ℕ → CallPlan
-calls_after_write s piece =
-    if write_fails s piece && not (next_fails s.calls) then after_fault (after_call s.calls)
-    else after_call s.calls
-
 -- the sink after a write of the piece
 abbrev pub after_write : SinkInMemory → List ℕ → SinkInMemory
 after_write s piece =
     record s {
-      calls = calls_after_write s piece;
+      calls = numbered s.calls;
+      faults = raised_if (write_fails s piece) s.faults;
       bytes = if write_fails s piece then s.bytes else s.bytes ++ take (write_count s piece) piece;
     }
 
@@ -126,6 +121,8 @@ pub record FlashInMemory : Type 0 where
   -- the absences counted; the last u64 stays
   pub absences : ℕ
   pub calls : CallPlan
+  -- the faults of reads counted, an attach too; the last u64 stays
+  pub read_faults : ℕ
 
 -- what an attach under the name answers
 abbrev pub attach_answer : FlashInMemory → List ℕ → Result (Unit {0}) SelectFault
@@ -143,7 +140,12 @@ absences_after f name =
 abbrev pub after_attach : FlashInMemory → List ℕ → FlashInMemory
 after_attach f name =
     record f {
-      calls = after_call f.calls;
+      calls = numbered f.calls;
+      read_faults = raised_if (next_fails f.calls) f.read_faults;
       attached = not (next_fails f.calls) && bytes_eq f.name name;
       absences = absences_after f name;
     }
+
+-- the flash after a read
+abbrev pub after_read_at : FlashInMemory → FlashInMemory
+after_read_at f = record f { calls = numbered f.calls; read_faults = raised_if (next_fails f.calls) f.read_faults }

@@ -1,14 +1,38 @@
 //! The real outside: files as inputs, and a writer such as standard output as a sink.
-ghost use Rattle.std.specs.Prelude.{◌≡◌, ◌<◌, ◌≤◌, ◌^◌, length, None, true, false, IfOk, OnOk, OnErr};
+ghost use Rattle.std.specs.Prelude.{◌≡◌, ◌<◌, ◌≤◌, ◌^◌, ◌↔◌, length, take, None, true, false, IfOk, OnOk, OnErr};
+ghost use Rattle.std.specs.Io.KnownBytes.{Appends, Keeps, ReadConsumes, WriteAppends};
 ghost use Rattle.x7_words.specs.Count.{raised};
-ghost use Rattle.x7_words.specs.Files.{after_open};
+ghost use Rattle.x7_words.specs.Files.{after_open, Gives};
 
+use crate::count::next_count;
 use crate::input::{Failed, Inputs, SelectFault};
 use crate::sink::Sink;
 use std::fs;
 use std::io::{ErrorKind, Read, Write};
 use std::marker::Model;
 use std::rt::Files;
+
+/// Why a file was not opened, by the error's kind. Only a file that isn't there is missing.
+pub(crate) fn refused(kind: ErrorKind) -> SelectFault
+    ensures { (result ≡ SelectFault.Missing) ↔ (kind ≡ ErrorKind.NotFound) }
+{
+    if kind == ErrorKind::NotFound {
+        return SelectFault::Missing;
+    }
+    SelectFault::Failed
+}
+
+/// One read, of which every error is a fault.
+fn read_once<F: Read>(file: &mut F, buf: &mut [u8]) -> Result<usize, Failed>
+    ensures within { IfOk result (λ n. n ≤ length buf.old) }
+    ensures length { length buf.new ≡ length buf.old }
+    ensures bytes { ReadConsumes (F.remaining file.old) (F.remaining file.new) result buf.new }
+{
+    match file.read(buf) {
+        Ok(taken) => Ok(taken),
+        Err(_) => Err(Failed),
+    }
+}
 
 /// Files by their paths, which tell nothing of what they hold. Each read is one read of the file.
 ///
@@ -23,12 +47,13 @@ pub struct FileInputs<'r, R: Files> {
 
 impl<'r, R: Files> Model for FileInputs<'r, R> {
     ghost use Rattle.std.specs.Prelude.{◌<◌, ◌^◌, is_some};
-    ghost use Rattle.x7_words.specs.Files.{RealInputs};
+    ghost use Rattle.x7_words.specs.Files.{RealInputs, rest_of};
 
     ghost Value = { RealInputs };
 
     ghost view = { λ f. record {
       selected = is_some f.file;
+      rest = rest_of R.File.remaining f.file;
       faults = f.faults;
       absences = f.absences;
     } };
@@ -39,7 +64,7 @@ impl<'r, R: Files> Model for FileInputs<'r, R> {
 impl<'r, R: Files> FileInputs<'r, R> {
     /// The files of the runtime. None is selected.
     pub fn new(rt: &'r R) -> FileInputs<'r, R>
-        ensures { result ≡ record { selected = false; faults = 0; absences = 0 } }
+        ensures { result ≡ record { selected = false; rest = None; faults = 0; absences = 0 } }
     {
         FileInputs {
             rt,
@@ -62,7 +87,7 @@ impl<'r, R: Files> Inputs for FileInputs<'r, R> {
     ghost absences = { λ f. f.absences };
 
     fn select(&mut self, name: &str) -> Result<(), SelectFault>
-        ensures after { self.new ≡ after_open self.old result }
+        ensures after { self.new ≡ after_open self.old self.new.rest result }
         ensures faults { self.old.faults ≤ self.new.faults }
         ensures absences { self.old.absences ≤ self.new.absences }
         ensures last_fault { self.new.faults < 2 ^ 64 }
@@ -75,12 +100,12 @@ impl<'r, R: Files> Inputs for FileInputs<'r, R> {
                 Ok(())
             }
             Err(error) => {
-                if error.kind() == ErrorKind::NotFound {
-                    self.absences = self.absences.saturating_add(1);
-                    return Err(SelectFault::Missing);
+                let fault = refused(error.kind());
+                match fault {
+                    SelectFault::Missing => self.absences = next_count(self.absences),
+                    SelectFault::Failed => self.faults = next_count(self.faults),
                 }
-                self.faults = self.faults.saturating_add(1);
-                Err(SelectFault::Failed)
+                Err(fault)
             }
         }
     }
@@ -89,9 +114,10 @@ impl<'r, R: Files> Inputs for FileInputs<'r, R> {
         requires { self.old.selected ≡ true }
         ensures within { IfOk result (λ n. n ≤ length buf.old) }
         ensures length { length buf.new ≡ length buf.old }
-        ensures ok { OnOk result (self.new ≡ self.old) }
+        ensures bytes { IfOk result (Gives self.old.rest self.new.rest buf.new) }
+        ensures ok { OnOk result (self.new ≡ record self.old { rest = self.new.rest }) }
         ensures err { OnErr result (self.new ≡
-            record self.old { selected = false; faults = raised self.old.faults }) }
+            record self.old { selected = false; rest = None; faults = raised self.old.faults }) }
         ensures faults { self.old.faults ≤ self.new.faults }
         ensures last_fault { self.new.faults < 2 ^ 64 }
         ensures last_absence { self.new.absences < 2 ^ 64 }
@@ -99,11 +125,11 @@ impl<'r, R: Files> Inputs for FileInputs<'r, R> {
         let Some(file) = &mut self.file else {
             unreachable!()
         };
-        match file.read(buf) {
+        match read_once(file, buf) {
             Ok(count) => Ok(count),
-            Err(_) => {
+            Err(Failed) => {
                 self.file = None;
-                self.faults = self.faults.saturating_add(1);
+                self.faults = next_count(self.faults);
                 Err(Failed)
             }
         }
@@ -124,7 +150,7 @@ impl<W: Write + Drop> Model for StdSink<W> {
 
     ghost Value = { RealSink };
 
-    ghost view = { λ s. record { faults = s.faults } };
+    ghost view = { λ s. record { contents = W.contents s.writer; faults = s.faults } };
 
     ghost invariant = { λ s. s.faults < 2 ^ 64 };
 }
@@ -132,7 +158,7 @@ impl<W: Write + Drop> Model for StdSink<W> {
 impl<W: Write + Drop> StdSink<W> {
     /// A sink over the writer.
     pub fn new(writer: W) -> StdSink<W>
-        ensures { result ≡ record { faults = 0 } }
+        ensures { result ≡ record { contents = W.contents writer; faults = 0 } }
     {
         StdSink { writer, faults: 0 }
     }
@@ -146,15 +172,16 @@ impl<W: Write + Drop> Sink for StdSink<W> {
     fn write(&mut self, piece: &[u8]) -> Result<usize, Failed>
         ensures within { IfOk result (λ n. n ≤ length piece.now) }
         ensures some { IfOk result (λ n. 0 < length piece.now → 0 < n) }
-        ensures ok { OnOk result (self.new ≡ self.old) }
-        ensures err { OnErr result (self.new ≡ record self.old { faults = raised self.old.faults }) }
+        ensures through { WriteAppends self.old.contents self.new.contents result piece.now }
+        ensures ok { OnOk result (self.new.faults ≡ self.old.faults) }
+        ensures err { OnErr result (self.new.faults ≡ raised self.old.faults) }
         ensures faults { self.old.faults ≤ self.new.faults }
         ensures last_fault { self.new.faults < 2 ^ 64 }
     {
         match self.writer.write(piece) {
             Ok(count) if count > 0 || piece.is_empty() => Ok(count),
             _ => {
-                self.faults = self.faults.saturating_add(1);
+                self.faults = next_count(self.faults);
                 Err(Failed)
             }
         }

@@ -46,7 +46,8 @@ pub trait Flash {
         ensures extent { result ≡ extent self.now }
         ensures told { WhereTold (bytes self.now) (λ all. result ≡ length all) };
 
-    /// Fills the buffer with the bytes from the place on. After an error it may hold anything.
+    /// Fills the buffer with the bytes from the place on. After an error it may hold anything, as
+    /// after a failed read of a file.
     fn read_at(&mut self, place: u64, buf: &mut [u8]) -> Result<(), Failed>
         requires attached { attached self.old ≡ true }
         requires within { place + length buf.old ≤ extent self.old }

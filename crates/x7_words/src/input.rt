@@ -3,9 +3,23 @@ ghost use Rattle.std.specs.Prelude.{◌≡◌, ℕ, List, ◌<◌, ◌≤◌, �
 ghost use Rattle.x7_words.specs.Count.{HasRisen};
 ghost use Rattle.x7_words.specs.Input.{Selects, Lacks, AtEnd, preceded};
 
+use std::alloc::{AllocError, AllocFailed};
+
 /// There was no memory for what was asked. The call that answers it says what it leaves.
 #[derive(Clone, Copy, Debug, Drop, PartialEq, Eq)]
 pub struct NoMemory;
+
+impl From<AllocError> for NoMemory {
+    fn from(_: AllocError) -> NoMemory {
+        NoMemory
+    }
+}
+
+impl<T: Drop> From<AllocFailed<T>> for NoMemory {
+    fn from(_: AllocFailed<T>) -> NoMemory {
+        NoMemory
+    }
+}
 
 /// The outside failed: a read or a write did not happen.
 #[derive(Clone, Copy, Debug, Drop, PartialEq, Eq)]
@@ -57,7 +71,8 @@ pub trait Inputs {
         ensures last_absence { absences self.new < 2 ^ 64 };
 
     /// Puts the next bytes of the selected input at the front of the buffer, and answers how many.
-    /// 0 for a buffer that is not empty is the end. After an error no input is selected.
+    /// 0 for a buffer that is not empty is the end. After an error no input is selected, and the
+    /// buffer may hold anything: a system's failed read promises nothing of it.
     fn read(&mut self, buf: &mut [u8]) -> Result<usize, Failed>
         requires { selected self.old ≡ true }
         ensures ok { OnOk result (selected self.new ≡ true) }

@@ -1,6 +1,8 @@
 //! Words of 32 bits, and the outside: inputs by name, sinks for text and a flash.
 #![tactic(auto)]
 
+mod bytes;
+mod count;
 mod files;
 mod flash;
 mod input;
@@ -10,9 +12,10 @@ mod sink;
 mod tests;
 mod word;
 
+pub use bytes::is_same;
 pub use files::{FileInputs, StdSink};
 pub use flash::Flash;
 pub use input::{Failed, Inputs, NoMemory, SelectFault};
 pub use memory::{MemoryFlash, MemoryInputs, MemorySink};
 pub use sink::{Sink, write_all, write_pieces};
-pub use word::{bytes_of, word_of};
+pub use word::{bytes_of, word_of, words_are_big_endian};

@@ -1,13 +1,16 @@
 //! Big-endian words (UG470, configuration data file formats).
-ghost use Rattle.std.specs.Prelude.{◌≡◌};
+ghost use Rattle.byteorder.specs.Endian.{big_bytes, big_number};
+ghost use Rattle.std.specs.Prelude.{◌≡◌, ◌≤◌, ℕ, List, length};
 ghost use Rattle.x7_words.specs.Word.{bytes_of_word, word_of_bytes};
+
+use byteorder::{BigEndian, ByteOrder};
 
 /// The word of four bytes, the first the highest.
 pub fn word_of(b: [u8; 4]) -> u32
     ensures value { result ≡ word_of_bytes b }
     ensures back { bytes_of_word result ≡ b }
 {
-    u32::from_be_bytes(b)
+    BigEndian::read_u32(&b)
 }
 
 /// The four bytes of a word, the highest first.
@@ -15,5 +18,13 @@ pub fn bytes_of(w: u32) -> [u8; 4]
     ensures value { result ≡ bytes_of_word w }
     ensures back { word_of_bytes result ≡ w }
 {
-    w.to_be_bytes()
+    let mut bytes = [0; 4];
+    BigEndian::write_u32(&mut bytes, w);
+    bytes
 }
+
+/// The words and their bytes are those of big-endian numbers, whatever stands behind them.
+pub fn words_are_big_endian()
+    ensures word { (bytes : List ℕ) → 4 ≤ length bytes → word_of_bytes bytes ≡ big_number 4 bytes }
+    ensures bytes { (word : ℕ) → bytes_of_word word ≡ big_bytes 4 word }
+{}

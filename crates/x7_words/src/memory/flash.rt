@@ -1,7 +1,8 @@
 //! A flash in memory.
 ghost use Rattle.std.specs.Prelude.{◌≡◌, [], ◌+◌, ◌<◌, ◌≤◌, ◌^◌, length, slice_range, Some, true, false, OnOk, OnErr, IfOk, is_err};
-ghost use Rattle.x7_words.specs.Memory.{no_calls, planned, next_fails, after_call, attach_answer, after_attach};
+ghost use Rattle.x7_words.specs.Memory.{no_calls, planned, next_fails, attach_answer, after_attach, after_read_at};
 
+use crate::count::next_count;
 use crate::flash::Flash;
 use crate::input::{Failed, NoMemory, SelectFault};
 use crate::memory::calls::Calls;
@@ -18,6 +19,7 @@ pub struct MemoryFlash {
     attached: bool,
     absences: u64,
     calls: Calls,
+    read_faults: u64,
 }
 
 impl Model for MemoryFlash {
@@ -32,29 +34,25 @@ impl Model for MemoryFlash {
       attached = f.attached;
       absences = f.absences;
       calls = f.calls;
+      read_faults = f.read_faults;
     } };
 
-    ghost invariant = { λ f. f.absences < 2 ^ 64 };
+    ghost invariant = { λ f. (f.absences < 2 ^ 64) × (f.read_faults < 2 ^ 64) };
 }
 
 impl MemoryFlash {
     /// A flash of these bytes under the name, not attached.
     pub fn new(alloc: Global, name: &str, bytes: &[u8]) -> Result<MemoryFlash, NoMemory>
         ensures { IfOk result (λ f. f ≡
-            record { name = name.now; bytes = bytes.now; attached = false; absences = 0; calls = no_calls }) }
+            record { name = name.now; bytes = bytes.now; attached = false; absences = 0; calls = no_calls; read_faults = 0 }) }
     {
-        let Ok(name) = String::from_str(alloc, name) else {
-            return Err(NoMemory);
-        };
-        let Ok(bytes) = Vec::from_slice(alloc, bytes) else {
-            return Err(NoMemory);
-        };
         Ok(MemoryFlash {
-            name,
-            bytes,
+            name: String::from_str(alloc, name)?,
+            bytes: Vec::from_slice(alloc, bytes)?,
             attached: false,
             absences: 0,
             calls: Calls::new(alloc),
+            read_faults: 0,
         })
     }
 
@@ -81,24 +79,25 @@ impl Flash for MemoryFlash {
 
     ghost attached = { λ f. f.attached };
 
-    ghost faults = { λ f. f.calls.faults };
+    ghost faults = { λ f. f.read_faults };
 
     ghost absences = { λ f. f.absences };
 
     fn attach(&mut self, name: &str) -> Result<(), SelectFault>
         ensures answer { result ≡ attach_answer self.old name.now }
         ensures after { self.new ≡ after_attach self.old name.now }
-        ensures faults { self.old.calls.faults ≤ self.new.calls.faults }
+        ensures faults { self.old.read_faults ≤ self.new.read_faults }
         ensures absences { self.old.absences ≤ self.new.absences }
-        ensures last_fault { self.new.calls.faults < 2 ^ 64 }
+        ensures last_fault { self.new.read_faults < 2 ^ 64 }
         ensures last_absence { self.new.absences < 2 ^ 64 }
     {
         self.attached = false;
         let Ok(()) = self.calls.next() else {
+            self.read_faults = next_count(self.read_faults);
             return Err(SelectFault::Failed);
         };
         if self.name.as_str() != name {
-            self.absences = self.absences.saturating_add(1);
+            self.absences = next_count(self.absences);
             return Err(SelectFault::Missing);
         }
         self.attached = true;
@@ -117,11 +116,14 @@ impl Flash for MemoryFlash {
             slice_range self.old.bytes place (place + length buf.old)) }
         ensures err { OnErr result (buf.new ≡ buf.old) }
         ensures length { length buf.new ≡ length buf.old }
-        ensures after { self.new ≡ record self.old { calls = after_call self.old.calls } }
-        ensures faults { self.old.calls.faults ≤ self.new.calls.faults }
-        ensures last_fault { self.new.calls.faults < 2 ^ 64 }
+        ensures after { self.new ≡ after_read_at self.old }
+        ensures faults { self.old.read_faults ≤ self.new.read_faults }
+        ensures last_fault { self.new.read_faults < 2 ^ 64 }
     {
-        self.calls.next()?;
+        let Ok(()) = self.calls.next() else {
+            self.read_faults = next_count(self.read_faults);
+            return Err(Failed);
+        };
         let place = place as usize;
         buf.copy_from_slice(&self.bytes[place..place + buf.len()]);
         Ok(())

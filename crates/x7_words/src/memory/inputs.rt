@@ -3,6 +3,7 @@ ghost use Rattle.std.specs.Prelude.{◌≡◌, [], ◌<◌, ◌≤◌, ◌^◌, 
 ghost use Rattle.x7_words.specs.Input.{preceded, AtEnd};
 ghost use Rattle.x7_words.specs.Memory.{next_fails, planned, bytes_under, no_calls, after_put, select_answer, after_select, read_count, after_read};
 
+use crate::count::next_count;
 use crate::input::{Failed, Inputs, NoMemory, SelectFault};
 use crate::memory::calls::Calls;
 use crate::memory::put::{Put, left_at, place_of};
@@ -21,11 +22,12 @@ pub struct MemoryInputs {
     place: usize,
     most: usize,
     calls: Calls,
+    faults: u64,
     alloc: Global,
 }
 
 impl Model for MemoryInputs {
-    ghost use Rattle.std.specs.Prelude.{◌<◌, map, vec_len};
+    ghost use Rattle.std.specs.Prelude.{◌<◌, ◌^◌, map, vec_len};
     ghost use Rattle.std.specs.Option.{ForSome};
     ghost use Rattle.x7_words.specs.Memory.{InputsInMemory};
 
@@ -38,15 +40,18 @@ impl Model for MemoryInputs {
       rest = left_of m.puts.items m.place m.selected;
       most = m.most;
       calls = m.calls;
+      faults = m.faults;
     } };
 
-    ghost invariant = { λ m. (0 < m.most) × ForSome m.selected (λ which. which < vec_len m.puts) };
+    ghost invariant = { λ m. (0 < m.most)
+        × ForSome m.selected (λ which. which < vec_len m.puts)
+        × (m.faults < 2 ^ 64) };
 }
 
 impl MemoryInputs {
     /// No inputs. A read gives as many bytes as the buffer takes.
     pub fn new(alloc: Global) -> MemoryInputs
-        ensures { result ≡ record { entries = []; rest = None; most = usize.MAX; calls = no_calls } }
+        ensures { result ≡ record { entries = []; rest = None; most = usize.MAX; calls = no_calls; faults = 0 } }
     {
         MemoryInputs {
             puts: Vec::new(alloc),
@@ -54,6 +59,7 @@ impl MemoryInputs {
             place: 0,
             most: usize::MAX,
             calls: Calls::new(alloc),
+            faults: 0,
             alloc,
         }
     }
@@ -64,15 +70,9 @@ impl MemoryInputs {
         ensures ok { OnOk result (self.new ≡ after_put self.old name.now bytes.now) }
         ensures err { OnErr result (self.new ≡ self.old) }
     {
-        let Ok(bytes) = Vec::from_slice(self.alloc, bytes) else {
-            return Err(NoMemory);
-        };
-        let Ok(name) = String::from_str(self.alloc, name) else {
-            return Err(NoMemory);
-        };
-        let Ok(()) = self.puts.insert(0, Put { name, bytes }) else {
-            return Err(NoMemory);
-        };
+        let bytes = Vec::from_slice(self.alloc, bytes)?;
+        let name = String::from_str(self.alloc, name)?;
+        self.puts.insert(0, Put { name, bytes })?;
         if let Some(which) = self.selected {
             self.selected = Some(which + 1);
         }
@@ -103,18 +103,19 @@ impl Inputs for MemoryInputs {
 
     ghost rest = { λ m. m.rest };
 
-    ghost faults = { λ m. m.calls.faults };
+    ghost faults = { λ m. m.faults };
 
     ghost absences = { λ m. 0 };
 
     fn select(&mut self, name: &str) -> Result<(), SelectFault>
         ensures answer { result ≡ select_answer self.old name.now }
         ensures after { self.new ≡ after_select self.old name.now }
-        ensures faults { self.old.calls.faults ≤ self.new.calls.faults }
-        ensures last_fault { self.new.calls.faults < 2 ^ 64 }
+        ensures faults { self.old.faults ≤ self.new.faults }
+        ensures last_fault { self.new.faults < 2 ^ 64 }
     {
         self.selected = None;
         let Ok(()) = self.calls.next() else {
+            self.faults = next_count(self.faults);
             return Err(SelectFault::Failed);
         };
         let Some(which) = place_of(&self.puts, name) else {
@@ -135,14 +136,15 @@ impl Inputs for MemoryInputs {
         ensures err { OnErr result (buf.new ≡ buf.old) }
         ensures length { length buf.new ≡ length buf.old }
         ensures after { self.new ≡ after_read self.old (length buf.old) }
-        ensures faults { self.old.calls.faults ≤ self.new.calls.faults }
-        ensures last_fault { self.new.calls.faults < 2 ^ 64 }
+        ensures faults { self.old.faults ≤ self.new.faults }
+        ensures last_fault { self.new.faults < 2 ^ 64 }
     {
         let Some(which) = self.selected else {
             unreachable!()
         };
         let Ok(()) = self.calls.next() else {
             self.selected = None;
+            self.faults = next_count(self.faults);
             return Err(Failed);
         };
         let left = left_at(&self.puts, which, self.place);

@@ -2,6 +2,7 @@
 ghost use Rattle.std.specs.Prelude.{◌≡◌, [], ◌<◌, ◌≤◌, ◌^◌, length, Some, OnOk, OnErr, IfOk, is_err};
 ghost use Rattle.x7_words.specs.Memory.{no_calls, planned, write_fails, write_count, after_write};
 
+use crate::count::next_count;
 use crate::input::{Failed, NoMemory};
 use crate::memory::calls::Calls;
 use crate::sink::Sink;
@@ -17,10 +18,11 @@ pub struct MemorySink {
     room: usize,
     most: usize,
     calls: Calls,
+    faults: u64,
 }
 
 impl Model for MemorySink {
-    ghost use Rattle.std.specs.Prelude.{◌<◌, ◌≤◌, vec_len, vec_capacity};
+    ghost use Rattle.std.specs.Prelude.{◌<◌, ◌≤◌, ◌^◌, vec_len, vec_capacity};
     ghost use Rattle.x7_words.specs.Memory.{SinkInMemory};
 
     ghost Value = { SinkInMemory };
@@ -30,28 +32,28 @@ impl Model for MemorySink {
       room = s.room;
       most = s.most;
       calls = s.calls;
+      faults = s.faults;
     } };
 
     ghost invariant = { λ s. (vec_len s.bytes ≤ s.room)
         × (s.room ≤ vec_capacity s.bytes)
-        × (0 < s.most) };
+        × (0 < s.most)
+        × (s.faults < 2 ^ 64) };
 }
 
 impl MemorySink {
     /// Room for so many bytes. A write takes as many bytes as there is room for.
     pub fn new(alloc: Global, room: usize) -> Result<MemorySink, NoMemory>
         ensures { IfOk result (λ s. s ≡
-            record { bytes = []; room = room; most = usize.MAX; calls = no_calls }) }
+            record { bytes = []; room = room; most = usize.MAX; calls = no_calls; faults = 0 }) }
     {
-        match Vec::with_capacity(alloc, room) {
-            Ok(bytes) => Ok(MemorySink {
-                bytes,
-                room,
-                most: usize::MAX,
-                calls: Calls::new(alloc),
-            }),
-            Err(_) => Err(NoMemory),
-        }
+        Ok(MemorySink {
+            bytes: Vec::with_capacity(alloc, room)?,
+            room,
+            most: usize::MAX,
+            calls: Calls::new(alloc),
+            faults: 0,
+        })
     }
 
     /// The call of this number, from 1, is to fail.
@@ -81,20 +83,20 @@ impl MemorySink {
 impl Sink for MemorySink {
     ghost written = { λ s. Some s.bytes };
 
-    ghost faults = { λ s. s.calls.faults };
+    ghost faults = { λ s. s.faults };
 
     fn write(&mut self, piece: &[u8]) -> Result<usize, Failed>
         ensures answer { is_err result ≡ write_fails self.old piece.now }
         ensures count { IfOk result (λ n. n ≡ write_count self.old piece.now) }
         ensures some { IfOk result (λ n. 0 < length piece.now → 0 < n) }
         ensures after { self.new ≡ after_write self.old piece.now }
-        ensures faults { self.old.calls.faults ≤ self.new.calls.faults }
-        ensures last_fault { self.new.calls.faults < 2 ^ 64 }
+        ensures faults { self.old.faults ≤ self.new.faults }
+        ensures last_fault { self.new.faults < 2 ^ 64 }
     {
-        self.calls.next()?;
+        let is_planned = self.calls.next().is_err();
         let free = self.room - self.bytes.len();
-        if free == 0 && piece.len() > 0 {
-            self.calls.fault();
+        if is_planned || free == 0 && piece.len() > 0 {
+            self.faults = next_count(self.faults);
             return Err(Failed);
         }
         let count = piece.len().min(self.most).min(free);

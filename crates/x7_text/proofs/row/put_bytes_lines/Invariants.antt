@@ -1,10 +1,9 @@
-use Rattle.std.proofs.Common.{◌≡◌, ◌≤◌, ◌+◌, ◌*◌, ◌++◌, codes, take, vec_len, vec_capacity}
+use Rattle.std.proofs.Common.{◌*◌, codes, take}
 use Rattle.std.specs.List.{flat_map}
+use Rattle.x7_text.specs.Appends.{Appends}
 use Rattle.x7_text.specs.Digits.{hex_byte}
 use Rattle.x7_text.specs.Row.{line}
 use Rattle.x7_text.proofs.row.put_bytes_lines.Given as goal
 
 abbrev pub invariant-loop-bytes : goal.invariant-loop-bytes
-invariant-loop-bytes l =
-    (l.text.items ≡ l.fn.text.items ++ flat_map (line (codes "bytes ") hex_byte) (take l.bytes-index l.lines))
-    × (vec_len l.text ≡ vec_len l.fn.text + 71 * l.bytes-index) × (vec_capacity l.fn.text ≤ vec_capacity l.text)
+invariant-loop-bytes l = Appends l.fn.text l.text (flat_map (line (codes "bytes ") hex_byte) (take l.bytes-index l.lines)) (71 * l.bytes-index)

@@ -11,19 +11,19 @@ put_word-count-requires-clause-room c =
 pub loop-word-preserved : goal.loop-word-preserved
 loop-word-preserved c =
     rw (map-take_more c.as_chunks.result.0.now c.loop-word.word-index [] c.word_of.result (omega arith) c.word_of.ensures.value)
-    (told_one_more _ _ _ _ _ _ _ _ _ _ _ c.loop-word.invariant.0 c.put_word-count.ensures.items c.put_word-count.ensures.count c.put_word-count.ensures.open, omega arith)
+    (told_one_more _ _ _ _ _ _ _ _ _ _ _ c.loop-word.invariant.0 c.put_word-count.ensures.appends.items c.put_word-count.ensures.count c.put_word-count.ensures.open, omega arith)
 
 pub returns-clause-count : goal.returns-clause-count
 returns-clause-count c =
     c.loop-word.invariant.0.count_is
     ∙ ap (in_line_after 8 c.args.in_line) (words_of_bytes-all c.args.bytes.now c.as_chunks.result.0.now (length c.args.bytes.now / 4) c.loop-word.word-index c.as_chunks.ensures.front (omega arith) (omega arith))
 
-pub returns-clause-items : goal.returns-clause-items
-returns-clause-items c =
-    c.loop-word.invariant.0.text_is
-    ∙ ap (λ ws. c.args.text.now.items ++ open_text 8 (codes "data") spaced c.args.in_line ws)
-    (words_of_bytes-all c.args.bytes.now c.as_chunks.result.0.now (length c.args.bytes.now / 4) c.loop-word.word-index c.as_chunks.ensures.front (omega arith) (omega arith))
-
-pub returns-clause-length : goal.returns-clause-length
-returns-clause-length c =
-    omega (arith, c.loop-word.text.ok.0, c.args.text.now.ok.0, c.as_chunks.ensures.front_len, told_words_length _ _ _ _ _ _ (omega arith) c.loop-word.invariant.0)
+pub returns-clause-appends : goal.returns-clause-appends
+returns-clause-appends c =
+    record {
+      items = c.loop-word.invariant.0.text_is
+          ∙ ap (λ ws. c.args.text.now.items ++ open_text 8 (codes "data") spaced c.args.in_line ws)
+          (words_of_bytes-all c.args.bytes.now c.as_chunks.result.0.now (length c.args.bytes.now / 4) c.loop-word.word-index c.as_chunks.ensures.front (omega arith) (omega arith));
+      within = omega (arith, c.loop-word.text.ok.0, c.args.text.now.ok.0, c.as_chunks.ensures.front_len, told_words_length _ _ _ _ _ _ (omega arith) c.loop-word.invariant.0);
+      room = omega arith;
+    }

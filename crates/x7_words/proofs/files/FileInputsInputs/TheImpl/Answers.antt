@@ -5,11 +5,11 @@ use Rattle.x7_words.proofs.files.FileInputsInputs.TheImpl.Goals as goal
 pub select-tells : goal.select-tells
 select-tells g c =
     record {
-      ok = opened-ok c.args.self.now c.new.self.now c.result c.ensures.after;
+      ok = opened-ok c.args.self.now c.new.self.now c.new.self.now.rest c.result c.ensures.after;
       found = untold c.result;
-      missing = λ h. inr (opened-missing c.args.self.now c.new.self.now c.result c.ensures.after h);
-      failed = opened-failed c.args.self.now c.new.self.now c.result c.ensures.after;
-      err = opened-err c.args.self.now c.new.self.now c.result c.ensures.after;
+      missing = λ h. inr (opened-missing c.args.self.now c.new.self.now c.new.self.now.rest c.result c.ensures.after h);
+      failed = opened-failed c.args.self.now c.new.self.now c.new.self.now.rest c.result c.ensures.after;
+      err = opened-err c.args.self.now c.new.self.now c.new.self.now.rest c.result c.ensures.after;
       map = refl;
       faults = c.ensures.faults;
       absences = c.ensures.absences;

@@ -1,0 +1,20 @@
+-- The names read back: which number or code a name is that of, and where a table of names has it (this project's choice).
+use Rattle.std.specs.Prelude.{◌≡◌, ℕ, ◌+◌, ◌-◌, ◌*◌, ◌%◌, ◌<◌, List, length, get_or}
+use Rattle.x7_regs.specs.Register.{reg_name}
+use Rattle.x7_regs.specs.Command.{code_of, command_name_of}
+use Rattle.x7_regs.specs.declared.command.Command.{Command}
+
+-- the text is the name of the register number
+pub record IsRegName (text : List ℕ) (number : ℕ) : Type 0 where
+  pub below : number < 32
+  pub name : text ≡ reg_name number
+
+-- the text is the name of a command with this code
+pub record IsCommandName (text : List ℕ) (code : ℕ) : Type 0 where
+  pub command : Command
+  pub name : text ≡ command_name_of command
+  pub code_is : code ≡ code_of command
+
+-- the place of a name in a table of 64, which no two registers and no two commands share
+abbrev pub place_of : List ℕ → ℕ
+place_of name = (get_or name 0 0 + 13 * get_or name 1 0 + 3 * get_or name (length name - 1) 0 + 2 * length name) % 64

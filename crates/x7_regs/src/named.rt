@@ -1,0 +1,83 @@
+//! Names of registers and commands read back.
+ghost use Rattle.std.specs.Prelude.{◌≡◌, ◌≢◌, ◌≤◌, ◌<◌, ℕ, length, slice_index, IfSome, IfNone};
+ghost use Rattle.x7_regs.specs.Command.{command_name_of};
+ghost use Rattle.x7_regs.specs.Named.{IsCommandName, IsRegName, place_of};
+ghost use Rattle.x7_regs.specs.Register.{reg_name};
+ghost use Rattle.x7_regs.specs.declared.command.Command.{Command};
+
+use crate::command::command_of;
+use crate::name::{command_text, name_of};
+use x7_words::is_same;
+
+/// The register numbers by the places of their names. A place of no name has 0.
+#[rattlefmt::skip]
+const REGISTERS: [u8; 64] = [
+    19, 25,  0,  6, 26,  0,  0, 27,  0, 17, 28,  0, 22, 29,  0,  1,
+     0,  0,  0,  8,  0,  0,  0,  0, 12, 10,  0,  7, 31,  2,  9,  5,
+     0, 14, 24,  0,  0,  0,  0,  0,  0,  0,  0,  0, 11,  0,  0,  3,
+     0,  0, 20, 16, 15, 21,  0,  0,  0,  0, 13, 23,  0, 18,  4, 30,
+];
+
+/// The codes of the commands by the places of their names. A place of no name has 0.
+#[rattlefmt::skip]
+const COMMANDS: [u8; 64] = [
+     8,  0,  0,  0,  0,  0,  0,  0,  0,  3,  7,  0,  0, 12,  0,  0,
+    10,  0, 17,  0,  0,  0,  4, 18,  0,  0, 13,  1,  0,  5,  0,  0,
+     0,  0,  9,  0,  0,  0,  2,  0,  0,  0,  0,  0,  0,  0,  0,  0,
+     0,  6,  0,  0, 19, 11,  0,  0, 15,  0,  0,  0,  0,  0, 16,  0,
+];
+
+/// What a table has at the place of a name.
+fn at_place(table: &[u8; 64], name: &[u8]) -> u8
+    requires least { 2 ≤ length name.now }
+    requires most { length name.now ≤ 9 }
+    ensures { result ≡ slice_index table.now (place_of name.now) }
+{
+    let (first, second) = (usize::from(name[0]), usize::from(name[1]));
+    let last = usize::from(name[name.len() - 1]);
+    table[(first + 13 * second + 3 * last + 2 * name.len()) % 64]
+}
+
+/// The register number that the table has for a name.
+fn register_at(name: &[u8]) -> u8
+    requires least { 2 ≤ length name.now }
+    requires most { length name.now ≤ 9 }
+    ensures value { result ≡ slice_index REGISTERS (place_of name.now) }
+    ensures below { result < 32 }
+{
+    at_place(&REGISTERS, name)
+}
+
+/// The register number of this name: a register's, or `R` and two digits for a number without a register.
+pub fn reg_named(text: &[u8]) -> Option<u8>
+    ensures named { IfSome result (λ number. IsRegName text.now number) }
+    ensures unnamed { IfNone result ((number : ℕ) → number < 32 → text.now ≢ reg_name number) }
+{
+    if text.len() < 2 || text.len() > 9 {
+        return None;
+    }
+    let number = register_at(text);
+    if is_same(name_of(number).bytes(), text) {
+        return Some(number);
+    }
+    None
+}
+
+/// The code of the command of this name.
+pub fn command_named(text: &[u8]) -> Option<u8>
+    ensures named { IfSome result (λ code. IsCommandName text.now code) }
+    ensures unnamed { IfNone result ((command : Command) → text.now ≢ command_name_of command) }
+{
+    if text.len() < 2 || text.len() > 9 {
+        return None;
+    }
+    let code = at_place(&COMMANDS, text);
+    let command = command_of(u32::from(code));
+    if is_same(command_text(command).bytes(), text) {
+        return Some(command.code() as u8);
+    }
+    None
+}
+
+#[cfg(test)]
+mod tests;

@@ -1,0 +1,10 @@
+-- Text that is appended where room was made before (this project's choice).
+use Rattle.std.specs.Prelude.{◌≡◌, ℕ, ◌+◌, ◌≤◌, List, ◌++◌, vec_len, vec_capacity}
+use Rattle.std.specs.Prelude.{Vec}
+use Rattle.std.specs.declared.alloc.Global.{Global}
+
+-- the bytes stand behind what was there, they are no more than `most`, and no room was lost
+pub record Appends (old new : Vec ℕ Global) (bytes : List ℕ) (most : ℕ) : Type 0 where
+  pub items : new.items ≡ old.items ++ bytes
+  pub within : vec_len new ≤ vec_len old + most
+  pub room : vec_capacity old ≤ vec_capacity new
