@@ -1,0 +1,99 @@
+//! A run beside what it should come to.
+use crate::expected::{Expected, Extent};
+use crate::fault::Fault;
+use crate::notes::{Notes, common_length};
+use crate::outside::{Object, Outside};
+use crate::running::{Ending, Turn};
+
+/// The line of the text that begins most as the one given does.
+fn nearest<'a>(text: &'a str, line: &[u8]) -> &'a [u8] {
+    let mut best: &[u8] = b"";
+    let mut most = 0;
+    for each in text.lines() {
+        let each = each.as_bytes();
+        if each == line {
+            return each;
+        }
+        let length = common_length(each, line);
+        if length > most {
+            most = length;
+            best = each;
+        }
+    }
+    best
+}
+
+/// A line that the text should have.
+fn compare_line(notes: &mut Notes, line: &str, text: &str) -> Result<(), Fault> {
+    let line = line.as_bytes();
+    let came = nearest(text, line);
+    notes.compare_lines("out has no such line", line, came)
+}
+
+/// The bytes as text, or none of it where they are none.
+fn text_of(bytes: &[u8]) -> &str {
+    std::str::from_utf8(bytes).unwrap_or("")
+}
+
+/// The lines that the text should have.
+fn compare_parts(notes: &mut Notes, lines: &[u8], came: &[u8]) -> Result<(), Fault> {
+    let lines = text_of(lines);
+    let text = text_of(came);
+    for line in lines.lines() {
+        compare_line(notes, line, text)?;
+    }
+    Ok(())
+}
+
+/// The text that came.
+fn compare_out(notes: &mut Notes, expected: &Expected, came: &[u8]) -> Result<(), Fault> {
+    if let Some(length) = expected.length {
+        notes.compare_numbers("out length", u64::from(length), came.len() as u64)?;
+    }
+    match expected.extent {
+        Extent::Whole => notes.compare_texts("out", &expected.out, came),
+        Extent::Prefix => notes.compare_prefix("out", &expected.out, came),
+        Extent::Parts => compare_parts(notes, &expected.lines, came),
+    }
+}
+
+/// What the flash should hold afterwards.
+fn flash_after<'a>(expected: &'a Expected, given: &'a Outside) -> &'a [u8] {
+    match (&expected.flash, given.flash.first()) {
+        (Some(bytes), _) => bytes,
+        (None, Some(named)) => &named.bytes,
+        (None, None) => &[],
+    }
+}
+
+/// The message that came: the one line, and a prefix of it where a call of `err` failed.
+fn compare_err(
+    notes: &mut Notes,
+    expected: &Expected,
+    turn: Turn,
+    came: &[u8],
+) -> Result<(), Fault> {
+    if turn.call_of(Object::Err) > 0 {
+        notes.compare_prefix("err", &expected.err, came)
+    } else {
+        notes.compare_texts("err", &expected.err, came)
+    }
+}
+
+/// All that a run left.
+pub fn compare(
+    notes: &mut Notes,
+    given: &Outside,
+    expected: &Expected,
+    turn: Turn,
+    ending: &Ending,
+) -> Result<(), Fault> {
+    notes.compare_numbers(
+        "status",
+        u64::from(expected.status),
+        u64::from(ending.status),
+    )?;
+    compare_out(notes, expected, ending.out())?;
+    compare_err(notes, expected, turn, ending.err())?;
+    notes.compare_texts("flash", flash_after(expected, given), ending.flash())
+}

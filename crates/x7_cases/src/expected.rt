@@ -1,0 +1,87 @@
+//! What a run should come to.
+use crate::fault::Fault;
+use crate::token::{put_line, put_lines, put_tokens};
+use std::alloc::Global;
+
+/// How much of the text is given.
+#[derive(Clone, Copy, Drop, PartialEq, Eq)]
+pub enum Extent {
+    /// The text is the one given.
+    Whole,
+    /// The text is a prefix of the one given.
+    Prefix,
+    /// The text has the lines and the length that are given.
+    Parts,
+}
+
+/// What a run should come to.
+#[derive(Drop)]
+pub struct Expected {
+    alloc: Global,
+    pub status: u8,
+    pub extent: Extent,
+    pub out: Vec<u8>,
+    /// Lines that the text has, each with its end.
+    pub lines: Vec<u8>,
+    pub length: Option<u32>,
+    pub err: Vec<u8>,
+    /// The flash afterwards, where it isn't as it was.
+    pub flash: Option<Vec<u8>>,
+}
+
+impl Expected {
+    /// Status 0, and no text.
+    pub fn new(alloc: Global) -> Expected {
+        Expected {
+            alloc,
+            status: 0,
+            extent: Extent::Whole,
+            out: Vec::new(alloc),
+            lines: Vec::new(alloc),
+            length: None,
+            err: Vec::new(alloc),
+            flash: None,
+        }
+    }
+
+    /// Appends a line that the text has.
+    fn put_has(&mut self, line: &str) -> Result<(), Fault> {
+        self.extent = Extent::Parts;
+        put_line(self.alloc, &mut self.lines, line)
+    }
+
+    /// Takes the number of bytes of the text.
+    fn put_length(&mut self, number: &str) -> Result<(), Fault> {
+        self.extent = Extent::Parts;
+        self.length = Some(number.parse::<u32>()?);
+        Ok(())
+    }
+
+    /// Appends to what the flash is afterwards.
+    fn put_flash(&mut self, tokens: &str) -> Result<(), Fault> {
+        let mut bytes = match self.flash.take() {
+            Some(bytes) => bytes,
+            None => Vec::new(self.alloc),
+        };
+        put_tokens(self.alloc, &mut bytes, tokens)?;
+        self.flash = Some(bytes);
+        Ok(())
+    }
+
+    /// Takes a line that says what a run comes to. False where it is another one.
+    pub fn take(&mut self, key: &str, rest: &str) -> Result<bool, Fault> {
+        match key {
+            "status" => self.status = rest.parse::<u8>()?,
+            "out" => put_line(self.alloc, &mut self.out, rest)?,
+            "out_lines" => put_lines(self.alloc, &mut self.out, rest)?,
+            "out_bytes" => put_tokens(self.alloc, &mut self.out, rest)?,
+            "has" => self.put_has(rest)?,
+            "length" => self.put_length(rest)?,
+            "prefix" => self.extent = Extent::Prefix,
+            "err" => put_line(self.alloc, &mut self.err, rest)?,
+            "flash_after" => self.put_flash(rest)?,
+            _ => return Ok(false),
+        }
+        Ok(true)
+    }
+}

@@ -1,0 +1,47 @@
+//! Why a line was not taken, or a case not run.
+use hex::FromHexError;
+use std::alloc::{AllocError, AllocFailed};
+use std::num::ParseIntError;
+use x7_words::NoMemory;
+
+/// Why a line was not taken, or a case not run.
+#[derive(Clone, Copy, Drop)]
+pub enum Fault {
+    /// The line isn't one of the format.
+    Line,
+    /// There was no memory.
+    NoMemory,
+}
+
+impl From<AllocError> for Fault {
+    fn from(_error: AllocError) -> Fault {
+        Fault::NoMemory
+    }
+}
+
+impl<T: Drop> From<AllocFailed<T>> for Fault {
+    fn from(_error: AllocFailed<T>) -> Fault {
+        Fault::NoMemory
+    }
+}
+
+impl From<NoMemory> for Fault {
+    fn from(_error: NoMemory) -> Fault {
+        Fault::NoMemory
+    }
+}
+
+impl From<ParseIntError> for Fault {
+    fn from(_error: ParseIntError) -> Fault {
+        Fault::Line
+    }
+}
+
+impl From<FromHexError> for Fault {
+    fn from(error: FromHexError) -> Fault {
+        match error {
+            FromHexError::OutOfMemory => Fault::NoMemory,
+            _ => Fault::Line,
+        }
+    }
+}

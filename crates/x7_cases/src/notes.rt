@@ -1,0 +1,121 @@
+//! What is printed of a run that isn't as written: where it differs, and both lines.
+use crate::fault::Fault;
+use std::alloc::Global;
+
+/// How many bytes two texts have in common at the front.
+pub fn common_length(one: &[u8], other: &[u8]) -> usize {
+    let differs = one.iter().zip(other.iter()).position(|(a, b)| a != b);
+    match differs {
+        Some(place) => place,
+        None => one.len().min(other.len()),
+    }
+}
+
+/// How many lines end before the place.
+fn lines_before(text: &[u8], place: usize) -> usize {
+    text.iter()
+        .take(place)
+        .filter(|byte| **byte == b'\n')
+        .count()
+}
+
+/// The line, with its end, in which the place lies.
+fn line_at(text: &[u8], place: usize) -> &[u8] {
+    let place = place.min(text.len());
+    let start = match memchr::memrchr(b'\n', &text[..place]) {
+        Some(end) => end + 1,
+        None => 0,
+    };
+    let rest = &text[start..];
+    match memchr::memchr(b'\n', rest) {
+        Some(end) => &rest[..end + 1],
+        None => rest,
+    }
+}
+
+/// A line as it is printed, bytes that are no text as hex digits.
+fn shown(alloc: Global, line: &[u8]) -> Result<String, Fault> {
+    Ok(match std::str::from_utf8(line) {
+        Ok(line) => format!(in alloc; "{line:?}")?,
+        Err(_) => hex::encode_upper(alloc, line)?,
+    })
+}
+
+/// Notes on the runs of one file of cases.
+#[derive(Drop)]
+pub struct Notes {
+    alloc: Global,
+    /// The case, and what differs from run to run.
+    run: String,
+    pub text: String,
+}
+
+impl Notes {
+    /// No notes.
+    pub fn new(alloc: Global) -> Notes {
+        Notes {
+            alloc,
+            run: String::new(alloc),
+            text: String::new(alloc),
+        }
+    }
+
+    /// What follows is of this run.
+    pub fn begin(&mut self, run: String) {
+        self.run = run;
+    }
+
+    /// A line of its own.
+    pub fn put_line(&mut self, line: &str) -> Result<(), Fault> {
+        self.text.push_str(line)?;
+        self.text.push('\n')?;
+        Ok(())
+    }
+
+    /// That two things differ, if they do.
+    pub fn compare(&mut self, what: &str, expected: &str, came: &str) -> Result<(), Fault> {
+        if expected != came {
+            let run = &self.run;
+            write!(
+                self.text,
+                "{run}: {what}\n  expected {expected}\n  came     {came}\n"
+            )?;
+        }
+        Ok(())
+    }
+
+    /// That two numbers differ, if they do.
+    pub fn compare_numbers(&mut self, what: &str, expected: u64, came: u64) -> Result<(), Fault> {
+        let expected = format!(in self.alloc; "{expected}")?;
+        let came = format!(in self.alloc; "{came}")?;
+        self.compare(what, expected.as_str(), came.as_str())
+    }
+
+    /// That two lines differ, if they do.
+    pub fn compare_lines(&mut self, what: &str, expected: &[u8], came: &[u8]) -> Result<(), Fault> {
+        let expected = shown(self.alloc, expected)?;
+        let came = shown(self.alloc, came)?;
+        self.compare(what, expected.as_str(), came.as_str())
+    }
+
+    /// Where two texts differ, if they do.
+    pub fn compare_texts(&mut self, what: &str, expected: &[u8], came: &[u8]) -> Result<(), Fault> {
+        if expected == came {
+            return Ok(());
+        }
+        let place = common_length(expected, came);
+        let line = lines_before(expected, place).saturating_add(1);
+        let what = format!(in self.alloc; "{what} line {line}, byte {place}")?;
+        let expected = line_at(expected, place);
+        let came = line_at(came, place);
+        self.compare_lines(what.as_str(), expected, came)
+    }
+
+    /// That the text is no prefix of the other, if it isn't.
+    pub fn compare_prefix(&mut self, what: &str, whole: &[u8], came: &[u8]) -> Result<(), Fault> {
+        if whole.starts_with(came) {
+            return Ok(());
+        }
+        self.compare_texts(what, whole, came)
+    }
+}

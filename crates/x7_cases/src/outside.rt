@@ -1,0 +1,144 @@
+//! What a run is given: words, inputs, a flash, and what fails.
+use crate::fault::Fault;
+use crate::named::{Named, put_bytes, put_text, put_texts};
+use crate::token::positive;
+use std::alloc::Global;
+
+/// An object that a run works on, and whose calls can fail.
+#[derive(Clone, Copy, Drop, PartialEq, Eq)]
+pub enum Object {
+    In,
+    Flash,
+    Out,
+    Err,
+}
+
+impl Object {
+    /// Its name in a file of cases.
+    pub fn name(self) -> &'static str {
+        match self {
+            Object::In => "in",
+            Object::Flash => "flash",
+            Object::Out => "out",
+            Object::Err => "err",
+        }
+    }
+}
+
+/// The object of this name.
+fn object_of(name: &str) -> Result<Object, Fault> {
+    match name {
+        "in" => Ok(Object::In),
+        "flash" => Ok(Object::Flash),
+        "out" => Ok(Object::Out),
+        "err" => Ok(Object::Err),
+        _ => Err(Fault::Line),
+    }
+}
+
+/// A call that fails, by its number from 1 among those of its object.
+#[derive(Clone, Copy, Drop)]
+pub struct Failing {
+    pub object: Object,
+    pub call: u64,
+}
+
+/// What a case gives to a run.
+#[derive(Drop)]
+pub struct Outside {
+    alloc: Global,
+    pub words: Vec<String>,
+    pub inputs: Vec<Named>,
+    /// At most one.
+    pub flash: Vec<Named>,
+    /// The most bytes of one read: a run for each, or one run without a limit.
+    pub pieces: Vec<u32>,
+    /// The most bytes of one write.
+    pub write_piece: u32,
+    /// A run for each, or one run without a failing call.
+    pub failing: Vec<Failing>,
+    /// Objects whose calls fail in turn.
+    pub each: Vec<Object>,
+    /// The most bytes that `out` takes.
+    pub room: u32,
+}
+
+impl Outside {
+    /// No words and no inputs, and nothing fails.
+    pub fn new(alloc: Global) -> Outside {
+        Outside {
+            alloc,
+            words: Vec::new(alloc),
+            inputs: Vec::new(alloc),
+            flash: Vec::new(alloc),
+            pieces: Vec::new(alloc),
+            write_piece: u32::MAX,
+            failing: Vec::new(alloc),
+            each: Vec::new(alloc),
+            room: 1_000_000,
+        }
+    }
+
+    /// Appends words.
+    fn put_words(&mut self, words: &str) -> Result<(), Fault> {
+        for word in words.split(' ') {
+            self.words.push(String::from_str(self.alloc, word)?)?;
+        }
+        Ok(())
+    }
+
+    /// Appends sizes of pieces.
+    fn put_pieces(&mut self, numbers: &str) -> Result<(), Fault> {
+        for number in numbers.split(' ') {
+            self.pieces.push(positive(number)?)?;
+        }
+        Ok(())
+    }
+
+    /// Appends calls of the object that fail.
+    fn put_failing(&mut self, object: Object, numbers: &str) -> Result<(), Fault> {
+        for number in numbers.split(' ') {
+            let call = u64::from(positive(number)?);
+            self.failing.push(Failing { object, call })?;
+        }
+        Ok(())
+    }
+
+    /// Appends to the flash, which has one name.
+    fn put_flash(&mut self, line: &str) -> Result<(), Fault> {
+        put_bytes(self.alloc, &mut self.flash, line)?;
+        if self.flash.len() > 1 {
+            return Err(Fault::Line);
+        }
+        Ok(())
+    }
+
+    /// Takes a line that says what fails. False where it is another one.
+    fn take_failing(&mut self, key: &str, rest: &str) -> Result<bool, Fault> {
+        match key {
+            "in_fails" => self.put_failing(Object::In, rest)?,
+            "flash_fails" => self.put_failing(Object::Flash, rest)?,
+            "out_fails" => self.put_failing(Object::Out, rest)?,
+            "err_fails" => self.put_failing(Object::Err, rest)?,
+            "fails_each" => self.each.push(object_of(rest)?)?,
+            _ => return Ok(false),
+        }
+        Ok(true)
+    }
+
+    /// Takes a line that says what a run is given. False where it is another one.
+    pub fn take(&mut self, key: &str, rest: &str) -> Result<bool, Fault> {
+        match key {
+            "words" => self.put_words(rest)?,
+            "bytes" => put_bytes(self.alloc, &mut self.inputs, rest)?,
+            "text" => put_text(self.alloc, &mut self.inputs, rest)?,
+            "text_lines" => put_texts(self.alloc, &mut self.inputs, rest)?,
+            "flash" => self.put_flash(rest)?,
+            "piece" => self.put_pieces(rest)?,
+            "write_piece" => self.write_piece = positive(rest)?,
+            "room" => self.room = positive(rest)?,
+            _ => return self.take_failing(key, rest),
+        }
+        Ok(true)
+    }
+}

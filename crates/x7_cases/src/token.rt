@@ -1,0 +1,102 @@
+//! The parts of a line: words, numbers and hex digits.
+use crate::fault::Fault;
+use std::alloc::Global;
+
+/// The text before the first space, and the text after it.
+pub fn first_word(line: &str) -> (&str, &str) {
+    match line.split_once(' ') {
+        Some((word, rest)) => (word, rest),
+        None => (line, ""),
+    }
+}
+
+/// A number from 1.
+pub fn positive(token: &str) -> Result<u32, Fault> {
+    match token.parse::<u32>()? {
+        0 => Err(Fault::Line),
+        number => Ok(number),
+    }
+}
+
+/// Appends `TEXT*N>REST`: the text so many times, and the rest.
+fn put_group(text: &mut String, group: &str) -> Result<(), Fault> {
+    let Some((repeated, rest)) = group.split_once('>') else {
+        return Err(Fault::Line);
+    };
+    let Some((piece, times)) = repeated.split_once('*') else {
+        return Err(Fault::Line);
+    };
+    for _ in 0..positive(times)? {
+        text.push_str(piece)?;
+    }
+    text.push_str(rest)?;
+    Ok(())
+}
+
+/// The line, in which `<TEXT*N>` stands for the text so many times.
+fn expanded(alloc: Global, line: &str) -> Result<String, Fault> {
+    let mut groups = line.split('<');
+    let mut text = String::from_str(alloc, groups.next().unwrap_or(""))?;
+    for group in groups {
+        put_group(&mut text, group)?;
+    }
+    Ok(text)
+}
+
+/// Appends a line and its end so many times.
+fn put_copies(alloc: Global, text: &mut Vec<u8>, line: &str, times: u32) -> Result<(), Fault> {
+    let mut line = expanded(alloc, line)?;
+    line.push('\n')?;
+    put_times(text, line.as_bytes(), times)
+}
+
+/// Appends a line and its end.
+pub fn put_line(alloc: Global, text: &mut Vec<u8>, line: &str) -> Result<(), Fault> {
+    put_copies(alloc, text, line, 1)
+}
+
+/// Appends the line of `N LINE` and its end N times.
+pub fn put_lines(alloc: Global, text: &mut Vec<u8>, line: &str) -> Result<(), Fault> {
+    let (times, line) = first_word(line);
+    put_copies(alloc, text, line, positive(times)?)
+}
+
+/// Appends the bytes so many times.
+fn put_times(bytes: &mut Vec<u8>, piece: &[u8], times: u32) -> Result<(), Fault> {
+    for _ in 0..times {
+        bytes.extend_from_slice(piece)?;
+    }
+    Ok(())
+}
+
+/// Appends a byte so many times.
+fn put_byte(bytes: &mut Vec<u8>, byte: u8, times: u32) -> Result<(), Fault> {
+    let length = bytes.len().saturating_add(times as usize);
+    bytes.resize(length, byte)?;
+    Ok(())
+}
+
+/// Appends the bytes of one token: hex digits, and behind a star how many times they come.
+fn put_token(alloc: Global, bytes: &mut Vec<u8>, token: &str) -> Result<(), Fault> {
+    let (digits, times) = match token.split_once('*') {
+        Some((digits, times)) => (digits, positive(times)?),
+        None => (token, 1),
+    };
+    let piece = hex::decode(alloc, digits.as_bytes())?;
+    match piece.as_slice() {
+        [] => Err(Fault::Line),
+        [byte] => put_byte(bytes, *byte, times),
+        piece => put_times(bytes, piece, times),
+    }
+}
+
+/// Appends the bytes of all tokens, of which there may be none.
+pub fn put_tokens(alloc: Global, bytes: &mut Vec<u8>, tokens: &str) -> Result<(), Fault> {
+    if tokens.is_empty() {
+        return Ok(());
+    }
+    for token in tokens.split(' ') {
+        put_token(alloc, bytes, token)?;
+    }
+    Ok(())
+}
