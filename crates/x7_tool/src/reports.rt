@@ -88,7 +88,7 @@ fn put_reads(text: &mut Vec<u8>, reads: &[u32]) -> Result<(), NoMemory>
 /// words in `data` lines of eight; `frames 0`, while a device has no memory.
 #[tactic(auto, unfolding(crate::specs::Report::report_text))]
 pub fn report(alloc: Global, device: &Device, reads: &[u32]) -> Result<Vec<u8>, NoMemory>
-    ensures { IfOk result (λ text. (part : PartData) (bytes : List ℕ) → DeviceStandsFor part on_the_bench device.now bytes
+    ensures { IfOk result (λ text. (part : PartData) (bytes : List ℕ) → DeviceStandsFor part on_the_bench false device.now bytes
         → text.items ≡ report_text part.name (state_of part on_the_bench false bytes) reads.now) }
 {
     let mut text = Vec::new(alloc);
