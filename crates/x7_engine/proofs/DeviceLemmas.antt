@@ -1,5 +1,5 @@
 -- Lemmas on specs/Standing: a device takes one run more.
-use Rattle.std.proofs.Common.{◌≡◌, ◌+◌, ◌-◌, ◌*◌, ◌/◌, ◌<◌, ◌≤◌, ℕ, Option, None, Some, List, [], ◌∷◌, ◌++◌, length, take, drop, replicate, refl, ap, sym, subst, ◌∙◌, append_assoc, arith, length-append, length-drop}
+use Rattle.std.proofs.Common.{◌≡◌, ◌+◌, ◌-◌, ◌*◌, ◌/◌, ◌<◌, ◌≤◌, ℕ, Option, None, Some, List, [], ◌∷◌, ◌++◌, length, take, drop, replicate, refl, ap, sym, subst, ◌∙◌, append_assoc, arith, length-append, length-drop, Bool}
 use Rattle.std.proofs.Math.Seq.{take-append_seam}
 use Rattle.std.proofs.lemmas.List.{length-map, length-replicate, length-take-le, take-append-drop, take-take}
 use Rattle.x7_words.specs.Word.{AreBytes, words_of_bytes}
@@ -99,15 +99,15 @@ pub going_taken : (part : PartData) (kept : Kept) (bytes : List ℕ) → stop_in
 going_taken part kept bytes e = ap (λ (o : Option Stopped). history_by o (history_of bytes)) e
 
 -- a run more
-pub turned : (part : PartData) (kept : Kept) (d e : DeviceState) (bytes cut more rest : List ℕ) (run : Cut) (count left room : ℕ) → DeviceStandsFor part kept d bytes → d.registers.stop ≡ None
+pub turned : (part : PartData) (kept : Kept) (wrapped : Bool) (d e : DeviceState) (bytes cut more rest : List ℕ) (run : Cut) (count left room : ℕ) → DeviceStandsFor part kept wrapped d bytes → d.registers.stop ≡ None
     → ((sessions : List Session) (place : Place) → CutterStandsFor d.cutter bytes sessions place → Went d.cutter e.cutter (bytes ++ cut) sessions place run)
     → ((h : History) (from n : ℕ) → EndsWords run from n count → RegistersStandFor part kept d.registers h n → RegistersStandFor part kept e.registers (until (counted_in e.registers.stop (n + (count - left))) (entered_all from (run_steps run) h)) (n + (count - left)))
     → ((h : History) (from n : ℕ) → EndsWords run from n count → RegistersStandFor part kept d.registers h n
     → read_out part kept (until (counted_in e.registers.stop (n + (count - left))) (entered_all from (run_steps run) h)) ≡ read_out part kept h ++ replicate e.registers.due e.registers.due_word)
     → count ≡ length cut → cut ≡ more ++ rest → length rest ≡ left → IsRun run → IsLent d.cutter room run
-    → (e.registers.stop ≡ None → left ≡ 0) → ((line : Stop) → e.registers.stop ≡ Some line → e.registers.due ≡ 0) → e.part ≡ d.part → e.taken ≡ d.taken + length more
-    → DeviceStandsFor part kept e (bytes ++ more) × (reads_of part kept (bytes ++ more) ≡ reads_of part kept bytes ++ replicate e.registers.due e.registers.due_word)
-turned part kept d e bytes cut more rest run count left room s going went stands reads k j l r i g q p t =
+    → (e.registers.stop ≡ None → left ≡ 0) → ((line : Stop) → e.registers.stop ≡ Some line → e.registers.due ≡ 0) → e.part ≡ d.part → e.wrapped ≡ d.wrapped → e.taken ≡ d.taken + length more
+    → DeviceStandsFor part kept wrapped e (bytes ++ more) × (reads_of part kept (bytes ++ more) ≡ reads_of part kept bytes ++ replicate e.registers.due e.registers.due_word)
+turned part kept wrapped d e bytes cut more rest run count left room s going went stands reads k j l r i g q p y t =
     let none : stop_in part kept bytes ≡ None = s.stop_is ∙ ap (stopped_at (length bytes)) going in
     let old : history_taken part kept bytes ≡ history_of bytes = going_taken part kept bytes none in
     let before : RegistersStandFor part kept d.registers (history_of bytes) (length bytes) = subst (λ (h : History). RegistersStandFor part kept d.registers h (length bytes)) old s.registers_are in
@@ -138,6 +138,7 @@ turned part kept d e bytes cut more rest run count left room s going went stands
       record {
         fits = here;
         part_is = p ∙ s.part_is;
+        wrapped_is = y ∙ s.wrapped_is;
         taken_is = omega (arith, t, s.taken_is, length-append bytes more);
         stop_is = stops;
         registers_are = subst (λ (x : History). RegistersStandFor part kept e.registers x m) (sym new) after;

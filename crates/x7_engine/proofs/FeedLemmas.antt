@@ -1,5 +1,5 @@
 -- Lemmas on a feed: words given to a buffer, and the bytes taken of a piece.
-use Rattle.std.proofs.Common.{◌≡◌, ◌+◌, ◌-◌, ◌≤◌, ℕ, Option, None, Some, List, [], ◌++◌, length, take, drop, replicate, refl, ap, sym, subst, ◌∙◌, append_assoc, append-nil, arith}
+use Rattle.std.proofs.Common.{◌≡◌, ◌+◌, ◌-◌, ◌≤◌, ℕ, Option, None, Some, List, [], ◌++◌, length, take, drop, replicate, refl, ap, sym, subst, ◌∙◌, append_assoc, append-nil, arith, Bool}
 use Rattle.std.proofs.Math.Seq.{take-length}
 use Rattle.std.proofs.lemmas.List.{drop-take, length-take, replicate-append-replicate, take-append-drop, take-take}
 use Rattle.x7_packets.specs.Cutting.{between}
@@ -20,9 +20,9 @@ due_parts due left w l =
     sym (replicate-append-replicate (due - left) left w ∙ ap (λ (k : ℕ). replicate k w) sum)
 
 -- the device gave words that were due
-pub given : (part : PartData) (kept : Kept) (d : DeviceState) (bytes : List ℕ) (left : ℕ) → left ≤ d.registers.due → DeviceStandsFor part kept d bytes
-    → DeviceStandsFor part kept (with_due d left) bytes × (told_of part kept (with_due d left) bytes ≡ told_of part kept d bytes ++ replicate (d.registers.due - left) d.registers.due_word)
-given part kept d bytes left l s =
+pub given : (part : PartData) (kept : Kept) (wrapped : Bool) (d : DeviceState) (bytes : List ℕ) (left : ℕ) → left ≤ d.registers.due → DeviceStandsFor part kept wrapped d bytes
+    → DeviceStandsFor part kept wrapped (with_due d left) bytes × (told_of part kept (with_due d left) bytes ≡ told_of part kept d bytes ++ replicate (d.registers.due - left) d.registers.due_word)
+given part kept wrapped d bytes left l s =
     let told : List ℕ = s.due_are.told in
     let r : RegistersState = d.registers in
     let all : reads_of part kept bytes ≡ (told ++ replicate (r.due - left) r.due_word) ++ replicate left r.due_word =
@@ -30,6 +30,7 @@ given part kept d bytes left l s =
       record {
         fits = s.fits;
         part_is = s.part_is;
+        wrapped_is = s.wrapped_is;
         taken_is = s.taken_is;
         stop_is = s.stop_is;
         registers_are = record { places = s.registers_are.places; clock = s.registers_are.clock; words = s.registers_are.words; controls = s.registers_are.controls; progress = s.registers_are.progress; kind = s.registers_are.kind; before = s.registers_are.before; stop = s.registers_are.stop };
@@ -68,24 +69,24 @@ taken_more bytes piece from to l =
     ∙ take-append-drop from (take to piece))
 
 -- a run more of a piece
-pub stands_on : (part : PartData) (kept : Kept) (d e : DeviceState) (bytes piece : List ℕ) (from to : ℕ) → from ≤ to
-    → ((b : List ℕ) → DeviceStandsFor part kept d b → DeviceStandsFor part kept e (b ++ between piece from to))
-    → DeviceStandsFor part kept d (bytes ++ take from piece) → DeviceStandsFor part kept e (bytes ++ take to piece)
-stands_on part kept d e bytes piece from to l f s = subst (λ (b : List ℕ). DeviceStandsFor part kept e b) (taken_more bytes piece from to l) (f (bytes ++ take from piece) s)
+pub stands_on : (part : PartData) (kept : Kept) (wrapped : Bool) (d e : DeviceState) (bytes piece : List ℕ) (from to : ℕ) → from ≤ to
+    → ((b : List ℕ) → DeviceStandsFor part kept wrapped d b → DeviceStandsFor part kept wrapped e (b ++ between piece from to))
+    → DeviceStandsFor part kept wrapped d (bytes ++ take from piece) → DeviceStandsFor part kept wrapped e (bytes ++ take to piece)
+stands_on part kept wrapped d e bytes piece from to l f s = subst (λ (b : List ℕ). DeviceStandsFor part kept wrapped e b) (taken_more bytes piece from to l) (f (bytes ++ take from piece) s)
 
-pub told_on : (part : PartData) (kept : Kept) (d e : DeviceState) (bytes piece : List ℕ) (from to : ℕ) → from ≤ to
-    → ((b : List ℕ) → DeviceStandsFor part kept d b → told_of part kept e (b ++ between piece from to) ≡ told_of part kept d b)
-    → DeviceStandsFor part kept d (bytes ++ take from piece) → told_of part kept e (bytes ++ take to piece) ≡ told_of part kept d (bytes ++ take from piece)
-told_on part kept d e bytes piece from to l f s = sym (ap (told_of part kept e) (taken_more bytes piece from to l)) ∙ f (bytes ++ take from piece) s
+pub told_on : (part : PartData) (kept : Kept) (wrapped : Bool) (d e : DeviceState) (bytes piece : List ℕ) (from to : ℕ) → from ≤ to
+    → ((b : List ℕ) → DeviceStandsFor part kept wrapped d b → told_of part kept e (b ++ between piece from to) ≡ told_of part kept d b)
+    → DeviceStandsFor part kept wrapped d (bytes ++ take from piece) → told_of part kept e (bytes ++ take to piece) ≡ told_of part kept d (bytes ++ take from piece)
+told_on part kept wrapped d e bytes piece from to l f s = sym (ap (told_of part kept e) (taken_more bytes piece from to l)) ∙ f (bytes ++ take from piece) s
 
 -- what is answered for a stop
 pub taken_by_stop : (line : Stop) (n at : ℕ) → taken_in n (fed_by line at) ≡ at
 taken_by_stop (stop.Fault f) n at = refl
 taken_by_stop stop.Iprog n at = refl
 
-pub answers_stop : (part : PartData) (kept : Kept) (d : DeviceState) (bytes : List ℕ) (read : ReadBufState) (line : Stop) (at : ℕ) → DeviceStandsFor part kept d bytes → Some line ≡ d.registers.stop → Answers part kept d bytes read (fed_by line at)
-answers_stop part kept d bytes read (stop.Fault f) at s e = (f, s.stop_is ∙ ap (stopped_at (length bytes)) (sym e), s.at_rest (stop.Fault f) (sym e))
-answers_stop part kept d bytes read stop.Iprog at s e = (s.stop_is ∙ ap (stopped_at (length bytes)) (sym e), s.at_rest stop.Iprog (sym e))
+pub answers_stop : (part : PartData) (kept : Kept) (wrapped : Bool) (d : DeviceState) (bytes : List ℕ) (read : ReadBufState) (line : Stop) (at : ℕ) → DeviceStandsFor part kept wrapped d bytes → Some line ≡ d.registers.stop → Answers part kept d bytes read (fed_by line at)
+answers_stop part kept wrapped d bytes read (stop.Fault f) at s e = (f, s.stop_is ∙ ap (stopped_at (length bytes)) (sym e), s.at_rest (stop.Fault f) (sym e))
+answers_stop part kept wrapped d bytes read stop.Iprog at s e = (s.stop_is ∙ ap (stopped_at (length bytes)) (sym e), s.at_rest stop.Iprog (sym e))
 
 -- ---- named facts for the crates above
 

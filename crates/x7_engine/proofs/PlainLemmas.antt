@@ -244,6 +244,7 @@ words_front (suc k) bytes = ap (λ (n : ℕ). words_of_bytes (take n bytes)) nex
   where
     next : suc k * 4 ≡ suc (suc (suc (suc (k * 4))))
     next = omega arith
+
     by : (bytes : List ℕ) → ((bytes : List ℕ) → words_of_bytes (take (k * 4) bytes) ≡ take k (words_of_bytes bytes)) → words_of_bytes (take (suc (suc (suc (suc (k * 4))))) bytes) ≡ take (suc k) (words_of_bytes bytes)
     by [] f = refl
     by (a ∷ []) f = refl

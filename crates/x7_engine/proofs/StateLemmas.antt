@@ -27,12 +27,12 @@ taken_at_end n None = refl
 taken_at_end n (Some line) = refl
 
 -- the line that the bytes come to is the device's
-pub line_is : (part : PartData) (kept : Kept) (d : DeviceState) (bytes : List ℕ) → DeviceStandsFor part kept d bytes → line_by (stop_in part kept bytes) ≡ d.registers.stop
-line_is part kept d bytes s = ap line_by s.stop_is ∙ line_at_end (length bytes) d.registers.stop
+pub line_is : (part : PartData) (kept : Kept) (wrapped : Bool) (d : DeviceState) (bytes : List ℕ) → DeviceStandsFor part kept wrapped d bytes → line_by (stop_in part kept bytes) ≡ d.registers.stop
+line_is part kept wrapped d bytes s = ap line_by s.stop_is ∙ line_at_end (length bytes) d.registers.stop
 
 -- all bytes are taken
-pub taken_is : (part : PartData) (kept : Kept) (d : DeviceState) (bytes : List ℕ) → DeviceStandsFor part kept d bytes → taken_of part kept bytes ≡ length bytes
-taken_is part kept d bytes s = ap (λ (o : Option Stopped). taken_by o (length bytes)) s.stop_is ∙ taken_at_end (length bytes) d.registers.stop
+pub taken_is : (part : PartData) (kept : Kept) (wrapped : Bool) (d : DeviceState) (bytes : List ℕ) → DeviceStandsFor part kept wrapped d bytes → taken_of part kept bytes ≡ length bytes
+taken_is part kept wrapped d bytes s = ap (λ (o : Option Stopped). taken_by o (length bytes)) s.stop_is ∙ taken_at_end (length bytes) d.registers.stop
 
 -- a device that goes on is in a session where its bytes end in one
 pub synced_is : (c : Bool) (place : Place) (bytes : List ℕ) → c ≡ is_synced place → place ≡ (reading_of bytes).place → c ≡ is_synced (reading_of bytes).place

@@ -1,5 +1,5 @@
 -- What a device stands for: all bytes that it took since its reset. Each stored value is that of the bytes.
-use Rattle.std.specs.Prelude.{◌≡◌, ℕ, ◌<◌, ◌≤◌, ◌+◌, ◌++◌, ◌-◌, Bool, true, false, take, List, [], ◌∷◌, length, slice_index, Option, None, Some, replicate}
+use Rattle.std.specs.Prelude.{◌≡◌, ℕ, ◌<◌, ◌≤◌, ◌==◌, ◌+◌, ◌++◌, ◌-◌, Bool, true, false, take, List, [], ◌∷◌, length, slice_index, Option, None, Some, replicate}
 use Rattle.x7_words.specs.Word.{AreBytes}
 use Rattle.x7_packets.specs.Cutting.{CutterState, CutterStandsFor}
 use Rattle.x7_packets.specs.declared.cutter.Cut.{Cut}
@@ -12,6 +12,7 @@ use Rattle.x7_crc.specs.OpenWrites.{running_check}
 use Rattle.x7_part.specs.Part.{PartData}
 use Rattle.x7_regs.specs.declared.boot_status.Attempt.{Attempt}
 use Rattle.x7_regs.specs.declared.boot_status.Kind.{Kind}
+use Rattle.x7_regs.specs.declared.boot_status.Kind.TheVariants.{Bench}
 use Rattle.x7_regs.specs.declared.register.Reg.TheVariants.{Ctl0, Ctl1}
 use Rattle.x7_regs.specs.Register.{number_of}
 use Rattle.x7_engine.specs.declared.controls.Controls.{Controls}
@@ -28,7 +29,8 @@ use Rattle.x7_engine.specs.Clock.{ClockState, IsClock, clock_in}
 use Rattle.x7_engine.specs.ReadBuffer.{IsFull, ReadBufState}
 use Rattle.x7_engine.specs.Registers.{has_ghigh, is_matched, is_pending, masked, word_held, wrote_iprog}
 use Rattle.x7_engine.specs.State.{reads_of, history_taken, last_counted, stop_in}
-use Rattle.x7_engine.specs.Stops.{stop_of, stopped_at}
+use Rattle.x7_engine.specs.Stops.{fault_of, stop_of, stopped_at}
+use Rattle.x7_engine.specs.Values.{cause_of}
 
 -- the registers under MASK
 pub record ControlsState : Type 0 where
@@ -136,11 +138,12 @@ EndsWords (Word register w) from n count = (n < from + 4) × (from + 4 ≡ n + c
 EndsWords (Body register bytes) from n count = (from ≡ n) × (length bytes.now ≡ count)
 EndsWords _ from n count = Unit {0}
 
--- a device: its part and its stored values
+-- a device: its part, its stored values, and whether the flash has ended in this attempt
 pub record DeviceState : Type 0 where
   pub part : PartData
   pub cutter : CutterState
   pub registers : RegistersState
+  pub wrapped : Bool
   pub taken : ℕ
 
 -- a device of which this many words are still due
@@ -150,6 +153,21 @@ with_due d due = record d { registers = record d.registers { due = due } }
 -- no word that was read out is still to be given
 abbrev pub NoWordDue : DeviceState → Type 0
 NoWordDue d = d.registers.due ≡ 0
+
+-- a device in whose attempt the flash has ended
+abbrev pub with_wrap : DeviceState → DeviceState
+with_wrap d = record d { wrapped = true }
+
+-- the flash may end here: the attempt is one of a boot that hasn't started, failed or left by an IPROG, and no word is due
+pub record MayWrapWith (d : RegistersState) : Type 0 where
+  pub boots : d.kind ≡ Bench → ⊥
+  pub not_started : (d.clock.startup.phase == 7) ≡ false
+  pub not_failed : cause_of (fault_of d.stop) false ≡ None
+  pub not_left : d.stop ≡ Some stop.Iprog → ⊥
+  pub none_due : d.due ≡ 0
+
+abbrev pub MayWrap : DeviceState → Type 0
+MayWrap d = MayWrapWith d.registers
 
 -- the cutter took these bytes
 pub record IsCutterOf (c : CutterState) (bytes : List ℕ) : Type 0 where
@@ -162,10 +180,11 @@ pub record AreDue (d : RegistersState) (reads : List ℕ) : Type 0 where
   pub told : List ℕ
   pub all : reads ≡ told ++ replicate d.due d.due_word
 
--- A device took these bytes, all of them: it has no stop, or its stop came at the last one. Where it stopped, its cutter may be past that byte.
-pub record DeviceStandsFor (part : PartData) (kept : Kept) (d : DeviceState) (bytes : List ℕ) : Type 0 where
+-- A device took these bytes since a reset that kept this, all of them: it has no stop, or its stop came at the last one. Where it stopped, its cutter may be past that byte.
+pub record DeviceStandsFor (part : PartData) (kept : Kept) (wrapped : Bool) (d : DeviceState) (bytes : List ℕ) : Type 0 where
   pub fits : AreBytes bytes
   pub part_is : d.part ≡ part
+  pub wrapped_is : d.wrapped ≡ wrapped
   pub taken_is : d.taken ≡ length bytes
   pub stop_is : stop_in part kept bytes ≡ stopped_at (length bytes) d.registers.stop
   pub registers_are : RegistersStandFor part kept d.registers (history_taken part kept bytes) (length bytes)

@@ -5,6 +5,8 @@ use Rattle.x7_packets.specs.History.{History, history_of, until}
 use Rattle.x7_packets.specs.Reading.{is_synced}
 use Rattle.x7_part.specs.Part.{PartData}
 use Rattle.x7_regs.specs.Register.{number_of}
+use Rattle.x7_regs.specs.declared.boot_status.Attempt.{Attempt}
+use Rattle.x7_regs.specs.declared.boot_status.Kind.{Kind}
 use Rattle.x7_regs.specs.declared.register.Reg.TheVariants.{Crc, Far, Cmd, Ctl0, Mask, Stat, Cor0, Idcode, Axss, Cor1, Wbstar, Timer, Bootsts, Ctl1, Bspi}
 use Rattle.x7_engine.specs.declared.fault.Fault.TheVariants as fault
 use Rattle.x7_engine.specs.declared.kept.Kept.{Kept}
@@ -16,7 +18,7 @@ use Rattle.x7_engine.specs.declared.stop.Stop.TheVariants as stop
 use Rattle.x7_engine.specs.Registers.{word_held}
 use Rattle.x7_engine.specs.Startup.{phase_by, startup_progress}
 use Rattle.x7_engine.specs.Stops.{Stopped, fault_of, stop_of}
-use Rattle.x7_engine.specs.Values.{lines_by, read_out, value_of}
+use Rattle.x7_engine.specs.Values.{attempt_of, lines_by, read_out, value_of}
 
 -- the first stop in the bytes, where there is one
 abbrev pub stop_in : PartData → Kept → List ℕ → Option Stopped
@@ -82,6 +84,20 @@ history_taken part kept bytes = history_by (stop_in part kept bytes) (history_of
 abbrev pub state_of : PartData → Kept → Bool → List ℕ → Regs
 state_of part kept wrapped bytes =
     state_by part kept wrapped (line_by (stop_in part kept bytes)) (history_taken part kept bytes) (taken_of part kept bytes) (is_synced (reading_of bytes).place)
+
+-- the present boot attempt, with what it failed by
+abbrev pub attempt_in : PartData → Kept → Bool → List ℕ → Attempt
+attempt_in part kept wrapped bytes = attempt_of kept wrapped (fault_of (line_by (stop_in part kept bytes))) (history_taken part kept bytes)
+
+-- what a next attempt of this kind keeps: WBSTAR, TIMER and BSPI as they are, and this attempt as the one before
+abbrev pub kept_after : PartData → Kept → Bool → List ℕ → Kind → Kept
+kept_after part kept wrapped bytes kind = record {
+  wbstar = (state_of part kept wrapped bytes).wbstar;
+  timer = (state_of part kept wrapped bytes).timer;
+  bspi = (state_of part kept wrapped bytes).bspi;
+  kind = kind;
+  before = Some (attempt_in part kept wrapped bytes);
+}
 
 -- the words read out by then
 abbrev pub reads_of : PartData → Kept → List ℕ → List ℕ

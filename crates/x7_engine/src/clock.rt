@@ -77,7 +77,14 @@ impl Clock {
     }
 
     /// Takes a written word that executes a command or none, and takes a shutdown or not.
-    pub(crate) fn write(&mut self, executed: Option<u8>, taken: bool, cor0: u32, reg: Reg, word: u32)
+    pub(crate) fn write(
+        &mut self,
+        executed: Option<u8>,
+        taken: bool,
+        cor0: u32,
+        reg: Reg,
+        word: u32,
+    )
         ensures { (part : PartData) (kept : Kept) (h : History) (place : ℕ) → executed ≡ executed_by (command_held h) (Write (number_of reg) word) → taken ≡ takes_shutdown h (Write (number_of reg) word) → cor0 ≡ last_word 9 0 h
             → IsClock part kept (clock_in self.old) h place → IsClock part kept (clock_in self.new) (entry (Write (number_of reg) word) place ∷ h) place }
     {
@@ -87,6 +94,7 @@ impl Clock {
 
     /// The phase of startup.
     pub(crate) fn phase(&self) -> u8
+        ensures now { result ≡ self.now.startup.phase }
         ensures last { result ≤ 7 }
         ensures value { (part : PartData) (h : History) (n : ℕ) → StandsFor part.lock part.matched self.now.startup (startup_calls h n) → result ≡ phase_of part h n }
     {
@@ -95,7 +103,8 @@ impl Clock {
 
     /// Whether startup has ended.
     pub(crate) fn has_ended(&self) -> bool
-        ensures { (part : PartData) (h : History) (n : ℕ) → StandsFor part.lock part.matched self.now.startup (startup_calls h n) → result ≡ has_ended part h n }
+        ensures now { result ≡ (self.now.startup.phase == 7) }
+        ensures value { (part : PartData) (h : History) (n : ℕ) → StandsFor part.lock part.matched self.now.startup (startup_calls h n) → result ≡ has_ended part h n }
     {
         self.phase() == 7
     }
@@ -144,7 +153,8 @@ impl Clock {
             → IsClock part.now kept (clock_in self.old) h n → Ticks part.now kept (clock_in self.new) h n count result }
     {
         let Some(k) = self.watchdog.bytes(count as u64, eos) else {
-            self.startup.bytes(count as u64, part.lock(), part.matched());
+            self.startup
+                .bytes(count as u64, part.lock(), part.matched());
             return None;
         };
         self.startup.bytes(k, part.lock(), part.matched());
@@ -156,7 +166,8 @@ impl Clock {
         ensures { (kept : Kept) (h : History) (n : ℕ) → newest_place h ≤ n → IsClock part.now kept (clock_in self.now) h n → result ≡ has_ended part.now h (n + count) }
     {
         let mut then = *self;
-        then.startup.bytes(count as u64, part.lock(), part.matched());
+        then.startup
+            .bytes(count as u64, part.lock(), part.matched());
         then.has_ended()
     }
 

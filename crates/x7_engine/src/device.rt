@@ -1,12 +1,14 @@
 //! A device.
-ghost use Rattle.std.specs.Prelude.{◌≡◌, ◌≤◌, ◌<◌, ◌+◌, ◌-◌, ◌^◌, ◌++◌, ℕ, List, [], false, length, replicate, take, IfOk, IsSome, IsTrue, ◌↔◌, ◌==◌, Option, None, Some};
+ghost use Rattle.std.specs.Prelude.{◌≡◌, ◌≤◌, ◌<◌, ◌+◌, ◌-◌, ◌^◌, ◌++◌, ℕ, Bool, List, [], false, true, length, replicate, take, IfOk, IsSome, IsTrue, ◌↔◌, ◌==◌, Option, None, Some};
 ghost use Rattle.x7_packets.specs.Cutting.{between, calls_left, IsNeed};
 ghost use Rattle.x7_part.specs.Part.{PartData};
 ghost use Rattle.x7_engine.specs.Kept.{on_the_bench};
 ghost use Rattle.x7_engine.specs.ReadBuffer.{IsFull, with_words};
-ghost use Rattle.x7_engine.specs.Standing.{Answers, DeviceStandsFor, fed_by, taken_in, told_of, with_due};
-ghost use Rattle.x7_engine.specs.State.{end_by, line_by, state_of, stop_in};
+ghost use Rattle.x7_engine.specs.Standing.{Answers, DeviceStandsFor, MayWrap, fed_by, taken_in, told_of, with_due, with_wrap};
+ghost use Rattle.x7_engine.specs.State.{attempt_in, end_by, kept_after, line_by, state_of, stop_in};
 ghost use Rattle.x7_engine.specs.Stops.{fault_of};
+ghost use Rattle.x7_engine.specs.Values.{cause_of};
+ghost use Rattle.x7_engine.specs.declared.fault.Fault.{Fault as FaultData};
 ghost use Rattle.x7_engine.specs.declared.kept.Kept.{Kept as KeptData};
 
 use crate::fault::Fault;
@@ -20,15 +22,17 @@ use std::alloc::Global;
 use std::marker::Model;
 use x7_packets::{Cut, Cutter};
 use x7_part::Part;
-use x7_regs::{Kind, Reg};
+use x7_regs::{Attempt, Cause, Kind, Reg, boot_word};
 use x7_words::NoMemory;
 
-/// A device of a part: its state is a function of all bytes since it was made.
+/// A device of a part: its state is a function of all bytes since its reset, and of what the reset kept.
 #[derive(Drop)]
 pub struct Device {
     part: Part,
     cutter: Cutter,
     registers: Registers,
+    // the flash has ended in this attempt
+    wrapped: bool,
     taken: u64,
 }
 
@@ -37,7 +41,7 @@ impl Model for Device {
 
     ghost Value = { DeviceState };
 
-    ghost view = { λ d. record { part = d.part; cutter = d.cutter; registers = registers_in d.registers; taken = d.taken } };
+    ghost view = { λ d. record { part = d.part; cutter = d.cutter; registers = registers_in d.registers; wrapped = d.wrapped; taken = d.taken } };
 }
 
 /// What a feed answers for a stop at this place of a piece.
@@ -83,6 +87,17 @@ fn is_done(used_up: bool, stop: Option<Stop>) -> bool
     }
 }
 
+/// What an attempt failed by, where the flash has ended or not, by what it failed by before that.
+fn cause_with(cause: Option<Cause>, wrapped: bool) -> Option<Cause>
+    ensures { (fault : Option FaultData) → cause ≡ cause_of fault false → result ≡ cause_of fault wrapped }
+{
+    match cause {
+        Some(cause) => Some(cause),
+        None if wrapped => Some(Cause::Wrap),
+        None => None,
+    }
+}
+
 /// What a device on the bench keeps.
 const ON_THE_BENCH: Kept = Kept {
     wbstar: 0,
@@ -95,13 +110,14 @@ const ON_THE_BENCH: Kept = Kept {
 impl Device {
     /// A device of this part as after a reset on the bench.
     pub fn new(alloc: Global, part: &Part) -> Result<Device, NoMemory>
-        ensures { IfOk result (λ d. DeviceStandsFor part.now on_the_bench d []) }
+        ensures { IfOk result (λ d. DeviceStandsFor part.now on_the_bench false d []) }
     {
         match part.copy(alloc) {
             Ok(part) => Ok(Device {
                 part,
                 cutter: Cutter::new(),
                 registers: Registers::new(&ON_THE_BENCH),
+                wrapped: false,
                 taken: 0,
             }),
             Err(NoMemory) => Err(NoMemory),
@@ -109,12 +125,63 @@ impl Device {
     }
 
     /// Resets the device, which keeps this.
-    pub fn reset(&mut self, keep: &Kept)
-        ensures { DeviceStandsFor self.old.part keep.now self.new [] }
+    pub fn reset(&mut self, keep: Kept)
+        ensures part { self.new.part ≡ self.old.part }
+        ensures stands { DeviceStandsFor self.old.part keep false self.new [] }
     {
         self.cutter = Cutter::new();
-        self.registers = Registers::new(keep);
+        self.registers = Registers::new(&keep);
+        self.wrapped = false;
         self.taken = 0;
+    }
+
+    /// The present boot attempt.
+    fn attempt(&self) -> Attempt
+        ensures { (part : PartData) (kept : KeptData) (wrapped : Bool) (bytes : List ℕ) → DeviceStandsFor part kept wrapped self.now bytes → result ≡ attempt_in part kept wrapped bytes }
+    {
+        let attempt = self.registers.attempt();
+        Attempt {
+            kind: attempt.kind,
+            cause: cause_with(attempt.cause, self.wrapped),
+            ignored: attempt.ignored,
+        }
+    }
+
+    /// The word of BOOTSTS.
+    fn boot_status(&self) -> u32
+        ensures { (part : PartData) (kept : KeptData) (wrapped : Bool) (bytes : List ℕ) → DeviceStandsFor part kept wrapped self.now bytes → result ≡ (state_of part kept wrapped bytes).bootsts }
+    {
+        boot_word(self.attempt(), self.registers.before)
+    }
+
+    /// What a next attempt of this kind keeps: WBSTAR, TIMER and BSPI, and this attempt as the one before.
+    pub fn kept(&self, kind: Kind) -> Kept
+        ensures { (part : PartData) (kept : KeptData) (wrapped : Bool) (bytes : List ℕ) → DeviceStandsFor part kept wrapped self.now bytes → result ≡ kept_after part kept wrapped bytes kind }
+    {
+        Kept {
+            wbstar: self.registers.value(&self.part, Reg::Wbstar),
+            timer: self.registers.value(&self.part, Reg::Timer),
+            bspi: self.registers.value(&self.part, Reg::Bspi),
+            kind,
+            before: Some(self.attempt()),
+        }
+    }
+
+    /// Whether the flash may end here: the attempt is one of a boot that hasn't started, failed or left by an IPROG, and no word is due.
+    pub fn may_wrap(&self) -> bool
+        ensures yes { IsTrue result → MayWrap self.now }
+        ensures no { result ≡ false → MayWrap self.now → ⊥ }
+    {
+        self.registers.may_wrap()
+    }
+
+    /// Says that the flash has ended before the attempt did: BOOTSTS shows it until the next reset, and all else stays.
+    pub fn wrap(&mut self)
+        requires { MayWrap self.old }
+        ensures same { self.new ≡ with_wrap self.old }
+        ensures stands { (part : PartData) (kept : KeptData) (wrapped : Bool) (bytes : List ℕ) → DeviceStandsFor part kept wrapped self.old bytes → DeviceStandsFor part kept true self.new bytes }
+    {
+        self.wrapped = true;
     }
 
     /// What stopped the device.
@@ -145,9 +212,9 @@ impl Device {
         ensures forward { at.old ≤ at.new }
         ensures within { at.new ≤ length piece.now }
         ensures taken { self.new.taken ≡ self.old.taken + (at.new - at.old) }
-        ensures stands { (part : PartData) (kept : KeptData) (bytes : List ℕ) → DeviceStandsFor part kept self.old bytes
-            → DeviceStandsFor part kept self.new (bytes ++ between piece.now at.old at.new) }
-        ensures told { (part : PartData) (kept : KeptData) (bytes : List ℕ) → DeviceStandsFor part kept self.old bytes
+        ensures stands { (part : PartData) (kept : KeptData) (wrapped : Bool) (bytes : List ℕ) → DeviceStandsFor part kept wrapped self.old bytes
+            → DeviceStandsFor part kept wrapped self.new (bytes ++ between piece.now at.old at.new) }
+        ensures told { (part : PartData) (kept : KeptData) (wrapped : Bool) (bytes : List ℕ) → DeviceStandsFor part kept wrapped self.old bytes
             → told_of part kept self.new (bytes ++ between piece.now at.old at.new) ≡ told_of part kept self.old bytes }
         ensures used_up { IsTrue result → (at.new ≡ length piece.now) × (self.new.registers.stop ≡ None) × (self.new.registers.due ≡ 0) }
         ensures goes { result ≡ false → self.new.registers.stop ≡ None
@@ -167,14 +234,14 @@ impl Device {
     pub fn feed(&mut self, piece: &[u8], read: &mut ReadBuf) -> Fed
         requires { self.old.taken + length piece.now ≤ 2 ^ 63 }
         ensures within { taken_in (length piece.now) result ≤ length piece.now }
-        ensures stands { (part : PartData) (kept : KeptData) (bytes : List ℕ) → DeviceStandsFor part kept self.old bytes
-            → DeviceStandsFor part kept self.new (bytes ++ take (taken_in (length piece.now) result) piece.now) }
-        ensures answer { (part : PartData) (kept : KeptData) (bytes : List ℕ) → DeviceStandsFor part kept self.old bytes
+        ensures stands { (part : PartData) (kept : KeptData) (wrapped : Bool) (bytes : List ℕ) → DeviceStandsFor part kept wrapped self.old bytes
+            → DeviceStandsFor part kept wrapped self.new (bytes ++ take (taken_in (length piece.now) result) piece.now) }
+        ensures answer { (part : PartData) (kept : KeptData) (wrapped : Bool) (bytes : List ℕ) → DeviceStandsFor part kept wrapped self.old bytes
             → Answers part kept self.new (bytes ++ take (taken_in (length piece.now) result) piece.now) read.new result }
-        ensures reads { (part : PartData) (kept : KeptData) (bytes : List ℕ) → DeviceStandsFor part kept self.old bytes
+        ensures reads { (part : PartData) (kept : KeptData) (wrapped : Bool) (bytes : List ℕ) → DeviceStandsFor part kept wrapped self.old bytes
             → (more : List ℕ) × (read.new ≡ with_words read.old more)
             × (told_of part kept self.new (bytes ++ take (taken_in (length piece.now) result) piece.now) ≡ told_of part kept self.old bytes ++ more) }
-        ensures stopped { (part : PartData) (kept : KeptData) (bytes : List ℕ) → DeviceStandsFor part kept self.old bytes → IsSome (stop_in part kept bytes)
+        ensures stopped { (part : PartData) (kept : KeptData) (wrapped : Bool) (bytes : List ℕ) → DeviceStandsFor part kept wrapped self.old bytes → IsSome (stop_in part kept bytes)
             → (self.new ≡ self.old) × (read.new ≡ read.old) × (taken_in (length piece.now) result ≡ 0) }
     {
         let mut at = 0;
@@ -193,7 +260,7 @@ impl Device {
 
     /// The registers and all else that a report shows but the memory.
     pub fn state(&self) -> Regs
-        ensures { (part : PartData) (kept : KeptData) (bytes : List ℕ) → DeviceStandsFor part kept self.now bytes → result ≡ state_of part kept false bytes }
+        ensures { (part : PartData) (kept : KeptData) (wrapped : Bool) (bytes : List ℕ) → DeviceStandsFor part kept wrapped self.now bytes → result ≡ state_of part kept wrapped bytes }
     {
         Regs {
             taken: self.taken,
@@ -212,7 +279,7 @@ impl Device {
             cor1: self.registers.value(&self.part, Reg::Cor1),
             wbstar: self.registers.value(&self.part, Reg::Wbstar),
             timer: self.registers.value(&self.part, Reg::Timer),
-            bootsts: self.registers.value(&self.part, Reg::Bootsts),
+            bootsts: self.boot_status(),
             ctl1: self.registers.value(&self.part, Reg::Ctl1),
             bspi: self.registers.value(&self.part, Reg::Bspi),
         }
@@ -220,7 +287,7 @@ impl Device {
 
     /// Where the bytes taken end.
     fn end(&self) -> End
-        ensures { (part : PartData) (kept : KeptData) (bytes : List ℕ) → DeviceStandsFor part kept self.now bytes → result ≡ (state_of part kept false bytes).end }
+        ensures { (part : PartData) (kept : KeptData) (wrapped : Bool) (bytes : List ℕ) → DeviceStandsFor part kept wrapped self.now bytes → result ≡ (state_of part kept wrapped bytes).end }
     {
         end_of(
             self.registers.stop(),
@@ -232,14 +299,14 @@ impl Device {
     /// The part.
     pub fn part(&self) -> &Part
         ensures now { result.now ≡ self.now.part }
-        ensures value { (part : PartData) (kept : KeptData) (bytes : List ℕ) → DeviceStandsFor part kept self.now bytes → result.now ≡ part }
+        ensures value { (part : PartData) (kept : KeptData) (wrapped : Bool) (bytes : List ℕ) → DeviceStandsFor part kept wrapped self.now bytes → result.now ≡ part }
     {
         &self.part
     }
 
     /// The fault that stopped the device.
     pub fn fault(&self) -> Option<Fault>
-        ensures { (part : PartData) (kept : KeptData) (bytes : List ℕ) → DeviceStandsFor part kept self.now bytes → result ≡ fault_of (line_by (stop_in part kept bytes)) }
+        ensures { (part : PartData) (kept : KeptData) (wrapped : Bool) (bytes : List ℕ) → DeviceStandsFor part kept wrapped self.now bytes → result ≡ fault_of (line_by (stop_in part kept bytes)) }
     {
         match self.registers.stop() {
             Some(Stop::Fault(fault)) => Some(fault),
@@ -249,15 +316,15 @@ impl Device {
 
     /// Whether startup has ended.
     pub fn started(&self) -> bool
-        ensures { (part : PartData) (kept : KeptData) (bytes : List ℕ) → DeviceStandsFor part kept self.now bytes → result ≡ ((state_of part kept false bytes).phase == 7) }
+        ensures { (part : PartData) (kept : KeptData) (wrapped : Bool) (bytes : List ℕ) → DeviceStandsFor part kept wrapped self.now bytes → result ≡ ((state_of part kept wrapped bytes).phase == 7) }
     {
         self.registers.clock.has_ended()
     }
 
-    /// The bytes taken since it was made.
+    /// The bytes taken since the reset.
     pub fn taken(&self) -> u64
         ensures now { result ≡ self.now.taken }
-        ensures value { (part : PartData) (kept : KeptData) (bytes : List ℕ) → DeviceStandsFor part kept self.now bytes → result ≡ length bytes }
+        ensures value { (part : PartData) (kept : KeptData) (wrapped : Bool) (bytes : List ℕ) → DeviceStandsFor part kept wrapped self.now bytes → result ≡ length bytes }
     {
         self.taken
     }

@@ -10,8 +10,8 @@ ghost use Rattle.x7_engine.specs.Kept.{is_fallback};
 ghost use Rattle.x7_engine.specs.Registers.{ctl0_held, has_effect};
 ghost use Rattle.x7_engine.specs.ReadBuffer.{IsFull, with_words};
 ghost use Rattle.x7_engine.specs.Standing.{counted_in};
-ghost use Rattle.x7_engine.specs.Stops.{forbids_writing, line_at, reads_frame_data};
-ghost use Rattle.x7_engine.specs.Values.{answer_of, read_out};
+ghost use Rattle.x7_engine.specs.Stops.{fault_of, forbids_writing, line_at, reads_frame_data};
+ghost use Rattle.x7_engine.specs.Values.{answer_of, cause_of, read_out};
 ghost use Rattle.x7_engine.specs.declared.kept.Kept.{Kept as KeptData};
 
 use crate::clock::Clock;
@@ -82,6 +82,30 @@ fn is_a_fallback(kind: Kind) -> bool
     }
 }
 
+/// Whether an attempt is of a boot, and not on the bench.
+fn is_boot(kind: Kind) -> bool
+    ensures yes { IsTrue result → kind ≡ Kind.Bench → ⊥ }
+    ensures no { result ≡ false → kind ≡ Kind.Bench }
+{
+    match kind {
+        Kind::Bench => false,
+        _ => true,
+    }
+}
+
+/// Whether a boot attempt has ended at this stop: by a fault that a fallback follows, or by an obeyed IPROG.
+fn has_left(stop: Option<Stop>) -> bool
+    ensures yes { IsTrue result → (cause_of (fault_of stop) false ≡ None) → stop ≡ Some Stop.Iprog }
+    ensures cause { result ≡ false → cause_of (fault_of stop) false ≡ None }
+    ensures iprog { result ≡ false → stop ≡ Some Stop.Iprog → ⊥ }
+{
+    match stop {
+        Some(Stop::Iprog) => true,
+        Some(Stop::Fault(Fault::Id { .. } | Fault::Crc { .. } | Fault::Watchdog)) => true,
+        _ => false,
+    }
+}
+
 /// The registers of a device, its clock, what stopped it, and the words of a read that are still to be read out.
 #[derive(Clone, Copy, Debug)]
 pub(crate) struct Registers {
@@ -97,7 +121,7 @@ pub(crate) struct Registers {
 }
 
 impl Registers {
-    ghost use Rattle.x7_engine.specs.Standing.{EndsWords, HoldsRun, IsHeaderStep, IsNext, RegistersStandFor, registers_in, TellsNothing};
+    ghost use Rattle.x7_engine.specs.Standing.{EndsWords, HoldsRun, IsHeaderStep, IsNext, MayWrapWith, RegistersStandFor, registers_in, TellsNothing};
 
     /// Those of a device that took nothing, with what the reset kept.
     pub(crate) fn new(kept: &Kept) -> Registers
@@ -123,6 +147,23 @@ impl Registers {
         ensures { result ≡ self.now.stop }
     {
         self.stop
+    }
+
+    /// Whether the flash may end here.
+    pub(crate) fn may_wrap(&self) -> bool
+        ensures yes { IsTrue result → MayWrapWith (registers_in self.now) }
+        ensures no { result ≡ false → MayWrapWith (registers_in self.now) → ⊥ }
+    {
+        if !is_boot(self.kind) {
+            return false;
+        }
+        if self.clock.has_ended() {
+            return false;
+        }
+        if has_left(self.stop) {
+            return false;
+        }
+        self.due == 0
     }
 
     /// The command that CMD holds, five bits.
@@ -159,7 +200,9 @@ impl Registers {
             Reg::Far | Reg::Cmd if is(Command::Start, executed) && !matched => unmatched,
             Reg::Fdri | Reg::Mfwr if !matched => unmatched,
             Reg::Fdri if self.takes_frames() => unbuilt,
-            Reg::Cmd if is(Command::Iprog, executed) && !is_a_fallback(self.kind) => Some(Stop::Iprog),
+            Reg::Cmd if is(Command::Iprog, executed) && !is_a_fallback(self.kind) => Some(
+                Stop::Iprog,
+            ),
             Reg::Ctl0 if is_dec(masked(self.controls.ctl0, self.words.held(Reg::Mask), word)) =>
                 Some(Stop::Fault(Fault::Encrypted)),
             Reg::Mfwr if !self.controls.forbid_writing() => unbuilt,

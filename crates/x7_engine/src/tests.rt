@@ -12,7 +12,7 @@ use std::alloc::Global;
 use std::process::Abort;
 use std::test::Fail;
 use x7_part::part_of;
-use x7_regs::Kind;
+use x7_regs::{Attempt, Cause, Kind};
 use x7_words::NoMemory;
 
 /// A part of two rows with two frames each.
@@ -218,6 +218,102 @@ fn answers_of_feeds(rt: HostRuntime) -> Result<(), Fail> {
         b"\xAA\x99\x55\x66\x30\x01\x80\x01\x03\x62\xD0\x93\x30\0\x40\x02\0\0\0\x11\0\0\0\x12\x30\0\x80\x01\0\0\0\x01\x30\0\x40\x02\0\0\0\x13\0\0\0\x14";
     assert_eq!(rt; fed(&rt, &mut device, stream, &mut read), Fed::Stopped(40));
     assert_eq!(rt; device.fault(), Some(Fault::Unbuilt));
+    Ok(())
+}
+
+/// What a reset keeps beside no register.
+fn kept(kind: Kind, before: Option<Attempt>) -> Kept {
+    Kept {
+        wbstar: 0,
+        timer: 0,
+        bspi: 0,
+        kind,
+        before,
+    }
+}
+
+#[test]
+fn an_iprog_by_the_kind_of_attempt(rt: HostRuntime) -> Result<(), Fail> {
+    let mut device = tiny(rt.alloc())?;
+    let before = Some(Attempt {
+        kind: Kind::Iprog,
+        cause: Some(Cause::Crc),
+        ignored: false,
+    });
+    // the kind, the answer to the IPROG, and BOOTSTS then
+    let cases = [
+        (Kind::Fallback, Fed::All, 0x2507),
+        (Kind::Iprog, Fed::Iprog(12), 0x2505),
+        (Kind::Power, Fed::Iprog(12), 0x2501),
+        (Kind::Bench, Fed::Iprog(12), 0),
+    ];
+    for (kind, answer, bootsts) in cases {
+        device.reset(kept(kind, before));
+        let stream = b"\xAA\x99\x55\x66\x30\0\x80\x01\0\0\0\x0F";
+        assert_eq!(rt;
+            fed(&rt, &mut device, stream, &mut ReadBuf::dropping()),
+            answer
+        );
+        assert_eq!(rt; device.state().bootsts, bootsts);
+    }
+    Ok(())
+}
+
+#[test]
+fn a_flash_that_ends_in_two_attempts(rt: HostRuntime) -> Result<(), Fail> {
+    let mut device = tiny(rt.alloc())?;
+    assert!(rt; !device.may_wrap());
+    device.reset(kept(Kind::Power, None));
+    fed(&rt, &mut device, b"\xFF\xFF", &mut ReadBuf::dropping());
+    assert_eq!(rt; device.state().bootsts, 0x0001);
+    assert!(rt; device.may_wrap());
+    device.wrap();
+    assert_eq!(rt; device.state().bootsts, 0x0041);
+    let wrapped = Attempt {
+        kind: Kind::Power,
+        cause: Some(Cause::Wrap),
+        ignored: false,
+    };
+    assert_eq!(rt;
+        device.kept(Kind::Fallback),
+        kept(Kind::Fallback, Some(wrapped))
+    );
+    device.reset(device.kept(Kind::Fallback));
+    assert_eq!(rt; device.state().bootsts, 0x4103);
+    assert!(rt; device.may_wrap());
+    device.wrap();
+    assert_eq!(rt; device.state().bootsts, 0x4143);
+    Ok(())
+}
+
+#[test]
+fn a_reset_keeps_three_registers(rt: HostRuntime) -> Result<(), Fail> {
+    let mut device = tiny(rt.alloc())?;
+    // WBSTAR, TIMER, BSPI and AXSS are written, and a shutdown and startup are under way
+    let stream =
+        b"\xAA\x99\x55\x66\x30\x01\x80\x01\x03\x62\xD0\x93\x30\x02\0\x01\0\x02\0\0\x30\x02\x20\x01\x80\0\0\x05\x30\x03\xE0\x01\0\0\0\x0B\x30\x01\xA0\x01\0\0\0\x07\x30\0\x80\x01\0\0\0\x05\x30\0\x80\x01\0\0\0\x0D\xAA\x99\x55\x66\x30\0\x80\x01\0\0\0\x0B\x30\0\x80";
+    assert_eq!(rt;
+        fed(&rt, &mut device, stream, &mut ReadBuf::dropping()),
+        Fed::All
+    );
+    assert_eq!(rt; device.state().phase, 3);
+    device.reset(device.kept(Kind::Bench));
+    let fresh = fresh(End::Searching);
+    assert_eq!(rt;
+        device.state(),
+        Regs {
+            wbstar: 0x2_0000,
+            timer: 0x8000_0005,
+            bspi: 0xB,
+            ..fresh
+        }
+    );
+    // the session and the shutdown are forgotten, and so is the matching idcode
+    let stream = b"\x01\0\0\0\x07\xAA\x99\x55\x66\x30\0\x80\x01\0\0\0\x05";
+    assert_eq!(rt;
+        fed(&rt, &mut device, stream, &mut ReadBuf::dropping()),
+        Fed::Stopped(17)
+    );
     Ok(())
 }
 

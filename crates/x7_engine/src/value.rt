@@ -94,8 +94,8 @@ impl Registers {
         })
     }
 
-    /// The present boot attempt.
-    fn attempt(&self) -> Attempt
+    /// The present boot attempt, as long as the flash goes on.
+    pub(crate) fn attempt(&self) -> Attempt
         ensures { (part : PartData) (kept : Kept) (h : History) (n : ℕ) → RegistersStandFor part kept (registers_in self.now) h n → result ≡ attempt_of kept false (fault_of self.now.stop) h }
     {
         Attempt {

@@ -250,7 +250,30 @@ within_tick lock matched s calls cor0 begun small h =
     running_stands lock matched s calls 1 cor0 0 (s.tick_bytes + 1) s.ticks s.phase begun (omega arith) (omega arith)
     (λ t e p. let z : t + 0 ≡ t = omega arith in rw z (e, p)) h
 
-progress_bytes : (calls : List Call) (n : ℕ) → progress_of (calls ++ replicate n Byte) ≡ further n (progress_of calls)
+-- ---- how far startup is, and whether it is armed, after one call more
+
+pub progress_arm : (calls : List Call) → progress_of (calls ++ Arm ∷ []) ≡ progress_of calls
+progress_arm calls = ap (start_of false) (since_push calls (Arm ∷ []) refl) ∙ start_arm false (since_taking calls)
+
+pub progress_desync : (calls : List Call) (d : ℕ) → progress_of (calls ++ Desync d ∷ []) ≡ first_place (progress_of calls) (is_armed false (since_taking calls)) d
+progress_desync calls d = ap (start_of false) (since_push calls (Desync d ∷ []) refl) ∙ start_desync false (since_taking calls) d
+
+pub progress_drop : (calls : List Call) → progress_of (calls ++ DropBack ∷ []) ≡ NotBegun
+progress_drop calls = ap (start_of false) (since_last calls)
+
+pub is_armed-arm : (calls : List Call) → is_armed false (since_taking (calls ++ Arm ∷ [])) ≡ true
+is_armed-arm calls = ap (is_armed false) (since_push calls (Arm ∷ []) refl) ∙ armed_arm false (since_taking calls)
+
+pub is_armed-desync : (calls : List Call) (d : ℕ) → is_armed false (since_taking (calls ++ Desync d ∷ [])) ≡ false
+is_armed-desync calls d = ap (is_armed false) (since_push calls (Desync d ∷ []) refl) ∙ armed_desync false (since_taking calls) d
+
+pub is_armed-drop : (calls : List Call) → is_armed false (since_taking (calls ++ DropBack ∷ [])) ≡ false
+is_armed-drop calls = ap (is_armed false) (since_last calls)
+
+pub is_armed-bytes : (calls : List Call) (n : ℕ) → is_armed false (since_taking (calls ++ replicate n Byte)) ≡ is_armed false (since_taking calls)
+is_armed-bytes calls n = ap (is_armed false) (since_push calls (replicate n Byte) (no_taking n)) ∙ armed_bytes false (since_taking calls) n
+
+pub progress_bytes : (calls : List Call) (n : ℕ) → progress_of (calls ++ replicate n Byte) ≡ further n (progress_of calls)
 progress_bytes calls n = ap (start_of false) (since_push calls (replicate n Byte) (no_taking n)) ∙ start_bytes false (since_taking calls) n
 
 never_falls : (lock matched : ℕ) (progress : Progress) (n p q : ℕ) → IsPhaseOf lock matched progress p → IsPhaseOf lock matched (further n progress) q → p ≤ q

@@ -1,6 +1,7 @@
 //! The startup sequence, its three lines and its ticks, and the configuration watchdog, byte by byte.
 #![tactic(auto)]
 
+mod law;
 mod lines;
 mod phases;
 mod startup;
@@ -8,6 +9,7 @@ mod startup;
 mod tests;
 mod watchdog;
 
+pub use law::startup_laws;
 pub use lines::Lines;
 pub use startup::Startup;
 pub use watchdog::Watchdog;

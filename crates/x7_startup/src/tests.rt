@@ -1,5 +1,5 @@
 //! Known startups and firings, as calls; and runs of bytes at once beside the same bytes one by one.
-use crate::{Lines, Startup, Watchdog};
+use crate::{Lines, Startup, Watchdog, startup_laws};
 
 const NO_LINES: Lines = Lines {
     done: false,
@@ -214,4 +214,9 @@ fn count_stands_still_in_phase_seven(rt: HostRuntime) {
     assert_eq!(rt; firing(watchdog, 9, false), Some(3));
     watchdog.reload();
     assert_eq!(rt; firing(watchdog, 9, false), Some(8));
+}
+
+#[test]
+fn laws_are_called(_: HostRuntime) {
+    startup_laws();
 }

@@ -98,7 +98,7 @@ is_end fed.All h = tt
 is_end (fed.Stopped n) h = tt
 is_end (fed.Iprog n) h = tt
 
-stopped_end : (part : PartData) (bytes front rest : List ℕ) (d : DeviceState) (reads : List ℕ) (s : Stopped) → AreBytes bytes → bytes ≡ front ++ rest → DeviceStandsFor part on_the_bench d front → reads ≡ told_of part on_the_bench d front → length reads ≤ reads_limit
+stopped_end : (part : PartData) (bytes front rest : List ℕ) (d : DeviceState) (reads : List ℕ) (s : Stopped) → AreBytes bytes → bytes ≡ front ++ rest → DeviceStandsFor part on_the_bench false d front → reads ≡ told_of part on_the_bench d front → length reads ≤ reads_limit
     → stop_in part on_the_bench front ≡ Some s → NoWordDue d → IsPlayed part bytes d reads
 stopped_end part bytes front rest d reads s fits split stands told few stop due =
     let all : AreBytes (front ++ rest) = subst (λ x. AreBytes x) split fits in
@@ -113,7 +113,7 @@ stopped_end part bytes front rest d reads s fits split stands told few stop due 
 
 -- where a feed doesn't wait for room, the play has ended
 pub play_end : (part : PartData) (bytes : List ℕ) (at : ℕ) (d : DeviceState) (read : ReadBufState) (reads : List ℕ) (f : Fed) → AreBytes bytes → IsEnd f
-    → DeviceStandsFor part on_the_bench d (take at bytes ++ take (taken_in (length (drop at bytes)) f) (drop at bytes))
+    → DeviceStandsFor part on_the_bench false d (take at bytes ++ take (taken_in (length (drop at bytes)) f) (drop at bytes))
     → Answers part on_the_bench d (take at bytes ++ take (taken_in (length (drop at bytes)) f) (drop at bytes)) read f
     → reads ≡ told_of part on_the_bench d (take at bytes ++ take (taken_in (length (drop at bytes)) f) (drop at bytes)) → length reads ≤ reads_limit → IsPlayed part bytes d reads
 play_end part bytes at d read reads (fed.ReadFull n) fits e stands answer told few = absurd e

@@ -1,5 +1,5 @@
 //! The report of a device.
-ghost use Rattle.std.specs.Prelude.{◌≡◌, ◌++◌, ◌+◌, ◌≤◌, ℕ, List, codes, decimal, false, length, vec_len, vec_capacity, IfOk, OnOk};
+ghost use Rattle.std.specs.Prelude.{◌≡◌, ◌++◌, ◌+◌, ◌≤◌, ℕ, List, codes, decimal, Bool, length, vec_len, vec_capacity, IfOk, OnOk};
 ghost use Rattle.x7_part.specs.Part.{PartData};
 ghost use Rattle.x7_text.specs.Row.{data_text};
 ghost use Rattle.x7_engine.specs.declared.kept.Kept.{Kept};
@@ -88,8 +88,8 @@ fn put_reads(text: &mut Vec<u8>, reads: &[u32]) -> Result<(), NoMemory>
 /// words in `data` lines of eight; `frames 0`, while a device has no memory.
 #[tactic(auto, unfolding(crate::specs::Report::report_text))]
 pub fn report(alloc: Global, device: &Device, reads: &[u32]) -> Result<Vec<u8>, NoMemory>
-    ensures { IfOk result (λ text. (part : PartData) (kept : Kept) (bytes : List ℕ) → DeviceStandsFor part kept device.now bytes
-        → text.items ≡ report_text part.name (state_of part kept false bytes) reads.now) }
+    ensures { IfOk result (λ text. (part : PartData) (kept : Kept) (wrapped : Bool) (bytes : List ℕ) → DeviceStandsFor part kept wrapped device.now bytes
+        → text.items ≡ report_text part.name (state_of part kept wrapped bytes) reads.now) }
 {
     let mut text = Vec::new(alloc);
     put_state(&mut text, device.part().name(), &device.state())?;

@@ -1,4 +1,4 @@
-use Rattle.std.proofs.Common.{◌≡◌, ◌+◌, ◌<◌, ◌++◌, ◌⊎◌, take, drop, length, length-append, length-drop, ap, sym, subst, ◌∙◌, arith, inl, inr}
+use Rattle.std.proofs.Common.{◌≡◌, ◌+◌, ◌<◌, ◌++◌, ◌⊎◌, take, drop, length, length-append, length-drop, ap, sym, subst, ◌∙◌, arith, inl, inr, false}
 use Rattle.std.proofs.lemmas.List.{take_rest}
 use Rattle.x7_words.specs.Word.{AreBytes}
 use Rattle.x7_words.proofs.ListLemmas.{all_from_places}
@@ -17,7 +17,7 @@ returns-in-Err-clause-err c =
     let bytes = c.args.bytes.now in
     let at = c.loop-refusal.at in
     let n = taken_in (length (drop at bytes)) c.feed-fed.result in
-    let reads = rw (take_rest bytes at) at (c.feed-fed.ensures.reads part on_the_bench (take at bytes) v.stands) in
+    let reads = rw (take_rest bytes at) at (c.feed-fed.ensures.reads part on_the_bench false (take at bytes) v.stands) in
     let words = words_are c.loop-refusal.buffer c.feed-fed.new.read reads.0 reads.1 v.buffer in
     let fits : AreBytes bytes = all_from_places (λ b. b < 256) bytes (λ k h. omega (arith, c.type_inv.bytes k)) in
     let told : told_of part on_the_bench c.feed-fed.new.self (take at bytes ++ take n (drop at bytes)) ≡ c.loop-refusal.reads.items ++ reads.0 = reads.2 ∙ ap (λ x. x ++ reads.0) (sym v.told) in
@@ -35,9 +35,9 @@ loop-refusal-smaller c =
     let part = c.args.part.now in
     let bytes = c.args.bytes.now in
     let at = c.loop-refusal.at in
-    let reads = c.feed-fed.ensures.reads part on_the_bench (take at bytes) v.stands in
+    let reads = c.feed-fed.ensures.reads part on_the_bench false (take at bytes) v.stands in
     let most = most_is c.loop-refusal.buffer c.feed-fed.new.read reads.0 reads.1 v.buffer in
-    let answer = c.in-ReadFull.ensures.answer part on_the_bench (take at bytes) v.stands in
+    let answer = c.in-ReadFull.ensures.answer part on_the_bench false (take at bytes) v.stands in
     let full : length c.feed-fed.new.read.words ≡ 4096 = full_words c.feed-fed.new.read most answer.2 in
     let size : length c.gather.new.reads.items ≡ length c.loop-refusal.reads.items + length c.feed-fed.new.read.words = ap length c.in-Ok-gather.ensures.words ∙ length-append c.loop-refusal.reads.items c.feed-fed.new.read.words in
     omega (arith, full, size, c.loop-refusal.reads.ok.0, c.gather.new.reads.ok.0, c.in-Ok-gather.ensures.within)
@@ -49,15 +49,15 @@ loop-refusal-preserved c =
     let bytes = c.args.bytes.now in
     let at = c.loop-refusal.at in
     let count = c.in-ReadFull.count in
-    let reads = rw (take_rest bytes at) at (c.in-ReadFull.ensures.reads part on_the_bench (take at bytes) v.stands) in
+    let reads = rw (take_rest bytes at) at (c.in-ReadFull.ensures.reads part on_the_bench false (take at bytes) v.stands) in
     let words = words_are c.loop-refusal.buffer c.feed-fed.new.read reads.0 reads.1 v.buffer in
     let most = most_is c.loop-refusal.buffer c.feed-fed.new.read reads.0 reads.1 v.buffer in
-    let stands = rw (take_rest bytes at) at (c.in-ReadFull.ensures.stands part on_the_bench (take at bytes) v.stands) in
+    let stands = rw (take_rest bytes at) at (c.in-ReadFull.ensures.stands part on_the_bench false (take at bytes) v.stands) in
     let within = rw (take_rest bytes at) at c.in-ReadFull.ensures.within in
     let more = taken_more bytes at count in
     record {
       at = omega (arith, within, length-drop at bytes, v.at);
-      stands = subst (λ x. DeviceStandsFor part on_the_bench c.feed-fed.new.self x) (sym more) stands;
+      stands = subst (λ x. DeviceStandsFor part on_the_bench false c.feed-fed.new.self x) (sym more) stands;
       told = c.in-Ok-gather.ensures.words ∙ ap (λ x. x ++ c.feed-fed.new.read.words) v.told ∙ ap (λ x. told_of part on_the_bench c.loop-refusal.device (take at bytes) ++ x) words ∙ sym reads.2 ∙ ap (told_of part on_the_bench c.feed-fed.new.self) (sym more);
       few = c.in-Ok-gather.ensures.within;
       buffer = emptied_again c.feed-fed.new.read c.gather.new.buffer c.in-Ok-gather.ensures.cleared most;
@@ -70,10 +70,10 @@ returns-in_default-fed-clause-ok c =
     let bytes = c.args.bytes.now in
     let at = c.loop-refusal.at in
     let n = taken_in (length (drop at bytes)) c.feed-fed.result in
-    let reads = rw (take_rest bytes at) at (c.feed-fed.ensures.reads part on_the_bench (take at bytes) v.stands) in
+    let reads = rw (take_rest bytes at) at (c.feed-fed.ensures.reads part on_the_bench false (take at bytes) v.stands) in
     let words = words_are c.loop-refusal.buffer c.feed-fed.new.read reads.0 reads.1 v.buffer in
-    let stands = rw (take_rest bytes at) at (c.feed-fed.ensures.stands part on_the_bench (take at bytes) v.stands) in
-    let answer = rw (take_rest bytes at) at (c.feed-fed.ensures.answer part on_the_bench (take at bytes) v.stands) in
+    let stands = rw (take_rest bytes at) at (c.feed-fed.ensures.stands part on_the_bench false (take at bytes) v.stands) in
+    let answer = rw (take_rest bytes at) at (c.feed-fed.ensures.answer part on_the_bench false (take at bytes) v.stands) in
     let fits : AreBytes bytes = all_from_places (λ b. b < 256) bytes (λ k h. omega (arith, c.type_inv.bytes k)) in
     let told : c.gather.new.reads.items ≡ told_of part on_the_bench c.feed-fed.new.self (take at bytes ++ take n (drop at bytes))
     = c.in-Ok-gather.ensures.words ∙ ap (λ x. x ++ c.feed-fed.new.read.words) v.told ∙ ap (λ x. told_of part on_the_bench c.loop-refusal.device (take at bytes) ++ x) words ∙ sym reads.2 in

@@ -15,7 +15,7 @@ startup_here c kept h n l s = startup_bytes c.args.part.now h n 1 c.lock.result 
 
 ends_here : (c : goal.After-byte-2) (kept : Kept) (h : History) (n : ℕ) → newest_place h ≤ n → IsClock c.args.part.now kept (clock_in c.args.self.now) h n
     → c.has_ended-eos.result ≡ has_ended c.args.part.now h (n + 1)
-ends_here c kept h n l s = c.has_ended-eos.ensures c.args.part.now h (n + 1) (startup_here c kept h n l s)
+ends_here c kept h n l s = c.has_ended-eos.ensures.value c.args.part.now h (n + 1) (startup_here c kept h n l s)
 
 pub returns-clause-stands : goal.returns-clause-stands
 returns-clause-stands c = λ kept h n l s. record {

@@ -20,12 +20,12 @@ same_end (Some (stop.Fault g)) b c w f = refl
 same_end (Some stop.Iprog) b c w f = refl
 
 pub returns : goal.returns
-returns c = λ given kept bytes s.
+returns c = λ given kept wrapped bytes s.
     let part : PartData = c.self.inside.part in
-    let fields : DeviceState = record { part = part; cutter = c.self.inside.cutter; registers = registers_in c.self.inside.registers; taken = c.self.inside.taken } in
+    let fields : DeviceState = record { part = part; cutter = c.self.inside.cutter; registers = registers_in c.self.inside.registers; wrapped = c.self.inside.wrapped; taken = c.self.inside.taken } in
     let here : part ≡ given = ap (λ (d : DeviceState). d.part) c.self.view_is ∙ s.part_is in
-    let now : DeviceStandsFor part kept c.args.self.now bytes = subst (λ (p : PartData). DeviceStandsFor p kept c.args.self.now bytes) (sym here) s in
-    let stands : DeviceStandsFor part kept fields bytes = subst (λ (d : DeviceState). DeviceStandsFor part kept d bytes) (sym c.self.view_is) now in
+    let now : DeviceStandsFor part kept wrapped c.args.self.now bytes = subst (λ (p : PartData). DeviceStandsFor p kept wrapped c.args.self.now bytes) (sym here) s in
+    let stands : DeviceStandsFor part kept wrapped fields bytes = subst (λ (d : DeviceState). DeviceStandsFor part kept wrapped d bytes) (sym c.self.view_is) now in
     let h : History = history_taken part kept bytes in
     let session : (d : c.self.inside.registers.stop ≡ None) → c.is_synced.result ≡ is_synced (reading_of bytes).place = λ d.
     let cutter : IsCutterOf c.self.inside.cutter bytes = stands.cutter_is d in
@@ -34,5 +34,5 @@ returns c = λ given kept bytes s.
     ∙ ap (λ (o : Option Stop). end_by o c.is_synced.result c.value.result) c.stop.ensures
     ∙ same_end c.self.inside.registers.stop c.is_synced.result (is_synced (reading_of bytes).place) c.value.result session
     ∙ ap (end_by c.self.inside.registers.stop (is_synced (reading_of bytes).place)) (c.value.ensures kept h (length bytes) stands.registers_are)
-    ∙ ap (λ (o : Option Stop). end_by o (is_synced (reading_of bytes).place) (word_held kept 16 h)) (sym (line_is part kept fields bytes stands))
+    ∙ ap (λ (o : Option Stop). end_by o (is_synced (reading_of bytes).place) (word_held kept 16 h)) (sym (line_is part kept wrapped fields bytes stands))
     ∙ ap (λ (p : PartData). end_by (line_by (stop_in p kept bytes)) (is_synced (reading_of bytes).place) (word_held kept 16 (history_taken p kept bytes))) here

@@ -1,4 +1,4 @@
-use Rattle.std.proofs.Common.{◌≡◌, ◌+◌, ◌-◌, ◌^◌, ◌≤◌, ◌++◌, ℕ, List, length, take, true, if◌then◌else◌}
+use Rattle.std.proofs.Common.{◌≡◌, ◌+◌, ◌-◌, ◌^◌, ◌≤◌, ◌++◌, ℕ, List, length, take, true, if◌then◌else◌, Bool}
 use Rattle.std.specs.Option.{is_some}
 use Rattle.x7_packets.specs.Cutting.{calls_left}
 use Rattle.x7_part.specs.Part.{PartData}
@@ -11,8 +11,8 @@ abbrev pub invariant-runs : goal.invariant-runs
 invariant-runs l = record {
   within : l.at ≤ length l.piece;
   fits : l.self.taken + (length l.piece - l.at) ≤ 2 ^ 63;
-  stands : (part : PartData) (kept : Kept) (bytes : List ℕ) → DeviceStandsFor part kept l.initial.self bytes → DeviceStandsFor part kept l.self (bytes ++ take l.at l.piece);
-  reads : (part : PartData) (kept : Kept) (bytes : List ℕ) → DeviceStandsFor part kept l.initial.self bytes
+  stands : (part : PartData) (kept : Kept) (wrapped : Bool) (bytes : List ℕ) → DeviceStandsFor part kept wrapped l.initial.self bytes → DeviceStandsFor part kept wrapped l.self (bytes ++ take l.at l.piece);
+  reads : (part : PartData) (kept : Kept) (wrapped : Bool) (bytes : List ℕ) → DeviceStandsFor part kept wrapped l.initial.self bytes
       → (more : List ℕ) × (l.read ≡ with_words l.initial.read more) × (told_of part kept l.self (bytes ++ take l.at l.piece) ≡ told_of part kept l.initial.self bytes ++ more);
   stopped : is_some l.initial.self.registers.stop ≡ true → (l.self ≡ l.initial.self) × (l.read ≡ l.initial.read) × (l.at ≡ 0);
 }

@@ -7,6 +7,7 @@ pub returns-in-Ok : goal.returns-in-Ok
 returns-in-Ok c = record {
   fits = tt;
   part_is = c.in-Ok.ensures;
+  wrapped_is = refl;
   taken_is = refl;
   stop_is = sym (ap (stopped_at 0) c.new-in-Ok.ensures.going);
   registers_are = c.new-in-Ok.ensures.stands c.args.part.now;

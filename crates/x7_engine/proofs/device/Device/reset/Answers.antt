@@ -4,10 +4,11 @@ use Rattle.x7_engine.specs.Standing.{DeviceState}
 use Rattle.x7_engine.specs.Stops.{stopped_at}
 use Rattle.x7_engine.proofs.device.Device.reset.Goals as goal
 
-pub returns : goal.returns
-returns c = record {
+pub returns-clause-stands : goal.returns-clause-stands
+returns-clause-stands c = record {
   fits = tt;
   part_is = ap (λ (d : DeviceState). d.part) c.self.view_is;
+  wrapped_is = refl;
   taken_is = refl;
   stop_is = sym (ap (stopped_at 0) c.new-self-inside-2.ensures.going);
   registers_are = c.new-self-inside-2.ensures.stands c.args.self.now.part;

@@ -25,4 +25,4 @@ returns c = λ kept h n s.
     c.is_crc-crc_error.ensures c.is_id.ensures s.progress.ghigh
     (c.have_passed.ensures part h n s.clock.startup ∙ ap (λ (k : ℕ). nat_le k (ticks_of (startup_progress h n))) c.lock.ensures)
     (c.have_passed-2.ensures part h n s.clock.startup ∙ ap (λ (k : ℕ). nat_le k (ticks_of (startup_progress h n))) c.matched.ensures)
-    (c.has_ended.ensures part h n s.clock.startup) (c.lines-lines.ensures part h n s.clock.startup) (c.phase.ensures.value part h n s.clock.startup) c.mode.ensures.value c.bus_width.ensures.value
+    (c.has_ended.ensures.value part h n s.clock.startup) (c.lines-lines.ensures part h n s.clock.startup) (c.phase.ensures.value part h n s.clock.startup) c.mode.ensures.value c.bus_width.ensures.value
