@@ -78,14 +78,14 @@ word-of-eight (s ∷ t ∷ u ∷ v ∷ w ∷ x ∷ y ∷ z ∷ []) a b c d r n e
 word-of-eight _ a b c d r n e f g h k = absurd (omega (arith, n))
 
 -- a text that no number leads to is no decimal number
-pub utf8-decimal : (ds : List ℕ) (n : ℕ) → n < 2 ^ 32 → ds ≡ decimal n → IsUtf8 ds
+pub utf8-decimal : (ds : List ℕ) (n : ℕ) → n < 2 ^ 64 → ds ≡ decimal n → IsUtf8 ds
 utf8-decimal ds n h e = let P : List ℕ → Type 0 = λ t. IsUtf8 t in subst P (sym e) (IsUtf8-from_ascii (decimal n) (IsAscii-decimal n (omega arith)))
 
-pub not-parsed : {E : Type 0} (ds : List ℕ) (r : Result ℕ E) (e : E) → r ≡ Err e → ParsesUnsigned 32 10 ds r → (n : ℕ) → n < 2 ^ 32 → ds ≡ decimal n → ⊥
-not-parsed ds r e was p n h k = let yes : r ≡ Ok n = parse-decimal 32 n ds r h (omega arith) k p in cc
+pub not-parsed : {E : Type 0} (ds : List ℕ) (r : Result ℕ E) (e : E) → r ≡ Err e → ParsesUnsigned 64 10 ds r → (n : ℕ) → n < 2 ^ 64 → ds ≡ decimal n → ⊥
+not-parsed ds r e was p n h k = let yes : r ≡ Ok n = parse-decimal 64 n ds r h (omega arith) k p in cc
 
-pub no-decimal : {E : Type 0} (ds told : List ℕ) (r : Result ℕ E) (m : ℕ) (b : Bool) → r ≡ Ok m → ParsesUnsigned 32 10 ds r → told ≡ decimal m → b ≡ false → (told ≡ ds → IsTrue b) → (n : ℕ) → n < 2 ^ 32 → ds ≡ decimal n → ⊥
+pub no-decimal : {E : Type 0} (ds told : List ℕ) (r : Result ℕ E) (m : ℕ) (b : Bool) → r ≡ Ok m → ParsesUnsigned 64 10 ds r → told ≡ decimal m → b ≡ false → (told ≡ ds → IsTrue b) → (n : ℕ) → n < 2 ^ 64 → ds ≡ decimal n → ⊥
 no-decimal ds told r m b was p f off is n h k =
-    let yes : r ≡ Ok n = parse-decimal 32 n ds r h (omega arith) k p in
+    let yes : r ≡ Ok n = parse-decimal 64 n ds r h (omega arith) k p in
     let same : m ≡ n = cc in
     refuted b off (is (f ∙ ap decimal same ∙ sym k))

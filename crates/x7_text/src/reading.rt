@@ -46,14 +46,14 @@ pub fn word_of_hex(digits: &[u8]) -> Option<u32>
     }
 }
 
-/// The number of decimal digits, exactly where they are those of a number of 32 bits: no leading zero.
-pub fn number_of_decimal(digits: &[u8]) -> Option<u32>
-    ensures { MatchOption result ((n : ℕ) → n < 2 ^ 32 → digits.now ≢ decimal n) (λ n. digits.now ≡ decimal n) }
+/// The number of decimal digits, exactly where they are those of a number of 64 bits: no leading zero.
+fn number_of_decimal(digits: &[u8]) -> Option<u64>
+    ensures { MatchOption result ((n : ℕ) → n < 2 ^ 64 → digits.now ≢ decimal n) (λ n. digits.now ≡ decimal n) }
 {
     let Ok(text) = std::str::from_utf8(digits) else {
         return None;
     };
-    let Ok(n) = text.parse::<u32>() else {
+    let Ok(n) = text.parse::<u64>() else {
         return None;
     };
     let mut buffer = Buffer::new();
@@ -62,6 +62,16 @@ pub fn number_of_decimal(digits: &[u8]) -> Option<u32>
     } else {
         None
     }
+}
+
+/// The number below the limit that these are the decimal digits of, without leading zeros.
+pub fn decimal_below(digits: &[u8], limit: u64) -> Option<u64>
+    ensures { MatchOption result ((n : ℕ) → n < limit → digits.now ≢ decimal n) (λ n. (n < limit) × (digits.now ≡ decimal n)) }
+{
+    let Some(number) = number_of_decimal(digits) else {
+        return None;
+    };
+    if number < limit { Some(number) } else { None }
 }
 
 /// The numbers of digits.
