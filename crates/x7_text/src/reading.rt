@@ -129,3 +129,6 @@ pub fn block_of_hex(digits: &[u8; 64]) -> Option<[u8; 32]>
         None
     }
 }
+
+#[cfg(test)]
+mod tests;
