@@ -1,7 +1,12 @@
 pub mod AppendsLemmas
 pub mod BlockLemmas
+pub mod CaseLemmas
+pub mod DigitLemmas
 pub mod LineLemmas
+pub mod ReadRowLemmas
 pub mod RowLemmas
+pub mod SplitLemmas
 pub mod ToldLemmas
+pub mod ValueLemmas
 pub mod WholeLineLemmas
 pub mod WordLemmas

@@ -1,3 +1,7 @@
 pub mod Appends
 pub mod Digits
+pub mod DigitValue
+pub mod EitherCase
+pub mod Lines
+pub mod Reads
 pub mod Row

@@ -1,6 +1,7 @@
 -- Rows of words or bytes, and the lines that show them (this project's choice).
 use Rattle.std.specs.Prelude.{ℕ, ◌+◌, ◌==◌, ◌≡◌, ◌<◌, ◌≤◌, if◌then◌else◌, List, [], ◌∷◌, ◌++◌, length, codes}
 use Rattle.std.specs.List.{flat_map}
+use Rattle.x7_words.specs.Word.{AreBytes, AreWords}
 use Rattle.x7_text.specs.Digits.{hex_byte, hex_word}
 
 -- a row that has elements, and nothing for an empty one
@@ -70,3 +71,10 @@ in_line_after n i (x ∷ xs) = in_line_after n (next_in_line n i) xs
 -- the end of an open line, and nothing where none is open
 abbrev pub close : ℕ → List ℕ
 close i = if i == 0 then [] else 10 ∷ []
+
+-- the bytes of one `bytes` line, and the words of one `data` line
+abbrev pub IsByteRow : List ℕ → Type 0
+IsByteRow bytes = AreBytes bytes × (0 < length bytes) × (length bytes ≤ 32)
+
+abbrev pub IsWordRow : List ℕ → Type 0
+IsWordRow words = AreWords words × (0 < length words) × (length words ≤ 8)

@@ -1,7 +1,11 @@
 //! Laws of rows and their lines, for the proofs of crates above.
-ghost use Rattle.std.specs.Prelude.{◌≡◌, ℕ, List, ◌<◌, ◌++◌, length, codes};
-ghost use Rattle.std.specs.List.{flat_map};
-ghost use Rattle.x7_text.specs.Digits.{hex_byte};
+ghost use Rattle.std.specs.Prelude.{◌≡◌, ℕ, List, [], ◌∷◌, ◌<◌, ◌+◌, ◌^◌, ◌⊎◌, ◌++◌, length, true, Some, codes, decimal};
+ghost use Rattle.std.specs.List.{flat_map, AllByRecursion};
+ghost use Rattle.x7_words.specs.Word.{AreBytes};
+ghost use Rattle.x7_text.specs.Digits.{hex_byte, hex_digit, hex_word};
+ghost use Rattle.x7_text.specs.DigitValue.{bytes_value, word_value};
+ghost use Rattle.x7_text.specs.EitherCase.{digit_of, pairs};
+ghost use Rattle.x7_text.specs.Lines.{has_no_end, joined, split};
 ghost use Rattle.x7_text.specs.Row.{AreFullButLast, rows, line, bytes_text, data_text, open_text, in_line_after, spaced, close};
 
 /// Words told one by one and closed are the `data` lines, and bytes the `bytes` lines.
@@ -28,4 +32,28 @@ pub fn whole_rows()
 pub fn rows_are_the_elements()
     ensures joined { (n : ℕ) (xs : List ℕ) → flat_map (λ (row : List ℕ). row) (rows n xs) ≡ xs }
     ensures full { (n : ℕ) (xs : List ℕ) → 0 < n → AreFullButLast n (rows n xs) }
+{}
+
+/// Digits lead back to what they are of, and so does a decimal number.
+pub fn digits_lead_back()
+    ensures bytes { (bs : List ℕ) → AreBytes bs → bytes_value (flat_map hex_byte bs) ≡ bs }
+    ensures word { (w : ℕ) → w < 2 ^ 32 → word_value (hex_word w) ≡ w }
+    ensures decimal { (m n : ℕ) → m < 2 ^ 64 → n < 2 ^ 64 → decimal m ≡ decimal n → m ≡ n }
+{}
+
+/// A digit of either case has a number below 16, and is the upper-case digit of that number or the letter 32 above it.
+/// The upper-case digits of bytes lead back.
+pub fn either_case_leads_back()
+    ensures upper { (n : ℕ) → n < 16 → digit_of (hex_digit n) ≡ Some n }
+    ensures digit { (c n : ℕ) → digit_of c ≡ Some n → (n < 16) × ((c ≡ hex_digit n) ⊎ (c ≡ hex_digit n + 32)) }
+    ensures bytes { (bs : List ℕ) → AreBytes bs → pairs (flat_map hex_byte bs) ≡ Some bs }
+{}
+
+/// Lines joined are the text, none holds a line end, and lines that each have their end are split into them and an empty
+/// one.
+pub fn lines_lead_back()
+    ensures joined { (text : List ℕ) → joined (split text) ≡ text }
+    ensures free { (text : List ℕ) → AllByRecursion (λ line. has_no_end line ≡ true) (split text) }
+    ensures ended { (lines : List (List ℕ)) → AllByRecursion (λ line. has_no_end line ≡ true) lines
+        → split (flat_map (λ line. line ++ 10 ∷ []) lines) ≡ lines ++ [] ∷ [] }
 {}

@@ -3,12 +3,23 @@
 
 mod block;
 mod digits;
+mod either_case;
 mod law;
+mod lines;
+mod read_row;
+mod reading;
 mod room;
 mod row;
 
 pub use block::{data_line, hex_of_block};
 pub use digits::{hex_of_byte, hex_of_word, put_decimal};
-pub use law::{rows_are_the_elements, told_in_parts, told_one_by_one, whole_rows};
+pub use either_case::{byte_of_pair, number_of_digit};
+pub use law::{
+    digits_lead_back, either_case_leads_back, lines_lead_back, rows_are_the_elements,
+    told_in_parts, told_one_by_one, whole_rows,
+};
+pub use lines::first_line;
+pub use read_row::{put_byte_row, put_word_row};
+pub use reading::{block_of_hex, decimal_below, word_of_hex};
 pub use room::{make_room, put};
 pub use row::{put_bytes, put_close, put_word, put_words};

@@ -9,28 +9,15 @@ ghost use Rattle.x7_tool.specs.Report.{reads_text, report_text, state_text};
 
 use std::alloc::Global;
 use x7_engine::{Device, Regs, end_words, phase_line, reg_lines};
-use x7_text::{put, put_close, put_decimal, put_word};
+use x7_text::{make_room, put, put_close, put_decimal, put_word};
 use x7_words::NoMemory;
-
-/// Makes room for so many bytes more.
-fn make_room(text: &mut Vec<u8>, more: usize) -> Result<(), NoMemory>
-    ensures items { text.new.items ≡ text.old.items }
-    ensures room { OnOk result (vec_len text.new + more ≤ vec_capacity text.new) }
-{
-    match text.reserve(more) {
-        Ok(()) => Ok(()),
-        Err(_) => Err(NoMemory),
-    }
-}
 
 /// Appends bytes.
 fn put_text(text: &mut Vec<u8>, bytes: &[u8]) -> Result<(), NoMemory>
     ensures { OnOk result (text.new.items ≡ text.old.items ++ bytes.now) }
 {
-    match text.extend_from_slice(bytes) {
-        Ok(()) => Ok(()),
-        Err(_) => Err(NoMemory),
-    }
+    text.extend_from_slice(bytes)?;
+    Ok(())
 }
 
 /// Appends a number in decimal and a line end.

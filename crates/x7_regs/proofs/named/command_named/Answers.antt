@@ -1,6 +1,6 @@
 use Rattle.std.proofs.Common.{arith, ◌∙◌}
 use Rattle.std.proofs.lemmas.Grind.{common_steps}
-use Rattle.x7_regs.proofs.NamedLemmas.{no-command, no-command-length}
+use Rattle.x7_regs.proofs.NamedLemmas.{no-command}
 use Rattle.x7_regs.proofs.named.command_named.Goals as goal
 
 pub returns-clause-unnamed : goal.returns-clause-unnamed

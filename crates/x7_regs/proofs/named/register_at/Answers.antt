@@ -1,4 +1,4 @@
-use Rattle.std.proofs.Common.{◌≡◌, ◌<◌, ℕ, sym, subst}
+use Rattle.std.proofs.Common.{◌<◌, ℕ, sym, subst}
 use Rattle.x7_regs.specs.Named.{place_of}
 use Rattle.x7_regs.proofs.NamedLemmas.{register-below}
 use Rattle.x7_regs.proofs.named.register_at.Goals as goal

@@ -1,0 +1,91 @@
+-- Digits in vector registers, and what is not the text of anything.
+use Rattle.std.proofs.Common.{Result, Ok, Err, ◌≡◌, ℕ, zero, suc, ◌+◌, ◌*◌, ◌/◌, ◌%◌, ◌^◌, ◌<◌, Bool, true, false, IsTrue, List, [], ◌∷◌, ◌++◌, length, map, replicate, bit_and, refl, ap, ap₂, subst, sym, ◌∙◌, arith, get_or}
+use Rattle.std.proofs.lemmas.Fmt.{IsAscii-decimal, parse-decimal}
+use Rattle.std.proofs.lemmas.Str.{IsUtf8-from_ascii}
+use Rattle.std.specs.Fmt.{decimal}
+use Rattle.std.specs.Str.{IsUtf8}
+use Rattle.std.specs.Str.Parse.{ParsesUnsigned}
+use Rattle.std.proofs.lemmas.Nat.Bits.{and_high}
+use Rattle.std.proofs.lemmas.Simd.{Each1-from_get_or, pick_l_whole}
+use Rattle.std.specs.List.{flat_map, range_with_len}
+use lib.Lanes.{Each1, pick_l, zip2}
+use Rattle.x7_words.specs.Word.{AreBytes, word_of_bytes}
+use Rattle.x7_text.specs.Digits.{hex_byte, hex_word}
+use Rattle.x7_text.specs.DigitValue.{byte_value, bytes_value, digit_value, pairs_value, word_value}
+use Rattle.x7_text.proofs.ValueLemmas.{bytes-back, word-back}
+
+number_step : (x : ℕ) → x < 256 → (bit_and x 15 + x / 2 ^ 6 * 9 % 256) % 256 ≡ digit_value x
+number_step x h = let low : bit_and x 15 ≡ x % 2 ^ 4 = and_high x 4 0 ∙ omega arith in omega (arith, low)
+
+-- what the sum of numbers_of gives
+pub numbers-are : (xs : List ℕ) (n : ℕ) → length xs ≡ n → Each1 (λ c. c < 256) xs
+    → zip2 (λ a b. (a + b) % 256) (zip2 bit_and xs (replicate n 15)) (zip2 (λ a b. a * b % 256) (zip2 (λ a b. a / 2 ^ b) xs (replicate n 6)) (replicate n 9)) ≡ map digit_value xs
+numbers-are [] zero e h = refl
+numbers-are [] (suc n) e h = absurd (omega (arith, e))
+numbers-are (x ∷ xs) zero e h = absurd (omega (arith, e))
+numbers-are (x ∷ xs) (suc n) e h = ap₂ (λ (a : ℕ) (b : List ℕ). a ∷ b) (number_step x h.0) (numbers-are xs n (omega (arith, e)) h.1)
+
+abbrev pub evens : List ℕ
+evens = 0 ∷ 2 ∷ 4 ∷ 6 ∷ 8 ∷ 10 ∷ 12 ∷ 14 ∷ 16 ∷ 18 ∷ 20 ∷ 22 ∷ 24 ∷ 26 ∷ 28 ∷ 30 ∷ 32 ∷ 34 ∷ 36 ∷ 38 ∷ 40 ∷ 42 ∷ 44 ∷ 46 ∷ 48 ∷ 50 ∷ 52 ∷ 54 ∷ 56 ∷ 58 ∷ 60 ∷ 62 ∷ []
+
+abbrev pub odds : List ℕ
+odds = 1 ∷ 3 ∷ 5 ∷ 7 ∷ 9 ∷ 11 ∷ 13 ∷ 15 ∷ 17 ∷ 19 ∷ 21 ∷ 23 ∷ 25 ∷ 27 ∷ 29 ∷ 31 ∷ 33 ∷ 35 ∷ 37 ∷ 39 ∷ 41 ∷ 43 ∷ 45 ∷ 47 ∷ 49 ∷ 51 ∷ 53 ∷ 55 ∷ 57 ∷ 59 ∷ 61 ∷ 63 ∷ []
+
+abbrev raw_pairs : List ℕ → List ℕ
+raw_pairs [] = []
+raw_pairs (a ∷ []) = []
+raw_pairs (a ∷ b ∷ cs) = (a * 16 % 256 + b) % 256 ∷ raw_pairs cs
+
+raw-are : (xs : List ℕ) → raw_pairs xs ≡ pairs_value xs
+raw-are [] = refl
+raw-are (a ∷ []) = refl
+raw-are (a ∷ b ∷ cs) = ap₂ (λ (x : ℕ) (t : List ℕ). x ∷ t) (let e : (a * 16 % 256 + b) % 256 ≡ (a * 16 + b) % 256 = omega arith in e) (raw-are cs)
+
+abbrev pub Paired : List ℕ → Type 0
+Paired xs = zip2 (λ a b. (a + b) % 256) (zip2 (λ a b. a * 2 ^ b % 256) (pick_l 0 (xs ++ xs) evens) (replicate 32 4)) (pick_l 0 (xs ++ xs) odds) ≡ raw_pairs xs
+
+abbrev pub FromPairs : List ℕ → Type 0
+FromPairs xs = zip2 (λ a b. (a + b) % 256) (zip2 (λ a b. a * 2 ^ b % 256) (pick_l 0 (xs ++ xs) evens) (replicate 32 4)) (pick_l 0 (xs ++ xs) odds) ≡ pairs_value xs
+
+raw-paired : (xs : List ℕ) → length xs ≡ 64 → Paired xs
+raw-paired xs e = let h : Paired (pick_l 0 xs (range_with_len 0 64)) = refl in subst Paired (pick_l_whole 0 xs 64 e) h
+
+pub paired : (xs : List ℕ) → length xs ≡ 64 → FromPairs xs
+paired xs e = raw-paired xs e ∙ raw-are xs
+
+pub pairs-digits : (ds : List ℕ) → pairs_value (map digit_value ds) ≡ bytes_value ds
+pairs-digits [] = refl
+pairs-digits (a ∷ []) = refl
+pairs-digits (a ∷ b ∷ cs) = ap (λ t. (digit_value a * 16 + digit_value b) % 256 ∷ t) (pairs-digits cs)
+
+pub all-fit : (bs : List ℕ) → ((i : ℕ) → get_or bs i 0 < 256) → Each1 (λ b. b < 256) bs
+all-fit bs h = Each1-from_get_or (λ b. b < 256) bs 0 (λ i l. h i)
+
+pub refuted : (b : Bool) → b ≡ false → IsTrue b → ⊥
+refuted true e h = absurd cc
+refuted false e h = cc
+
+-- digits that written out again are others are no digits
+pub no-bytes : (ds told r : List ℕ) (b : Bool) → r ≡ bytes_value ds → told ≡ flat_map hex_byte r → b ≡ false → (told ≡ ds → IsTrue b) → (bs : List ℕ) → AreBytes bs → ds ≡ flat_map hex_byte bs → ⊥
+no-bytes ds told r b e f n is bs h k = refuted b n (is (f ∙ ap (flat_map hex_byte) (e ∙ ap bytes_value k ∙ bytes-back bs h) ∙ sym k))
+
+pub no-word : (ds told : List ℕ) (w : ℕ) (b : Bool) → w ≡ word_value ds → told ≡ hex_word w → b ≡ false → (told ≡ ds → IsTrue b) → (v : ℕ) → v < 2 ^ 32 → ds ≡ hex_word v → ⊥
+no-word ds told w b e f n is v h k = refuted b n (is (f ∙ ap hex_word (e ∙ ap word_value k ∙ word-back v h) ∙ sym k))
+
+pub word-of-eight : (ds : List ℕ) (a b c d w : ℕ) → length ds ≡ 8 → a ≡ byte_value (get_or ds 0 0) (get_or ds 1 0) → b ≡ byte_value (get_or ds 2 0) (get_or ds 3 0) → c ≡ byte_value (get_or ds 4 0) (get_or ds 5 0) → d ≡ byte_value (get_or ds 6 0) (get_or ds 7 0)
+    → w ≡ word_of_bytes (a ∷ b ∷ c ∷ d ∷ []) → w ≡ word_value ds
+word-of-eight (s ∷ t ∷ u ∷ v ∷ w ∷ x ∷ y ∷ z ∷ []) a b c d r n e f g h k = k ∙ ap₂ (λ p q. word_of_bytes (p ∷ q ∷ c ∷ d ∷ [])) e f ∙ ap₂ (λ p q. word_of_bytes (byte_value s t ∷ byte_value u v ∷ p ∷ q ∷ [])) g h
+word-of-eight _ a b c d r n e f g h k = absurd (omega (arith, n))
+
+-- a text that no number leads to is no decimal number
+pub utf8-decimal : (ds : List ℕ) (n : ℕ) → n < 2 ^ 64 → ds ≡ decimal n → IsUtf8 ds
+utf8-decimal ds n h e = let P : List ℕ → Type 0 = λ t. IsUtf8 t in subst P (sym e) (IsUtf8-from_ascii (decimal n) (IsAscii-decimal n (omega arith)))
+
+pub not-parsed : {E : Type 0} (ds : List ℕ) (r : Result ℕ E) (e : E) → r ≡ Err e → ParsesUnsigned 64 10 ds r → (n : ℕ) → n < 2 ^ 64 → ds ≡ decimal n → ⊥
+not-parsed ds r e was p n h k = let yes : r ≡ Ok n = parse-decimal 64 n ds r h (omega arith) k p in cc
+
+pub no-decimal : {E : Type 0} (ds told : List ℕ) (r : Result ℕ E) (m : ℕ) (b : Bool) → r ≡ Ok m → ParsesUnsigned 64 10 ds r → told ≡ decimal m → b ≡ false → (told ≡ ds → IsTrue b) → (n : ℕ) → n < 2 ^ 64 → ds ≡ decimal n → ⊥
+no-decimal ds told r m b was p f off is n h k =
+    let yes : r ≡ Ok n = parse-decimal 64 n ds r h (omega arith) k p in
+    let same : m ≡ n = cc in
+    refuted b off (is (f ∙ ap decimal same ∙ sym k))

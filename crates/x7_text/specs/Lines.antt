@@ -1,0 +1,23 @@
+-- A text by its lines, which the byte 0A ends (this project's choice).
+use Rattle.std.specs.Prelude.{ℕ, ◌==◌, Bool, true, false, if◌then◌else◌, List, [], ◌∷◌, ◌++◌}
+
+-- a byte at the beginning of the first line
+abbrev pub on_first : ℕ → List (List ℕ) → List (List ℕ)
+on_first c [] = (c ∷ []) ∷ []
+on_first c (t ∷ ts) = (c ∷ t) ∷ ts
+
+-- what stands between the line ends
+abbrev pub split : List ℕ → List (List ℕ)
+split [] = [] ∷ []
+split (c ∷ cs) = if c == 10 then [] ∷ split cs else on_first c (split cs)
+
+-- the lines with a line end between each two
+abbrev pub joined : List (List ℕ) → List ℕ
+joined [] = []
+joined (t ∷ []) = t
+joined (t ∷ u ∷ us) = t ++ 10 ∷ joined (u ∷ us)
+
+-- the text has no line end
+abbrev pub has_no_end : List ℕ → Bool
+has_no_end [] = true
+has_no_end (c ∷ cs) = if c == 10 then false else has_no_end cs

@@ -1,0 +1,134 @@
+//! Digits read back: what they would stand for is written out again and compared, so that only digits are taken.
+ghost use Rattle.std.specs.Prelude.{◌≡◌, ◌≢◌, ℕ, List, ◌<◌, ◌≤◌, ◌^◌, length, map, slice_index, decimal, MatchOption};
+ghost use Rattle.std.specs.List.{flat_map};
+ghost use Rattle.std.specs.Simd.Lanes.{Each1};
+ghost use Rattle.x7_words.specs.Word.{AreBytes};
+ghost use Rattle.x7_text.specs.Digits.{hex_byte, hex_word};
+ghost use Rattle.x7_text.specs.DigitValue.{byte_value, bytes_value, digit_value, pairs_value, word_value};
+
+use crate::block::hex_of_block;
+use crate::digits::hex_of_word;
+use itoa::Buffer;
+use std::simd::prelude::*;
+use x7_words::{is_same, word_of};
+
+/// The number of a digit, if it is one.
+fn number_of(digit: u8) -> u8
+    ensures { result ≡ digit_value digit }
+{
+    (digit & 15) + 9 * (digit >> 6)
+}
+
+/// The byte of two digits, if they are digits.
+fn byte_of(high: u8, low: u8) -> u8
+    ensures { result ≡ byte_value high low }
+{
+    ((u32::from(number_of(high)) * 16 + u32::from(number_of(low))) & 255) as u8
+}
+
+/// The word of eight digits, exactly where they are the digits of a word.
+pub fn word_of_hex(digits: &[u8]) -> Option<u32>
+    ensures { MatchOption result ((w : ℕ) → w < 2 ^ 32 → digits.now ≢ hex_word w) (λ w. digits.now ≡ hex_word w) }
+{
+    let [a, b, c, d, e, f, g, h] = digits else {
+        return None;
+    };
+    let w = word_of([
+        byte_of(*a, *b),
+        byte_of(*c, *d),
+        byte_of(*e, *f),
+        byte_of(*g, *h),
+    ]);
+    if is_same(&hex_of_word(w), digits) {
+        Some(w)
+    } else {
+        None
+    }
+}
+
+/// The number of decimal digits, exactly where they are those of a number of 64 bits: no leading zero.
+fn number_of_decimal(digits: &[u8]) -> Option<u64>
+    ensures { MatchOption result ((n : ℕ) → n < 2 ^ 64 → digits.now ≢ decimal n) (λ n. digits.now ≡ decimal n) }
+{
+    let Ok(text) = std::str::from_utf8(digits) else {
+        return None;
+    };
+    let Ok(n) = text.parse::<u64>() else {
+        return None;
+    };
+    let mut buffer = Buffer::new();
+    if is_same(buffer.format(n).as_bytes(), digits) {
+        Some(n)
+    } else {
+        None
+    }
+}
+
+/// The number below the limit that these are the decimal digits of, without leading zeros.
+pub fn decimal_below(digits: &[u8], limit: u64) -> Option<u64>
+    ensures { MatchOption result ((n : ℕ) → n < limit → digits.now ≢ decimal n) (λ n. (n < limit) × (digits.now ≡ decimal n)) }
+{
+    let Some(number) = number_of_decimal(digits) else {
+        return None;
+    };
+    if number < limit { Some(number) } else { None }
+}
+
+/// The numbers of digits.
+#[inline(always)]
+fn numbers_of(digits: u8x64) -> u8x64
+    requires lanes { length digits ≡ 64 }
+    requires fit { Each1 (λ c. c < 256) digits }
+    ensures { result ≡ map digit_value digits }
+{
+    (digits & u8x64::splat(15)) + (digits >> 6) * u8x64::splat(9)
+}
+
+/// The bytes of pairs of halves, the high one first.
+#[inline(always)]
+fn bytes_of_halves(halves: u8x64) -> u8x32
+    requires { length halves ≡ 64 }
+    ensures { result ≡ pairs_value halves }
+{
+    let high = halves.shuffle(
+        halves,
+        [
+            0, 2, 4, 6, 8, 10, 12, 14, 16, 18, 20, 22, 24, 26, 28, 30, 32, 34, 36, 38, 40, 42, 44,
+            46, 48, 50, 52, 54, 56, 58, 60, 62,
+        ],
+    );
+    let low = halves.shuffle(
+        halves,
+        [
+            1, 3, 5, 7, 9, 11, 13, 15, 17, 19, 21, 23, 25, 27, 29, 31, 33, 35, 37, 39, 41, 43, 45,
+            47, 49, 51, 53, 55, 57, 59, 61, 63,
+        ],
+    );
+    (high << 4) + low
+}
+
+/// The bytes of 64 digits, if they are digits.
+#[inline(always)]
+pub(crate) fn bytes_of_digits(digits: &[u8; 64]) -> [u8; 32]
+    ensures value { result ≡ bytes_value digits.now }
+    ensures long { length result ≡ 32 }
+    ensures fit { (i : ℕ) → slice_index result i < 256 }
+{
+    bytes_of_halves(numbers_of(u8x64::from_array(*digits))).to_array()
+}
+
+/// The bytes of 64 digits, exactly where they are digits.
+#[inline(always)]
+pub fn block_of_hex(digits: &[u8; 64]) -> Option<[u8; 32]>
+    ensures { MatchOption result ((bs : List ℕ) → AreBytes bs → digits.now ≢ flat_map hex_byte bs) (λ bs. digits.now ≡ flat_map hex_byte bs) }
+{
+    let bytes = bytes_of_digits(digits);
+    if is_same(&hex_of_block(&bytes), digits) {
+        Some(bytes)
+    } else {
+        None
+    }
+}
+
+#[cfg(test)]
+mod tests;
