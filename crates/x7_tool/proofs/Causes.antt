@@ -15,12 +15,12 @@ use Rattle.x7_header.specs.Header.{fixed_bytes}
 use Rattle.x7_listing.specs.Listing.{listing_of}
 use Rattle.x7_tool.specs.Form.{Asked, Listing}
 use Rattle.x7_tool.specs.Event.{Event, missing, no_memory, read_fault, too_large, unbuilt, write_fault}
-use Rattle.x7_tool.specs.Outcome.{Answer, Told, and_so, has_header, judged, listed, stream_limit, with_inputs}
+use Rattle.x7_tool.specs.Outcome.{Answer, Known, and_so, has_header, judged, listed, stream_limit, with_inputs}
 use Rattle.x7_tool.specs.Run.{Ends, IsCaused, IsPrefixOf, RisesFor}
 
 -- a name that isn't there
 pub absent : (contents : Option (List ℕ → Option (List ℕ))) (flash : Option (List ℕ)) (name : List ℕ) (a b : ℕ) (F : List ℕ → Type 0) → Lacks contents name ⊎ HasRisen a b
-    → IsCaused {A = Answer} (with_inputs contents flash) F (RisesFor (name ∷ []) a b) (λ told. listed told name) (Err (missing name))
+    → IsCaused {A = Answer} (with_inputs contents flash) F (RisesFor (name ∷ []) a b) (λ known. listed known name) (Err (missing name))
 absent None flash name a b F (inl h) = absurd h
 absent (Some inputs) flash name a b F (inl h) = inr (tt, rw h refl)
 absent contents flash name a b F (inr h) = inl (inl refl, h)
@@ -61,10 +61,10 @@ pub out_of_memory : (contents : Option (List ℕ → Option (List ℕ))) (flash 
     → Selects contents stream (preceded taken rest) → PutsFront old (listing_of taken) now → Ends (with_inputs contents flash) F L (Some (Listing stream)) Full old now (Err no_memory)
 out_of_memory contents flash F L stream taken rest Full old now s p = (inl tt, (taken, (front_taken contents flash stream taken rest s, p)))
 
--- what is told of a stream of which these bytes were taken
-pub told_all : (inputs : List ℕ → Option (List ℕ)) (stream taken : List ℕ) (rest : Option (List ℕ)) → Selects (Some inputs) stream (preceded taken rest) → (left : List ℕ) × ((rest ≡ Some left) × (inputs stream ≡ Some (taken ++ left)))
-told_all inputs stream taken None s = let h = s.2 in absurd (cc)
-told_all inputs stream taken (Some left) s =
+-- what is known of a stream of which these bytes were taken
+pub known_all : (inputs : List ℕ → Option (List ℕ)) (stream taken : List ℕ) (rest : Option (List ℕ)) → Selects (Some inputs) stream (preceded taken rest) → (left : List ℕ) × ((rest ≡ Some left) × (inputs stream ≡ Some (taken ++ left)))
+known_all inputs stream taken None s = let h = s.2 in absurd (cc)
+known_all inputs stream taken (Some left) s =
     let h = s.2 in
     let same : taken ++ left ≡ s.0 = cc in
     (left, (refl, s.1 ∙ ap Some (sym same)))
@@ -75,7 +75,7 @@ pub unwritten : (contents : Option (List ℕ → Option (List ℕ))) (flash : Op
     → Ends (with_inputs contents flash) F L (Some (Listing stream)) Full old now (Err write_fault)
 unwritten None flash F L stream taken rest Full old now s f here p = (f, (listing_of taken, here))
 unwritten (Some inputs) flash F L stream taken rest Full old now s f here p =
-    let all = told_all inputs stream taken rest s in
+    let all = known_all inputs stream taken rest s in
     (f, (taken ++ all.0, (all.1.1, λ fits. p all.0 fits)))
 
 -- bytes that begin with a header, whatever follows
@@ -109,7 +109,7 @@ pub oversized : (contents : Option (List ℕ → Option (List ℕ))) (flash : Op
     → Ends (with_inputs contents flash) F L (Some (Listing stream)) Full old now (Err (too_large stream))
 oversized None flash F L stream taken listed_bytes rest more Full old now s t k h l p = (inr tt, (listed_bytes, (tt, p)))
 oversized (Some inputs) flash F L stream taken listed_bytes rest more Full old now s t k h l p =
-    let all = told_all inputs stream taken rest s in
+    let all = known_all inputs stream taken rest s in
     let long : nat_lt stream_limit (length (taken ++ all.0)) ≡ true = grind (arith, length-append taken all.0, l, nat_tests) in
     (inr (tt, listed_is inputs flash stream (taken ++ all.0) all.1.1 ∙ due_over stream (taken ++ all.0) true (no_header_stays taken all.0 fixed_bytes k h) long), (listed_bytes, (front_taken (Some inputs) flash stream listed_bytes more t, p)))
 
@@ -119,15 +119,15 @@ pub listed_whole : (contents : Option (List ℕ → Option (List ℕ))) (flash :
     → Ends (with_inputs contents flash) F L (Some (Listing stream)) Full old now (Ok (record { stopped = false; text = listing_of taken }))
 listed_whole None flash F L stream taken rest Full old now s e h l p = (inr tt, p)
 listed_whole (Some inputs) flash F L stream taken rest Full old now s e h l p =
-    let all = told_all inputs stream taken rest s in
+    let all = known_all inputs stream taken rest s in
     let none : all.0 ≡ [] = let end = rw all.1.0 at e in end in
     let whole : inputs stream ≡ Some taken = all.1.1 ∙ ap (λ t. Some (taken ++ t)) none ∙ ap Some (append-nil taken) in
     let short : nat_lt stream_limit (length taken) ≡ false = grind (arith, l, nat_tests) in
     (inr (tt, listed_is inputs flash stream taken whole ∙ due_over stream taken false h short), p)
 
 -- the same event
-pub ends_same : (told : Option Told) (F L : List ℕ → Type 0) (form : Option Asked) (Full : Type 0) (old now : Option (List ℕ)) (x y : Event) → x ≡ y → Ends told F L form Full old now (Err y) → Ends told F L form Full old now (Err x)
-ends_same told F L form Full old now x y e h = subst (λ (event : Event). Ends told F L form Full old now (Err event)) (sym e) h
+pub ends_same : (known : Option Known) (F L : List ℕ → Type 0) (form : Option Asked) (Full : Type 0) (old now : Option (List ℕ)) (x y : Event) → x ≡ y → Ends known F L form Full old now (Err y) → Ends known F L form Full old now (Err x)
+ends_same known F L form Full old now x y e h = subst (λ (event : Event). Ends known F L form Full old now (Err event)) (sym e) h
 
 -- an error by two of its clauses
 pub both_err : {A B : Type 0} (r : Result A B) (P Q R : B → Type 0) → ((e : B) → P e → Q e → R e) → IfErr r P → IfErr r Q → IfErr r R

@@ -19,7 +19,7 @@ use Rattle.x7_engine.specs.Standing.{NoWordDue, Answers, DeviceState, DeviceStan
 use Rattle.x7_engine.specs.State.{line_by, reads_of, state_of, stop_in}
 use Rattle.x7_engine.specs.Stops.{Stopped, fault_of}
 use Rattle.x7_tool.specs.Event.{too_many_reads}
-use Rattle.x7_tool.specs.Outcome.{Told, part_by, reads_limit, report_of, reported}
+use Rattle.x7_tool.specs.Outcome.{Known, part_by, reads_limit, report_of, reported}
 use Rattle.x7_tool.specs.Parts.{part_in}
 use Rattle.x7_tool.specs.Play.{IsPlayed, part_event}
 use Rattle.x7_tool.specs.Report.{report_text}
@@ -31,7 +31,7 @@ use Rattle.x7_words.proofs.ListLemmas.{all_front}
 use Rattle.x7_engine.proofs.StateLemmas.{stop_is_final-reads, stop_is_final-state, stop_is_final-stop}
 
 -- a part file that gave no part
-pub refused : (told : Option Told) (F L : List ℕ → Type 0) (name text : List ℕ) (fault : PartFault) → (fault ≡ part.NoMemory) ⊎ IsFaultOf text fault → IsCaused told F L (λ t. part_by name (part_in text)) (Err (part_event name fault))
+pub refused : (told : Option Known) (F L : List ℕ → Type 0) (name text : List ℕ) (fault : PartFault) → (fault ≡ part.NoMemory) ⊎ IsFaultOf text fault → IsCaused told F L (λ t. part_by name (part_in text)) (Err (part_event name fault))
 refused told F L name text part.NoMemory h = inl tt
 refused told F L name text fault (inl e) = absurd (cc)
 refused told F L name text part.Toml (inr h) = works told F L (part_by name (part_in text)) (Err (part_event name part.Toml)) tt tt (ap (part_by name) (fault_is text part.Toml h))
@@ -79,13 +79,13 @@ bytes_split bytes at n =
     sym (append_assoc (take at bytes) (take n (drop at bytes)) (drop n (drop at bytes)) ∙ ap (λ x. take at bytes ++ x) (take-append-drop n (drop at bytes)) ∙ take-append-drop at bytes)
 
 -- more words than the limit were told
-pub over_limit : (part : PartData) (d : DeviceState) (bytes reads words front rest : List ℕ) → AreBytes bytes → bytes ≡ front ++ rest → told_of part on_the_bench d front ≡ reads ++ words → 16777216 < length reads + length words
+pub over_limit : (part : PartData) (d : DeviceState) (bytes reads words prefix rest : List ℕ) → AreBytes bytes → bytes ≡ prefix ++ rest → told_of part on_the_bench d prefix ≡ reads ++ words → 16777216 < length reads + length words
     → 16777216 < length (reads_of part on_the_bench bytes)
-over_limit part d bytes reads words front rest fits split told k =
-    let grown = reads_grow part front rest (subst (λ x. AreBytes x) split fits) in
-    let all : length (reads_of part on_the_bench bytes) ≡ length (reads_of part on_the_bench front) + length grown.0
-    = ap (λ x. length (reads_of part on_the_bench x)) split ∙ ap length grown.1 ∙ length-append (reads_of part on_the_bench front) grown.0 in
-    let some : length (told_of part on_the_bench d front) ≤ length (reads_of part on_the_bench front) = told_within part on_the_bench d front in
+over_limit part d bytes reads words prefix rest fits split told k =
+    let grown = reads_grow part prefix rest (subst (λ x. AreBytes x) split fits) in
+    let all : length (reads_of part on_the_bench bytes) ≡ length (reads_of part on_the_bench prefix) + length grown.0
+    = ap (λ x. length (reads_of part on_the_bench x)) split ∙ ap length grown.1 ∙ length-append (reads_of part on_the_bench prefix) grown.0 in
+    let some : length (told_of part on_the_bench d prefix) ≤ length (reads_of part on_the_bench prefix) = told_within part on_the_bench d prefix in
     omega (arith, all, some, ap length told, length-append reads words, k)
 
 abbrev pub IsEnd : Fed → Type 0
@@ -98,16 +98,16 @@ is_end fed.All h = tt
 is_end (fed.Stopped n) h = tt
 is_end (fed.Iprog n) h = tt
 
-stopped_end : (part : PartData) (bytes front rest : List ℕ) (d : DeviceState) (reads : List ℕ) (s : Stopped) → AreBytes bytes → bytes ≡ front ++ rest → DeviceStandsFor part on_the_bench false d front → reads ≡ told_of part on_the_bench d front → length reads ≤ reads_limit
-    → stop_in part on_the_bench front ≡ Some s → NoWordDue d → IsPlayed part bytes d reads
-stopped_end part bytes front rest d reads s fits split stands told few stop due =
-    let all : AreBytes (front ++ rest) = subst (λ x. AreBytes x) split fits in
+stopped_end : (part : PartData) (bytes prefix rest : List ℕ) (d : DeviceState) (reads : List ℕ) (s : Stopped) → AreBytes bytes → bytes ≡ prefix ++ rest → DeviceStandsFor part on_the_bench false d prefix → reads ≡ told_of part on_the_bench d prefix → length reads ≤ reads_limit
+    → stop_in part on_the_bench prefix ≡ Some s → NoWordDue d → IsPlayed part bytes d reads
+stopped_end part bytes prefix rest d reads s fits split stands told few stop due =
+    let all : AreBytes (prefix ++ rest) = subst (λ x. AreBytes x) split fits in
     record {
-      front = front;
+      prefix = prefix;
       stands = stands;
-      stop = ap (stop_in part on_the_bench) split ∙ stop_is_final-stop part on_the_bench front rest s all stop ∙ sym stop;
-      state = ap (state_of part on_the_bench false) split ∙ stop_is_final-state part on_the_bench false front rest s all stop;
-      reads_are = told ∙ told_all part on_the_bench d front due ∙ sym (ap (reads_of part on_the_bench) split ∙ stop_is_final-reads part on_the_bench front rest s all stop);
+      stop = ap (stop_in part on_the_bench) split ∙ stop_is_final-stop part on_the_bench prefix rest s all stop ∙ sym stop;
+      state = ap (state_of part on_the_bench false) split ∙ stop_is_final-state part on_the_bench false prefix rest s all stop;
+      reads_are = told ∙ told_all part on_the_bench d prefix due ∙ sym (ap (reads_of part on_the_bench) split ∙ stop_is_final-reads part on_the_bench prefix rest s all stop);
       few = few;
     }
 
@@ -124,7 +124,7 @@ play_end part bytes at d read reads (fed.Iprog n) fits e stands answer told few 
 play_end part bytes at d read reads fed.All fits e stands answer told few =
     let whole : take at bytes ++ take (length (drop at bytes)) (drop at bytes) ≡ bytes = ap (λ x. take at bytes ++ x) (take-length (drop at bytes)) ∙ take-append-drop at bytes in
     record {
-      front = take at bytes ++ take (length (drop at bytes)) (drop at bytes);
+      prefix = take at bytes ++ take (length (drop at bytes)) (drop at bytes);
       stands = stands;
       stop = ap (stop_in part on_the_bench) (sym whole);
       state = ap (state_of part on_the_bench false) (sym whole);
@@ -140,15 +140,15 @@ reported_over part bytes k =
     let long : nat_lt reads_limit (length (reads_of part on_the_bench bytes)) ≡ true = grind (arith, k, nat_tests) in
     rw long refl
 
-pub reported_is : (part : PartData) (bytes : List ℕ) (d : DeviceState) (reads text : List ℕ) (fault : Option Fault) (stopped : Bool) → (p : IsPlayed part bytes d reads) → fault ≡ fault_of (line_by (stop_in part on_the_bench p.front)) → stopped ≡ is_some fault
-    → text ≡ report_text part.name (state_of part on_the_bench false p.front) reads → reported part bytes ≡ Ok (record { stopped = stopped; text = text })
+pub reported_is : (part : PartData) (bytes : List ℕ) (d : DeviceState) (reads text : List ℕ) (fault : Option Fault) (stopped : Bool) → (p : IsPlayed part bytes d reads) → fault ≡ fault_of (line_by (stop_in part on_the_bench p.prefix)) → stopped ≡ is_some fault
+    → text ≡ report_text part.name (state_of part on_the_bench false p.prefix) reads → reported part bytes ≡ Ok (record { stopped = stopped; text = text })
 unfolding reported
 reported_is part bytes d reads text fault stopped p f s t =
     let few : length (reads_of part on_the_bench bytes) ≤ reads_limit = subst (λ x. length x ≤ reads_limit) p.reads_are p.few in
     let short : nat_lt reads_limit (length (reads_of part on_the_bench bytes)) ≡ false = grind (arith, few, nat_tests) in
     let stop : is_some (fault_of (line_by (stop_in part on_the_bench bytes))) ≡ stopped = ap (λ x. is_some (fault_of (line_by x))) p.stop ∙ sym (ap is_some f) ∙ sym s in
     let whole : report_text part.name (state_of part on_the_bench false bytes) (reads_of part on_the_bench bytes) ≡ text
-    = ap (λ x. report_text part.name x (reads_of part on_the_bench bytes)) p.state ∙ ap (report_text part.name (state_of part on_the_bench false p.front)) (sym p.reads_are) ∙ sym t in
+    = ap (λ x. report_text part.name x (reads_of part on_the_bench bytes)) p.state ∙ ap (report_text part.name (state_of part on_the_bench false p.prefix)) (sym p.reads_are) ∙ sym t in
     let answer : report_of part bytes ≡ record { stopped = stopped; text = text } = ap (λ x. record { stopped = x; text = report_text part.name (state_of part on_the_bench false bytes) (reads_of part on_the_bench bytes) }) stop ∙ ap (λ x. record { stopped = stopped; text = x }) whole in
     rw short (ap Ok answer)
 

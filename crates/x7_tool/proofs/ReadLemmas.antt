@@ -3,15 +3,15 @@ use Rattle.std.proofs.Common.{◌≡◌, ℕ, zero, suc, List, [], ◌∷◌, �
 use Rattle.x7_words.proofs.CountLemmas.{risen_from}
 use Rattle.x7_part.specs.Part.{PartData}
 use Rattle.x7_tool.specs.Event.{Event, Cause, Want, Fault, Absence, cause_of}
-use Rattle.x7_tool.specs.Outcome.{Told, and_so, put_before, data_of, part_by, raw, whole_in, with_inputs}
+use Rattle.x7_tool.specs.Outcome.{Known, and_so, put_before, data_of, part_by, raw, whole_in, with_inputs}
 use Rattle.x7_tool.specs.Parts.{part_in}
 use Rattle.x7_tool.specs.Run.{Among, FreeBy, IsCaused, IsDecided, IsFree, IsOpen, RisesFor}
 
 -- ---- one input
 
 -- what is due for an input behind bytes that were read before
-abbrev pub due_after : List ℕ → ℕ → List ℕ → Told → Result (List ℕ) Event
-due_after front limit name told = put_before front (whole_in told limit name)
+abbrev pub due_after : List ℕ → ℕ → List ℕ → Known → Result (List ℕ) Event
+due_after front limit name known = put_before front (whole_in known limit name)
 
 -- ---- causes of steps one after the other
 
@@ -26,29 +26,29 @@ free_on F L G M (Ok a) f l h = h
 free_on F L G M (Err event) f l h = free_by_on F L G M (cause_of event) event.concerned f l h
 
 -- more names, and counts of more calls
-pub caused_on : {A : Type 0} (told : Option Told) (F L G M : List ℕ → Type 0) (due : Told → Result A Event) (got : Result A Event) → ((n : List ℕ) → F n → G n) → ((n : List ℕ) → L n → M n) → IsCaused told F L due got → IsCaused told G M due got
-caused_on told F L G M due got f l (inl h) = inl (free_on F L G M got f l h)
-caused_on told F L G M due got f l (inr h) = inr h
+pub caused_on : {A : Type 0} (known : Option Known) (F L G M : List ℕ → Type 0) (due : Known → Result A Event) (got : Result A Event) → ((n : List ℕ) → F n → G n) → ((n : List ℕ) → L n → M n) → IsCaused known F L due got → IsCaused known G M due got
+caused_on known F L G M due got f l (inl h) = inl (free_on F L G M got f l h)
+caused_on known F L G M due got f l (inr h) = inr h
 
 -- the same event
-pub caused_event : {A : Type 0} (told : Option Told) (F L : List ℕ → Type 0) (due : Told → Result A Event) (x y : Event) → x ≡ y → IsCaused told F L due (Err y) → IsCaused told F L due (Err x)
-caused_event told F L due x y e h = subst (λ (event : Event). IsCaused told F L due (Err event)) (sym e) h
+pub caused_event : {A : Type 0} (known : Option Known) (F L : List ℕ → Type 0) (due : Known → Result A Event) (x y : Event) → x ≡ y → IsCaused known F L due (Err y) → IsCaused known F L due (Err x)
+caused_event known F L due x y e h = subst (λ (event : Event). IsCaused known F L due (Err event)) (sym e) h
 
 -- the same outcome
-pub caused_same : {A : Type 0} (told : Option Told) (F L : List ℕ → Type 0) (due other : Told → Result A Event) (got : Result A Event) → ((t : Told) → due t ≡ other t) → IsCaused told F L due got → IsCaused told F L other got
-caused_same told F L due other got e (inl h) = inl h
+pub caused_same : {A : Type 0} (known : Option Known) (F L : List ℕ → Type 0) (due other : Known → Result A Event) (got : Result A Event) → ((t : Known) → due t ≡ other t) → IsCaused known F L due got → IsCaused known F L other got
+caused_same known F L due other got e (inl h) = inl h
 caused_same None F L due other got e (inr h) = inr h
 caused_same (Some t) F L due other got e (inr h) = inr (h.0, sym (e t) ∙ h.1)
 
 -- a step that went on
-pub follows : {A B : Type 0} (told : Option Told) (F L G M : List ℕ → Type 0) (due : Told → Result A Event) (next : Told → A → Result B Event) (a : A) (got : Result B Event) → IsCaused told F L due (Ok a) → IsCaused told G M (λ t. next t a) got → IsCaused told G M (λ t. and_so (due t) (next t)) got
-follows told F L G M due next a got (inl h) q = absurd h
-follows told F L G M due next a got (inr h) (inl q) = inl q
+pub follows : {A B : Type 0} (known : Option Known) (F L G M : List ℕ → Type 0) (due : Known → Result A Event) (next : Known → A → Result B Event) (a : A) (got : Result B Event) → IsCaused known F L due (Ok a) → IsCaused known G M (λ t. next t a) got → IsCaused known G M (λ t. and_so (due t) (next t)) got
+follows known F L G M due next a got (inl h) q = absurd h
+follows known F L G M due next a got (inr h) (inl q) = inl q
 follows None F L G M due next a got (inr h) (inr q) = inr q
 follows (Some t) F L G M due next a got (inr h) (inr q) = inr (q.0, rw h.1 q.1)
 
 -- a step that reads nothing
-pub works : {A : Type 0} (told : Option Told) (F L : List ℕ → Type 0) (due got : Result A Event) → IsOpen got → IsDecided got → due ≡ got → IsCaused told F L (λ t. due) got
+pub works : {A : Type 0} (known : Option Known) (F L : List ℕ → Type 0) (due got : Result A Event) → IsOpen got → IsDecided got → due ≡ got → IsCaused known F L (λ t. due) got
 works None F L due got o d e = inr o
 works (Some t) F L due got o d e = inr (d, e)
 
@@ -137,9 +137,11 @@ stream_next f contents now F L ss k limit room s name whole new same h e nm rm d
     let due1 = rw eq at due in
     rw add-one (rests_next contents F L (map f ss) limit name (map f (drop (suc k) ss)) whole new due1 got1)
 
--- a part file that was read whole
-pub after_text : (told : Option Told) (F L : List ℕ → Type 0) (limit : ℕ) (name text : List ℕ) (got : Result PartData Event) → IsCaused told F L (due_after [] limit name) (Ok text) → IsCaused told F L (λ t. part_by name (part_in text)) got
-    → IsCaused told F L (λ t. and_so (whole_in t limit name) (λ bytes. part_by name (part_in bytes))) got
-after_text told F L limit name text got whole next =
-    follows told F L F L (λ t. whole_in t limit name) (λ t bytes. part_by name (part_in bytes)) text got
-    (caused_same told F L (due_after [] limit name) (λ t. whole_in t limit name) (Ok text) (λ t. before_none (whole_in t limit name)) whole) next
+-- an input that was read behind nothing
+pub read_alone : (known : Option Known) (F L : List ℕ → Type 0) (limit : ℕ) (name : List ℕ) (got : Result (List ℕ) Event) → IsCaused known F L (due_after [] limit name) got → IsCaused known F L (λ t. whole_in t limit name) got
+read_alone known F L limit name got h = caused_same known F L (due_after [] limit name) (λ t. whole_in t limit name) got (λ t. before_none (whole_in t limit name)) h
+
+-- what a text comes to that was read whole
+pub after_text : {A : Type 0} (known : Option Known) (F L : List ℕ → Type 0) (limit : ℕ) (name text : List ℕ) (next : List ℕ → Result A Event) (got : Result A Event) → IsCaused known F L (λ t. whole_in t limit name) (Ok text)
+    → IsCaused known F L (λ t. next text) got → IsCaused known F L (λ t. and_so (whole_in t limit name) next) got
+after_text known F L limit name text next got whole next_due = follows known F L F L (λ t. whole_in t limit name) (λ t bytes. next bytes) text got whole next_due

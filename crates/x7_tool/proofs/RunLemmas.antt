@@ -9,9 +9,9 @@ use Rattle.x7_tool.specs.declared.status.Status.TheVariants as status
 use Rattle.x7_tool.specs.Event.{Event, Cause, Wording, Want, Fault, Absence, Break, Contents, cause_of, no_memory, row_of, status_of, usage, write_fault}
 use Rattle.x7_tool.specs.Form.{Asked, names_flash}
 use Rattle.x7_tool.specs.Message.{final_status}
-use Rattle.x7_tool.specs.Outcome.{Answer, Told, outcome_of, text_of}
-use Rattle.x7_tool.specs.Run.{Agrees, Comes, DecidedBy, OpenBy, Ends, EndsAs, EndsBy, FreeBy, GetsPrefix, IsCaused, IsDone, Leaves, Puts, Says, Shows}
-use Rattle.x7_tool.specs.Runs.{CausedBy, Fails, FlashState, HasCause, KeepsFlash, Lacks, LeftBy, Outside, Runs, Wrote, told_in}
+use Rattle.x7_tool.specs.Outcome.{Answer, Known, Gives, IsOutcome}
+use Rattle.x7_tool.specs.Run.{Agrees, Comes, DecidedBy, OpenBy, Ends, EndsAs, EndsBy, FreeBy, GetsPrefix, IsCausedBy, Leaves, Puts, Says, Shows}
+use Rattle.x7_tool.specs.Runs.{CausedBy, Fails, FlashState, HasCause, KeepsFlash, Lacks, LeftBy, Outside, Runs, Wrote, known_in}
 
 -- ---- which status an event has
 
@@ -25,44 +25,42 @@ wording_is : (reason : Why) → (row_of reason).cause ≡ Wording → (row_of re
 wording_is why.Usage e = refl
 wording_is reason e = absurd (cc)
 
--- ---- where contents are told and nothing failed
+-- ---- where contents are known and nothing failed
 
 -- an event is want of memory or the outcome
-event_by : (told : Told) (F L : List ℕ → Type 0) (form : Asked) (event : Event) (cause : Cause) → cause_of event ≡ cause → ((n : List ℕ) → F n → ⊥) → ((n : List ℕ) → L n → ⊥)
-    → FreeBy cause F L event.concerned ⊎ (DecidedBy cause × (text_of told form ≡ Err event)) → (cause_of event ≡ Want) ⊎ (text_of told form ≡ Err event)
-event_by told F L form event cause e f l (inr h) = inr h.1
-event_by told F L form event Want e f l (inl h) = inl e
-event_by told F L form event Fault e f l (inl h) = absurd (f event.concerned h)
-event_by told F L form event Absence e f l (inl h) = absurd (l event.concerned h)
-event_by told F L form event cause e f l (inl h) = absurd h
+event_by : (known : Known) (F L : List ℕ → Type 0) (form : Asked) (event : Event) (cause : Cause) → cause_of event ≡ cause → ((n : List ℕ) → F n → ⊥) → ((n : List ℕ) → L n → ⊥)
+    → FreeBy cause F L event.concerned ⊎ (DecidedBy cause × Gives known form (Err event)) → (cause_of event ≡ Want) ⊎ Gives known form (Err event)
+event_by known F L form event cause e f l (inr h) = inr h.1
+event_by known F L form event Want e f l (inl h) = inl e
+event_by known F L form event Fault e f l (inl h) = absurd (f event.concerned h)
+event_by known F L form event Absence e f l (inl h) = absurd (l event.concerned h)
+event_by known F L form event cause e f l (inl h) = absurd h
 
-event_is : (told : Told) (F L : List ℕ → Type 0) (form : Option Asked) (event : Event) → ((n : List ℕ) → F n → ⊥) → ((n : List ℕ) → L n → ⊥) → Comes (Some told) F L form (Err event) → (cause_of event ≡ Want) ⊎ (outcome_of told form ≡ Err event)
-event_is told F L None event f l h = inr (sym h)
-event_is told F L (Some form) event f l h = event_by told F L form event (cause_of event) refl f l h
+event_is : (known : Known) (F L : List ℕ → Type 0) (form : Option Asked) (event : Event) → ((n : List ℕ) → F n → ⊥) → ((n : List ℕ) → L n → ⊥) → Comes (Some known) F L form (Err event) → (cause_of event ≡ Want) ⊎ IsOutcome known form (Err event)
+event_is known F L None event f l h = inr h
+event_is known F L (Some form) event f l h = event_by known F L form event (cause_of event) refl f l h
 
-text_is : (told : Told) (F L : List ℕ → Type 0) (form : Option Asked) (answer : Answer) → Comes (Some told) F L form (Ok answer) → outcome_of told form ≡ Ok answer
-text_is told F L None answer h = absurd (cc)
-text_is told F L (Some form) answer (inl h) = absurd h
-text_is told F L (Some form) answer (inr h) = h.1
+text_is : (known : Known) (F L : List ℕ → Type 0) (form : Option Asked) (answer : Answer) → Comes (Some known) F L form (Ok answer) → IsOutcome known form (Ok answer)
+text_is known F L None answer h = h
+text_is known F L (Some form) answer (inl h) = absurd h
+text_is known F L (Some form) answer (inr h) = h.1
 
 -- an event other than the output's failure came as it should
-came_by : (cause : Cause) (told : Option Told) (F L : List ℕ → Type 0) (form : Option Asked) (Full : Type 0) (old new : Option (List ℕ)) (event : Event) → (Full → ⊥) → EndsBy cause told F L form Full old new event → Comes told F L form (Err event)
-came_by Break told F L form Full old new event n h = absurd (n h.0)
-came_by cause told F L form Full old new event n h = h.0
+came_by : (cause : Cause) (known : Option Known) (F L : List ℕ → Type 0) (form : Option Asked) (Full : Type 0) (old new : Option (List ℕ)) (event : Event) → (Full → ⊥) → EndsBy cause known F L form Full old new event → Comes known F L form (Err event)
+came_by Break known F L form Full old new event n h = absurd (n h.0)
+came_by cause known F L form Full old new event n h = h.0
 
 -- the end is the outcome or want of memory
-outcome_is : (now : Option Told) (F L : List ℕ → Type 0) (form : Option Asked) (Full : Type 0) (old new : Option (List ℕ)) (s : Status) (end : Result Answer Event) → s ≡ final_status end → Ends now F L form Full old new end
-    → (told : Told) → now ≡ Some told → ((n : List ℕ) → F n → ⊥) → ((n : List ℕ) → L n → ⊥) → (Full → ⊥) → (s ≡ status.NoMemory) ⊎ IsDone (outcome_of told form) s old new
-outcome_is now F L form Full old new s (Ok answer) e h told t f l n =
+outcome_is : (now : Option Known) (F L : List ℕ → Type 0) (form : Option Asked) (Full : Type 0) (old new : Option (List ℕ)) (s : Status) (end : Result Answer Event) → s ≡ final_status end → Ends now F L form Full old new end
+    → (known : Known) → now ≡ Some known → ((n : List ℕ) → F n → ⊥) → ((n : List ℕ) → L n → ⊥) → (Full → ⊥) → (s ≡ status.NoMemory) ⊎ IsOutcome known form end
+outcome_is now F L form Full old new s (Ok answer) e h known t f l n =
     let came : Comes now F L form (Ok answer) = h.0 in
-    let here = rw t at came in
-    inr (rw (text_is told F L form answer here) (e, h.1))
-outcome_is now F L form Full old new s (Err event) e h told t f l n =
+    inr (text_is known F L form answer (rw t at came))
+outcome_is now F L form Full old new s (Err event) e h known t f l n =
     let came : Comes now F L form (Err event) = came_by (cause_of event) now F L form Full old new event n h in
-    let here = rw t at came in
-    let by : (cause_of event ≡ Want) ⊎ (outcome_of told form ≡ Err event) → (s ≡ status.NoMemory) ⊎ IsDone (outcome_of told form) s old new
-    = elim [ inl q ↦ inl (e ∙ want_is event.reason q) | inr q ↦ inr (rw q e) ] in
-    by (event_is told F L form event f l here)
+    let by : (cause_of event ≡ Want) ⊎ IsOutcome known form (Err event) → (s ≡ status.NoMemory) ⊎ IsOutcome known form (Err event)
+    = elim [ inl q ↦ inl (e ∙ want_is event.reason q) | inr q ↦ inr q ] in
+    by (event_is known F L form event f l (rw t at came))
 
 -- ---- words without a form
 
@@ -75,32 +73,32 @@ abbrev is_ok : {A : Type 0} → Result A Event → Bool
 is_ok (Ok a) = true
 is_ok (Err event) = false
 
-no_form_by : (cause : Cause) (told : Option Told) (F L : List ℕ → Type 0) (Full : Type 0) (old new : Option (List ℕ)) (event : Event) → EndsBy cause told F L None Full old new event → event ≡ usage
-no_form_by Break told F L Full old new event h = absurd h.1
-no_form_by cause told F L Full old new event h = ap event_in h.0
+no_form_by : (cause : Cause) (known : Option Known) (F L : List ℕ → Type 0) (Full : Type 0) (old new : Option (List ℕ)) (event : Event) → EndsBy cause known F L None Full old new event → event ≡ usage
+no_form_by Break known F L Full old new event h = absurd h.1
+no_form_by cause known F L Full old new event h = sym (ap event_in h.0)
 
-no_form_end : (told : Option Told) (F L : List ℕ → Type 0) (Full : Type 0) (old new : Option (List ℕ)) (s : Status) (end : Result Answer Event) → s ≡ final_status end → Ends told F L None Full old new end → s ≡ status.Usage
-no_form_end told F L Full old new s (Ok answer) e h = absurd (cc)
-no_form_end told F L Full old new s (Err event) e h = e ∙ ap status_of (no_form_by (cause_of event) told F L Full old new event h)
+no_form_end : (known : Option Known) (F L : List ℕ → Type 0) (Full : Type 0) (old new : Option (List ℕ)) (s : Status) (end : Result Answer Event) → s ≡ final_status end → Ends known F L None Full old new end → s ≡ status.Usage
+no_form_end known F L Full old new s (Ok answer) e h = absurd (cc)
+no_form_end known F L Full old new s (Err event) e h = e ∙ ap status_of (no_form_by (cause_of event) known F L Full old new event h)
 
 -- words without a form end as a wrong usage
-run_no_form : (told : Option Told) (F L : List ℕ → Type 0) (form : Option Asked) (Full : Type 0) (old new : Option (List ℕ)) (s : Status) (end : Result Answer Event) → s ≡ final_status end → Ends told F L form Full old new end → form ≡ None → s ≡ status.Usage
-run_no_form told F L form Full old new s end e h n =
+run_no_form : (known : Option Known) (F L : List ℕ → Type 0) (form : Option Asked) (Full : Type 0) (old new : Option (List ℕ)) (s : Status) (end : Result Answer Event) → s ≡ final_status end → Ends known F L form Full old new end → form ≡ None → s ≡ status.Usage
+run_no_form known F L form Full old new s end e h n =
     let here = rw n at h in
-    no_form_end told F L Full old new s end e here
+    no_form_end known F L Full old new s end e here
 
 -- ---- the cause of an end
 
-told_cause : (cause : Cause) (told : Told) (form : Asked) (old new : Outside) (event : Event) → FreeBy cause (Fails (Some form) old new) (Lacks (Some form) old new) event.concerned ⊎ (DecidedBy cause × (text_of told form ≡ Err event)) → CausedBy cause (Some told) (Some form) old new event
-told_cause Want told form old new event h = tt
-told_cause Fault told form old new event (inl h) = h
-told_cause Fault told form old new event (inr h) = absurd h.0
-told_cause Absence told form old new event (inl h) = inl h
-told_cause Absence told form old new event (inr h) = inr h.1
-told_cause Contents told form old new event (inl h) = absurd h
-told_cause Contents told form old new event (inr h) = h.1
-told_cause cause told form old new event (inl h) = absurd h
-told_cause cause told form old new event (inr h) = absurd h.0
+known_cause : (cause : Cause) (known : Known) (form : Asked) (old new : Outside) (event : Event) → FreeBy cause (Fails (Some form) old new) (Lacks (Some form) old new) event.concerned ⊎ (DecidedBy cause × Gives known form (Err event)) → CausedBy cause (Some known) (Some form) old new event
+known_cause Want known form old new event h = tt
+known_cause Fault known form old new event (inl h) = h
+known_cause Fault known form old new event (inr h) = absurd h.0
+known_cause Absence known form old new event (inl h) = inl h
+known_cause Absence known form old new event (inr h) = inr h.1
+known_cause Contents known form old new event (inl h) = absurd h
+known_cause Contents known form old new event (inr h) = h.1
+known_cause cause known form old new event (inl h) = absurd h
+known_cause cause known form old new event (inr h) = absurd h.0
 
 open_cause : (cause : Cause) (form : Asked) (old new : Outside) (event : Event) → FreeBy cause (Fails (Some form) old new) (Lacks (Some form) old new) event.concerned ⊎ OpenBy cause → CausedBy cause None (Some form) old new event
 open_cause Want form old new event h = tt
@@ -112,44 +110,44 @@ open_cause Contents form old new event h = tt
 open_cause cause form old new event (inl h) = absurd h
 open_cause cause form old new event (inr h) = absurd h
 
-came_cause : (told : Option Told) (form : Option Asked) (old new : Outside) (event : Event) → Comes told (Fails form old new) (Lacks form old new) form (Err event) → CausedBy (cause_of event) told form old new event
-came_cause told None old new event h =
-    subst (λ (e : Event). CausedBy (cause_of e) told None old new e) (sym (ap event_in h)) refl
+came_cause : (known : Option Known) (form : Option Asked) (old new : Outside) (event : Event) → Comes known (Fails form old new) (Lacks form old new) form (Err event) → CausedBy (cause_of event) known form old new event
+came_cause known None old new event h =
+    subst (λ (e : Event). CausedBy (cause_of e) known None old new e) (ap event_in h) refl
 came_cause None (Some form) old new event h = open_cause (cause_of event) form old new event h
-came_cause (Some told) (Some form) old new event h = told_cause (cause_of event) told form old new event h
+came_cause (Some known) (Some form) old new event h = known_cause (cause_of event) known form old new event h
 
 -- what an event's cause says, and what it leaves
-ended_by : (cause : Cause) (told : Option Told) (form : Option Asked) (old new : Outside) (event : Event) → cause_of event ≡ cause
-    → EndsBy cause told (Fails form old new) (Lacks form old new) form (HasRisen old.out_faults new.out_faults) old.out new.out event → CausedBy cause told form old new event
-ended_by Break told form old new event e h = h.0
-ended_by Wording told form old new event e h = rw e at (came_cause told form old new event h.0)
-ended_by Want told form old new event e h = tt
-ended_by Fault told form old new event e h = rw e at (came_cause told form old new event h.0)
-ended_by Absence told form old new event e h = rw e at (came_cause told form old new event h.0)
-ended_by Contents told form old new event e h = rw e at (came_cause told form old new event h.0)
+ended_by : (cause : Cause) (known : Option Known) (form : Option Asked) (old new : Outside) (event : Event) → cause_of event ≡ cause
+    → EndsBy cause known (Fails form old new) (Lacks form old new) form (HasRisen old.out_faults new.out_faults) old.out new.out event → CausedBy cause known form old new event
+ended_by Break known form old new event e h = h.0
+ended_by Wording known form old new event e h = rw e at (came_cause known form old new event h.0)
+ended_by Want known form old new event e h = tt
+ended_by Fault known form old new event e h = rw e at (came_cause known form old new event h.0)
+ended_by Absence known form old new event e h = rw e at (came_cause known form old new event h.0)
+ended_by Contents known form old new event e h = rw e at (came_cause known form old new event h.0)
 
 left_by : (cause : Cause) (form : Option Asked) (old new : Outside) (event : Event)
-    → EndsBy cause (told_in form old) (Fails form old new) (Lacks form old new) form (HasRisen old.out_faults new.out_faults) old.out new.out event → LeftBy cause form old new event
+    → EndsBy cause (known_in form old) (Fails form old new) (Lacks form old new) form (HasRisen old.out_faults new.out_faults) old.out new.out event → LeftBy cause form old new event
 left_by Break form old new event h = h.1
 left_by cause form old new event h = h.1
 
-agrees_text : (told : Option Told) (F L : List ℕ → Type 0) (form : Option Asked) (answer : Answer) → Comes told F L form (Ok answer) → Agrees told form (Ok answer)
+agrees_text : (known : Option Known) (F L : List ℕ → Type 0) (form : Option Asked) (answer : Answer) → Comes known F L form (Ok answer) → Agrees known form (Ok answer)
 agrees_text None F L form answer h = tt
 agrees_text (Some t) F L form answer h = text_is t F L form answer h
 
 cause_is : (form : Option Asked) (old new : Outside) (end : Result Answer Event)
-    → Ends (told_in form old) (Fails form old new) (Lacks form old new) form (HasRisen old.out_faults new.out_faults) old.out new.out end → HasCause form old new end
-cause_is form old new (Ok answer) h = agrees_text (told_in form old) (Fails form old new) (Lacks form old new) form answer h.0
-cause_is form old new (Err event) h = ended_by (cause_of event) (told_in form old) form old new event refl h
+    → Ends (known_in form old) (Fails form old new) (Lacks form old new) form (HasRisen old.out_faults new.out_faults) old.out new.out end → HasCause form old new end
+cause_is form old new (Ok answer) h = agrees_text (known_in form old) (Fails form old new) (Lacks form old new) form answer h.0
+cause_is form old new (Err event) h = ended_by (cause_of event) (known_in form old) form old new event refl h
 
 wrote_is : (form : Option Asked) (old new : Outside) (end : Result Answer Event)
-    → Ends (told_in form old) (Fails form old new) (Lacks form old new) form (HasRisen old.out_faults new.out_faults) old.out new.out end → Wrote form old new end
+    → Ends (known_in form old) (Fails form old new) (Lacks form old new) form (HasRisen old.out_faults new.out_faults) old.out new.out end → Wrote form old new end
 wrote_is form old new (Ok answer) h = h.1
 wrote_is form old new (Err event) h = left_by (cause_of event) form old new event h
 
 -- how a command ended is what its run comes to
 pub runs : (form : Option Asked) (old new : Outside) (s : Status) (end : Result Answer Event) → s ≡ final_status end
-    → Ends (told_in form old) (Fails form old new) (Lacks form old new) form (HasRisen old.out_faults new.out_faults) old.out new.out end
+    → Ends (known_in form old) (Fails form old new) (Lacks form old new) form (HasRisen old.out_faults new.out_faults) old.out new.out end
     → Says (HasRisen old.err_faults new.err_faults) old.err new.err end → KeepsFlash (names_flash form) old.flash new.flash → Runs form old new s
 runs form old new s end e h t f = record {
   end = end;
@@ -157,8 +155,8 @@ runs form old new s end e h t f = record {
   cause = cause_is form old new end h;
   wrote = wrote_is form old new end h;
   said = t;
-  outcome = λ told m q. outcome_is (told_in form old) (Fails form old new) (Lacks form old new) form (HasRisen old.out_faults new.out_faults) old.out new.out s end e h told m (λ x p. q.0 p.1) (λ x p. q.1 p.1) q.2;
-  no_form = λ n. run_no_form (told_in form old) (Fails form old new) (Lacks form old new) form (HasRisen old.out_faults new.out_faults) old.out new.out s end e h n;
+  outcome = λ known m q. outcome_is (known_in form old) (Fails form old new) (Lacks form old new) form (HasRisen old.out_faults new.out_faults) old.out new.out s end e h known m (λ x p. q.0 p.1) (λ x p. q.1 p.1) q.2;
+  no_form = λ n. run_no_form (known_in form old) (Fails form old new) (Lacks form old new) form (HasRisen old.out_faults new.out_faults) old.out new.out s end e h n;
   flash = f;
 }
 
@@ -186,25 +184,25 @@ open_can : (cause : Cause) → OpenBy cause → CanCome cause
 open_can Break h = h
 open_can cause h = tt
 
-caused_can : (told : Option Told) (F L : List ℕ → Type 0) (due : Told → Result Answer Event) (event : Event) → IsCaused told F L due (Err event) → CanCome (cause_of event)
-caused_can told F L due event (inl h) = free_can (cause_of event) F L event.concerned h
-caused_can None F L due event (inr h) = open_can (cause_of event) h
-caused_can (Some t) F L due event (inr h) = decided_can (cause_of event) h.0
+caused_can : (known : Option Known) (F L : List ℕ → Type 0) (Due : Known → Result Answer Event → Type 0) (event : Event) → IsCausedBy known F L Due (Err event) → CanCome (cause_of event)
+caused_can known F L Due event (inl h) = free_can (cause_of event) F L event.concerned h
+caused_can None F L Due event (inr h) = open_can (cause_of event) h
+caused_can (Some t) F L Due event (inr h) = decided_can (cause_of event) h.0
 
-ends_by : (cause : Cause) (told : Option Told) (F L : List ℕ → Type 0) (form : Option Asked) (Full : Type 0) (old new : Option (List ℕ)) (event : Event) → CanCome cause → Comes told F L form (Err event) → Leaves told form event old new → EndsBy cause told F L form Full old new event
-ends_by Break told F L form Full old new event c h l = absurd c
-ends_by cause told F L form Full old new event c h l = (h, l)
+ends_by : (cause : Cause) (known : Option Known) (F L : List ℕ → Type 0) (form : Option Asked) (Full : Type 0) (old new : Option (List ℕ)) (event : Event) → CanCome cause → Comes known F L form (Err event) → Leaves known form event old new → EndsBy cause known F L form Full old new event
+ends_by Break known F L form Full old new event c h l = absurd c
+ends_by cause known F L form Full old new event c h l = (h, l)
 
 -- a whole text that was put ends the command as it should
-pub puts_end : (told : Option Told) (F L : List ℕ → Type 0) (form : Asked) (Full : Type 0) (old new : Option (List ℕ)) (whole : Result Answer Event) (got : Result Bool Event)
-    → ((t : Told) (answer : Answer) → text_of t form ≡ Ok answer → PutsFront old answer.text new → GetsPrefix (Some t) (Some form) old new)
-    → ((event : Event) → new ≡ old → Leaves told (Some form) event old new)
-    → IsCaused told F L (λ t. text_of t form) whole → Puts whole Full old new got → EndsAs told F L (Some form) Full old new got
-puts_end told F L form Full old new (Ok answer) (Ok stopped) gets leaves c p = (answer.text, (subst (λ (s : Bool). IsCaused told F L (λ t. text_of t form) (Ok (record { stopped = s; text = answer.text }))) (sym p.0) c, p.1))
+pub puts_end : (known : Option Known) (F L : List ℕ → Type 0) (form : Asked) (Full : Type 0) (old new : Option (List ℕ)) (whole : Result Answer Event) (got : Result Bool Event)
+    → ((t : Known) (answer : Answer) → Gives t form (Ok answer) → PutsFront old answer.text new → GetsPrefix (Some t) (Some form) old new)
+    → ((event : Event) → new ≡ old → Leaves known (Some form) event old new)
+    → IsCausedBy known F L (λ t end. Gives t form end) whole → Puts whole Full old new got → EndsAs known F L (Some form) Full old new got
+puts_end known F L form Full old new (Ok answer) (Ok stopped) gets leaves c p = (answer.text, (subst (λ (s : Bool). IsCausedBy known F L (λ t end. Gives t form end) (Ok (record { stopped = s; text = answer.text }))) (sym p.0) c, p.1))
 puts_end None F L form Full old new (Ok answer) (Err event) gets leaves c p = subst (λ (e : Event). Ends None F L (Some form) Full old new (Err e)) (sym p.0) (p.1, (answer.text, p.2))
 puts_end (Some t) F L form Full old new (Ok answer) (Err event) gets leaves (inl c) p = absurd c
 puts_end (Some t) F L form Full old new (Ok answer) (Err event) gets leaves (inr c) p = subst (λ (e : Event). Ends (Some t) F L (Some form) Full old new (Err e)) (sym p.0) (p.1, gets t answer c.1 p.2)
-puts_end told F L form Full old new (Err event) (Ok stopped) gets leaves c p = let e : true ≡ false = ap is_ok p.0 in absurd (cc)
-puts_end told F L form Full old new (Err event) (Err other) gets leaves c p =
+puts_end known F L form Full old new (Err event) (Ok stopped) gets leaves c p = let e : true ≡ false = ap is_ok p.0 in absurd (cc)
+puts_end known F L form Full old new (Err event) (Err other) gets leaves c p =
     let same : other ≡ event = ap event_in p.0 in
-    subst (λ (e : Event). Ends told F L (Some form) Full old new (Err e)) (sym same) (ends_by (cause_of event) told F L (Some form) Full old new event (caused_can told F L (λ t. text_of t form) event c) c (leaves event p.1))
+    subst (λ (e : Event). Ends known F L (Some form) Full old new (Err e)) (sym same) (ends_by (cause_of event) known F L (Some form) Full old new event (caused_can known F L (λ t end. Gives t form end) event c) c (leaves event p.1))

@@ -21,7 +21,7 @@ use Rattle.std.proofs.lemmas.Bool.Decides.{nat_tests}
 use Rattle.x7_tool.specs.Event.{write_fault}
 use Rattle.x7_tool.specs.Outcome.{has_header, stream_limit, with_inputs}
 use Rattle.x7_tool.specs.Turn.{Lists}
-use Rattle.x7_tool.proofs.Causes.{no_header_stays, told_all, unwritten}
+use Rattle.x7_tool.proofs.Causes.{no_header_stays, known_all, unwritten}
 
 pub from_ok : {A B P : Type 0} (r : Result A B) → is_err r ≡ false → OnOk r P → P
 from_ok (Ok a) e h = h
@@ -137,7 +137,7 @@ pub end_failed : (contents : Option (List ℕ → Option (List ℕ))) (flash : O
     → Selects contents stream (preceded taken rest) → AtEnd rest → Full → PutsFront old (listing_of taken) now → Ends (with_inputs contents flash) F L (Some (Listing stream)) Full old now (Err write_fault)
 end_failed None flash F L stream taken rest Full old now s e f p = (f, (listing_of taken, p))
 end_failed (Some inputs) flash F L stream taken rest Full old now s e f p =
-    let all = told_all inputs stream taken rest s in
+    let all = known_all inputs stream taken rest s in
     let none : all.0 ≡ [] = let end = rw all.1.0 at e in end in
     (f, (taken, (all.1.1 ∙ ap (λ t. Some (taken ++ t)) none ∙ ap Some (append-nil taken), λ fits. p)))
 

@@ -4,6 +4,9 @@ use Rattle.x7_part.specs.declared.fault.PartFault.{PartFault}
 use Rattle.x7_part.specs.declared.fault.PartFault.TheVariants as part
 use Rattle.x7_part.specs.declared.fault.Which.{Which}
 use Rattle.x7_part.specs.PartKey.{name_of}
+use Rattle.x7_text.specs.Digits.{hex_byte, hex_word}
+use Rattle.x7_tool.specs.declared.bad_input.InputFault.{InputFault}
+use Rattle.x7_tool.specs.declared.bad_input.InputFault.TheVariants as input
 use Rattle.x7_tool.specs.declared.status.Status.{Status}
 use Rattle.x7_tool.specs.declared.status.Status.TheVariants as status
 use Rattle.x7_tool.specs.declared.refusal.Why.{Why}
@@ -37,7 +40,7 @@ placed_key name (Some row) = name ++ codes " in row " ++ decimal row
 abbrev pub which_text : Which → List ℕ
 which_text which = placed_key (name_of which.key) which.row
 
--- why a part file was refused; want of memory is told by another line
+-- why a part file was refused; want of memory is known by another line
 abbrev pub part_text : PartFault → List ℕ
 part_text part.Toml = codes "toml"
 part_text (part.Key which) = codes "key " ++ which_text which
@@ -45,6 +48,15 @@ part_text (part.Range which) = codes "range " ++ which_text which
 part_text (part.SameRow row) = codes "same row " ++ decimal row
 part_text (part.TooMany frames) = codes "too many " ++ decimal frames
 part_text part.NoMemory = codes "no memory"
+
+-- why an input has no reading
+abbrev pub input_text : InputFault → List ℕ
+input_text (input.Line line) = codes "line " ++ decimal line
+input_text (input.LongLine line) = codes "long line " ++ decimal line
+input_text (input.Sum line want got) = codes "sum line " ++ (decimal line ++ (codes " want " ++ (hex_byte want ++ (codes " got " ++ hex_byte got))))
+input_text (input.LargeLine line) = codes "large line " ++ decimal line
+input_text (input.Overlap place) = codes "overlap " ++ hex_word place
+input_text input.NoEnd = codes "no end"
 
 -- a row of the table of reasons: the words stand before the name, the detail after it
 pub record Row : Type 0 where
@@ -58,6 +70,7 @@ abbrev pub row_of : Why → Row
 row_of why.Usage = record { ends_as = status.Usage; cause = Wording; words = codes "usage"; detail = [] }
 row_of why.Missing = record { ends_as = status.Missing; cause = Absence; words = codes "missing "; detail = [] }
 row_of (why.BadPart fault) = record { ends_as = status.BadPart; cause = Contents; words = codes "bad part "; detail = codes ": " ++ part_text fault }
+row_of (why.BadInput fault) = record { ends_as = status.BadInput; cause = Contents; words = codes "bad input "; detail = codes ": " ++ input_text fault }
 row_of why.ReadFault = record { ends_as = status.ReadFault; cause = Fault; words = codes "read fault "; detail = [] }
 row_of why.WriteFault = record { ends_as = status.WriteFault; cause = Break; words = codes "write fault"; detail = [] }
 row_of why.NoMemory = record { ends_as = status.NoMemory; cause = Want; words = codes "no memory"; detail = [] }
@@ -84,6 +97,9 @@ missing name = record { reason = why.Missing; concerned = name }
 
 abbrev pub bad_part : List ℕ → PartFault → Event
 bad_part name fault = record { reason = why.BadPart fault; concerned = name }
+
+abbrev pub bad_input : List ℕ → InputFault → Event
+bad_input name fault = record { reason = why.BadInput fault; concerned = name }
 
 abbrev pub read_fault : List ℕ → Event
 read_fault name = record { reason = why.ReadFault; concerned = name }

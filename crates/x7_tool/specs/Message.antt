@@ -13,6 +13,7 @@ number_of status.Stopped = 1
 number_of status.Usage = 2
 number_of status.Missing = 3
 number_of status.BadPart = 4
+number_of status.BadInput = 5
 number_of status.ReadFault = 6
 number_of status.WriteFault = 7
 number_of status.NoMemory = 8
@@ -20,13 +21,13 @@ number_of status.TooLarge = 9
 number_of status.Unbuilt = 10
 
 -- the status of a whole text, by whether what it reports stopped at a fault
-abbrev pub told_status : Bool → Status
-told_status true = status.Stopped
-told_status false = status.Done
+abbrev pub text_status : Bool → Status
+text_status true = status.Stopped
+text_status false = status.Done
 
 -- the status of a whole outcome
 abbrev pub final_status : Result Answer Event → Status
-final_status (Ok answer) = told_status answer.stopped
+final_status (Ok answer) = text_status answer.stopped
 final_status (Err event) = status_of event
 
 -- the event that a refusal tells

@@ -1,5 +1,5 @@
--- What a command comes to, over told inputs and a told flash: the first event in the order of the work decides (this project's choice).
-use Rattle.std.specs.Prelude.{ℕ, List, [], ◌∷◌, ◌++◌, ◌-◌, Option, None, Some, is_some, Result, Ok, Err, Bool, false, if◌then◌else◌, length, nat_eq, nat_lt}
+-- What a command comes to, over known inputs and a known flash: the first event in the order of the work decides (this project's choice).
+use Rattle.std.specs.Prelude.{◌≡◌, ℕ, List, [], ◌∷◌, ◌++◌, ◌-◌, Option, None, Some, is_some, Result, Ok, Err, Bool, false, if◌then◌else◌, length, nat_eq, nat_lt}
 use Rattle.std.specs.List.{starts_with}
 use Rattle.x7_header.specs.Header.{fixed_bytes}
 use Rattle.x7_listing.specs.Listing.{listing_of}
@@ -13,8 +13,8 @@ use Rattle.x7_tool.specs.Form.{Asked, Listing, Playing, names_flash}
 use Rattle.x7_tool.specs.Parts.{part_in}
 use Rattle.x7_tool.specs.Report.{report_text}
 
--- what is told: the bytes of each input by its name, and those of the flash where they are told
-pub record Told : Type 0 where
+-- what is known: the bytes of each input by its name, and those of the flash where they are known
+pub record Known : Type 0 where
   pub inputs : List ℕ → Option (List ℕ)
   pub flash : Option (List ℕ)
 
@@ -54,18 +54,18 @@ abbrev pub judged : List ℕ → List ℕ → Result (List ℕ) Event
 judged stream bytes = and_so (raw stream bytes) (within stream stream_limit)
 
 -- the stream that a name stands for
-abbrev pub stream_of : Told → List ℕ → Result (List ℕ) Event
-stream_of told name = and_so (present name (told.inputs name)) (judged name)
+abbrev pub stream_of : Known → List ℕ → Result (List ℕ) Event
+stream_of known name = and_so (present name (known.inputs name)) (judged name)
 
 -- `list STREAM`: the listing of the stream
-abbrev pub listed : Told → List ℕ → Result Answer Event
-listed told stream = and_so (stream_of told stream) (λ bytes. Ok (record { stopped = false; text = listing_of bytes }))
+abbrev pub listed : Known → List ℕ → Result Answer Event
+listed known stream = and_so (stream_of known stream) (λ bytes. Ok (record { stopped = false; text = listing_of bytes }))
 
 -- ---- play
 
 -- an input that has no more than so many bytes
-abbrev pub whole_in : Told → ℕ → List ℕ → Result (List ℕ) Event
-whole_in told limit name = and_so (present name (told.inputs name)) (within name limit)
+abbrev pub whole_in : Known → ℕ → List ℕ → Result (List ℕ) Event
+whole_in known limit name = and_so (present name (known.inputs name)) (within name limit)
 
 -- the most bytes of a part file
 abbrev pub part_limit : ℕ
@@ -76,17 +76,17 @@ abbrev pub part_by : List ℕ → Result PartData PartFault → Result PartData 
 part_by name (Ok part) = Ok part
 part_by name (Err fault) = Err (bad_part name fault)
 
-abbrev pub part_of : Told → List ℕ → Result PartData Event
-part_of told name = and_so (whole_in told part_limit name) (λ text. part_by name (part_in text))
+abbrev pub part_of : Known → List ℕ → Result PartData Event
+part_of known name = and_so (whole_in known part_limit name) (λ text. part_by name (part_in text))
 
 -- bytes before those that a step gives
 abbrev pub put_before : List ℕ → Result (List ℕ) Event → Result (List ℕ) Event
 put_before prefix more = and_so more (λ bytes. Ok (prefix ++ bytes))
 
 -- the data of streams, one after the other, within a limit together; a stream's limit is judged before its header
-abbrev pub data_of : Told → ℕ → List (List ℕ) → Result (List ℕ) Event
-data_of told limit [] = Ok []
-data_of told limit (name ∷ names) = and_so (and_so (whole_in told limit name) (raw name)) (λ bytes. put_before bytes (data_of told (limit - length bytes) names))
+abbrev pub data_of : Known → ℕ → List (List ℕ) → Result (List ℕ) Event
+data_of known limit [] = Ok []
+data_of known limit (name ∷ names) = and_so (and_so (whole_in known limit name) (raw name)) (λ bytes. put_before bytes (data_of known (limit - length bytes) names))
 
 -- the most words that a play reads out
 abbrev pub reads_limit : ℕ
@@ -103,29 +103,29 @@ unfoldable pub reported : PartData → List ℕ → Result Answer Event
 reported part bytes = if nat_lt reads_limit (length (reads_of part on_the_bench bytes)) then Err too_many_reads else Ok (report_of part bytes)
 
 -- `play PART STREAM..`: the report of the streams' data, one after the other
-abbrev pub played : Told → List ℕ → List (List ℕ) → Result Answer Event
-played told part streams = and_so (part_of told part) (λ p. and_so (data_of told stream_limit streams) (reported p))
+abbrev pub played : Known → List ℕ → List (List ℕ) → Result Answer Event
+played known part streams = and_so (part_of known part) (λ p. and_so (data_of known stream_limit streams) (reported p))
 
--- what a form comes to, each form one case
-abbrev pub text_of : Told → Asked → Result Answer Event
-text_of told (Listing stream) = listed told stream
-text_of told (Playing part streams) = played told part streams
+-- a form comes to this end, each form one case
+abbrev pub Gives : Known → Asked → Result Answer Event → Type 0
+Gives known (Listing stream) end = listed known stream ≡ end
+Gives known (Playing part streams) end = played known part streams ≡ end
 
--- what the words come to: words without a form are a wrong usage
-abbrev pub outcome_of : Told → Option Asked → Result Answer Event
-outcome_of told None = Err usage
-outcome_of told (Some form) = text_of told form
+-- the words come to this end: words without a form are a wrong usage
+abbrev pub IsOutcome : Known → Option Asked → Result Answer Event → Type 0
+IsOutcome known None end = Err usage ≡ end
+IsOutcome known (Some form) end = Gives known form end
 
--- what is told of the inputs, and of the flash where it is told
-abbrev pub with_inputs : Option (List ℕ → Option (List ℕ)) → Option (List ℕ) → Option Told
+-- what is known of the inputs, and of the flash where it is known
+abbrev pub with_inputs : Option (List ℕ → Option (List ℕ)) → Option (List ℕ) → Option Known
 with_inputs None flash = None
 with_inputs (Some inputs) flash = Some (record { inputs = inputs; flash = flash })
 
--- what is told where both are needed
-abbrev pub with_both : Option (List ℕ → Option (List ℕ)) → Option (List ℕ) → Option Told
+-- what is known where both are needed
+abbrev pub with_both : Option (List ℕ → Option (List ℕ)) → Option (List ℕ) → Option Known
 with_both inputs None = None
 with_both inputs (Some flash) = with_inputs inputs (Some flash)
 
--- what a form needs to be told: the flash's bytes only where it names the flash
-abbrev pub told_of : Option Asked → Option (List ℕ → Option (List ℕ)) → Option (List ℕ) → Option Told
-told_of form inputs flash = if names_flash form then with_both inputs flash else with_inputs inputs flash
+-- what a form needs to be known: the flash's bytes only where it names the flash
+abbrev pub known_of : Option Asked → Option (List ℕ → Option (List ℕ)) → Option (List ℕ) → Option Known
+known_of form inputs flash = if names_flash form then with_both inputs flash else with_inputs inputs flash

@@ -12,10 +12,10 @@ use Rattle.x7_tool.specs.declared.text.Text.{Text}
 
 -- The device took a prefix of the data, after which nothing changes: its state, its stop and the words read out are those of all data.
 pub record IsPlayed (part : PartData) (bytes : List ℕ) (d : DeviceState) (reads : List ℕ) : Type 0 where
-  pub front : List ℕ
-  pub stands : DeviceStandsFor part on_the_bench false d front
-  pub stop : stop_in part on_the_bench bytes ≡ stop_in part on_the_bench front
-  pub state : state_of part on_the_bench false bytes ≡ state_of part on_the_bench false front
+  pub prefix : List ℕ
+  pub stands : DeviceStandsFor part on_the_bench false d prefix
+  pub stop : stop_in part on_the_bench bytes ≡ stop_in part on_the_bench prefix
+  pub state : state_of part on_the_bench false bytes ≡ state_of part on_the_bench false prefix
   pub reads_are : reads ≡ reads_of part on_the_bench bytes
   pub few : length reads ≤ reads_limit
 

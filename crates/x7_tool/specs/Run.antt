@@ -4,16 +4,15 @@ use Rattle.x7_words.specs.Word.{AreBytes}
 use Rattle.x7_words.specs.Count.{HasRisen}
 use Rattle.x7_words.specs.Sink.{appended, PutsFront, Tells}
 use Rattle.x7_listing.specs.Listing.{listing_of}
-use Rattle.x7_tool.specs.declared.status.Status.{Status}
 use Rattle.x7_tool.specs.declared.form.Form.{Form}
 use Rattle.x7_tool.specs.declared.form.Form.TheVariants as form
 use Rattle.x7_tool.specs.declared.refusal.Refusal.{Refusal}
 use Rattle.x7_tool.specs.declared.refusal.Why.{Why}
 use Rattle.x7_tool.specs.declared.refusal.Why.TheVariants as why
-use Rattle.x7_tool.specs.Event.{Event, Cause, Wording, Want, Fault, Absence, Break, Contents, cause_of, line_of, status_of, usage, write_fault}
+use Rattle.x7_tool.specs.Event.{Event, Cause, Wording, Want, Fault, Absence, Break, Contents, cause_of, line_of, usage, write_fault}
 use Rattle.x7_tool.specs.Form.{Asked, Listing, Playing}
-use Rattle.x7_tool.specs.Outcome.{Answer, Told, outcome_of, text_of}
-use Rattle.x7_tool.specs.Message.{event_of, final_status}
+use Rattle.x7_tool.specs.Outcome.{Answer, Known, Gives, IsOutcome}
+use Rattle.x7_tool.specs.Message.{event_of}
 
 -- what a form of the code asks for
 abbrev pub asked_by : Form → Asked
@@ -40,7 +39,7 @@ seen value (Err refusal) = Err (event_of refusal)
 
 -- ---- one step of a command
 
--- what may come whatever is told: want of memory, and a fault or an absence whose count rose
+-- what may come whatever is known: want of memory, and a fault or an absence whose count rose
 abbrev pub FreeBy : Cause → (List ℕ → Type 0) → (List ℕ → Type 0) → List ℕ → Type 0
 FreeBy Want Fails Lacks name = Unit {0}
 FreeBy Fault Fails Lacks name = Fails name
@@ -51,7 +50,7 @@ abbrev pub IsFree : {A : Type 0} → (List ℕ → Type 0) → (List ℕ → Typ
 IsFree Fails Lacks (Ok a) = ⊥
 IsFree Fails Lacks (Err event) = FreeBy (cause_of event) Fails Lacks event.concerned
 
--- what told contents may decide
+-- what known contents may decide
 abbrev pub DecidedBy : Cause → Type 0
 DecidedBy Absence = Unit {0}
 DecidedBy Contents = Unit {0}
@@ -61,7 +60,7 @@ abbrev pub IsDecided : {A : Type 0} → Result A Event → Type 0
 IsDecided (Ok a) = Unit {0}
 IsDecided (Err event) = DecidedBy (cause_of event)
 
--- what contents that are not told may come to
+-- what contents that are not known may come to
 abbrev pub OpenBy : Cause → Type 0
 OpenBy Contents = Unit {0}
 OpenBy _ = ⊥
@@ -70,79 +69,78 @@ abbrev pub IsOpen : {A : Type 0} → Result A Event → Type 0
 IsOpen (Ok a) = Unit {0}
 IsOpen (Err event) = OpenBy (cause_of event)
 
--- the result is the one that is due where the contents are told
-abbrev pub IsDue : {A : Type 0} → Option Told → (Told → Result A Event) → Result A Event → Type 0
-IsDue None due got = IsOpen got
-IsDue (Some told) due got = IsDecided got × (due told ≡ got)
+-- the result is one that is due where the contents are known
+abbrev pub IsDue : {A : Type 0} → Option Known → (Known → Result A Event → Type 0) → Result A Event → Type 0
+IsDue None Due got = IsOpen got
+IsDue (Some known) Due got = IsDecided got × Due known got
 
 -- the result has a cause: it is free, or it is due
-abbrev pub IsCaused : {A : Type 0} → Option Told → (List ℕ → Type 0) → (List ℕ → Type 0) → (Told → Result A Event) → Result A Event → Type 0
-IsCaused told Fails Lacks due got = IsFree Fails Lacks got ⊎ IsDue told due got
+abbrev pub IsCausedBy : {A : Type 0} → Option Known → (List ℕ → Type 0) → (List ℕ → Type 0) → (Known → Result A Event → Type 0) → Result A Event → Type 0
+IsCausedBy known Fails Lacks Due got = IsFree Fails Lacks got ⊎ IsDue known Due got
+
+-- the same where a function of the known contents says what is due
+abbrev pub IsCaused : {A : Type 0} → Option Known → (List ℕ → Type 0) → (List ℕ → Type 0) → (Known → Result A Event) → Result A Event → Type 0
+IsCaused known Fails Lacks due got = IsCausedBy known Fails Lacks (λ t result. due t ≡ result) got
 
 -- ---- a whole command
 
 -- what a whole command may come to: no form is a wrong usage, and a form comes to what is due
-abbrev pub Comes : Option Told → (List ℕ → Type 0) → (List ℕ → Type 0) → Option Asked → Result Answer Event → Type 0
-Comes told Fails Lacks None got = got ≡ Err usage
-Comes told Fails Lacks (Some form) got = IsCaused told Fails Lacks (λ t. text_of t form) got
+abbrev pub Comes : Option Known → (List ℕ → Type 0) → (List ℕ → Type 0) → Option Asked → Result Answer Event → Type 0
+Comes known Fails Lacks None got = Err usage ≡ got
+Comes known Fails Lacks (Some form) got = IsCausedBy known Fails Lacks (λ t end. Gives t form end) got
 
--- the bytes are a prefix of the input of this name, where it is told; of one that isn't there, none
-abbrev pub IsPrefixOf : Option Told → List ℕ → List ℕ → Type 0
+-- the bytes are a prefix of the input of this name, where it is known; of one that isn't there, none
+abbrev pub IsPrefixOf : Option Known → List ℕ → List ℕ → Type 0
 IsPrefixOf None name bytes = Unit {0}
-IsPrefixOf (Some told) name bytes = (rest : List ℕ) × (unwrap_or (told.inputs name) [] ≡ bytes ++ rest)
+IsPrefixOf (Some known) name bytes = (rest : List ℕ) × (unwrap_or (known.inputs name) [] ≡ bytes ++ rest)
 
 -- the sink got a prefix of the listing of bytes that are a prefix of the stream
-abbrev pub ListsPrefix : Option Told → List ℕ → Option (List ℕ) → Option (List ℕ) → Type 0
-ListsPrefix told stream old new = (bytes : List ℕ) × (IsPrefixOf told stream bytes × PutsFront old (listing_of bytes) new)
+abbrev pub ListsPrefix : Option Known → List ℕ → Option (List ℕ) → Option (List ℕ) → Type 0
+ListsPrefix known stream old new = (bytes : List ℕ) × (IsPrefixOf known stream bytes × PutsFront old (listing_of bytes) new)
 
 -- what `list` wrote where a reason ended it: what it had listed as it read, or nothing where the reason comes before the listing
-abbrev pub ListLeaves : Why → Option Told → List ℕ → Option (List ℕ) → Option (List ℕ) → Type 0
-ListLeaves why.ReadFault told stream old new = ListsPrefix told stream old new
-ListLeaves why.TooLarge told stream old new = ListsPrefix told stream old new
-ListLeaves why.NoMemory told stream old new = ListsPrefix told stream old new
-ListLeaves _ told stream old new = new ≡ old
+abbrev pub ListLeaves : Why → Option Known → List ℕ → Option (List ℕ) → Option (List ℕ) → Type 0
+ListLeaves why.ReadFault known stream old new = ListsPrefix known stream old new
+ListLeaves why.TooLarge known stream old new = ListsPrefix known stream old new
+ListLeaves why.NoMemory known stream old new = ListsPrefix known stream old new
+ListLeaves _ known stream old new = new ≡ old
 
 -- what the sink got where an event other than its own failure ended the command: nothing, save from `list`
-abbrev pub Leaves : Option Told → Option Asked → Event → Option (List ℕ) → Option (List ℕ) → Type 0
-Leaves told (Some (Listing stream)) event old new = ListLeaves event.reason told stream old new
-Leaves told form event old new = new ≡ old
+abbrev pub Leaves : Option Known → Option Asked → Event → Option (List ℕ) → Option (List ℕ) → Type 0
+Leaves known (Some (Listing stream)) event old new = ListLeaves event.reason known stream old new
+Leaves known form event old new = new ≡ old
 
 -- the sink got a prefix of the whole text of the form; that of `list`, whether or not the stream is within its limit
-abbrev pub GetsPrefix : Option Told → Option Asked → Option (List ℕ) → Option (List ℕ) → Type 0
-GetsPrefix told None old new = ⊥
+abbrev pub GetsPrefix : Option Known → Option Asked → Option (List ℕ) → Option (List ℕ) → Type 0
+GetsPrefix known None old new = ⊥
 GetsPrefix None (Some form) old new = (text : List ℕ) × PutsFront old text new
-GetsPrefix (Some told) (Some (Listing stream)) old new = (bytes : List ℕ) × ((told.inputs stream ≡ Some bytes) × (AreBytes bytes → PutsFront old (listing_of bytes) new))
-GetsPrefix (Some told) (Some form) old new = (answer : Answer) × ((text_of told form ≡ Ok answer) × PutsFront old answer.text new)
+GetsPrefix (Some known) (Some (Listing stream)) old new = (bytes : List ℕ) × ((known.inputs stream ≡ Some bytes) × (AreBytes bytes → PutsFront old (listing_of bytes) new))
+GetsPrefix (Some known) (Some form) old new = (answer : Answer) × (Gives known form (Ok answer) × PutsFront old answer.text new)
 
 -- how an event ended the command, and what the sink got: a prefix of the text where the sink failed, or what the event leaves
-abbrev pub EndsBy : Cause → Option Told → (List ℕ → Type 0) → (List ℕ → Type 0) → Option Asked → Type 0 → Option (List ℕ) → Option (List ℕ) → Event → Type 0
-EndsBy Break told Fails Lacks form Full old new event = Full × GetsPrefix told form old new
-EndsBy _ told Fails Lacks form Full old new event = Comes told Fails Lacks form (Err event) × Leaves told form event old new
+abbrev pub EndsBy : Cause → Option Known → (List ℕ → Type 0) → (List ℕ → Type 0) → Option Asked → Type 0 → Option (List ℕ) → Option (List ℕ) → Event → Type 0
+EndsBy Break known Fails Lacks form Full old new event = Full × GetsPrefix known form old new
+EndsBy _ known Fails Lacks form Full old new event = Comes known Fails Lacks form (Err event) × Leaves known form event old new
 
 -- how the command ended, and what the sink got
-abbrev pub Ends : Option Told → (List ℕ → Type 0) → (List ℕ → Type 0) → Option Asked → Type 0 → Option (List ℕ) → Option (List ℕ) → Result Answer Event → Type 0
-Ends told Fails Lacks form Full old new (Ok answer) = Comes told Fails Lacks form (Ok answer) × (new ≡ appended old answer.text)
-Ends told Fails Lacks form Full old new (Err event) = EndsBy (cause_of event) told Fails Lacks form Full old new event
+abbrev pub Ends : Option Known → (List ℕ → Type 0) → (List ℕ → Type 0) → Option Asked → Type 0 → Option (List ℕ) → Option (List ℕ) → Result Answer Event → Type 0
+Ends known Fails Lacks form Full old new (Ok answer) = Comes known Fails Lacks form (Ok answer) × (new ≡ appended old answer.text)
+Ends known Fails Lacks form Full old new (Err event) = EndsBy (cause_of event) known Fails Lacks form Full old new event
 
 -- what the sink of messages got: nothing after a whole text, and else the event's line, or a prefix of it where the sink failed
 abbrev pub Says : Type 0 → Option (List ℕ) → Option (List ℕ) → Result Answer Event → Type 0
 Says Full old new (Ok answer) = new ≡ old
 Says Full old new (Err event) = Tells Full old new (line_of event)
 
--- a whole outcome: its status, and its text at the end of what was written
-abbrev pub IsDone : Result Answer Event → Status → Option (List ℕ) → Option (List ℕ) → Type 0
-IsDone (Ok answer) s old new = (s ≡ final_status (Ok answer)) × (new ≡ appended old answer.text)
-IsDone (Err event) s old new = s ≡ status_of event
-
--- the contents are told, and this is their outcome
-abbrev pub Shows : Option Told → Option Asked → Result Answer Event → Type 0
+-- the contents are known, and this is their outcome
+abbrev pub Shows : Option Known → Option Asked → Result Answer Event → Type 0
 Shows None form end = ⊥
-Shows (Some told) form end = outcome_of told form ≡ end
+Shows (Some known) form end = IsOutcome known form end
 
--- where the contents are told, this is their outcome
-abbrev pub Agrees : Option Told → Option Asked → Result Answer Event → Type 0
+-- where the contents are known, this is their outcome
+abbrev pub Agrees : Option Known → Option Asked → Result Answer Event → Type 0
 Agrees None form end = Unit {0}
-Agrees (Some told) form end = outcome_of told form ≡ end
+Agrees (Some known) form end = IsOutcome known form end
 
 -- ---- a text that is whole before it is written
 
@@ -153,6 +151,6 @@ Puts (Ok answer) Full old new (Ok stopped) = (stopped ≡ answer.stopped) × (ne
 Puts (Ok answer) Full old new (Err event) = (event ≡ write_fault) × Full × PutsFront old answer.text new
 
 -- how the command ended, by whether what it wrote reports a fault
-abbrev pub EndsAs : Option Told → (List ℕ → Type 0) → (List ℕ → Type 0) → Option Asked → Type 0 → Option (List ℕ) → Option (List ℕ) → Result Bool Event → Type 0
-EndsAs told Fails Lacks form Full old new (Ok stopped) = (text : List ℕ) × Ends told Fails Lacks form Full old new (Ok (record { stopped = stopped; text = text }))
-EndsAs told Fails Lacks form Full old new (Err event) = Ends told Fails Lacks form Full old new (Err event)
+abbrev pub EndsAs : Option Known → (List ℕ → Type 0) → (List ℕ → Type 0) → Option Asked → Type 0 → Option (List ℕ) → Option (List ℕ) → Result Bool Event → Type 0
+EndsAs known Fails Lacks form Full old new (Ok stopped) = (text : List ℕ) × Ends known Fails Lacks form Full old new (Ok (record { stopped = stopped; text = text }))
+EndsAs known Fails Lacks form Full old new (Err event) = Ends known Fails Lacks form Full old new (Err event)

@@ -7,10 +7,10 @@ use Rattle.x7_tool.specs.declared.status.Status.TheVariants as status
 use Rattle.x7_tool.specs.Event.{Event, Cause, Wording, Want, Fault, Absence, Break, Contents, cause_of}
 use Rattle.x7_tool.specs.Form.{Asked, names_of, names_flash}
 use Rattle.x7_tool.specs.Message.{final_status}
-use Rattle.x7_tool.specs.Outcome.{Answer, Told, outcome_of, told_of}
-use Rattle.x7_tool.specs.Run.{Agrees, GetsPrefix, IsDone, Leaves, RisesFor, Says, Shows}
+use Rattle.x7_tool.specs.Outcome.{Answer, Known, IsOutcome, known_of}
+use Rattle.x7_tool.specs.Run.{Agrees, GetsPrefix, Leaves, RisesFor, Says, Shows}
 
--- a flash: its bytes where they are told, its size, whether it is attached, and its counts
+-- a flash: its bytes where they are known, its size, whether it is attached, and its counts
 pub record FlashState : Type 0 where
   pub bytes : Option (List ℕ)
   pub extent : ℕ
@@ -18,7 +18,7 @@ pub record FlashState : Type 0 where
   pub faults : ℕ
   pub absences : ℕ
 
--- the outside at one moment: what is told, what the sinks got, and how often each failed
+-- the outside at one moment: what is known, what the sinks got, and how often each failed
 pub record Outside : Type 0 where
   pub inputs : Option (List ℕ → Option (List ℕ))
   pub faults : ℕ
@@ -29,9 +29,9 @@ pub record Outside : Type 0 where
   pub err : Option (List ℕ)
   pub err_faults : ℕ
 
--- what is told of all that the form needs
-abbrev pub told_in : Option Asked → Outside → Option Told
-told_in form o = told_of form o.inputs o.flash.bytes
+-- what is known of all that the form needs
+abbrev pub known_in : Option Asked → Outside → Option Known
+known_in form o = known_of form o.inputs o.flash.bytes
 
 -- a name of the form, and a read failed or a name was missing
 abbrev pub Fails : Option Asked → Outside → Outside → List ℕ → Type 0
@@ -45,23 +45,23 @@ abbrev pub IsQuiet : Outside → Outside → Type 0
 IsQuiet old new = ¬ HasRisen old.faults new.faults × ¬ HasRisen old.absences new.absences × ¬ HasRisen old.out_faults new.out_faults
 
 -- what a cause says of an event
-abbrev pub CausedBy : Cause → Option Told → Option Asked → Outside → Outside → Event → Type 0
-CausedBy Wording told form old new event = form ≡ None
-CausedBy Want told form old new event = Unit {0}
-CausedBy Fault told form old new event = Fails form old new event.concerned
-CausedBy Absence told form old new event = Lacks form old new event.concerned ⊎ Shows told form (Err event)
-CausedBy Break told form old new event = HasRisen old.out_faults new.out_faults
-CausedBy Contents told form old new event = Agrees told form (Err event)
+abbrev pub CausedBy : Cause → Option Known → Option Asked → Outside → Outside → Event → Type 0
+CausedBy Wording known form old new event = form ≡ None
+CausedBy Want known form old new event = Unit {0}
+CausedBy Fault known form old new event = Fails form old new event.concerned
+CausedBy Absence known form old new event = Lacks form old new event.concerned ⊎ Shows known form (Err event)
+CausedBy Break known form old new event = HasRisen old.out_faults new.out_faults
+CausedBy Contents known form old new event = Agrees known form (Err event)
 
--- why the run ended so: a whole text is that of the told contents, and an event has its cause
+-- why the run ended so: a whole text is that of the known contents, and an event has its cause
 abbrev pub HasCause : Option Asked → Outside → Outside → Result Answer Event → Type 0
-HasCause form old new (Ok answer) = Agrees (told_in form old) form (Ok answer)
-HasCause form old new (Err event) = CausedBy (cause_of event) (told_in form old) form old new event
+HasCause form old new (Ok answer) = Agrees (known_in form old) form (Ok answer)
+HasCause form old new (Err event) = CausedBy (cause_of event) (known_in form old) form old new event
 
 -- what the output got after an event
 abbrev pub LeftBy : Cause → Option Asked → Outside → Outside → Event → Type 0
-LeftBy Break form old new event = GetsPrefix (told_in form old) form old.out new.out
-LeftBy _ form old new event = Leaves (told_in form old) form event old.out new.out
+LeftBy Break form old new event = GetsPrefix (known_in form old) form old.out new.out
+LeftBy _ form old new event = Leaves (known_in form old) form event old.out new.out
 
 -- what the output got: the whole text, or what the event leaves of it
 abbrev pub Wrote : Option Asked → Outside → Outside → Result Answer Event → Type 0
@@ -85,8 +85,8 @@ pub record Runs (form : Option Asked) (old new : Outside) (s : Status) : Type 0 
   pub wrote : Wrote form old new end
   -- messages got nothing after a whole text, and else the event's one line, or a prefix of it where they failed
   pub said : Says (HasRisen old.err_faults new.err_faults) old.err new.err end
-  -- where all that the form needs is told and no count rose, the end is the outcome, or want of memory
-  pub outcome : (told : Told) → told_in form old ≡ Some told → IsQuiet old new → (s ≡ status.NoMemory) ⊎ IsDone (outcome_of told form) s old.out new.out
+  -- where all that the form needs is known and no count rose, the end is the outcome, or want of memory
+  pub outcome : (known : Known) → known_in form old ≡ Some known → IsQuiet old new → (s ≡ status.NoMemory) ⊎ IsOutcome known form end
   -- words without a form are a wrong usage
   pub no_form : form ≡ None → s ≡ status.Usage
   -- the flash stays

@@ -3,7 +3,7 @@ use Rattle.std.specs.Prelude.{◌≡◌, ℕ, List, [], Option}
 use Rattle.x7_words.specs.Sink.{appended}
 use Rattle.x7_listing.specs.Telling.{ListerState, ListerStandsFor}
 
--- What was put behind the first bytes is what is told of these bytes, and the lister keeps no text of it.
+-- What was put after the first bytes is the listing so far of these bytes, and the lister keeps no text of it.
 pub record Lists (l : ListerState) (first now : Option (List ℕ)) (bytes : List ℕ) : Type 0 where
   pub given : List ℕ
   pub stands : ListerStandsFor l given [] bytes

@@ -1,6 +1,7 @@
 //! The command `x7`: its forms, what each reads, works out and writes, and what it says where it can't.
 #![tactic(auto)]
 
+mod bad_input;
 mod bad_part;
 mod form;
 mod list;
@@ -14,6 +15,7 @@ mod tests;
 mod text;
 mod top;
 
+pub use bad_input::InputFault;
 pub use form::{Form, words_of};
 pub use refusal::Why;
 pub use reports::report;

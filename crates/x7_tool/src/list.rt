@@ -25,7 +25,7 @@ fn has_bit_header(left: usize, piece: &[u8]) -> bool
     left == STREAM_LIMIT && behind_fixed_bytes(piece).is_ok()
 }
 
-/// Lists a piece, and writes what it told.
+/// Lists a piece, and writes what that adds to the listing.
 fn put_turn<'w, O: Sink>(lister: &mut Lister, out: &mut O, piece: &[u8]) -> Result<(), Refusal<'w>>
     ensures ok { OnOk result ((first : Option (List ℕ)) (bytes : List ℕ) → Lists lister.old first (O.written out.old) bytes → Lists lister.new first (O.written out.new) (bytes ++ piece.now)) }
     ensures err { IfErr result (λ r. (first : Option (List ℕ)) (bytes rest : List ℕ) → Lists lister.old first (O.written out.old) bytes → AreBytes (bytes ++ (piece.now ++ rest)) → PutsFront first (listing_of (bytes ++ (piece.now ++ rest))) (O.written out.new)) }
@@ -43,7 +43,7 @@ fn put_turn<'w, O: Sink>(lister: &mut Lister, out: &mut O, piece: &[u8]) -> Resu
     Ok(())
 }
 
-/// Ends the listing, and writes what that told.
+/// Ends the listing, and writes what that adds.
 fn put_end<'w, O: Sink>(lister: &mut Lister, out: &mut O) -> Result<(), Refusal<'w>>
     ensures ok { OnOk result ((first : Option (List ℕ)) (bytes : List ℕ) → Lists lister.old first (O.written out.old) bytes → O.written out.new ≡ appended first (listing_of bytes)) }
     ensures err { IfErr result (λ r. (first : Option (List ℕ)) (bytes : List ℕ) → Lists lister.old first (O.written out.old) bytes → PutsFront first (listing_of bytes) (O.written out.new)) }

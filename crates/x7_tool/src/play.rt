@@ -8,7 +8,7 @@ ghost use Rattle.x7_tool.specs.Outcome.{part_of as part_due, played, reported, w
 ghost use Rattle.x7_tool.specs.Play.{IsPlayed, part_event, whole_of};
 ghost use Rattle.x7_tool.specs.Run.{IsCaused, RisesFor, seen};
 
-use crate::read::{read_onto, read_streams};
+use crate::read::{read_streams, read_whole};
 use crate::refusal::{Refusal, Why};
 use crate::reports::report;
 use crate::text::Text;
@@ -46,23 +46,22 @@ fn read_part<'w, I: Inputs>(
     name: &'w str,
 ) -> Result<Part, Refusal<'w>>
     ensures due { (flash : Option (List ℕ)) → IsCaused (with_inputs (I.contents inputs.old) flash) (RisesFor (name.now ∷ []) (I.faults inputs.old) (I.faults inputs.new)) (RisesFor (name.now ∷ []) (I.absences inputs.old) (I.absences inputs.new))
-        (λ told. part_due told name.now) (seen (λ part. part) result) }
+        (λ known. part_due known name.now) (seen (λ part. part) result) }
     ensures map { I.contents inputs.new ≡ I.contents inputs.old }
     ensures faults { I.faults inputs.old ≤ I.faults inputs.new }
     ensures absences { I.absences inputs.old ≤ I.absences inputs.new }
 {
-    let mut text = Vec::new(alloc);
-    match read_onto(inputs, name, PART_LIMIT, &mut text) {
-        Ok(()) => (),
+    let text = match read_whole(alloc, inputs, name, PART_LIMIT) {
+        Ok(text) => text,
         Err(refusal) => return Err(refusal),
-    }
+    };
     match part_of(alloc, &text) {
         Ok(part) => Ok(part),
         Err(fault) => Err(refusal_of(name, fault)),
     }
 }
 
-/// Moves the words of a buffer behind those that were read out before, where they are within the limit together.
+/// Moves the words of a buffer after those that were read out before, where they are within the limit together.
 fn gather<'w>(buffer: &mut ReadBuf, reads: &mut Vec<u32>) -> Result<(), Refusal<'w>>
     requires { vec_len reads.old ≤ 16777216 }
     ensures words { OnOk result (reads.new.items ≡ reads.old.items ++ buffer.old.words) }
@@ -148,7 +147,7 @@ pub(crate) fn play<'w, I: Inputs>(
     streams: &'w [String],
 ) -> Result<Text, Refusal<'w>>
     ensures { (flash : Option (List ℕ)) → IsCaused (with_inputs (I.contents inputs.old) flash) (RisesFor (part.now ∷ map string_bytes streams.now) (I.faults inputs.old) (I.faults inputs.new)) (RisesFor (part.now ∷ map string_bytes streams.now) (I.absences inputs.old) (I.absences inputs.new))
-        (λ told. played told part.now (map string_bytes streams.now)) (seen whole_of result) }
+        (λ known. played known part.now (map string_bytes streams.now)) (seen whole_of result) }
 {
     let part = match read_part(alloc, inputs, part) {
         Ok(part) => part,

@@ -73,7 +73,7 @@ pub(crate) fn read_onto<'w, I: Inputs>(
     onto: &mut Vec<u8>,
 ) -> Result<(), Refusal<'w>>
     ensures due { (flash : Option (List ℕ)) → IsCaused (with_inputs (I.contents inputs.old) flash) (RisesFor (name.now ∷ []) (I.faults inputs.old) (I.faults inputs.new)) (RisesFor (name.now ∷ []) (I.absences inputs.old) (I.absences inputs.new))
-        (λ told. put_before onto.old.items (whole_in told limit name.now)) (seen (λ _. onto.new.items) result) }
+        (λ known. put_before onto.old.items (whole_in known limit name.now)) (seen (λ _. onto.new.items) result) }
     ensures within { OnOk result (vec_len onto.new ≤ vec_len onto.old + limit) }
     ensures longer { OnOk result (vec_len onto.old ≤ vec_len onto.new) }
     ensures map { I.contents inputs.new ≡ I.contents inputs.old }
@@ -116,6 +116,27 @@ pub(crate) fn read_onto<'w, I: Inputs>(
     }
 }
 
+/// All bytes of an input that has at most so many.
+pub(crate) fn read_whole<'w, I: Inputs>(
+    alloc: Global,
+    inputs: &mut I,
+    name: &'w str,
+    limit: usize,
+) -> Result<Vec<u8>, Refusal<'w>>
+    ensures due { (flash : Option (List ℕ)) → IsCaused (with_inputs (I.contents inputs.old) flash) (RisesFor (name.now ∷ []) (I.faults inputs.old) (I.faults inputs.new)) (RisesFor (name.now ∷ []) (I.absences inputs.old) (I.absences inputs.new))
+        (λ known. whole_in known limit name.now) (seen (λ whole. whole.items) result) }
+    ensures within { IfOk result (λ whole. vec_len whole ≤ limit) }
+    ensures map { I.contents inputs.new ≡ I.contents inputs.old }
+    ensures faults { I.faults inputs.old ≤ I.faults inputs.new }
+    ensures absences { I.absences inputs.old ≤ I.absences inputs.new }
+{
+    let mut whole = Vec::new(alloc);
+    match read_onto(inputs, name, limit, &mut whole) {
+        Ok(()) => Ok(whole),
+        Err(refusal) => Err(refusal),
+    }
+}
+
 /// Appends the data of a stream of at most so many bytes. A .bit header isn't built yet.
 fn read_stream<'w, I: Inputs>(
     inputs: &mut I,
@@ -124,7 +145,7 @@ fn read_stream<'w, I: Inputs>(
     onto: &mut Vec<u8>,
 ) -> Result<(), Refusal<'w>>
     ensures due { (flash : Option (List ℕ)) → IsCaused (with_inputs (I.contents inputs.old) flash) (RisesFor (name.now ∷ []) (I.faults inputs.old) (I.faults inputs.new)) (RisesFor (name.now ∷ []) (I.absences inputs.old) (I.absences inputs.new))
-        (λ told. put_before onto.old.items (and_so (whole_in told limit name.now) (raw name.now))) (seen (λ _. onto.new.items) result) }
+        (λ known. put_before onto.old.items (and_so (whole_in known limit name.now) (raw name.now))) (seen (λ _. onto.new.items) result) }
     ensures within { OnOk result (vec_len onto.new ≤ vec_len onto.old + limit) }
     ensures map { I.contents inputs.new ≡ I.contents inputs.old }
     ensures faults { I.faults inputs.old ≤ I.faults inputs.new }
@@ -151,7 +172,7 @@ pub(crate) fn read_streams<'w, I: Inputs>(
     streams: &'w [String],
 ) -> Result<Vec<u8>, Refusal<'w>>
     ensures due { (flash : Option (List ℕ)) → IsCaused (with_inputs (I.contents inputs.old) flash) (RisesFor (map string_bytes streams.now) (I.faults inputs.old) (I.faults inputs.new)) (RisesFor (map string_bytes streams.now) (I.absences inputs.old) (I.absences inputs.new))
-        (λ told. data_of told stream_limit (map string_bytes streams.now)) (seen (λ whole. whole.items) result) }
+        (λ known. data_of known stream_limit (map string_bytes streams.now)) (seen (λ whole. whole.items) result) }
     ensures within { IfOk result (λ whole. vec_len whole ≤ 67108864) }
     ensures map { I.contents inputs.new ≡ I.contents inputs.old }
     ensures faults { I.faults inputs.old ≤ I.faults inputs.new }

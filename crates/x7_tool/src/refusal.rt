@@ -3,6 +3,7 @@ ghost use Rattle.std.specs.Prelude.{◌≡◌, ◌++◌, [], codes};
 ghost use Rattle.x7_words.specs.Count.{HasRisen};
 ghost use Rattle.x7_words.specs.Sink.{Tells};
 
+use crate::bad_input::{InputFault, say_bad_input};
 use crate::bad_part::say_bad_part;
 use crate::status::Status;
 use x7_part::PartFault;
@@ -17,6 +18,8 @@ pub enum Why {
     Missing,
     /// A part file was refused.
     BadPart(PartFault),
+    /// An input has no reading.
+    BadInput(InputFault),
     /// An input failed at selecting or reading.
     ReadFault,
     /// The output failed.
@@ -40,6 +43,7 @@ impl Why {
             Why::Usage => Status::Usage,
             Why::Missing => Status::Missing,
             Why::BadPart(_) => Status::BadPart,
+            Why::BadInput(_) => Status::BadInput,
             Why::ReadFault => Status::ReadFault,
             Why::WriteFault => Status::WriteFault,
             Why::NoMemory => Status::NoMemory,
@@ -56,6 +60,7 @@ impl Why {
             Why::Usage => b"x7: usage",
             Why::Missing => b"x7: missing ",
             Why::BadPart(_) => b"x7: bad part ",
+            Why::BadInput(_) => b"x7: bad input ",
             Why::ReadFault => b"x7: read fault ",
             Why::WriteFault => b"x7: write fault",
             Why::NoMemory => b"x7: no memory",
@@ -96,6 +101,7 @@ impl<'w> Refusal<'w> {
     {
         match self.reason {
             Why::BadPart(fault) => say_bad_part(err, self.name, fault),
+            Why::BadInput(fault) => say_bad_input(err, self.name, fault),
             _ => say_line(err, self.reason.words(), self.name),
         }
     }

@@ -14,6 +14,8 @@ pub enum Status {
     Missing,
     /// A part file was refused.
     BadPart,
+    /// An input has no reading.
+    BadInput,
     /// An input failed at selecting or reading.
     ReadFault,
     /// The output failed.
@@ -27,11 +29,11 @@ pub enum Status {
 }
 
 impl Status {
-    ghost use Rattle.x7_tool.specs.Message.{number_of, told_status};
+    ghost use Rattle.x7_tool.specs.Message.{number_of, text_status};
 
     /// The status after a whole text, by whether what it reports stopped at a fault.
     pub(crate) fn of_text(stopped: bool) -> Status
-        ensures { result ≡ told_status stopped }
+        ensures { result ≡ text_status stopped }
     {
         if stopped {
             Status::Stopped
@@ -50,6 +52,7 @@ impl Status {
             Status::Usage => 2,
             Status::Missing => 3,
             Status::BadPart => 4,
+            Status::BadInput => 5,
             Status::ReadFault => 6,
             Status::WriteFault => 7,
             Status::NoMemory => 8,

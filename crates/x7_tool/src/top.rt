@@ -4,7 +4,7 @@ ghost use Rattle.x7_words.specs.Count.{HasRisen};
 ghost use Rattle.x7_tool.specs.Event.{Event};
 ghost use Rattle.x7_tool.specs.Form.{form_of, names_of};
 ghost use Rattle.x7_tool.specs.Message.{final_status};
-ghost use Rattle.x7_tool.specs.Outcome.{Answer, told_of};
+ghost use Rattle.x7_tool.specs.Outcome.{Answer, known_of};
 ghost use Rattle.x7_tool.specs.Run.{Ends, EndsAs, RisesFor, Says, seen};
 ghost use Rattle.x7_tool.specs.Runs.{Runs};
 
@@ -25,7 +25,7 @@ fn answer<'w, I: Inputs, O: Sink, F: Flash>(
     flash: &mut F,
     out: &mut O,
 ) -> Result<bool, Refusal<'w>>
-    ensures ends { let form = form_of (map string_bytes words.now.items) in EndsAs (told_of form (I.contents inputs.old) (F.bytes flash.old)) (RisesFor (names_of form) (I.faults inputs.old) (I.faults inputs.new)) (RisesFor (names_of form) (I.absences inputs.old) (I.absences inputs.new)) form
+    ensures ends { let form = form_of (map string_bytes words.now.items) in EndsAs (known_of form (I.contents inputs.old) (F.bytes flash.old)) (RisesFor (names_of form) (I.faults inputs.old) (I.faults inputs.new)) (RisesFor (names_of form) (I.absences inputs.old) (I.absences inputs.new)) form
         (HasRisen (O.faults out.old) (O.faults out.new)) (O.written out.old) (O.written out.new) (seen (λ stopped. stopped) result) }
     ensures flash { flash.new ≡ flash.old }
 {
@@ -49,7 +49,7 @@ fn carry_out<I: Inputs, O: Sink, E: Sink, F: Flash>(
     err: &mut E,
 ) -> Status
     ensures ends { let form = form_of (map string_bytes words.now.items) in (end : Result Answer Event) × ((result ≡ final_status end)
-        × Ends (told_of form (I.contents inputs.old) (F.bytes flash.old)) (RisesFor (names_of form) (I.faults inputs.old) (I.faults inputs.new)) (RisesFor (names_of form) (I.absences inputs.old) (I.absences inputs.new)) form (HasRisen (O.faults out.old) (O.faults out.new)) (O.written out.old) (O.written out.new) end
+        × Ends (known_of form (I.contents inputs.old) (F.bytes flash.old)) (RisesFor (names_of form) (I.faults inputs.old) (I.faults inputs.new)) (RisesFor (names_of form) (I.absences inputs.old) (I.absences inputs.new)) form (HasRisen (O.faults out.old) (O.faults out.new)) (O.written out.old) (O.written out.new) end
         × Says (HasRisen (E.faults err.old) (E.faults err.new)) (E.written err.old) (E.written err.new) end) }
     ensures flash { flash.new ≡ flash.old }
 {

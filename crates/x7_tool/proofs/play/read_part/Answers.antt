@@ -12,23 +12,21 @@ use Rattle.x7_tool.proofs.play.read_part.Goals as goal
 pub returns-in-Ok-part_of-clause-due : goal.returns-in-Ok-part_of-clause-due
 returns-in-Ok-part_of-clause-due g c = λ flash.
     let i = g.I.Inputs in
-    let told = with_inputs (i.contents c.args.inputs.now) flash in
+    let known = with_inputs (i.contents c.args.inputs.now) flash in
     let name = c.args.name.now in
-    let F : List ℕ → Type 0 = RisesFor (name ∷ []) (i.faults c.args.inputs.now) (i.faults c.read_onto.new.inputs) in
-    let L : List ℕ → Type 0 = RisesFor (name ∷ []) (i.absences c.args.inputs.now) (i.absences c.read_onto.new.inputs) in
-    let text = c.read_onto.new.onto.items in
-    let due = rw c.new-text.ensures.items at (c.in-Ok.ensures.due flash) in
+    let F : List ℕ → Type 0 = RisesFor (name ∷ []) (i.faults c.args.inputs.now) (i.faults c.read_whole.new.inputs) in
+    let L : List ℕ → Type 0 = RisesFor (name ∷ []) (i.absences c.args.inputs.now) (i.absences c.read_whole.new.inputs) in
+    let text = c.in-Ok.text.items in
     let part = rw c.deref.ensures.value at c.in-Ok-part_of.ensures.part in
-    after_text told F L part_limit name text (Ok c.in-Ok-part_of.part) due (works told F L (part_by name (part_in text)) (Ok c.in-Ok-part_of.part) tt tt (ap (part_by name) (part_is text c.in-Ok-part_of.part part)))
+    after_text known F L part_limit name text (λ bytes. part_by name (part_in bytes)) (Ok c.in-Ok-part_of.part) (c.in-Ok.ensures.due flash) (works known F L (part_by name (part_in text)) (Ok c.in-Ok-part_of.part) tt tt (ap (part_by name) (part_is text c.in-Ok-part_of.part part)))
 
 pub returns-clause-due : goal.returns-clause-due
 returns-clause-due g c = λ flash.
     let i = g.I.Inputs in
-    let told = with_inputs (i.contents c.args.inputs.now) flash in
+    let known = with_inputs (i.contents c.args.inputs.now) flash in
     let name = c.args.name.now in
-    let F : List ℕ → Type 0 = RisesFor (name ∷ []) (i.faults c.args.inputs.now) (i.faults c.read_onto.new.inputs) in
-    let L : List ℕ → Type 0 = RisesFor (name ∷ []) (i.absences c.args.inputs.now) (i.absences c.read_onto.new.inputs) in
-    let text = c.read_onto.new.onto.items in
-    let due = rw c.new-text.ensures.items at (c.in-Ok.ensures.due flash) in
+    let F : List ℕ → Type 0 = RisesFor (name ∷ []) (i.faults c.args.inputs.now) (i.faults c.read_whole.new.inputs) in
+    let L : List ℕ → Type 0 = RisesFor (name ∷ []) (i.absences c.args.inputs.now) (i.absences c.read_whole.new.inputs) in
+    let text = c.in-Ok.text.items in
     let why = rw c.deref.ensures.value at c.in-Err-part_of.ensures.fault in
-    caused_event told F L (λ told. part_of told name) (event_of c.refusal_of.result) (part_event name c.in-Err-part_of.fault) c.refusal_of.ensures (after_text told F L part_limit name text (Err (part_event name c.in-Err-part_of.fault)) due (refused told F L name text c.in-Err-part_of.fault why))
+    caused_event known F L (λ known. part_of known name) (event_of c.refusal_of.result) (part_event name c.in-Err-part_of.fault) c.refusal_of.ensures (after_text known F L part_limit name text (λ bytes. part_by name (part_in bytes)) (Err (part_event name c.in-Err-part_of.fault)) (c.in-Ok.ensures.due flash) (refused known F L name text c.in-Err-part_of.fault why))

@@ -2,7 +2,7 @@ use Rattle.std.proofs.Common.{◌≡◌, ℕ, List, Option, Some, Ok, Err, map, 
 use Rattle.x7_words.specs.Count.{HasRisen}
 use Rattle.x7_tool.specs.Form.{Asked, Listing, Playing, form_of, names_of}
 use Rattle.x7_tool.specs.Message.{event_of}
-use Rattle.x7_tool.specs.Outcome.{told_of, with_inputs}
+use Rattle.x7_tool.specs.Outcome.{known_of, with_inputs}
 use Rattle.x7_tool.specs.Play.{whole_of}
 use Rattle.x7_tool.specs.Run.{Ends, EndsAs, RisesFor, asked, asked_by, seen}
 use Rattle.x7_tool.proofs.RunLemmas.{puts_end}
@@ -16,7 +16,7 @@ returns-in-Ok-clause-ends g c =
 pub returns-in-Err-clause-ends : goal.returns-in-Err-clause-ends
 returns-in-Err-clause-ends g c =
     let form : form_of (map string_bytes c.args.words.now.items) ≡ Some (Listing c.in-Some-List.stream.now) = sym c.words_of.ensures ∙ ap asked c.in-Some-List.is ∙ ap (λ f. Some (asked_by f)) c.in-Some-List.field-0-is in
-    subst (λ (f : Option Asked). Ends (told_of f (g.I.Inputs.contents c.args.inputs.now) (g.F.Flash.bytes c.args.flash.now)) (RisesFor (names_of f) (g.I.Inputs.faults c.args.inputs.now) (g.I.Inputs.faults c.list.new.inputs))
+    subst (λ (f : Option Asked). Ends (known_of f (g.I.Inputs.contents c.args.inputs.now) (g.F.Flash.bytes c.args.flash.now)) (RisesFor (names_of f) (g.I.Inputs.faults c.args.inputs.now) (g.I.Inputs.faults c.list.new.inputs))
     (RisesFor (names_of f) (g.I.Inputs.absences c.args.inputs.now) (g.I.Inputs.absences c.list.new.inputs)) f (HasRisen (g.O.Sink.faults c.args.out.now) (g.O.Sink.faults c.list.new.out)) (g.O.Sink.written c.args.out.now) (g.O.Sink.written c.list.new.out) (Err (event_of c.in-Err.refusal)))
     (sym form) (c.in-Err.ensures.err (g.F.Flash.bytes c.args.flash.now))
 

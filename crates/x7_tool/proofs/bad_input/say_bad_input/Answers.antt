@@ -1,0 +1,21 @@
+use Rattle.std.proofs.Common.{append_assoc}
+use Rattle.x7_tool.proofs.bad_input.say_bad_input.Goals as goal
+
+pub returns-in-LongLine : goal.returns-in-LongLine
+returns-in-LongLine g c = rw c.in-LongLine.is c.say_line-in-LongLine.ensures
+
+pub returns-in-LargeLine : goal.returns-in-LargeLine
+returns-in-LargeLine g c = rw c.in-LargeLine.is c.say_line-in-LargeLine.ensures
+
+pub returns-in-Overlap : goal.returns-in-Overlap
+returns-in-Overlap g c =
+    let said = rw c.hex_of_word.ensures at c.say_at.ensures in
+    rw c.in-Overlap.is said
+
+pub returns-in-NoEnd : goal.returns-in-NoEnd
+returns-in-NoEnd g c = rw c.in-NoEnd.is c.say_at-in-NoEnd.ensures
+
+pub returns-in-Sum : goal.returns-in-Sum
+returns-in-Sum g c =
+    let said = rw (c.hex_of_byte.ensures, c.hex_of_byte-in-Sum.ensures, c.as_bytes.ensures.value, c.format.ensures.text) at c.say_sum.ensures in
+    rw c.in-Sum.is (simp append_assoc said)
