@@ -24,9 +24,9 @@ const SUBJECTS: [&str; 5] = ["list", "play", "parts", "faults", "limits"];
 
 /// The report of one file of cases.
 fn report(alloc: Global, subject: &str, part: &[u8], text: &str) -> Result<String, Fault> {
-    let mut cases = Subject::new(alloc, part)?;
+    let mut cases = Subject::new(alloc, subject, part)?;
     cases.take_all(text)?;
-    cases.report(subject)
+    cases.report()
 }
 
 /// Runs one file of cases.

@@ -11,6 +11,7 @@ use std::alloc::Global;
 #[derive(Drop)]
 pub struct Subject {
     alloc: Global,
+    name: String,
     /// The inputs of each case: the part file `p`, the streams named outside a case, and what cases kept.
     shared: Vec<Named>,
     open: Option<Case>,
@@ -26,13 +27,14 @@ fn count_line(alloc: Global, subject: &str, good: u32) -> Result<String, Fault> 
 
 impl Subject {
     /// No cases yet, and the part file as the input `p`.
-    pub fn new(alloc: Global, part: &[u8]) -> Result<Subject, Fault> {
+    pub fn new(alloc: Global, name: &str, part: &[u8]) -> Result<Subject, Fault> {
         let mut tiny = Named::new(alloc, "p")?;
         tiny.bytes.extend_from_slice(part)?;
         let mut shared = Vec::new(alloc);
         shared.push(tiny)?;
         Ok(Subject {
             alloc,
+            name: String::from_str(alloc, name)?,
             shared,
             open: None,
             notes: Notes::new(alloc),
@@ -86,7 +88,8 @@ impl Subject {
     fn take_numbered(&mut self, number: usize, line: &str) -> Result<(), Fault> {
         match self.take(line) {
             Err(Fault::Line) => {
-                let note = format!(in self.alloc; "line {number} is not taken: {line}")?;
+                let name = &self.name;
+                let note = format!(in self.alloc; "{name}: line {number} is not taken: {line}")?;
                 self.notes.put_line(note.as_str())
             }
             taken => taken,
@@ -107,8 +110,8 @@ impl Subject {
     }
 
     /// The notes, and a line that counts the cases that came as they are written.
-    pub fn report(self, subject: &str) -> Result<String, Fault> {
-        let count = count_line(self.alloc, subject, self.good)?;
+    pub fn report(self) -> Result<String, Fault> {
+        let count = count_line(self.alloc, self.name.as_str(), self.good)?;
         let mut notes = self.notes;
         notes.put_line(count.as_str())?;
         Ok(notes.text)
