@@ -1,5 +1,5 @@
 -- The line of a row of sixteen bytes.
-use Rattle.std.proofs.Common.{◌≡◌, ℕ, ◌+◌, ◌*◌, ◌-◌, ◌/◌, ◌%◌, ◌^◌, ◌<◌, ◌≤◌, List, [], ◌∷◌, ◌++◌, length, take, drop, replicate, Bool, true, false, not, eqb, refl, ap, sym, ◌∙◌, arith, length-append, take-append-drop}
+use Rattle.std.proofs.Common.{◌≡◌, ℕ, ◌+◌, ◌*◌, ◌-◌, ◌/◌, ◌%◌, ◌^◌, ◌<◌, ◌≤◌, List, [], ◌∷◌, ◌++◌, length, get_or, suc, take, drop, replicate, Bool, true, false, not, eqb, refl, ap, sym, ◌∙◌, arith, length-append, take-append-drop}
 use Rattle.std.proofs.lemmas.Grind.{flat_map-append}
 use Rattle.std.proofs.lemmas.List.{take_at, take_all}
 use Rattle.std.proofs.lemmas.Bool.Decides.{Decides-eqb}
@@ -7,6 +7,7 @@ use Rattle.std.proofs.lemmas.Slice.Eq.{slice_eq-Decides}
 use Rattle.std.specs.Cmp.Lexicographic.{pointwise}
 use Rattle.std.specs.List.{flat_map}
 use Rattle.x7_text.specs.Digits.{hex_byte}
+use Rattle.x7_words.specs.Word.{AreBytes}
 use Rattle.x7_mcs.specs.Record.{sum_byte}
 use Rattle.x7_mcs.specs.Text.{data_line, record_line}
 use Rattle.x7_text.proofs.WholeLineLemmas.{length-hex_bytes}
@@ -42,3 +43,7 @@ pub front-line : (text line rest written : List ℕ) → line ≡ take 44 text �
 front-line text line rest written e f n =
     let same : written ≡ line = (slice_eq-Decides Decides-eqb written line (pointwise eqb written line) refl).0 (is-equal (pointwise eqb written line) n) in
     sym (take-append-drop 44 text) ∙ ap (λ t. t ++ drop 44 text) (sym e ∙ sym same) ∙ ap (λ t. written ++ t) (sym f)
+
+pub are-bytes : (xs : List ℕ) → ((i : ℕ) → get_or xs i 0 < 256) → AreBytes xs
+are-bytes [] h = tt
+are-bytes (x ∷ xs) h = (h 0, are-bytes xs (λ i. h (suc i)))

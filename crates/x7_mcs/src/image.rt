@@ -14,6 +14,9 @@ pub const FLASH_LIMIT: usize = 134_217_728;
 /// A mark with all its sixteen places.
 const ALL: u16 = 0xFFFF;
 
+/// How many marks are made at once.
+const SPARE: usize = 4096;
+
 /// The bytes from place 0 on, and a bit for each place that a record gave: sixteen places a mark, the first in bit 0.
 #[derive(Drop)]
 pub(crate) struct Image {
@@ -75,7 +78,7 @@ fn put_bytes(bytes: &mut Vec<u8>, place: usize, content: &[u8]) -> Result<(), Al
     append_bytes(bytes, content)
 }
 
-/// Lengthens marks by empty ones, so that all places before an end have one.
+/// Lengthens marks by empty ones, so that all places before an end have one, and many after it.
 #[inline(always)]
 fn grow_marks(marks: &mut Vec<u16>, end: usize) -> Result<(), AllocError>
     requires { end < 2 ^ 34 }
@@ -85,7 +88,7 @@ fn grow_marks(marks: &mut Vec<u16>, end: usize) -> Result<(), AllocError>
     if n <= marks.len() {
         return Ok(());
     }
-    marks.resize(n, 0)
+    marks.resize(n + SPARE, 0)
 }
 
 /// Marks a place.

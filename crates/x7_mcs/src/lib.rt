@@ -16,4 +16,4 @@ mod text;
 pub use fault::McsFault;
 pub use flash::flash_of;
 pub use image::FLASH_LIMIT;
-pub use text::mcs_text;
+pub use text::{mcs_text, put_rows};

@@ -5,7 +5,6 @@ ghost use Rattle.x7_mcs.specs.Record.{sum_byte};
 ghost use Rattle.x7_mcs.specs.Text.{data_line};
 
 use crate::record::sum_byte;
-use std::simd::prelude::*;
 use x7_text::hex_of_block;
 
 /// The bytes of a data record of sixteen, with its sum byte, and zeros after them.
@@ -35,7 +34,8 @@ fn record_digits(digits: &[u8; 64]) -> &[u8]
 #[inline(always)]
 pub(crate) fn row_line(address: u32, content: &[u8; 16]) -> [u8; 44]
     requires { address < 2 ^ 16 }
-    ensures { result ≡ data_line address content.now }
+    ensures line { result ≡ data_line address content.now }
+    ensures bytes { AreBytes content.now }
 {
     let digits = hex_of_block(&row_block(address, content));
     let mut line = [b'\n'; 44];
@@ -51,46 +51,55 @@ pub(crate) struct Row {
     pub(crate) content: [u8; 16],
 }
 
-/// The bytes that 32 digits in upper case would show. Nothing is said where others stand there.
+/// The number that eight digits in upper case would show. Nothing is said where others stand there.
 #[inline(always)]
-fn guess_bytes(digits: &[u8; 32]) -> [u8; 16]
-    ensures { AreBytes result }
-{
-    let digits = u8x32::from_array(*digits);
-    let halves = (digits & u8x32::splat(15)) + (digits >> 6) * u8x32::splat(9);
-    let high: u8x16 = halves.shuffle(
-        halves,
-        [0, 2, 4, 6, 8, 10, 12, 14, 16, 18, 20, 22, 24, 26, 28, 30],
-    );
-    let low: u8x16 = halves.shuffle(
-        halves,
-        [1, 3, 5, 7, 9, 11, 13, 15, 17, 19, 21, 23, 25, 27, 29, 31],
-    );
-    ((high << 4) + low).to_array()
+fn guess_number(digits: &[u8; 8]) -> u64 {
+    let codes = u64::from_be_bytes(*digits);
+    let letters = codes >> 6 & 0x0101_0101_0101_0101;
+    let halves = (codes & 0x0F0F_0F0F_0F0F_0F0F).wrapping_add(letters.wrapping_mul(9));
+    let bytes = (halves | halves >> 4) & 0x00FF_00FF_00FF_00FF;
+    let pairs = (bytes | bytes >> 8) & 0x0000_FFFF_0000_FFFF;
+    (pairs | pairs >> 16) & 0xFFFF_FFFF
 }
 
-/// The number that a digit in upper case would show.
+/// The bytes that 16 digits in upper case would show.
 #[inline(always)]
-fn guess_digit(digit: u8) -> u32
-    ensures { result < 16 }
+fn guess_half(digits: &[u8]) -> [u8; 8]
+    requires { length digits.now ≡ 16 }
 {
-    u32::from((digit & 15) + (digit >> 6) * 9) % 16
+    let (groups, _) = digits.as_chunks::<8>();
+    (guess_number(&groups[0]) << 32 | guess_number(&groups[1])).to_be_bytes()
+}
+
+/// The bytes that 32 digits in upper case would show.
+#[inline(always)]
+fn guess_bytes(digits: &[u8]) -> [u8; 16]
+    requires { length digits.now ≡ 32 }
+{
+    let (first, second) = digits.split_at(16);
+    let mut bytes = [0u8; 16];
+    bytes[..8].copy_from_slice(&guess_half(first));
+    bytes[8..].copy_from_slice(&guess_half(second));
+    bytes
+}
+
+/// The number that four digits in upper case would show.
+#[inline(always)]
+fn guess_address(digits: &[u8; 4]) -> u32
+    ensures { result < 2 ^ 16 }
+{
+    let [a, b, c, d] = *digits;
+    (guess_number(&[b'0', b'0', b'0', b'0', a, b, c, d]) & 0xFFFF) as u32
 }
 
 /// The row that a line would show.
 #[inline(always)]
 fn guess_row(line: &[u8; 44]) -> Row
-    ensures address { result.address < 2 ^ 16 }
-    ensures bytes { AreBytes result.content }
+    ensures { result.address < 2 ^ 16 }
 {
-    let mut digits = [0u8; 32];
-    digits.copy_from_slice(&line[9..41]);
     Row {
-        address: 4096 * guess_digit(line[3])
-            + 256 * guess_digit(line[4])
-            + 16 * guess_digit(line[5])
-            + guess_digit(line[6]),
-        content: guess_bytes(&digits),
+        address: guess_address(&[line[3], line[4], line[5], line[6]]),
+        content: guess_bytes(&line[9..41]),
     }
 }
 
