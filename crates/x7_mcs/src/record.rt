@@ -20,7 +20,7 @@ pub(crate) enum Meaning {
 
 /// The sum of bytes, without its carries.
 #[inline(always)]
-fn sum_of(bytes: &[u8]) -> u8
+pub(crate) fn sum_of(bytes: &[u8]) -> u8
     ensures { result ≡ sum bytes.now % 256 }
 {
     let mut total: u8 = 0;
