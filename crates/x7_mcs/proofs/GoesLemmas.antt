@@ -1,0 +1,102 @@
+-- A text that is read line by line.
+use Rattle.std.proofs.Common.{◌≡◌, ℕ, ◌+◌, ◌%◌, ◌==◌, ◌<◌, ◌≤◌, Bool, true, false, if◌then◌else◌, List, [], ◌∷◌, ◌++◌, not, Option, None, Some, Result, Ok, Err, MatchOption, Bor, length, refl, ap, ap₂, sym, subst, ◌∙◌, arith, inl, inr, ◌⊎◌}
+use Rattle.std.proofs.lemmas.List.FromFn.{fill_by_all}
+use Rattle.std.proofs.lemmas.Nat.Bits.{bit_at-zero}
+use Rattle.x7_mcs.specs.Lines.{lines_of}
+use Rattle.x7_mcs.specs.Places.{DataRecord, byte_at, extent, image_of, with_record}
+use Rattle.x7_mcs.specs.Flash.{Reading, after_line, after_lines, and_then, flash_in, mcs_of, of_no_line, with_end, with_records}
+use Rattle.x7_mcs.specs.Text.{data_line}
+use Rattle.x7_words.specs.Word.{AreBytes}
+use Rattle.x7_mcs.specs.State.{Fails, Goes, Holds, Took, at_base, is_marked}
+use Rattle.x7_mcs.specs.declared.fault.McsFault.{McsFault}
+use Rattle.x7_mcs.specs.declared.fault.McsFault.TheVariants as fault
+use Rattle.x7_mcs.proofs.LineLemmas.{NextLine, some-left}
+use Rattle.x7_mcs.proofs.ReadLemmas.{read-data}
+
+-- a step s leads from what is read to what follows
+module _ (whole s : Result Reading McsFault) (n : ℕ) (left : List (List ℕ)) (e : whole ≡ and_then s (λ r. after_lines n r left)) where
+  pub stops : (f : McsFault) → Fails s f → Fails whole f
+  stops f (inl h) = inl h
+  stops f (inr h) = inr (e ∙ ap (λ r. and_then r (λ q. after_lines n q left)) h)
+
+  pub goes-on : (more : List ℕ) (base : ℕ) (ended : Bool) (bytes marks : List ℕ) → left ≡ lines_of more → Took s base ended bytes marks → Goes whole more n base ended bytes marks
+  goes-on more base ended bytes marks l t = record {
+    records = t.records;
+    same = e ∙ ap (λ r. and_then r (λ q. after_lines n q left)) t.is ∙ ap (after_lines n (at_base base ended t.records)) l;
+    holds = t.holds;
+  }
+
+  pub comes-to : (base : ℕ) (ended : Bool) (bytes marks : List ℕ) → left ≡ [] → Took s base ended bytes marks → Took whole base ended bytes marks
+  comes-to base ended bytes marks l t = record {
+    records = t.records;
+    is = e ∙ ap (λ r. and_then r (λ q. after_lines n q left)) t.is ∙ ap (after_lines n (at_base base ended t.records)) l;
+    holds = t.holds;
+  }
+
+no-mark : (p : ℕ) → is_marked [] p ≡ false
+no-mark p = ap (λ (v : ℕ). v == 1) (bit_at-zero (p % 16))
+
+pub starts : (text : List ℕ) (bytes marks : List ℕ) → bytes ≡ [] → marks ≡ [] → Goes (after_lines 1 of_no_line (lines_of text)) text 1 0 false bytes marks
+starts text bytes marks e f = record { records = []; same = refl; holds = rw (e, f) (record { long = refl; at = λ p. refl; marked = λ p. no-mark p }) }
+
+-- one more line of the text, and the text after it
+module _ (whole : Result Reading McsFault) (text line : List ℕ) (n base : ℕ) (ended : Bool) (bytes marks : List ℕ) (o : Option (Bor (List ℕ))) (l : NextLine text line o) (g : Goes whole text n base ended bytes marks) where
+  at-line : (left : List (List ℕ)) → lines_of text ≡ line ∷ left → whole ≡ and_then (after_line n (at_base base ended g.records) line) (λ r. after_lines (n + 1) r left)
+  at-line left e = g.same ∙ ap (after_lines n (at_base base ended g.records)) e
+
+  pub line-stops : (f : McsFault) → Fails (after_line n (at_base base ended g.records) line) f → Fails whole f
+  line-stops f h = let p = some-left text line o l in stops whole (after_line n (at_base base ended g.records) line) (n + 1) p.0 (at-line p.0 p.1) f h
+
+  pub line-goes-on : (base2 : ℕ) (ended2 : Bool) (bytes2 marks2 : List ℕ) → Took (after_line n (at_base base ended g.records) line) base2 ended2 bytes2 marks2
+      → MatchOption o (Took whole base2 ended2 bytes2 marks2) (λ rest. Goes whole rest.now (n + 1) base2 ended2 bytes2 marks2 × (length rest.now < length text))
+  line-goes-on base2 ended2 bytes2 marks2 t = by o l
+    where
+      by : (p : Option (Bor (List ℕ))) → NextLine text line p → MatchOption p (Took whole base2 ended2 bytes2 marks2) (λ rest. Goes whole rest.now (n + 1) base2 ended2 bytes2 marks2 × (length rest.now < length text))
+      by None h = comes-to whole (after_line n (at_base base ended g.records) line) (n + 1) [] (at-line [] h) base2 ended2 bytes2 marks2 refl t
+      by (Some x) h = (goes-on whole (after_line n (at_base base ended g.records) line) (n + 1) (lines_of x.now) (at-line (lines_of x.now) h.0) x.now base2 ended2 bytes2 marks2 refl t, h.1)
+
+image-held : (xs : List DataRecord) (bytes marks : List ℕ) → Holds xs bytes marks → bytes ≡ image_of xs
+image-held xs bytes marks h = fill_by_all (byte_at xs) bytes (extent xs) 255 h.long (λ k l. h.at k)
+
+pub gives-bytes : (text : List ℕ) (base : ℕ) (ended : Bool) (bytes marks : List ℕ) → Took (after_lines 1 of_no_line (lines_of text)) base ended bytes marks → ended ≡ true → mcs_of text ≡ Ok bytes
+gives-bytes text base ended bytes marks t e =
+    ap (λ r. flash_in (with_end r)) t.is ∙ ap (λ (b : Bool). flash_in (if b then Ok (at_base base ended t.records) else Err fault.NoEnd)) e ∙ ap Ok (sym (image-held t.records bytes marks t.holds))
+
+pub gives-no-end : (text : List ℕ) (base : ℕ) (ended : Bool) (bytes marks : List ℕ) → Took (after_lines 1 of_no_line (lines_of text)) base ended bytes marks → ended ≡ false → mcs_of text ≡ Err fault.NoEnd
+gives-no-end text base ended bytes marks t e = ap (λ r. flash_in (with_end r)) t.is ∙ ap (λ (b : Bool). flash_in (if b then Ok (at_base base ended t.records) else Err fault.NoEnd)) e
+
+pub gives-fault : (text : List ℕ) (f : McsFault) → Fails (after_lines 1 of_no_line (lines_of text)) f → (f ≡ fault.NoMemory) ⊎ (mcs_of text ≡ Err f)
+gives-fault text f (inl h) = inl h
+gives-fault text f (inr h) = inr (ap (λ r. flash_in (with_end r)) h)
+
+-- a row of sixteen bytes is read
+module _ (whole : Result Reading McsFault) (text rest content : List ℕ) (n base address : ℕ) (ended : Bool) (bytes marks : List ℕ) (g : Goes whole text n base ended bytes marks) (e : ended ≡ false) (t : text ≡ data_line address content ++ rest)
+    (h : AreBytes content) (l : length content ≡ 16) (a : address ≤ 65520) where
+  row-leads : whole ≡ and_then (with_records (at_base base ended g.records) (with_record n g.records (record { place = base + address; bytes = content }))) (λ r. after_lines (n + 1) r (lines_of rest))
+  row-leads =
+      g.same ∙ ap₂ (λ (b : Bool) (s : List ℕ). after_lines n (at_base base b g.records) (lines_of s)) e t ∙ read-data n base address g.records content rest h (omega (arith, l)) (omega (arith, l, a)) (omega (arith, a))
+      ∙ ap (λ (b : Bool). and_then (with_records (at_base base b g.records) (with_record n g.records (record { place = base + address; bytes = content }))) (λ r. after_lines (n + 1) r (lines_of rest))) (sym e)
+
+  pub row-stops : (f : McsFault) → Fails (with_records (at_base base ended g.records) (with_record n g.records (record { place = base + address; bytes = content }))) f → Fails whole f
+  row-stops f i = stops whole (with_records (at_base base ended g.records) (with_record n g.records (record { place = base + address; bytes = content }))) (n + 1) (lines_of rest) row-leads f i
+
+  pub row-goes-on : (base2 : ℕ) (ended2 : Bool) (bytes2 marks2 : List ℕ) → Took (with_records (at_base base ended g.records) (with_record n g.records (record { place = base + address; bytes = content }))) base2 ended2 bytes2 marks2 → Goes whole rest (n + 1) base2 ended2 bytes2 marks2
+  row-goes-on base2 ended2 bytes2 marks2 i =
+      goes-on whole (with_records (at_base base ended g.records) (with_record n g.records (record { place = base + address; bytes = content }))) (n + 1) (lines_of rest) row-leads rest base2 ended2 bytes2 marks2 refl i
+
+-- what was taken, where text is left and where none is
+pub next-goes : (whole : Result Reading McsFault) (o : Option (Bor (List ℕ))) (x : Bor (List ℕ)) (text : List ℕ) (n base : ℕ) (ended : Bool) (bytes marks : List ℕ) → o ≡ Some x
+    → MatchOption o (Took whole base ended bytes marks) (λ rest. Goes whole rest.now n base ended bytes marks × (length rest.now < length text)) → Goes whole x.now n base ended bytes marks × (length x.now < length text)
+next-goes whole o x text n base ended bytes marks e h = subst (λ p. MatchOption p (Took whole base ended bytes marks) (λ rest. Goes whole rest.now n base ended bytes marks × (length rest.now < length text))) e h
+
+pub next-took : (whole : Result Reading McsFault) (o : Option (Bor (List ℕ))) (text : List ℕ) (n base : ℕ) (ended : Bool) (bytes marks : List ℕ) → o ≡ None
+    → MatchOption o (Took whole base ended bytes marks) (λ rest. Goes whole rest.now n base ended bytes marks × (length rest.now < length text)) → Took whole base ended bytes marks
+next-took whole o text n base ended bytes marks e h = subst (λ p. MatchOption p (Took whole base ended bytes marks) (λ rest. Goes whole rest.now n base ended bytes marks × (length rest.now < length text))) e h
+
+pub not-true : (b : Bool) → not b ≡ true → b ≡ false
+not-true true e = absurd cc
+not-true false e = refl
+
+pub not-false : (b : Bool) → not b ≡ false → b ≡ true
+not-false true e = refl
+not-false false e = absurd cc

@@ -1,0 +1,11 @@
+pub mod BackLemmas
+pub mod DigitLemmas
+pub mod GoesLemmas
+pub mod LineLemmas
+pub mod OutcomeLemmas
+pub mod PlaceLemmas
+pub mod ReadLemmas
+pub mod RecordLemmas
+pub mod RoundLemmas
+pub mod RowLemmas
+pub mod RowsLemmas

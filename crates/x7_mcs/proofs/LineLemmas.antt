@@ -1,0 +1,68 @@
+-- The lines of a text.
+use Rattle.std.proofs.Common.{◌≡◌, ◌==◌, ℕ, zero, suc, ◌+◌, ◌-◌, ◌<◌, ◌≤◌, Bool, true, false, if◌then◌else◌, List, [], ◌∷◌, Option, None, Some, MatchOption, is_some, not, Bor, length, take, drop, get_or, refl, ap, sym, subst, ◌∙◌, arith, take_all, length-drop}
+use Rattle.x7_mcs.specs.Lines.{bare, lines_of, on_first, split, without_return}
+
+-- the text up to its first line end
+at-end : (b : Bool) (c : ℕ) (cs : List ℕ) → b ≡ true → (if b then [] ∷ split cs else on_first c (split cs)) ≡ [] ∷ split cs
+at-end true c cs e = refl
+at-end false c cs e = absurd cc
+
+before-end : (b : Bool) (c : ℕ) (cs : List ℕ) (t : List ℕ) (ts : List (List ℕ)) → (b ≡ true → ⊥) → split cs ≡ t ∷ ts → (if b then [] ∷ split cs else on_first c (split cs)) ≡ (c ∷ t) ∷ ts
+before-end true c cs t ts h e = absurd (h refl)
+before-end false c cs t ts h e = ap (on_first c) e
+
+first-by : (t : List ℕ) (k : ℕ) → ((j : ℕ) → j < k → (get_or t j 0 == 10) ≡ true → ⊥) → k < length t → (get_or t k 0 == 10) ≡ true → split t ≡ take k t ∷ split (drop (suc k) t)
+first-by [] k h l e = absurd (omega arith)
+first-by (c ∷ cs) zero h l e = at-end (c == 10) c cs e
+first-by (c ∷ cs) (suc k) h l e = before-end (c == 10) c cs (take k cs) (split (drop (suc k) cs)) (h 0 (omega arith)) (first-by cs k (λ j i. h (suc j) (omega arith)) (omega arith) e)
+
+pub first-line : (t : List ℕ) (k : ℕ) → ((j : ℕ) → 0 ≤ j → j < k → (get_or t j 0 == 10) ≡ true → ⊥) → k < length t → (get_or t k 0 == 10) ≡ true
+    → (split t ≡ take k t ∷ split (take (length t - (k + 1)) (drop (k + 1) t))) × (length (take (length t - (k + 1)) (drop (k + 1) t)) < length t)
+first-line t k h l e =
+    let long : length (drop (k + 1) t) ≡ length t - (k + 1) = length-drop (k + 1) t in
+    let all : take (length t - (k + 1)) (drop (k + 1) t) ≡ drop (k + 1) t = take_all (length t - (k + 1)) (drop (k + 1) t) (omega arith) in
+    let one : suc k ≡ k + 1 = omega arith in
+    (first-by t k (λ j i. h j (omega arith) i) l e ∙ ap (λ (j : ℕ). take k t ∷ split (drop j t)) one ∙ ap (λ s. take k t ∷ split s) (sym all), omega (arith, ap length all, long))
+
+pub last-line : (t : List ℕ) → ((j : ℕ) → 0 ≤ j → j < length t → (get_or t j 0 == 10) ≡ true → ⊥) → split t ≡ t ∷ []
+last-line [] h = refl
+last-line (c ∷ cs) h = before-end (c == 10) c cs cs [] (h 0 (omega arith) (omega arith)) (last-line cs (λ j i l. h (suc j) (omega arith) (omega arith)))
+
+first_first : (t : List ℕ) → (s : List ℕ) × (more : List (List ℕ)) × (split t ≡ s ∷ more)
+first_first [] = ([], [], refl)
+first_first (c ∷ cs) = by (c == 10) (first_first cs)
+  where
+    by : (b : Bool) → (s : List ℕ) × (more : List (List ℕ)) × (split cs ≡ s ∷ more) → (s : List ℕ) × (more : List (List ℕ)) × ((if b then [] ∷ split cs else on_first c (split cs)) ≡ s ∷ more)
+    by true p = ([], split cs, refl)
+    by false p = (c ∷ p.0, p.1, ap (on_first c) p.2)
+
+pub line-ends : (text t more : List ℕ) → split text ≡ t ∷ split more → lines_of text ≡ without_return t ∷ lines_of more
+line-ends text t more e =
+    let p = first_first more in
+    ap bare e ∙ ap (λ (u : List (List ℕ)). bare (t ∷ u)) p.2 ∙ ap (λ (u : List (List ℕ)). without_return t ∷ bare u) (sym p.2)
+
+pub line-last : (text t : List ℕ) → split text ≡ t ∷ [] → lines_of text ≡ t ∷ []
+line-last text t e = ap bare e
+
+-- what the first line and the text after it are
+abbrev pub NextLine : List ℕ → List ℕ → Option (Bor (List ℕ)) → Type 0
+NextLine text t o = MatchOption o (lines_of text ≡ t ∷ []) (λ more. (lines_of text ≡ t ∷ lines_of more.now) × (length more.now < length text))
+
+pub some-left : (text t : List ℕ) (o : Option (Bor (List ℕ))) → NextLine text t o → (left : List (List ℕ)) × (lines_of text ≡ t ∷ left)
+some-left text t None h = ([], h)
+some-left text t (Some x) h = (lines_of x.now, h.0)
+
+abbrev pub FirstLine : List ℕ → List ℕ → Option (Bor (List ℕ)) → Type 0
+FirstLine text t o = MatchOption o (split text ≡ t ∷ []) (λ more. (split text ≡ t ∷ split more.now) × (length more.now < length text))
+
+is-last : (b : Bool) → false ≡ not b → b ≡ true
+is-last true e = refl
+is-last false e = absurd cc
+
+is-not-last : (b : Bool) → true ≡ not b → b ≡ false
+is-not-last true e = absurd cc
+is-not-last false e = refl
+
+pub next-of : (text t s : List ℕ) (o : Option (Bor (List ℕ))) (b : Bool) → is_some o ≡ not b → s ≡ (if b then t else without_return t) → FirstLine text t o → NextLine text s o
+next-of text t s None b e f h = line-last text t h ∙ ap (λ (u : List ℕ). u ∷ []) (sym (f ∙ ap (λ (d : Bool). if d then t else without_return t) (is-last b e)))
+next-of text t s (Some x) b e f h = (line-ends text t x.now h.0 ∙ ap (λ (u : List ℕ). u ∷ lines_of x.now) (sym (f ∙ ap (λ (d : Bool). if d then t else without_return t) (is-not-last b e))), h.1)

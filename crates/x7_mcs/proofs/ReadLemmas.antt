@@ -1,0 +1,68 @@
+-- Lines that were written are read.
+use Rattle.std.proofs.Common.{◌≡◌, ◌==◌, ℕ, zero, suc, ◌+◌, ◌-◌, ◌*◌, ◌/◌, ◌%◌, ◌^◌, ◌<◌, ◌≤◌, ◌||◌, nat_lt, nat_le, max, Bool, true, false, if◌then◌else◌, List, [], ◌∷◌, ◌++◌, Option, None, Some, Ok, Err, length, get_or, codes, refl, ap, ap₂, sym, subst, ◌∙◌, ◌⊎◌, inl, inr, arith, append_assoc, length-append}
+use Rattle.std.proofs.lemmas.Grind.{common_steps}
+use Rattle.std.proofs.lemmas.Bool.{cases_lt, cases_eq}
+use Rattle.std.proofs.lemmas.List.{get_or_append_left, get_or-append_right, get_or_past, take_at}
+use Rattle.std.proofs.lemmas.List.FromFn.{fill_by_all}
+use Rattle.std.specs.List.{flat_map}
+use Rattle.x7_words.specs.Word.{AreBytes}
+use Rattle.x7_text.specs.Row.{AreFullButLast, rows}
+use Rattle.x7_text.proofs.RowLemmas.{rows_full, rows_joined}
+use Rattle.x7_mcs.specs.Lines.{lines_of}
+use Rattle.x7_mcs.specs.Record.{meaning_of, sum_byte}
+use Rattle.x7_mcs.specs.Places.{DataRecord, byte_at, covered, covers, extent, image_of, overlap, unless_covered, with_record}
+use Rattle.x7_mcs.specs.Flash.{Reading, after_bytes, after_lines, after_meaning, and_then, flash_in, mcs_of, with_end, with_records}
+use Rattle.x7_mcs.specs.State.{at_base}
+use Rattle.x7_mcs.specs.Text.{base_line, block_start, data_line, mcs_text, record_line, row_lines}
+use Rattle.x7_mcs.specs.declared.record.Meaning.TheVariants as meaning
+use Rattle.x7_mcs.specs.declared.fault.McsFault.TheVariants as fault
+use Rattle.x7_mcs.proofs.PlaceLemmas.{within, end-is}
+use Rattle.x7_mcs.proofs.RoundLemmas.{pairs-back, record-first, meaning-written}
+
+-- a record's line is read
+pub read-record : (n : ℕ) (g : Reading) (bs rest : List ℕ) → AreBytes (bs ++ sum_byte bs ∷ [])
+    → after_lines n g (lines_of (record_line bs ++ rest)) ≡ and_then (after_meaning n g (bs ++ sum_byte bs ∷ []) (meaning_of n g.ended (bs ++ sum_byte bs ∷ []))) (λ h. after_lines (n + 1) h (lines_of rest))
+read-record n g bs rest h =
+    ap (after_lines n g) (record-first bs rest)
+    ∙ ap (λ (o : Option (List ℕ)). and_then (after_bytes n g o) (λ k. after_lines (n + 1) k (lines_of rest))) (pairs-back (bs ++ sum_byte bs ∷ []) h)
+
+whole : (k : ℕ) → 256 * (k / 256) + k % 256 ≡ k
+whole k = omega arith
+
+sum-fits : (s : ℕ) → (256 - s % 256) % 256 < 256
+sum-fits s = omega arith
+
+pub read-base : (n base k : ℕ) (xs : List DataRecord) (rest : List ℕ) → k < 65536 → after_lines n (at_base base false xs) (lines_of (base_line k ++ rest)) ≡ after_lines (n + 1) (at_base (65536 * k) false xs) (lines_of rest)
+read-base n base k xs rest h =
+    let bs : List ℕ = 2 ∷ 0 ∷ 0 ∷ 4 ∷ k / 256 ∷ k % 256 ∷ [] in
+    let s : sum_byte (2 ∷ 0 ∷ 0 ∷ 4 ∷ k / 256 ∷ k % 256 ∷ []) < 256 = sum-fits _ in
+    read-record n (at_base base false xs) (2 ∷ 0 ∷ 0 ∷ 4 ∷ k / 256 ∷ k % 256 ∷ []) rest (omega arith, (omega arith, (omega arith, (omega arith, (omega arith, (omega arith, (s, tt)))))))
+    ∙ ap (λ r. and_then (after_meaning n (at_base base false xs) ((2 ∷ 0 ∷ 0 ∷ 4 ∷ k / 256 ∷ k % 256 ∷ []) ++ sum_byte (2 ∷ 0 ∷ 0 ∷ 4 ∷ k / 256 ∷ k % 256 ∷ []) ∷ []) r) (λ g. after_lines (n + 1) g (lines_of rest)))
+    (meaning-written n (2 ∷ 0 ∷ 0 ∷ 4 ∷ k / 256 ∷ k % 256 ∷ []) refl)
+    ∙ ap (λ (v : ℕ). after_lines (n + 1) (at_base (65536 * v) false xs) (lines_of rest)) (whole k)
+
+no-more : (bs : List ℕ) (s : ℕ) → AreBytes bs → s < 256 → AreBytes (bs ++ s ∷ [])
+no-more [] s h k = (k, tt)
+no-more (b ∷ bs) s h k = (h.0, no-more bs s h.1 k)
+
+is_le : (a b : ℕ) → a ≤ b → nat_le a b ≡ true
+is_le a b h = grind (arith, common_steps)
+
+pub read-data : (n base a : ℕ) (xs : List DataRecord) (r rest : List ℕ) → AreBytes r → length r < 256 → a + length r ≤ 65536 → a < 65536
+    → after_lines n (at_base base false xs) (lines_of (data_line a r ++ rest)) ≡ and_then (with_records (at_base base false xs) (with_record n xs (record { place = base + a; bytes = r }))) (λ g. after_lines (n + 1) g (lines_of rest))
+read-data n base a xs r rest h small fits low =
+    let bs : List ℕ = length r ∷ a / 256 ∷ a % 256 ∷ 0 ∷ r in
+    let v : ℕ = sum_byte (length r ∷ a / 256 ∷ a % 256 ∷ 0 ∷ r) in
+    let s : sum_byte (length r ∷ a / 256 ∷ a % 256 ∷ 0 ∷ r) < 256 = sum-fits _ in
+    let long : length r + 5 ≡ length ((length r ∷ a / 256 ∷ a % 256 ∷ 0 ∷ r) ++ sum_byte (length r ∷ a / 256 ∷ a % 256 ∷ 0 ∷ r) ∷ []) = omega (arith, length-append r (sum_byte (length r ∷ a / 256 ∷ a % 256 ∷ 0 ∷ r) ∷ [])) in
+    read-record n (at_base base false xs) (length r ∷ a / 256 ∷ a % 256 ∷ 0 ∷ r) rest (omega arith, (omega arith, (omega arith, (omega arith, no-more r (sum_byte (length r ∷ a / 256 ∷ a % 256 ∷ 0 ∷ r)) h s))))
+    ∙ ap (λ t. and_then (after_meaning n (at_base base false xs) ((length r ∷ a / 256 ∷ a % 256 ∷ 0 ∷ r) ++ sum_byte (length r ∷ a / 256 ∷ a % 256 ∷ 0 ∷ r) ∷ []) t) (λ g. after_lines (n + 1) g (lines_of rest)))
+    (meaning-written n (length r ∷ a / 256 ∷ a % 256 ∷ 0 ∷ r) long)
+    ∙ ap (λ (b : Bool). and_then (after_meaning n (at_base base false xs) ((length r ∷ a / 256 ∷ a % 256 ∷ 0 ∷ r) ++ sum_byte (length r ∷ a / 256 ∷ a % 256 ∷ 0 ∷ r) ∷ []) (if b then Ok (meaning.Data (256 * (a / 256) + a % 256)) else Err (fault.Line n))) (λ g. after_lines (n + 1) g (lines_of rest)))
+    (is_le (256 * (a / 256) + a % 256 + length r) 65536 (omega arith))
+    ∙ ap₂ (λ (d : ℕ) (t : List ℕ). and_then (with_records (at_base base false xs) (with_record n xs (record { place = base + d; bytes = t }))) (λ g. after_lines (n + 1) g (lines_of rest)))
+    (whole a) (take_at r (sum_byte (length r ∷ a / 256 ∷ a % 256 ∷ 0 ∷ r) ∷ []) (length r) refl)
+
+pub read-free : (n base a : ℕ) (xs : List DataRecord) (r rest : List ℕ) → AreBytes r → length r < 256 → a + length r ≤ 65536 → a < 65536 → with_record n xs (record { place = base + a; bytes = r }) ≡ Ok (record { place = base + a; bytes = r } ∷ xs)
+    → after_lines n (at_base base false xs) (lines_of (data_line a r ++ rest)) ≡ after_lines (n + 1) (at_base base false (record { place = base + a; bytes = r } ∷ xs)) (lines_of rest)
+read-free n base a xs r rest h small fits low w = read-data n base a xs r rest h small fits low ∙ ap (λ t. and_then (with_records (at_base base false xs) t) (λ g. after_lines (n + 1) g (lines_of rest))) w

@@ -1,0 +1,13 @@
+use Rattle.std.proofs.Common.{◌≡◌, ◌+◌, ◌++◌, length}
+use Rattle.x7_text.specs.Row.{rows}
+use Rattle.x7_mcs.specs.Text.{row_lines}
+use Rattle.x7_mcs.proofs.text.put_rows.Given as goal
+
+abbrev pub invariant-loop-rest : goal.invariant-loop-rest
+invariant-loop-rest l = record {
+  lines : l.fn.text.items ++ row_lines l.place (rows 16 l.bytes) ≡ l.text.items ++ row_lines l.at (rows 16 l.rest);
+  left : l.at + length l.rest ≡ l.place + length l.bytes;
+}
+
+abbrev pub decreases-loop-rest : goal.decreases-loop-rest
+decreases-loop-rest l = length l.rest

@@ -1,0 +1,26 @@
+-- The lines of a text (this project's choice).
+use Rattle.std.specs.Prelude.{ℕ, ◌-◌, ◌==◌, if◌then◌else◌, List, [], ◌∷◌, length, take, get_or}
+
+-- a character at the beginning of the first line
+abbrev pub on_first : ℕ → List (List ℕ) → List (List ℕ)
+on_first c [] = (c ∷ []) ∷ []
+on_first c (t ∷ ts) = (c ∷ t) ∷ ts
+
+-- what stands between the line ends 0A
+abbrev pub split : List ℕ → List (List ℕ)
+split [] = [] ∷ []
+split (c ∷ cs) = if c == 10 then [] ∷ split cs else on_first c (split cs)
+
+-- a line without a 0D at its end
+abbrev pub without_return : List ℕ → List ℕ
+without_return t = if get_or t (length t - 1) 0 == 13 then take (length t - 1) t else t
+
+-- each line but the last has an end, and the end may be 0D 0A
+abbrev pub bare : List (List ℕ) → List (List ℕ)
+bare [] = []
+bare (t ∷ []) = t ∷ []
+bare (t ∷ u ∷ ts) = without_return t ∷ bare (u ∷ ts)
+
+-- the lines of a text without their ends, which are 0A or 0D 0A; the last may lack its end, and a lone 0D ends none
+abbrev pub lines_of : List ℕ → List (List ℕ)
+lines_of text = bare (split text)

@@ -1,0 +1,50 @@
+-- The places that data records cover (this project's choice).
+use Rattle.std.specs.Prelude.{ℕ, zero, suc, ◌+◌, ◌-◌, ◌^◌, ◌==◌, ◌&&◌, ◌||◌, nat_le, nat_lt, max, Bool, false, if◌then◌else◌, List, [], ◌∷◌, length, map, get_or, Option, None, Some, Result, Ok, Err}
+use Rattle.std.specs.List.{range_with_len}
+use Rattle.x7_mcs.specs.declared.fault.McsFault.{McsFault}
+use Rattle.x7_mcs.specs.declared.fault.McsFault.TheVariants as fault
+
+-- the first place of a data record, and its bytes
+pub record DataRecord : Type 0 where
+  pub place : ℕ
+  pub bytes : List ℕ
+
+abbrev pub covers : DataRecord → ℕ → Bool
+covers x p = nat_le x.place p && nat_lt p (x.place + length x.bytes)
+
+abbrev pub covered : List DataRecord → ℕ → Bool
+covered [] p = false
+covered (x ∷ xs) p = covers x p || covered xs p
+
+-- the byte of the record that covers a place, and FF where none does
+abbrev pub byte_at : List DataRecord → ℕ → ℕ
+byte_at [] p = 255
+byte_at (x ∷ xs) p = if covers x p then get_or x.bytes (p - x.place) 255 else byte_at xs p
+
+-- one more than the greatest place that a record gives, and 0 where it gives none
+abbrev pub end_of : DataRecord → ℕ
+end_of x = if length x.bytes == 0 then 0 else x.place + length x.bytes
+
+abbrev pub extent : List DataRecord → ℕ
+extent [] = 0
+extent (x ∷ xs) = max (extent xs) (end_of x)
+
+-- the bytes from place 0 to the greatest place given
+abbrev pub image_of : List DataRecord → List ℕ
+image_of xs = map (byte_at xs) (range_with_len 0 (extent xs))
+
+-- the least of n places from here on that a record covers
+abbrev pub overlap : List DataRecord → ℕ → ℕ → Option ℕ
+overlap xs p zero = None
+overlap xs p (suc n) = if covered xs p then Some p else overlap xs (p + 1) n
+
+-- the records, unless a place is covered already
+abbrev pub unless_covered : Option ℕ → List DataRecord → Result (List DataRecord) McsFault
+unless_covered (Some p) xs = Err (fault.Overlap p)
+unless_covered None xs = Ok xs
+
+-- the records with that of line n, or its fault
+abbrev pub with_record : ℕ → List DataRecord → DataRecord → Result (List DataRecord) McsFault
+with_record n xs x =
+    if nat_lt (2 ^ 27) (end_of x) then Err (fault.TooLarge n)
+    else unless_covered (overlap xs x.place (length x.bytes)) (x ∷ xs)

@@ -1,0 +1,79 @@
+-- What a record says: count, address, type, data and sum byte (Intel HEX).
+use Rattle.std.specs.Prelude.{ℕ, ◌+◌, ◌*◌, ◌-◌, ◌%◌, ◌==◌, ◌&&◌, ◌||◌, nat_le, not, Bool, if◌then◌else◌, List, [], ◌∷◌, length, take, drop, get_or, Option, None, Some, Result, Ok, Err}
+use Rattle.std.specs.List.{sum}
+use Rattle.x7_mcs.specs.declared.record.Meaning.{Meaning}
+use Rattle.x7_mcs.specs.declared.record.Meaning.TheVariants as meaning
+use Rattle.x7_mcs.specs.declared.fault.McsFault.{McsFault}
+use Rattle.x7_mcs.specs.declared.fault.McsFault.TheVariants as fault
+
+-- the number of a digit of either case
+abbrev pub digit_of : ℕ → Option ℕ
+digit_of c =
+    if nat_le 48 c && nat_le c 57 then Some (c - 48)
+    else if nat_le 65 c && nat_le c 70 then Some (c - 55)
+    else if nat_le 97 c && nat_le c 102 then Some (c - 87)
+    else None
+
+-- the byte of two digits
+abbrev pub byte_of : Option ℕ → Option ℕ → Option ℕ
+byte_of (Some high) (Some low) = Some (16 * high + low)
+byte_of _ _ = None
+
+-- a byte and then bytes
+abbrev pub led : Option ℕ → Option (List ℕ) → Option (List ℕ)
+led (Some b) (Some bs) = Some (b ∷ bs)
+led _ _ = None
+
+-- the bytes of pairs of digits
+abbrev pub pairs : List ℕ → Option (List ℕ)
+pairs [] = Some []
+pairs (a ∷ []) = None
+pairs (a ∷ b ∷ cs) = led (byte_of (digit_of a) (digit_of b)) (pairs cs)
+
+-- the fields of a record's bytes
+abbrev pub count_of : List ℕ → ℕ
+count_of bs = get_or bs 0 0
+
+abbrev pub address_of : List ℕ → ℕ
+address_of bs = 256 * get_or bs 1 0 + get_or bs 2 0
+
+abbrev pub type_of : List ℕ → ℕ
+type_of bs = get_or bs 3 0
+
+-- the number in two bytes of data
+abbrev pub value_of : List ℕ → ℕ
+value_of bs = 256 * get_or bs 4 0 + get_or bs 5 0
+
+abbrev pub data_of : List ℕ → List ℕ
+data_of bs = take (count_of bs) (drop 4 bs)
+
+-- the sum byte that stands there
+abbrev pub got_of : List ℕ → ℕ
+got_of bs = get_or bs (length bs - 1) 0
+
+-- the byte that makes the sum of these and itself 0 mod 256
+abbrev pub sum_byte : List ℕ → ℕ
+sum_byte bs = (256 - sum bs % 256) % 256
+
+-- the sum byte that the record wants
+abbrev pub wanted_of : List ℕ → ℕ
+wanted_of bs = sum_byte (take (length bs - 1) bs)
+
+-- by type, count and address: 00 data, which end within 65,536 (this project's choice); 01 the end; 02 the base by 16;
+-- 04 the base by 65,536; 03 and 05 a start address, without effect
+abbrev pub meaning_by_type : ℕ → List ℕ → Result Meaning McsFault
+meaning_by_type n bs =
+    if type_of bs == 0 && nat_le (address_of bs + count_of bs) 65536 then Ok (meaning.Data (address_of bs))
+    else if type_of bs == 1 && count_of bs == 0 then Ok meaning.End
+    else if type_of bs == 2 && count_of bs == 2 then Ok (meaning.Base (16 * value_of bs))
+    else if type_of bs == 4 && count_of bs == 2 then Ok (meaning.Base (65536 * value_of bs))
+    else if (type_of bs == 3 || type_of bs == 5) && count_of bs == 4 then Ok meaning.Start
+    else Err (fault.Line n)
+
+-- what the bytes of line n say, where a record 01 stood before or not
+abbrev pub meaning_of : ℕ → Bool → List ℕ → Result Meaning McsFault
+meaning_of n ended bs =
+    if not (count_of bs + 5 == length bs) then Err (fault.Line n)
+    else if not (wanted_of bs == got_of bs) then Err (fault.Sum n (wanted_of bs) (got_of bs))
+    else if ended then Err (fault.Line n)
+    else meaning_by_type n bs

@@ -1,0 +1,31 @@
+-- The text of a flash's bytes (Intel HEX; rows of 16 bytes are this project's choice).
+use Rattle.std.specs.Prelude.{ℕ, ◌+◌, ◌/◌, ◌%◌, ◌==◌, if◌then◌else◌, List, [], ◌∷◌, ◌++◌, length, codes}
+use Rattle.std.specs.List.{flat_map}
+use Rattle.x7_text.specs.Digits.{hex_byte}
+use Rattle.x7_text.specs.Row.{rows}
+use Rattle.x7_mcs.specs.Record.{sum_byte}
+
+-- the line of a record's bytes, with the byte that makes their sum 0
+abbrev pub record_line : List ℕ → List ℕ
+record_line bs = 58 ∷ (flat_map hex_byte (bs ++ sum_byte bs ∷ []) ++ 10 ∷ [])
+
+-- the record 04 of a block of 65,536 bytes
+abbrev pub base_line : ℕ → List ℕ
+base_line block = record_line (2 ∷ 0 ∷ 0 ∷ 4 ∷ block / 256 ∷ block % 256 ∷ [])
+
+-- the data record of bytes at an address
+abbrev pub data_line : ℕ → List ℕ → List ℕ
+data_line address bs = record_line (length bs ∷ address / 256 ∷ address % 256 ∷ 0 ∷ bs)
+
+-- where a block of 65,536 bytes begins, its record 04
+abbrev pub block_start : ℕ → List ℕ
+block_start place = if place % 65536 == 0 then base_line (place / 65536) else []
+
+-- the lines of rows from a place on
+abbrev pub row_lines : ℕ → List (List ℕ) → List ℕ
+row_lines place [] = []
+row_lines place (r ∷ rs) = block_start place ++ data_line (place % 65536) r ++ row_lines (place + length r) rs
+
+-- the text of a flash's bytes: rows of 16, the last of which may be shorter, and the record 01
+abbrev pub mcs_text : List ℕ → List ℕ
+mcs_text bytes = row_lines 0 (rows 16 bytes) ++ codes ":00000001FF\n"

@@ -1,0 +1,53 @@
+//! The bytes of a flash text.
+ghost use Rattle.std.specs.Prelude.{◌≡◌, ℕ, ◌≤◌, ◌^◌, ◌⊎◌, List, length, Ok, Err, MatchResult, IfOk, IfErr};
+ghost use Rattle.x7_mcs.specs.Flash.{mcs_of};
+ghost use Rattle.x7_mcs.specs.Text.{mcs_text};
+ghost use Rattle.x7_mcs.specs.declared.fault.McsFault.{McsFault};
+ghost use Rattle.x7_words.specs.Word.{AreBytes};
+
+use crate::fault::McsFault;
+use crate::image::empty_image;
+use crate::step::{Context, take_line};
+use std::alloc::Global;
+
+/// The bytes that a flash text gives, FF where no record gave one, or its first fault.
+pub fn flash_of(alloc: Global, text: &[u8]) -> Result<Vec<u8>, McsFault>
+    ensures bytes { IfOk result (λ bytes. mcs_of text.now ≡ Ok bytes.items) }
+    ensures fault { IfErr result (λ fault. (fault ≡ McsFault.NoMemory) ⊎ (mcs_of text.now ≡ Err fault)) }
+    ensures back { (x : List ℕ) → AreBytes x → length x ≤ 2 ^ 27 → text.now ≡ mcs_text x
+        → MatchResult result (λ bytes. bytes.items ≡ x) (λ fault. fault ≡ McsFault.NoMemory) }
+{
+    read_text(alloc, text)
+}
+
+/// The bytes that a flash text gives, line by line.
+fn read_text(alloc: Global, text: &[u8]) -> Result<Vec<u8>, McsFault>
+    ensures { MatchResult result (λ bytes. mcs_of text.now ≡ Ok bytes.items) (λ fault. (fault ≡ McsFault.NoMemory) ⊎ (mcs_of text.now ≡ Err fault)) }
+{
+    let Ok(mut image) = empty_image(alloc, text.len()) else {
+        return Err(McsFault::NoMemory);
+    };
+    let mut decoded = Vec::new(alloc);
+    let mut context = Context {
+        base: 0,
+        ended: false,
+    };
+    let mut rest = text;
+    let mut n: u64 = 0;
+    loop {
+        n += 1;
+        let taken = match take_line(&mut image, &mut decoded, n, context, rest) {
+            Ok(taken) => taken,
+            Err(fault) => return Err(fault),
+        };
+        context = taken.context;
+        let Some(more) = taken.rest else {
+            break;
+        };
+        rest = more;
+    }
+    if !context.ended {
+        return Err(McsFault::NoEnd);
+    }
+    Ok(image.bytes)
+}

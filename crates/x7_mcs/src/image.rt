@@ -1,0 +1,218 @@
+//! The bytes of a flash that is being read, and the places that its records gave.
+ghost use Rattle.std.specs.Prelude.{◌≡◌, ℕ, Bool, true, false, ◌≤◌, ◌<◌, ◌+◌, ◌-◌, ◌*◌, ◌/◌, ◌%◌, ◌^◌, ◌==◌, ◌&&◌, ◌⊎◌, nat_le, nat_lt, max, if◌then◌else◌, List, [], ◌∷◌, length, get_or, None, Some, Ok, Err, IfOk, MatchResult, MatchOption};
+ghost use Rattle.std.specs.Int.{bit_at};
+ghost use Rattle.x7_mcs.specs.Places.{DataRecord, overlap, with_record};
+ghost use Rattle.x7_mcs.specs.State.{AreFree, Holds, IsFirstMarked, IsPlaced, is_marked};
+ghost use Rattle.x7_mcs.specs.declared.fault.McsFault.{McsFault};
+
+use crate::fault::McsFault;
+use std::alloc::{AllocError, Global};
+
+/// How many places a flash has at most.
+pub const FLASH_LIMIT: usize = 134_217_728;
+
+/// A mark with all its sixteen places.
+const ALL: u16 = 0xFFFF;
+
+/// How many marks are made at once.
+const SPARE: usize = 4096;
+
+/// The bytes from place 0 on, and a bit for each place that a record gave: sixteen places a mark, the first in bit 0.
+#[derive(Drop)]
+pub(crate) struct Image {
+    pub(crate) bytes: Vec<u8>,
+    pub(crate) marks: Vec<u16>,
+}
+
+/// An image without bytes, with room for as many as a text of this length gives without holes.
+pub(crate) fn empty_image(alloc: Global, text_length: usize) -> Result<Image, AllocError>
+    ensures { IfOk result (λ image. (image.bytes.items ≡ []) × (image.marks.items ≡ [])) }
+{
+    let room = (text_length / 2).min(FLASH_LIMIT);
+    Ok(Image {
+        bytes: Vec::with_capacity(alloc, room)?,
+        marks: Vec::with_capacity(alloc, room / 16)?,
+    })
+}
+
+/// Lengthens bytes by FF.
+#[inline(always)]
+fn grow_bytes(bytes: &mut Vec<u8>, n: usize) -> Result<(), AllocError>
+    ensures { MatchResult result (λ _. (length bytes.new.items ≡ max (length bytes.old.items) n) × ((p : ℕ) → get_or bytes.new.items p 255 ≡ get_or bytes.old.items p 255)) (λ _. Unit {0}) }
+{
+    if n <= bytes.len() {
+        return Ok(());
+    }
+    bytes.resize(n, 255)
+}
+
+/// Writes bytes over others.
+fn set_bytes(bytes: &mut Vec<u8>, place: usize, content: &[u8])
+    requires { place + length content.now ≤ length bytes.old.items }
+    ensures long { length bytes.new.items ≡ length bytes.old.items }
+    ensures at { (p : ℕ) → get_or bytes.new.items p 255 ≡ (if nat_le place p && nat_lt p (place + length content.now) then get_or content.now (p - place) 255 else get_or bytes.old.items p 255) }
+{
+    bytes[place..place + content.len()].copy_from_slice(content);
+}
+
+/// Appends bytes.
+#[inline(always)]
+fn append_bytes(bytes: &mut Vec<u8>, content: &[u8]) -> Result<(), AllocError>
+    ensures { MatchResult result (λ _. IsPlaced (length bytes.old.items) content.now bytes.old.items bytes.new.items) (λ _. Unit {0}) }
+{
+    bytes.extend_from_slice(content)
+}
+
+/// Writes bytes from a place on, after FF where the bytes end before it.
+#[inline(always)]
+fn put_bytes(bytes: &mut Vec<u8>, place: usize, content: &[u8]) -> Result<(), AllocError>
+    requires { place + length content.now < 2 ^ 34 }
+    ensures { MatchResult result (λ _. IsPlaced place content.now bytes.old.items bytes.new.items) (λ _. Unit {0}) }
+{
+    if place < bytes.len() {
+        grow_bytes(bytes, place + content.len())?;
+        set_bytes(bytes, place, content);
+        return Ok(());
+    }
+    grow_bytes(bytes, place)?;
+    append_bytes(bytes, content)
+}
+
+/// Lengthens marks by empty ones, so that all places before an end have one, and many after it.
+#[inline(always)]
+fn grow_marks(marks: &mut Vec<u16>, end: usize) -> Result<(), AllocError>
+    requires { end < 2 ^ 34 }
+    ensures { MatchResult result (λ _. (end ≤ 16 * length marks.new.items) × ((k : ℕ) → get_or marks.new.items k 0 ≡ get_or marks.old.items k 0)) (λ _. Unit {0}) }
+{
+    let n = end / 16 + 1;
+    if n <= marks.len() {
+        return Ok(());
+    }
+    marks.resize(n + SPARE, 0)
+}
+
+/// Marks a place.
+fn mark_place(marks: &mut Vec<u16>, place: usize)
+    requires { place / 16 < length marks.old.items }
+    ensures long { length marks.new.items ≡ length marks.old.items }
+    ensures at { (p : ℕ) → is_marked marks.new.items p ≡ (if nat_le place p && nat_lt p (place + 1) then true else is_marked marks.old.items p) }
+{
+    marks[place / 16] |= 1 << (place % 16);
+}
+
+/// Marks the sixteen places of one mark.
+fn mark_sixteen(marks: &mut Vec<u16>, place: usize)
+    requires within { place / 16 < length marks.old.items }
+    requires first { place % 16 ≡ 0 }
+    ensures long { length marks.new.items ≡ length marks.old.items }
+    ensures at { (p : ℕ) → is_marked marks.new.items p ≡ (if nat_le place p && nat_lt p (place + 16) then true else is_marked marks.old.items p) }
+{
+    marks[place / 16] = ALL;
+}
+
+/// Marks places from one on.
+#[inline(always)]
+fn mark_places(marks: &mut Vec<u16>, place: usize, count: usize)
+    requires within { place + count ≤ 16 * length marks.old.items }
+    requires small { place + count < 2 ^ 34 }
+    ensures { (p : ℕ) → is_marked marks.new.items p ≡ (if nat_le place p && nat_lt p (place + count) then true else is_marked marks.old.items p) }
+{
+    let end = place + count;
+    let mut at = place;
+    while at < end {
+        if at % 16 == 0 && end - at >= 16 {
+            mark_sixteen(marks, at);
+            at += 16;
+        } else {
+            mark_place(marks, at);
+            at += 1;
+        }
+    }
+}
+
+/// The mark that a place stands in; an empty one past the last.
+fn mark_of(marks: &[u16], place: usize) -> u16
+    ensures { result ≡ get_or marks.now (place / 16) 0 }
+{
+    if place / 16 < marks.len() {
+        marks[place / 16]
+    } else {
+        0
+    }
+}
+
+/// Whether a mark has its place number `bit`.
+fn has_bit(mark: u16, bit: usize) -> bool
+    requires { bit < 16 }
+    ensures { result ≡ (bit_at mark bit == 1) }
+{
+    mark >> bit & 1 == 1
+}
+
+/// The first marked place of some.
+fn first_marked(marks: &[u16], place: usize, count: usize) -> Option<usize>
+    requires { place + count < 2 ^ 34 }
+    ensures { MatchOption result (AreFree marks.now place (place + count)) (λ q. IsFirstMarked marks.now place (place + count) q) }
+{
+    let end = place + count;
+    let mut at = place;
+    while at < end {
+        let mark = mark_of(marks, at);
+        if mark == 0 && at % 16 == 0 && end - at >= 16 {
+            at += 16;
+        } else if has_bit(mark, at % 16) {
+            return Some(at);
+        } else {
+            at += 1;
+        }
+    }
+    None
+}
+
+/// The least of some places that a record gave.
+#[inline(always)]
+fn taken_place(image: &Image, place: usize, count: usize) -> Option<usize>
+    requires { place + count < 2 ^ 34 }
+    ensures least { (xs : List DataRecord) → Holds xs image.now.bytes.items image.now.marks.items → result ≡ overlap xs place count }
+    ensures within { MatchOption result (Unit {0}) (λ q. q < place + count) }
+{
+    if place >= image.bytes.len() {
+        return None;
+    }
+    first_marked(&image.marks, place, count)
+}
+
+/// Writes the data of line `n`'s record from a place on, or tells its fault.
+#[inline(always)]
+pub(crate) fn put_content(
+    image: &mut Image,
+    n: u64,
+    place: usize,
+    content: &[u8],
+) -> Result<(), McsFault>
+    requires { (place < 2 ^ 33) × (length content.now < 256) }
+    ensures { (xs : List DataRecord) → Holds xs image.old.bytes.items image.old.marks.items
+        → MatchResult result
+        (λ _. (with_record n xs (record { place = place; bytes = content.now }) ≡ Ok (record { place = place; bytes = content.now } ∷ xs))
+        × Holds (record { place = place; bytes = content.now } ∷ xs) image.new.bytes.items image.new.marks.items)
+        (λ fault. (fault ≡ McsFault.NoMemory) ⊎ (with_record n xs (record { place = place; bytes = content.now }) ≡ Err fault)) }
+{
+    if content.len() == 0 {
+        return Ok(());
+    }
+    let end = place + content.len();
+    if end > FLASH_LIMIT {
+        return Err(McsFault::TooLarge(n));
+    }
+    if let Some(taken) = taken_place(image, place, content.len()) {
+        return Err(McsFault::Overlap(taken as u32));
+    }
+    let Ok(()) = grow_marks(&mut image.marks, end) else {
+        return Err(McsFault::NoMemory);
+    };
+    let Ok(()) = put_bytes(&mut image.bytes, place, content) else {
+        return Err(McsFault::NoMemory);
+    };
+    mark_places(&mut image.marks, place, content.len());
+    Ok(())
+}

@@ -1,0 +1,96 @@
+//! What the bytes of one record say.
+ghost use Rattle.std.specs.Prelude.{◌≡◌, ◌<◌, ◌+◌, ◌%◌, ◌++◌, get_or, length, MatchResult};
+ghost use Rattle.std.specs.List.{sum};
+ghost use Rattle.x7_mcs.specs.Record.{data_of, meaning_by_type, meaning_of, sum_byte};
+
+use crate::fault::McsFault;
+
+/// What a record says.
+#[derive(Clone, Copy, Debug, PartialEq, Eq)]
+pub(crate) enum Meaning {
+    /// Where a program starts, which has no effect here.
+    Start,
+    /// The data begin at this address.
+    Data(u32),
+    /// No record follows.
+    End,
+    /// The base of the addresses that follow.
+    Base(u32),
+}
+
+/// The sum of bytes, without its carries.
+#[inline(always)]
+pub(crate) fn sum_of(bytes: &[u8]) -> u8
+    ensures { result ≡ sum bytes.now % 256 }
+{
+    let mut total: u8 = 0;
+    for b in bytes {
+        total = total.wrapping_add(*b);
+    }
+    total
+}
+
+/// The byte that makes the sum of a record's fields, its data and itself 0.
+#[inline(always)]
+pub(crate) fn sum_byte(fields: &[u8], content: &[u8]) -> u8
+    ensures { result ≡ sum_byte (fields.now ++ content.now) }
+{
+    0u8.wrapping_sub(sum_of(fields).wrapping_add(sum_of(content)))
+}
+
+/// What the record of line `n` says by its type, its count and its address.
+fn meaning_by_type(n: u64, bytes: &[u8]) -> Result<Meaning, McsFault>
+    requires { get_or bytes.now 0 0 + 5 ≡ length bytes.now }
+    ensures { result ≡ meaning_by_type n bytes.now }
+{
+    let count = u32::from(bytes[0]);
+    let address = 256 * u32::from(bytes[1]) + u32::from(bytes[2]);
+    let kind = bytes[3];
+    if kind == 0 && address + count <= 65536 {
+        return Ok(Meaning::Data(address));
+    }
+    if kind == 1 && count == 0 {
+        return Ok(Meaning::End);
+    }
+    if kind == 2 && count == 2 {
+        return Ok(Meaning::Base(16 * (256 * u32::from(bytes[4]) + u32::from(bytes[5]))));
+    }
+    if kind == 4 && count == 2 {
+        return Ok(Meaning::Base(65536 * (256 * u32::from(bytes[4]) + u32::from(bytes[5]))));
+    }
+    if (kind == 3 || kind == 5) && count == 4 {
+        return Ok(Meaning::Start);
+    }
+    Err(McsFault::Line(n))
+}
+
+/// What the bytes of line `n` say, where a record 01 stood before or not.
+pub(crate) fn meaning_of(n: u64, ended: bool, bytes: &[u8]) -> Result<Meaning, McsFault>
+    ensures meaning { result ≡ meaning_of n ended bytes.now }
+    ensures long { MatchResult result (λ _. get_or bytes.now 0 0 + 5 ≡ length bytes.now) (λ _. Unit {0}) }
+{
+    if bytes.len() == 0 || usize::from(bytes[0]) + 5 != bytes.len() {
+        return Err(McsFault::Line(n));
+    }
+    let last = bytes.len() - 1;
+    let (want, got) = (sum_byte(&bytes[..last], &[]), bytes[last]);
+    if want != got {
+        return Err(McsFault::Sum { line: n, want, got });
+    }
+    if ended {
+        return Err(McsFault::Line(n));
+    }
+    meaning_by_type(n, bytes)
+}
+
+/// The data of a record.
+pub(crate) fn data_of(bytes: &[u8]) -> &[u8]
+    requires { get_or bytes.now 0 0 + 5 ≡ length bytes.now }
+    ensures is { result.now ≡ data_of bytes.now }
+    ensures long { length result.now < 256 }
+{
+    let count = usize::from(bytes[0]);
+    let (_, fields) = bytes.split_at(4);
+    let (content, _) = fields.split_at(count);
+    content
+}

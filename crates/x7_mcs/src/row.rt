@@ -1,0 +1,159 @@
+//! The usual line, a data record of sixteen bytes: written at once, and read by a guess that is written again and compared.
+ghost use Rattle.std.specs.Prelude.{◌≡◌, ◌<◌, ◌/◌, ◌%◌, ◌^◌, [], ◌∷◌, ◌++◌, length, map, MatchOption};
+ghost use Rattle.std.specs.List.{flat_map, sum};
+ghost use Rattle.std.specs.Simd.Lanes.{Each1};
+ghost use Rattle.x7_text.specs.Digits.{hex_byte, hex_digit};
+ghost use Rattle.x7_words.specs.Word.{AreBytes};
+ghost use Rattle.x7_mcs.specs.Record.{sum_byte};
+ghost use Rattle.x7_mcs.specs.Text.{data_line};
+
+use crate::record::sum_of;
+use std::simd::prelude::*;
+use x7_text::hex_of_byte;
+
+/// The digits of numbers below 16.
+#[inline(always)]
+fn hex_digits(numbers: u8x16) -> u8x16
+    requires lanes { length numbers ≡ 16 }
+    requires below { Each1 (λ n. n < 16) numbers }
+    ensures { result ≡ map hex_digit numbers }
+{
+    let is_letter = numbers.simd_gt(u8x16::splat(9));
+    numbers + is_letter.select(u8x16::splat(b'A' - 10), u8x16::splat(b'0'))
+}
+
+/// The digits of sixteen bytes: those of the first eight, and those of the others.
+#[inline(always)]
+fn hex_of_content(content: &[u8; 16]) -> ([u8; 16], [u8; 16])
+    ensures { result.0 ++ result.1 ≡ flat_map hex_byte content.now }
+{
+    let bytes = u8x16::from_array(*content);
+    let (high, low) = (bytes >> 4, bytes & u8x16::splat(15));
+    let first = high.shuffle(
+        low,
+        [0, 16, 1, 17, 2, 18, 3, 19, 4, 20, 5, 21, 6, 22, 7, 23],
+    );
+    let second = high.shuffle(
+        low,
+        [8, 24, 9, 25, 10, 26, 11, 27, 12, 28, 13, 29, 14, 30, 15, 31],
+    );
+    (hex_digits(first).to_array(), hex_digits(second).to_array())
+}
+
+/// The sum of sixteen bytes, without its carries.
+#[inline(always)]
+fn sum_of_content(content: &[u8; 16]) -> u8
+    ensures { result ≡ sum content.now % 256 }
+{
+    u8x16::from_array(*content).reduce_sum()
+}
+
+/// The sum byte of a data record of sixteen bytes.
+#[inline(always)]
+fn sum_byte_of_row(address: u32, content: &[u8; 16]) -> u8
+    requires { address < 2 ^ 16 }
+    ensures { result ≡ sum_byte (16 ∷ address / 256 ∷ address % 256 ∷ 0 ∷ content.now) }
+{
+    let fields = [16, (address / 256) as u8, (address % 256) as u8, 0];
+    0u8.wrapping_sub(sum_of(&fields).wrapping_add(sum_of_content(content)))
+}
+
+/// The digits of the fields of a data record of sixteen bytes.
+#[inline(always)]
+fn hex_of_fields(address: u32) -> [u8; 8]
+    requires { address < 2 ^ 16 }
+    ensures { result ≡ flat_map hex_byte (16 ∷ address / 256 ∷ address % 256 ∷ 0 ∷ []) }
+{
+    let [a, b] = hex_of_byte((address / 256) as u8);
+    let [c, d] = hex_of_byte((address % 256) as u8);
+    [b'1', b'0', a, b, c, d, b'0', b'0']
+}
+
+/// The line of a data record of sixteen bytes at an address.
+#[inline(always)]
+pub(crate) fn row_line(address: u32, content: &[u8; 16]) -> [u8; 44]
+    requires { address < 2 ^ 16 }
+    ensures line { result ≡ data_line address content.now }
+    ensures bytes { AreBytes content.now }
+{
+    let (first, second) = hex_of_content(content);
+    let mut line = [b'\n'; 44];
+    line[41..43].copy_from_slice(&hex_of_byte(sum_byte_of_row(address, content)));
+    line[25..41].copy_from_slice(&second);
+    line[9..25].copy_from_slice(&first);
+    line[1..9].copy_from_slice(&hex_of_fields(address));
+    line[0] = b':';
+    line
+}
+
+/// A data record of sixteen bytes.
+#[derive(Clone, Copy)]
+pub(crate) struct Row {
+    pub(crate) address: u32,
+    pub(crate) content: [u8; 16],
+}
+
+/// The numbers that digits in upper case would show. Nothing is said where others stand there.
+#[inline(always)]
+fn guess_numbers(digits: u8x16) -> u8x16 {
+    (digits & u8x16::splat(15)) + (digits >> 6) * u8x16::splat(9)
+}
+
+/// The bytes that 32 digits in upper case would show.
+#[inline(always)]
+fn guess_bytes(first: &[u8; 16], second: &[u8; 16]) -> [u8; 16] {
+    let first = guess_numbers(u8x16::from_array(*first));
+    let second = guess_numbers(u8x16::from_array(*second));
+    let high = first.shuffle(
+        second,
+        [0, 2, 4, 6, 8, 10, 12, 14, 16, 18, 20, 22, 24, 26, 28, 30],
+    );
+    let low = first.shuffle(
+        second,
+        [1, 3, 5, 7, 9, 11, 13, 15, 17, 19, 21, 23, 25, 27, 29, 31],
+    );
+    ((high << 4) + low).to_array()
+}
+
+/// The number that a digit in upper case would show.
+#[inline(always)]
+fn guess_number(digit: u8) -> u32
+    ensures { result < 16 }
+{
+    u32::from((digit & 15) + (digit >> 6) * 9) % 16
+}
+
+/// The row that a line would show.
+#[inline(always)]
+fn guess_row(line: &[u8; 44]) -> Row
+    ensures { result.address < 2 ^ 16 }
+{
+    let address = 4096 * guess_number(line[3])
+        + 256 * guess_number(line[4])
+        + 16 * guess_number(line[5])
+        + guess_number(line[6]);
+    let (mut first, mut second) = ([0; 16], [0; 16]);
+    first.copy_from_slice(&line[9..25]);
+    second.copy_from_slice(&line[25..41]);
+    Row {
+        address,
+        content: guess_bytes(&first, &second),
+    }
+}
+
+/// The row whose line a text begins with, as it is written here, and the text after it. None says nothing of the text.
+#[inline(always)]
+pub(crate) fn first_row(text: &[u8]) -> Option<(Row, &[u8])>
+    ensures line { MatchOption result (Unit {0}) (λ r. text.now ≡ data_line r.0.address r.0.content ++ r.1.now) }
+    ensures address { MatchOption result (Unit {0}) (λ r. r.0.address < 2 ^ 16) }
+    ensures content { MatchOption result (Unit {0}) (λ r. length r.0.content ≡ 16) }
+    ensures bytes { MatchOption result (Unit {0}) (λ r. AreBytes r.0.content) }
+    ensures shorter { MatchOption result (Unit {0}) (λ r. length r.1.now < length text.now) }
+{
+    let (line, rest) = text.split_first_chunk::<44>()?;
+    let row = guess_row(line);
+    if row_line(row.address, &row.content) != *line {
+        return None;
+    }
+    Some((row, rest))
+}

@@ -1,0 +1,142 @@
+//! One line more.
+ghost use Rattle.std.specs.Prelude.{◌≡◌, ℕ, Bool, true, false, ◌≤◌, ◌<◌, ◌+◌, ◌^◌, List, length, get_or, Some, Result, MatchResult, MatchOption};
+ghost use Rattle.x7_mcs.specs.Record.{data_of, meaning_of, pairs};
+ghost use Rattle.x7_mcs.specs.Places.{DataRecord, with_record};
+ghost use Rattle.x7_mcs.specs.Flash.{Reading, after_line, after_meaning, with_records};
+ghost use Rattle.x7_mcs.specs.State.{Fails, Goes, Holds, Took, at_base};
+ghost use Rattle.x7_mcs.specs.declared.fault.McsFault.{McsFault};
+
+use crate::digits::put_pairs;
+use crate::fault::McsFault;
+use crate::image::{Image, put_content};
+use crate::lines::next_line;
+use crate::record::{Meaning, data_of, meaning_of};
+use crate::row::first_row;
+
+/// The base that stands, and whether a record 01 stood.
+#[derive(Clone, Copy)]
+pub(crate) struct Context {
+    pub(crate) base: u32,
+    pub(crate) ended: bool,
+}
+
+/// After the data of line `n`'s record.
+#[inline(always)]
+fn put_data(
+    image: &mut Image,
+    n: u64,
+    context: Context,
+    address: u32,
+    content: &[u8],
+) -> Result<Context, McsFault>
+    requires content { length content.now < 256 }
+    requires address { address < 2 ^ 16 }
+    ensures { (xs : List DataRecord) → Holds xs image.old.bytes.items image.old.marks.items
+        → MatchResult result
+        (λ c. Took (with_records (at_base context.base context.ended xs) (with_record n xs (record { place = context.base + address; bytes = content.now }))) c.base c.ended image.new.bytes.items image.new.marks.items)
+        (λ f. Fails (with_records (at_base context.base context.ended xs) (with_record n xs (record { place = context.base + address; bytes = content.now }))) f) }
+{
+    match put_content(image, n, context.base as usize + address as usize, content) {
+        Ok(()) => Ok(context),
+        Err(fault) => Err(fault),
+    }
+}
+
+/// After the bytes of line `n`.
+fn put_record(
+    image: &mut Image,
+    n: u64,
+    context: Context,
+    bytes: &[u8],
+) -> Result<Context, McsFault>
+    ensures { (xs : List DataRecord) → Holds xs image.old.bytes.items image.old.marks.items
+        → MatchResult result
+        (λ c. Took (after_meaning n (at_base context.base context.ended xs) bytes.now (meaning_of n context.ended bytes.now)) c.base c.ended image.new.bytes.items image.new.marks.items)
+        (λ f. Fails (after_meaning n (at_base context.base context.ended xs) bytes.now (meaning_of n context.ended bytes.now)) f) }
+{
+    match meaning_of(n, context.ended, bytes) {
+        Err(fault) => Err(fault),
+        Ok(Meaning::Start) => Ok(context),
+        Ok(Meaning::End) => Ok(Context {
+            base: context.base,
+            ended: true,
+        }),
+        Ok(Meaning::Base(base)) => Ok(Context {
+            base,
+            ended: context.ended,
+        }),
+        Ok(Meaning::Data(address)) => put_data(image, n, context, address, data_of(bytes)),
+    }
+}
+
+/// After line `n`. `decoded` is room for the bytes of a record.
+fn put_line(
+    image: &mut Image,
+    decoded: &mut Vec<u8>,
+    n: u64,
+    context: Context,
+    line: &[u8],
+) -> Result<Context, McsFault>
+    ensures { (xs : List DataRecord) → Holds xs image.old.bytes.items image.old.marks.items
+        → MatchResult result
+        (λ c. Took (after_line n (at_base context.base context.ended xs) line.now) c.base c.ended image.new.bytes.items image.new.marks.items)
+        (λ f. Fails (after_line n (at_base context.base context.ended xs) line.now) f) }
+{
+    if line.len() == 0 {
+        return Ok(context);
+    }
+    if line[0] != b':' {
+        return Err(McsFault::Line(n));
+    }
+    let (_, digits) = line.split_at(1);
+    decoded.clear();
+    let Ok(()) = decoded.reserve(digits.len()) else {
+        return Err(McsFault::NoMemory);
+    };
+    if !put_pairs(decoded, digits) {
+        return Err(McsFault::Line(n));
+    }
+    put_record(image, n, context, decoded)
+}
+
+/// What was taken, and the text that is left: none where no line follows.
+#[derive(Clone, Copy)]
+pub(crate) struct Taken<'t> {
+    pub(crate) context: Context,
+    pub(crate) rest: Option<&'t [u8]>,
+}
+
+/// Takes line `n`, which the text begins with.
+#[inline(always)]
+pub(crate) fn take_line<'t>(
+    image: &mut Image,
+    decoded: &mut Vec<u8>,
+    n: u64,
+    context: Context,
+    text: &'t [u8],
+) -> Result<Taken<'t>, McsFault>
+    ensures { (whole : Result Reading McsFault) → Goes whole text.now n context.base context.ended image.old.bytes.items image.old.marks.items
+        → MatchResult result
+        (λ t. MatchOption t.rest
+        (Took whole t.context.base t.context.ended image.new.bytes.items image.new.marks.items)
+        (λ rest. Goes whole rest.now (n + 1) t.context.base t.context.ended image.new.bytes.items image.new.marks.items × (length rest.now < length text.now)))
+        (λ f. Fails whole f) }
+{
+    if !context.ended
+        && let Some((row, rest)) = first_row(text)
+        && row.address <= 65520
+    {
+        return match put_data(image, n, context, row.address, &row.content) {
+            Ok(context) => Ok(Taken {
+                context,
+                rest: Some(rest),
+            }),
+            Err(fault) => Err(fault),
+        };
+    }
+    let (line, rest) = next_line(text);
+    match put_line(image, decoded, n, context, line) {
+        Ok(context) => Ok(Taken { context, rest }),
+        Err(fault) => Err(fault),
+    }
+}

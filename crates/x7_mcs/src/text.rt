@@ -1,0 +1,129 @@
+//! The text of a flash's bytes.
+ghost use Rattle.std.specs.Prelude.{◌≡◌, ℕ, ◌≤◌, ◌<◌, ◌+◌, ◌*◌, ◌/◌, ◌%◌, ◌^◌, List, [], ◌∷◌, ◌++◌, length, vec_len, vec_capacity, IfOk, Ok};
+ghost use Rattle.std.specs.List.{flat_map};
+ghost use Rattle.x7_text.specs.Digits.{hex_byte};
+ghost use Rattle.x7_text.specs.Row.{rows};
+ghost use Rattle.x7_words.specs.Word.{AreBytes};
+ghost use Rattle.x7_mcs.specs.Flash.{mcs_of};
+ghost use Rattle.x7_mcs.specs.Text.{base_line, block_start, data_line, mcs_text, record_line, row_lines};
+
+use crate::record::sum_byte;
+use crate::row::row_line;
+use std::alloc::Global;
+use x7_text::{hex_of_byte, put};
+use x7_words::NoMemory;
+
+/// Appends the digits of bytes.
+fn put_digits(out: &mut Vec<u8>, bytes: &[u8])
+    requires { vec_len out.old + 2 * length bytes.now ≤ vec_capacity out.old }
+    ensures items { out.new.items ≡ out.old.items ++ flat_map hex_byte bytes.now }
+    ensures length { vec_len out.new ≡ vec_len out.old + 2 * length bytes.now }
+    ensures room { vec_capacity out.old ≤ vec_capacity out.new }
+{
+    for b in bytes {
+        put(out, &hex_of_byte(*b));
+    }
+}
+
+/// Appends the line of a record's bytes, those of its fields and its data.
+fn put_record(out: &mut Vec<u8>, fields: &[u8], content: &[u8])
+    requires { vec_len out.old + (2 * length fields.now + 2 * length content.now + 4) ≤ vec_capacity out.old }
+    ensures items { out.new.items ≡ out.old.items ++ record_line (fields.now ++ content.now) }
+    ensures length { vec_len out.new ≡ vec_len out.old + (2 * length fields.now + 2 * length content.now + 4) }
+    ensures room { vec_capacity out.old ≤ vec_capacity out.new }
+{
+    put(out, b":");
+    put_digits(out, fields);
+    put_digits(out, content);
+    put(out, &hex_of_byte(sum_byte(fields, content)));
+    put(out, b"\n");
+}
+
+/// Appends the record 04 where a block of 65,536 bytes begins.
+#[inline(always)]
+fn put_block_start(out: &mut Vec<u8>, place: u32)
+    requires room { vec_len out.old + 16 ≤ vec_capacity out.old }
+    requires within { place < 2 ^ 27 }
+    ensures items { out.new.items ≡ out.old.items ++ block_start place }
+    ensures length { vec_len out.new ≤ vec_len out.old + 16 }
+    ensures room { vec_capacity out.old ≤ vec_capacity out.new }
+{
+    if place % 65536 == 0 {
+        let block = place / 65536;
+        put_record(
+            out,
+            &[2, 0, 0, 4, (block / 256) as u8, (block % 256) as u8],
+            &[],
+        );
+    }
+}
+
+/// Appends the data record of a row.
+#[inline(always)]
+fn put_data(out: &mut Vec<u8>, address: u32, row: &[u8])
+    requires room { vec_len out.old + 44 ≤ vec_capacity out.old }
+    requires row { length row.now ≤ 16 }
+    requires address { address < 2 ^ 16 }
+    ensures items { out.new.items ≡ out.old.items ++ data_line address row.now }
+    ensures length { vec_len out.new ≤ vec_len out.old + 44 }
+    ensures room { vec_capacity out.old ≤ vec_capacity out.new }
+{
+    let Some(whole) = row.first_chunk::<16>() else {
+        let fields = [
+            row.len() as u8,
+            (address / 256) as u8,
+            (address % 256) as u8,
+            0,
+        ];
+        put_record(out, &fields, row);
+        return;
+    };
+    put(out, &row_line(address, whole));
+}
+
+/// Appends the lines of a row.
+#[inline(always)]
+fn put_row(out: &mut Vec<u8>, place: u32, row: &[u8])
+    requires room { vec_len out.old + 60 ≤ vec_capacity out.old }
+    requires within { place < 2 ^ 27 }
+    requires row { length row.now ≤ 16 }
+    ensures items { out.new.items ≡ out.old.items ++ (block_start place ++ data_line (place % 65536) row.now) }
+{
+    put_block_start(out, place);
+    put_data(out, place % 65536, row);
+}
+
+/// Appends the lines of the rows of bytes from a place on, which a row begins with.
+pub fn put_rows(text: &mut Vec<u8>, place: u32, bytes: &[u8]) -> Result<(), NoMemory>
+    requires { place + length bytes.now ≤ 2 ^ 27 }
+    ensures { IfOk result (λ _. text.new.items ≡ text.old.items ++ row_lines place (rows 16 bytes.now)) }
+{
+    let mut at = place;
+    let mut rest = bytes;
+    while rest.len() > 0 {
+        let Ok(()) = text.reserve(60) else {
+            return Err(NoMemory);
+        };
+        let (row, more) = rest.split_at(rest.len().min(16));
+        put_row(text, at, row);
+        at += row.len() as u32;
+        rest = more;
+    }
+    Ok(())
+}
+
+/// The text of a flash's bytes: a record 04 for each 65,536 begun, data records of 16 bytes, and a record 01.
+pub fn mcs_text(alloc: Global, flash: &[u8]) -> Result<Vec<u8>, NoMemory>
+    requires { length flash.now ≤ 2 ^ 27 }
+    ensures text { IfOk result (λ text. text.items ≡ mcs_text flash.now) }
+    ensures back { AreBytes flash.now → IfOk result (λ text. mcs_of text.items ≡ Ok flash.now) }
+{
+    let Ok(mut text) = Vec::with_capacity(alloc, 3 * flash.len() + 64) else {
+        return Err(NoMemory);
+    };
+    put_rows(&mut text, 0, flash)?;
+    let Ok(()) = text.extend_from_slice(b":00000001FF\n") else {
+        return Err(NoMemory);
+    };
+    Ok(text)
+}
