@@ -8,8 +8,13 @@ use Rattle.x7_part.specs.Part.{PartData}
 use Rattle.x7_engine.specs.Kept.{on_the_bench}
 use Rattle.x7_engine.specs.State.{line_by, reads_of, state_of, stop_in}
 use Rattle.x7_engine.specs.Stops.{fault_of}
-use Rattle.x7_tool.specs.Event.{Event, bad_part, missing, too_large, too_many_reads, unbuilt, usage}
-use Rattle.x7_tool.specs.Form.{Asked, Listing, Playing, names_flash}
+use Rattle.x7_mcs.specs.declared.fault.McsFault.{McsFault}
+use Rattle.x7_mcs.specs.declared.fault.McsFault.TheVariants as mcs
+use Rattle.x7_mcs.specs.Flash.{mcs_of}
+use Rattle.x7_mcs.specs.Text.{mcs_text}
+use Rattle.x7_tool.specs.declared.bad_input.InputFault.TheVariants as input
+use Rattle.x7_tool.specs.Event.{Event, bad_input, bad_part, missing, no_memory, too_large, too_many_reads, unbuilt, usage}
+use Rattle.x7_tool.specs.Form.{Asked, FromMcs, Listing, Playing, ToMcs, names_flash}
 use Rattle.x7_tool.specs.Parts.{part_in}
 use Rattle.x7_tool.specs.Report.{report_text}
 
@@ -106,10 +111,44 @@ reported part bytes = if nat_lt reads_limit (length (reads_of part on_the_bench 
 abbrev pub played : Known → List ℕ → List (List ℕ) → Result Answer Event
 played known part streams = and_so (part_of known part) (λ p. and_so (data_of known stream_limit streams) (reported p))
 
+-- ---- Intel HEX
+
+-- the most bytes of a flash image
+abbrev pub flash_limit : ℕ
+flash_limit = 134217728
+
+-- the most bytes of a text that stands for bytes
+abbrev pub text_limit : ℕ
+text_limit = 536870912
+
+-- `mcs IMAGE`: the flash text of an image
+abbrev pub mcs_written : Known → List ℕ → Result Answer Event
+mcs_written known image = and_so (whole_in known flash_limit image) (λ bytes. Ok (record { stopped = false; text = mcs_text bytes }))
+
+-- the event of a flash text that gives no flash
+abbrev pub mcs_event : List ℕ → McsFault → Event
+mcs_event name (mcs.Line line) = bad_input name (input.Line line)
+mcs_event name (mcs.Sum line want got) = bad_input name (input.Sum line want got)
+mcs_event name (mcs.Overlap place) = bad_input name (input.Overlap place)
+mcs_event name mcs.NoEnd = bad_input name input.NoEnd
+mcs_event name (mcs.TooLarge line) = bad_input name (input.LargeLine line)
+mcs_event name mcs.NoMemory = no_memory
+
+-- the image of a flash text
+abbrev pub mcs_image : List ℕ → Result (List ℕ) McsFault → Result Answer Event
+mcs_image name (Ok bytes) = Ok (record { stopped = false; text = bytes })
+mcs_image name (Err fault) = Err (mcs_event name fault)
+
+-- `unmcs TEXT`: the flash image of a flash text
+abbrev pub mcs_read : Known → List ℕ → Result Answer Event
+mcs_read known text = and_so (whole_in known text_limit text) (λ bytes. mcs_image text (mcs_of bytes))
+
 -- a form comes to this end, each form one case
 abbrev pub Gives : Known → Asked → Result Answer Event → Type 0
 Gives known (Listing stream) end = listed known stream ≡ end
 Gives known (Playing part streams) end = played known part streams ≡ end
+Gives known (ToMcs image) end = mcs_written known image ≡ end
+Gives known (FromMcs text) end = mcs_read known text ≡ end
 
 -- the words come to this end: words without a form are a wrong usage
 abbrev pub IsOutcome : Known → Option Asked → Result Answer Event → Type 0

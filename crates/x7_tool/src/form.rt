@@ -11,6 +11,16 @@ pub enum Form<'w> {
         /// The stream's name.
         stream: &'w str,
     },
+    /// `mcs IMAGE`: the Intel HEX text of a flash image.
+    Mcs {
+        /// The image's name.
+        image: &'w str,
+    },
+    /// `unmcs TEXT`: the flash image of an Intel HEX text.
+    Unmcs {
+        /// The text's name.
+        text: &'w str,
+    },
     /// `play PART STREAM..`: the report of what one to eight streams do.
     Play {
         /// The part file's name.
@@ -38,6 +48,18 @@ pub fn words_of(words: &Vec<String>) -> Option<Form<'_>>
             [part, streams @ ..] if streams.len() >= 1 && streams.len() <= 8 => Some(Form::Play {
                 part: part.as_str(),
                 streams,
+            }),
+            _ => None,
+        },
+        "mcs" => match names {
+            [image] => Some(Form::Mcs {
+                image: image.as_str(),
+            }),
+            _ => None,
+        },
+        "unmcs" => match names {
+            [text] => Some(Form::Unmcs {
+                text: text.as_str(),
             }),
             _ => None,
         },

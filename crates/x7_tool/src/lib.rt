@@ -5,6 +5,7 @@ mod bad_input;
 mod bad_part;
 mod form;
 mod list;
+mod mcs;
 mod play;
 mod read;
 mod refusal;

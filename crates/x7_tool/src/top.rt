@@ -10,6 +10,7 @@ ghost use Rattle.x7_tool.specs.Runs.{Runs};
 
 use crate::form::{Form, words_of};
 use crate::list::list;
+use crate::mcs::{mcs, unmcs};
 use crate::play::play;
 use crate::refusal::{Refusal, Why};
 use crate::status::Status;
@@ -36,6 +37,8 @@ fn answer<'w, I: Inputs, O: Sink, F: Flash>(
             Err(refusal) => Err(refusal),
         },
         Some(Form::Play { part, streams }) => put_whole(play(alloc, inputs, part, streams), out),
+        Some(Form::Mcs { image }) => put_whole(mcs(alloc, inputs, image), out),
+        Some(Form::Unmcs { text }) => put_whole(unmcs(alloc, inputs, text), out),
     }
 }
 

@@ -1,6 +1,6 @@
 use Rattle.std.proofs.Common.{◌≡◌, ℕ, List, Option, Some, Ok, Err, map, string_bytes, sym, ap, subst, ◌∙◌}
 use Rattle.x7_words.specs.Count.{HasRisen}
-use Rattle.x7_tool.specs.Form.{Asked, Listing, Playing, form_of, names_of}
+use Rattle.x7_tool.specs.Form.{Asked, FromMcs, Listing, Playing, ToMcs, form_of, names_of}
 use Rattle.x7_tool.specs.Message.{event_of}
 use Rattle.x7_tool.specs.Outcome.{known_of, with_inputs}
 use Rattle.x7_tool.specs.Play.{whole_of}
@@ -30,3 +30,25 @@ returns-in-Some-Play-clause-ends g c =
     rw form (puts_end (with_inputs (i.contents c.args.inputs.now) flash) (RisesFor (names_of (Some asks)) (i.faults c.args.inputs.now) (i.faults c.play.new.inputs)) (RisesFor (names_of (Some asks)) (i.absences c.args.inputs.now) (i.absences c.play.new.inputs))
     asks (HasRisen (o.faults c.args.out.now) (o.faults c.put_whole.new.out)) (o.written c.args.out.now) (o.written c.put_whole.new.out) (seen whole_of c.play.result) (seen (λ stopped. stopped) c.put_whole.result)
     (λ t a e p. (a, (e, p))) (λ event e. e) (c.play.ensures flash) c.put_whole.ensures)
+
+pub returns-in-Some-Mcs-clause-ends : goal.returns-in-Some-Mcs-clause-ends
+returns-in-Some-Mcs-clause-ends g c =
+    let i = g.I.Inputs in
+    let o = g.O.Sink in
+    let asks : Asked = ToMcs c.in-Some-Mcs.image.now in
+    let form : form_of (map string_bytes c.args.words.now.items) ≡ Some asks = sym c.words_of.ensures ∙ ap asked c.in-Some-Mcs.is ∙ ap (λ f. Some (asked_by f)) c.in-Some-Mcs.field-0-is in
+    let flash = g.F.Flash.bytes c.args.flash.now in
+    rw form (puts_end (with_inputs (i.contents c.args.inputs.now) flash) (RisesFor (names_of (Some asks)) (i.faults c.args.inputs.now) (i.faults c.mcs.new.inputs)) (RisesFor (names_of (Some asks)) (i.absences c.args.inputs.now) (i.absences c.mcs.new.inputs))
+        asks (HasRisen (o.faults c.args.out.now) (o.faults c.put_whole-in-Some-Mcs.new.out)) (o.written c.args.out.now) (o.written c.put_whole-in-Some-Mcs.new.out) (seen whole_of c.mcs.result) (seen (λ stopped. stopped) c.put_whole-in-Some-Mcs.result)
+        (λ t a e p. (a, (e, p))) (λ event e. e) (c.mcs.ensures flash) c.put_whole-in-Some-Mcs.ensures)
+
+pub returns-in-Some-Unmcs-clause-ends : goal.returns-in-Some-Unmcs-clause-ends
+returns-in-Some-Unmcs-clause-ends g c =
+    let i = g.I.Inputs in
+    let o = g.O.Sink in
+    let asks : Asked = FromMcs c.in-Some-Unmcs.text.now in
+    let form : form_of (map string_bytes c.args.words.now.items) ≡ Some asks = sym c.words_of.ensures ∙ ap asked c.in-Some-Unmcs.is ∙ ap (λ f. Some (asked_by f)) c.in-Some-Unmcs.field-0-is in
+    let flash = g.F.Flash.bytes c.args.flash.now in
+    rw form (puts_end (with_inputs (i.contents c.args.inputs.now) flash) (RisesFor (names_of (Some asks)) (i.faults c.args.inputs.now) (i.faults c.unmcs.new.inputs)) (RisesFor (names_of (Some asks)) (i.absences c.args.inputs.now) (i.absences c.unmcs.new.inputs))
+        asks (HasRisen (o.faults c.args.out.now) (o.faults c.put_whole-in-Some-Unmcs.new.out)) (o.written c.args.out.now) (o.written c.put_whole-in-Some-Unmcs.new.out) (seen whole_of c.unmcs.result) (seen (λ stopped. stopped) c.put_whole-in-Some-Unmcs.result)
+        (λ t a e p. (a, (e, p))) (λ event e. e) (c.unmcs.ensures flash) c.put_whole-in-Some-Unmcs.ensures)

@@ -1,0 +1,82 @@
+//! The commands `mcs` and `unmcs`: flash images as Intel HEX texts, and back.
+ghost use Rattle.std.specs.Prelude.{◌≡◌, ℕ, List, [], ◌∷◌, Option};
+ghost use Rattle.x7_tool.specs.Message.{event_of};
+ghost use Rattle.x7_tool.specs.Outcome.{mcs_event, mcs_read, mcs_written, with_inputs};
+ghost use Rattle.x7_tool.specs.Play.{whole_of};
+ghost use Rattle.x7_tool.specs.Run.{IsCaused, RisesFor, seen};
+
+use crate::bad_input::InputFault;
+use crate::read::read_whole;
+use crate::refusal::{Refusal, Why};
+use crate::text::Text;
+use std::alloc::Global;
+use x7_mcs::{McsFault, flash_of, mcs_text};
+use x7_words::Inputs;
+
+/// The most bytes of a flash image.
+const FLASH_LIMIT: usize = 134_217_728;
+
+/// The most bytes of a text that stands for bytes.
+const TEXT_LIMIT: usize = 536_870_912;
+
+/// Why a text gives no flash.
+fn refusal_of<'w>(name: &'w str, fault: McsFault) -> Refusal<'w>
+    ensures { event_of result ≡ mcs_event name.now fault }
+{
+    let input = match fault {
+        McsFault::Line(line) => InputFault::Line(line),
+        McsFault::Sum { line, want, got } => InputFault::Sum { line, want, got },
+        McsFault::Overlap(place) => InputFault::Overlap(place),
+        McsFault::NoEnd => InputFault::NoEnd,
+        McsFault::TooLarge(line) => InputFault::LargeLine(line),
+        McsFault::NoMemory => return Refusal::unnamed(Why::NoMemory),
+    };
+    Refusal {
+        reason: Why::BadInput(input),
+        name,
+    }
+}
+
+/// The text of `mcs IMAGE`.
+pub(crate) fn mcs<'w, I: Inputs>(
+    alloc: Global,
+    inputs: &mut I,
+    image: &'w str,
+) -> Result<Text, Refusal<'w>>
+    ensures { (flash : Option (List ℕ)) → IsCaused (with_inputs (I.contents inputs.old) flash) (RisesFor (image.now ∷ []) (I.faults inputs.old) (I.faults inputs.new)) (RisesFor (image.now ∷ []) (I.absences inputs.old) (I.absences inputs.new))
+        (λ known. mcs_written known image.now) (seen whole_of result) }
+{
+    let bytes = match read_whole(alloc, inputs, image, FLASH_LIMIT) {
+        Ok(bytes) => bytes,
+        Err(refusal) => return Err(refusal),
+    };
+    match mcs_text(alloc, &bytes) {
+        Ok(text) => Ok(Text {
+            stopped: false,
+            text,
+        }),
+        Err(_) => Err(Refusal::unnamed(Why::NoMemory)),
+    }
+}
+
+/// The image of `unmcs TEXT`.
+pub(crate) fn unmcs<'w, I: Inputs>(
+    alloc: Global,
+    inputs: &mut I,
+    name: &'w str,
+) -> Result<Text, Refusal<'w>>
+    ensures { (flash : Option (List ℕ)) → IsCaused (with_inputs (I.contents inputs.old) flash) (RisesFor (name.now ∷ []) (I.faults inputs.old) (I.faults inputs.new)) (RisesFor (name.now ∷ []) (I.absences inputs.old) (I.absences inputs.new))
+        (λ known. mcs_read known name.now) (seen whole_of result) }
+{
+    let text = match read_whole(alloc, inputs, name, TEXT_LIMIT) {
+        Ok(text) => text,
+        Err(refusal) => return Err(refusal),
+    };
+    match flash_of(alloc, &text) {
+        Ok(image) => Ok(Text {
+            stopped: false,
+            text: image,
+        }),
+        Err(fault) => Err(refusal_of(name, fault)),
+    }
+}
