@@ -1,6 +1,7 @@
 //! A case: what a run is given, and what it should come to.
 use crate::expected::Expected;
 use crate::fault::Fault;
+use crate::named::{Named, put_slice, slice_of};
 use crate::outside::Outside;
 use std::alloc::Global;
 
@@ -27,12 +28,32 @@ impl Case {
         })
     }
 
-    /// Takes a line between the case's first and its last.
-    pub fn take(&mut self, key: &str, rest: &str) -> Result<(), Fault> {
+    /// Takes a line that gives bytes of a shared input. False where it is another one.
+    fn take_slice(&mut self, shared: &[Named], key: &str, rest: &str) -> Result<bool, Fault> {
+        match key {
+            "slice" => put_slice(self.alloc, &mut self.outside.inputs, shared, rest)?,
+            "flash_slice" => self.outside.put_flash_slice(shared, rest)?,
+            "out_slice" => {
+                let slice = slice_of(shared, rest)?;
+                self.expected.out.extend_from_slice(slice)?;
+            }
+            _ => return Ok(false),
+        }
+        Ok(true)
+    }
+
+    /// Takes a line of what a run is given or comes to. False where it is another one.
+    fn take_plain(&mut self, key: &str, rest: &str) -> Result<bool, Fault> {
         if key == "keep" {
             self.kept = Some(String::from_str(self.alloc, rest)?);
-            Ok(())
-        } else if self.outside.take(key, rest)? || self.expected.take(key, rest)? {
+            return Ok(true);
+        }
+        Ok(self.outside.take(key, rest)? || self.expected.take(key, rest)?)
+    }
+
+    /// Takes a line between the case's first and its last.
+    pub fn take(&mut self, shared: &[Named], key: &str, rest: &str) -> Result<(), Fault> {
+        if self.take_slice(shared, key, rest)? || self.take_plain(key, rest)? {
             Ok(())
         } else {
             Err(Fault::Line)

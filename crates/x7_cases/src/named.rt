@@ -61,3 +61,31 @@ pub fn put_texts(alloc: Global, list: &mut Vec<Named>, line: &str) -> Result<(),
     let (name, lines) = first_word(line);
     put_lines(alloc, bytes_under(alloc, list, name)?, lines)
 }
+
+/// The bytes of `NAME FROM TO` in the list: from the one place to before the other.
+pub fn slice_of<'a>(list: &'a [Named], line: &str) -> Result<&'a [u8], Fault> {
+    let (name, places) = first_word(line);
+    let (from, to) = first_word(places);
+    let from = from.parse::<u32>()? as usize;
+    let to = to.parse::<u32>()? as usize;
+    let Some(named) = list.iter().find(|each| each.name.as_str() == name) else {
+        return Err(Fault::Line);
+    };
+    match named.bytes.get(from..to) {
+        Some(bytes) => Ok(bytes),
+        None => Err(Fault::Line),
+    }
+}
+
+/// Appends to the input of `NAME OTHER FROM TO` bytes of the other, which stands in `others`.
+pub fn put_slice(
+    alloc: Global,
+    list: &mut Vec<Named>,
+    others: &[Named],
+    line: &str,
+) -> Result<(), Fault> {
+    let (name, other) = first_word(line);
+    let slice = slice_of(others, other)?;
+    bytes_under(alloc, list, name)?.extend_from_slice(slice)?;
+    Ok(())
+}

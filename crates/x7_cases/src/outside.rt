@@ -1,6 +1,6 @@
 //! What a run is given: words, inputs, a flash, and what fails.
 use crate::fault::Fault;
-use crate::named::{Named, put_bytes, put_text, put_texts};
+use crate::named::{Named, put_bytes, put_slice, put_text, put_texts};
 use crate::token::positive;
 use std::alloc::Global;
 
@@ -104,13 +104,24 @@ impl Outside {
         Ok(())
     }
 
-    /// Appends to the flash, which has one name.
-    fn put_flash(&mut self, line: &str) -> Result<(), Fault> {
-        put_bytes(self.alloc, &mut self.flash, line)?;
+    /// Refuses a second name of the flash.
+    fn one_flash(&self) -> Result<(), Fault> {
         if self.flash.len() > 1 {
             return Err(Fault::Line);
         }
         Ok(())
+    }
+
+    /// Appends to the flash.
+    fn put_flash(&mut self, line: &str) -> Result<(), Fault> {
+        put_bytes(self.alloc, &mut self.flash, line)?;
+        self.one_flash()
+    }
+
+    /// Appends bytes of a shared input to the flash.
+    pub fn put_flash_slice(&mut self, shared: &[Named], line: &str) -> Result<(), Fault> {
+        put_slice(self.alloc, &mut self.flash, shared, line)?;
+        self.one_flash()
     }
 
     /// Takes a line that says what fails. False where it is another one.

@@ -51,9 +51,19 @@ impl Subject {
         if self.notes.text.len() == length {
             self.good = self.good.saturating_add(1);
         }
-        if let Some(kept) = kept {
-            self.shared.push(kept)?;
+        match kept {
+            Some(kept) => self.keep(kept),
+            None => Ok(()),
         }
+    }
+
+    /// Makes a text an input of the later cases, under a name that none has yet.
+    fn keep(&mut self, kept: Named) -> Result<(), Fault> {
+        let name = kept.name.as_str();
+        if self.shared.iter().any(|each| each.name.as_str() == name) {
+            return Err(Fault::Line);
+        }
+        self.shared.push(kept)?;
         Ok(())
     }
 
@@ -77,7 +87,7 @@ impl Subject {
             None => self.take_outside(key, rest),
             Some(case) if line == "end" => self.run(&case),
             Some(mut case) => {
-                let taken = case.take(key, rest);
+                let taken = case.take(&self.shared, key, rest);
                 self.open = Some(case);
                 taken
             }
