@@ -1,21 +1,21 @@
 -- Lemmas on specs/Clock: bytes more and an access more.
-use Rattle.std.proofs.Common.{◌≡◌, ◌==◌, ◌&&◌, ◌+◌, ◌-◌, ◌*◌, ◌<◌, ◌≤◌, ℕ, zero, suc, Bool, true, false, not, if◌then◌else◌, Option, None, Some, List, [], ◌∷◌, ◌++◌, replicate, IsTrue, ◌↔◌, refl, sym, ap, subst, ◌∙◌, append_assoc, append-nil, arith}
+use Rattle.std.proofs.Common.{◌≡◌, ◌==◌, ◌&&◌, ◌+◌, ◌-◌, ◌*◌, ◌<◌, ◌≤◌, ℕ, zero, suc, Bool, true, false, if◌then◌else◌, Option, None, Some, List, [], ◌∷◌, ◌++◌, replicate, IsTrue, ◌↔◌, refl, sym, ap, subst, ◌∙◌, append_assoc, append-nil, arith}
 use Rattle.std.proofs.lemmas.Bool.Decides.{nat_tests}
 use Rattle.std.proofs.lemmas.List.{replicate-append-replicate}
-use Rattle.x7_packets.specs.History.{Access, Bad, History, Read, Write, command_held, entry, executed_by, executes, is_command, last_word, written}
+use Rattle.x7_packets.specs.History.{Access, Bad, History, Read, Write, command_held, entry, executed_by, executes, last_word, written}
 use Rattle.x7_part.specs.Part.{PartData}
 use Rattle.x7_startup.specs.Calls.{Begun, Call, IsPhaseOf, NotBegun, Progress, StandsFor, Stored, progress_of}
 use Rattle.x7_startup.specs.Calls as call
-use Rattle.x7_startup.specs.Count.{Fires, Load, Reload, Watch, WatchCall, Watched, WatchesFor, bytes_alike, count_of, is_on, timer_after, timer_value_of}
+use Rattle.x7_startup.specs.Count.{Fires, Reload, Watch, WatchCall, Watched, WatchesFor, bytes_alike, count_of, is_on, timer_after, timer_value_of}
 use Rattle.x7_startup.proofs.CallLemmas.{one_phase_after, phase_never_falls}
 use Rattle.x7_startup.proofs.CountLemmas.{timer_load, timer_reload, timer_watched}
 use Rattle.x7_engine.specs.declared.kept.Kept.{Kept}
-use Rattle.x7_engine.specs.Clock.{ClockState, IsClock, newest_place, startup_call_by, watch_call_by}
+use Rattle.x7_engine.specs.Clock.{newest_place, startup_call_by, watch_call_by}
 use Rattle.x7_engine.specs.Kept.{is_fallback}
-use Rattle.x7_engine.specs.Registers.{takes_shutdown, word_held}
+use Rattle.x7_engine.specs.Registers.{takes_shutdown}
 use Rattle.x7_engine.specs.Startup.{has_ended, phase_by, phase_of, startup_call, startup_calls, startup_progress}
 use Rattle.x7_engine.specs.Stops.{line_at, or_else, stop_of, stopped_at, stopped_by_watchdog, Stopped}
-use Rattle.x7_engine.specs.Watching.{fired_or, fires, first_firing, load_call, timer_held, watch_call, watch_calls, watched_bytes}
+use Rattle.x7_engine.specs.Watching.{fired_or, fires, first_firing, timer_held, watch_call, watch_calls, watched_bytes}
 use Rattle.x7_engine.proofs.StartupLemmas.{phase_is}
 
 -- ---- the calls of bytes more
@@ -260,7 +260,7 @@ phase_rises part h n k l =
     phase_never_falls part.lock part.matched (startup_calls h n) k (phase_of part h n) (phase_of part h (n + k)) (phase_is part (startup_progress h n))
     (subst (λ t. IsPhaseOf part.lock part.matched (progress_of t) (phase_of part h (n + k))) (startup_more h n k l) (phase_is part (startup_progress h (n + k))))
 
-last_of : (part : PartData) (p : Progress) → phase_by part p ≤ 7
+pub last_of : (part : PartData) (p : Progress) → phase_by part p ≤ 7
 last_of part NotBegun = omega arith
 last_of part (Begun cor0 bytes) = (phase_is part (Begun cor0 bytes)).last
 
