@@ -6,6 +6,7 @@ pub mod DeviceLemmas
 pub mod FeedLemmas
 pub mod FirstStopLemmas
 pub mod MaskLemmas
+pub mod PassLemmas
 pub mod PlainLemmas
 pub mod ReadsLemmas
 pub mod RestLemmas
