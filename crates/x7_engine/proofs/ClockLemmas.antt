@@ -1,21 +1,21 @@
 -- Lemmas on specs/Clock: bytes more and an access more.
-use Rattle.std.proofs.Common.{◌≡◌, ◌==◌, ◌&&◌, ◌+◌, ◌-◌, ◌*◌, ◌<◌, ◌≤◌, ℕ, zero, suc, Bool, true, false, not, if◌then◌else◌, Option, None, Some, List, [], ◌∷◌, ◌++◌, replicate, IsTrue, ◌↔◌, refl, sym, ap, subst, ◌∙◌, append_assoc, append-nil, arith}
+use Rattle.std.proofs.Common.{◌≡◌, ◌==◌, ◌&&◌, ◌+◌, ◌-◌, ◌*◌, ◌<◌, ◌≤◌, ℕ, zero, suc, Bool, true, false, if◌then◌else◌, Option, None, Some, List, [], ◌∷◌, ◌++◌, replicate, IsTrue, ◌↔◌, refl, sym, ap, subst, ◌∙◌, append_assoc, append-nil, arith, not}
 use Rattle.std.proofs.lemmas.Bool.Decides.{nat_tests}
 use Rattle.std.proofs.lemmas.List.{replicate-append-replicate}
-use Rattle.x7_packets.specs.History.{Access, Bad, History, Read, Write, command_held, entry, executed_by, executes, is_command, last_word, written}
+use Rattle.x7_packets.specs.History.{Access, Bad, History, Read, Write, command_held, entry, executed_by, executes, last_word, written}
 use Rattle.x7_part.specs.Part.{PartData}
 use Rattle.x7_startup.specs.Calls.{Begun, Call, IsPhaseOf, NotBegun, Progress, StandsFor, Stored, progress_of}
 use Rattle.x7_startup.specs.Calls as call
-use Rattle.x7_startup.specs.Count.{Fires, Load, Reload, Watch, WatchCall, Watched, WatchesFor, bytes_alike, count_of, is_on, timer_after, timer_value_of}
-use Rattle.x7_startup.proofs.CallLemmas.{one_phase_after, phase_never_falls}
-use Rattle.x7_startup.proofs.CountLemmas.{timer_load, timer_reload, timer_watched}
+use Rattle.x7_startup.specs.Count.{Fires, Reload, Watch, WatchCall, Watched, WatchesFor, bytes_alike, count_of, is_on, timer_after, timer_value_of}
+use Rattle.x7_startup.proofs.CallLemmas.{idle_stands, one_phase_after, phase_never_falls}
+use Rattle.x7_startup.proofs.CountLemmas.{idle_fires, idle_watches, timer_load, timer_reload, timer_watched}
 use Rattle.x7_engine.specs.declared.kept.Kept.{Kept}
-use Rattle.x7_engine.specs.Clock.{ClockState, IsClock, newest_place, startup_call_by, watch_call_by}
+use Rattle.x7_engine.specs.Clock.{ClockState, IsClock, Ticks, newest_place, startup_call_by, watch_call_by}
 use Rattle.x7_engine.specs.Kept.{is_fallback}
-use Rattle.x7_engine.specs.Registers.{takes_shutdown, word_held}
+use Rattle.x7_engine.specs.Registers.{takes_shutdown}
 use Rattle.x7_engine.specs.Startup.{has_ended, phase_by, phase_of, startup_call, startup_calls, startup_progress}
 use Rattle.x7_engine.specs.Stops.{line_at, or_else, stop_of, stopped_at, stopped_by_watchdog, Stopped}
-use Rattle.x7_engine.specs.Watching.{fired_or, fires, first_firing, load_call, timer_held, watch_call, watch_calls, watched_bytes}
+use Rattle.x7_engine.specs.Watching.{fired_or, fires, first_firing, timer_held, watch_call, watch_calls, watched_bytes}
 use Rattle.x7_engine.proofs.StartupLemmas.{phase_is}
 
 -- ---- the calls of bytes more
@@ -260,7 +260,7 @@ phase_rises part h n k l =
     phase_never_falls part.lock part.matched (startup_calls h n) k (phase_of part h n) (phase_of part h (n + k)) (phase_is part (startup_progress h n))
     (subst (λ t. IsPhaseOf part.lock part.matched (progress_of t) (phase_of part h (n + k))) (startup_more h n k l) (phase_is part (startup_progress h (n + k))))
 
-last_of : (part : PartData) (p : Progress) → phase_by part p ≤ 7
+pub last_of : (part : PartData) (p : Progress) → phase_by part p ≤ 7
 last_of part NotBegun = omega arith
 last_of part (Begun cor0 bytes) = (phase_is part (Begun cor0 bytes)).last
 
@@ -314,3 +314,36 @@ fires_bool part kept h n eos true l e f =
     sym (fires_by part kept h n l (subst (λ (x : Bool). Fires (is_fallback kept.kind) kept.timer (watch_calls part h n) x) e (f.0 refl)))
 fires_bool part kept h n eos false l e f =
     sym (fires_not part kept h n l (λ x. absurd (let no : false ≡ true = f.1 (subst (λ (y : Bool). Fires (is_fallback kept.kind) kept.timer (watch_calls part h n) y) (sym e) x) in cc)))
+
+-- ---- bytes where startup hasn't begun and the watchdog doesn't run
+
+never_counts : (w : Watch) (eos : Bool) → w.limit ≡ 0 → false ≡ (not (w.limit == 0) && not eos)
+never_counts w eos e = let none : (w.limit == 0) ≡ true = grind (arith, nat_tests, e) in rw none refl
+
+idle_watchdog : (part : PartData) (kept : Kept) (w : Watch) (h : History) (n k : ℕ) → newest_place h ≤ n → w.limit ≡ 0 → WatchesFor (is_fallback kept.kind) kept.timer w (watch_calls part h n) → WatchesFor (is_fallback kept.kind) kept.timer w (watch_calls part h (n + k))
+idle_watchdog part kept w h n zero l e s =
+    let same : n + 0 ≡ n = omega arith in
+    subst (λ (m : ℕ). WatchesFor (is_fallback kept.kind) kept.timer w (watch_calls part h m)) (sym same) s
+idle_watchdog part kept w h n (suc k) l e s =
+    let next : n + k + 1 ≡ n + suc k = omega arith in
+    let eos : Bool = has_ended part h (n + k + 1) in
+    let before : WatchesFor (is_fallback kept.kind) kept.timer w (watch_calls part h (n + k)) = idle_watchdog part kept w h n k l e s in
+    subst (λ (m : ℕ). WatchesFor (is_fallback kept.kind) kept.timer w (watch_calls part h m)) next
+    (watch_byte part kept h (n + k) eos w (omega (arith, l)) refl (idle_watches (is_fallback kept.kind) kept.timer w (watch_calls part h (n + k)) eos false before (never_counts w eos e) refl))
+
+idle_quiet : (part : PartData) (kept : Kept) (w : Watch) (h : History) (n k : ℕ) → newest_place h ≤ n → w.limit ≡ 0 → WatchesFor (is_fallback kept.kind) kept.timer w (watch_calls part h n) → first_firing part kept h n k ≡ None
+idle_quiet part kept w h n k l e s = none_fires part kept h n k (λ i m.
+    let eos : Bool = has_ended part h (n + i + 1) in
+    let before : WatchesFor (is_fallback kept.kind) kept.timer w (watch_calls part h (n + i)) = idle_watchdog part kept w h n i l e s in
+    fires_not part kept h (n + i) (omega (arith, l)) (λ f.
+    let no : false ≡ true = (idle_fires (is_fallback kept.kind) kept.timer w (watch_calls part h (n + i)) eos false before (never_counts w eos e) refl).1 f in
+    absurd (cc)))
+
+pub idle_ticks : (part : PartData) (kept : Kept) (c : ClockState) (h : History) (n k : ℕ) → newest_place h ≤ n → c.startup.begun ≡ None → c.watchdog.limit ≡ 0 → IsClock part kept c h n → Ticks part kept c h n k None
+idle_ticks part kept c h n k l b e s = (
+  record {
+    startup = subst (λ (calls : List Call). StandsFor part.lock part.matched c.startup calls) (sym (startup_more h n k l)) (idle_stands part.lock part.matched c.startup (startup_calls h n) k b s.startup);
+    watchdog = idle_watchdog part kept c.watchdog h n k l e s.watchdog;
+  },
+  idle_quiet part kept c.watchdog h n k l e s.watchdog,
+)

@@ -128,7 +128,7 @@ stop_within part kept (x ∷ h) n s p e =
 pub stop_place : (part : PartData) (kept : Kept) (bytes : List ℕ) (s : Stopped) → AreBytes bytes → stop_in part kept bytes ≡ Some s → (0 < s.place) × (s.place ≤ length bytes)
 stop_place part kept bytes s f e = stop_within part kept (history_of bytes) (length bytes) s (placed_of bytes f) e
 
-counted_least : (line : Stop) (place : ℕ) → last_counted line place ≤ place
+pub counted_least : (line : Stop) (place : ℕ) → last_counted line place ≤ place
 counted_least (stop.Fault (fault.Packet w)) place = omega arith
 counted_least (stop.Fault (fault.Id want got)) place = omega arith
 counted_least (stop.Fault (fault.Crc want got)) place = omega arith

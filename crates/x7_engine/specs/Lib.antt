@@ -1,11 +1,17 @@
+pub mod Checked
 pub mod Clock
+pub mod FirstStop
 pub mod Kept
 pub mod ReadBuffer
 pub mod Registers
+pub mod Rest
+pub mod Sequence
+pub mod Since
 pub mod Standing
 pub mod Startup
 pub mod State
 pub mod Stops
 pub mod Text
+pub mod Timeout
 pub mod Values
 pub mod Watching

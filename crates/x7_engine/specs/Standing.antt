@@ -1,5 +1,5 @@
 -- What a device stands for: all bytes that it took since its reset. Each stored value is that of the bytes.
-use Rattle.std.specs.Prelude.{◌≡◌, ℕ, ◌<◌, ◌≤◌, ◌==◌, ◌+◌, ◌++◌, ◌-◌, Bool, true, false, take, List, [], ◌∷◌, length, slice_index, Option, None, Some, replicate}
+use Rattle.std.specs.Prelude.{◌≡◌, ℕ, ◌<◌, ◌≤◌, ◌==◌, ◌+◌, ◌++◌, ◌-◌, Bool, true, false, take, List, length, slice_index, Option, None, Some, replicate}
 use Rattle.x7_words.specs.Word.{AreBytes}
 use Rattle.x7_packets.specs.Cutting.{CutterState, CutterStandsFor}
 use Rattle.x7_packets.specs.declared.cutter.Cut.{Cut}
@@ -17,7 +17,6 @@ use Rattle.x7_regs.specs.declared.register.Reg.TheVariants.{Ctl0, Ctl1}
 use Rattle.x7_regs.specs.Register.{number_of}
 use Rattle.x7_engine.specs.declared.controls.Controls.{Controls}
 use Rattle.x7_engine.specs.declared.fault.Fault.{Fault}
-use Rattle.x7_engine.specs.declared.fault.Fault.TheVariants as fault
 use Rattle.x7_engine.specs.declared.fed.Fed.{Fed}
 use Rattle.x7_engine.specs.declared.fed.Fed.TheVariants as fed
 use Rattle.x7_engine.specs.declared.kept.Kept.{Kept}

@@ -1,5 +1,5 @@
 //! Startup and the watchdog of a device, which the bytes taken move.
-ghost use Rattle.std.specs.Prelude.{◌≡◌, ◌<◌, ◌≤◌, ◌+◌, ◌∷◌, ◌++◌, [], ℕ, Bool, List, IfSome, IsTrue, ◌↔◌, ◌==◌, nat_le};
+ghost use Rattle.std.specs.Prelude.{◌≡◌, ◌<◌, ◌≤◌, ◌+◌, ◌∷◌, ◌++◌, [], ℕ, Bool, List, None, IfSome, IsTrue, ◌↔◌, ◌==◌, nat_le};
 ghost use Rattle.x7_packets.specs.History.{command_held, entry, executed_by, last_word, History, Write};
 ghost use Rattle.x7_part.specs.Part.{PartData};
 ghost use Rattle.x7_regs.specs.Register.{number_of};
@@ -171,8 +171,33 @@ impl Clock {
         then.has_ended()
     }
 
+    /// Whether bytes leave it as it is: startup hasn't begun, and the watchdog doesn't run.
+    #[inline(always)]
+    pub(crate) fn is_idle(&self) -> bool
+        ensures begun { IsTrue result → self.now.startup.begun ≡ None }
+        ensures limit { IsTrue result → self.now.watchdog.limit ≡ 0 }
+    {
+        if self.startup.has_begun() {
+            return false;
+        }
+        !self.watchdog.is_running()
+    }
+
     /// Takes bytes before the word that they complete, up to the one at which the watchdog fires: the number of that byte, from 1.
+    #[inline(always)]
     pub(crate) fn bytes(&mut self, part: &Part, count: usize) -> Option<usize>
+        ensures within { IfSome result (λ k. (0 < k) × (k ≤ count)) }
+        ensures ticks { (kept : Kept) (h : History) (n : ℕ) → newest_place h ≤ n → IsClock part.now kept (clock_in self.old) h n → Ticks part.now kept (clock_in self.new) h n count result }
+    {
+        if self.is_idle() {
+            return None;
+        }
+        self.move_on(part, count)
+    }
+
+    /// The same where they may move it.
+    #[inline(never)]
+    fn move_on(&mut self, part: &Part, count: usize) -> Option<usize>
         ensures within { IfSome result (λ k. (0 < k) × (k ≤ count)) }
         ensures ticks { (kept : Kept) (h : History) (n : ℕ) → newest_place h ≤ n → IsClock part.now kept (clock_in self.old) h n → Ticks part.now kept (clock_in self.new) h n count result }
     {

@@ -1,5 +1,5 @@
 //! A device.
-ghost use Rattle.std.specs.Prelude.{◌≡◌, ◌≤◌, ◌<◌, ◌+◌, ◌-◌, ◌^◌, ◌++◌, ℕ, Bool, List, [], false, true, length, replicate, take, IfOk, IsSome, IsTrue, ◌↔◌, ◌==◌, Option, None, Some};
+ghost use Rattle.std.specs.Prelude.{◌≡◌, ◌≤◌, ◌<◌, ◌+◌, ◌-◌, ◌^◌, ◌++◌, ℕ, Bool, List, [], false, true, length, replicate, take, IfOk, IsSome, IsTrue, is_some, ◌↔◌, ◌==◌, Option, None, Some};
 ghost use Rattle.x7_packets.specs.Cutting.{between, calls_left, IsNeed};
 ghost use Rattle.x7_part.specs.Part.{PartData};
 ghost use Rattle.x7_engine.specs.Kept.{on_the_bench};
@@ -191,6 +191,13 @@ impl Device {
         self.registers.stop()
     }
 
+    /// Whether something stopped the device.
+    fn has_stopped(&self) -> bool
+        ensures { result ≡ is_some self.now.registers.stop }
+    {
+        self.registers.stop().is_some()
+    }
+
     /// Gives the words due to a buffer, as many as it has room for, and says whether none is left.
     fn give(&mut self, read: &mut ReadBuf) -> bool
         ensures none_left { IsTrue result ↔ (self.new.registers.due ≡ 0) }
@@ -202,9 +209,31 @@ impl Device {
         self.registers.give(read)
     }
 
+    /// Takes the no-ops that come next in a session, all at once, up to a byte at which the watchdog fires.
+    fn pass_nops(&mut self, piece: &[u8], at: &mut usize)
+        requires within { at.old ≤ length piece.now }
+        requires going { self.old.registers.stop ≡ None }
+        requires none_due { self.old.registers.due ≡ 0 }
+        requires fits { self.old.taken + (length piece.now - at.old) ≤ 2 ^ 63 }
+        ensures forward { at.old ≤ at.new }
+        ensures within { at.new ≤ length piece.now }
+        ensures taken { self.new.taken ≡ self.old.taken + (at.new - at.old) }
+        ensures due { self.new.registers.due ≡ 0 }
+        ensures cutter { self.new.cutter ≡ self.old.cutter }
+        ensures stands { (part : PartData) (kept : KeptData) (wrapped : Bool) (bytes : List ℕ) → DeviceStandsFor part kept wrapped self.old bytes
+            → DeviceStandsFor part kept wrapped self.new (bytes ++ between piece.now at.old at.new) }
+        ensures told { (part : PartData) (kept : KeptData) (wrapped : Bool) (bytes : List ℕ) → DeviceStandsFor part kept wrapped self.old bytes
+            → told_of part kept self.new (bytes ++ between piece.now at.old at.new) ≡ told_of part kept self.old bytes }
+    {
+        let count = self.cutter.nops(&piece[*at..]);
+        let left = self.registers.tick(&self.part, count);
+        *at += count - left;
+        self.taken += (count - left) as u64;
+    }
+
     /// Takes the next run of the piece from `at` on, which it moves behind the bytes taken, and says whether the piece is
     /// used up.
-    fn turn(&mut self, piece: &[u8], at: &mut usize) -> bool
+    fn take_run(&mut self, piece: &[u8], at: &mut usize) -> bool
         requires within { at.old ≤ length piece.now }
         requires going { self.old.registers.stop ≡ None }
         requires none_due { self.old.registers.due ≡ 0 }
@@ -227,6 +256,31 @@ impl Device {
         *at -= left;
         self.taken += (*at - from) as u64;
         is_done(used_up, self.registers.stop())
+    }
+
+    /// Takes the no-ops that come next, and then the next run. It moves `at` behind the bytes taken, and says whether the
+    /// piece is used up.
+    fn turn(&mut self, piece: &[u8], at: &mut usize) -> bool
+        requires within { at.old ≤ length piece.now }
+        requires going { self.old.registers.stop ≡ None }
+        requires none_due { self.old.registers.due ≡ 0 }
+        requires fits { self.old.taken + (length piece.now - at.old) ≤ 2 ^ 63 }
+        ensures forward { at.old ≤ at.new }
+        ensures within { at.new ≤ length piece.now }
+        ensures taken { self.new.taken ≡ self.old.taken + (at.new - at.old) }
+        ensures stands { (part : PartData) (kept : KeptData) (wrapped : Bool) (bytes : List ℕ) → DeviceStandsFor part kept wrapped self.old bytes
+            → DeviceStandsFor part kept wrapped self.new (bytes ++ between piece.now at.old at.new) }
+        ensures told { (part : PartData) (kept : KeptData) (wrapped : Bool) (bytes : List ℕ) → DeviceStandsFor part kept wrapped self.old bytes
+            → told_of part kept self.new (bytes ++ between piece.now at.old at.new) ≡ told_of part kept self.old bytes }
+        ensures used_up { IsTrue result → (at.new ≡ length piece.now) × (self.new.registers.stop ≡ None) × (self.new.registers.due ≡ 0) }
+        ensures goes { result ≡ false → self.new.registers.stop ≡ None
+            → calls_left self.new.cutter (length piece.now - at.new) < calls_left self.old.cutter (length piece.now - at.old) }
+    {
+        self.pass_nops(piece, at);
+        if self.has_stopped() {
+            return false;
+        }
+        self.take_run(piece, at)
     }
 
     /// Takes the bytes of a piece, up to one that stops the device or to a read whose words have no room. A device that

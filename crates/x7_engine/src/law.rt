@@ -1,13 +1,23 @@
 //! Laws of the definitions, for the proofs of crates above.
-ghost use Rattle.std.specs.Prelude.{◌≡◌, ◌<◌, ◌≤◌, ◌++◌, ℕ, Bool, List, None, Some, length};
+ghost use Rattle.std.specs.Prelude.{◌≡◌, ◌+◌, ◌-◌, ◌<◌, ◌≤◌, ◌++◌, ◌↔◌, ℕ, Bool, IsTrue, List, [], None, Some, length};
 ghost use Rattle.x7_words.specs.Word.{AreBytes};
-ghost use Rattle.x7_packets.specs.History.{AllFit, History};
+ghost use Rattle.x7_packets.specs.History.{Access, AllFit, History, Placed, Write, history_of, last_word};
 ghost use Rattle.x7_part.specs.Part.{PartData};
-ghost use Rattle.x7_startup.specs.Calls.{IsPhaseOf};
-ghost use Rattle.x7_engine.specs.Registers.{HasMaskedBits, masked};
+ghost use Rattle.x7_regs.specs.declared.register.Reg.TheVariants.{Cor0, Crc, Idcode};
+ghost use Rattle.x7_regs.specs.Register.{number_of};
+ghost use Rattle.x7_startup.specs.Calls.{Begun, IsPhaseOf};
+ghost use Rattle.x7_crc.specs.OpenWrites.{running_check};
+ghost use Rattle.x7_engine.specs.Checked.{HasStarted, StandsIn};
+ghost use Rattle.x7_engine.specs.Kept.{on_the_bench};
+ghost use Rattle.x7_engine.specs.FirstStop.{IsFirstStop, line_at_byte};
+ghost use Rattle.x7_engine.specs.Registers.{HasMaskedBits, has_ghigh, is_clearance, is_pending, masked, same_idcode, takes_shutdown};
+ghost use Rattle.x7_engine.specs.Rest.{AtRest, GoesOn};
+ghost use Rattle.x7_engine.specs.Sequence.{Begins, HasGhigh, IsPending};
 ghost use Rattle.x7_engine.specs.Startup.{phase_of, startup_progress};
-ghost use Rattle.x7_engine.specs.State.{reads_of, state_of, stop_in};
-ghost use Rattle.x7_engine.specs.Stops.{Stopped};
+ghost use Rattle.x7_engine.specs.State.{history_taken, reads_of, state_of, stop_in, taken_of};
+ghost use Rattle.x7_engine.specs.Stops.{Stopped, line_at};
+ghost use Rattle.x7_engine.specs.Timeout.{before_byte, fires_at};
+ghost use Rattle.x7_engine.specs.Watching.{fires};
 ghost use Rattle.x7_engine.specs.declared.kept.Kept.{Kept};
 
 /// The stop of bytes is the first one: it comes at one of them, fewer bytes have none, and with further bytes the stop, the
@@ -31,4 +41,57 @@ pub fn controls_take_masked_bits()
 /// The phase of startup is the greatest, up to 7, that has begun by the ticks so far.
 pub fn phases_are_the_greatest_begun()
     ensures { (part : PartData) (h : History) (n : ℕ) → IsPhaseOf part.lock part.matched (startup_progress h n) (phase_of part h n) }
+{}
+
+/// A shutdown is pending where SHUTDOWN was executed since the last clearance, which takes it; and GHIGH_B is 1 where the
+/// latest of LFRM, AGHIGH and a taken shutdown is LFRM.
+pub fn shutdowns_and_ghigh()
+    ensures pending { (h : History) → IsTrue (is_pending h) ↔ IsPending h }
+    ensures taken { (h : History) (access : Access) → IsTrue (takes_shutdown h access) ↔ (IsTrue (is_clearance h access) × IsPending h) }
+    ensures ghigh { (h : History) → IsTrue (has_ghigh h) ↔ HasGhigh h }
+{}
+
+/// Startup begins at the first armed DESYNC since the last shutdown taken, with COR0 as it stands there.
+pub fn startup_begins()
+    ensures begun { (h : History) (n cor0 bytes : ℕ) → Placed n h → startup_progress h n ≡ Begun cor0 bytes
+        → (b : Begins h) × (cor0 ≡ last_word (number_of Cor0) 0 b.older) × (b.desync.place + bytes ≡ n) }
+    ensures found { (h : History) (n : ℕ) → Placed n h → (b : Begins h) → startup_progress h n ≡ Begun (last_word (number_of Cor0) 0 b.older) (n - b.desync.place) }
+{}
+
+/// A stop is the first one: at its place a line holds, and at no byte before it; and where there is none, no line holds.
+pub fn stops_are_first()
+    ensures first { (part : PartData) (kept : Kept) (bytes : List ℕ) (s : Stopped) → AreBytes bytes → stop_in part kept bytes ≡ Some s → IsFirstStop part kept bytes s }
+    ensures found { (part : PartData) (kept : Kept) (bytes : List ℕ) (s : Stopped) → AreBytes bytes → IsFirstStop part kept bytes s → stop_in part kept bytes ≡ Some s }
+    ensures none { (part : PartData) (kept : Kept) (bytes : List ℕ) (n : ℕ) → AreBytes bytes → stop_in part kept bytes ≡ None → 0 < n → n ≤ length bytes
+        → line_at_byte part kept bytes n ≡ None }
+{}
+
+/// The watchdog fires at a byte that has it on, where four times TIMER's value of the bytes behind the last load had it on.
+pub fn watchdog_fires()
+    ensures { (part : PartData) (kept : Kept) (bytes : List ℕ) (n : ℕ) → AreBytes bytes → 0 < n → n ≤ length bytes → fires part kept (before_byte bytes n) n ≡ fires_at part kept bytes n }
+{}
+
+/// Startup has begun only where START was executed on a matched device and DESYNC after it, and each check and each idcode
+/// written before the stop was right.
+pub fn checks_before_startup()
+    ensures started { (part : PartData) (kept : Kept) (wrapped : Bool) (bytes : List ℕ) → AreBytes bytes → 0 < (state_of part kept wrapped bytes).phase
+        → HasStarted part.idcode (history_taken part kept bytes) (taken_of part kept bytes) }
+    ensures checks { (part : PartData) (kept : Kept) (bytes : List ℕ) (w place : ℕ) (older : History) → AreBytes bytes
+        → StandsIn (history_taken part kept bytes) (Write (number_of Crc) w) place older → place < taken_of part kept bytes → w ≡ running_check older }
+    ensures idcodes { (part : PartData) (kept : Kept) (bytes : List ℕ) (w place : ℕ) (older : History) → AreBytes bytes
+        → StandsIn (history_taken part kept bytes) (Write (number_of Idcode) w) place older → place < taken_of part kept bytes → IsTrue (same_idcode part.idcode w) }
+    ensures lines { (part : PartData) (kept : Kept) (bytes : List ℕ) (access : Access) (place : ℕ) (older : History) → AreBytes bytes
+        → StandsIn (history_taken part kept bytes) access place older → place < taken_of part kept bytes → line_at part kept older access ≡ None }
+{}
+
+/// A device at rest stays so over bytes without a sync word, which enter no access; and a new one is at rest.
+pub fn rest_lasts()
+    ensures stays { (part : PartData) (kept : Kept) (bytes more : List ℕ) → AreBytes (bytes ++ more) → GoesOn bytes more → AtRest part kept bytes → AtRest part kept (bytes ++ more) }
+    ensures history { (bytes more : List ℕ) → AreBytes (bytes ++ more) → GoesOn bytes more → history_of (bytes ++ more) ≡ history_of bytes }
+    ensures new { (part : PartData) → AtRest part on_the_bench [] }
+{}
+
+/// The words that further bytes read out come after those read out so far.
+pub fn reads_grow()
+    ensures { (part : PartData) (kept : Kept) (bytes more : List ℕ) → AreBytes (bytes ++ more) → (rest : List ℕ) × (reads_of part kept (bytes ++ more) ≡ reads_of part kept bytes ++ rest) }
 {}

@@ -23,7 +23,11 @@ pub use device::Device;
 pub use fault::Fault;
 pub use fed::Fed;
 pub use kept::Kept;
-pub use law::{controls_take_masked_bits, phases_are_the_greatest_begun, stops_are_final};
+pub use law::{
+    checks_before_startup, controls_take_masked_bits, phases_are_the_greatest_begun, reads_grow,
+    rest_lasts, shutdowns_and_ghigh, startup_begins, stops_are_final, stops_are_first,
+    watchdog_fires,
+};
 pub use read_buffer::ReadBuf;
 pub use regs::{End, Regs};
 pub use text::{end_words, phase_line, reg_lines};

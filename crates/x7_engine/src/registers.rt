@@ -266,7 +266,8 @@ impl Registers {
     }
 
     /// Takes bytes before the word that they complete, up to the one at which the watchdog fires. Says how many are left.
-    fn tick(&mut self, part: &Part, count: usize) -> usize
+    #[inline(always)]
+    pub(crate) fn tick(&mut self, part: &Part, count: usize) -> usize
         requires going { self.old.stop ≡ None }
         ensures within { result ≤ count }
         ensures goes_on { self.new.stop ≡ None → result ≡ 0 }
@@ -324,6 +325,7 @@ impl Registers {
     }
 
     /// Takes the payload words of a packet up to a byte that stops the device, and says how many bytes these are.
+    #[inline(always)]
     fn body(&mut self, part: &Part, register: u8, bytes: &[u8]) -> usize
         requires going { self.old.stop ≡ None }
         requires register { register < 32 }
@@ -397,6 +399,7 @@ impl Registers {
     }
 
     /// Takes the last bytes of a word in a header's place, and then the word. Says how many bytes are left.
+    #[inline(always)]
     fn header(&mut self, part: &Part, step: Step, count: usize) -> usize
         requires going { self.old.stop ≡ None }
         requires none_due { self.old.due ≡ 0 }
@@ -419,6 +422,7 @@ impl Registers {
 
     /// Takes a run of a stream, so many bytes of which are new, up to the byte that stops the device. Says how many of the
     /// last bytes are left.
+    #[inline(always)]
     pub(crate) fn run(&mut self, part: &Part, run: Cut<'_>, count: usize) -> usize
         requires going { self.old.stop ≡ None }
         requires none_due { self.old.due ≡ 0 }

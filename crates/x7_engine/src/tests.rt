@@ -5,7 +5,11 @@ use crate::device::Device;
 use crate::fault::Fault;
 use crate::fed::Fed;
 use crate::kept::Kept;
-use crate::law::{controls_take_masked_bits, phases_are_the_greatest_begun, stops_are_final};
+use crate::law::{
+    checks_before_startup, controls_take_masked_bits, phases_are_the_greatest_begun, reads_grow,
+    rest_lasts, shutdowns_and_ghigh, startup_begins, stops_are_final, stops_are_first,
+    watchdog_fires,
+};
 use crate::read_buffer::ReadBuf;
 use crate::regs::{End, Regs};
 use std::alloc::Global;
@@ -318,16 +322,15 @@ fn a_reset_keeps_three_registers(rt: HostRuntime) -> Result<(), Fail> {
 }
 
 #[test]
-fn laws_are_called(rt: HostRuntime) {
+fn laws_are_called(_: HostRuntime) {
     stops_are_final();
+    stops_are_first();
     controls_take_masked_bits();
     phases_are_the_greatest_begun();
-    let kept = Kept {
-        wbstar: 0,
-        timer: 0,
-        bspi: 0,
-        kind: Kind::Bench,
-        before: None,
-    };
-    assert_eq!(rt; kept.kind, Kind::Bench);
+    startup_begins();
+    shutdowns_and_ghigh();
+    watchdog_fires();
+    checks_before_startup();
+    rest_lasts();
+    reads_grow();
 }

@@ -123,7 +123,7 @@ skip_all c n bytes rest run sessions (Searching gap) s is to same after e fits =
     }
 
 -- the bytes of packets with words more
-packet_bytes-grown : (ps qs : List Packet) (more : List (ℕ × Step)) → flat_map stepped qs ≡ flat_map stepped ps ++ more → packet_bytes qs ≡ packet_bytes ps ++ flat_map bytes_of_word (map (λ (s : ℕ × Step). s.0) more)
+pub packet_bytes-grown : (ps qs : List Packet) (more : List (ℕ × Step)) → flat_map stepped qs ≡ flat_map stepped ps ++ more → packet_bytes qs ≡ packet_bytes ps ++ flat_map bytes_of_word (map (λ (s : ℕ × Step). s.0) more)
 packet_bytes-grown ps qs more e = ap (flat_map bytes_of_word) (words_grown ps qs more e) ∙ flat_map-append bytes_of_word (flat_map words ps) (map (λ (s : ℕ × Step). s.0) more)
 
 not_due : {m : Mode} (b : Bool) → m ≡ (if b then mode.Searching else mode.Synced) → m ≡ mode.Due → ⊥

@@ -4,6 +4,7 @@ pub mod EndLemmas
 pub mod FitLemmas
 pub mod GrowthLemmas
 pub mod HistoryLemmas
+pub mod NopLemmas
 pub mod PacketLemmas
 pub mod SearchLemmas
 pub mod SyncLemmas

@@ -8,3 +8,4 @@ pub mod Reading
 pub mod RunningCheck
 pub mod SyncWord
 pub mod Taking
+pub mod Nops

@@ -1,12 +1,14 @@
 //! A stream cut into its parts, in whatever pieces it comes.
-ghost use Rattle.std.specs.Prelude.{◌≡◌, ℕ, List, [], ◌∷◌, ◌++◌, ◌≤◌, ◌<◌, ◌+◌, ◌-◌, ◌*◌, ◌/◌, ◌%◌, ◌^◌, ◌↔◌, take, length, if◌then◌else◌};
+ghost use Rattle.std.specs.Prelude.{◌≡◌, ℕ, List, [], ◌∷◌, ◌++◌, ◌≤◌, ◌<◌, ◌+◌, ◌-◌, ◌*◌, ◌/◌, ◌%◌, ◌^◌, ◌↔◌, IsTrue, take, length, if◌then◌else◌};
 ghost use Rattle.x7_words.specs.Word.{bytes_of_word};
 ghost use Rattle.x7_packets.specs.Cutting.{between, calls_left, CompletesNone, Cuts, CutterStandsFor, Goes, IsBody, IsLent, IsNeed, IsOneWord, IsRun, run_bytes, syncs_due, Went};
+ghost use Rattle.x7_packets.specs.Nops.{Idles};
 ghost use Rattle.x7_packets.specs.Reading.{is_synced, Place, Session, tail_of};
 ghost use Rattle.x7_packets.specs.declared.cutter.Mode.TheVariants as mode;
 
 use crate::header::Step;
 use crate::machine::Machine;
+use crate::nops::count_nops;
 use crate::sync::Matcher;
 use std::marker::Model;
 use x7_words::word_of;
@@ -125,7 +127,38 @@ impl Cutter {
         }
     }
 
+    /// How many of the bytes that come next are no-ops of a session, one after the other. To take them leaves the cutter
+    /// as it is, and they enter no access.
+    #[inline(always)]
+    pub fn nops(&self, rest: &[u8]) -> usize
+        ensures within { result ≤ length rest.now }
+        ensures idles { (bytes : List ℕ) (sessions : List Session) (place : Place) → CutterStandsFor self.now bytes sessions place
+            → Idles self.now (bytes ++ take result rest.now) sessions place }
+    {
+        if !self.is_at_header() {
+            return 0;
+        }
+        4 * count_nops(rest)
+    }
+
+    /// Whether the next byte begins a word in a header's place.
+    #[inline(always)]
+    fn is_at_header(&self) -> bool
+        ensures mode { IsTrue result → self.now.mode ≡ mode.Synced }
+        ensures kept { IsTrue result → self.now.kept ≡ [] }
+        ensures due { IsTrue result → self.now.machine.due ≡ 0 }
+    {
+        if self.mode != Mode::Synced {
+            return false;
+        }
+        if self.count != 0 {
+            return false;
+        }
+        self.machine.is_at_header()
+    }
+
     /// The next run of the piece from `at` on, which it moves behind the bytes taken.
+    #[inline(always)]
     pub fn cut<'p>(&mut self, piece: &'p [u8], at: &mut usize) -> Cut<'p>
         requires { at.old ≤ length piece.now }
         ensures forward { at.old ≤ at.new }
@@ -150,6 +183,7 @@ impl Cutter {
     }
 
     /// Takes bytes of a gap, up to and with a sync word.
+    #[inline(never)]
     fn skip<'p>(&mut self, rest: &'p [u8], at: &mut usize) -> Cut<'p>
         requires searching { self.old.mode ≡ mode.Searching }
         requires fits { at.old + length rest.now < 2 ^ 64 }
@@ -172,6 +206,7 @@ impl Cutter {
     }
 
     /// Takes words of a session.
+    #[inline(always)]
     fn take<'p>(&mut self, rest: &'p [u8], at: &mut usize) -> Cut<'p>
         requires synced { self.old.mode ≡ mode.Synced }
         requires fits { at.old + length rest.now < 2 ^ 64 }
@@ -197,6 +232,7 @@ impl Cutter {
     }
 
     /// Keeps bytes that complete no word.
+    #[inline(never)]
     fn hold(&mut self, rest: &[u8])
         requires synced { self.old.mode ≡ mode.Synced }
         requires few { length self.old.kept + length rest.now < 4 }
@@ -208,6 +244,7 @@ impl Cutter {
     }
 
     /// Takes one word, of the bytes that are kept and those that it lacks.
+    #[inline(always)]
     fn word<'p>(&mut self, missing: &[u8]) -> Cut<'p>
         requires synced { self.old.mode ≡ mode.Synced }
         requires whole { length self.old.kept + length missing.now ≡ 4 }
@@ -231,6 +268,7 @@ impl Cutter {
     }
 
     /// Lends payload words of one packet.
+    #[inline(always)]
     fn lend<'p>(&mut self, body: &'p [u8]) -> Cut<'p>
         requires synced { self.old.mode ≡ mode.Synced }
         requires none_kept { self.old.kept ≡ [] }

@@ -6,6 +6,7 @@ mod examples;
 mod header;
 mod laws;
 mod machine;
+mod nops;
 mod sync;
 #[cfg(test)]
 mod tests;

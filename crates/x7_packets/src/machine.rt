@@ -43,6 +43,7 @@ impl Machine {
     }
 
     /// Takes a word, and says what it is. After a word that ends the session the machine is as new.
+    #[inline(always)]
     pub fn take(&mut self, w: u32) -> Step
         ensures payload { 0 < self.old.due → result ≡ Step.Payload self.old.register w }
         ensures register { (register x : ℕ) → result ≡ Step.Payload register x → (x ≡ w) × (register < 32) × (0 < self.old.due) }
@@ -70,7 +71,15 @@ impl Machine {
         step
     }
 
+    /// Whether the next word stands in a header's place.
+    pub(crate) fn is_at_header(&self) -> bool
+        ensures { result ≡ (self.now.due == 0) }
+    {
+        self.due == 0
+    }
+
     /// How many payload words of the open packet may be taken at once, at most `most`: one of CMD, since it may end the session.
+    #[inline(always)]
     pub(crate) fn payload_words(&self, most: usize) -> usize
         ensures { result ≡ min (min self.now.due most) (if self.now.register == 4 then 1 else most) }
     {
@@ -79,6 +88,7 @@ impl Machine {
     }
 
     /// Takes payload words of the open packet at once, and says whether the last one ends the session.
+    #[inline(always)]
     pub(crate) fn pass(&mut self, body: &[u8]) -> bool
         requires whole { length body.now ≡ 4 * (length body.now / 4) }
         requires some { 0 < length body.now }

@@ -1,5 +1,5 @@
 //! The startup sequence: it moves by a phase a tick, save where COR0 makes it wait.
-ghost use Rattle.std.specs.Prelude.{◌≡◌, ◌<◌, ◌≤◌, ◌+◌, ◌∷◌, ◌++◌, min, ℕ, List, [], replicate, Some, None, if◌then◌else◌};
+ghost use Rattle.std.specs.Prelude.{◌≡◌, ◌<◌, ◌≤◌, ◌+◌, ◌∷◌, ◌++◌, min, ℕ, List, [], replicate, is_some, Some, None, if◌then◌else◌};
 ghost use Rattle.x7_startup.specs.Lines.{done_line, gts_line, gwe_line, AreLines};
 ghost use Rattle.x7_startup.specs.Runs.{first_some};
 ghost use Rattle.x7_startup.specs.Calls.{Call, Arm, Desync, Byte, DropBack, Stored, StandsFor, IsPhaseOf, progress_of, cor0_of, ticks_of};
@@ -107,6 +107,13 @@ impl Startup {
         self.tick_bytes = 0;
         self.ticks = 0;
         self.phase = 0;
+    }
+
+    /// Whether startup has begun. Until then bytes leave it as it is.
+    pub fn has_begun(&self) -> bool
+        ensures { result ≡ is_some self.now.begun }
+    {
+        self.begun.is_some()
     }
 
     /// The phase, 0 to 7.

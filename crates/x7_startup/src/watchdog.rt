@@ -52,6 +52,13 @@ impl Watchdog {
         self.count = 0;
     }
 
+    /// Whether it runs: in an attempt that has a watchdog, TIMER turns it on. Else bytes leave it as it is.
+    pub fn is_running(&self) -> bool
+        ensures { result ≡ not (self.now.limit == 0) }
+    {
+        self.limit != 0
+    }
+
     /// One byte more was taken, in phase 7 or not: whether the watchdog fires at it.
     pub fn byte(&mut self, eos: bool) -> bool
         ensures stands { (off : Bool) (first : ℕ) (calls : List WatchCall) → WatchesFor off first self.old calls → WatchesFor off first self.new (calls ++ Watched eos ∷ []) }

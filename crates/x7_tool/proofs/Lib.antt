@@ -1,7 +1,6 @@
 pub mod Causes
+pub mod PartLemmas
+pub mod PlayLemmas
 pub mod ReadLemmas
 pub mod RunLemmas
 pub mod TurnLemmas
-pub mod PartLemmas
-pub mod PlayLemmas
-pub mod ReadsLemmas

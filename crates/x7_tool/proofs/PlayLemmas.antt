@@ -26,8 +26,8 @@ use Rattle.x7_tool.specs.Report.{report_text}
 use Rattle.x7_tool.specs.Run.{IsCaused}
 use Rattle.x7_tool.proofs.PartLemmas.{fault_is}
 use Rattle.x7_tool.proofs.ReadLemmas.{works}
-use Rattle.x7_tool.proofs.ReadsLemmas.{reads_grow_on}
 use Rattle.x7_words.proofs.ListLemmas.{all_front}
+use Rattle.x7_engine.proofs.ReadsLemmas.{reads_grow}
 use Rattle.x7_engine.proofs.StateLemmas.{stop_is_final-reads, stop_is_final-state, stop_is_final-stop}
 
 -- a part file that gave no part
@@ -41,14 +41,6 @@ refused told F L name text (part.SameRow n) (inr h) = works told F L (part_by na
 refused told F L name text (part.TooMany n) (inr h) = works told F L (part_by name (part_in text)) (Err (part_event name (part.TooMany n))) tt tt (ap (part_by name) (fault_is text (part.TooMany n) h))
 
 -- ---- words read out
-
--- the words read out by more bytes begin with those read out before
-reads_grow : (part : PartData) (bytes more : List ℕ) → AreBytes (bytes ++ more) → (rest : List ℕ) × (reads_of part on_the_bench (bytes ++ more) ≡ reads_of part on_the_bench bytes ++ rest)
-reads_grow part bytes more fits = by (stop_in part on_the_bench bytes) refl
-  where
-    by : (o : Option Stopped) → stop_in part on_the_bench bytes ≡ o → (rest : List ℕ) × (reads_of part on_the_bench (bytes ++ more) ≡ reads_of part on_the_bench bytes ++ rest)
-    by None e = reads_grow_on part on_the_bench bytes more (all_front (λ b. b < 256) bytes more fits) fits e
-    by (Some s) e = ([], stop_is_final-reads part on_the_bench bytes more s fits e ∙ sym (append-nil (reads_of part on_the_bench bytes)))
 
 -- ---- one turn of a play
 
@@ -82,7 +74,7 @@ bytes_split bytes at n =
 pub over_limit : (part : PartData) (d : DeviceState) (bytes reads words prefix rest : List ℕ) → AreBytes bytes → bytes ≡ prefix ++ rest → told_of part on_the_bench d prefix ≡ reads ++ words → 16777216 < length reads + length words
     → 16777216 < length (reads_of part on_the_bench bytes)
 over_limit part d bytes reads words prefix rest fits split told k =
-    let grown = reads_grow part prefix rest (subst (λ x. AreBytes x) split fits) in
+    let grown = reads_grow part on_the_bench prefix rest (subst (λ x. AreBytes x) split fits) in
     let all : length (reads_of part on_the_bench bytes) ≡ length (reads_of part on_the_bench prefix) + length grown.0
     = ap (λ x. length (reads_of part on_the_bench x)) split ∙ ap length grown.1 ∙ length-append (reads_of part on_the_bench prefix) grown.0 in
     let some : length (told_of part on_the_bench d prefix) ≤ length (reads_of part on_the_bench prefix) = told_within part on_the_bench d prefix in

@@ -1,7 +1,5 @@
-use Rattle.std.proofs.Common.{◌≡◌, ◌+◌, ◌<◌, ◌≤◌, ℕ, Bool, true, false, None, sym, ap, subst, ◌∙◌, arith, refl}
-use Rattle.x7_packets.specs.History.{History}
+use Rattle.std.proofs.Common.{◌≡◌, ◌+◌, ◌<◌, ◌≤◌, ℕ, sym, subst, ◌∙◌, arith, refl}
 use Rattle.x7_engine.specs.Clock.{newest_place, IsClock, clock_in}
-use Rattle.x7_engine.specs.Watching.{fires}
 use Rattle.x7_engine.proofs.ClockLemmas.{first_is, none_more}
 use Rattle.x7_engine.proofs.clock.Clock.each.Goals as goal
 

@@ -1,8 +1,7 @@
-use Rattle.std.proofs.Common.{◌≡◌, ◌==◌, ℕ, Bool, length, sym, ap, subst, ◌∙◌}
-use Rattle.x7_part.specs.Part.{PartData}
+use Rattle.std.proofs.Common.{length, sym, ap, subst, ◌∙◌}
 use Rattle.x7_engine.specs.Standing.{DeviceStandsFor, DeviceState, registers_in}
 use Rattle.x7_engine.specs.Startup.{has_ended}
-use Rattle.x7_engine.specs.State.{history_taken, taken_of}
+use Rattle.x7_engine.specs.State.{history_taken}
 use Rattle.x7_engine.proofs.StateLemmas.{taken_is}
 use Rattle.x7_engine.proofs.device.Device.started.Goals as goal
 

@@ -1,8 +1,6 @@
-use Rattle.std.proofs.Common.{◌≡◌, ◌+◌, ◌-◌, ◌*◌, ◌<◌, ◌≤◌, ℕ, false, List, [], ◌∷◌, ◌++◌, length, take, None, refl, sym, ap, subst, ◌∙◌, arith}
+use Rattle.std.proofs.Common.{◌≡◌, ◌+◌, ◌-◌, ◌<◌, ℕ, List, [], ◌∷◌, ◌++◌, length, take, None, refl, sym, subst, ◌∙◌, arith}
 use Rattle.x7_words.specs.Word.{words_of_bytes}
-use Rattle.x7_packets.specs.History.{History, entered_all, until}
-use Rattle.x7_packets.specs.Packet.{payload_steps}
-use Rattle.x7_engine.specs.Standing.{RegistersStandFor, counted_in, registers_in}
+use Rattle.x7_engine.specs.Standing.{RegistersStandFor, registers_in}
 use Rattle.x7_engine.proofs.BodyLemmas.{chunk_word, chunks_are, word_after, word_on, words_all}
 use Rattle.x7_engine.proofs.TurnLemmas.{none_there}
 use Rattle.x7_engine.proofs.registers.Registers.body.Goals as goal

@@ -1,7 +1,6 @@
-use Rattle.std.proofs.Common.{◌≡◌, ◌+◌, ◌-◌, ◌++◌, ℕ, false, Option, None, Some, List, replicate, sym, ap, subst, ◌∙◌, append-nil, arith}
-use Rattle.std.specs.Option.{is_some}
+use Rattle.std.proofs.Common.{◌≡◌, ◌+◌, ◌-◌, ℕ, sym, ap, subst, ◌∙◌, arith}
 use Rattle.x7_packets.specs.History.{History, entered, until}
-use Rattle.x7_engine.specs.Standing.{IsNext, RegistersStandFor, counted_in, registers_in}
+use Rattle.x7_engine.specs.Standing.{RegistersStandFor, counted_in, registers_in}
 use Rattle.x7_engine.specs.Values.{read_out}
 use Rattle.x7_engine.proofs.TurnLemmas.{all_counted, fired_until, next_at, none_due, none_there, until_all}
 use Rattle.x7_engine.proofs.registers.Registers.header.Goals as goal

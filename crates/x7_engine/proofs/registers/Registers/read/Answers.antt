@@ -1,11 +1,10 @@
-use Rattle.std.proofs.Common.{◌≡◌, ℕ, false, true, ◌∷◌, Option, None, Some, refl, sym, ap, subst, ◌∙◌, arith}
-use Rattle.x7_packets.specs.History.{History, Read, entry}
+use Rattle.std.proofs.Common.{◌≡◌, ℕ, false, true, None, Some, refl, sym, ap, ◌∙◌, arith}
+use Rattle.x7_packets.specs.History.{History, Read}
 use Rattle.x7_part.specs.Part.{PartData}
 use Rattle.x7_engine.specs.declared.kept.Kept.{Kept}
-use Rattle.x7_engine.specs.declared.stop.Stop.{Stop}
 use Rattle.x7_engine.specs.declared.stop.Stop.TheVariants as stop
 use Rattle.x7_engine.specs.declared.fault.Fault.TheVariants as fault
-use Rattle.x7_engine.specs.Standing.{RegistersStandFor, RegistersState, registers_in}
+use Rattle.x7_engine.specs.Standing.{registers_in}
 use Rattle.x7_engine.specs.Stops.{line_at, reads_frame_data, stop_of, stopped_at}
 use Rattle.x7_engine.proofs.ClockLemmas.{stop_of-access}
 use Rattle.x7_engine.proofs.PlainLemmas.{clock_other}

@@ -1,7 +1,6 @@
 use Rattle.std.proofs.Common.{Option, false, ap, ◌∙◌}
 use Rattle.x7_regs.specs.declared.register.Reg.{Reg}
 use Rattle.x7_engine.specs.declared.stop.Stop.{Stop}
-use Rattle.x7_engine.specs.declared.kept.Kept.{Kept}
 use Rattle.x7_engine.specs.Stops.{fault_of}
 use Rattle.x7_engine.specs.Values.{value_of, value_or_zero}
 use Rattle.x7_engine.proofs.registers.Registers.read_value.Goals as goal

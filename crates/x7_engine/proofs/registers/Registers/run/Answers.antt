@@ -1,10 +1,9 @@
-use Rattle.std.proofs.Common.{◌≡◌, ◌+◌, ◌-◌, ◌*◌, ◌/◌, ◌<◌, ◌≤◌, ℕ, List, [], ◌∷◌, length, sym, ap, subst, ◌∙◌, arith}
+use Rattle.std.proofs.Common.{◌≡◌, ◌+◌, ◌-◌, ◌<◌, ℕ, List, length, sym, ap, subst, ◌∙◌, arith}
 use Rattle.x7_words.specs.Word.{words_of_bytes}
 use Rattle.x7_packets.specs.Cutting.{IsRun}
 use Rattle.x7_packets.specs.declared.cutter.Cut.{Cut}
-use Rattle.x7_packets.specs.declared.cutter.Cut.TheVariants.{Body, Head, Word}
-use Rattle.x7_packets.specs.declared.header.Step.TheVariants.{Payload}
-use Rattle.x7_packets.specs.History.{History, Write, entered, entered_all, entry, until}
+use Rattle.x7_packets.specs.declared.cutter.Cut.TheVariants.{Body, Word}
+use Rattle.x7_packets.specs.History.{History, entered_all, until}
 use Rattle.x7_packets.specs.Packet.{payload_steps}
 use Rattle.x7_engine.specs.Standing.{EndsWords, RegistersStandFor, counted_in, registers_in}
 use Rattle.x7_engine.specs.Values.{read_out}

@@ -1,8 +1,7 @@
-use Rattle.std.proofs.Common.{◌≡◌, ◌+◌, ◌-◌, ◌<◌, ℕ, ◌∷◌, false, Option, None, Some, sym, ap, subst, ◌∙◌, arith}
-use Rattle.std.specs.Option.{is_some}
+use Rattle.std.proofs.Common.{◌≡◌, ◌+◌, ◌-◌, ℕ, ◌∷◌, sym, subst, ◌∙◌, arith}
 use Rattle.x7_packets.specs.History.{History, Write, entry, until}
 use Rattle.x7_packets.specs.declared.header.Step.TheVariants.{Payload}
-use Rattle.x7_engine.specs.Standing.{IsNext, RegistersStandFor, counted_in, registers_in}
+use Rattle.x7_engine.specs.Standing.{RegistersStandFor, counted_in, registers_in}
 use Rattle.x7_engine.proofs.TurnLemmas.{all_counted, fired_until, next_at, none_there}
 use Rattle.x7_engine.proofs.registers.Registers.word.Goals as goal
 

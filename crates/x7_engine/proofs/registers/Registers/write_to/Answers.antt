@@ -1,6 +1,6 @@
-use Rattle.std.proofs.Common.{ℕ, ◌∷◌, ap, subst}
+use Rattle.std.proofs.Common.{ℕ, ◌∷◌, subst}
 use Rattle.x7_packets.specs.History.{Write, entry}
-use Rattle.x7_engine.specs.Standing.{RegistersStandFor, counted_in, registers_in}
+use Rattle.x7_engine.specs.Standing.{RegistersStandFor, registers_in}
 use Rattle.x7_engine.proofs.registers.Registers.write_to.Goals as goal
 
 pub returns-clause-stands : goal.returns-clause-stands

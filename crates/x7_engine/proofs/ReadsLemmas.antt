@@ -3,6 +3,7 @@ use Rattle.std.proofs.Common.{◌≡◌, ℕ, zero, suc, ◌+◌, ◌-◌, ◌�
 use Rattle.std.specs.Prelude.{if◌then◌else◌, nat_lt}
 use Rattle.std.proofs.lemmas.Bool.Decides.{nat_tests}
 use Rattle.x7_words.specs.Word.{AreBytes}
+use Rattle.x7_words.proofs.ListLemmas.{all_front}
 use Rattle.x7_packets.specs.History.{AllBehind, History, Placed, history_of, until}
 use Rattle.x7_packets.proofs.GrowthLemmas.{newer_of, placed_of}
 use Rattle.x7_part.specs.Part.{PartData}
@@ -14,6 +15,7 @@ use Rattle.x7_engine.specs.State.{history_by, history_taken, last_counted, reads
 use Rattle.x7_engine.specs.Stops.{Stopped, line_at, or_else, stop_of, stopped_at, stopped_by_watchdog}
 use Rattle.x7_engine.specs.Values.{answer_of, read_out}
 use Rattle.x7_engine.specs.Watching.{fired_or, fires, first_firing}
+use Rattle.x7_engine.proofs.StateLemmas.{stop_is_final-reads}
 
 -- ---- where there is no stop in the first bytes, one comes behind them
 
@@ -114,8 +116,8 @@ reads_front part kept (x ∷ newer) h =
     let answer = answer_of part kept (newer ++ h) x.access x.place in
     (more.0 ++ answer, ap (λ (r : List ℕ). r ++ answer) more.1 ∙ append_assoc (read_out part kept h) more.0 answer)
 
-pub reads_grow_on : (part : PartData) (kept : Kept) (bytes more : List ℕ) → AreBytes bytes → AreBytes (bytes ++ more) → stop_in part kept bytes ≡ None → (rest : List ℕ) × (reads_of part kept (bytes ++ more) ≡ reads_of part kept bytes ++ rest)
-reads_grow_on part kept bytes more fits all none =
+reads_on : (part : PartData) (kept : Kept) (bytes more : List ℕ) → AreBytes bytes → AreBytes (bytes ++ more) → stop_in part kept bytes ≡ None → (rest : List ℕ) × (reads_of part kept (bytes ++ more) ≡ reads_of part kept bytes ++ rest)
+reads_on part kept bytes more fits all none =
     let grown = newer_of bytes more all in
     let h = history_of bytes in
     let placed = placed_of bytes fits in
@@ -133,3 +135,10 @@ reads_grow_on part kept bytes more fits all none =
         let behind : length bytes < t.place = newer_stop part kept newer (history_of bytes) (length bytes) (length (bytes ++ more)) (length (bytes ++ more)) t a long none at in
         let front = until_front (length bytes) (length (bytes ++ more)) (last_counted t.line t.place) newer (history_of bytes) (placed_of bytes fits) (counted t.line t.place (length bytes) behind) in
         (front.0, ap (λ (o : Option Stopped). history_by o (history_of (bytes ++ more))) s ∙ ap (λ (x : History). until (last_counted t.line t.place) x) e ∙ front.1)
+
+pub reads_grow : (part : PartData) (kept : Kept) (bytes more : List ℕ) → AreBytes (bytes ++ more) → (rest : List ℕ) × (reads_of part kept (bytes ++ more) ≡ reads_of part kept bytes ++ rest)
+reads_grow part kept bytes more all = by (stop_in part kept bytes) refl
+  where
+    by : (o : Option Stopped) → stop_in part kept bytes ≡ o → (rest : List ℕ) × (reads_of part kept (bytes ++ more) ≡ reads_of part kept bytes ++ rest)
+    by None e = reads_on part kept bytes more (all_front (λ b. b < 256) bytes more all) all e
+    by (Some s) e = ([], stop_is_final-reads part kept bytes more s all e ∙ sym (append-nil (reads_of part kept bytes)))

@@ -1,0 +1,197 @@
+-- Lemmas on specs/FirstStop: the stop of bytes is the first one.
+use Rattle.std.proofs.Common.{◌≡◌, ◌==◌, ◌+◌, ◌-◌, ◌<◌, ◌≤◌, ◌⊎◌, inl, inr, ℕ, zero, suc, Bool, true, false, if◌then◌else◌, Option, None, Some, List, [], ◌∷◌, ◌++◌, length, take, drop, refl, ap, sym, subst, ◌∙◌, arith}
+use Rattle.std.proofs.lemmas.Bool.Decides.{nat_tests}
+use Rattle.std.proofs.Math.Seq.{take-length}
+use Rattle.std.proofs.lemmas.List.{length-take-le, take-append-drop}
+use Rattle.x7_words.specs.Word.{AreBytes}
+use Rattle.x7_words.proofs.ListLemmas.{all_front}
+use Rattle.x7_packets.specs.History.{Access, History, Placed, entry, history_of}
+use Rattle.x7_packets.proofs.GrowthLemmas.{OneMore, byte_enters, placed_of}
+use Rattle.x7_part.specs.Part.{PartData}
+use Rattle.x7_engine.specs.declared.fault.Fault.TheVariants as fault
+use Rattle.x7_engine.specs.declared.kept.Kept.{Kept}
+use Rattle.x7_engine.specs.declared.stop.Stop.{Stop}
+use Rattle.x7_engine.specs.declared.stop.Stop.TheVariants as stop
+use Rattle.x7_engine.specs.Clock.{newest_place}
+use Rattle.x7_engine.specs.FirstStop.{IsFirstStop, line_at_byte, newest_line}
+use Rattle.x7_engine.specs.State.{stop_in}
+use Rattle.x7_engine.specs.Stops.{Stopped, line_at, or_else, stop_of, stopped_at, stopped_by_watchdog}
+use Rattle.x7_engine.specs.Watching.{fired_or, fires, first_firing}
+use Rattle.x7_engine.proofs.ClockLemmas.{stop_more_bytes}
+
+-- ---- a byte more of a list
+
+pub split_at : (bytes : List ℕ) (n : ℕ) → n < length bytes → (x : ℕ) × (take (suc n) bytes ≡ take n bytes ++ x ∷ [])
+split_at [] n l = absurd (omega (arith, l))
+split_at (x ∷ bytes) zero l = (x, refl)
+split_at (x ∷ bytes) (suc n) l = let more = split_at bytes n (omega (arith, l)) in (more.0, ap (λ (t : List ℕ). x ∷ t) more.1)
+
+pub bytes_taken : (bytes : List ℕ) (n : ℕ) → AreBytes bytes → AreBytes (take n bytes)
+bytes_taken bytes n f = all_front (λ b. b < 256) (take n bytes) (drop n bytes) (subst AreBytes (sym (take-append-drop n bytes)) f)
+
+pub newest_within : (n : ℕ) (h : History) → Placed n h → newest_place h ≤ n
+newest_within n [] p = omega arith
+newest_within n (e ∷ h) p = p.1
+
+-- ---- the stop of a byte more
+
+or_assoc : {A : Type 0} (a b c : Option A) → or_else (or_else a b) c ≡ or_else a (or_else b c)
+or_assoc (Some x) b c = refl
+or_assoc None b c = refl
+
+or_none : {A : Type 0} (o : Option A) → or_else o None ≡ o
+or_none None = refl
+or_none (Some x) = refl
+
+-- the line of the watchdog, and of an access
+abbrev line_by_fire : Bool → Option Stop → Option Stop
+line_by_fire b line = if b then Some (stop.Fault fault.Watchdog) else line
+
+fired_line : (b : Bool) (n : ℕ) (line : Option Stop) → or_else (stopped_by_watchdog (fired_or None b n)) (stopped_at n line) ≡ stopped_at n (line_by_fire b line)
+fired_line true n line = refl
+fired_line false n line = refl
+
+none_newest : (part : PartData) (kept : Kept) (n : ℕ) (h : History) → Placed n h → newest_line part kept h (suc n) ≡ None
+none_newest part kept n [] p = refl
+none_newest part kept n (e ∷ h) p = let not_here : (e.place == suc n) ≡ false = grind (arith, nat_tests, p.1) in rw not_here refl
+
+some_newest : (part : PartData) (kept : Kept) (n : ℕ) (h : History) (access : Access) → newest_line part kept (entry access n ∷ h) n ≡ line_at part kept h access
+some_newest part kept n h access = let here : (n == n) ≡ true = grind (arith, nat_tests) in rw here refl
+
+-- the stop up to the byte itself, before its access
+fired_next : (part : PartData) (kept : Kept) (h : History) (n : ℕ) → Placed n h → stop_of part kept h (suc n) ≡ or_else (stop_of part kept h n) (stopped_by_watchdog (fired_or None (fires part kept h (suc n)) (suc n)))
+fired_next part kept h n p =
+    let next : suc n ≡ n + 1 = omega arith in
+    let here : n + 0 + 1 ≡ suc n = omega arith in
+    ap (stop_of part kept h) next ∙ stop_more_bytes part kept h n 1 (newest_within n h p)
+    ∙ ap (λ (m : ℕ). or_else (stop_of part kept h n) (stopped_by_watchdog (fired_or None (fires part kept h m) m))) here
+
+-- the stop with the access of the byte
+fired_entered : (part : PartData) (kept : Kept) (h : History) (n : ℕ) (access : Access) → stop_of part kept (entry access n ∷ h) n ≡ or_else (stop_of part kept h n) (stopped_at n (line_at part kept h access))
+fired_entered part kept h n access =
+    let none : n - n ≡ 0 = omega arith in
+    ap (λ (m : ℕ). or_else (stop_of part kept h n) (or_else (stopped_at n (line_at part kept h access)) (stopped_by_watchdog (first_firing part kept (entry access n ∷ h) n m)))) none
+    ∙ ap (or_else (stop_of part kept h n)) (or_none (stopped_at n (line_at part kept h access)))
+
+stop_next : (part : PartData) (kept : Kept) (h g : History) (n : ℕ) → Placed n h → OneMore (suc n) h g
+    → stop_of part kept g (suc n) ≡ or_else (stop_of part kept h n) (stopped_at (suc n) (line_by_fire (fires part kept h (suc n)) (newest_line part kept g (suc n))))
+stop_next part kept h g n p (inl e) =
+    let fired : Bool = fires part kept h (suc n) in
+    ap (λ (x : History). stop_of part kept x (suc n)) e
+    ∙ fired_next part kept h n p
+    ∙ ap (or_else (stop_of part kept h n)) (sym (or_none (stopped_by_watchdog (fired_or None fired (suc n)))) ∙ fired_line fired (suc n) None)
+    ∙ ap (λ (o : Option Stop). or_else (stop_of part kept h n) (stopped_at (suc n) (line_by_fire fired o))) (sym (ap (λ (x : History). newest_line part kept x (suc n)) e ∙ none_newest part kept n h p))
+stop_next part kept h g n p (inr more) =
+    let access : Access = more.0 in
+    let fired : Bool = fires part kept h (suc n) in
+    ap (λ (x : History). stop_of part kept x (suc n)) more.1
+    ∙ fired_entered part kept h (suc n) access
+    ∙ ap (λ (o : Option Stopped). or_else o (stopped_at (suc n) (line_at part kept h access))) (fired_next part kept h n p)
+    ∙ or_assoc (stop_of part kept h n) (stopped_by_watchdog (fired_or None fired (suc n))) (stopped_at (suc n) (line_at part kept h access))
+    ∙ ap (or_else (stop_of part kept h n)) (fired_line fired (suc n) (line_at part kept h access))
+    ∙ ap (λ (o : Option Stop). or_else (stop_of part kept h n) (stopped_at (suc n) (line_by_fire fired o))) (sym (ap (λ (x : History). newest_line part kept x (suc n)) more.1 ∙ some_newest part kept (suc n) h access))
+
+-- ---- the first of a row of lines
+
+abbrev IsRow : (ℕ → Option Stopped) → (ℕ → Option Stop) → ℕ → Type 0
+IsRow stops lines most = (stops 0 ≡ None) × ((n : ℕ) → n < most → stops (suc n) ≡ or_else (stops n) (stopped_at (suc n) (lines (suc n))))
+
+record IsLeast (lines : ℕ → Option Stop) (most : ℕ) (s : Stopped) : Type 0 where
+  some : 0 < s.place
+  within : s.place ≤ most
+  holds : lines s.place ≡ Some s.line
+  none_earlier : (n : ℕ) → 0 < n → n < s.place → lines n ≡ None
+
+abbrev AreNone : (ℕ → Option Stop) → ℕ → Type 0
+AreNone lines most = (n : ℕ) → 0 < n → n ≤ most → lines n ≡ None
+
+none_more : (lines : ℕ → Option Stop) (n : ℕ) → AreNone lines n → lines (suc n) ≡ None → AreNone lines (suc n)
+none_more lines n f e m some few = elim (m == suc n) as (λ b. (m == suc n) ≡ b → lines m ≡ None) [
+  | true ↦ λ q. let same : m ≡ suc n = grind (arith, nat_tests, q) in ap lines same ∙ e
+  | false ↦ λ q. f m some (let less : m ≤ n = grind (arith, nat_tests, q, few) in less)
+] refl
+
+-- of a row that is none up to here, and of one that is some
+abbrev Found : (ℕ → Option Stop) → ℕ → Option Stopped → Type 0
+Found lines n None = AreNone lines n
+Found lines n (Some s) = IsLeast lines n s
+
+found_more : (lines : ℕ → Option Stop) (n : ℕ) (o : Option Stopped) (line : Option Stop) → lines (suc n) ≡ line → Found lines n o → Found lines (suc n) (or_else o (stopped_at (suc n) line))
+found_more lines n (Some s) line e f = record { some = f.some; within = omega (arith, f.within); holds = f.holds; none_earlier = f.none_earlier }
+found_more lines n None None e f = none_more lines n f e
+found_more lines n None (Some line) e f = record { some = omega arith; within = omega arith; holds = e; none_earlier = λ m some less. f m some (omega (arith, less)) }
+
+found : (stops : ℕ → Option Stopped) (lines : ℕ → Option Stop) (most n : ℕ) → IsRow stops lines most → n ≤ most → Found lines n (stops n)
+found stops lines most zero r l = subst (λ (o : Option Stopped). Found lines 0 o) (sym r.0) (λ m some few. absurd (omega (arith, some, few)))
+found stops lines most (suc n) r l =
+    subst (λ (o : Option Stopped). Found lines (suc n) o) (sym (r.1 n (omega (arith, l))))
+    (found_more lines n (stops n) (lines (suc n)) refl (found stops lines most n r (omega (arith, l))))
+
+place_of : Option Stopped → ℕ
+place_of None = 0
+place_of (Some s) = s.place
+
+-- two that are least are one
+one_least : (lines : ℕ → Option Stop) (most : ℕ) (o : Option Stopped) (s : Stopped) → Found lines most o → IsLeast lines most s → o ≡ Some s
+one_least lines most None s f i = absurd (let no : Some s.line ≡ None = sym i.holds ∙ f s.place i.some i.within in cc)
+one_least lines most (Some t) s f i = by (t.place == s.place) refl
+  where
+    by : (b : Bool) → (t.place == s.place) ≡ b → Some t ≡ Some s
+    by true q =
+        let place : t.place ≡ s.place = grind (arith, nat_tests, q) in
+        let same : Some t.line ≡ Some s.line = sym f.holds ∙ ap lines place ∙ i.holds in
+        let line : t.line ≡ s.line = cc in
+        ap Some (λ j. record { place = place j; line = line j })
+    by false q = absurd (elim (less_or_more t.place s.place q) [
+      | inl l ↦ (let no : Some t.line ≡ None = sym f.holds ∙ i.none_earlier t.place f.some l in cc)
+      | inr l ↦ (let no : Some s.line ≡ None = sym i.holds ∙ f.none_earlier s.place i.some l in cc)
+    ])
+      where
+        less_or_more : (a b : ℕ) → (a == b) ≡ false → (a < b) ⊎ (b < a)
+        less_or_more a b e = grind (arith, nat_tests, e)
+
+-- ---- of bytes
+
+-- the history of a byte more
+pub one_more : (bytes : List ℕ) (n : ℕ) → AreBytes bytes → n < length bytes → Placed n (history_of (take n bytes)) × OneMore (suc n) (history_of (take n bytes)) (history_of (take (suc n) bytes))
+one_more bytes n fits l =
+    let more = split_at bytes n l in
+    let b : List ℕ = take n bytes in
+    let count : length b ≡ n = length-take-le n bytes (omega (arith, l)) in
+    let fits_more : AreBytes (b ++ more.0 ∷ []) = subst AreBytes more.1 (bytes_taken bytes (suc n) fits) in
+    let one : length b + 1 ≡ suc n = omega (arith, count) in (
+      subst (λ (m : ℕ). Placed m (history_of b)) count (placed_of b (bytes_taken bytes n fits)),
+      subst (λ (m : ℕ). OneMore m (history_of b) (history_of (take (suc n) bytes))) one (subst (λ (t : List ℕ). OneMore (length b + 1) (history_of b) (history_of t)) (sym more.1) (byte_enters b more.0 fits_more)),
+    )
+
+row_of : (part : PartData) (kept : Kept) (bytes : List ℕ) → AreBytes bytes → IsRow (λ n. stop_in part kept (take n bytes)) (line_at_byte part kept bytes) (length bytes)
+row_of part kept bytes fits = (
+  refl,
+  λ n l.
+      let b : List ℕ = take n bytes in
+      let count : length b ≡ n = length-take-le n bytes (omega (arith, l)) in
+      let whole : length (take (suc n) bytes) ≡ suc n = length-take-le (suc n) bytes (omega (arith, l)) in
+      let more = one_more bytes n fits l in
+      let before : suc n - 1 ≡ n = omega arith in
+      ap (stop_of part kept (history_of (take (suc n) bytes))) whole
+      ∙ stop_next part kept (history_of b) (history_of (take (suc n) bytes)) n more.0 more.1
+      ∙ ap (λ (m : ℕ). or_else (stop_of part kept (history_of b) m) (stopped_at (suc n) (line_by_fire (fires part kept (history_of b) (suc n)) (newest_line part kept (history_of (take (suc n) bytes)) (suc n))))) (sym count)
+      ∙ ap (λ (m : ℕ). or_else (stop_in part kept b) (stopped_at (suc n) (line_by_fire (fires part kept (history_of (take m bytes)) (suc n)) (newest_line part kept (history_of (take (suc n) bytes)) (suc n))))) (sym before),
+)
+
+found_in : (part : PartData) (kept : Kept) (bytes : List ℕ) → AreBytes bytes → Found (line_at_byte part kept bytes) (length bytes) (stop_in part kept bytes)
+found_in part kept bytes fits =
+    subst (λ (t : List ℕ). Found (line_at_byte part kept bytes) (length bytes) (stop_in part kept t)) (take-length bytes)
+    (found (λ n. stop_in part kept (take n bytes)) (line_at_byte part kept bytes) (length bytes) (length bytes) (row_of part kept bytes fits) (omega arith))
+
+pub stop_is_first : (part : PartData) (kept : Kept) (bytes : List ℕ) (s : Stopped) → AreBytes bytes → stop_in part kept bytes ≡ Some s → IsFirstStop part kept bytes s
+stop_is_first part kept bytes s fits e =
+    let f : IsLeast (line_at_byte part kept bytes) (length bytes) s = subst (λ (o : Option Stopped). Found (line_at_byte part kept bytes) (length bytes) o) e (found_in part kept bytes fits) in
+    record { some = f.some; within = f.within; holds = f.holds; none_earlier = f.none_earlier }
+
+pub first_is_stop : (part : PartData) (kept : Kept) (bytes : List ℕ) (s : Stopped) → AreBytes bytes → IsFirstStop part kept bytes s → stop_in part kept bytes ≡ Some s
+first_is_stop part kept bytes s fits f =
+    one_least (line_at_byte part kept bytes) (length bytes) (stop_in part kept bytes) s (found_in part kept bytes fits) (record { some = f.some; within = f.within; holds = f.holds; none_earlier = f.none_earlier })
+
+pub no_stop_none : (part : PartData) (kept : Kept) (bytes : List ℕ) (n : ℕ) → AreBytes bytes → stop_in part kept bytes ≡ None → 0 < n → n ≤ length bytes → line_at_byte part kept bytes n ≡ None
+no_stop_none part kept bytes n fits e = subst (λ (o : Option Stopped). Found (line_at_byte part kept bytes) (length bytes) o) e (found_in part kept bytes fits) n

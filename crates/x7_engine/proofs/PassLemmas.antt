@@ -1,0 +1,91 @@
+-- Lemmas on specs/Standing: a device takes no-ops in a row.
+use Rattle.std.proofs.Common.{◌≡◌, ◌+◌, ◌-◌, ◌<◌, ◌≤◌, ℕ, Bool, None, Some, List, ◌++◌, length, take, drop, ap, sym, subst, ◌∙◌, append_assoc, arith, length-append}
+use Rattle.std.proofs.Math.Seq.{take-add}
+use Rattle.std.proofs.lemmas.List.{drop-drop}
+use Rattle.x7_words.specs.Word.{AreBytes}
+use Rattle.x7_words.proofs.ListLemmas.{all_front}
+use Rattle.x7_packets.specs.Cutting.{CutterState, CutterStandsFor, between}
+use Rattle.x7_packets.specs.History.{History, Placed, history_of, until}
+use Rattle.x7_packets.specs.Nops.{Idles}
+use Rattle.x7_packets.specs.Reading.{Place, Session}
+use Rattle.x7_packets.proofs.GrowthLemmas.{front_of, placed_of, placed_within, until_placed}
+use Rattle.x7_packets.proofs.HistoryLemmas.{history_is}
+use Rattle.x7_part.specs.Part.{PartData}
+use Rattle.x7_engine.specs.declared.fault.Fault.TheVariants as fault
+use Rattle.x7_engine.specs.declared.kept.Kept.{Kept}
+use Rattle.x7_engine.specs.declared.stop.Stop.{Stop}
+use Rattle.x7_engine.specs.declared.stop.Stop.TheVariants as stop
+use Rattle.x7_engine.specs.Standing.{DeviceStandsFor, DeviceState, IsCutterOf, RegistersStandFor, counted_in, told_of}
+use Rattle.x7_engine.specs.State.{history_by, history_taken, reads_of, stop_in}
+use Rattle.x7_engine.specs.Stops.{stop_of, stopped_at}
+use Rattle.x7_engine.specs.Values.{read_out}
+use Rattle.x7_engine.proofs.DeviceLemmas.{going_taken, told_by}
+use Rattle.x7_engine.proofs.TurnLemmas.{history_until, no_rest, none_due, quiet_until}
+
+-- one stretch of a piece and the next
+pub between_join : (piece : List ℕ) (from at to : ℕ) → from ≤ at → at ≤ to → between piece from at ++ between piece at to ≡ between piece from to
+between_join piece from at to l m =
+    let sum : at - from + (to - at) ≡ to - from = omega (arith, l, m) in
+    let place : from + (at - from) ≡ at = omega (arith, l) in
+    ap (λ (k : ℕ). between piece from at ++ take (to - at) (drop k piece)) (sym place)
+    ∙ ap (λ t. between piece from at ++ take (to - at) t) (sym (drop-drop (at - from) from piece))
+    ∙ sym (take-add (at - from) (to - at) (drop from piece))
+    ∙ ap (λ (k : ℕ). take k (drop from piece)) sum
+
+pub passed : (part : PartData) (kept : Kept) (wrapped : Bool) (d e : DeviceState) (bytes cut more rest : List ℕ) (count left : ℕ) → DeviceStandsFor part kept wrapped d bytes → d.registers.stop ≡ None → d.registers.due ≡ 0
+    → ((sessions : List Session) (place : Place) → CutterStandsFor d.cutter bytes sessions place → Idles d.cutter (bytes ++ cut) sessions place)
+    → ((h : History) (n : ℕ) → RegistersStandFor part kept d.registers h n → RegistersStandFor part kept e.registers h (n + (count - left)))
+    → count ≡ length cut → cut ≡ more ++ rest → length rest ≡ left → (e.registers.stop ≡ None → left ≡ 0)
+    → ((line : Stop) → e.registers.stop ≡ Some line → (line ≡ stop.Fault fault.Watchdog) × (left < count))
+    → e.cutter ≡ d.cutter → e.part ≡ d.part → e.wrapped ≡ d.wrapped → e.taken ≡ d.taken + length more → e.registers.due ≡ 0
+    → DeviceStandsFor part kept wrapped e (bytes ++ more) × (reads_of part kept (bytes ++ more) ≡ reads_of part kept bytes)
+passed part kept wrapped d e bytes cut more rest count left s going quiet idles stands k j l g f c p y t due =
+    let none : stop_in part kept bytes ≡ None = s.stop_is ∙ ap (stopped_at (length bytes)) going in
+    let h : History = history_of bytes in
+    let old : history_taken part kept bytes ≡ h = going_taken part kept bytes none in
+    let before : RegistersStandFor part kept d.registers h (length bytes) = subst (λ (x : History). RegistersStandFor part kept d.registers x (length bytes)) old s.registers_are in
+    let cutter : IsCutterOf d.cutter bytes = s.cutter_is going in
+    let i : Idles d.cutter (bytes ++ cut) cutter.sessions cutter.place = idles cutter.sessions cutter.place cutter.stands in
+    let whole : history_of (bytes ++ cut) ≡ h = sym (history_is (bytes ++ cut) cutter.sessions i.new_place i.stands.reading) ∙ i.nothing ∙ history_is bytes cutter.sessions cutter.place cutter.stands.reading in
+    let joined : (bytes ++ more) ++ rest ≡ bytes ++ cut = append_assoc bytes more rest ∙ ap (λ b. bytes ++ b) (sym j) in
+    let fits : AreBytes ((bytes ++ more) ++ rest) = subst AreBytes (sym joined) i.stands.reading.fits in
+    let here : AreBytes (bytes ++ more) = all_front (λ b. b < 256) (bytes ++ more) rest fits in
+    let m : ℕ = length (bytes ++ more) in
+    let count_is : length bytes + (count - left) ≡ m = omega (arith, k, ap length j, length-append more rest, l, length-append bytes more) in
+    let placed : Placed (length bytes) h = placed_of bytes (all_front (λ b. b < 256) bytes more here) in
+    let front : history_of (bytes ++ more) ≡ h =
+    sym (front_of (bytes ++ more) rest fits) ∙ ap (until m) (ap history_of joined ∙ whole)
+    ∙ until_placed m h (placed_within (length bytes) m h (omega (arith, length-append bytes more)) placed) in
+    let after : RegistersStandFor part kept e.registers h m = subst (λ (x : ℕ). RegistersStandFor part kept e.registers h x) count_is (stands h (length bytes) before) in
+    let stops : stop_in part kept (bytes ++ more) ≡ stopped_at m e.registers.stop = ap (λ (x : History). stop_of part kept x m) front ∙ after.stop in
+    let all : until (counted_in e.registers.stop m) h ≡ h =
+    subst (λ (x : ℕ). until (counted_in e.registers.stop x) h ≡ h) count_is (quiet_until e.registers.stop (length bytes) count left h f placed) in
+    let new : history_taken part kept (bytes ++ more) ≡ h =
+    ap (λ o. history_by o (history_of (bytes ++ more))) stops
+    ∙ ap (history_by (stopped_at m e.registers.stop)) (front ∙ sym (until_placed m h (placed_within (length bytes) m h (omega (arith, length-append bytes more)) placed)))
+    ∙ history_until e.registers.stop m h ∙ all in
+    let told : reads_of part kept (bytes ++ more) ≡ reads_of part kept bytes = ap (read_out part kept) new ∙ ap (read_out part kept) (sym old) in (
+      record {
+        fits = here;
+        part_is = p ∙ s.part_is;
+        wrapped_is = y ∙ s.wrapped_is;
+        taken_is = omega (arith, t, s.taken_is, length-append bytes more);
+        stop_is = stops;
+        registers_are = subst (λ (x : History). RegistersStandFor part kept e.registers x m) (sym new) after;
+        cutter_is = λ o. record {
+          sessions = cutter.sessions;
+          place = i.new_place;
+          stands = subst (λ (x : CutterState). CutterStandsFor x (bytes ++ more) cutter.sessions i.new_place) (sym c)
+              (subst (λ (x : List ℕ). CutterStandsFor d.cutter (bytes ++ x) cutter.sessions i.new_place) (sym (no_rest cut more rest j (l ∙ g o))) i.stands);
+        };
+        due_are = record { told = reads_of part kept bytes; all = told ∙ none_due (reads_of part kept bytes) e.registers.due e.registers.due_word due };
+        at_rest = λ line o. due;
+      },
+      told,
+    )
+
+-- the words told stay where none is due before or after
+pub told_same : (part : PartData) (kept : Kept) (d e : DeviceState) (bytes more : List ℕ) → d.registers.due ≡ 0 → e.registers.due ≡ 0 → reads_of part kept more ≡ reads_of part kept bytes → told_of part kept e more ≡ told_of part kept d bytes
+told_same part kept d e bytes more i j r =
+    told_by part kept e more (reads_of part kept bytes) (r ∙ none_due (reads_of part kept bytes) e.registers.due e.registers.due_word j)
+    ∙ sym (told_by part kept d bytes (reads_of part kept bytes) (none_due (reads_of part kept bytes) d.registers.due d.registers.due_word i))

@@ -1,0 +1,97 @@
+-- Lemmas on specs/Rest: a device at rest stays so over bytes without a sync word.
+use Rattle.std.proofs.Common.{◌≡◌, ◌==◌, ◌&&◌, ◌+◌, ◌<◌, ◌≤◌, ◌⊎◌, inl, inr, ℕ, Bool, true, false, not, Option, None, List, [], ◌++◌, length, length-append, refl, ap, sym, subst, ◌∙◌, append_assoc, arith}
+use Rattle.std.specs.List.{flat_map}
+use Rattle.x7_words.specs.Word.{AreBytes}
+use Rattle.x7_words.proofs.ListLemmas.{all_front}
+use Rattle.x7_packets.specs.ByHand.{reading_of}
+use Rattle.x7_packets.specs.History.{History, history_of}
+use Rattle.x7_packets.specs.Reading.{IsReading, Place, Searching, Session, is_synced, session_bytes}
+use Rattle.x7_packets.proofs.ByHandLemmas.{reading_is, reading_is_found}
+use Rattle.x7_packets.proofs.GrowthLemmas.{placed_of}
+use Rattle.x7_packets.proofs.HistoryLemmas.{history_is}
+use Rattle.x7_part.specs.Part.{PartData}
+use Rattle.x7_startup.specs.Calls.{NotBegun, progress_of}
+use Rattle.x7_startup.specs.Count.{cfg_mon_of, is_on, timer_value_of}
+use Rattle.x7_startup.proofs.CallLemmas.{further, progress_bytes}
+use Rattle.x7_engine.specs.declared.kept.Kept.{Kept}
+use Rattle.x7_engine.specs.Clock.{newest_place}
+use Rattle.x7_engine.specs.Kept.{is_fallback, on_the_bench}
+use Rattle.x7_engine.specs.Registers.{ctl0_held, is_pending}
+use Rattle.x7_engine.specs.Rest.{AtRest, GoesOn}
+use Rattle.x7_engine.specs.Startup.{has_ended, phase_of, startup_calls, startup_progress}
+use Rattle.x7_engine.specs.Stops.{Stopped, forbids_reading, or_else, stop_of, stopped_by_watchdog}
+use Rattle.x7_engine.specs.Watching.{first_firing, timer_held, turns_on}
+use Rattle.x7_engine.proofs.ClockLemmas.{last_of, none_fires, phase_rises, startup_more, stop_more_bytes}
+use Rattle.x7_engine.proofs.FirstStopLemmas.{newest_within}
+
+-- ---- the reading and the history
+
+reading_on : (bytes more : List ℕ) → AreBytes (bytes ++ more) → (g : GoesOn bytes more) → IsReading (bytes ++ more) (reading_of bytes).sessions (Searching (g.gap ++ more))
+reading_on bytes more fits g =
+    let sessions : List Session = (reading_of bytes).sessions in
+    let now : IsReading bytes sessions (Searching g.gap) = subst (λ (p : Place). IsReading bytes sessions p) g.searching (reading_is_found bytes (all_front (λ b. b < 256) bytes more fits)) in
+    record {
+      fits = fits;
+      joined = ap (λ (b : List ℕ). b ++ more) now.joined ∙ append_assoc (flat_map session_bytes sessions) g.gap more;
+      each = now.each;
+      ends = g.none;
+    }
+
+pub history_on : (bytes more : List ℕ) → AreBytes (bytes ++ more) → GoesOn bytes more → history_of (bytes ++ more) ≡ history_of bytes
+history_on bytes more fits g =
+    let sessions : List Session = (reading_of bytes).sessions in
+    let now : IsReading bytes sessions (Searching g.gap) = subst (λ (p : Place). IsReading bytes sessions p) g.searching (reading_is_found bytes (all_front (λ b. b < 256) bytes more fits)) in
+    sym (history_is (bytes ++ more) sessions (Searching (g.gap ++ more)) (reading_on bytes more fits g)) ∙ history_is bytes sessions (Searching g.gap) now
+
+searching_on : (bytes more : List ℕ) → AreBytes (bytes ++ more) → GoesOn bytes more → is_synced (reading_of (bytes ++ more)).place ≡ false
+searching_on bytes more fits g =
+    sym (ap is_synced (reading_is (bytes ++ more) (reading_of bytes).sessions (Searching (g.gap ++ more)) (reading_on bytes more fits g)).1)
+
+-- ---- no watchdog, and startup
+
+never_on : (cfg value eos off : Bool) → ((cfg && value) && not off) ≡ false → (cfg && (value && (not eos && not off))) ≡ false
+never_on false value eos off e = refl
+never_on true false eos off e = refl
+never_on true true true off e = refl
+never_on true true false off e = e
+
+never_fires : (on full : Bool) → on ≡ false → (on && full) ≡ false
+never_fires true full e = absurd (cc)
+never_fires false full e = refl
+
+stop_on : (part : PartData) (kept : Kept) (h : History) (n k : ℕ) → newest_place h ≤ n → (turns_on (timer_held kept h) && not (is_fallback kept.kind)) ≡ false → stop_of part kept h n ≡ None → stop_of part kept h (n + k) ≡ None
+stop_on part kept h n k l off none =
+    stop_more_bytes part kept h n k l
+    ∙ ap (λ (o : Option Stopped). or_else o (stopped_by_watchdog (first_firing part kept h n k))) none
+    ∙ ap stopped_by_watchdog (none_fires part kept h n k (λ i m.
+    never_fires (is_on (is_fallback kept.kind) (timer_held kept h) (has_ended part h (n + i + 1))) _
+    (never_on (cfg_mon_of (timer_held kept h) == 1) (not (timer_value_of (timer_held kept h) == 0)) (has_ended part h (n + i + 1)) (is_fallback kept.kind) off)))
+
+startup_on : (part : PartData) (h : History) (n k : ℕ) → newest_place h ≤ n → (startup_progress h n ≡ NotBegun) ⊎ (phase_of part h n ≡ 7) → (startup_progress h (n + k) ≡ NotBegun) ⊎ (phase_of part h (n + k) ≡ 7)
+startup_on part h n k l (inl e) = inl (ap progress_of (startup_more h n k l) ∙ progress_bytes (startup_calls h n) k ∙ ap (further k) e)
+startup_on part h n k l (inr e) =
+    let rises : phase_of part h n ≤ phase_of part h (n + k) = phase_rises part h n k l in
+    let most : phase_of part h (n + k) ≤ 7 = last_of part (startup_progress h (n + k)) in
+    inr (omega (arith, rises, most, e))
+
+-- ---- at rest
+
+pub rest_on : (part : PartData) (kept : Kept) (bytes more : List ℕ) → AreBytes (bytes ++ more) → GoesOn bytes more → AtRest part kept bytes → AtRest part kept (bytes ++ more)
+rest_on part kept bytes more fits g r =
+    let h : History = history_of bytes in
+    let n : ℕ = length bytes in
+    let same : history_of (bytes ++ more) ≡ h = history_on bytes more fits g in
+    let count : length (bytes ++ more) ≡ n + length more = length-append bytes more in
+    let newest : newest_place h ≤ n = newest_within n h (placed_of bytes (all_front (λ b. b < 256) bytes more fits)) in
+    record {
+      no_stop = ap (λ (x : History). stop_of part kept x (length (bytes ++ more))) same ∙ ap (stop_of part kept h) count ∙ stop_on part kept h n (length more) newest r.no_watchdog r.no_stop;
+      searching = searching_on bytes more fits g;
+      startup = subst (λ (x : History). (startup_progress x (length (bytes ++ more)) ≡ NotBegun) ⊎ (phase_of part x (length (bytes ++ more)) ≡ 7)) (sym same)
+          (subst (λ (m : ℕ). (startup_progress h m ≡ NotBegun) ⊎ (phase_of part h m ≡ 7)) (sym count) (startup_on part h n (length more) newest r.startup));
+      sbits = ap (λ (x : History). forbids_reading (ctl0_held x)) same ∙ r.sbits;
+      no_shutdown = ap is_pending same ∙ r.no_shutdown;
+      no_watchdog = ap (λ (x : History). turns_on (timer_held kept x) && not (is_fallback kept.kind)) same ∙ r.no_watchdog;
+    }
+
+pub rest_new : (part : PartData) → AtRest part on_the_bench []
+rest_new part = record { no_stop = refl; searching = refl; startup = inl refl; sbits = refl; no_shutdown = refl; no_watchdog = refl }

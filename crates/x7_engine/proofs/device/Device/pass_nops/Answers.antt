@@ -1,0 +1,70 @@
+use Rattle.std.proofs.Common.{◌≡◌, ◌+◌, ◌-◌, ◌≤◌, ◌++◌, ℕ, Bool, List, length, take, drop, refl, sym, ap, subst, ◌∙◌, arith, length-drop}
+use Rattle.std.proofs.lemmas.List.{take_rest}
+use Rattle.x7_packets.specs.Cutting.{between}
+use Rattle.x7_packets.specs.Nops.{Idles}
+use Rattle.x7_part.specs.Part.{PartData}
+use Rattle.x7_engine.specs.declared.kept.Kept.{Kept}
+use Rattle.x7_engine.specs.Standing.{DeviceStandsFor, DeviceState, registers_in}
+use Rattle.x7_engine.specs.State.{reads_of}
+use Rattle.x7_engine.proofs.DeviceLemmas.{between_front, length_between}
+use Rattle.x7_engine.proofs.PassLemmas.{passed, told_same}
+use Rattle.x7_engine.proofs.device.Device.pass_nops.Goals as goal
+
+-- the device before the no-ops, and behind them
+abbrev device_before : goal.After-self-1 → DeviceState
+device_before c = record { part = c.self.inside.part; cutter = c.self.inside.cutter; registers = registers_in c.self.inside.registers; wrapped = c.self.inside.wrapped; taken = c.self.inside.taken }
+
+abbrev device_after : goal.After-self-1 → DeviceState
+device_after c = record {
+  part = c.self.inside.part;
+  cutter = c.self.inside.cutter;
+  registers = registers_in c.tick-left.new.self;
+  wrapped = c.self.inside.wrapped;
+  taken = c.self.inside.taken + (c.nops-count.result - c.tick-left.result);
+}
+
+passed_here : (c : goal.After-self-1) (kept : Kept) (wrapped : Bool) (bytes : List ℕ) → (let part : PartData = c.self.inside.part in DeviceStandsFor part kept wrapped c.args.self.now bytes
+    → (let more : List ℕ = between c.args.piece.now c.args.at.now (c.args.at.now + (c.nops-count.result - c.tick-left.result)) in
+    DeviceStandsFor part kept wrapped (device_after c) (bytes ++ more) × (reads_of part kept (bytes ++ more) ≡ reads_of part kept bytes)))
+passed_here c kept wrapped bytes s =
+    let piece : List ℕ = c.args.piece.now in
+    let from : ℕ = c.args.at.now in
+    let count : ℕ = c.nops-count.result in
+    let left : ℕ = c.tick-left.result in
+    let cut : List ℕ = between piece from (from + count) in
+    let more : List ℕ = between piece from (from + (count - left)) in
+    let few : left ≤ count = c.tick-left.ensures.within in
+    let rest_is : length (take (length piece - from) (drop from piece)) ≡ length piece - from = ap length (take_rest piece from) ∙ length-drop from piece in
+    let room : count ≤ length piece - from = omega (arith, c.nops-count.ensures.within, rest_is) in
+    let within : from + count ≤ length piece = omega (arith, room, c.requires.within) in
+    let all : length cut ≡ count = length_between piece from (from + count) (omega arith) within ∙ omega arith in
+    let taken : length more ≡ count - left = length_between piece from (from + (count - left)) (omega arith) (omega (arith, within)) ∙ omega arith in
+    let place : from + count - left ≡ from + (count - left) = omega (arith, few) in
+    let rest : List ℕ = drop (from + count - left - from) cut in
+    let split : cut ≡ more ++ rest = between_front piece from (from + count) left (omega (arith, few)) ∙ ap (λ (k : ℕ). between piece from k ++ rest) place in
+    let same : count ≡ from + count - from = omega arith in
+    let front : take count (take (length piece - from) (drop from piece)) ≡ cut = ap (take count) (take_rest piece from) ∙ ap (λ (k : ℕ). take k (drop from piece)) same in
+    let inside : DeviceStandsFor c.self.inside.part kept wrapped (device_before c) bytes = subst (λ (d : DeviceState). DeviceStandsFor c.self.inside.part kept wrapped d bytes) (sym c.self.view_is) s in
+    passed c.self.inside.part kept wrapped (device_before c) (device_after c) bytes cut more rest count left inside
+    (ap (λ (d : DeviceState). d.registers.stop) c.self.view_is ∙ c.requires.going)
+    (ap (λ (d : DeviceState). d.registers.due) c.self.view_is ∙ c.requires.none_due)
+    (λ sessions place i. subst (λ (b : List ℕ). Idles c.self.inside.cutter (bytes ++ b) sessions place) front (c.nops-count.ensures.idles bytes sessions place i))
+    (c.tick-left.ensures.stands kept) (sym all) split (length-drop (from + count - left - from) cut ∙ omega (arith, all, few))
+    c.tick-left.ensures.goes_on c.tick-left.ensures.fired refl refl refl (omega (arith, taken))
+    (c.tick-left.ensures.due ∙ ap (λ (d : DeviceState). d.registers.due) c.self.view_is ∙ c.requires.none_due)
+
+pub returns-clause-stands : goal.returns-clause-stands
+returns-clause-stands c = λ part kept wrapped bytes s.
+    let here : c.self.inside.part ≡ part = ap (λ (d : DeviceState). d.part) c.self.view_is ∙ s.part_is in
+    let more : List ℕ = between c.args.piece.now c.args.at.now (c.args.at.now + (c.nops-count.result - c.tick-left.result)) in
+    subst (λ (p : PartData). DeviceStandsFor p kept wrapped (device_after c) (bytes ++ more)) here
+    (passed_here c kept wrapped bytes (subst (λ (p : PartData). DeviceStandsFor p kept wrapped c.args.self.now bytes) (sym here) s)).0
+
+pub returns-clause-told : goal.returns-clause-told
+returns-clause-told c = λ part kept wrapped bytes s.
+    let here : c.self.inside.part ≡ part = ap (λ (d : DeviceState). d.part) c.self.view_is ∙ s.part_is in
+    let more : List ℕ = between c.args.piece.now c.args.at.now (c.args.at.now + (c.nops-count.result - c.tick-left.result)) in
+    told_same part kept c.args.self.now (device_after c) bytes (bytes ++ more) c.requires.none_due
+    (c.tick-left.ensures.due ∙ ap (λ (d : DeviceState). d.registers.due) c.self.view_is ∙ c.requires.none_due)
+    (subst (λ (p : PartData). reads_of p kept (bytes ++ more) ≡ reads_of p kept bytes) here
+    (passed_here c kept wrapped bytes (subst (λ (p : PartData). DeviceStandsFor p kept wrapped c.args.self.now bytes) (sym here) s)).1)

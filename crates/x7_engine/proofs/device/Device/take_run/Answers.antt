@@ -1,0 +1,69 @@
+use Rattle.std.proofs.Common.{◌≡◌, ◌+◌, ◌-◌, ◌≤◌, ◌++◌, ℕ, List, length, drop, replicate, append-nil, refl, sym, ap, subst, ◌∙◌, arith, length-drop, Bool}
+use Rattle.x7_packets.specs.Cutting.{between}
+use Rattle.x7_part.specs.Part.{PartData}
+use Rattle.x7_engine.specs.declared.kept.Kept.{Kept}
+use Rattle.x7_engine.specs.Standing.{DeviceStandsFor, DeviceState, registers_in}
+use Rattle.x7_engine.specs.State.{reads_of}
+use Rattle.x7_engine.proofs.DeviceLemmas.{between_front, holds_run, length_between, told_by, turned}
+use Rattle.x7_engine.proofs.device.Device.take_run.Goals as goal
+
+pub run-left-requires-clause-holds : goal.run-left-requires-clause-holds
+run-left-requires-clause-holds c =
+    let cut : List ℕ = between c.args.piece.now c.args.at.now c.cut-run.new.at in
+    holds_run c.self.inside.cutter c.cut-run.new.self c.cut-run.result (length c.args.piece.now - c.args.at.now) (c.cut-run.new.at - c.args.at.now) cut c.cut-run.ensures.lent c.cut-run.ensures.joined
+    (sym (length_between c.args.piece.now c.args.at.now c.cut-run.new.at c.cut-run.ensures.forward c.cut-run.ensures.within))
+
+-- the device before the run, and behind it
+abbrev device_before : goal.After-is_done → DeviceState
+device_before c = record { part = c.self.inside.part; cutter = c.self.inside.cutter; registers = registers_in c.self.inside.registers; wrapped = c.self.inside.wrapped; taken = c.self.inside.taken }
+
+abbrev device_after : goal.After-is_done → DeviceState
+device_after c = record {
+  part = c.self.inside.part;
+  cutter = c.cut-run.new.self;
+  registers = registers_in c.run-left.new.self;
+  wrapped = c.self.inside.wrapped;
+  taken = c.self.inside.taken + (c.cut-run.new.at - c.run-left.result - c.args.at.now);
+}
+
+turned_here : (c : goal.After-is_done) (kept : Kept) (wrapped : Bool) (bytes : List ℕ) → (let part : PartData = c.self.inside.part in DeviceStandsFor part kept wrapped c.args.self.now bytes
+    → (let more : List ℕ = between c.args.piece.now c.args.at.now (c.cut-run.new.at - c.run-left.result) in
+    DeviceStandsFor part kept wrapped (device_after c) (bytes ++ more)
+    × (reads_of part kept (bytes ++ more) ≡ reads_of part kept bytes ++ replicate c.run-left.new.self.due c.run-left.new.self.due_word)))
+turned_here c kept wrapped bytes s =
+    let piece : List ℕ = c.args.piece.now in
+    let from : ℕ = c.args.at.now in
+    let at : ℕ = c.cut-run.new.at in
+    let left : ℕ = c.run-left.result in
+    let cut : List ℕ = between piece from at in
+    let more : List ℕ = between piece from (at - left) in
+    let some : left ≤ at - from = c.run-left.ensures.within in
+    let onward : from ≤ at = c.cut-run.ensures.forward in
+    let forward : from ≤ at - left = omega (arith, some, onward) in
+    let all : length cut ≡ at - from = length_between piece from at c.cut-run.ensures.forward c.cut-run.ensures.within in
+    let taken : length more ≡ at - left - from = length_between piece from (at - left) forward (omega (arith, c.cut-run.ensures.within)) in
+    let inside : DeviceStandsFor c.self.inside.part kept wrapped (device_before c) bytes = subst (λ (d : DeviceState). DeviceStandsFor c.self.inside.part kept wrapped d bytes) (sym c.self.view_is) s in
+    turned c.self.inside.part kept wrapped (device_before c) (device_after c) bytes cut more (drop (at - left - from) cut) c.cut-run.result (at - from) left (length piece - from) inside
+    (ap (λ (d : DeviceState). d.registers.stop) c.self.view_is ∙ c.requires.going)
+    (c.cut-run.ensures.adds bytes) (c.run-left.ensures.stands kept) (c.run-left.ensures.reads kept)
+    (sym all) (between_front piece from at left forward) (length-drop (at - left - from) cut ∙ omega (arith, all, some)) c.cut-run.ensures.run c.cut-run.ensures.lent
+    c.run-left.ensures.goes_on c.run-left.ensures.at_rest refl refl (omega (arith, taken))
+
+pub returns-clause-stands : goal.returns-clause-stands
+returns-clause-stands c = λ part kept wrapped bytes s.
+    let here : c.self.inside.part ≡ part = ap (λ (d : DeviceState). d.part) c.self.view_is ∙ s.part_is in
+    let more : List ℕ = between c.args.piece.now c.args.at.now (c.cut-run.new.at - c.run-left.result) in
+    subst (λ (p : PartData). DeviceStandsFor p kept wrapped (device_after c) (bytes ++ more)) here
+    (turned_here c kept wrapped bytes (subst (λ (p : PartData). DeviceStandsFor p kept wrapped c.args.self.now bytes) (sym here) s)).0
+
+pub returns-clause-told : goal.returns-clause-told
+returns-clause-told c = λ part kept wrapped bytes s.
+    let here : c.self.inside.part ≡ part = ap (λ (d : DeviceState). d.part) c.self.view_is ∙ s.part_is in
+    let more : List ℕ = between c.args.piece.now c.args.at.now (c.cut-run.new.at - c.run-left.result) in
+    let reads : reads_of part kept (bytes ++ more) ≡ reads_of part kept bytes ++ replicate c.run-left.new.self.due c.run-left.new.self.due_word =
+    subst (λ (p : PartData). reads_of p kept (bytes ++ more) ≡ reads_of p kept bytes ++ replicate c.run-left.new.self.due c.run-left.new.self.due_word) here
+    (turned_here c kept wrapped bytes (subst (λ (p : PartData). DeviceStandsFor p kept wrapped c.args.self.now bytes) (sym here) s)).1 in
+    let none : reads_of part kept bytes ≡ reads_of part kept bytes ++ replicate c.args.self.now.registers.due c.args.self.now.registers.due_word =
+    sym (ap (λ (k : ℕ). reads_of part kept bytes ++ replicate k c.args.self.now.registers.due_word) c.requires.none_due ∙ append-nil (reads_of part kept bytes)) in
+    told_by part kept (device_after c) (bytes ++ more) (reads_of part kept bytes) reads
+    ∙ sym (told_by part kept c.args.self.now bytes (reads_of part kept bytes) none)

@@ -1,0 +1,26 @@
+-- What a stream has been through where startup has begun (this project's choice: a stop ends the taking of bytes at once).
+use Rattle.std.specs.Prelude.{◌≡◌, ℕ, ◌<◌, ◌≤◌, ◌∷◌, ◌++◌, IsTrue}
+use Rattle.x7_packets.specs.History.{Access, Entry, History, entry}
+use Rattle.x7_regs.specs.declared.command.Command.TheVariants.{Desync, Start}
+use Rattle.x7_regs.specs.Command.{code_of}
+use Rattle.x7_engine.specs.Registers.{is_matched}
+use Rattle.x7_engine.specs.Sequence.{Executes}
+
+-- the access stands in the history at this place, after these older ones
+pub record StandsIn (h : History) (access : Access) (place : ℕ) (older : History) : Type 0 where
+  pub newer : History
+  pub split : h ≡ newer ++ entry access place ∷ older
+
+-- START was executed on a matched device, and DESYNC after it, by byte n
+pub record HasStarted (idcode : ℕ) (h : History) (n : ℕ) : Type 0 where
+  pub newer : History
+  pub desync : Entry
+  pub between : History
+  pub start : Entry
+  pub older : History
+  pub split : h ≡ newer ++ desync ∷ (between ++ start ∷ older)
+  pub desync_is : Executes (code_of Desync) (between ++ start ∷ older) desync.access
+  pub start_is : Executes (code_of Start) older start.access
+  pub matched : IsTrue (is_matched idcode older)
+  pub order : start.place < desync.place
+  pub within : desync.place ≤ n

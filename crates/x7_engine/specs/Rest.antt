@@ -1,0 +1,30 @@
+-- A device at rest: what a stream that is planned apart may begin on (this project's choice).
+use Rattle.std.specs.Prelude.{◌≡◌, ℕ, ◌&&◌, ◌++◌, false, not, ◌⊎◌, List, length, None}
+use Rattle.x7_packets.specs.ByHand.{reading_of}
+use Rattle.x7_packets.specs.History.{history_of}
+use Rattle.x7_packets.specs.Reading.{Searching, is_synced}
+use Rattle.x7_packets.specs.SyncWord.{HasNoSync}
+use Rattle.x7_part.specs.Part.{PartData}
+use Rattle.x7_startup.specs.Calls.{NotBegun}
+use Rattle.x7_engine.specs.declared.kept.Kept.{Kept}
+use Rattle.x7_engine.specs.Kept.{is_fallback}
+use Rattle.x7_engine.specs.Registers.{ctl0_held, is_pending}
+use Rattle.x7_engine.specs.Startup.{phase_of, startup_progress}
+use Rattle.x7_engine.specs.State.{stop_in}
+use Rattle.x7_engine.specs.Stops.{forbids_reading}
+use Rattle.x7_engine.specs.Watching.{timer_held, turns_on}
+
+-- After these bytes there is no stop, and the sync word is searched. Startup hasn't begun or has ended, SBITS are 00, no shutdown is pending and no watchdog runs.
+pub record AtRest (part : PartData) (kept : Kept) (bytes : List ℕ) : Type 0 where
+  pub no_stop : stop_in part kept bytes ≡ None
+  pub searching : is_synced (reading_of bytes).place ≡ false
+  pub startup : (startup_progress (history_of bytes) (length bytes) ≡ NotBegun) ⊎ (phase_of part (history_of bytes) (length bytes) ≡ 7)
+  pub sbits : forbids_reading (ctl0_held (history_of bytes)) ≡ false
+  pub no_shutdown : is_pending (history_of bytes) ≡ false
+  pub no_watchdog : (turns_on (timer_held kept (history_of bytes)) && not (is_fallback kept.kind)) ≡ false
+
+-- the bytes end in a gap, and it goes on through these without a sync word
+pub record GoesOn (bytes more : List ℕ) : Type 0 where
+  pub gap : List ℕ
+  pub searching : (reading_of bytes).place ≡ Searching gap
+  pub none : HasNoSync (gap ++ more)

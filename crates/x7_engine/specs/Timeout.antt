@@ -1,0 +1,43 @@
+-- When the watchdog fires, byte by byte (UG470, watchdog; the count of bytes is this project's choice).
+use Rattle.std.specs.Prelude.{ℕ, zero, suc, ◌+◌, ◌-◌, ◌*◌, ◌==◌, ◌&&◌, ◌||◌, Bool, if◌then◌else◌, take, List, [], ◌∷◌}
+use Rattle.x7_packets.specs.History.{Access, History, executes, history_of, writes}
+use Rattle.x7_part.specs.Part.{PartData}
+use Rattle.x7_regs.specs.declared.command.Command.TheVariants.{Ltimer}
+use Rattle.x7_regs.specs.declared.register.Reg.TheVariants.{Timer}
+use Rattle.x7_regs.specs.Command.{code_of}
+use Rattle.x7_regs.specs.Register.{number_of}
+use Rattle.x7_startup.specs.Count.{is_on, timer_value_of}
+use Rattle.x7_engine.specs.declared.kept.Kept.{Kept}
+use Rattle.x7_engine.specs.Kept.{is_fallback}
+use Rattle.x7_engine.specs.Startup.{has_ended}
+use Rattle.x7_engine.specs.Watching.{timer_held}
+
+-- The history before byte i, the first being byte 1: the word that ends there has no part in it.
+abbrev pub before_byte : List ℕ → ℕ → History
+before_byte bytes i = history_of (take (i - 1) bytes)
+
+-- the watchdog is on at byte i: TIMER turns it on, the attempt is no fallback, and with this byte the phase isn't 7
+abbrev pub is_on_at : PartData → Kept → List ℕ → ℕ → Bool
+is_on_at part kept bytes i = is_on (is_fallback kept.kind) (timer_held kept (before_byte bytes i)) (has_ended part (before_byte bytes i) i)
+
+-- the access makes the count 0: a write to TIMER, or LTIMER
+abbrev pub loads : History → Access → Bool
+loads h access = writes (number_of Timer) access || executes (code_of Ltimer) h access
+
+-- the place of the last of these, 0 where there is none
+abbrev pub last_load : History → ℕ
+last_load [] = 0
+last_load (e ∷ h) = if loads h e.access then e.place else last_load h
+
+-- how many of so many bytes behind the first `from` have the watchdog on
+abbrev pub on_behind : PartData → Kept → List ℕ → ℕ → ℕ → ℕ
+on_behind part kept bytes from zero = 0
+on_behind part kept bytes from (suc count) = on_behind part kept bytes from count + (if is_on_at part kept bytes (from + count + 1) then 1 else 0)
+
+-- the bytes behind the last load, up to byte n, that have it on
+abbrev pub counted_at : PartData → Kept → List ℕ → ℕ → ℕ
+counted_at part kept bytes n = on_behind part kept bytes (last_load (before_byte bytes n)) (n - last_load (before_byte bytes n))
+
+-- it fires at byte n: it is on there, and these bytes are four times TIMER's value
+abbrev pub fires_at : PartData → Kept → List ℕ → ℕ → Bool
+fires_at part kept bytes n = is_on_at part kept bytes n && counted_at part kept bytes n == timer_value_of (timer_held kept (before_byte bytes n)) * 4

@@ -1,0 +1,134 @@
+-- Lemmas on specs/Nops.
+use Rattle.std.proofs.Common.{◌≡◌, ℕ, zero, suc, ◌+◌, ◌*◌, ◌/◌, ◌<◌, ◌≤◌, List, [], ◌∷◌, ◌++◌, inl, inr, length, map, take, replicate, get_or, refl, ap, sym, subst, ◌∙◌, append_assoc, append-nil, arith}
+use Rattle.std.specs.List.{flat_map}
+use Rattle.std.specs.Simd.{first_chunks}
+use Rattle.std.proofs.lemmas.List.{get_or-map, length-map, length-take-le, replicate-append-replicate, take_more}
+use Rattle.x7_words.specs.Word.{AreBytes, bytes_of_word, word_of_bytes, words_of_bytes}
+use Rattle.x7_words.proofs.ListLemmas.{all-append, all_take}
+use Rattle.x7_words.proofs.WordLemmas.{bytes-words}
+use Rattle.x7_packets.specs.SyncWord.{sync_bytes}
+use Rattle.x7_packets.specs.declared.header.Step.TheVariants.{Nop}
+use Rattle.x7_packets.specs.declared.cutter.Mode.TheVariants as mode
+use Rattle.x7_packets.specs.Cutting.{AtPlace, CutterState, CutterStandsFor}
+use Rattle.x7_packets.specs.History.{history}
+use Rattle.x7_packets.specs.Nops.{Idles, nop_bytes, nop_word}
+use Rattle.x7_packets.specs.Packet.{Packet}
+use Rattle.x7_packets.specs.Reading.{Place, Searching, Session, Synced, packet_bytes, session_bytes}
+use Rattle.x7_packets.specs.Taking.{Grows, MachineStandsFor, MachineState}
+use Rattle.x7_packets.proofs.CutLemmas.{joined_more, packet_bytes-grown}
+use Rattle.x7_packets.proofs.HistoryLemmas.{grown_goes_on}
+use Rattle.x7_packets.proofs.TakeLemmas.{header_whole}
+
+-- ---- the words of a slice, by its chunks
+
+words_by_chunks : (n : ℕ) (bs : List ℕ) → length bs / 4 ≡ n → words_of_bytes bs ≡ map word_of_bytes (first_chunks 4 n bs)
+words_by_chunks zero [] h = refl
+words_by_chunks zero (a ∷ []) h = refl
+words_by_chunks zero (a ∷ b ∷ []) h = refl
+words_by_chunks zero (a ∷ b ∷ c ∷ []) h = refl
+words_by_chunks zero (a ∷ b ∷ c ∷ d ∷ bs) h = absurd (omega arith)
+words_by_chunks (suc n) [] h = absurd (omega arith)
+words_by_chunks (suc n) (a ∷ []) h = absurd (omega arith)
+words_by_chunks (suc n) (a ∷ b ∷ []) h = absurd (omega arith)
+words_by_chunks (suc n) (a ∷ b ∷ c ∷ []) h = absurd (omega arith)
+words_by_chunks (suc n) (a ∷ b ∷ c ∷ d ∷ bs) h = ap (λ x. word_of_bytes (a ∷ b ∷ c ∷ d ∷ []) ∷ x) (words_by_chunks n bs (omega arith))
+
+-- there are as many chunks as words
+pub chunk_count : (bytes : List ℕ) (chunks : List (List ℕ)) → chunks ≡ first_chunks 4 (length bytes / 4) bytes → length chunks ≡ length (words_of_bytes bytes)
+chunk_count bytes chunks e = sym (ap length (words_by_chunks (length bytes / 4) bytes refl ∙ ap (map word_of_bytes) (sym e)) ∙ length-map chunks word_of_bytes)
+
+pub chunk_more : (bytes : List ℕ) (chunks : List (List ℕ)) (i w : ℕ) → chunks ≡ first_chunks 4 (length bytes / 4) bytes → i < length chunks → w ≡ word_of_bytes (get_or chunks i []) → w ≡ nop_word
+    → take i (words_of_bytes bytes) ≡ replicate i nop_word → take (i + 1) (words_of_bytes bytes) ≡ replicate (i + 1) nop_word
+chunk_more bytes chunks i w e l f n s =
+    let words : words_of_bytes bytes ≡ map word_of_bytes chunks = words_by_chunks (length bytes / 4) bytes refl ∙ ap (map word_of_bytes) (sym e) in
+    let within : i < length (words_of_bytes bytes) = omega (arith, l, chunk_count bytes chunks e) in
+    take_more (words_of_bytes bytes) i 0 within
+    ∙ ap (λ (x : ℕ). take i (words_of_bytes bytes) ++ x ∷ []) (ap (λ t. get_or t i 0) words ∙ get_or-map word_of_bytes chunks i [] 0 l ∙ sym f ∙ n)
+    ∙ ap (λ t. t ++ nop_word ∷ []) s
+    ∙ replicate-append-replicate i 1 nop_word
+
+-- ---- the first words of bytes, and their bytes
+
+words_taken : (k : ℕ) (bytes : List ℕ) → 4 * k ≤ length bytes → words_of_bytes (take (4 * k) bytes) ≡ take k (words_of_bytes bytes)
+words_taken zero bytes l = refl
+words_taken (suc k) [] l = absurd (omega (arith, l))
+words_taken (suc k) (a ∷ []) l = absurd (omega (arith, l))
+words_taken (suc k) (a ∷ b ∷ []) l = absurd (omega (arith, l))
+words_taken (suc k) (a ∷ b ∷ c ∷ []) l = absurd (omega (arith, l))
+words_taken (suc k) (a ∷ b ∷ c ∷ d ∷ bs) l =
+    let four : 4 * suc k ≡ suc (suc (suc (suc (4 * k)))) = omega arith in
+    ap (λ (m : ℕ). words_of_bytes (take m (a ∷ b ∷ c ∷ d ∷ bs))) four
+    ∙ ap (λ t. word_of_bytes (a ∷ b ∷ c ∷ d ∷ []) ∷ t) (words_taken k bs (omega (arith, l)))
+
+pub words_count : (bytes : List ℕ) → 4 * length (words_of_bytes bytes) ≤ length bytes
+words_count [] = omega arith
+words_count (a ∷ []) = omega arith
+words_count (a ∷ b ∷ []) = omega arith
+words_count (a ∷ b ∷ c ∷ []) = omega arith
+words_count (a ∷ b ∷ c ∷ d ∷ bs) = let rest : 4 * length (words_of_bytes bs) ≤ length bs = words_count bs in omega (arith, rest)
+
+pub nops_taken : (k : ℕ) (bytes : List ℕ) → AreBytes bytes → 4 * k ≤ length bytes → take k (words_of_bytes bytes) ≡ replicate k nop_word → take (4 * k) bytes ≡ nop_bytes k
+nops_taken k bytes fits l e =
+    let front : List ℕ = take (4 * k) bytes in
+    let count : length front ≡ 4 * k = length-take-le (4 * k) bytes l in
+    sym (bytes-words front k (all_take (λ b. b < 256) (4 * k) bytes fits) count) ∙ ap (flat_map bytes_of_word) (words_taken k bytes l ∙ e)
+
+-- ---- a machine in a header's place
+
+nop_grows : (m : MachineState) (ps : List Packet) → m.due ≡ 0 → MachineStandsFor m ps → Grows ps ((nop_word, Nop) ∷ []) m
+nop_grows m ps none (inl a) = header_whole m m ps nop_word Nop (omega arith) a refl refl refl none
+nop_grows m ps none (inr a) = absurd (omega (arith, none, a.more))
+
+-- ---- a cutter
+
+record AfterNops (c : CutterState) (bytes : List ℕ) (sessions : List Session) (gap : List ℕ) (packets : List Packet) : Type 0 where
+  all : List Packet
+  stands : CutterStandsFor c bytes sessions (Synced gap all [])
+  nothing : history sessions (Synced gap all []) ≡ history sessions (Synced gap packets [])
+
+one_nop : (c : CutterState) (bytes : List ℕ) (sessions : List Session) (gap : List ℕ) (packets : List Packet) → c.mode ≡ mode.Synced → c.machine.due ≡ 0
+    → CutterStandsFor c bytes sessions (Synced gap packets []) → AfterNops c (bytes ++ bytes_of_word nop_word) sessions gap packets
+one_nop c bytes sessions gap packets synced none s =
+    let word : List ℕ = bytes_of_word nop_word in
+    let h : MachineStandsFor c.machine packets × ([] ≡ c.kept) = rw synced at s.at in
+    let g : Grows packets ((nop_word, Nop) ∷ []) c.machine = nop_grows c.machine packets none h.0 in
+    let fits : AreBytes word = (omega arith, (omega arith, (omega arith, (omega arith, tt)))) in
+    let joined : bytes ++ word ≡ flat_map session_bytes sessions ++ (gap ++ sync_bytes ++ packet_bytes g.packets) =
+    joined_more (flat_map session_bytes sessions) bytes gap [] word (packet_bytes g.packets) (packet_bytes packets) word s.reading.joined
+    (packet_bytes-grown packets g.packets ((nop_word, Nop) ∷ []) g.grown ∙ ap (λ t. packet_bytes packets ++ t) (append-nil word)) refl in
+    record {
+      all = g.packets;
+      stands = record {
+        reading = record {
+          fits = all-append (λ b. b < 256) bytes word s.reading.fits fits;
+          joined = joined ∙ ap (λ t. flat_map session_bytes sessions ++ t) (sym (append-nil (gap ++ sync_bytes ++ packet_bytes g.packets)));
+          each = s.reading.each;
+          ends = (s.reading.ends.0, g.each, g.end, omega arith);
+        };
+        at = rw synced (g.stands, h.1);
+      };
+      nothing = grown_goes_on gap [] packets g.packets ((nop_word, Nop) ∷ []) sessions g.grown;
+    }
+
+all_nops : (k : ℕ) (c : CutterState) (bytes : List ℕ) (sessions : List Session) (gap : List ℕ) (packets : List Packet) → c.mode ≡ mode.Synced → c.machine.due ≡ 0
+    → CutterStandsFor c bytes sessions (Synced gap packets []) → AfterNops c (bytes ++ nop_bytes k) sessions gap packets
+all_nops zero c bytes sessions gap packets synced none s = record { all = packets; stands = subst (λ (b : List ℕ). CutterStandsFor c b sessions (Synced gap packets [])) (sym (append-nil bytes)) s; nothing = refl }
+all_nops (suc k) c bytes sessions gap packets synced none s =
+    let one : AfterNops c (bytes ++ bytes_of_word nop_word) sessions gap packets = one_nop c bytes sessions gap packets synced none s in
+    let more : AfterNops c ((bytes ++ bytes_of_word nop_word) ++ nop_bytes k) sessions gap one.all = all_nops k c (bytes ++ bytes_of_word nop_word) sessions gap one.all synced none one.stands in
+    record {
+      all = more.all;
+      stands = subst (λ (b : List ℕ). CutterStandsFor c b sessions (Synced gap more.all [])) (append_assoc bytes (bytes_of_word nop_word) (nop_bytes k)) more.stands;
+      nothing = more.nothing ∙ one.nothing;
+    }
+
+pub idles_none : (c : CutterState) (bytes : List ℕ) (sessions : List Session) (place : Place) → CutterStandsFor c bytes sessions place → Idles c (bytes ++ []) sessions place
+idles_none c bytes sessions place s = record { new_place = place; stands = subst (λ (b : List ℕ). CutterStandsFor c b sessions place) (sym (append-nil bytes)) s; nothing = refl }
+
+pub idles_nops : (k : ℕ) (c : CutterState) (bytes : List ℕ) (sessions : List Session) (place : Place) → c.mode ≡ mode.Synced → c.kept ≡ [] → c.machine.due ≡ 0 → CutterStandsFor c bytes sessions place → Idles c (bytes ++ nop_bytes k) sessions place
+idles_nops k c bytes sessions (Searching gap) synced empty none s = absurd (let h : AtPlace c mode.Synced (Searching gap) = rw synced at s.at in h)
+idles_nops k c bytes sessions (Synced gap packets tail) synced empty none s =
+    let h : MachineStandsFor c.machine packets × (tail ≡ c.kept) = rw synced at s.at in
+    let bare : tail ≡ [] = h.1 ∙ empty in
+    let a : AfterNops c (bytes ++ nop_bytes k) sessions gap packets = all_nops k c bytes sessions gap packets synced none (subst (λ (t : List ℕ). CutterStandsFor c bytes sessions (Synced gap packets t)) bare s) in
+    record { new_place = Synced gap a.all []; stands = a.stands; nothing = a.nothing ∙ ap (λ (t : List ℕ). history sessions (Synced gap packets t)) (sym bare) }

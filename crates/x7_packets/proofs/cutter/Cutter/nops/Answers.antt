@@ -1,0 +1,10 @@
+use Rattle.std.proofs.Common.{ℕ, List, ◌++◌, refl, sym, subst}
+use Rattle.x7_packets.specs.Nops.{Idles}
+use Rattle.x7_packets.proofs.NopLemmas.{idles_nops}
+use Rattle.x7_packets.proofs.cutter.Cutter.nops.Goals as goal
+
+pub returns-clause-idles : goal.returns-clause-idles
+returns-clause-idles c = λ bytes sessions place s.
+    let here = c.if-not-is_at_header.ensures in
+    subst (λ (t : List ℕ). Idles c.args.self.now (bytes ++ t) sessions place) (sym c.count_nops.ensures.nops)
+    (idles_nops c.count_nops.result c.args.self.now bytes sessions place (here.mode refl) (here.kept refl) (here.due refl) s)
