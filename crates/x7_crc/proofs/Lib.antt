@@ -1,4 +1,5 @@
 pub mod CheckLemmas
+pub mod CheckerLemmas
 pub mod PolynomialLemmas
 pub mod ShiftLemmas
 pub mod TableLemmas

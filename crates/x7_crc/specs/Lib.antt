@@ -1,3 +1,4 @@
+pub mod Checking
 pub mod CheckTable
 pub mod OpenWrites
 pub mod Polynomial

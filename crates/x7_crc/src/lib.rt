@@ -2,10 +2,12 @@
 #![tactic(auto)]
 
 mod check;
+mod checker;
 mod law;
 mod table;
 #[cfg(test)]
 mod tests;
 
 pub use check::{fold, fold_slice};
+pub use checker::Checker;
 pub use law::{checks_are_linear, checks_are_remainders, checks_continue, checks_of_histories};

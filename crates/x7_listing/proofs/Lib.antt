@@ -1,6 +1,14 @@
+pub mod AssemblyLemmas
 pub mod FrontLemmas
 pub mod GapLemmas
+pub mod GuessLemmas
+pub mod LineLemmas
+pub mod ListedLemmas
+pub mod NameLemmas
+pub mod OutcomeLemmas
 pub mod PlaceLemmas
+pub mod RoundLemmas
 pub mod RunLemmas
 pub mod SessionLemmas
+pub mod StandLemmas
 pub mod TakeLemmas

@@ -1,3 +1,6 @@
+pub mod Assembly
 pub mod HeadLine
+pub mod Line
+pub mod Listed
 pub mod Listing
 pub mod Telling

@@ -1,6 +1,11 @@
 //! Laws of the definitions.
-ghost use Rattle.std.specs.Prelude.{◌≡◌, ℕ, List, [], ◌++◌};
+ghost use Rattle.std.specs.Prelude.{◌≡◌, ◌≤◌, ℕ, List, [], ◌++◌, length, true, Result, Ok};
 ghost use Rattle.x7_words.specs.Word.{AreBytes};
+ghost use Rattle.x7_text.specs.Lines.{has_no_end};
+ghost use Rattle.x7_listing.specs.Assembly.{asm_limit, IsAsm};
+ghost use Rattle.x7_listing.specs.declared.assembler.AsmFault.{AsmFault};
+ghost use Rattle.x7_listing.specs.Line.{FitsLine, IsLine, IsListed, Line, text_of};
+ghost use Rattle.x7_listing.specs.Listed.{listing_lines, texts_of};
 ghost use Rattle.x7_listing.specs.Listing.{IsListing, listing_of};
 ghost use Rattle.x7_listing.specs.Telling.{ListerStandsFor, ListerState};
 
@@ -13,4 +18,29 @@ pub fn one_listing()
 pub fn told_is_a_front()
     ensures { (l : ListerState) (given bytes rest : List ℕ) → ListerStandsFor l given [] bytes → AreBytes (bytes ++ rest)
         → (more : List ℕ) × (listing_of (bytes ++ rest) ≡ given ++ l.text ++ more) }
+{}
+
+/// A text is that of at most one line.
+pub fn one_line()
+    ensures { (text : List ℕ) (a b : Line) → IsLine text a → IsLine text b → a ≡ b }
+{}
+
+/// A listing is the joined texts of its lines.
+pub fn listing_is_of_lines()
+    ensures { (bytes : List ℕ) → texts_of (listing_lines bytes) ≡ listing_of bytes }
+{}
+
+/// The text of a line of a listing holds no line end.
+pub fn lines_hold_no_end()
+    ensures { (line : Line) → FitsLine line → IsListed line → has_no_end (text_of line) ≡ true }
+{}
+
+/// A listing assembles back to the bytes that it is of.
+pub fn listing_assembles_back()
+    ensures { (bytes : List ℕ) → AreBytes bytes → length bytes ≤ asm_limit → IsAsm (listing_of bytes) (Ok bytes) }
+{}
+
+/// A text assembles to one outcome.
+pub fn one_outcome()
+    ensures { (text : List ℕ) (a b : Result (List ℕ) AsmFault) → IsAsm text a → IsAsm text b → a ≡ b }
 {}

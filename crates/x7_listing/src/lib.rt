@@ -1,13 +1,19 @@
-//! The listing of a configuration stream, as it comes.
+//! The listing of a configuration stream as it comes, and a listing assembled back to its bytes.
 #![tactic(auto)]
 
+mod assembler;
 mod laws;
 mod line;
 mod lister;
 mod pen;
+mod reading;
 #[cfg(test)]
 mod tests;
 
-pub use laws::{one_listing, told_is_a_front};
+pub use assembler::{ASM_LIMIT, AsmFault, assemble};
+pub use laws::{
+    lines_hold_no_end, listing_assembles_back, listing_is_of_lines, one_line, one_listing,
+    one_outcome, told_is_a_front,
+};
 pub use line::HeadLine;
 pub use lister::Lister;

@@ -1,4 +1,4 @@
-use Rattle.std.proofs.Common.{◌≡◌, [], ◌∷◌, ap, sym, ◌∙◌, ◌++◌, arith}
+use Rattle.std.proofs.Common.{◌≡◌, [], ◌∷◌, ap, sym, ◌∙◌, arith}
 use Rattle.x7_text.proofs.AppendsLemmas.{appends_as}
 use Rattle.x7_words.specs.Word.{words_of_bytes}
 use Rattle.x7_packets.specs.Packet.{payload_steps}
@@ -16,5 +16,5 @@ pub returns-clause-count : goal.returns-clause-count
 returns-clause-count c = c.put_words.ensures.count ∙ sym (data_place c.args.register c.args.in_line (words_of_bytes c.args.body.now) (is_data c.args.register c.if-register-eq4.false))
 
 pub returns-clause-appends : goal.returns-clause-appends
-returns-clause-appends c = 
+returns-clause-appends c =
     appends_as _ _ _ _ _ _ c.put_words.ensures.appends (sym (data_told c.args.register c.args.in_line (words_of_bytes c.args.body.now) (is_data c.args.register c.if-register-eq4.false))) (omega arith)

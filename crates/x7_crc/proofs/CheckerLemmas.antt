@@ -1,0 +1,132 @@
+-- The check after a written word, a run and a piece.
+use Rattle.std.proofs.Common.{◌≡◌, ◌==◌, ◌||◌, ◌≤◌, ◌<◌, ◌^◌, Bool, ◌+◌, ◌-◌, ◌*◌, ℕ, true, false, [], ◌∷◌, ◌++◌, List, length, take, drop, refl, sym, ap, subst, ◌∙◌, lit<, arith, append_assoc, take-add, take_all, min, length-drop, length-append}
+use Rattle.std.proofs.lemmas.List.{take-append-drop, take-append-le}
+use Rattle.x7_packets.specs.Cutting.{between, CutterState, CutterStandsFor, Goes, run_steps, Went}
+use Rattle.x7_packets.specs.History.{command_held, entered_all, entry, executes, History, history_of, next_word, Write}
+use Rattle.x7_packets.specs.Packet.{payload_steps}
+use Rattle.x7_packets.specs.Reading.{Place, Session}
+use Rattle.x7_packets.specs.RunningCheck.{clears, open_writes}
+use Rattle.x7_packets.specs.declared.cutter.Cut.{Cut}
+use Rattle.x7_packets.specs.declared.cutter.Cut.TheVariants.{Need}
+use Rattle.x7_packets.proofs.HistoryLemmas.{cut_enters, next_word-is}
+use Rattle.x7_crc.specs.OpenWrites.{in_order, running_check}
+use Rattle.x7_crc.specs.RunningCheck.{check_after, writes_to}
+use Rattle.x7_crc.proofs.CheckLemmas.{check_after-append, check_after-none, check_after_fits, check_of-more}
+use Rattle.x7_crc.specs.Checking.{check_of_bytes, has_effect, Checks, IsSum, CheckerState, Keeps}
+
+pub check-none : running_check [] ≡ 0
+check-none = check_after-none 0 (lit< tt)
+
+pub check-cleared : (h : History) (register word place : ℕ) → clears h (Write register word) ≡ true → running_check (entry (Write register word) place ∷ h) ≡ 0
+check-cleared h register word place e = rw e (check_after-none 0 (lit< tt))
+
+pub check-folded : (h : History) (register word place : ℕ) → clears h (Write register word) ≡ false → (register == 8) ≡ false → running_check (entry (Write register word) place ∷ h) ≡ check_after (running_check h) ((register, word) ∷ [])
+check-folded h register word place e n = rw (e, n) (sym (check_of-more (running_check h) (in_order (open_writes h)) ((register, word) ∷ []) refl))
+
+-- a write that executes RCRC
+pub check-reset : (h : History) (register word place : ℕ) → executes 7 h (Write register word) ≡ true → running_check (entry (Write register word) place ∷ h) ≡ 0
+check-reset h register word place e = check-cleared h register word place (ap (λ b. b || (register == 0)) e)
+
+-- any other write but one to CRC
+pub kept-open : (h : History) (register word : ℕ) → executes 7 h (Write register word) ≡ false → (register == 0) ≡ false → clears h (Write register word) ≡ false
+kept-open h register word e n = ap (λ b. b || (register == 0)) e ∙ n
+
+-- one payload word more
+pub entered-more : (register n : ℕ) (ws : List ℕ) (w : ℕ) (h : History) → entered_all n (payload_steps register (ws ++ w ∷ [])) h ≡ entry (Write register w) (n + 4 * length ws + 4) ∷ entered_all n (payload_steps register ws) h
+entered-more register n [] w h = let e : n + 4 ≡ n + 4 * 0 + 4 = omega arith in ap (λ (k : ℕ). entry (Write register w) k ∷ h) e
+entered-more register n (v ∷ ws) w h = let e : n + 4 + 4 * length ws + 4 ≡ n + 4 * length (v ∷ ws) + 4 = omega arith in
+    entered-more register (n + 4) ws w (entry (Write register v) (n + 4) ∷ h) ∙ ap (λ (k : ℕ). entry (Write register w) k ∷ entered_all (n + 4) (payload_steps register ws) (entry (Write register v) (n + 4) ∷ h)) e
+
+reached : (piece : List ℕ) (at to : ℕ) → at ≤ to → take at piece ++ between piece at to ≡ take to piece
+reached piece at to h = let e : at + (to - at) ≡ to = omega arith in sym (take-add at (to - at) piece) ∙ ap (λ (k : ℕ). take k piece) e
+
+-- a call of the cutter, and the sum after its run
+pub took : (c d : CutterState) (run : Cut) (check held check2 held2 at to : ℕ) (bytes piece : List ℕ)
+    → Checks c check held (bytes ++ take at piece) → at ≤ to
+    → ((bs : List ℕ) (sessions : List Session) (spot : Place) → CutterStandsFor c bs sessions spot → Went c d (bs ++ between piece at to) sessions spot run)
+    → ((h : History) (n : ℕ) → IsSum check held h → IsSum check2 held2 (entered_all n (run_steps run) h))
+    → Checks d check2 held2 (bytes ++ take to piece)
+took c d run check held check2 held2 at to bytes piece s h went after =
+    let old : List ℕ = bytes ++ take at piece in
+    let more : List ℕ = between piece at to in
+    let w : Went c d (bytes ++ take at piece ++ between piece at to) s.sessions s.place run = went (bytes ++ take at piece) s.sessions s.place s.stands in
+    let n : ℕ = next_word s.sessions s.place in
+    let grown : history_of (bytes ++ take at piece ++ between piece at to) ≡ entered_all (next_word s.sessions s.place) (run_steps run) (history_of (bytes ++ take at piece)) =
+    cut_enters c d (bytes ++ take at piece) (between piece at to) s.sessions s.place run (next_word s.sessions s.place) s.stands w (next_word-is (bytes ++ take at piece) s.sessions s.place s.stands.reading) in
+    let e : bytes ++ take at piece ++ between piece at to ≡ bytes ++ take to piece = append_assoc bytes (take at piece) (between piece at to) ∙ ap (λ t. bytes ++ t) (reached piece at to h) in
+    let all : Checks d check2 held2 (bytes ++ take at piece ++ between piece at to) = record {
+      sessions = w.new_sessions;
+      place = w.new_place;
+      stands = w.stands;
+      sum = subst (λ (g : History). IsSum check2 held2 g) (sym grown) (after (history_of (bytes ++ take at piece)) (next_word s.sessions s.place) s.sum);
+    } in
+    subst (λ t. Checks d check2 held2 t) e all
+
+-- the last call, with the piece used up
+pub took_all : (c d : CutterState) (run : Cut) (check held at to : ℕ) (bytes piece : List ℕ)
+    → Checks c check held (bytes ++ take at piece) → at ≤ to → length piece ≤ to → run ≡ Need
+    → ((bs : List ℕ) (sessions : List Session) (spot : Place) → CutterStandsFor c bs sessions spot → Went c d (bs ++ between piece at to) sessions spot run)
+    → Checks d check held (bytes ++ piece)
+took_all c d run check held at to bytes piece s h full is went =
+    let went2 : (bs : List ℕ) (sessions : List Session) (spot : Place) → CutterStandsFor c bs sessions spot → Went c d (bs ++ between piece at to) sessions spot Need =
+    λ bs sessions spot t. subst (λ r. Went c d (bs ++ between piece at to) sessions spot r) is (went bs sessions spot t) in
+    subst (λ t. Checks d check held (bytes ++ t)) (take_all to piece full) (took c d Need check held check held at to bytes piece s h went2 (λ g n t. t))
+
+whole : (bytes : List ℕ) (taken m : ℕ) → taken ≤ length bytes → m ≡ min taken (length bytes) → take taken bytes ++ take (length bytes - m) (drop m bytes) ≡ bytes
+whole bytes taken m h e =
+    let same : m ≡ taken = omega arith in
+    ap (λ (j : ℕ). take taken bytes ++ take (length bytes - j) (drop j bytes)) same
+    ∙ ap (λ t. take taken bytes ++ t) (take_all (length bytes - taken) (drop taken bytes) (omega (arith, length-drop taken bytes))) ∙ take-append-drop taken bytes
+
+-- all bytes are taken
+pub caught-up : (c d : CheckerState) (m : ℕ) (bytes : List ℕ) → m ≡ min c.taken (length bytes) → d.taken ≡ length bytes → Keeps c bytes
+    → ((bs : List ℕ) → Checks c.cutter c.check c.held bs → Checks d.cutter d.check d.held (bs ++ take (length bytes - m) (drop m bytes)))
+    → (d.check ≡ check_of_bytes bytes) × Keeps d bytes
+caught-up c d m bytes e f k took =
+    let all : Checks d.cutter d.check d.held bytes = subst (λ t. Checks d.cutter d.check d.held t) (whole bytes c.taken m k.within e) (took (take c.taken bytes) k.checks) in
+    (all.sum.check_is, record { within = omega (arith, f); checks = subst (λ t. Checks d.cutter d.check d.held t) (sym (take_all d.taken bytes (omega (arith, f)))) all })
+
+-- more bytes
+pub still-keeps : (c : CheckerState) (bytes more new : List ℕ) → new ≡ bytes ++ more → Keeps c bytes → Keeps c new
+still-keeps c bytes more new e k =
+    subst (λ t. Keeps c t) (sym e) (record { within = omega (arith, k.within, length-append bytes more); checks = subst (λ t. Checks c.cutter c.check c.held t) (sym (take-append-le c.taken bytes more k.within)) k.checks })
+
+-- a call that needs more bytes has used the piece up
+pub used_up : (run : Cut) (left before after : ℕ) → run ≡ Need → Goes run left before after → left ≡ 0
+used_up run left before after e g = rw e at g
+
+none-of : (a b c d : Bool) → (a || b || c || d) ≡ false → (a ≡ false) × (b ≡ false) × (c ≡ false) × (d ≡ false)
+none-of true b c d e = absurd cc
+none-of false true c d e = absurd cc
+none-of false false true d e = absurd cc
+none-of false false false true e = absurd cc
+none-of false false false false e = (refl, refl, refl, refl)
+
+plain-open : (register : ℕ) (h : History) (w : ℕ) → (register == 0) ≡ false → (register == 1) ≡ false → (register == 4) ≡ false → clears h (Write register w) ≡ false
+plain-open register h w a b d = rw (d, b, a) refl
+
+check_fits : (h : History) → running_check h < 2 ^ 32
+check_fits h = check_after_fits 0 (in_order (open_writes h))
+
+check-all : (register n : ℕ) (ws : List ℕ) (h : History) → (register == 8) ≡ false → ((h : History) (w : ℕ) → clears h (Write register w) ≡ false)
+    → running_check (entered_all n (payload_steps register ws) h) ≡ check_after (running_check h) (writes_to register ws)
+check-all register n [] h e f = sym (check_after-none (running_check h) (check_fits h))
+check-all register n (w ∷ ws) h e f =
+    check-all register (n + 4) ws (entry (Write register w) (n + 4) ∷ h) e f
+    ∙ ap (λ (c : ℕ). check_after c (writes_to register ws)) (check-folded h register w (n + 4) (f h w) e)
+    ∙ sym (check_after-append (running_check h) ((register, w) ∷ []) (writes_to register ws) (check_fits h))
+
+held-one : (register : ℕ) (w place : ℕ) (h : History) → (register == 4) ≡ false → command_held (entry (Write register w) place ∷ h) ≡ command_held h
+held-one register w place h e = rw e refl
+
+held-all : (register n : ℕ) (ws : List ℕ) (h : History) → (register == 4) ≡ false → command_held (entered_all n (payload_steps register ws) h) ≡ command_held h
+held-all register n [] h e = refl
+held-all register n (w ∷ ws) h e = held-all register (n + 4) ws (entry (Write register w) (n + 4) ∷ h) e ∙ held-one register w (n + 4) h e
+
+pub plain-sum : (register n check held folded : ℕ) (ws : List ℕ) (h : History) → has_effect register ≡ false → folded ≡ check_after check (writes_to register ws) → IsSum check held h → IsSum folded held (entered_all n (payload_steps register ws) h)
+plain-sum register n check held folded ws h plain e s =
+    let p = none-of (register == 0) (register == 1) (register == 4) (register == 8) plain in
+    record {
+      check_is = e ∙ ap (λ (c : ℕ). check_after c (writes_to register ws)) s.check_is ∙ sym (check-all register n ws h p.3 (λ g w. plain-open register g w p.0 p.1 p.2));
+      held_is = s.held_is ∙ sym (held-all register n ws h p.2);
+    }

@@ -1,0 +1,9 @@
+use Rattle.std.proofs.Common.{refl, sym, ◌∙◌}
+use Rattle.x7_crc.proofs.CheckerLemmas.{check-cleared, check-reset}
+use Rattle.x7_crc.proofs.checker.check_after.Goals as goal
+
+pub returns-then-reset : goal.returns-then-reset
+returns-then-reset c = λ h place e f. sym (check-reset h c.args.register c.args.w place (sym f ∙ c.if-reset.true))
+
+pub returns-in-0 : goal.returns-in-0
+returns-in-0 c = λ h place e f. rw c.in-0.is (sym (check-cleared h 0 c.args.w place refl))

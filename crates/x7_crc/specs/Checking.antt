@@ -1,0 +1,40 @@
+-- The check of a byte list as a stream, and what a value that keeps it stands for (this project's choice: it goes on
+-- across sessions and after a faulty word).
+use Rattle.std.specs.Prelude.{◌==◌, ◌||◌, Bool, ◌≡◌, ◌≤◌, ℕ, List, length, take}
+use Rattle.x7_packets.specs.Cutting.{CutterState, CutterStandsFor}
+use Rattle.x7_packets.specs.History.{command_held, History, history_of}
+use Rattle.x7_packets.specs.Reading.{Place, Session}
+use Rattle.x7_crc.specs.OpenWrites.{running_check}
+
+-- the running check of all writes of the bytes
+abbrev pub check_of_bytes : List ℕ → ℕ
+check_of_bytes bytes = running_check (history_of bytes)
+
+-- the check of a history, and the command that CMD holds
+pub record IsSum (check held : ℕ) (h : History) : Type 0 where
+  pub check_is : check ≡ running_check h
+  pub held_is : held ≡ command_held h
+
+-- the same of the history of these bytes, which the cutter took
+pub record Checks (cutter : CutterState) (check held : ℕ) (bytes : List ℕ) : Type 0 where
+  pub sessions : List Session
+  pub place : Place
+  pub stands : CutterStandsFor cutter bytes sessions place
+  pub sum : IsSum check held (history_of bytes)
+
+-- what a checker keeps
+pub record CheckerState : Type 0 where
+  pub cutter : CutterState
+  pub check : ℕ
+  pub held : ℕ
+  -- how many bytes were taken
+  pub taken : ℕ
+
+-- a checker of these bytes, which has taken the first of them
+pub record Keeps (c : CheckerState) (bytes : List ℕ) : Type 0 where
+  pub within : c.taken ≤ length bytes
+  pub checks : Checks c.cutter c.check c.held (take c.taken bytes)
+
+-- a write to this register may do more than lengthen the check: CRC and FAR and CMD, and LOUT, which is left out
+abbrev pub has_effect : ℕ → Bool
+has_effect register = register == 0 || register == 1 || register == 4 || register == 8

@@ -1,0 +1,166 @@
+//! The running check of a stream's bytes, as they come.
+ghost use Rattle.std.specs.Prelude.{◌≡◌, ℕ, List, [], ◌∷◌, ◌++◌, ◌<◌, ◌%◌, length, Some, ◌||◌, ◌&&◌, ◌==◌, not, if◌then◌else◌};
+ghost use Rattle.x7_words.specs.Word.{words_of_bytes};
+ghost use Rattle.x7_packets.specs.Cutting.{IsRun, run_steps};
+ghost use Rattle.x7_packets.specs.History.{command_held, entered_all, entry, executed_by, executes, History, is_command, Write};
+ghost use Rattle.x7_packets.specs.Packet.{payload_steps};
+ghost use Rattle.x7_crc.specs.OpenWrites.{running_check};
+ghost use Rattle.x7_crc.specs.Checking.{check_of_bytes, has_effect, IsSum, Checks, Keeps};
+
+use crate::check::{fold, fold_slice};
+use std::marker::Model;
+use x7_packets::{Cut, Cutter};
+use x7_words::word_of;
+
+/// The check, and the command that CMD holds.
+#[derive(Clone, Copy)]
+pub(crate) struct Sum {
+    check: u32,
+    held: u32,
+}
+
+/// Whether a written word executes RCRC.
+fn executes_rcrc(held: u32, register: u8, w: u32) -> bool
+    ensures { result ≡ is_command 7 (executed_by held (Write register w)) }
+{
+    match register {
+        4 => w & 31 == 7,
+        1 => held == 7,
+        _ => false,
+    }
+}
+
+/// The command that CMD holds after a written word.
+fn held_after(held: u32, register: u8, w: u32) -> u32
+    ensures { (h : History) (place : ℕ) → held ≡ command_held h → result ≡ command_held (entry (Write register w) place ∷ h) }
+{
+    if register == 4 { w & 31 } else { held }
+}
+
+/// The check after a written word, where it executes RCRC or not. LOUT is not folded (this project's choice).
+fn check_after(check: u32, register: u8, w: u32, reset: bool) -> u32
+    requires { register < 32 }
+    ensures { (h : History) (place : ℕ) → check ≡ running_check h → reset ≡ executes 7 h (Write register w) → result ≡ running_check (entry (Write register w) place ∷ h) }
+{
+    if reset {
+        return 0;
+    }
+    match register {
+        0 => 0,
+        8 => check,
+        _ => fold(check, register, w),
+    }
+}
+
+/// The sum after a written word.
+fn written(sum: Sum, register: u8, w: u32) -> Sum
+    requires { register < 32 }
+    ensures { (h : History) (place : ℕ) → IsSum sum.check sum.held h → IsSum result.check result.held (entry (Write register w) place ∷ h) }
+{
+    Sum {
+        check: check_after(sum.check, register, w, executes_rcrc(sum.held, register, w)),
+        held: held_after(sum.held, register, w),
+    }
+}
+
+/// The sum after words written to one register, word by word.
+fn written_each(sum: Sum, register: u8, bytes: &[u8]) -> Sum
+    requires register { register < 32 }
+    requires whole { length bytes.now % 4 ≡ 0 }
+    ensures { (h : History) (n : ℕ) → IsSum sum.check sum.held h → IsSum result.check result.held (entered_all n (payload_steps register (words_of_bytes bytes.now)) h) }
+{
+    let (words, _) = bytes.as_chunks::<4>();
+    let mut now = sum;
+    for word in words {
+        now = written(now, register, word_of(*word));
+    }
+    now
+}
+
+/// Whether a write to the register may change more than the check by one more write.
+fn has_effect(register: u8) -> bool
+    ensures { result ≡ has_effect register }
+{
+    register == 0 || register == 1 || register == 4 || register == 8
+}
+
+/// The sum after words written to one register.
+fn written_all(sum: Sum, register: u8, bytes: &[u8]) -> Sum
+    requires register { register < 32 }
+    requires whole { length bytes.now % 4 ≡ 0 }
+    ensures { (h : History) (n : ℕ) → IsSum sum.check sum.held h → IsSum result.check result.held (entered_all n (payload_steps register (words_of_bytes bytes.now)) h) }
+{
+    if has_effect(register) {
+        return written_each(sum, register, bytes);
+    }
+    Sum {
+        check: fold_slice(sum.check, register, bytes),
+        held: sum.held,
+    }
+}
+
+/// The sum after a run.
+fn after(sum: Sum, run: Cut) -> Sum
+    requires { IsRun run }
+    ensures { (h : History) (n : ℕ) → IsSum sum.check sum.held h → IsSum result.check result.held (entered_all n (run_steps run.entry) h) }
+{
+    match run {
+        Cut::Word(register, w) => written(sum, register, w),
+        Cut::Body(register, bytes) => written_all(sum, register, bytes),
+        Cut::Need | Cut::Skip(_) | Cut::Sync | Cut::Head(..) => sum,
+    }
+}
+
+/// Keeps the check of bytes that grow at their end: each byte is taken once.
+#[derive(Drop)]
+pub struct Checker {
+    cutter: Cutter,
+    sum: Sum,
+    taken: usize,
+}
+
+impl Model for Checker {
+    ghost use Rattle.x7_crc.specs.Checking.{CheckerState};
+
+    ghost Value = { CheckerState };
+
+    ghost view = { λ c. record { cutter = c.cutter; check = c.sum.check; held = c.sum.held; taken = c.taken } };
+}
+
+impl Checker {
+    /// One of no bytes.
+    pub fn new() -> Checker
+        ensures { Keeps result [] }
+    {
+        Checker {
+            cutter: Cutter::new(),
+            sum: Sum { check: 0, held: 0 },
+            taken: 0,
+        }
+    }
+
+    /// The check of the bytes, which begin with those of the call before.
+    pub fn check_of(&mut self, bytes: &[u8]) -> u32
+        ensures { Keeps self.old bytes.now → (result ≡ check_of_bytes bytes.now) × Keeps self.new bytes.now }
+    {
+        let taken = self.taken.min(bytes.len());
+        self.sum = take_all(&mut self.cutter, self.sum, &bytes[taken..]);
+        self.taken = bytes.len();
+        self.sum.check
+    }
+}
+
+/// The sum after a whole piece.
+fn take_all(cutter: &mut Cutter, sum: Sum, piece: &[u8]) -> Sum
+    ensures { (bytes : List ℕ) → Checks cutter.old sum.check sum.held bytes → Checks cutter.new result.check result.held (bytes ++ piece.now) }
+{
+    let mut now = sum;
+    let mut at = 0;
+    loop {
+        let run = cutter.cut(piece, &mut at);
+        if let Cut::Need = run {
+            return now;
+        }
+        now = after(now, run);
+    }
+}

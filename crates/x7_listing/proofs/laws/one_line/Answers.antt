@@ -1,0 +1,5 @@
+use Rattle.x7_listing.proofs.GuessLemmas.{one-line}
+use Rattle.x7_listing.proofs.laws.one_line.Goals as goal
+
+pub returns : goal.returns
+returns c = one-line

@@ -1,0 +1,94 @@
+-- The lines of an assembly text, the text of each and the bytes that it stands for (this project's choice).
+use Rattle.std.specs.Prelude.{◌≡◌, ℕ, ◌+◌, ◌*◌, ◌^◌, ◌<◌, List, [], ◌∷◌, ◌++◌, codes, decimal}
+use Rattle.std.specs.List.{flat_map}
+use Rattle.x7_words.specs.Word.{bytes_of_word}
+use Rattle.x7_regs.specs.Register.{reg_name}
+use Rattle.x7_regs.specs.Command.{code_of, command_name_of}
+use Rattle.x7_regs.specs.declared.command.Command.{Command}
+use Rattle.x7_text.specs.Digits.{hex_byte, hex_word}
+use Rattle.x7_text.specs.Row.{IsByteRow, IsWordRow, spaced}
+
+-- a line: nothing, a comment, bytes, a header word, payload words, a command, or the check of the bytes of the lines before
+pub data Line : Type 0 where
+  Empty : Line
+  Comment : (text : List ℕ) → Line
+  Bytes : (bytes : List ℕ) → Line
+  Sync : Line
+  Nop : Line
+  Write : (register count : ℕ) → Line
+  Read : (register count : ℕ) → Line
+  Write2 : (count : ℕ) → Line
+  Read2 : (count : ℕ) → Line
+  Word : (word : ℕ) → Line
+  Data : (words : List ℕ) → Line
+  Cmd : (command : Command) → Line
+  Check : Line
+
+-- the text of a line, without its end
+abbrev pub text_of : Line → List ℕ
+text_of Empty = []
+text_of (Comment text) = 35 ∷ text
+text_of (Bytes bytes) = codes "bytes " ++ flat_map hex_byte bytes
+text_of Sync = codes "sync"
+text_of Nop = codes "nop"
+text_of (Write register count) = codes "write " ++ reg_name register ++ 32 ∷ decimal count
+text_of (Read register count) = codes "read " ++ reg_name register ++ 32 ∷ decimal count
+text_of (Write2 count) = codes "write2 " ++ decimal count
+text_of (Read2 count) = codes "read2 " ++ decimal count
+text_of (Word word) = codes "word " ++ hex_word word
+text_of (Data words) = codes "data" ++ flat_map spaced words
+text_of (Cmd command) = codes "cmd " ++ command_name_of command
+text_of Check = codes "crc"
+
+-- a register's number and a word count
+abbrev pub IsAccess : ℕ × ℕ → Type 0
+IsAccess a = (a.0 < 32) × (a.1 < 2 ^ 11)
+
+abbrev pub access_text : ℕ × ℕ → List ℕ
+access_text a = reg_name a.0 ++ 32 ∷ decimal a.1
+
+-- a line that is one word, or empty
+abbrev pub IsPlain : Line → Type 0
+IsPlain Empty = Unit {0}
+IsPlain Sync = Unit {0}
+IsPlain Nop = Unit {0}
+IsPlain Check = Unit {0}
+IsPlain _ = ⊥
+
+-- the numbers of a line have the width of their fields, and rows are rows
+abbrev pub FitsLine : Line → Type 0
+FitsLine (Bytes bytes) = IsByteRow bytes
+FitsLine (Write register count) = (register < 32) × (count < 2 ^ 11)
+FitsLine (Read register count) = (register < 32) × (count < 2 ^ 11)
+FitsLine (Write2 count) = count < 2 ^ 27
+FitsLine (Read2 count) = count < 2 ^ 27
+FitsLine (Word word) = word < 2 ^ 32
+FitsLine (Data words) = IsWordRow words
+FitsLine _ = Unit {0}
+
+-- the text is that of this line
+pub record IsLine (text : List ℕ) (line : Line) : Type 0 where
+  pub fits : FitsLine line
+  pub is : text ≡ text_of line
+
+-- the bytes that a line stands for, where the bytes of the lines before have this check
+abbrev pub bytes_of : ℕ → Line → List ℕ
+bytes_of check Empty = []
+bytes_of check (Comment text) = []
+bytes_of check (Bytes bytes) = bytes
+bytes_of check Sync = bytes_of_word 0xAA995566
+bytes_of check Nop = bytes_of_word 0x20000000
+bytes_of check (Write register count) = bytes_of_word (0x30000000 + 8192 * register + count)
+bytes_of check (Read register count) = bytes_of_word (0x28000000 + 8192 * register + count)
+bytes_of check (Write2 count) = bytes_of_word (0x50000000 + count)
+bytes_of check (Read2 count) = bytes_of_word (0x48000000 + count)
+bytes_of check (Word word) = bytes_of_word word
+bytes_of check (Data words) = flat_map bytes_of_word words
+bytes_of check (Cmd command) = bytes_of_word (code_of command)
+bytes_of check Check = bytes_of_word 0x30000001 ++ bytes_of_word check
+
+-- the line is neither a comment nor the check, as each line of a listing
+abbrev pub IsListed : Line → Type 0
+IsListed (Comment text) = ⊥
+IsListed Check = ⊥
+IsListed _ = Unit {0}

@@ -1,0 +1,59 @@
+-- The lines of a listing (this project's choice).
+use Rattle.std.specs.Prelude.{ℕ, ◌==◌, if◌then◌else◌, List, [], ◌∷◌, ◌++◌, map}
+use Rattle.std.specs.List.{flat_map}
+use Rattle.x7_packets.specs.Packet.{Packet, named_by}
+use Rattle.x7_packets.specs.Reading.{Place, Searching, Synced, Session}
+use Rattle.x7_packets.specs.ByHand.{reading_of}
+use Rattle.x7_regs.specs.Command.{code_of, command_by}
+use Rattle.x7_text.specs.Row.{rows}
+use Rattle.x7_listing.specs.HeadLine.{head_line}
+use Rattle.x7_listing.specs.declared.line.HeadLine.{HeadLine}
+use Rattle.x7_listing.specs.declared.line.HeadLine.TheVariants as head
+use Rattle.x7_listing.specs.Line.{Line, Bytes, Sync, Nop, Write, Read, Write2, Read2, Word, Data, Cmd, text_of}
+
+-- the text of a line with its end, and of lines
+abbrev pub ended_text : Line → List ℕ
+ended_text l = text_of l ++ 10 ∷ []
+
+abbrev pub texts_of : List Line → List ℕ
+texts_of ls = flat_map ended_text ls
+
+-- a word's line in a header's place
+abbrev pub line_as : HeadLine → Line
+line_as head.Nop = Nop
+line_as head.Sync = Sync
+line_as (head.Write register count) = Write register count
+line_as (head.Read register count) = Read register count
+line_as (head.Write2 count) = Write2 count
+line_as (head.Read2 count) = Read2 count
+line_as (head.Word w) = Word w
+
+-- a payload word of CMD
+abbrev pub cmd_line : ℕ → Line
+cmd_line w = if code_of (command_by w) == w then Cmd (command_by w) else Data (w ∷ [])
+
+abbrev pub payload_lines : ℕ → List ℕ → List Line
+payload_lines register ws = if register == 4 then map cmd_line ws else map Data (rows 8 ws)
+
+abbrev pub packet_lines : Packet → List Line
+packet_lines p = line_as (head_line p.step p.head) ∷ payload_lines (named_by p.step) p.payload
+
+abbrev pub gap_lines : List ℕ → List Line
+gap_lines bs = map Bytes (rows 32 bs)
+
+abbrev pub packets_lines : List ℕ → List Packet → List Line
+packets_lines gap packets = gap_lines gap ++ Sync ∷ flat_map packet_lines packets
+
+abbrev pub session_lines : Session → List Line
+session_lines s = packets_lines s.gap s.packets
+
+abbrev pub place_lines : Place → List Line
+place_lines (Searching gap) = gap_lines gap
+place_lines (Synced gap packets tail) = packets_lines gap packets ++ gap_lines tail
+
+abbrev pub reading_lines : List Session → Place → List Line
+reading_lines sessions place = flat_map session_lines sessions ++ place_lines place
+
+-- the lines of the listing of bytes
+abbrev pub listing_lines : List ℕ → List Line
+listing_lines bytes = reading_lines (reading_of bytes).sessions (reading_of bytes).place

@@ -1,0 +1,97 @@
+use crate::{AsmFault, Lister, assemble};
+use std::alloc::Global;
+use std::process::Abort;
+use std::test::Fail;
+
+/// The text assembles to these bytes.
+fn assert_bytes(rt: &impl Abort, alloc: Global, text: &[u8], want: &[u8]) {
+    match assemble(alloc, text) {
+        Ok(bytes) => assert_eq!(rt; bytes.as_slice(), want),
+        Err(_) => assert!(rt; false, "a fault"),
+    }
+}
+
+/// The text has this fault.
+fn assert_fault(rt: &impl Abort, alloc: Global, text: &[u8], want: AsmFault) {
+    match assemble(alloc, text) {
+        Ok(_) => assert!(rt; false, "no fault"),
+        Err(fault) => assert!(rt; fault == want, "another fault"),
+    }
+}
+
+#[test]
+fn lines_of_every_kind(rt: HostRuntime) {
+    let cases: [(&[u8], &[u8]); 16] = [
+        (b"", b""),
+        (b"\n", b""),
+        (b"# any \xFF bytes\nnop", b"\x20\0\0\0"),
+        (b"bytes 0A", b"\x0A"),
+        (b"sync\n", b"\xAA\x99\x55\x66"),
+        (b"write CMD 1\n", b"\x30\0\x80\x01"),
+        (b"write R15 2047", b"\x30\x01\xE7\xFF"),
+        (b"read FDRO 0", b"\x28\0\x60\0"),
+        (b"write2 134217727", b"\x57\xFF\xFF\xFF"),
+        (b"read2 101", b"\x48\0\0\x65"),
+        (b"word 20000005", b"\x20\0\0\x05"),
+        (b"data 00000001 0362D093", b"\0\0\0\x01\x03\x62\xD0\x93"),
+        (b"cmd BSPI_READ", b"\0\0\0\x12"),
+        (b"crc", b"\x30\0\0\x01\0\0\0\0"),
+        (
+            b"sync\nwrite CMD 1\ndata 00000001\ncrc\n",
+            b"\xAA\x99\x55\x66\x30\0\x80\x01\0\0\0\x01\x30\0\0\x01\xE5\xDA\x85\x4F",
+        ),
+        (
+            b"sync\nwrite IDCODE 1\ndata 0362D093\ncrc\ncrc",
+            b"\xAA\x99\x55\x66\x30\x01\x80\x01\x03\x62\xD0\x93\x30\0\0\x01\x5B\x86\xC5\x8D\x30\0\0\x01\0\0\0\0",
+        ),
+    ];
+    for (text, want) in cases {
+        assert_bytes(&rt, rt.alloc(), text, want);
+    }
+}
+
+#[test]
+fn lines_that_are_none(rt: HostRuntime) {
+    let cases: [(&[u8], u64); 20] = [
+        (b"write CMD 01", 1),
+        (b"data 0000000d", 1),
+        (b"write R04 1", 1),
+        (b"nop ", 1),
+        (b" nop", 1),
+        (b"nop\r\n", 1),
+        (b"nop\n\nsinc\nnop\n", 3),
+        (b"data\n", 1),
+        (
+            b"data 00000000 00000000 00000000 00000000 00000000 00000000 00000000 00000000 00000000",
+            1,
+        ),
+        (b"data  00000000", 1),
+        (b"data 0000000", 1),
+        (b"bytes ", 1),
+        (b"bytes 0", 1),
+        (
+            b"bytes 000000000000000000000000000000000000000000000000000000000000000000",
+            1,
+        ),
+        (b"write CMD 2048", 1),
+        (b"write2 134217728", 1),
+        (b"write2 +1", 1),
+        (b"cmd NULLS", 1),
+        (b"word 00000000 00000000", 1),
+        (b"write CMD", 1),
+    ];
+    for (text, line) in cases {
+        assert_fault(&rt, rt.alloc(), text, AsmFault::Line(line));
+    }
+}
+
+#[test]
+fn a_listing_assembles_back(rt: HostRuntime) -> Result<(), Fail> {
+    let stream: &[u8] =
+        b"\xFF\xFF\xAA\x99\x55\x66\x20\0\0\0\x30\0\x80\x01\0\0\0\x07\x30\0\x40\x02\0\0\0\x05\0\0\0\x06\x20\0\0\x05\x57\0\0\0\x01\x02\x03";
+    let mut lister = Lister::new(rt.alloc());
+    lister.feed(stream)?;
+    lister.finish()?;
+    assert_bytes(&rt, rt.alloc(), lister.text(), stream);
+    Ok(())
+}

@@ -1,0 +1,190 @@
+//! Reading one line: the bytes that it stands for.
+ghost use Rattle.std.specs.Prelude.{◌≡◌, ◌≢◌, ℕ, List, ◌<◌, ◌≤◌, ◌+◌, ◌*◌, ◌^◌, ◌∷◌, ◌++◌, length, decimal, MatchOption, vec_len, vec_capacity};
+ghost use Rattle.x7_words.specs.Word.{bytes_of_word};
+ghost use Rattle.x7_regs.specs.Command.{code_of, command_name_of};
+ghost use Rattle.x7_regs.specs.Register.{reg_name};
+ghost use Rattle.x7_regs.specs.declared.command.Command.{Command};
+ghost use Rattle.x7_text.specs.Appends.{Appends};
+ghost use Rattle.x7_text.specs.Digits.{hex_word};
+ghost use Rattle.x7_listing.specs.Line.{access_text, bytes_of, FitsLine, IsAccess, IsPlain, text_of};
+ghost use Rattle.x7_text.specs.Reads.{Reads, StaysWithin};
+
+use memchr::memchr;
+use x7_regs::{command_named, reg_named};
+use x7_text::{decimal_below, put, put_byte_row, put_word_row, word_of_hex};
+use x7_words::{bytes_of, is_same};
+
+/// What stands after a word that the text begins with.
+fn after<'t>(text: &'t [u8], word: &[u8]) -> Option<&'t [u8]>
+    ensures { MatchOption result ((rest : List ℕ) → text.now ≢ word.now ++ rest) (λ rest. text.now ≡ word.now ++ rest.now) }
+{
+    text.strip_prefix(word)
+}
+
+/// The number of the register whose name stands before the first space, and what stands after the space.
+fn register_before(text: &[u8]) -> Option<(u8, &[u8])>
+    ensures { MatchOption result ((n : ℕ) (rest : List ℕ) → n < 32 → text.now ≢ reg_name n ++ 32 ∷ rest)
+        (λ r. (r.0 < 32) × (text.now ≡ reg_name r.0 ++ 32 ∷ r.1.now)) }
+{
+    let Some(at) = memchr(b' ', text) else {
+        return None;
+    };
+    let Some(number) = reg_named(&text[..at]) else {
+        return None;
+    };
+    Some((number, &text[at + 1..]))
+}
+
+/// Appends the bytes of a word.
+fn put_word(out: &mut Vec<u8>, w: u32)
+    requires { vec_len out.old + 32 ≤ vec_capacity out.old }
+    ensures appends { Appends out.old out.new (bytes_of_word w) 32 }
+{
+    put(out, &bytes_of(w));
+}
+
+/// Appends the word of eight digits.
+fn put_digits(out: &mut Vec<u8>, digits: &[u8]) -> bool
+    requires { vec_len out.old + 32 ≤ vec_capacity out.old }
+    ensures reads { Reads (λ w. w < 2 ^ 32) hex_word bytes_of_word result digits.now out.old.items out.new.items }
+    ensures room { StaysWithin out.old out.new 32 }
+{
+    match word_of_hex(digits) {
+        Some(w) => {
+            put_word(out, w);
+            true
+        }
+        None => false,
+    }
+}
+
+/// Appends the code of a command.
+fn put_command(out: &mut Vec<u8>, name: &[u8]) -> bool
+    requires { vec_len out.old + 32 ≤ vec_capacity out.old }
+    ensures reads { Reads (λ (c : Command). Unit {0}) command_name_of (λ c. bytes_of_word (code_of c)) result name.now out.old.items out.new.items }
+    ensures room { StaysWithin out.old out.new 32 }
+{
+    match command_named(name) {
+        Some(code) => {
+            put_word(out, u32::from(code));
+            true
+        }
+        None => false,
+    }
+}
+
+/// The number below the limit that these are the digits of.
+fn count_of(digits: &[u8], limit: u32) -> Option<u32>
+    ensures { MatchOption result ((n : ℕ) → n < limit → digits.now ≢ decimal n) (λ n. (n < limit) × (digits.now ≡ decimal n)) }
+{
+    let Some(count) = decimal_below(digits, u64::from(limit)) else {
+        return None;
+    };
+    Some(count as u32)
+}
+
+/// Appends the word of a base and a count.
+fn put_count(out: &mut Vec<u8>, base: u32, digits: &[u8]) -> bool
+    requires room { vec_len out.old + 32 ≤ vec_capacity out.old }
+    requires base { base ≤ 0x50000000 }
+    ensures reads { Reads (λ n. n < 2 ^ 27) decimal (λ n. bytes_of_word (base + n)) result digits.now out.old.items out.new.items }
+    ensures room { StaysWithin out.old out.new 32 }
+{
+    match count_of(digits, 1 << 27) {
+        Some(count) => {
+            put_word(out, base + count);
+            true
+        }
+        None => false,
+    }
+}
+
+/// A register's number and a word count.
+fn access_of(text: &[u8]) -> Option<(u8, u32)>
+    ensures { MatchOption result ((a : ℕ × ℕ) → IsAccess a → text.now ≢ access_text a) (λ a. IsAccess (a.0, a.1) × (text.now ≡ access_text (a.0, a.1))) }
+{
+    let Some((register, digits)) = register_before(text) else {
+        return None;
+    };
+    let Some(count) = count_of(digits, 2048) else {
+        return None;
+    };
+    Some((register, count))
+}
+
+/// Appends the word of a base, a register and a count.
+fn put_access(out: &mut Vec<u8>, base: u32, text: &[u8]) -> bool
+    requires room { vec_len out.old + 32 ≤ vec_capacity out.old }
+    requires base { base ≤ 0x50000000 }
+    ensures reads { Reads IsAccess access_text (λ (a : ℕ × ℕ). bytes_of_word (base + 8192 * a.0 + a.1)) result text.now out.old.items out.new.items }
+    ensures room { StaysWithin out.old out.new 32 }
+{
+    match access_of(text) {
+        Some((register, count)) => {
+            put_word(out, base + 8192 * u32::from(register) + count);
+            true
+        }
+        None => false,
+    }
+}
+
+/// Appends the bytes of a line that is one word, or empty.
+fn put_plain(out: &mut Vec<u8>, check: u32, line: &[u8]) -> bool
+    requires { vec_len out.old + 32 ≤ vec_capacity out.old }
+    ensures reads { Reads IsPlain text_of (bytes_of check) result line.now out.old.items out.new.items }
+    ensures room { StaysWithin out.old out.new 32 }
+{
+    if is_same(line, b"") {
+        return true;
+    }
+    if is_same(line, b"nop") {
+        put_word(out, 0x2000_0000);
+        return true;
+    }
+    if is_same(line, b"sync") {
+        put_word(out, 0xAA99_5566);
+        return true;
+    }
+    if is_same(line, b"crc") {
+        put_word(out, 0x3000_0001);
+        put(out, &bytes_of(check));
+        return true;
+    }
+    false
+}
+
+/// Appends the bytes of a line, where the bytes of the lines before have this check. `false`: the text is that of no line.
+pub(crate) fn put_line(out: &mut Vec<u8>, check: u32, line: &[u8]) -> bool
+    requires { vec_len out.old + 32 ≤ vec_capacity out.old }
+    ensures reads { Reads FitsLine text_of (bytes_of check) result line.now out.old.items out.new.items }
+    ensures room { StaysWithin out.old out.new 32 }
+{
+    if let Some(words) = after(line, b"data") {
+        return put_word_row(out, words);
+    }
+    if let Some(digits) = after(line, b"bytes ") {
+        return put_byte_row(out, digits);
+    }
+    if let Some(digits) = after(line, b"word ") {
+        return put_digits(out, digits);
+    }
+    if let Some(name) = after(line, b"cmd ") {
+        return put_command(out, name);
+    }
+    if let Some(access) = after(line, b"write ") {
+        return put_access(out, 0x3000_0000, access);
+    }
+    if let Some(access) = after(line, b"read ") {
+        return put_access(out, 0x2800_0000, access);
+    }
+    if let Some(count) = after(line, b"write2 ") {
+        return put_count(out, 0x5000_0000, count);
+    }
+    if let Some(count) = after(line, b"read2 ") {
+        return put_count(out, 0x4800_0000, count);
+    }
+    if after(line, b"#").is_some() {
+        return true;
+    }
+    put_plain(out, check, line)
+}
