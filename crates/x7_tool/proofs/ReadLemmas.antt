@@ -5,7 +5,7 @@ use Rattle.x7_part.specs.Part.{PartData}
 use Rattle.x7_tool.specs.Event.{Event, Cause, Want, Fault, Absence, cause_of}
 use Rattle.x7_tool.specs.Outcome.{Known, and_so, put_before, data_of, part_by, raw, whole_in, with_inputs}
 use Rattle.x7_tool.specs.Parts.{part_in}
-use Rattle.x7_tool.specs.Run.{Among, FreeBy, IsCaused, IsDecided, IsFree, IsOpen, RisesFor}
+use Rattle.x7_tool.specs.Run.{Among, FreeBy, IsCaused, IsCausedBy, IsDecided, IsFree, IsOpen, RisesFor}
 
 -- ---- one input
 
@@ -145,3 +145,18 @@ read_alone known F L limit name got h = caused_same known F L (due_after [] limi
 pub after_text : {A : Type 0} (known : Option Known) (F L : List ℕ → Type 0) (limit : ℕ) (name text : List ℕ) (next : List ℕ → Result A Event) (got : Result A Event) → IsCaused known F L (λ t. whole_in t limit name) (Ok text)
     → IsCaused known F L (λ t. next text) got → IsCaused known F L (λ t. and_so (whole_in t limit name) next) got
 after_text known F L limit name text next got whole next_due = follows known F L F L (λ t. whole_in t limit name) (λ t bytes. next bytes) text got whole next_due
+
+-- what a text comes to by a relation, that was read whole
+pub after_text_by : {A : Type 0} (known : Option Known) (F L : List ℕ → Type 0) (due : Known → Result (List ℕ) Event) (text : List ℕ) (Next : Result (List ℕ) Event → Result A Event → Type 0) (got : Result A Event) → IsCaused known F L due (Ok text)
+    → IsFree F L got ⊎ (IsOpen got × IsDecided got × Next (Ok text) got) → IsCausedBy known F L (λ t end. Next (due t) end) got
+after_text_by known F L due text Next got (inl h) then_so = absurd h
+after_text_by known F L due text Next got (inr h) (inl q) = inl q
+after_text_by None F L due text Next got (inr h) (inr q) = inr q.0
+after_text_by (Some t) F L due text Next got (inr h) (inr q) = inr (q.1, subst (λ (r : Result (List ℕ) Event). Next r got) (sym h.1) q.2)
+
+-- an input that could not be read, under a relation that keeps its event
+pub unread_by : {A : Type 0} (known : Option Known) (F L : List ℕ → Type 0) (due : Known → Result (List ℕ) Event) (event : Event) (Next : Result (List ℕ) Event → Result A Event → Type 0) → ((x : Event) → Next (Err x) (Err x)) → IsCaused known F L due (Err event)
+    → IsCausedBy known F L (λ t end. Next (due t) end) (Err event)
+unread_by known F L due event Next keeps (inl h) = inl h
+unread_by None F L due event Next keeps (inr h) = inr h
+unread_by (Some t) F L due event Next keeps (inr h) = inr (h.0, subst (λ (r : Result (List ℕ) Event). Next r (Err event)) (sym h.1) (keeps event))

@@ -1,17 +1,26 @@
 -- What the end of a command says of its status.
-use Rattle.std.proofs.Common.{◌≡◌, ℕ, List, [], Bool, true, false, Option, None, Some, Result, Ok, Err, refl, ap, subst, sym, ◌∙◌, inl, inr, ◌⊎◌}
+use Rattle.std.proofs.Common.{◌≡◌, ◌≤◌, arith, length, ℕ, List, [], Bool, true, false, Option, None, Some, Result, Ok, Err, refl, ap, subst, sym, ◌∙◌, inl, inr, ◌⊎◌}
+use Rattle.std.specs.Prelude.{nat_lt}
+use Rattle.std.proofs.lemmas.Bool.Decides.{nat_tests}
 use Rattle.x7_words.specs.Count.{HasRisen}
+use Rattle.x7_listing.specs.Assembly.{IsAsm, asm_limit}
+use Rattle.x7_listing.specs.Listing.{listing_of}
+use Rattle.x7_listing.proofs.OutcomeLemmas.{one-outcome}
+use Rattle.x7_listing.proofs.RoundLemmas.{round-trip}
+use Rattle.x7_mcs.specs.Flash.{mcs_of}
+use Rattle.x7_mcs.specs.Text.{mcs_text}
+use Rattle.x7_mcs.proofs.BackLemmas.{text-gives}
 use Rattle.x7_words.specs.Sink.{PutsFront, appended}
 use Rattle.x7_tool.specs.declared.refusal.Why.{Why}
 use Rattle.x7_tool.specs.declared.refusal.Why.TheVariants as why
 use Rattle.x7_tool.specs.declared.status.Status.{Status}
 use Rattle.x7_tool.specs.declared.status.Status.TheVariants as status
 use Rattle.x7_tool.specs.Event.{Event, Cause, Wording, Want, Fault, Absence, Break, Contents, cause_of, no_memory, row_of, status_of, usage, write_fault}
-use Rattle.x7_tool.specs.Form.{Asked, names_flash}
+use Rattle.x7_tool.specs.Form.{Asked, Assembling, FromMcs, Listing, Playing, ToMcs, names_flash}
 use Rattle.x7_tool.specs.Message.{final_status}
-use Rattle.x7_tool.specs.Outcome.{Answer, Known, Gives, IsOutcome}
+use Rattle.x7_tool.specs.Outcome.{Answer, AssembledAs, Known, Gives, IsOutcome, and_so, mcs_image, present, text_limit, whole_in, with_inputs, within}
 use Rattle.x7_tool.specs.Run.{Agrees, Comes, DecidedBy, OpenBy, Ends, EndsAs, EndsBy, FreeBy, GetsPrefix, IsCausedBy, Leaves, Puts, Says, Shows}
-use Rattle.x7_tool.specs.Runs.{CausedBy, Fails, FlashState, HasCause, KeepsFlash, Lacks, LeftBy, Outside, Runs, Wrote, known_in}
+use Rattle.x7_tool.specs.Runs.{Back, CausedBy, Fails, FlashState, HasCause, IsQuiet, KeepsFlash, Lacks, LeftBy, Outside, Runs, Wrote, known_in}
 
 -- ---- which status an event has
 
@@ -145,6 +154,46 @@ wrote_is : (form : Option Asked) (old new : Outside) (end : Result Answer Event)
 wrote_is form old new (Ok answer) h = h.1
 wrote_is form old new (Err event) h = left_by (cause_of event) form old new event h
 
+-- ---- texts that lead back
+
+-- a text within its limit
+within_limit : (name text : List ℕ) (limit : ℕ) → length text ≤ limit → within name limit text ≡ Ok text
+within_limit name text limit h = let short : nat_lt limit (length text) ≡ false = grind (arith, h, nat_tests) in rw short refl
+
+asm_back : (name text bytes : List ℕ) (end : Result Answer Event) → IsAsm text (Ok bytes) → AssembledAs name (Ok text) end → end ≡ Ok (record { stopped = false; text = bytes })
+asm_back name text bytes (Ok answer) is h =
+    let same : Ok answer.text ≡ Ok bytes = one-outcome text (Ok answer.text) (Ok bytes) h.1 is in
+    let text_is : answer.text ≡ bytes = cc in
+    ap (λ (s : Bool). Ok (record { stopped = s; text = answer.text })) h.0 ∙ ap (λ (t : List ℕ). Ok (record { stopped = false; text = t })) text_is
+asm_back name text bytes (Err event) is h =
+    let same = one-outcome text (Err h.0) (Ok bytes) h.1.0 is in
+    absurd (cc)
+
+mcs_back : (name text bytes : List ℕ) (end : Result Answer Event) → mcs_of text ≡ Ok bytes → mcs_image name (mcs_of text) ≡ end → end ≡ Ok (record { stopped = false; text = bytes })
+mcs_back name text bytes end is h = sym h ∙ ap (mcs_image name) is
+
+leads_back : (s : Status) (form : Asked) (known : Known) (end goal_end : Result Answer Event) → (s ≡ status.NoMemory) ⊎ IsOutcome known (Some form) end → (Gives known form end → end ≡ goal_end) → (s ≡ status.NoMemory) ⊎ (end ≡ goal_end)
+leads_back s form known end goal_end (inl n) back = inl n
+leads_back s form known end goal_end (inr h) back = inr (back h)
+
+back_is : (form : Option Asked) (old new : Outside) (s : Status) (end : Result Answer Event) → ((known : Known) → known_in form old ≡ Some known → IsQuiet old new → (s ≡ status.NoMemory) ⊎ IsOutcome known form end) → Back form old new s end
+back_is (Some (Assembling name)) old new s end outcome = λ bytes fits short has quiet.
+    let known : Known = record { inputs = has.0; flash = old.flash.bytes } in
+    let is : known_in (Some (Assembling name)) old ≡ Some known = ap (λ (i : Option (List ℕ → Option (List ℕ))). with_inputs i old.flash.bytes) has.1.0 in
+    let whole : whole_in known text_limit name ≡ Ok (listing_of bytes) = ap (λ (i : Option (List ℕ)). and_so (present name i) (within name text_limit)) has.1.1 ∙ within_limit name (listing_of bytes) text_limit has.1.2 in
+    leads_back s (Assembling name) known end (Ok (record { stopped = false; text = bytes })) (outcome known is quiet)
+        (λ h. asm_back name (listing_of bytes) bytes end (round-trip asm_limit bytes fits short) (subst (λ (r : Result (List ℕ) Event). AssembledAs name r end) whole h))
+back_is (Some (FromMcs name)) old new s end outcome = λ bytes fits short has quiet.
+    let known : Known = record { inputs = has.0; flash = old.flash.bytes } in
+    let is : known_in (Some (FromMcs name)) old ≡ Some known = ap (λ (i : Option (List ℕ → Option (List ℕ))). with_inputs i old.flash.bytes) has.1.0 in
+    let whole : whole_in known text_limit name ≡ Ok (mcs_text bytes) = ap (λ (i : Option (List ℕ)). and_so (present name i) (within name text_limit)) has.1.1 ∙ within_limit name (mcs_text bytes) text_limit has.1.2 in
+    leads_back s (FromMcs name) known end (Ok (record { stopped = false; text = bytes })) (outcome known is quiet)
+        (λ h. mcs_back name (mcs_text bytes) bytes end (text-gives bytes fits short) (sym (ap (λ (r : Result (List ℕ) Event). and_so r (λ text. mcs_image name (mcs_of text))) whole) ∙ h))
+back_is None old new s end outcome = tt
+back_is (Some (Listing stream)) old new s end outcome = tt
+back_is (Some (Playing part streams)) old new s end outcome = tt
+back_is (Some (ToMcs image)) old new s end outcome = tt
+
 -- how a command ended is what its run comes to
 pub runs : (form : Option Asked) (old new : Outside) (s : Status) (end : Result Answer Event) → s ≡ final_status end
     → Ends (known_in form old) (Fails form old new) (Lacks form old new) form (HasRisen old.out_faults new.out_faults) old.out new.out end
@@ -156,6 +205,7 @@ runs form old new s end e h t f = record {
   wrote = wrote_is form old new end h;
   said = t;
   outcome = λ known m q. outcome_is (known_in form old) (Fails form old new) (Lacks form old new) form (HasRisen old.out_faults new.out_faults) old.out new.out s end e h known m (λ x p. q.0 p.1) (λ x p. q.1 p.1) q.2;
+  back = back_is form old new s end (λ known m q. outcome_is (known_in form old) (Fails form old new) (Lacks form old new) form (HasRisen old.out_faults new.out_faults) old.out new.out s end e h known m (λ x p. q.0 p.1) (λ x p. q.1 p.1) q.2);
   no_form = λ n. run_no_form (known_in form old) (Fails form old new) (Lacks form old new) form (HasRisen old.out_faults new.out_faults) old.out new.out s end e h n;
   flash = f;
 }

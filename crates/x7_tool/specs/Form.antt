@@ -6,6 +6,7 @@ use Rattle.std.specs.Str.{bytes_eq}
 pub data Asked : Type 0 where
   Listing : (stream : List ℕ) → Asked
   Playing : (part : List ℕ) (streams : List (List ℕ)) → Asked
+  Assembling : (text : List ℕ) → Asked
   ToMcs : (image : List ℕ) → Asked
   FromMcs : (text : List ℕ) → Asked
 
@@ -25,6 +26,7 @@ abbrev pub form_of : List (List ℕ) → Option Asked
 form_of [] = None
 form_of (command ∷ names) =
     if bytes_eq command (codes "list") then one_name Listing names
+    else if bytes_eq command (codes "asm") then one_name Assembling names
     else if bytes_eq command (codes "play") then play_form names
     else if bytes_eq command (codes "mcs") then one_name ToMcs names
     else if bytes_eq command (codes "unmcs") then one_name FromMcs names
@@ -35,6 +37,7 @@ abbrev pub names_of : Option Asked → List (List ℕ)
 names_of None = []
 names_of (Some (Listing stream)) = stream ∷ []
 names_of (Some (Playing part streams)) = part ∷ streams
+names_of (Some (Assembling text)) = text ∷ []
 names_of (Some (ToMcs image)) = image ∷ []
 names_of (Some (FromMcs text)) = text ∷ []
 
@@ -43,5 +46,6 @@ abbrev pub names_flash : Option Asked → Bool
 names_flash None = false
 names_flash (Some (Listing stream)) = false
 names_flash (Some (Playing part streams)) = false
+names_flash (Some (Assembling text)) = false
 names_flash (Some (ToMcs image)) = false
 names_flash (Some (FromMcs text)) = false

@@ -2,7 +2,10 @@
 use Rattle.std.specs.Prelude.{◌≡◌, ℕ, List, [], ◌∷◌, ◌++◌, ◌-◌, Option, None, Some, is_some, Result, Ok, Err, Bool, false, if◌then◌else◌, length, nat_eq, nat_lt}
 use Rattle.std.specs.List.{starts_with}
 use Rattle.x7_header.specs.Header.{fixed_bytes}
+use Rattle.x7_listing.specs.Assembly.{IsAsm}
 use Rattle.x7_listing.specs.Listing.{listing_of}
+use Rattle.x7_listing.specs.declared.assembler.AsmFault.{AsmFault}
+use Rattle.x7_listing.specs.declared.assembler.AsmFault.TheVariants as asm
 use Rattle.x7_part.specs.declared.fault.PartFault.{PartFault}
 use Rattle.x7_part.specs.Part.{PartData}
 use Rattle.x7_engine.specs.Kept.{on_the_bench}
@@ -14,7 +17,7 @@ use Rattle.x7_mcs.specs.Flash.{mcs_of}
 use Rattle.x7_mcs.specs.Text.{mcs_text}
 use Rattle.x7_tool.specs.declared.bad_input.InputFault.TheVariants as input
 use Rattle.x7_tool.specs.Event.{Event, bad_input, bad_part, missing, no_memory, too_large, too_many_reads, unbuilt, usage}
-use Rattle.x7_tool.specs.Form.{Asked, FromMcs, Listing, Playing, ToMcs, names_flash}
+use Rattle.x7_tool.specs.Form.{Asked, Assembling, FromMcs, Listing, Playing, ToMcs, names_flash}
 use Rattle.x7_tool.specs.Parts.{part_in}
 use Rattle.x7_tool.specs.Report.{report_text}
 
@@ -111,15 +114,27 @@ reported part bytes = if nat_lt reads_limit (length (reads_of part on_the_bench 
 abbrev pub played : Known → List ℕ → List (List ℕ) → Result Answer Event
 played known part streams = and_so (part_of known part) (λ p. and_so (data_of known stream_limit streams) (reported p))
 
--- ---- Intel HEX
+-- ---- texts that stand for bytes
+
+-- the most bytes of such a text
+abbrev pub text_limit : ℕ
+text_limit = 536870912
+
+-- the event of a text that assembles to nothing
+abbrev pub asm_event : List ℕ → AsmFault → Event
+asm_event name (asm.Line line) = bad_input name (input.Line line)
+asm_event name (asm.TooLong line) = bad_input name (input.LongLine line)
+asm_event name asm.NoMemory = no_memory
+
+-- `asm TEXT`: the bytes that the text assembles to, or its first fault
+abbrev pub AssembledAs : List ℕ → Result (List ℕ) Event → Result Answer Event → Type 0
+AssembledAs name (Err event) end = Err event ≡ end
+AssembledAs name (Ok text) (Ok answer) = (answer.stopped ≡ false) × IsAsm text (Ok answer.text)
+AssembledAs name (Ok text) (Err event) = (fault : AsmFault) × (IsAsm text (Err fault) × (asm_event name fault ≡ event))
 
 -- the most bytes of a flash image
 abbrev pub flash_limit : ℕ
 flash_limit = 134217728
-
--- the most bytes of a text that stands for bytes
-abbrev pub text_limit : ℕ
-text_limit = 536870912
 
 -- `mcs IMAGE`: the flash text of an image
 abbrev pub mcs_written : Known → List ℕ → Result Answer Event
@@ -147,6 +162,7 @@ mcs_read known text = and_so (whole_in known text_limit text) (λ bytes. mcs_ima
 abbrev pub Gives : Known → Asked → Result Answer Event → Type 0
 Gives known (Listing stream) end = listed known stream ≡ end
 Gives known (Playing part streams) end = played known part streams ≡ end
+Gives known (Assembling text) end = AssembledAs text (whole_in known text_limit text) end
 Gives known (ToMcs image) end = mcs_written known image ≡ end
 Gives known (FromMcs text) end = mcs_read known text ≡ end
 

@@ -10,7 +10,7 @@ use Rattle.x7_tool.specs.declared.refusal.Refusal.{Refusal}
 use Rattle.x7_tool.specs.declared.refusal.Why.{Why}
 use Rattle.x7_tool.specs.declared.refusal.Why.TheVariants as why
 use Rattle.x7_tool.specs.Event.{Event, Cause, Wording, Want, Fault, Absence, Break, Contents, cause_of, line_of, usage, write_fault}
-use Rattle.x7_tool.specs.Form.{Asked, FromMcs, Listing, Playing, ToMcs}
+use Rattle.x7_tool.specs.Form.{Asked, Assembling, FromMcs, Listing, Playing, ToMcs}
 use Rattle.x7_tool.specs.Outcome.{Answer, Known, Gives, IsOutcome}
 use Rattle.x7_tool.specs.Message.{event_of}
 
@@ -18,6 +18,7 @@ use Rattle.x7_tool.specs.Message.{event_of}
 abbrev pub asked_by : Form → Asked
 asked_by (form.List stream) = Listing stream.now
 asked_by (form.Play part streams) = Playing part.now (map string_bytes streams.now)
+asked_by (form.Asm text) = Assembling text.now
 asked_by (form.Mcs image) = ToMcs image.now
 asked_by (form.Unmcs text) = FromMcs text.now
 

@@ -1,13 +1,16 @@
 -- What a run comes to: how it ended and why, its status, and what the outside holds then (this project's choice).
-use Rattle.std.specs.Prelude.{◌≡◌, ℕ, List, Option, None, Some, ◌⊎◌, Bool, true, false, Result, Ok, Err}
+use Rattle.std.specs.Prelude.{◌≡◌, ◌≤◌, ℕ, length, List, Option, None, Some, ◌⊎◌, Bool, true, false, Result, Ok, Err}
 use Rattle.x7_words.specs.Count.{HasRisen}
 use Rattle.x7_words.specs.Sink.{appended}
 use Rattle.x7_tool.specs.declared.status.Status.{Status}
 use Rattle.x7_tool.specs.declared.status.Status.TheVariants as status
 use Rattle.x7_tool.specs.Event.{Event, Cause, Wording, Want, Fault, Absence, Break, Contents, cause_of}
-use Rattle.x7_tool.specs.Form.{Asked, names_of, names_flash}
+use Rattle.x7_words.specs.Word.{AreBytes}
+use Rattle.x7_listing.specs.Listing.{listing_of}
+use Rattle.x7_mcs.specs.Text.{mcs_text}
+use Rattle.x7_tool.specs.Form.{Asked, Assembling, FromMcs, names_of, names_flash}
 use Rattle.x7_tool.specs.Message.{final_status}
-use Rattle.x7_tool.specs.Outcome.{Answer, Known, IsOutcome, known_of}
+use Rattle.x7_tool.specs.Outcome.{Answer, Known, IsOutcome, flash_limit, known_of, stream_limit, text_limit}
 use Rattle.x7_tool.specs.Run.{Agrees, GetsPrefix, Leaves, RisesFor, Says, Shows}
 
 -- a flash: its bytes where they are known, its size, whether it is attached, and its counts
@@ -73,6 +76,20 @@ abbrev pub KeepsFlash : Bool → FlashState → FlashState → Type 0
 KeepsFlash false old new = new ≡ old
 KeepsFlash true old new = new.bytes ≡ old.bytes
 
+-- an input has this text, which is within the limit of texts
+abbrev pub HasText : Outside → List ℕ → List ℕ → Type 0
+HasText o name text = (contents : List ℕ → Option (List ℕ)) × ((o.inputs ≡ Some contents) × (contents name ≡ Some text) × (length text ≤ text_limit))
+
+-- the run ended with these bytes, or for want of memory
+abbrev pub LeadsBack : Status → Result Answer Event → List ℕ → Type 0
+LeadsBack s end bytes = (s ≡ status.NoMemory) ⊎ (end ≡ Ok (record { stopped = false; text = bytes }))
+
+-- texts lead back, where no count rose: the listing of a stream assembles to the stream, and the flash text of an image gives the image
+abbrev pub Back : Option Asked → Outside → Outside → Status → Result Answer Event → Type 0
+Back (Some (Assembling name)) old new s end = (bytes : List ℕ) → AreBytes bytes → length bytes ≤ stream_limit → HasText old name (listing_of bytes) → IsQuiet old new → LeadsBack s end bytes
+Back (Some (FromMcs name)) old new s end = (bytes : List ℕ) → AreBytes bytes → length bytes ≤ flash_limit → HasText old name (mcs_text bytes) → IsQuiet old new → LeadsBack s end bytes
+Back form old new s end = Unit {0}
+
 -- a run of the command that the words ask for
 pub record Runs (form : Option Asked) (old new : Outside) (s : Status) : Type 0 where
   -- how it ended: a whole text, or the event that came before
@@ -89,5 +106,7 @@ pub record Runs (form : Option Asked) (old new : Outside) (s : Status) : Type 0 
   pub outcome : (known : Known) → known_in form old ≡ Some known → IsQuiet old new → (s ≡ status.NoMemory) ⊎ IsOutcome known form end
   -- words without a form are a wrong usage
   pub no_form : form ≡ None → s ≡ status.Usage
+  -- what other forms wrote leads back
+  pub back : Back form old new s end
   -- the flash stays
   pub flash : KeepsFlash (names_flash form) old.flash new.flash

@@ -11,6 +11,11 @@ pub enum Form<'w> {
         /// The stream's name.
         stream: &'w str,
     },
+    /// `asm TEXT`: the bytes that a listing or another assembly text stands for.
+    Asm {
+        /// The text's name.
+        text: &'w str,
+    },
     /// `mcs IMAGE`: the Intel HEX text of a flash image.
     Mcs {
         /// The image's name.
@@ -48,6 +53,12 @@ pub fn words_of(words: &Vec<String>) -> Option<Form<'_>>
             [part, streams @ ..] if streams.len() >= 1 && streams.len() <= 8 => Some(Form::Play {
                 part: part.as_str(),
                 streams,
+            }),
+            _ => None,
+        },
+        "asm" => match names {
+            [text] => Some(Form::Asm {
+                text: text.as_str(),
             }),
             _ => None,
         },

@@ -1,6 +1,7 @@
 //! The command `x7`: its forms, what each reads, works out and writes, and what it says where it can't.
 #![tactic(auto)]
 
+mod asm;
 mod bad_input;
 mod bad_part;
 mod form;

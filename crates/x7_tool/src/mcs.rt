@@ -6,7 +6,7 @@ ghost use Rattle.x7_tool.specs.Play.{whole_of};
 ghost use Rattle.x7_tool.specs.Run.{IsCaused, RisesFor, seen};
 
 use crate::bad_input::InputFault;
-use crate::read::read_whole;
+use crate::read::{TEXT_LIMIT, read_whole};
 use crate::refusal::{Refusal, Why};
 use crate::text::Text;
 use std::alloc::Global;
@@ -15,9 +15,6 @@ use x7_words::Inputs;
 
 /// The most bytes of a flash image.
 const FLASH_LIMIT: usize = 134_217_728;
-
-/// The most bytes of a text that stands for bytes.
-const TEXT_LIMIT: usize = 536_870_912;
 
 /// Why a text gives no flash.
 fn refusal_of<'w>(name: &'w str, fault: McsFault) -> Refusal<'w>

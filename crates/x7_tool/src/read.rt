@@ -15,6 +15,9 @@ use x7_words::{Inputs, SelectFault};
 /// The most bytes of a stream, and of all streams of one command.
 pub(crate) const STREAM_LIMIT: usize = 67_108_864;
 
+/// The most bytes of a text that stands for bytes.
+pub(crate) const TEXT_LIMIT: usize = 536_870_912;
+
 /// The most bytes that one turn reads.
 pub(crate) const TURN: usize = 65_536;
 

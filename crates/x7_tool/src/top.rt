@@ -8,6 +8,7 @@ ghost use Rattle.x7_tool.specs.Outcome.{Answer, known_of};
 ghost use Rattle.x7_tool.specs.Run.{Ends, EndsAs, RisesFor, Says, seen};
 ghost use Rattle.x7_tool.specs.Runs.{Runs};
 
+use crate::asm::asm;
 use crate::form::{Form, words_of};
 use crate::list::list;
 use crate::mcs::{mcs, unmcs};
@@ -37,6 +38,7 @@ fn answer<'w, I: Inputs, O: Sink, F: Flash>(
             Err(refusal) => Err(refusal),
         },
         Some(Form::Play { part, streams }) => put_whole(play(alloc, inputs, part, streams), out),
+        Some(Form::Asm { text }) => put_whole(asm(alloc, inputs, text), out),
         Some(Form::Mcs { image }) => put_whole(mcs(alloc, inputs, image), out),
         Some(Form::Unmcs { text }) => put_whole(unmcs(alloc, inputs, text), out),
     }

@@ -1,6 +1,6 @@
 use Rattle.std.proofs.Common.{◌≡◌, ℕ, List, Option, Some, Ok, Err, map, string_bytes, sym, ap, subst, ◌∙◌}
 use Rattle.x7_words.specs.Count.{HasRisen}
-use Rattle.x7_tool.specs.Form.{Asked, FromMcs, Listing, Playing, ToMcs, form_of, names_of}
+use Rattle.x7_tool.specs.Form.{Asked, Assembling, FromMcs, Listing, Playing, ToMcs, form_of, names_of}
 use Rattle.x7_tool.specs.Message.{event_of}
 use Rattle.x7_tool.specs.Outcome.{known_of, with_inputs}
 use Rattle.x7_tool.specs.Play.{whole_of}
@@ -52,3 +52,14 @@ returns-in-Some-Unmcs-clause-ends g c =
     rw form (puts_end (with_inputs (i.contents c.args.inputs.now) flash) (RisesFor (names_of (Some asks)) (i.faults c.args.inputs.now) (i.faults c.unmcs.new.inputs)) (RisesFor (names_of (Some asks)) (i.absences c.args.inputs.now) (i.absences c.unmcs.new.inputs))
         asks (HasRisen (o.faults c.args.out.now) (o.faults c.put_whole-in-Some-Unmcs.new.out)) (o.written c.args.out.now) (o.written c.put_whole-in-Some-Unmcs.new.out) (seen whole_of c.unmcs.result) (seen (λ stopped. stopped) c.put_whole-in-Some-Unmcs.result)
         (λ t a e p. (a, (e, p))) (λ event e. e) (c.unmcs.ensures flash) c.put_whole-in-Some-Unmcs.ensures)
+
+pub returns-in-Some-Asm-clause-ends : goal.returns-in-Some-Asm-clause-ends
+returns-in-Some-Asm-clause-ends g c =
+    let i = g.I.Inputs in
+    let o = g.O.Sink in
+    let asks : Asked = Assembling c.in-Some-Asm.text.now in
+    let form : form_of (map string_bytes c.args.words.now.items) ≡ Some asks = sym c.words_of.ensures ∙ ap asked c.in-Some-Asm.is ∙ ap (λ f. Some (asked_by f)) c.in-Some-Asm.field-0-is in
+    let flash = g.F.Flash.bytes c.args.flash.now in
+    rw form (puts_end (with_inputs (i.contents c.args.inputs.now) flash) (RisesFor (names_of (Some asks)) (i.faults c.args.inputs.now) (i.faults c.asm.new.inputs)) (RisesFor (names_of (Some asks)) (i.absences c.args.inputs.now) (i.absences c.asm.new.inputs))
+        asks (HasRisen (o.faults c.args.out.now) (o.faults c.put_whole-in-Some-Asm.new.out)) (o.written c.args.out.now) (o.written c.put_whole-in-Some-Asm.new.out) (seen whole_of c.asm.result) (seen (λ stopped. stopped) c.put_whole-in-Some-Asm.result)
+        (λ t a e p. (a, (e, p))) (λ event e. e) (c.asm.ensures flash) c.put_whole-in-Some-Asm.ensures)
