@@ -1,6 +1,7 @@
 pub mod BackLemmas
 pub mod DigitLemmas
 pub mod GoesLemmas
+pub mod LawLemmas
 pub mod LineLemmas
 pub mod OutcomeLemmas
 pub mod PlaceLemmas

@@ -1,5 +1,5 @@
 -- The lines of a text.
-use Rattle.std.proofs.Common.{◌≡◌, ◌==◌, ℕ, zero, suc, ◌+◌, ◌-◌, ◌<◌, ◌≤◌, Bool, true, false, if◌then◌else◌, List, [], ◌∷◌, Option, None, Some, MatchOption, is_some, not, Bor, length, take, drop, get_or, refl, ap, sym, subst, ◌∙◌, arith, take_all, length-drop}
+use Rattle.std.proofs.Common.{◌≡◌, ◌==◌, ℕ, zero, suc, ◌+◌, ◌-◌, ◌<◌, ◌≤◌, Bool, true, false, if◌then◌else◌, List, [], ◌∷◌, Option, None, Some, MatchOption, is_some, not, Bor, length, take, drop, get_or, refl, ap, sym, ◌∙◌, arith, take_all, length-drop}
 use Rattle.x7_mcs.specs.Lines.{bare, lines_of, on_first, split, without_return}
 
 -- the text up to its first line end

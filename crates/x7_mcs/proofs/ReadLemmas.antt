@@ -1,22 +1,16 @@
 -- Lines that were written are read.
-use Rattle.std.proofs.Common.{◌≡◌, ◌==◌, ℕ, zero, suc, ◌+◌, ◌-◌, ◌*◌, ◌/◌, ◌%◌, ◌^◌, ◌<◌, ◌≤◌, ◌||◌, nat_lt, nat_le, max, Bool, true, false, if◌then◌else◌, List, [], ◌∷◌, ◌++◌, Option, None, Some, Ok, Err, length, get_or, codes, refl, ap, ap₂, sym, subst, ◌∙◌, ◌⊎◌, inl, inr, arith, append_assoc, length-append}
+use Rattle.std.proofs.Common.{◌≡◌, ℕ, ◌+◌, ◌-◌, ◌*◌, ◌/◌, ◌%◌, ◌<◌, ◌≤◌, nat_le, Bool, true, false, if◌then◌else◌, List, [], ◌∷◌, ◌++◌, Option, Ok, Err, length, refl, ap, ap₂, ◌∙◌, arith, length-append}
 use Rattle.std.proofs.lemmas.Grind.{common_steps}
-use Rattle.std.proofs.lemmas.Bool.{cases_lt, cases_eq}
-use Rattle.std.proofs.lemmas.List.{get_or_append_left, get_or-append_right, get_or_past, take_at}
-use Rattle.std.proofs.lemmas.List.FromFn.{fill_by_all}
-use Rattle.std.specs.List.{flat_map}
+use Rattle.std.proofs.lemmas.List.{take_at}
 use Rattle.x7_words.specs.Word.{AreBytes}
-use Rattle.x7_text.specs.Row.{AreFullButLast, rows}
-use Rattle.x7_text.proofs.RowLemmas.{rows_full, rows_joined}
 use Rattle.x7_mcs.specs.Lines.{lines_of}
 use Rattle.x7_mcs.specs.Record.{meaning_of, sum_byte}
-use Rattle.x7_mcs.specs.Places.{DataRecord, byte_at, covered, covers, extent, image_of, overlap, unless_covered, with_record}
-use Rattle.x7_mcs.specs.Flash.{Reading, after_bytes, after_lines, after_meaning, and_then, flash_in, mcs_of, with_end, with_records}
+use Rattle.x7_mcs.specs.Places.{DataRecord, with_record}
+use Rattle.x7_mcs.specs.Flash.{Reading, after_bytes, after_lines, after_meaning, and_then, with_records}
 use Rattle.x7_mcs.specs.State.{at_base}
-use Rattle.x7_mcs.specs.Text.{base_line, block_start, data_line, mcs_text, record_line, row_lines}
+use Rattle.x7_mcs.specs.Text.{base_line, data_line, record_line}
 use Rattle.x7_mcs.specs.declared.record.Meaning.TheVariants as meaning
 use Rattle.x7_mcs.specs.declared.fault.McsFault.TheVariants as fault
-use Rattle.x7_mcs.proofs.PlaceLemmas.{within, end-is}
 use Rattle.x7_mcs.proofs.RoundLemmas.{pairs-back, record-first, meaning-written}
 
 -- a record's line is read

@@ -26,11 +26,11 @@ first_row n (suc (suc k)) y part (x ∷ xs) e h =
     ∙ first_row n (suc k) y (part ++ x ∷ []) xs (omega (arith, e, length-append part (x ∷ []))) (omega arith)
     ∙ ap (λ t. (y ∷ t) ∷ rows n (drop (suc k) xs)) (append_assoc part (x ∷ []) (take (suc k) xs))
 
-first_of_16 : (xs : List ℕ) → 0 < length xs → rows 16 xs ≡ take 16 xs ∷ rows 16 (drop 16 xs)
+pub first_of_16 : (xs : List ℕ) → 0 < length xs → rows 16 xs ≡ take 16 xs ∷ rows 16 (drop 16 xs)
 first_of_16 [] h = absurd (omega arith)
 first_of_16 (x ∷ xs) h = first_row 16 15 x [] xs refl (omega arith)
 
-none_of_16 : (xs : List ℕ) → length xs ≡ 0 → rows 16 xs ≡ []
+pub none_of_16 : (xs : List ℕ) → length xs ≡ 0 → rows 16 xs ≡ []
 none_of_16 [] e = refl
 none_of_16 (x ∷ xs) e = absurd (omega (arith, e))
 

@@ -1,5 +1,5 @@
 -- The places that data records cover (this project's choice).
-use Rattle.std.specs.Prelude.{ℕ, zero, suc, ◌+◌, ◌-◌, ◌^◌, ◌==◌, ◌&&◌, ◌||◌, nat_le, nat_lt, max, Bool, false, if◌then◌else◌, List, [], ◌∷◌, length, map, get_or, Option, None, Some, Result, Ok, Err}
+use Rattle.std.specs.Prelude.{◌≡◌, ℕ, zero, suc, ◌+◌, ◌-◌, ◌^◌, ◌==◌, ◌&&◌, ◌||◌, nat_le, nat_lt, max, Bool, true, false, if◌then◌else◌, List, [], ◌∷◌, length, map, get_or, Option, None, Some, Result, Ok, Err}
 use Rattle.std.specs.List.{range_with_len}
 use Rattle.x7_mcs.specs.declared.fault.McsFault.{McsFault}
 use Rattle.x7_mcs.specs.declared.fault.McsFault.TheVariants as fault
@@ -32,6 +32,11 @@ extent (x ∷ xs) = max (extent xs) (end_of x)
 -- the bytes from place 0 to the greatest place given
 abbrev pub image_of : List DataRecord → List ℕ
 image_of xs = map (byte_at xs) (range_with_len 0 (extent xs))
+
+-- no two records cover one place
+abbrev pub AreApart : List DataRecord → Type 0
+AreApart [] = Unit {0}
+AreApart (x ∷ xs) = ((p : ℕ) → covers x p ≡ true → covered xs p ≡ false) × AreApart xs
 
 -- the least of n places from here on that a record covers
 abbrev pub overlap : List DataRecord → ℕ → ℕ → Option ℕ

@@ -1,12 +1,12 @@
 -- What the bytes and marks of a text that is being read stand for.
-use Rattle.std.specs.Prelude.{◌≡◌, ℕ, zero, suc, ◌+◌, ◌/◌, ◌%◌, ◌==◌, ◌-◌, ◌&&◌, ◌<◌, ◌≤◌, nat_le, nat_lt, max, Bool, true, false, if◌then◌else◌, Option, None, Some, Result, Ok, Err, ◌⊎◌, List, length, get_or}
+use Rattle.std.specs.Prelude.{◌≡◌, ℕ, ◌+◌, ◌/◌, ◌%◌, ◌==◌, ◌-◌, ◌&&◌, ◌<◌, ◌≤◌, nat_le, nat_lt, max, Bool, true, false, if◌then◌else◌, Option, None, Some, Result, Ok, Err, ◌⊎◌, List, length, get_or}
 use Rattle.std.specs.Int.{bit_at}
 use Rattle.x7_mcs.specs.Places.{byte_at, covered, extent, DataRecord}
 use Rattle.x7_mcs.specs.declared.fault.McsFault.{McsFault}
 use Rattle.x7_mcs.specs.declared.fault.McsFault.TheVariants as fault
 use Rattle.x7_mcs.specs.Lines.{lines_of}
 use Rattle.x7_mcs.specs.Record.{digit_of, pairs}
-use Rattle.x7_mcs.specs.Flash.{Reading, after_lines, of_no_line}
+use Rattle.x7_mcs.specs.Flash.{Reading, after_lines}
 
 -- the digits are pairs of these bytes, or no pairs of digits
 abbrev pub Reads : Bool → List ℕ → List ℕ → Type 0

@@ -5,6 +5,7 @@ mod digits;
 mod fault;
 mod flash;
 mod image;
+mod laws;
 mod lines;
 mod record;
 mod row;
@@ -16,4 +17,8 @@ mod text;
 pub use fault::McsFault;
 pub use flash::flash_of;
 pub use image::FLASH_LIMIT;
+pub use laws::{
+    bytes_by_place, lines_in_turn, overlap_is_the_least, records_are_apart, rows_in_parts,
+    text_leads_back, want_of_memory_is_no_fault,
+};
 pub use text::{mcs_text, put_rows};

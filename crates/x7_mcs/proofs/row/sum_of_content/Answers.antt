@@ -1,5 +1,4 @@
-use Rattle.std.proofs.Common.{◌%◌, ap, ◌∙◌, arith, ℕ}
-use Rattle.std.specs.List.{sum}
+use Rattle.std.proofs.Common.{◌∙◌, arith}
 use Rattle.x7_mcs.proofs.RowLemmas.{folded}
 use Rattle.x7_mcs.proofs.row.sum_of_content.Goals as goal
 

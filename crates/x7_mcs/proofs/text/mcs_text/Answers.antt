@@ -1,6 +1,5 @@
-use Rattle.std.proofs.Common.{◌≡◌, rules, ap, ◌∙◌}
+use Rattle.std.proofs.Common.{rules, ap, ◌∙◌}
 use Rattle.x7_mcs.specs.Flash.{mcs_of}
-use Rattle.x7_mcs.specs.Text.{mcs_text}
 use Rattle.x7_mcs.proofs.BackLemmas.{text-gives}
 use Rattle.x7_mcs.proofs.text.mcs_text.Goals as goal
 

@@ -1,0 +1,49 @@
+//! What a text gives, said in other words: laws of the definitions, for the proofs of crates above.
+ghost use Rattle.std.specs.Prelude.{◌≡◌, ℕ, true, false, ◌≤◌, ◌<◌, ◌+◌, ◌-◌, ◌%◌, ◌^◌, List, ◌∷◌, ◌++◌, length, get_or, Some, None, Ok, Err};
+ghost use Rattle.x7_text.specs.Row.{rows};
+ghost use Rattle.x7_words.specs.Word.{AreBytes};
+ghost use Rattle.x7_mcs.specs.Flash.{Reading, after_lines, and_then, mcs_of, reading_of};
+ghost use Rattle.x7_mcs.specs.Places.{AreApart, DataRecord, byte_at, covered, covers, extent, image_of, overlap};
+ghost use Rattle.x7_mcs.specs.Text.{mcs_text, row_lines};
+ghost use Rattle.x7_mcs.specs.declared.fault.McsFault.{McsFault};
+
+/// The text of bytes gives them back.
+pub fn text_leads_back()
+    ensures { (bytes : List ℕ) → AreBytes bytes → length bytes ≤ 2 ^ 27 → mcs_of (mcs_text bytes) ≡ Ok bytes }
+{}
+
+/// Want of memory is no text's fault.
+pub fn want_of_memory_is_no_fault()
+    ensures { (text : List ℕ) → mcs_of text ≡ Err McsFault.NoMemory → ⊥ }
+{}
+
+/// Lines are read in turn: what the first of them give is where the others begin, and their first fault stays.
+pub fn lines_in_turn()
+    ensures { (n : ℕ) (r : Reading) (first others : List (List ℕ))
+        → after_lines n r (first ++ others) ≡ and_then (after_lines n r first) (λ s. after_lines (n + length first) s others) }
+{}
+
+/// The flash's bytes, place by place.
+pub fn bytes_by_place()
+    ensures long { (records : List DataRecord) → length (image_of records) ≡ extent records }
+    ensures at { (records : List DataRecord) (p : ℕ) → p < extent records → get_or (image_of records) p 255 ≡ byte_at records p }
+    ensures covered { (before after : List DataRecord) (record_there : DataRecord) (p : ℕ) → AreApart (before ++ record_there ∷ after) → covers record_there p ≡ true
+        → byte_at (before ++ record_there ∷ after) p ≡ get_or record_there.bytes (p - record_there.place) 255 }
+    ensures free { (records : List DataRecord) (p : ℕ) → covered records p ≡ false → byte_at records p ≡ 255 }
+{}
+
+/// No two records of a good text cover one place.
+pub fn records_are_apart()
+    ensures { (text : List ℕ) (r : Reading) → reading_of text ≡ Ok r → AreApart r.records }
+{}
+
+/// The place that an overlap tells is the least of the record's that another covers.
+pub fn overlap_is_the_least()
+    ensures some { (xs : List DataRecord) (p n q : ℕ) → overlap xs p n ≡ Some q → (p ≤ q) × (q < p + n) × (covered xs q ≡ true) × ((k : ℕ) → p ≤ k → k < q → covered xs k ≡ false) }
+    ensures none { (xs : List DataRecord) (p n : ℕ) → overlap xs p n ≡ None → (k : ℕ) → p ≤ k → k < p + n → covered xs k ≡ false }
+{}
+
+/// The lines of bytes in two parts, the first of which ends where a row does.
+pub fn rows_in_parts()
+    ensures { (place : ℕ) (xs ys : List ℕ) → length xs % 16 ≡ 0 → row_lines place (rows 16 (xs ++ ys)) ≡ row_lines place (rows 16 xs) ++ row_lines (place + length xs) (rows 16 ys) }
+{}
