@@ -1,3 +1,4 @@
+pub mod AsmLemmas
 pub mod Causes
 pub mod PartLemmas
 pub mod PlayLemmas

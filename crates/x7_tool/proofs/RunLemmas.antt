@@ -182,13 +182,13 @@ back_is (Some (Assembling name)) old new s end outcome = λ bytes fits short has
     let is : known_in (Some (Assembling name)) old ≡ Some known = ap (λ (i : Option (List ℕ → Option (List ℕ))). with_inputs i old.flash.bytes) has.1.0 in
     let whole : whole_in known text_limit name ≡ Ok (listing_of bytes) = ap (λ (i : Option (List ℕ)). and_so (present name i) (within name text_limit)) has.1.1 ∙ within_limit name (listing_of bytes) text_limit has.1.2 in
     leads_back s (Assembling name) known end (Ok (record { stopped = false; text = bytes })) (outcome known is quiet)
-        (λ h. asm_back name (listing_of bytes) bytes end (round-trip asm_limit bytes fits short) (subst (λ (r : Result (List ℕ) Event). AssembledAs name r end) whole h))
+    (λ h. asm_back name (listing_of bytes) bytes end (round-trip asm_limit bytes fits short) (subst (λ (r : Result (List ℕ) Event). AssembledAs name r end) whole h))
 back_is (Some (FromMcs name)) old new s end outcome = λ bytes fits short has quiet.
     let known : Known = record { inputs = has.0; flash = old.flash.bytes } in
     let is : known_in (Some (FromMcs name)) old ≡ Some known = ap (λ (i : Option (List ℕ → Option (List ℕ))). with_inputs i old.flash.bytes) has.1.0 in
     let whole : whole_in known text_limit name ≡ Ok (mcs_text bytes) = ap (λ (i : Option (List ℕ)). and_so (present name i) (within name text_limit)) has.1.1 ∙ within_limit name (mcs_text bytes) text_limit has.1.2 in
     leads_back s (FromMcs name) known end (Ok (record { stopped = false; text = bytes })) (outcome known is quiet)
-        (λ h. mcs_back name (mcs_text bytes) bytes end (text-gives bytes fits short) (sym (ap (λ (r : Result (List ℕ) Event). and_so r (λ text. mcs_image name (mcs_of text))) whole) ∙ h))
+    (λ h. mcs_back name (mcs_text bytes) bytes end (text-gives bytes fits short) (sym (ap (λ (r : Result (List ℕ) Event). and_so r (λ text. mcs_image name (mcs_of text))) whole) ∙ h))
 back_is None old new s end outcome = tt
 back_is (Some (Listing stream)) old new s end outcome = tt
 back_is (Some (Playing part streams)) old new s end outcome = tt

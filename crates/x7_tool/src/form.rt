@@ -1,6 +1,6 @@
 //! The forms of the command line.
 ghost use Rattle.std.specs.Prelude.{◌≡◌, map, string_bytes};
-ghost use Rattle.x7_tool.specs.Form.{form_of};
+ghost use Rattle.x7_tool.specs.Form.{Assembling, FromMcs, Listing, ToMcs, form_of, one_name, play_form};
 ghost use Rattle.x7_tool.specs.Run.{asked};
 
 /// What the words ask for, with the names as they were given.
@@ -35,6 +35,67 @@ pub enum Form<'w> {
     },
 }
 
+/// `list STREAM`.
+fn list_form(names: &[String]) -> Option<Form<'_>>
+    ensures { asked result ≡ one_name Listing (map string_bytes names.now) }
+{
+    match names {
+        [stream] => Some(Form::List {
+            stream: stream.as_str(),
+        }),
+        _ => None,
+    }
+}
+
+/// `asm TEXT`.
+fn asm_form(names: &[String]) -> Option<Form<'_>>
+    ensures { asked result ≡ one_name Assembling (map string_bytes names.now) }
+{
+    match names {
+        [text] => Some(Form::Asm {
+            text: text.as_str(),
+        }),
+        _ => None,
+    }
+}
+
+/// `play PART STREAM..`, one to eight streams.
+fn play_form(names: &[String]) -> Option<Form<'_>>
+    ensures { asked result ≡ play_form (map string_bytes names.now) }
+{
+    match names {
+        [part, streams @ ..] if streams.len() >= 1 && streams.len() <= 8 => Some(Form::Play {
+            part: part.as_str(),
+            streams,
+        }),
+        _ => None,
+    }
+}
+
+/// `mcs IMAGE`.
+fn mcs_form(names: &[String]) -> Option<Form<'_>>
+    ensures { asked result ≡ one_name ToMcs (map string_bytes names.now) }
+{
+    match names {
+        [image] => Some(Form::Mcs {
+            image: image.as_str(),
+        }),
+        _ => None,
+    }
+}
+
+/// `unmcs TEXT`.
+fn unmcs_form(names: &[String]) -> Option<Form<'_>>
+    ensures { asked result ≡ one_name FromMcs (map string_bytes names.now) }
+{
+    match names {
+        [text] => Some(Form::Unmcs {
+            text: text.as_str(),
+        }),
+        _ => None,
+    }
+}
+
 /// The form of the words, where they have one.
 pub fn words_of(words: &Vec<String>) -> Option<Form<'_>>
     ensures { asked result ≡ form_of (map string_bytes words.now.items) }
@@ -43,37 +104,11 @@ pub fn words_of(words: &Vec<String>) -> Option<Form<'_>>
         return None;
     };
     match command.as_str() {
-        "list" => match names {
-            [stream] => Some(Form::List {
-                stream: stream.as_str(),
-            }),
-            _ => None,
-        },
-        "play" => match names {
-            [part, streams @ ..] if streams.len() >= 1 && streams.len() <= 8 => Some(Form::Play {
-                part: part.as_str(),
-                streams,
-            }),
-            _ => None,
-        },
-        "asm" => match names {
-            [text] => Some(Form::Asm {
-                text: text.as_str(),
-            }),
-            _ => None,
-        },
-        "mcs" => match names {
-            [image] => Some(Form::Mcs {
-                image: image.as_str(),
-            }),
-            _ => None,
-        },
-        "unmcs" => match names {
-            [text] => Some(Form::Unmcs {
-                text: text.as_str(),
-            }),
-            _ => None,
-        },
+        "list" => list_form(names),
+        "asm" => asm_form(names),
+        "play" => play_form(names),
+        "mcs" => mcs_form(names),
+        "unmcs" => unmcs_form(names),
         _ => None,
     }
 }

@@ -39,8 +39,8 @@ returns-in-Some-Mcs-clause-ends g c =
     let form : form_of (map string_bytes c.args.words.now.items) ≡ Some asks = sym c.words_of.ensures ∙ ap asked c.in-Some-Mcs.is ∙ ap (λ f. Some (asked_by f)) c.in-Some-Mcs.field-0-is in
     let flash = g.F.Flash.bytes c.args.flash.now in
     rw form (puts_end (with_inputs (i.contents c.args.inputs.now) flash) (RisesFor (names_of (Some asks)) (i.faults c.args.inputs.now) (i.faults c.mcs.new.inputs)) (RisesFor (names_of (Some asks)) (i.absences c.args.inputs.now) (i.absences c.mcs.new.inputs))
-        asks (HasRisen (o.faults c.args.out.now) (o.faults c.put_whole-in-Some-Mcs.new.out)) (o.written c.args.out.now) (o.written c.put_whole-in-Some-Mcs.new.out) (seen whole_of c.mcs.result) (seen (λ stopped. stopped) c.put_whole-in-Some-Mcs.result)
-        (λ t a e p. (a, (e, p))) (λ event e. e) (c.mcs.ensures flash) c.put_whole-in-Some-Mcs.ensures)
+    asks (HasRisen (o.faults c.args.out.now) (o.faults c.put_whole-in-Some-Mcs.new.out)) (o.written c.args.out.now) (o.written c.put_whole-in-Some-Mcs.new.out) (seen whole_of c.mcs.result) (seen (λ stopped. stopped) c.put_whole-in-Some-Mcs.result)
+    (λ t a e p. (a, (e, p))) (λ event e. e) (c.mcs.ensures flash) c.put_whole-in-Some-Mcs.ensures)
 
 pub returns-in-Some-Unmcs-clause-ends : goal.returns-in-Some-Unmcs-clause-ends
 returns-in-Some-Unmcs-clause-ends g c =
@@ -50,8 +50,8 @@ returns-in-Some-Unmcs-clause-ends g c =
     let form : form_of (map string_bytes c.args.words.now.items) ≡ Some asks = sym c.words_of.ensures ∙ ap asked c.in-Some-Unmcs.is ∙ ap (λ f. Some (asked_by f)) c.in-Some-Unmcs.field-0-is in
     let flash = g.F.Flash.bytes c.args.flash.now in
     rw form (puts_end (with_inputs (i.contents c.args.inputs.now) flash) (RisesFor (names_of (Some asks)) (i.faults c.args.inputs.now) (i.faults c.unmcs.new.inputs)) (RisesFor (names_of (Some asks)) (i.absences c.args.inputs.now) (i.absences c.unmcs.new.inputs))
-        asks (HasRisen (o.faults c.args.out.now) (o.faults c.put_whole-in-Some-Unmcs.new.out)) (o.written c.args.out.now) (o.written c.put_whole-in-Some-Unmcs.new.out) (seen whole_of c.unmcs.result) (seen (λ stopped. stopped) c.put_whole-in-Some-Unmcs.result)
-        (λ t a e p. (a, (e, p))) (λ event e. e) (c.unmcs.ensures flash) c.put_whole-in-Some-Unmcs.ensures)
+    asks (HasRisen (o.faults c.args.out.now) (o.faults c.put_whole-in-Some-Unmcs.new.out)) (o.written c.args.out.now) (o.written c.put_whole-in-Some-Unmcs.new.out) (seen whole_of c.unmcs.result) (seen (λ stopped. stopped) c.put_whole-in-Some-Unmcs.result)
+    (λ t a e p. (a, (e, p))) (λ event e. e) (c.unmcs.ensures flash) c.put_whole-in-Some-Unmcs.ensures)
 
 pub returns-in-Some-Asm-clause-ends : goal.returns-in-Some-Asm-clause-ends
 returns-in-Some-Asm-clause-ends g c =
@@ -61,5 +61,5 @@ returns-in-Some-Asm-clause-ends g c =
     let form : form_of (map string_bytes c.args.words.now.items) ≡ Some asks = sym c.words_of.ensures ∙ ap asked c.in-Some-Asm.is ∙ ap (λ f. Some (asked_by f)) c.in-Some-Asm.field-0-is in
     let flash = g.F.Flash.bytes c.args.flash.now in
     rw form (puts_end (with_inputs (i.contents c.args.inputs.now) flash) (RisesFor (names_of (Some asks)) (i.faults c.args.inputs.now) (i.faults c.asm.new.inputs)) (RisesFor (names_of (Some asks)) (i.absences c.args.inputs.now) (i.absences c.asm.new.inputs))
-        asks (HasRisen (o.faults c.args.out.now) (o.faults c.put_whole-in-Some-Asm.new.out)) (o.written c.args.out.now) (o.written c.put_whole-in-Some-Asm.new.out) (seen whole_of c.asm.result) (seen (λ stopped. stopped) c.put_whole-in-Some-Asm.result)
-        (λ t a e p. (a, (e, p))) (λ event e. e) (c.asm.ensures flash) c.put_whole-in-Some-Asm.ensures)
+    asks (HasRisen (o.faults c.args.out.now) (o.faults c.put_whole-in-Some-Asm.new.out)) (o.written c.args.out.now) (o.written c.put_whole-in-Some-Asm.new.out) (seen whole_of c.asm.result) (seen (λ stopped. stopped) c.put_whole-in-Some-Asm.result)
+    (λ t a e p. (a, (e, p))) (λ event e. e) (c.asm.ensures flash) c.put_whole-in-Some-Asm.ensures)
