@@ -162,17 +162,21 @@ pub(crate) fn put_line(out: &mut Vec<u8>, check: u32, line: &[u8]) -> bool
     if let Some(words) = after(line, b"data") {
         return put_word_row(out, words);
     }
+    if let Some(access) = after(line, b"write ") {
+        return put_access(out, 0x3000_0000, access);
+    }
+    if let Some(name) = after(line, b"cmd ") {
+        return put_command(out, name);
+    }
+    if is_same(line, b"nop") {
+        put_word(out, 0x2000_0000);
+        return true;
+    }
     if let Some(digits) = after(line, b"bytes ") {
         return put_byte_row(out, digits);
     }
     if let Some(digits) = after(line, b"word ") {
         return put_digits(out, digits);
-    }
-    if let Some(name) = after(line, b"cmd ") {
-        return put_command(out, name);
-    }
-    if let Some(access) = after(line, b"write ") {
-        return put_access(out, 0x3000_0000, access);
     }
     if let Some(access) = after(line, b"read ") {
         return put_access(out, 0x2800_0000, access);

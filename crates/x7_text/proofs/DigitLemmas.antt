@@ -1,6 +1,8 @@
 -- Digits in vector registers, and what is not the text of anything.
-use Rattle.std.proofs.Common.{Result, Ok, Err, ◌≡◌, ℕ, zero, suc, ◌+◌, ◌*◌, ◌/◌, ◌%◌, ◌^◌, ◌<◌, Bool, true, false, IsTrue, List, [], ◌∷◌, ◌++◌, length, map, replicate, bit_and, refl, ap, ap₂, subst, sym, ◌∙◌, arith, get_or}
-use Rattle.std.proofs.lemmas.Fmt.{IsAscii-decimal, parse-decimal}
+use Rattle.std.proofs.Common.{Result, Ok, Err, ◌≡◌, ℕ, zero, suc, ◌+◌, ◌*◌, ◌/◌, ◌%◌, ◌^◌, ◌<◌, Bool, true, false, IsTrue, List, [], ◌∷◌, ◌++◌, length, map, replicate, bit_and, refl, ap, ap₂, subst, sym, ◌∙◌, arith, get_or, ◌-◌}
+use Rattle.std.proofs.lemmas.Grind.{common_steps}
+use Rattle.std.specs.Char.{is_ascii_digit}
+use Rattle.std.proofs.lemmas.Fmt.{decimal_digit, IsAscii-decimal, parse-decimal}
 use Rattle.std.proofs.lemmas.Str.{IsUtf8-from_ascii}
 use Rattle.std.specs.Fmt.{decimal}
 use Rattle.std.specs.Str.{IsUtf8}
@@ -89,3 +91,12 @@ no-decimal ds told r m b was p f off is n h k =
     let yes : r ≡ Ok n = parse-decimal 64 n ds r h (omega arith) k p in
     let same : m ≡ n = cc in
     refuted b off (is (f ∙ ap decimal same ∙ sym k))
+
+-- one digit
+pub one-digit : (ds : List ℕ) (n : ℕ) → length ds ≡ 1 → is_ascii_digit (get_or ds 0 0) ≡ true → n ≡ get_or ds 0 0 - 48 → ds ≡ decimal n
+one-digit [] n l d e = absurd (omega (arith, l))
+one-digit (c ∷ []) n l d e =
+    let small : n < 10 = grind (arith, common_steps) in
+    let is : c ≡ 48 + n = grind (arith, common_steps) in
+    ap (λ (x : ℕ). x ∷ []) is ∙ sym (decimal_digit n small)
+one-digit (b ∷ c ∷ ds) n l d e = absurd (omega (arith, l))

@@ -50,6 +50,9 @@ pub fn word_of_hex(digits: &[u8]) -> Option<u32>
 fn number_of_decimal(digits: &[u8]) -> Option<u64>
     ensures { MatchOption result ((n : ℕ) → n < 2 ^ 64 → digits.now ≢ decimal n) (λ n. digits.now ≡ decimal n) }
 {
+    if digits.len() == 1 && digits[0].is_ascii_digit() {
+        return Some(u64::from(digits[0] - b'0'));
+    }
     let Ok(text) = std::str::from_utf8(digits) else {
         return None;
     };
