@@ -1,5 +1,5 @@
 //! Reading one line: the bytes that it stands for.
-ghost use Rattle.std.specs.Prelude.{◌≡◌, ◌≢◌, ℕ, List, ◌<◌, ◌≤◌, ◌+◌, ◌*◌, ◌^◌, ◌∷◌, ◌++◌, length, decimal, MatchOption, vec_len, vec_capacity};
+ghost use Rattle.std.specs.Prelude.{◌≡◌, ◌≢◌, ℕ, List, ◌<◌, ◌≤◌, ◌+◌, ◌*◌, ◌^◌, ◌∷◌, ◌++◌, length, slice_index, decimal, MatchOption, vec_len, vec_capacity};
 ghost use Rattle.x7_words.specs.Word.{bytes_of_word};
 ghost use Rattle.x7_regs.specs.Command.{code_of, command_name_of};
 ghost use Rattle.x7_regs.specs.Register.{reg_name};
@@ -9,7 +9,6 @@ ghost use Rattle.x7_text.specs.Digits.{hex_word};
 ghost use Rattle.x7_listing.specs.Line.{access_text, bytes_of, FitsLine, IsAccess, IsPlain, text_of};
 ghost use Rattle.x7_text.specs.Reads.{Reads, StaysWithin};
 
-use memchr::memchr;
 use x7_regs::{command_named, reg_named};
 use x7_text::{decimal_below, put, put_byte_row, put_word_row, word_of_hex};
 use x7_words::{bytes_of, is_same};
@@ -21,12 +20,27 @@ fn after<'t>(text: &'t [u8], word: &[u8]) -> Option<&'t [u8]>
     text.strip_prefix(word)
 }
 
+/// The place of the first space, if one stands among the first ten bytes. No register's name is longer.
+#[inline(always)]
+fn space_in(text: &[u8]) -> Option<usize>
+    ensures { MatchOption result ((j : ℕ) → j < 10 → j < length text.now → slice_index text.now j ≢ 32)
+        (λ at. (at < length text.now) × (slice_index text.now at ≡ 32) × ((j : ℕ) → j < at → slice_index text.now j ≢ 32)) }
+{
+    let most = text.len().min(10);
+    for at in 0..most {
+        if text[at] == b' ' {
+            return Some(at);
+        }
+    }
+    None
+}
+
 /// The number of the register whose name stands before the first space, and what stands after the space.
 fn register_before(text: &[u8]) -> Option<(u8, &[u8])>
     ensures { MatchOption result ((n : ℕ) (rest : List ℕ) → n < 32 → text.now ≢ reg_name n ++ 32 ∷ rest)
         (λ r. (r.0 < 32) × (text.now ≡ reg_name r.0 ++ 32 ∷ r.1.now)) }
 {
-    let Some(at) = memchr(b' ', text) else {
+    let Some(at) = space_in(text) else {
         return None;
     };
     let Some(number) = reg_named(&text[..at]) else {
@@ -162,17 +176,21 @@ pub(crate) fn put_line(out: &mut Vec<u8>, check: u32, line: &[u8]) -> bool
     if let Some(words) = after(line, b"data") {
         return put_word_row(out, words);
     }
+    if let Some(access) = after(line, b"write ") {
+        return put_access(out, 0x3000_0000, access);
+    }
+    if let Some(name) = after(line, b"cmd ") {
+        return put_command(out, name);
+    }
+    if is_same(line, b"nop") {
+        put_word(out, 0x2000_0000);
+        return true;
+    }
     if let Some(digits) = after(line, b"bytes ") {
         return put_byte_row(out, digits);
     }
     if let Some(digits) = after(line, b"word ") {
         return put_digits(out, digits);
-    }
-    if let Some(name) = after(line, b"cmd ") {
-        return put_command(out, name);
-    }
-    if let Some(access) = after(line, b"write ") {
-        return put_access(out, 0x3000_0000, access);
     }
     if let Some(access) = after(line, b"read ") {
         return put_access(out, 0x2800_0000, access);

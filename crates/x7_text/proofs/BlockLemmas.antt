@@ -54,3 +54,13 @@ halves_digits (b ∷ bs) h = ap₂ (λ (x : ℕ) (t : List ℕ). x ∷ hex_digit
 
 pub bytes_fit : (bs : List ℕ) → ((i : ℕ) → get_or bs i 0 < 256) → Each1 (λ b. b < 256) bs
 bytes_fit bs h = Each1-from_get_or (λ b. b < 256) bs 0 (λ i l. h i)
+
+-- the halves of four bytes
+abbrev pub FourWoven : List ℕ → Type 0
+FourWoven bs = pick_l 0 (zip2 (λ a b. a / 2 ^ b) bs (replicate 4 4) ++ zip2 bit_and bs (replicate 4 15)) (0 ∷ 4 ∷ 1 ∷ 5 ∷ 2 ∷ 6 ∷ 3 ∷ 7 ∷ []) ≡ flat_map (λ b. b / 2 ^ 4 ∷ bit_and b 15 ∷ []) bs
+
+four-woven : (bs : List ℕ) → length bs ≡ 4 → FourWoven bs
+four-woven bs e = let h : FourWoven (pick_l 0 bs (range_with_len 0 4)) = refl in subst FourWoven (pick_l_whole 0 bs 4 e) h
+
+pub four_halves : (bs : List ℕ) → length bs ≡ 4 → pick_l 0 (zip2 (λ a b. a / 2 ^ b) bs (replicate 4 4) ++ zip2 bit_and bs (replicate 4 15)) (0 ∷ 4 ∷ 1 ∷ 5 ∷ 2 ∷ 6 ∷ 3 ∷ 7 ∷ []) ≡ halves bs
+four_halves bs e = four-woven bs e ∙ masked_are bs

@@ -1,6 +1,8 @@
 -- Digits in vector registers, and what is not the text of anything.
-use Rattle.std.proofs.Common.{Result, Ok, Err, ◌≡◌, ℕ, zero, suc, ◌+◌, ◌*◌, ◌/◌, ◌%◌, ◌^◌, ◌<◌, Bool, true, false, IsTrue, List, [], ◌∷◌, ◌++◌, length, map, replicate, bit_and, refl, ap, ap₂, subst, sym, ◌∙◌, arith, get_or}
-use Rattle.std.proofs.lemmas.Fmt.{IsAscii-decimal, parse-decimal}
+use Rattle.std.proofs.Common.{Result, Ok, Err, ◌≡◌, ℕ, zero, suc, ◌+◌, ◌*◌, ◌/◌, ◌%◌, ◌^◌, ◌<◌, Bool, true, false, IsTrue, List, [], ◌∷◌, ◌++◌, length, map, replicate, bit_and, refl, ap, ap₂, subst, sym, ◌∙◌, arith, get_or, ◌-◌, take_all}
+use Rattle.std.proofs.lemmas.Grind.{common_steps}
+use Rattle.std.specs.Char.{is_ascii_digit}
+use Rattle.std.proofs.lemmas.Fmt.{decimal_digit, IsAscii-decimal, parse-decimal}
 use Rattle.std.proofs.lemmas.Str.{IsUtf8-from_ascii}
 use Rattle.std.specs.Fmt.{decimal}
 use Rattle.std.specs.Str.{IsUtf8}
@@ -9,10 +11,11 @@ use Rattle.std.proofs.lemmas.Nat.Bits.{and_high}
 use Rattle.std.proofs.lemmas.Simd.{Each1-from_get_or, pick_l_whole}
 use Rattle.std.specs.List.{flat_map, range_with_len}
 use lib.Lanes.{Each1, pick_l, zip2}
-use Rattle.x7_words.specs.Word.{AreBytes, word_of_bytes}
+use Rattle.std.specs.Simd.{first_chunks}
+use Rattle.x7_words.specs.Word.{AreBytes, bytes_of_word}
 use Rattle.x7_text.specs.Digits.{hex_byte, hex_word}
-use Rattle.x7_text.specs.DigitValue.{byte_value, bytes_value, digit_value, pairs_value, word_value}
-use Rattle.x7_text.proofs.ValueLemmas.{bytes-back, word-back}
+use Rattle.x7_text.specs.DigitValue.{bytes_value, digit_value, pairs_value}
+use Rattle.x7_text.proofs.ValueLemmas.{bytes-back, word-bytes, word-digits}
 
 number_step : (x : ℕ) → x < 256 → (bit_and x 15 + x / 2 ^ 6 * 9 % 256) % 256 ≡ digit_value x
 number_step x h = let low : bit_and x 15 ≡ x % 2 ^ 4 = and_high x 4 0 ∙ omega arith in omega (arith, low)
@@ -53,6 +56,19 @@ raw-paired xs e = let h : Paired (pick_l 0 xs (range_with_len 0 64)) = refl in s
 pub paired : (xs : List ℕ) → length xs ≡ 64 → FromPairs xs
 paired xs e = raw-paired xs e ∙ raw-are xs
 
+-- the same of eight halves
+abbrev pub EightPaired : List ℕ → Type 0
+EightPaired xs = zip2 (λ a b. (a + b) % 256) (zip2 (λ a b. a * 2 ^ b % 256) (pick_l 0 (xs ++ xs) (0 ∷ 2 ∷ 4 ∷ 6 ∷ [])) (replicate 4 4)) (pick_l 0 (xs ++ xs) (1 ∷ 3 ∷ 5 ∷ 7 ∷ [])) ≡ raw_pairs xs
+
+abbrev pub FromEight : List ℕ → Type 0
+FromEight xs = zip2 (λ a b. (a + b) % 256) (zip2 (λ a b. a * 2 ^ b % 256) (pick_l 0 (xs ++ xs) (0 ∷ 2 ∷ 4 ∷ 6 ∷ [])) (replicate 4 4)) (pick_l 0 (xs ++ xs) (1 ∷ 3 ∷ 5 ∷ 7 ∷ [])) ≡ pairs_value xs
+
+eight-raw : (xs : List ℕ) → length xs ≡ 8 → EightPaired xs
+eight-raw xs e = let h : EightPaired (pick_l 0 xs (range_with_len 0 8)) = refl in subst EightPaired (pick_l_whole 0 xs 8 e) h
+
+pub eight-paired : (xs : List ℕ) → length xs ≡ 8 → FromEight xs
+eight-paired xs e = eight-raw xs e ∙ raw-are xs
+
 pub pairs-digits : (ds : List ℕ) → pairs_value (map digit_value ds) ≡ bytes_value ds
 pairs-digits [] = refl
 pairs-digits (a ∷ []) = refl
@@ -69,13 +85,19 @@ refuted false e h = cc
 pub no-bytes : (ds told r : List ℕ) (b : Bool) → r ≡ bytes_value ds → told ≡ flat_map hex_byte r → b ≡ false → (told ≡ ds → IsTrue b) → (bs : List ℕ) → AreBytes bs → ds ≡ flat_map hex_byte bs → ⊥
 no-bytes ds told r b e f n is bs h k = refuted b n (is (f ∙ ap (flat_map hex_byte) (e ∙ ap bytes_value k ∙ bytes-back bs h) ∙ sym k))
 
-pub no-word : (ds told : List ℕ) (w : ℕ) (b : Bool) → w ≡ word_value ds → told ≡ hex_word w → b ≡ false → (told ≡ ds → IsTrue b) → (v : ℕ) → v < 2 ^ 32 → ds ≡ hex_word v → ⊥
-no-word ds told w b e f n is v h k = refuted b n (is (f ∙ ap hex_word (e ∙ ap word_value k ∙ word-back v h) ∙ sym k))
+-- the one group of eight digits
+pub chunk-whole : (ds : List ℕ) (cs : List (List ℕ)) (d : List ℕ) → cs ≡ first_chunks 8 (length ds / 8) ds → length ds ≡ 8 → get_or cs 0 d ≡ ds
+chunk-whole ds cs d e l =
+    let one : length ds / 8 ≡ 1 = omega (arith, l) in
+    ap (λ (k : List (List ℕ)). get_or k 0 d) (e ∙ ap (λ (n : ℕ). first_chunks 8 n ds) one) ∙ take_all 8 ds (omega (arith, l))
 
-pub word-of-eight : (ds : List ℕ) (a b c d w : ℕ) → length ds ≡ 8 → a ≡ byte_value (get_or ds 0 0) (get_or ds 1 0) → b ≡ byte_value (get_or ds 2 0) (get_or ds 3 0) → c ≡ byte_value (get_or ds 4 0) (get_or ds 5 0) → d ≡ byte_value (get_or ds 6 0) (get_or ds 7 0)
-    → w ≡ word_of_bytes (a ∷ b ∷ c ∷ d ∷ []) → w ≡ word_value ds
-word-of-eight (s ∷ t ∷ u ∷ v ∷ w ∷ x ∷ y ∷ z ∷ []) a b c d r n e f g h k = k ∙ ap₂ (λ p q. word_of_bytes (p ∷ q ∷ c ∷ d ∷ [])) e f ∙ ap₂ (λ p q. word_of_bytes (byte_value s t ∷ byte_value u v ∷ p ∷ q ∷ [])) g h
-word-of-eight _ a b c d r n e f g h k = absurd (omega (arith, n))
+pub no-word : (ds chunk told r : List ℕ) (b : Bool) → (length ds ≡ 8 → chunk ≡ ds) → r ≡ bytes_value chunk → told ≡ flat_map hex_byte r → b ≡ false → (told ≡ ds → IsTrue b) → (w : ℕ) → w < 2 ^ 32 → ds ≡ hex_word w → ⊥
+no-word ds chunk told r b whole e f n is w h k =
+    let bytes : r ≡ bytes_of_word w = e ∙ ap bytes_value (whole (ap length k) ∙ k ∙ word-digits w h) ∙ bytes-back (bytes_of_word w) (word-bytes w) in
+    refuted b n (is (f ∙ ap (flat_map hex_byte) bytes ∙ sym (word-digits w h) ∙ sym k))
+
+pub yes-word : (ds told r : List ℕ) (w : ℕ) → told ≡ ds → told ≡ flat_map hex_byte r → bytes_of_word w ≡ r → w < 2 ^ 32 → ds ≡ hex_word w
+yes-word ds told r w same f back h = sym same ∙ f ∙ ap (flat_map hex_byte) (sym back) ∙ sym (word-digits w h)
 
 -- a text that no number leads to is no decimal number
 pub utf8-decimal : (ds : List ℕ) (n : ℕ) → n < 2 ^ 64 → ds ≡ decimal n → IsUtf8 ds
@@ -89,3 +111,12 @@ no-decimal ds told r m b was p f off is n h k =
     let yes : r ≡ Ok n = parse-decimal 64 n ds r h (omega arith) k p in
     let same : m ≡ n = cc in
     refuted b off (is (f ∙ ap decimal same ∙ sym k))
+
+-- one digit
+pub one-digit : (ds : List ℕ) (n : ℕ) → length ds ≡ 1 → is_ascii_digit (get_or ds 0 0) ≡ true → n ≡ get_or ds 0 0 - 48 → ds ≡ decimal n
+one-digit [] n l d e = absurd (omega (arith, l))
+one-digit (c ∷ []) n l d e =
+    let small : n < 10 = grind (arith, common_steps) in
+    let is : c ≡ 48 + n = grind (arith, common_steps) in
+    ap (λ (x : ℕ). x ∷ []) is ∙ sym (decimal_digit n small)
+one-digit (b ∷ c ∷ ds) n l d e = absurd (omega (arith, l))

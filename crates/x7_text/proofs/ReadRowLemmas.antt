@@ -1,5 +1,5 @@
 -- Rows of digits: what is read of a front, whatever stands behind it.
-use Rattle.std.proofs.Common.{◌≡◌, ℕ, zero, suc, ◌*◌, ◌/◌, ◌^◌, ◌<◌, ◌≤◌, Bool, true, false, IsTrue, List, [], ◌∷◌, ◌++◌, length, take, drop, refl, ap, ap₂, sym, ◌∙◌, arith, append_assoc, get_or}
+use Rattle.std.proofs.Common.{◌≡◌, ℕ, zero, suc, ◌*◌, ◌/◌, ◌^◌, ◌<◌, ◌≤◌, Bool, true, false, IsTrue, List, [], ◌∷◌, ◌++◌, length, take, drop, refl, ap, ap₂, sym, ◌∙◌, arith, append_assoc, get_or, ◌-◌, take_all, length-drop}
 use Rattle.std.proofs.Math.Seq.{take-append_seam}
 use Rattle.std.proofs.lemmas.Grind.{flat_map-append}
 use Rattle.std.proofs.lemmas.List.{length-take-le, take-append-drop}
@@ -119,3 +119,27 @@ yes-word-row ds r told old new m n eq long fit text same some nine few appended 
     let eight : length (words_of_bytes r) ≡ 8 = length-words r 8 long in
     let is : ds ≡ flat_map spaced (words_of_bytes (take (4 * n) r)) = sym same ∙ ap (λ (j : ℕ). take j told) eq ∙ ap (take (length ds)) text ∙ ap (λ (j : ℕ). take j (flat_map spaced (words_of_bytes r) ++ 10 ∷ [])) nine ∙ take-spaced n (words_of_bytes r) (10 ∷ []) (omega arith) ∙ ap (flat_map spaced) (take-words n r (omega arith)) in
     (words_of_bytes (take (4 * n) r), (words-fit (take (4 * n) r) all, omega (arith, words), omega (arith, words)), is, appended ∙ ap (λ t. old ++ t) (sym (bytes-words (take (4 * n) r) n all count)))
+
+-- a row of one word
+led-by : (t : List ℕ) → length t ≡ 9 → get_or t 0 0 ≡ 32 → t ≡ 32 ∷ drop 1 t
+led-by [] l e = absurd (omega (arith, l))
+led-by (c ∷ cs) l e = ap (λ (x : ℕ). x ∷ cs) e
+
+rest-whole : (t : List ℕ) → length t ≡ 9 → take (length t - 1) (drop 1 t) ≡ drop 1 t
+rest-whole t l = take_all (length t - 1) (drop 1 t) (omega (arith, length-drop 1 t))
+
+pub yes-one-word : (t old new put : List ℕ) (w : ℕ) → length t ≡ 9 → get_or t 0 0 ≡ 32 → w < 2 ^ 32 → take (length t - 1) (drop 1 t) ≡ hex_word w → put ≡ bytes_of_word w → new ≡ old ++ put
+    → Reads IsWordRow (flat_map spaced) (flat_map bytes_of_word) true t old new
+yes-one-word t old new put w l s h d b e =
+    (w ∷ [], ((h, tt), omega arith, omega arith), led-by t l s ∙ ap (λ r. 32 ∷ r) (sym (rest-whole t l) ∙ d), e ∙ ap (λ p. old ++ p) b)
+
+one-of-nine : (t ws : List ℕ) → length t ≡ 9 → IsWordRow ws → t ≡ flat_map spaced ws → (w : ℕ) × (w < 2 ^ 32) × (t ≡ 32 ∷ hex_word w)
+one-of-nine t [] l r e = absurd (omega (arith, r.1))
+one-of-nine t (w ∷ []) l r e = (w, r.0.0, e)
+one-of-nine t (w ∷ v ∷ ws) l r e = absurd (omega (arith, ap length e, length-spaced (w ∷ v ∷ ws), l))
+
+pub no-space-first : (t : List ℕ) → length t ≡ 9 → (get_or t 0 0 ≡ 32 → ⊥) → (ws : List ℕ) → IsWordRow ws → t ≡ flat_map spaced ws → ⊥
+no-space-first t l h ws r e = let p = one-of-nine t ws l r e in h (ap (λ (s : List ℕ). get_or s 0 0) p.2)
+
+pub no-one-word : (t : List ℕ) → length t ≡ 9 → ((w : ℕ) → w < 2 ^ 32 → take (length t - 1) (drop 1 t) ≡ hex_word w → ⊥) → (ws : List ℕ) → IsWordRow ws → t ≡ flat_map spaced ws → ⊥
+no-one-word t l h ws r e = let p = one-of-nine t ws l r e in h p.0 p.1 (rest-whole t l ∙ ap (drop 1) p.2)

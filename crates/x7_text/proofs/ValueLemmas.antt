@@ -30,7 +30,7 @@ word-digits w h =
     let e8 : w % 16 ≡ w % 256 % 16 = omega arith in
     cc
 
-word-bytes : (w : ℕ) → AreBytes (bytes_of_word w)
+pub word-bytes : (w : ℕ) → AreBytes (bytes_of_word w)
 word-bytes w = (omega arith, (omega arith, (omega arith, (omega arith, tt))))
 
 word-whole : (w : ℕ) → w < 2 ^ 32 → word_of_bytes (bytes_of_word w) ≡ w

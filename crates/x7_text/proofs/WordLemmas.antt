@@ -30,4 +30,3 @@ hex_words (suc k) (a ∷ []) e h = absurd (omega (arith, e))
 hex_words (suc k) (a ∷ b ∷ []) e h = absurd (omega (arith, e))
 hex_words (suc k) (a ∷ b ∷ c ∷ []) e h = absurd (omega (arith, e))
 hex_words (suc k) (a ∷ b ∷ c ∷ d ∷ bs) e h = ap₂ (λ (x : List ℕ) (t : List (List ℕ)). x ∷ t) (hex_word_of_bytes a b c d h.0 h.1.0 h.1.1.0 h.1.1.1.0) (hex_words k bs (omega (arith, e)) h.1.1.1.1)
-

@@ -44,6 +44,35 @@ pub fn hex_of_block(bytes: &[u8; 32]) -> [u8; 64]
     hex_digits(halves_of(u8x32::from_array(*bytes))).to_array()
 }
 
+/// The digits of eight numbers below 16.
+#[inline(always)]
+fn eight_hex_digits(numbers: u8x8) -> u8x8
+    requires lanes { length numbers ≡ 8 }
+    requires below { Each1 (λ n. n < 16) numbers }
+    ensures { result ≡ map hex_digit numbers }
+{
+    let is_letter = numbers.simd_gt(u8x8::splat(9));
+    numbers + is_letter.select(u8x8::splat(b'A' - 10), u8x8::splat(b'0'))
+}
+
+/// The two halves of each of four bytes, the high one first.
+#[inline(always)]
+fn halves_of_four(bytes: u8x4) -> u8x8
+    requires { length bytes ≡ 4 }
+    ensures { result ≡ flat_map (λ b. b / 2 ^ 4 ∷ b % 2 ^ 4 ∷ []) bytes }
+{
+    let (high, low) = (bytes >> 4, bytes & u8x4::splat(15));
+    high.shuffle(low, [0, 4, 1, 5, 2, 6, 3, 7])
+}
+
+/// The two upper-case digits of each of four bytes.
+#[inline(always)]
+pub(crate) fn hex_of_four(bytes: &[u8; 4]) -> [u8; 8]
+    ensures { result ≡ flat_map hex_byte bytes.now }
+{
+    eight_hex_digits(halves_of_four(u8x4::from_array(*bytes))).to_array()
+}
+
 /// Writes a space and the eight digits of a word from `at` on.
 #[inline(always)]
 fn write_spaced(text: &mut [u8; 77], at: usize, digits: &[u8; 8])

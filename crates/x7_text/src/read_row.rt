@@ -9,9 +9,9 @@ ghost use Rattle.x7_text.specs.Row.{IsByteRow, IsWordRow};
 ghost use Rattle.x7_text.specs.Reads.{Reads, StaysWithin};
 
 use crate::block::{data_line, hex_of_block};
-use crate::reading::bytes_of_digits;
+use crate::reading::{bytes_of_digits, word_of_hex};
 use crate::room::put;
-use x7_words::is_same;
+use x7_words::{bytes_of, is_same};
 
 /// Digits with others behind them.
 fn padded(digits: &[u8]) -> [u8; 64]
@@ -65,12 +65,35 @@ fn gathered(text: &[u8]) -> [u8; 64]
     digits
 }
 
+/// Appends the bytes of one word, exactly where a space and its eight digits stand.
+#[inline(always)]
+fn put_one_word(out: &mut Vec<u8>, text: &[u8]) -> bool
+    requires room { vec_len out.old + 32 ≤ vec_capacity out.old }
+    requires long { length text.now ≡ 9 }
+    ensures reads { Reads IsWordRow (flat_map spaced) (flat_map bytes_of_word) result text.now out.old.items out.new.items }
+    ensures room { StaysWithin out.old out.new 32 }
+{
+    if text[0] != b' ' {
+        return false;
+    }
+    match word_of_hex(&text[1..]) {
+        Some(word) => {
+            put(out, &bytes_of(word));
+            true
+        }
+        None => false,
+    }
+}
+
 /// Appends the bytes of one to eight words, exactly where a space and eight digits stand for each.
 pub fn put_word_row(out: &mut Vec<u8>, text: &[u8]) -> bool
     requires { vec_len out.old + 32 ≤ vec_capacity out.old }
     ensures reads { Reads IsWordRow (flat_map spaced) (flat_map bytes_of_word) result text.now out.old.items out.new.items }
     ensures room { StaysWithin out.old out.new 32 }
 {
+    if text.len() == 9 {
+        return put_one_word(out, text);
+    }
     let count = text.len() / 9;
     if count == 0 || text.len() > 72 || text.len() != 9 * count {
         return false;

@@ -4,52 +4,65 @@ ghost use Rattle.std.specs.List.{flat_map};
 ghost use Rattle.std.specs.Simd.Lanes.{Each1};
 ghost use Rattle.x7_words.specs.Word.{AreBytes};
 ghost use Rattle.x7_text.specs.Digits.{hex_byte, hex_word};
-ghost use Rattle.x7_text.specs.DigitValue.{byte_value, bytes_value, digit_value, pairs_value, word_value};
+ghost use Rattle.x7_text.specs.DigitValue.{bytes_value, digit_value, pairs_value};
 
-use crate::block::hex_of_block;
-use crate::digits::hex_of_word;
+use crate::block::{hex_of_block, hex_of_four};
 use itoa::Buffer;
 use std::simd::prelude::*;
 use x7_words::{is_same, word_of};
 
-/// The number of a digit, if it is one.
-fn number_of(digit: u8) -> u8
-    ensures { result ≡ digit_value digit }
+/// The numbers of eight digits.
+#[inline(always)]
+fn numbers_of_eight(digits: u8x8) -> u8x8
+    requires lanes { length digits ≡ 8 }
+    requires fit { Each1 (λ c. c < 256) digits }
+    ensures { result ≡ map digit_value digits }
 {
-    (digit & 15) + 9 * (digit >> 6)
+    (digits & u8x8::splat(15)) + (digits >> 6) * u8x8::splat(9)
 }
 
-/// The byte of two digits, if they are digits.
-fn byte_of(high: u8, low: u8) -> u8
-    ensures { result ≡ byte_value high low }
+/// The bytes of four pairs of halves, the high one first.
+#[inline(always)]
+fn bytes_of_four_pairs(halves: u8x8) -> u8x4
+    requires { length halves ≡ 8 }
+    ensures { result ≡ pairs_value halves }
 {
-    ((u32::from(number_of(high)) * 16 + u32::from(number_of(low))) & 255) as u8
+    let high = halves.shuffle(halves, [0, 2, 4, 6]);
+    let low = halves.shuffle(halves, [1, 3, 5, 7]);
+    (high << 4) + low
+}
+
+/// The bytes of eight digits, if they are digits.
+#[inline(always)]
+fn bytes_of_eight(digits: &[u8; 8]) -> [u8; 4]
+    ensures value { result ≡ bytes_value digits.now }
+    ensures fit { (i : ℕ) → slice_index result i < 256 }
+{
+    bytes_of_four_pairs(numbers_of_eight(u8x8::from_array(*digits))).to_array()
 }
 
 /// The word of eight digits, exactly where they are the digits of a word.
 pub fn word_of_hex(digits: &[u8]) -> Option<u32>
     ensures { MatchOption result ((w : ℕ) → w < 2 ^ 32 → digits.now ≢ hex_word w) (λ w. digits.now ≡ hex_word w) }
 {
-    let [a, b, c, d, e, f, g, h] = digits else {
+    let (eights, _) = digits.as_chunks::<8>();
+    let [eight] = eights else {
         return None;
     };
-    let w = word_of([
-        byte_of(*a, *b),
-        byte_of(*c, *d),
-        byte_of(*e, *f),
-        byte_of(*g, *h),
-    ]);
-    if is_same(&hex_of_word(w), digits) {
-        Some(w)
-    } else {
-        None
+    let bytes = bytes_of_eight(eight);
+    if is_same(&hex_of_four(&bytes), digits) {
+        return Some(word_of(bytes));
     }
+    None
 }
 
 /// The number of decimal digits, exactly where they are those of a number of 64 bits: no leading zero.
 fn number_of_decimal(digits: &[u8]) -> Option<u64>
     ensures { MatchOption result ((n : ℕ) → n < 2 ^ 64 → digits.now ≢ decimal n) (λ n. digits.now ≡ decimal n) }
 {
+    if digits.len() == 1 && digits[0].is_ascii_digit() {
+        return Some(u64::from(digits[0] - b'0'));
+    }
     let Ok(text) = std::str::from_utf8(digits) else {
         return None;
     };

@@ -1,5 +1,5 @@
-use Rattle.std.proofs.Common.{◌∙◌}
-use Rattle.x7_text.proofs.DigitLemmas.{no-decimal, not-parsed, utf8-decimal}
+use Rattle.std.proofs.Common.{◌∙◌, sym}
+use Rattle.x7_text.proofs.DigitLemmas.{no-decimal, not-parsed, one-digit, utf8-decimal}
 use Rattle.x7_text.proofs.reading.number_of_decimal.Goals as goal
 
 pub returns-in_default : goal.returns-in_default
@@ -10,3 +10,6 @@ returns-in_default-parse c = λ n h e. not-parsed c.in-Ok.text.now c.parse.resul
 
 pub returns-else-is_same : goal.returns-else-is_same
 returns-else-is_same c = λ n h e. no-decimal c.in-Ok.text.now c.as_bytes.result.now c.parse.result c.in-Ok-parse.n c.is_same.result c.in-Ok-parse.is c.parse.ensures.value.0 (c.as_bytes.ensures.value ∙ c.format.ensures.text) c.if-is_same.false (λ q. c.is_same.ensures.1 (q ∙ c.in-Ok.ensures.cases.0)) n h (c.in-Ok.ensures.cases.0 ∙ e)
+
+pub returns-then-is_ascii_digit : goal.returns-then-is_ascii_digit
+returns-then-is_ascii_digit c = one-digit c.args.digits.now c.from.result c.if-digits-eq1.true (sym c.is_ascii_digit.ensures.value ∙ c.if-is_ascii_digit.true) c.from.ensures
