@@ -347,3 +347,30 @@ idle_ticks part kept c h n k l b e s = (
   },
   idle_quiet part kept c.watchdog h n k l e s.watchdog,
 )
+
+-- ---- bytes more, behind some at which nothing fires
+
+pub ended_on : (part : PartData) (h : History) (n i : ℕ) → newest_place h ≤ n → has_ended part h n ≡ true → has_ended part h (n + i + 1) ≡ true
+ended_on part h n i l e =
+    let place : n + i + 1 ≡ n + (i + 1) = omega arith in
+    let rises : phase_of part h n ≤ phase_of part h (n + (i + 1)) = phase_rises part h n (i + 1) l in
+    ap (has_ended part h) place ∙ by (phase_of part h n) (phase_of part h (n + (i + 1))) rises (last_of part (startup_progress h (n + (i + 1)))) e
+  where
+    by : (a b : ℕ) → a ≤ b → b ≤ 7 → (a == 7) ≡ true → (b == 7) ≡ true
+    by a b l m e = let first : a ≡ 7 = grind (arith, nat_tests, e) in let here : b ≡ 7 = omega (arith, l, m, first) in grind (arith, nat_tests, here)
+
+pub ticks_none : (part : PartData) (kept : Kept) (c : ClockState) (h : History) (n a b count : ℕ) → a + b ≡ count → first_firing part kept h n a ≡ None → Ticks part kept c h (n + a) b None → Ticks part kept c h n count None
+ticks_none part kept c h n a b count e f t =
+    let place : n + a + b ≡ n + count = omega (arith, e) in (
+      subst (λ (m : ℕ). IsClock part kept c h m) place t.0,
+      ap (first_firing part kept h n) (sym e) ∙ firing_more part kept h n a b ∙ ap (λ (o : Option ℕ). or_else o (first_firing part kept h (n + a) b)) f ∙ t.1,
+    )
+
+pub ticks_some : (part : PartData) (kept : Kept) (c : ClockState) (h : History) (n a b count k : ℕ) → a + b ≡ count → first_firing part kept h n a ≡ None → Ticks part kept c h (n + a) b (Some k) → Ticks part kept c h n count (Some (a + k))
+ticks_some part kept c h n a b count k e f t =
+    let place : n + a + k ≡ n + (a + k) = omega arith in (
+      omega (arith, t.0),
+      omega (arith, t.1, e),
+      subst (λ (m : ℕ). IsClock part kept c h m) place t.2,
+      ap (first_firing part kept h n) (sym e) ∙ firing_more part kept h n a b ∙ ap (λ (o : Option ℕ). or_else o (first_firing part kept h (n + a) b)) f ∙ t.3 ∙ ap (λ (m : ℕ). Some m) place,
+    )

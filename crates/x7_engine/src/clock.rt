@@ -1,5 +1,5 @@
 //! Startup and the watchdog of a device, which the bytes taken move.
-ghost use Rattle.std.specs.Prelude.{◌≡◌, ◌<◌, ◌≤◌, ◌+◌, ◌∷◌, ◌++◌, [], ℕ, Bool, List, None, IfSome, IsTrue, ◌↔◌, ◌==◌, nat_le};
+ghost use Rattle.std.specs.Prelude.{◌≡◌, ◌<◌, ◌≤◌, ◌+◌, ◌∷◌, ◌++◌, [], ℕ, Bool, List, true, None, IfSome, IsTrue, ◌↔◌, ◌==◌, nat_le};
 ghost use Rattle.x7_packets.specs.History.{command_held, entry, executed_by, last_word, History, Write};
 ghost use Rattle.x7_part.specs.Part.{PartData};
 ghost use Rattle.x7_regs.specs.Register.{number_of};
@@ -10,7 +10,7 @@ ghost use Rattle.x7_engine.specs.Kept.{is_fallback};
 ghost use Rattle.x7_engine.specs.Registers.{takes_shutdown};
 ghost use Rattle.x7_engine.specs.Startup.{has_ended, phase_of, startup_calls, startup_progress};
 ghost use Rattle.x7_engine.specs.Values.{lines_by};
-ghost use Rattle.x7_engine.specs.Watching.{fires};
+ghost use Rattle.x7_engine.specs.Watching.{fires, first_firing};
 ghost use Rattle.x7_engine.specs.declared.kept.Kept.{Kept};
 
 use crate::progress::is;
@@ -133,7 +133,7 @@ impl Clock {
         self.watchdog.byte(eos)
     }
 
-    /// Takes bytes one by one, up to the one at which the watchdog fires: the number of that byte, from 1.
+    /// Takes bytes one by one, up to the end of startup or the one at which the watchdog fires: the number of that byte, from 1.
     fn each(&mut self, part: &Part, count: usize) -> Option<usize>
         ensures within { IfSome result (λ k. (0 < k) × (k ≤ count)) }
         ensures ticks { (kept : Kept) (h : History) (n : ℕ) → newest_place h ≤ n → IsClock part.now kept (clock_in self.old) h n → Ticks part.now kept (clock_in self.new) h n count result }
@@ -142,8 +142,24 @@ impl Clock {
             if self.byte(part) {
                 return Some(i + 1);
             }
+            if self.has_ended() {
+                return self.go_on(part, i + 1, count);
+            }
         }
         None
+    }
+
+    /// Takes the rest of so many bytes at once, where startup has ended with the last of those taken.
+    fn go_on(&mut self, part: &Part, taken: usize, count: usize) -> Option<usize>
+        requires within { taken ≤ count }
+        ensures within { IfSome result (λ k. (0 < k) × (k ≤ count)) }
+        ensures ticks { (kept : Kept) (h : History) (n : ℕ) → newest_place h ≤ n → first_firing part.now kept h n taken ≡ None → has_ended part.now h (n + taken) ≡ true
+            → IsClock part.now kept (clock_in self.old) h (n + taken) → Ticks part.now kept (clock_in self.new) h n count result }
+    {
+        match self.alike(part, count - taken, true) {
+            Some(k) => Some(taken + k),
+            None => None,
+        }
     }
 
     /// Takes bytes, in each of which startup has ended or in none, up to the one at which the watchdog fires.
