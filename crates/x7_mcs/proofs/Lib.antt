@@ -3,6 +3,7 @@ pub mod DigitLemmas
 pub mod GoesLemmas
 pub mod LawLemmas
 pub mod LineLemmas
+pub mod LongLemmas
 pub mod OutcomeLemmas
 pub mod PlaceLemmas
 pub mod ReadLemmas

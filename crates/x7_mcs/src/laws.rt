@@ -27,8 +27,8 @@ pub fn lines_in_turn()
 pub fn bytes_by_place()
     ensures long { (records : List DataRecord) → length (image_of records) ≡ extent records }
     ensures at { (records : List DataRecord) (p : ℕ) → p < extent records → get_or (image_of records) p 255 ≡ byte_at records p }
-    ensures covered { (before after : List DataRecord) (record_there : DataRecord) (p : ℕ) → AreApart (before ++ record_there ∷ after) → covers record_there p ≡ true
-        → byte_at (before ++ record_there ∷ after) p ≡ get_or record_there.bytes (p - record_there.place) 255 }
+    ensures covered { (before after : List DataRecord) (x : DataRecord) (p : ℕ) → AreApart (before ++ x ∷ after) → covers x p ≡ true
+        → byte_at (before ++ x ∷ after) p ≡ get_or x.bytes (p - x.place) 255 }
     ensures free { (records : List DataRecord) (p : ℕ) → covered records p ≡ false → byte_at records p ≡ 255 }
 {}
 

@@ -151,6 +151,9 @@ pub(crate) fn first_row(text: &[u8]) -> Option<(Row, &[u8])>
     ensures shorter { MatchOption result (Unit {0}) (λ r. length r.1.now < length text.now) }
 {
     let (line, rest) = text.split_first_chunk::<44>()?;
+    if line[0] != b':' || line[43] != b'\n' {
+        return None;
+    }
     let row = guess_row(line);
     if row_line(row.address, &row.content) != *line {
         return None;

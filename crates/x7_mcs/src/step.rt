@@ -13,6 +13,9 @@ use crate::lines::next_line;
 use crate::record::{Meaning, data_of, meaning_of};
 use crate::row::first_row;
 
+/// The digits of the longest record: 255 bytes of data, and five beside them.
+const MOST_DIGITS: usize = 520;
+
 /// The base that stands, and whether a record 01 stood.
 #[derive(Clone, Copy)]
 pub(crate) struct Context {
@@ -89,6 +92,9 @@ fn put_line(
         return Err(McsFault::Line(n));
     }
     let (_, digits) = line.split_at(1);
+    if digits.len() > MOST_DIGITS {
+        return Err(McsFault::Line(n));
+    }
     decoded.clear();
     let Ok(()) = decoded.reserve(digits.len()) else {
         return Err(McsFault::NoMemory);

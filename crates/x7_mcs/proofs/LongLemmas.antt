@@ -1,0 +1,68 @@
+-- A line that is too long for a record.
+use Rattle.std.proofs.Common.{◌≡◌, ◌==◌, ◌&&◌, ℕ, ◌+◌, ◌-◌, ◌*◌, ◌<◌, ◌≤◌, nat_le, not, Bool, true, false, if◌then◌else◌, List, [], ◌∷◌, Option, None, Some, Result, Ok, Err, length, drop, get_or, refl, ap, sym, ◌∙◌, arith}
+use Rattle.std.proofs.lemmas.Bool.{and_parts, leb-true}
+use Rattle.std.proofs.lemmas.Grind.{common_steps}
+use Rattle.x7_mcs.specs.Record.{byte_of, count_of, digit_of, got_of, led, meaning_by_type, pairs, wanted_of}
+use Rattle.x7_mcs.specs.Flash.{Reading, after_bytes, after_line, after_meaning}
+use Rattle.x7_mcs.specs.declared.fault.McsFault.TheVariants as fault
+
+digit-by : (a b d : Bool) (c n : ℕ) → (a ≡ true → c ≤ 57) → (b ≡ true → c ≤ 70) → (d ≡ true → c ≤ 102) → (if a then Some (c - 48) else if b then Some (c - 55) else if d then Some (c - 87) else None) ≡ Some n → n < 16
+digit-by true b d c n h i j e = let s : c - 48 ≡ n = cc in let l : c ≤ 57 = h refl in omega (arith, s, l)
+digit-by false true d c n h i j e = let s : c - 55 ≡ n = cc in let l : c ≤ 70 = i refl in omega (arith, s, l)
+digit-by false false true c n h i j e = let s : c - 87 ≡ n = cc in let l : c ≤ 102 = j refl in omega (arith, s, l)
+digit-by false false false c n h i j e = absurd cc
+
+digit-small : (c n : ℕ) → digit_of c ≡ Some n → n < 16
+digit-small c n e =
+    digit-by (nat_le 48 c && nat_le c 57) (nat_le 65 c && nat_le c 70) (nat_le 97 c && nat_le c 102) c n
+    (λ t. leb-true c 57 (and_parts (nat_le 48 c) (nat_le c 57) t).1)
+    (λ t. leb-true c 70 (and_parts (nat_le 65 c) (nat_le c 70) t).1)
+    (λ t. leb-true c 102 (and_parts (nat_le 97 c) (nat_le c 102) t).1) e
+
+byte-small : (p q : Option ℕ) (x : ℕ) → byte_of p q ≡ Some x → ((n : ℕ) → p ≡ Some n → n < 16) → ((n : ℕ) → q ≡ Some n → n < 16) → x < 256
+byte-small None q x e h i = absurd cc
+byte-small (Some a) None x e h i = absurd cc
+byte-small (Some a) (Some b) x e h i = let s : 16 * a + b ≡ x = cc in let k : a < 16 = h a refl in let l : b < 16 = i b refl in omega (arith, s, k, l)
+
+led-first : (o : Option ℕ) (p : Option (List ℕ)) (bs : List ℕ) → led o p ≡ Some bs → ((x : ℕ) → o ≡ Some x → x < 256) → get_or bs 0 0 < 256
+led-first None p bs e h = absurd cc
+led-first (Some x) None bs e h = absurd cc
+led-first (Some x) (Some ys) bs e h = let s : x ∷ ys ≡ bs = cc in let f : x ≡ get_or bs 0 0 = ap (λ t. get_or t 0 0) s in let k : x < 256 = h x refl in omega (arith, f, k)
+
+led-length : (o : Option ℕ) (p : Option (List ℕ)) (bs : List ℕ) (n : ℕ) → led o p ≡ Some bs → ((ys : List ℕ) → p ≡ Some ys → 2 * length ys ≡ n) → 2 * length bs ≡ n + 2
+led-length None p bs n e h = absurd cc
+led-length (Some x) None bs n e h = absurd cc
+led-length (Some x) (Some ys) bs n e h = let s : x ∷ ys ≡ bs = cc in let f : length (x ∷ ys) ≡ length bs = ap length s in let k : 2 * length ys ≡ n = h ys refl in omega (arith, f, k)
+
+pairs-long : (cs bs : List ℕ) → pairs cs ≡ Some bs → 2 * length bs ≡ length cs
+pairs-long [] bs e = let s : [] ≡ bs = cc in let f : length {A = ℕ} [] ≡ length bs = ap length s in omega (arith, f)
+pairs-long (a ∷ []) bs e = absurd cc
+pairs-long (a ∷ b ∷ cs) bs e = let k : 2 * length bs ≡ length cs + 2 = led-length (byte_of (digit_of a) (digit_of b)) (pairs cs) bs (length cs) e (λ ys f. pairs-long cs ys f) in omega (arith, k)
+
+count-small : (cs bs : List ℕ) → pairs cs ≡ Some bs → count_of bs < 256
+count-small [] bs e = let s : [] ≡ bs = cc in let f : 0 ≡ get_or bs 0 0 = ap (λ t. get_or t 0 0) s in omega (arith, f)
+count-small (a ∷ []) bs e = absurd cc
+count-small (a ∷ b ∷ cs) bs e = led-first (byte_of (digit_of a) (digit_of b)) (pairs cs) bs e (λ x f. byte-small (digit_of a) (digit_of b) x f (digit-small a) (digit-small b))
+
+differ : (a b : ℕ) → a < b → (a == b) ≡ false
+differ a b h = grind (arith, common_steps)
+
+long-by : (o : Option (List ℕ)) (n : ℕ) (r : Reading) (digits : List ℕ) → pairs digits ≡ o → 520 < length digits → after_bytes n r o ≡ Err (fault.Line n)
+long-by None n r digits e h = refl
+long-by (Some bs) n r digits e h =
+    let long : 2 * length bs ≡ length digits = pairs-long digits bs e in
+    let small : count_of bs < 256 = count-small digits bs e in
+    ap (λ (b : Bool). after_meaning n r bs (if not b then Err (fault.Line n) else if not (wanted_of bs == got_of bs) then Err (fault.Sum n (wanted_of bs) (got_of bs)) else if r.ended then Err (fault.Line n) else meaning_by_type n bs))
+    (differ (count_of bs + 5) (length bs) (omega (arith, long, small)))
+
+too-long : (n : ℕ) (r : Reading) (digits : List ℕ) → 520 < length digits → after_bytes n r (pairs digits) ≡ Err (fault.Line n)
+too-long n r digits h = long-by (pairs digits) n r digits refl h
+
+same : (c : ℕ) → c ≡ 58 → (c == 58) ≡ true
+same c e = grind (arith, common_steps)
+
+pub long-line : (n : ℕ) (r : Reading) (line digits : List ℕ) → get_or line 0 0 ≡ 58 → digits ≡ drop 1 line → 520 < length digits → after_line n r line ≡ Err (fault.Line n)
+long-line n r [] digits e f h = absurd (omega (arith, h, ap length f))
+long-line n r (c ∷ cs) digits e f h =
+    let long : 520 < length cs = omega (arith, h, ap length f) in
+    ap (λ (b : Bool). if b then after_bytes n r (pairs cs) else Err (fault.Line n)) (same c e) ∙ too-long n r cs long
