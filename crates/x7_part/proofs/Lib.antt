@@ -1,4 +1,5 @@
 pub mod ColumnLemmas
+pub mod WidthLemmas
 pub mod RowLemmas
 pub mod TableLemmas
 pub mod FieldLemmas
@@ -6,4 +7,5 @@ pub mod PartLemmas
 pub mod FileLemmas
 pub mod RangeLemmas
 pub mod OrderLemmas
+pub mod SortLemmas
 pub mod PassLemmas

@@ -2,14 +2,15 @@
 #![tactic(auto)]
 
 mod address;
+mod checks;
 mod column;
 mod fault;
-mod keys;
+mod kind;
 mod lookup;
 mod parse;
 mod part;
-mod read;
 mod row;
+mod rule;
 mod slot;
 mod table;
 #[cfg(test)]
