@@ -2,6 +2,5 @@ pub mod Causes
 pub mod ReadLemmas
 pub mod RunLemmas
 pub mod TurnLemmas
-pub mod PartLemmas
 pub mod PlayLemmas
 pub mod ReadsLemmas

@@ -3,7 +3,7 @@ use Rattle.std.proofs.Common.{◌≡◌, ℕ, zero, suc, List, [], ◌∷◌, �
 use Rattle.x7_words.proofs.CountLemmas.{risen_from}
 use Rattle.x7_part.specs.Part.{PartData}
 use Rattle.x7_tool.specs.Outcome.{Event, Missing, ReadFault, NoMemory, Told, and_so, behind, data_of, part_by, raw, whole_in, with_inputs}
-use Rattle.x7_tool.specs.Parts.{part_in}
+use Rattle.x7_part.specs.PartFile.{part_in}
 use Rattle.x7_tool.specs.Run.{Among, IsCaused, IsDecidedResult, IsFree, IsFreeResult, IsOpenResult, RisesFor}
 
 -- ---- one input

@@ -9,7 +9,7 @@ use Rattle.x7_engine.specs.Kept.{on_the_bench}
 use Rattle.x7_engine.specs.State.{line_by, reads_of, state_of, stop_in}
 use Rattle.x7_engine.specs.Stops.{fault_of}
 use Rattle.x7_tool.specs.Form.{Asked, Listing, Playing, names_flash}
-use Rattle.x7_tool.specs.Parts.{part_in}
+use Rattle.x7_part.specs.PartFile.{part_in}
 use Rattle.x7_tool.specs.Report.{report_text}
 
 -- what is told: the bytes of each input by its name, and those of the flash where they are told

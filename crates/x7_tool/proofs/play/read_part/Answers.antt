@@ -1,9 +1,8 @@
 use Rattle.std.proofs.Common.{ℕ, List, [], ◌∷◌, Ok, Err, ap}
 use Rattle.x7_tool.specs.Outcome.{part_by, part_limit, with_inputs}
-use Rattle.x7_tool.specs.Parts.{part_in}
+use Rattle.x7_part.specs.PartFile.{part_in}
 use Rattle.x7_tool.specs.Play.{part_event}
 use Rattle.x7_tool.specs.Run.{RisesFor}
-use Rattle.x7_tool.proofs.PartLemmas.{part_is}
 use Rattle.x7_tool.proofs.PlayLemmas.{refused}
 use Rattle.x7_tool.proofs.ReadLemmas.{after_text, works}
 use Rattle.x7_tool.proofs.play.read_part.Goals as goal
@@ -18,7 +17,7 @@ returns-in-Ok-part_of-clause-due g c = λ flash.
     let text = c.read_onto.new.onto.items in
     let due = rw c.new-text.ensures.items at (c.in-Ok.ensures.due flash) in
     let part = rw c.deref.ensures.value at c.in-Ok-part_of.ensures.part in
-    after_text told F L part_limit name text (Ok c.in-Ok-part_of.part) due (works told F L (part_by name (part_in text)) (Ok c.in-Ok-part_of.part) tt tt (ap (part_by name) (part_is text c.in-Ok-part_of.part part)))
+    after_text told F L part_limit name text (Ok c.in-Ok-part_of.part) due (works told F L (part_by name (part_in text)) (Ok c.in-Ok-part_of.part) tt tt (ap (part_by name) part))
 
 pub returns-clause-due : goal.returns-clause-due
 returns-clause-due g c = λ flash.
