@@ -54,7 +54,7 @@ has_fields far (r ∷ rows) address in' =
       | inr later ↦ more_rows far r rows address (has_fields far rows address later)
     ]
 
-row_in : (far : FieldWidths) (rows : List RowData) (r : RowData) (k x : ℕ) → k < length rows → get_or rows k r ≡ r → Contains (addresses_of far r) x → Contains (addresses far rows) x
+pub row_in : (far : FieldWidths) (rows : List RowData) (r : RowData) (k x : ℕ) → k < length rows → get_or rows k r ≡ r → Contains (addresses_of far r) x → Contains (addresses far rows) x
 unfolding addresses
 row_in far [] r k x h e in' = absurd (omega arith)
 row_in far (s ∷ rows) r zero x h e in' = Contains-append_left (addresses_of far s) (addresses far rows) x (rw e in')

@@ -4,6 +4,7 @@ pub mod RowLemmas
 pub mod TableLemmas
 pub mod FieldLemmas
 pub mod PartLemmas
+pub mod SlotLemmas
 pub mod FileLemmas
 pub mod RangeLemmas
 pub mod OrderLemmas

@@ -26,7 +26,7 @@ slots_count far (r ∷ rows) =
     let ih = slots_count far rows in
     omega arith
 
-first_minors : (minors : List ℕ) → 1 ≤ length minors → All (λ n. (1 ≤ n) × (n ≤ 128)) minors → 0 < sum minors
+pub first_minors : (minors : List ℕ) → 1 ≤ length minors → All (λ n. (1 ≤ n) × (n ≤ 128)) minors → 0 < sum minors
 first_minors [] h all = absurd (omega arith)
 first_minors (n ∷ minors) h all =
     let s : sum (n ∷ minors) ≡ n + sum minors = sum_by-cons (λ x. x) n minors in

@@ -6,6 +6,7 @@ mod checks;
 mod column;
 mod fault;
 mod kind;
+mod law;
 mod lookup;
 mod parse;
 mod part;
@@ -18,6 +19,7 @@ mod tests;
 mod values;
 
 pub use fault::{PartFault, PartKey, Which};
+pub use law::slot_laws;
 pub use parse::part_of;
 pub use part::Part;
 pub use slot::Slot;
