@@ -5,6 +5,8 @@ use Rattle.std.specs.Int.{bit_at}
 use Rattle.std.specs.List.{list_any}
 use Rattle.x7_packets.specs.History.{Access, Write, History, last_word, command_held, executed_by, is_command}
 use Rattle.x7_crc.specs.OpenWrites.{running_check}
+use Rattle.x7_part.specs.Part.{PartData}
+use Rattle.x7_part.specs.FrameAddress.{far_width}
 use Rattle.x7_regs.specs.declared.command.Command.TheVariants.{Aghigh, Iprog, Lfrm, Rcrc, Shutdown}
 use Rattle.x7_regs.specs.declared.register.Reg.{Reg}
 use Rattle.x7_regs.specs.declared.register.Reg.TheVariants.{Cbc, Cmd, Crc, Ctl0, Ctl1, Far, Fdri, Idcode, Lout, Mask, Mfwr, Timer}
@@ -48,9 +50,9 @@ pub record HasMaskedBits (register n : ℕ) (h : History) : Type 0 where
 abbrev pub ctl0_held : History → ℕ
 ctl0_held h = masked (number_of Ctl0) h
 
--- the frame address that FAR was last loaded with: its word's bits 25:0
-abbrev pub far_loaded : History → ℕ
-far_loaded h = last_word (number_of Far) 0 h % 2 ^ 26
+-- the frame address that FAR was last loaded with: its word's bits within the part's width of an address
+abbrev pub far_loaded : PartData → History → ℕ
+far_loaded part h = last_word (number_of Far) 0 h % 2 ^ far_width part
 
 -- a written IDCODE is the part's where the low 28 bits agree (that bits 31:28 aren't compared is this project's choice)
 abbrev pub same_idcode : ℕ → ℕ → Bool

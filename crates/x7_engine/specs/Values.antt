@@ -80,7 +80,7 @@ attempt_of kept wrapped fault h = record { kind = kept.kind; cause = cause_of fa
 -- the value of a register after a history with n bytes taken, and 0 for one that is only written
 abbrev pub value_of : PartData → Kept → Bool → Option Fault → History → ℕ → Reg → ℕ
 value_of part kept wrapped fault h n Crc = check_shown fault h
-value_of part kept wrapped fault h n Far = far_loaded h
+value_of part kept wrapped fault h n Far = far_loaded part h
 value_of part kept wrapped fault h n Fdri = 0
 value_of part kept wrapped fault h n Fdro = 0
 value_of part kept wrapped fault h n Cmd = command_held h

@@ -1,5 +1,5 @@
 //! The values of the registers as they are read (UG470, configuration registers).
-ghost use Rattle.std.specs.Prelude.{◌≡◌, ◌&&◌, ℕ, None, false};
+ghost use Rattle.std.specs.Prelude.{◌≡◌, ◌≤◌, ◌%◌, ◌^◌, ◌&&◌, ℕ, None, false};
 ghost use Rattle.x7_packets.specs.History.{History};
 ghost use Rattle.x7_part.specs.Part.{PartData};
 ghost use Rattle.x7_regs.specs.Status.{status_of};
@@ -15,6 +15,14 @@ use crate::registers::Registers;
 use crate::stop::Stop;
 use x7_part::Part;
 use x7_regs::{Attempt, Cause, Kind, Reg, StatParts, boot_word, reg_of, stat_word};
+
+/// The lowest bits of a word.
+fn low_bits(word: u32, width: u32) -> u32
+    requires { width ≤ 32 }
+    ensures { result ≡ word % 2 ^ width }
+{
+    (u64::from(word) % (1 << width)) as u32
+}
 
 /// Whether the stop is the fault `Crc`.
 fn is_crc(stop: Option<Stop>) -> bool
@@ -112,7 +120,7 @@ impl Registers {
     {
         match reg {
             Reg::Crc     => self.check(),
-            Reg::Far     => self.words.held(Reg::Far) & 0x03FF_FFFF,
+            Reg::Far     => low_bits(self.words.held(Reg::Far), part.far_width()),
             Reg::Fdri    => 0,
             Reg::Fdro    => 0,
             Reg::Cmd     => self.words.held(Reg::Cmd) & 31,

@@ -1,3 +1,6 @@
 pub mod FrameLemmas
+pub mod FlatLemmas
+pub mod StoredLemmas
+pub mod ZeroLemmas
 pub mod PlanLemmas
 pub mod MapLemmas

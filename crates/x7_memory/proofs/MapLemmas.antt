@@ -4,7 +4,7 @@ use Rattle.std.specs.Prelude.{Contains}
 use Rattle.std.proofs.lemmas.Bool.Decides.{eqb_tells}
 use Rattle.std.proofs.lemmas.List.{get_or-map, length-map, length-append, get_or-append-add, ext_get_or}
 use Rattle.std.proofs.lemmas.Option.{none-some, same_Some}
-use Rattle.x7_part.specs.AddressOrder.{addresses}
+use Rattle.x7_part.specs.AddressOrder.{addresses_in}
 use Rattle.x7_part.specs.Part.{PartData, frame_words}
 use Rattle.x7_memory.specs.FrameMap.{FrameMap, or_else, override, only, AreDisjoint, AreSame}
 use Rattle.x7_memory.specs.Frames.{frame_among, frame_at, zeros, AreFramesOf}
@@ -62,16 +62,16 @@ among_all (suc k) far words (a ∷ fars) h e =
       | inr n ↦ among_behind a fars words (replicate (length fars) words) far n.1 ∙ among_all k far words fars (omega arith) e
     ]
 
-pub zeros_at : (part : PartData) (far : ℕ) → Contains (addresses part.rows) far → zeros part far ≡ Some (replicate (frame_words part) 0)
-zeros_at part far has = among_all has.0 far (replicate (frame_words part) 0) (addresses part.rows) has.1 has.2
+pub zeros_at : (part : PartData) (far : ℕ) → Contains (addresses_in part) far → zeros part far ≡ Some (replicate (frame_words part) 0)
+zeros_at part far has = among_all has.0 far (replicate (frame_words part) 0) (addresses_in part) has.1 has.2
 
 pub same_memory : (part : PartData) (m n : List (List ℕ)) → AreFramesOf part m → AreFramesOf part n → AreSame (frame_at part m) (frame_at part n) → m ≡ n
 same_memory part m n are also_are same =
     let cm = are.count in let cn = also_are.count in
     ext_get_or [] m n (omega arith) (λ i h.
-    let far = get_or (addresses part.rows) i 0 in
-    let first = among_found 0 i far [] (addresses part.rows) m are.order are.count (omega arith) refl in
-    let second = among_found 0 i far [] (addresses part.rows) n are.order also_are.count (omega arith) refl in
+    let far = get_or (addresses_in part) i 0 in
+    let first = among_found 0 i far [] (addresses_in part) m are.order are.count (omega arith) refl in
+    let second = among_found 0 i far [] (addresses_in part) n are.order also_are.count (omega arith) refl in
     same_Some _ _ (sym first ∙ same far ∙ second))
 
 -- ---- plans
@@ -135,8 +135,8 @@ or_else_either : (a b c : Option (List ℕ)) → (a ≡ None → b ≡ c) → or
 or_else_either None b c same = same refl
 or_else_either (Some words) b c same = refl
 
-pub override_whole : (part : PartData) (plan : PlanData) (frames : List (List ℕ)) → ((far : ℕ) → Contains (addresses part.rows) far → Contains (planned_addresses plan.rows) far) →
+pub override_whole : (part : PartData) (plan : PlanData) (frames : List (List ℕ)) → ((far : ℕ) → Contains (addresses_in part) far → Contains (planned_addresses plan.rows) far) →
     AreSame (override (frame_at part frames) (planned plan.rows)) (total part plan)
 override_whole part plan frames all far = or_else_either (planned plan.rows far) (frame_at part frames far) (zeros part far) (λ none.
-    let out : Contains (addresses part.rows) far → ⊥ = λ has. named_some plan.rows far (all far has) none in
-    among_none far (addresses part.rows) frames out ∙ sym (among_none far (addresses part.rows) _ out))
+    let out : Contains (addresses_in part) far → ⊥ = λ has. named_some plan.rows far (all far has) none in
+    among_none far (addresses_in part) frames out ∙ sym (among_none far (addresses_in part) _ out))

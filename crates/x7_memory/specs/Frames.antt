@@ -1,7 +1,8 @@
 -- The frames of a memory: one for each address of its part, in number order.
 use Rattle.std.specs.Prelude.{◌≡◌, ℕ, List, ◌∷◌, length, replicate, All, Some, None, if◌then◌else◌, ◌==◌}
 use Rattle.x7_part.specs.Part.{PartData, frame_words}
-use Rattle.x7_part.specs.AddressOrder.{addresses, Rises}
+use Rattle.x7_part.specs.AddressOrder.{addresses_in, Rises}
+use Rattle.x7_words.specs.Word.{AreWords}
 use Rattle.x7_memory.specs.FrameMap.{FrameMap}
 
 -- the first frame whose address is this one
@@ -11,17 +12,18 @@ frame_among _ _ far = None
 
 -- the memory of a part as a map from its addresses to frames
 abbrev pub frame_at : PartData → List (List ℕ) → FrameMap
-frame_at part frames = frame_among (addresses part.rows) frames
+frame_at part frames = frame_among (addresses_in part) frames
 
--- they are frames of this part, whose addresses rise
+-- they are frames of this part, whose addresses rise, and their words have 32 bits
 pub record AreFramesOf (part : PartData) (frames : List (List ℕ)) : Type 0 where
-  pub order : Rises 0 (addresses part.rows)
-  pub count : length frames ≡ length (addresses part.rows)
+  pub order : Rises 0 (addresses_in part)
+  pub count : length frames ≡ length (addresses_in part)
   pub width : All (λ words. length words ≡ frame_words part) frames
+  pub words : All AreWords frames
 
 -- all frames zero, as frames and as a map
 abbrev pub zero_frames : PartData → List (List ℕ)
-zero_frames part = replicate (length (addresses part.rows)) (replicate (frame_words part) 0)
+zero_frames part = replicate (length (addresses_in part)) (replicate (frame_words part) 0)
 
 abbrev pub zeros : PartData → FrameMap
 zeros part = frame_at part (zero_frames part)

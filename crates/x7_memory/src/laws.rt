@@ -1,6 +1,6 @@
 //! Laws of maps, memories and plans, for the theorems above. The functions do nothing: their contracts are the laws.
 ghost use Rattle.std.specs.Prelude.{◌≡◌, ℕ, ◌<◌, ◌++◌, ◌==◌, ◌↔◌, if◌then◌else◌, List, length, replicate, slice_index_or, Contains, Some, None};
-ghost use Rattle.x7_part.specs.AddressOrder.{addresses};
+ghost use Rattle.x7_part.specs.AddressOrder.{addresses_in};
 ghost use Rattle.x7_part.specs.Part.{PartData, frame_words};
 ghost use Rattle.x7_memory.specs.FrameMap.{FrameMap, override, nothing, only, AreDisjoint, AreSame};
 ghost use Rattle.x7_memory.specs.Frames.{frame_at, zeros, AreFramesOf};
@@ -18,8 +18,8 @@ pub fn override_laws()
 
 /// A memory as a map: the part's addresses alone have frames, zeros are zeros, and equal maps are equal memories.
 pub fn memory_laws()
-    ensures outside { (part : PartData) (frames : List (List ℕ)) (far : ℕ) → (¬ Contains (addresses part.rows) far) → frame_at part frames far ≡ None }
-    ensures zeros { (part : PartData) (far : ℕ) → Contains (addresses part.rows) far → zeros part far ≡ Some (replicate (frame_words part) 0) }
+    ensures outside { (part : PartData) (frames : List (List ℕ)) (far : ℕ) → (¬ Contains (addresses_in part) far) → frame_at part frames far ≡ None }
+    ensures zeros { (part : PartData) (far : ℕ) → Contains (addresses_in part) far → zeros part far ≡ Some (replicate (frame_words part) 0) }
     ensures equal { (part : PartData) (m n : List (List ℕ)) → AreFramesOf part m → AreFramesOf part n → AreSame (frame_at part m) (frame_at part n) → m ≡ n }
 {}
 
@@ -32,5 +32,5 @@ pub fn plan_laws()
     ensures total { (part : PartData) (plan : PlanData) → AreSame (total part plan) (override (zeros part) (planned plan.rows)) }
     ensures unplanned { (part : PartData) (plan : PlanData) (far : ℕ) → (¬ Contains (planned_addresses plan.rows) far) → total part plan far ≡ zeros part far }
     ensures planned { (part : PartData) (plan : PlanData) (far : ℕ) → Contains (planned_addresses plan.rows) far → total part plan far ≡ planned plan.rows far }
-    ensures whole { (part : PartData) (plan : PlanData) (frames : List (List ℕ)) → ((far : ℕ) → Contains (addresses part.rows) far → Contains (planned_addresses plan.rows) far) → AreSame (override (frame_at part frames) (planned plan.rows)) (total part plan) }
+    ensures whole { (part : PartData) (plan : PlanData) (frames : List (List ℕ)) → ((far : ℕ) → Contains (addresses_in part) far → Contains (planned_addresses plan.rows) far) → AreSame (override (frame_at part frames) (planned plan.rows)) (total part plan) }
 {}

@@ -1,6 +1,6 @@
 //! The frames of a device.
-ghost use Rattle.std.specs.Prelude.{◌≡◌, ℕ, ◌<◌, ◌≤◌, ◌-◌, ◌++◌, ◌==◌, if◌then◌else◌, List, length, replicate, slice_set, slice_index_or, vec_capacity, All, Contains, Some, None, IfSome, IfNone, IfOk};
-ghost use Rattle.x7_part.specs.AddressOrder.{addresses};
+ghost use Rattle.std.specs.Prelude.{◌≡◌, ℕ, ◌<◌, ◌≤◌, ◌+◌, ◌-◌, ◌++◌, ◌==◌, if◌then◌else◌, List, length, take, drop, replicate, slice_set, slice_index_or, vec_capacity, All, Contains, Some, None, IfSome, IfNone, IfOk};
+ghost use Rattle.x7_part.specs.AddressOrder.{addresses_in};
 ghost use Rattle.x7_part.specs.Part.{PartData, frame_words};
 ghost use Rattle.x7_memory.specs.Frames.{frame_at, zero_frames, AreFramesOf};
 
@@ -9,26 +9,32 @@ use std::marker::Model;
 use x7_part::Part;
 use x7_words::NoMemory;
 
-/// The words of a frame, which is `words()` of each part.
-const FRAME_WORDS: usize = 101;
+/// The most words that a frame may have.
+const MOST_WORDS: usize = 255;
+
+/// A frame that was never put.
+static ZEROS: [u32; MOST_WORDS] = [0; MOST_WORDS];
 
 /// The frames of a part, as they stand in a device.
 #[derive(Drop)]
 pub struct Memory {
-    /// The frames by rank, up to the last one that was put since all were zero. There is room for `count`.
-    frames: Vec<[u32; FRAME_WORDS]>,
-    /// The number of all frames. Those behind `frames` are zero.
+    /// The words of the frames by rank, up to the last frame that was put since all were zero. There is room for all.
+    words: Vec<u32>,
+    /// The words of a frame.
+    width: usize,
+    /// The number of all frames. Those behind `words` are zero.
     count: usize,
-    /// A frame of zeros.
-    zero: [u32; FRAME_WORDS],
 }
 
 impl Model for Memory {
+    ghost use Rattle.std.specs.Prelude.{ℕ, List};
+    ghost use Rattle.x7_memory.specs.Stored.{seen, HasRoom};
+
     ghost Value = { List (List ℕ) };
 
-    ghost view = { λ m. m.frames.items ++ replicate (m.count - length m.frames.items) (replicate 101 0) };
+    ghost view = { seen };
 
-    ghost invariant = { λ m. (length m.frames.items ≤ m.count) × (m.count ≤ vec_capacity m.frames) × (m.zero ≡ replicate 101 0) × All (λ f. length f ≡ 101) m.frames.items };
+    ghost invariant = { HasRoom };
 }
 
 impl Memory {
@@ -38,11 +44,12 @@ impl Memory {
         ensures part { IfOk result (λ memory. AreFramesOf part.now memory) }
     {
         let count = part.frames() as usize;
-        match Vec::with_capacity(alloc, count) {
-            Ok(frames) => Ok(Memory {
-                frames,
+        let width = part.words() as usize;
+        match Vec::with_capacity(alloc, width * count) {
+            Ok(words) => Ok(Memory {
+                words,
+                width,
                 count,
-                zero: [0; FRAME_WORDS],
             }),
             Err(_) => Err(NoMemory),
         }
@@ -53,7 +60,7 @@ impl Memory {
         requires part { AreFramesOf part.now self.now }
         ensures found { IfSome result (λ words. frame_at part.now self.now far ≡ Some words.now) }
         ensures width { IfSome result (λ words. length words.now ≡ frame_words part.now) }
-        ensures none { IfNone result (¬ Contains (addresses part.now.rows) far) }
+        ensures none { IfNone result (¬ Contains (addresses_in part.now) far) }
         ensures nothing { IfNone result (frame_at part.now self.now far ≡ None) }
     {
         let rank = part.rank(far)?;
@@ -65,16 +72,18 @@ impl Memory {
         requires { rank < length self.now }
         ensures { (d : List ℕ) → result.now ≡ slice_index_or self.now rank d }
     {
-        match self.frames.get(rank) {
-            Some(frame) => frame,
-            None => &self.zero,
+        let start = self.width * rank;
+        if start < self.words.len() {
+            words_from(&self.words, start, self.width)
+        } else {
+            words_from(&ZEROS, 0, self.width)
         }
     }
 
     /// Puts a frame at an address of the part.
     pub fn put(&mut self, part: &Part, far: u32, words: &[u32])
         requires part { AreFramesOf part.now self.old }
-        requires address { Contains (addresses part.now.rows) far }
+        requires address { Contains (addresses_in part.now) far }
         requires width { length words.now ≡ frame_words part.now }
         ensures put { (a : ℕ) → frame_at part.now self.new a ≡ (if a == far then Some words.now else frame_at part.now self.old a) }
         ensures part { AreFramesOf part.now self.new }
@@ -87,11 +96,12 @@ impl Memory {
     /// Puts the frame of a rank.
     fn put_at(&mut self, rank: usize, words: &[u32])
         requires rank { rank < length self.old }
-        requires width { length words.now ≡ 101 }
+        requires width { (d : List ℕ) → length words.now ≡ length (slice_index_or self.old rank d) }
         ensures { self.new ≡ slice_set self.old rank words.now }
     {
-        fill(&mut self.frames, rank + 1, &self.zero);
-        self.frames[rank].copy_from_slice(words);
+        let start = self.width * rank;
+        fill(&mut self.words, start + self.width);
+        write_over(&mut self.words, start, words);
     }
 
     /// Makes all frames zeros.
@@ -99,39 +109,56 @@ impl Memory {
         ensures zeros { (part : PartData) → AreFramesOf part self.old → self.new ≡ zero_frames part }
         ensures part { (part : PartData) → AreFramesOf part self.old → AreFramesOf part self.new }
     {
-        self.frames.clear();
+        self.words.clear();
     }
 
     /// An equal memory.
     pub fn copy(&self, alloc: Global) -> Result<Memory, NoMemory>
         ensures { IfOk result (λ memory. memory ≡ self.now) }
     {
-        let mut frames = match Vec::with_capacity(alloc, self.count) {
-            Ok(frames) => frames,
+        let mut words = match Vec::with_capacity(alloc, self.width * self.count) {
+            Ok(words) => words,
             Err(_) => return Err(NoMemory),
         };
-        match frames.extend_from_slice(&self.frames) {
+        match words.extend_from_slice(&self.words) {
             Ok(()) => Ok(Memory {
-                frames,
+                words,
+                width: self.width,
                 count: self.count,
-                zero: self.zero,
             }),
             Err(_) => Err(NoMemory),
         }
     }
 }
 
-/// Appends copies of a frame where there are fewer than so many, for which there is room.
-fn fill(frames: &mut Vec<[u32; FRAME_WORDS]>, count: usize, frame: &[u32; FRAME_WORDS])
-    requires room { count ≤ vec_capacity frames.old }
-    ensures items { frames.new.items ≡ frames.old.items ++ replicate (count - length frames.old.items) frame.now }
-    ensures room { vec_capacity frames.old ≤ vec_capacity frames.new }
+/// Appends zeros where there are fewer than so many words, for which there is room.
+fn fill(words: &mut Vec<u32>, count: usize)
+    requires room { count ≤ vec_capacity words.old }
+    ensures items { words.new.items ≡ words.old.items ++ replicate (count - length words.old.items) 0 }
+    ensures room { vec_capacity words.old ≤ vec_capacity words.new }
 {
-    if count <= frames.len() {
+    if count <= words.len() {
         return;
     }
-    match frames.resize(count, *frame) {
+    match words.resize(count, 0) {
         Ok(()) => (),
         Err(_) => (),
     }
+}
+
+/// Writes a frame over the words from a place on.
+fn write_over(words: &mut Vec<u32>, start: usize, frame: &[u32])
+    requires { start + length frame.now ≤ length words.old.items }
+    ensures items { words.new.items ≡ take start words.old.items ++ (frame.now ++ drop (start + length frame.now) words.old.items) }
+    ensures room { vec_capacity words.new ≡ vec_capacity words.old }
+{
+    words[start..start + frame.len()].copy_from_slice(frame);
+}
+
+/// So many words from a place on.
+fn words_from(words: &[u32], start: usize, count: usize) -> &[u32]
+    requires inside { start + count ≤ length words.now }
+    ensures { result.now ≡ take count (drop start words.now) }
+{
+    &words[start..start + count]
 }

@@ -34,7 +34,7 @@ fn put(memory: &mut Memory, part: &Part, far: u32, word: u32)
     ensures { AreFramesOf part.now memory.new }
 {
     if part.is_address(far) {
-        memory.put(part, far, &[word; 101]);
+        memory.put(part, far, &[word; 255][..part.words() as usize]);
     }
 }
 
@@ -56,6 +56,27 @@ fn planned(alloc: Global, addresses: &[u32]) -> Result<(Plan, usize), NoMemory> 
         }
     }
     Ok((plan, added))
+}
+
+#[test]
+fn frames_of_other_widths(rt: HostRuntime) -> Result<(), Fail> {
+    // the words of a frame
+    for (key, width) in [("2", 2), ("101", 101), ("255", 255)] {
+        let mut text = String::from_str(rt.alloc(), "frame_words = ")?;
+        text.push_str(key)?;
+        text.push_str("\n")?;
+        text.push_str(TINY)?;
+        let part = part_of(rt.alloc(), text.as_bytes())?;
+        let mut memory = Memory::new(rt.alloc(), &part)?;
+        put(&mut memory, &part, 0x0040_0000, 7);
+        put(&mut memory, &part, 0x0000_0001, 9);
+        let copied = memory.copy(rt.alloc())?;
+        let words = [(0, 0), (1, 9), (0x0040_0000, 7), (0x0040_0001, 0)];
+        for (far, word) in words {
+            assert_eq!(rt; copied.frame(&part, far), Some(&[word; 255][..width]), "{width}");
+        }
+    }
+    Ok(())
 }
 
 #[test]

@@ -183,7 +183,7 @@ next_rank _ _ _ _ (column r s l c cs er es le pos top rest) (suc i) d h =
     let e : suc i + 1 ≡ suc (i + 1) = omega arith in
     rw e (next_rank (r + c.count) (s + c.count + c.pads) (c.first + c.count) cs rest i d (omega arith))
 
-pub bounded : (r s l : ℕ) (cs : List Column) → IsTable r s l cs → (i : ℕ) (d : Column) → i < length cs → (get_or cs i d).first + (get_or cs i d).count ≤ 2 ^ 26
+pub bounded : (r s l : ℕ) (cs : List Column) → IsTable r s l cs → (i : ℕ) (d : Column) → i < length cs → (get_or cs i d).first + (get_or cs i d).count ≤ 2 ^ 32
 bounded _ _ _ _ (no_column r s l) i d h = absurd (omega arith)
 bounded _ _ _ _ (column r s l c cs er es le pos top rest) zero d h = top
 bounded _ _ _ _ (column r s l c cs er es le pos top rest) (suc i) d h =

@@ -1,9 +1,10 @@
 -- Items and rows of a part file, one by one.
-use Rattle.std.proofs.Common.{◌≡◌, ℕ, ◌+◌, ◌<◌, List, [], ◌∷◌, suc, Some, None, length, get_or, drop, sym, ap, ◌∙◌, refl}
+use Rattle.std.proofs.Common.{◌≡◌, ℕ, ◌+◌, ◌<◌, List, [], ◌∷◌, suc, Some, None, length, get_or, drop, sym, ap, ◌∙◌, refl, false}
 use Rattle.toml.specs.Data.{Data, Items, item, Members, string, integer, float, boolean, datetime, array, table, as_table}
 use Rattle.toml.specs.View.{view, items_view}
 use Rattle.toml.specs.declared.value.Value.{Value}
-use Rattle.x7_part.specs.PartFile.{count, numbers, tables}
+use Rattle.x7_part.specs.PartChecks.{are_widths}
+use Rattle.x7_part.specs.PartValues.{count, numbers, tables}
 use Rattle.std.proofs.lemmas.Option.{none-some, same_Some}
 use Rattle.toml.proofs.Views.{items_view-drop}
 
@@ -46,3 +47,13 @@ tables_more vs i v t h same e = ap tables (items_more vs i v h same) ∙ tables_
 pub tables_stay : (vs : List Value) (i : ℕ) (v : Value) → i < length vs → v ≡ get_or vs i v → None ≡ as_table (view v) →
     tables (items_view (drop i vs)) ≡ tables (items_view (drop (i + 1) vs))
 tables_stay vs i v h same e = ap tables (items_more vs i v h same) ∙ tables_none (view v) (items_view (drop (i + 1) vs)) e
+
+-- a list of five values is five numbers, and no other list has the widths of an address
+pub not_five : (vs : List Value) → (length vs ≡ 5 → ⊥) → false ≡ are_widths (numbers (items_view vs))
+not_five [] h = refl
+not_five (a ∷ []) h = refl
+not_five (a ∷ b ∷ []) h = refl
+not_five (a ∷ b ∷ c ∷ []) h = refl
+not_five (a ∷ b ∷ c ∷ d ∷ []) h = refl
+not_five (a ∷ b ∷ c ∷ d ∷ e ∷ []) h = absurd (h refl)
+not_five (a ∷ b ∷ c ∷ d ∷ e ∷ f ∷ vs) h = refl

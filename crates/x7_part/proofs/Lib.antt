@@ -1,9 +1,12 @@
 pub mod ColumnLemmas
+pub mod WidthLemmas
 pub mod RowLemmas
 pub mod TableLemmas
 pub mod FieldLemmas
 pub mod PartLemmas
+pub mod SlotLemmas
 pub mod FileLemmas
 pub mod RangeLemmas
 pub mod OrderLemmas
+pub mod SortLemmas
 pub mod PassLemmas

@@ -6,55 +6,55 @@ use Rattle.std.proofs.lemmas.List.Elements.{All-head}
 use Rattle.std.proofs.lemmas.List.Sums.{sum_by-cons}
 use Rattle.x7_part.specs.declared.column.Column.{Column}
 use Rattle.x7_part.specs.declared.slot.Slot.TheVariants.{Frame, Pad}
-use Rattle.x7_part.specs.Part.{RowData, PartData}
+use Rattle.x7_part.specs.Part.{FieldWidths, RowData, PartData}
 use Rattle.x7_part.specs.PartRange.{IsPart}
 use Rattle.x7_part.specs.FrameAddress.{AreRows, no_row, row}
-use Rattle.x7_part.specs.AddressOrder.{addresses_of, addresses}
-use Rattle.x7_part.specs.Slots.{slots}
+use Rattle.x7_part.specs.AddressOrder.{addresses_of, addresses, addresses_in}
+use Rattle.x7_part.specs.Slots.{slots, slots_in}
 use Rattle.x7_part.specs.Columns.{column_addresses, column_slots, IsTable, table_of}
 use Rattle.x7_part.proofs.RowLemmas.{part_table, part_addresses, part_slots}
 use Rattle.x7_part.proofs.TableLemmas.{frames_cons}
 
-pub slots_count : (rows : List RowData) → length (slots rows) ≡ length (addresses rows) + 2 * length rows
+pub slots_count : (far : FieldWidths) (rows : List RowData) → length (slots far rows) ≡ length (addresses far rows) + 2 * length rows
 unfolding slots addresses
-slots_count [] = refl
-slots_count (r ∷ rows) =
-    let a = length-append (map Frame (addresses_of r) ++ Pad ∷ Pad ∷ []) (slots rows) in
-    let b = length-append (map Frame (addresses_of r)) (Pad ∷ Pad ∷ []) in
-    let m = length-map (addresses_of r) Frame in
-    let l = length-append (addresses_of r) (addresses rows) in
-    let ih = slots_count rows in
+slots_count far [] = refl
+slots_count far (r ∷ rows) =
+    let a = length-append (map Frame (addresses_of far r) ++ Pad ∷ Pad ∷ []) (slots far rows) in
+    let b = length-append (map Frame (addresses_of far r)) (Pad ∷ Pad ∷ []) in
+    let m = length-map (addresses_of far r) Frame in
+    let l = length-append (addresses_of far r) (addresses far rows) in
+    let ih = slots_count far rows in
     omega arith
 
-first_minors : (minors : List ℕ) → 1 ≤ length minors → All (λ n. (1 ≤ n) × (n ≤ 128)) minors → 0 < sum minors
+pub first_minors : (minors : List ℕ) → 1 ≤ length minors → All (λ n. (1 ≤ n) × (n ≤ 128)) minors → 0 < sum minors
 first_minors [] h all = absurd (omega arith)
 first_minors (n ∷ minors) h all =
     let s : sum (n ∷ minors) ≡ n + sum minors = sum_by-cons (λ x. x) n minors in
     let low = (All-head (λ n. (1 ≤ n) × (n ≤ 128)) n minors all).0 in omega arith
 
-pub some_address : (least : ℕ) (rows : List RowData) → AreRows least rows → 1 ≤ length rows → 0 < length (addresses rows)
-some_address _ _ (no_row least) h = absurd (omega arith)
-some_address _ _ (row least r rows le is rest) h =
-    let f = frames_cons r rows in let s = first_minors r.minors is.some is.minors in omega arith
+pub some_address : (far : FieldWidths) (least : ℕ) (rows : List RowData) → AreRows far least rows → 1 ≤ length rows → 0 < length (addresses far rows)
+some_address far _ _ (no_row f least) h = absurd (omega arith)
+some_address far _ _ (row f least r rows le is rest) h =
+    let f = frames_cons far r rows in let s = first_minors r.minors is.some is.minors in omega arith
 
 -- the columns are the table of a part's rows
 pub record Stands (cs : List Column) (part : PartData) : Type 0 where
   pub table : IsTable 0 0 0 cs
-  pub listed : column_addresses cs ≡ addresses part.rows
-  pub placed : column_slots cs ≡ slots part.rows
+  pub listed : column_addresses cs ≡ addresses_in part
+  pub placed : column_slots cs ≡ slots_in part
   pub few : length (column_addresses cs) ≤ 131072
   pub some : 0 < length (column_addresses cs)
   pub fits : length (column_slots cs) < 2 ^ 63
   pub is : IsPart part
 
-stands_so : (cs : List Column) (part : PartData) → cs ≡ table_of 0 0 part.rows → IsPart part → Stands cs part
+stands_so : (cs : List Column) (part : PartData) → cs ≡ table_of part.far 0 0 part.rows → IsPart part → Stands cs part
 stands_so cs part e is =
-    let a : column_addresses cs ≡ addresses part.rows = part_addresses cs part.rows e in
-    let s : column_slots cs ≡ slots part.rows = part_slots cs part.rows e is.rows in
-    let n = slots_count part.rows in
-    let some = some_address 0 part.rows is.rows is.some in
+    let a : column_addresses cs ≡ addresses_in part = part_addresses part.far cs part.rows e in
+    let s : column_slots cs ≡ slots_in part = part_slots part.far cs part.rows e is.rows in
+    let n = slots_count part.far part.rows in
+    let some = some_address part.far 0 part.rows is.rows is.some in
     let few = is.frames in let rows = is.few in
-    record { table = part_table cs part.rows e is.rows; listed = a; placed = s; few = rw a few; some = rw a some; fits = rw s (omega arith); is = is }
+    record { table = part_table part.far cs part.rows e is.far is.rows; listed = a; placed = s; few = rw a few; some = rw a some; fits = rw s (omega arith); is = is }
 
-pub stands : (cs : List Column) (seen part : PartData) → cs ≡ table_of 0 0 seen.rows → IsPart seen → seen ≡ part → Stands cs part
+pub stands : (cs : List Column) (seen part : PartData) → cs ≡ table_of seen.far 0 0 seen.rows → IsPart seen → seen ≡ part → Stands cs part
 stands cs seen part e is same = rw (← same) (stands_so cs seen e is)

@@ -7,14 +7,15 @@ use Rattle.std.proofs.lemmas.List.{length-drop, get_or_default}
 use Rattle.std.proofs.lemmas.List.Concat.{flat_map-append}
 use Rattle.std.proofs.lemmas.List.Elements.{All-head, All-tail}
 use Rattle.x7_part.specs.declared.column.Column.{Column}
-use Rattle.x7_part.specs.Part.{RowData}
+use Rattle.x7_part.specs.Part.{FieldWidths, RowData}
 use Rattle.x7_part.specs.declared.slot.Slot.{Slot}
 use Rattle.x7_part.specs.declared.slot.Slot.TheVariants.{Frame, Pad}
 use Rattle.x7_part.specs.Slots.{slots}
 use Rattle.x7_part.specs.AddressOrder.{count_from, row_addresses, addresses, Rises, risen, rise}
-use Rattle.x7_part.specs.FrameAddress.{row_address, row_low, far_width, IsRow, AreRows, no_row, row}
+use Rattle.x7_part.specs.FrameAddress.{row_address, column_low, row_low, AreWidths, AreRows, no_row, row}
 use Rattle.x7_part.specs.Columns.{frames_of, slots_of, column_addresses, column_slots, IsTable, no_column, column, row_columns, table_of}
 use Rattle.x7_part.proofs.ColumnLemmas.{length-count_from}
+use Rattle.x7_part.proofs.WidthLemmas.{column_end, columns_fit, pitch_least, row_top}
 
 -- ---- lists
 
@@ -36,27 +37,27 @@ append-nil (x ∷ xs) = ap (λ (l : List Slot). x ∷ l) (append-nil xs)
 
 -- ---- one row
 
-row_addresses_are : (base i rank slot : ℕ) (minors : List ℕ) → column_addresses (row_columns base i rank slot minors) ≡ row_addresses base i minors
+row_addresses_are : (pitch base i rank slot : ℕ) (minors : List ℕ) → column_addresses (row_columns pitch base i rank slot minors) ≡ row_addresses pitch base i minors
 unfolding column_addresses
-row_addresses_are base i rank slot [] = refl
-row_addresses_are base i rank slot (n ∷ []) = refl
-row_addresses_are base i rank slot (n ∷ m ∷ minors) =
-    ap (λ (l : List ℕ). count_from (base + i * 2 ^ 7) n ++ l) (row_addresses_are base (i + 1) (rank + n) (slot + n) (m ∷ minors))
+row_addresses_are pitch base i rank slot [] = refl
+row_addresses_are pitch base i rank slot (n ∷ []) = refl
+row_addresses_are pitch base i rank slot (n ∷ m ∷ minors) =
+    ap (λ (l : List ℕ). count_from (base + i * pitch) n ++ l) (row_addresses_are pitch base (i + 1) (rank + n) (slot + n) (m ∷ minors))
 
-row_slots_are : (base i rank slot : ℕ) (minors : List ℕ) → 0 < length minors →
-    column_slots (row_columns base i rank slot minors) ≡ map Frame (row_addresses base i minors) ++ Pad ∷ Pad ∷ []
+row_slots_are : (pitch base i rank slot : ℕ) (minors : List ℕ) → 0 < length minors →
+    column_slots (row_columns pitch base i rank slot minors) ≡ map Frame (row_addresses pitch base i minors) ++ Pad ∷ Pad ∷ []
 unfolding column_slots
-row_slots_are base i rank slot [] h = absurd (omega arith)
-row_slots_are base i rank slot (n ∷ []) h =
-    append-nil (map Frame (count_from (base + i * 2 ^ 7) n) ++ Pad ∷ Pad ∷ [])
-    ∙ ap (λ (l : List Slot). l ++ Pad ∷ Pad ∷ []) (sym (map-append (count_from (base + i * 2 ^ 7) n) [] ∙ append-nil (map Frame (count_from (base + i * 2 ^ 7) n))))
-row_slots_are base i rank slot (n ∷ m ∷ minors) h =
-    let f = map Frame (count_from (base + i * 2 ^ 7) n) in
-    let tail = map Frame (row_addresses base (i + 1) (m ∷ minors)) in
-    ap (λ (l : List Slot). f ++ [] ++ l) (row_slots_are base (i + 1) (rank + n) (slot + n) (m ∷ minors) (omega arith))
+row_slots_are pitch base i rank slot [] h = absurd (omega arith)
+row_slots_are pitch base i rank slot (n ∷ []) h =
+    append-nil (map Frame (count_from (base + i * pitch) n) ++ Pad ∷ Pad ∷ [])
+    ∙ ap (λ (l : List Slot). l ++ Pad ∷ Pad ∷ []) (sym (map-append (count_from (base + i * pitch) n) [] ∙ append-nil (map Frame (count_from (base + i * pitch) n))))
+row_slots_are pitch base i rank slot (n ∷ m ∷ minors) h =
+    let f = map Frame (count_from (base + i * pitch) n) in
+    let tail = map Frame (row_addresses pitch base (i + 1) (m ∷ minors)) in
+    ap (λ (l : List Slot). f ++ [] ++ l) (row_slots_are pitch base (i + 1) (rank + n) (slot + n) (m ∷ minors) (omega arith))
     ∙ ap (λ (l : List Slot). l ++ (tail ++ Pad ∷ Pad ∷ [])) (append-nil f)
     ∙ sym (append_assoc f tail (Pad ∷ Pad ∷ []))
-    ∙ ap (λ (l : List Slot). l ++ Pad ∷ Pad ∷ []) (sym (map-append (count_from (base + i * 2 ^ 7) n) (row_addresses base (i + 1) (m ∷ minors))))
+    ∙ ap (λ (l : List Slot). l ++ Pad ∷ Pad ∷ []) (sym (map-append (count_from (base + i * pitch) n) (row_addresses pitch base (i + 1) (m ∷ minors))))
 
 lower : (r s l l' : ℕ) (cs : List Column) → l' ≤ l → IsTable r s l cs → IsTable r s l' cs
 lower _ _ _ l' _ h (no_column r s l) = no_column r s l'
@@ -65,60 +66,68 @@ lower _ _ _ l' _ h (column r s l c cs er es le pos top rest) = column r s l' c c
 moved : (r s l r' s' l' : ℕ) (cs : List Column) → r ≡ r' → s ≡ s' → l' ≤ l → IsTable r s l cs → IsTable r' s' l' cs
 moved r s l r' s' l' cs er es h t = rw (← er, ← es) (lower r s l l' cs h t)
 
--- a row's columns, and a table behind them
-row_table : (base i rank slot least : ℕ) (minors : List ℕ) (rest : List Column) → base + 2 ^ 17 ≤ 2 ^ 26 → 0 < length minors →
-    least ≤ base + i * 2 ^ 7 → i + length minors ≤ 1024 → All (λ n. (1 ≤ n) × (n ≤ 128)) minors →
-    IsTable (rank + length (row_addresses base i minors)) (slot + length (row_addresses base i minors) + 2) (base + 2 ^ 17) rest →
-    IsTable rank slot least (row_columns base i rank slot minors ++ rest)
-row_table base i rank slot least [] rest top some le short all t = absurd (omega arith)
-row_table base i rank slot least (n ∷ []) rest top some le short all t =
+-- a row's columns, and a table behind them; `width` is that of all the row's columns from this one on
+row_table : (pitch base i rank slot least top : ℕ) (minors : List ℕ) (rest : List Column) → 128 ≤ pitch → 0 < length minors →
+    least ≤ base + i * pitch → base + (i + length minors) * pitch ≤ top → top ≤ 2 ^ 32 → All (λ n. (1 ≤ n) × (n ≤ 128)) minors →
+    IsTable (rank + length (row_addresses pitch base i minors)) (slot + length (row_addresses pitch base i minors) + 2) top rest →
+    IsTable rank slot least (row_columns pitch base i rank slot minors ++ rest)
+row_table pitch base i rank slot least top [] rest p some le short high all t = absurd (omega arith)
+row_table pitch base i rank slot least top (n ∷ []) rest p some le short high all t =
     let size = All-head (λ n. (1 ≤ n) × (n ≤ 128)) n [] all in
-    let len : length (count_from (base + i * 2 ^ 7) n ++ []) ≡ n + 0 = length-append (count_from (base + i * 2 ^ 7) n) [] ∙ ap (λ x. x + 0) (length-count_from (base + i * 2 ^ 7) n) in
+    let end = column_end i 1 pitch in
+    let len : length (count_from (base + i * pitch) n ++ []) ≡ n + 0 = length-append (count_from (base + i * pitch) n) [] ∙ ap (λ x. x + 0) (length-count_from (base + i * pitch) n) in
     column rank slot least _ rest refl refl le size.0 (omega arith)
-    (moved _ _ _ (rank + n) (slot + n + 2) (base + i * 2 ^ 7 + n) rest (omega arith) (omega arith) (omega arith) t)
-row_table base i rank slot least (n ∷ m ∷ minors) rest top some le short all t =
+    (moved _ _ _ (rank + n) (slot + n + 2) (base + i * pitch + n) rest (omega arith) (omega arith) (omega arith) t)
+row_table pitch base i rank slot least top (n ∷ m ∷ minors) rest p some le short high all t =
     let size = All-head (λ n. (1 ≤ n) × (n ≤ 128)) n (m ∷ minors) all in
-    let more = row_addresses base (i + 1) (m ∷ minors) in
-    let len : length (count_from (base + i * 2 ^ 7) n ++ more) ≡ n + length more =
-    length-append (count_from (base + i * 2 ^ 7) n) more ∙ ap (λ x. x + length more) (length-count_from (base + i * 2 ^ 7) n) in
-    let behind : IsTable (rank + n + length more) (slot + n + length more + 2) (base + 2 ^ 17) rest =
-    moved _ _ _ (rank + n + length more) (slot + n + length more + 2) (base + 2 ^ 17) rest (omega arith) (omega arith) (omega arith) t in
-    let next : IsTable (rank + n) (slot + n) (base + i * 2 ^ 7 + n) (row_columns base (i + 1) (rank + n) (slot + n) (m ∷ minors) ++ rest) =
-    row_table base (i + 1) (rank + n) (slot + n) (base + i * 2 ^ 7 + n) (m ∷ minors) rest top (omega arith) (omega arith) (omega arith)
-    (All-tail (λ n. (1 ≤ n) × (n ≤ 128)) n (m ∷ minors) all) behind in
+    let more = row_addresses pitch base (i + 1) (m ∷ minors) in
+    let next_end = column_end i 1 pitch in
+    let end = column_end i (length (n ∷ m ∷ minors)) pitch in
+    let same : i + 1 + length (m ∷ minors) ≡ i + length (n ∷ m ∷ minors) = omega arith in
+    let len : length (count_from (base + i * pitch) n ++ more) ≡ n + length more =
+    length-append (count_from (base + i * pitch) n) more ∙ ap (λ x. x + length more) (length-count_from (base + i * pitch) n) in
+    let behind : IsTable (rank + n + length more) (slot + n + length more + 2) top rest =
+    moved _ _ _ (rank + n + length more) (slot + n + length more + 2) top rest (omega arith) (omega arith) (omega arith) t in
+    let next : IsTable (rank + n) (slot + n) (base + i * pitch + n) (row_columns pitch base (i + 1) (rank + n) (slot + n) (m ∷ minors) ++ rest) =
+    row_table pitch base (i + 1) (rank + n) (slot + n) (base + i * pitch + n) top (m ∷ minors) rest p (omega arith) (omega arith)
+    (rw same short) high (All-tail (λ n. (1 ≤ n) × (n ≤ 128)) n (m ∷ minors) all) behind in
     column rank slot least _ _ refl refl le size.0 (omega arith)
-    (moved _ _ _ (rank + n) (slot + n + 0) (base + i * 2 ^ 7 + n) _ refl (omega arith) (omega arith) next)
+    (moved _ _ _ (rank + n) (slot + n + 0) (base + i * pitch + n) _ refl (omega arith) (omega arith) next)
 
 -- ---- all rows
 
--- a row's addresses stay below the end
-pub row_top : (r : RowData) → IsRow r → row_address r + 2 ^ row_low ≤ 2 ^ far_width
-row_top r is = let b = is.block in let h = is.half in let w = is.row in omega arith
+pub table_is : (far : FieldWidths) (rank slot least : ℕ) (rows : List RowData) → AreWidths far → AreRows far least rows → IsTable rank slot least (table_of far rank slot rows)
+table_is far rank slot _ _ w (no_row f least) = no_column rank slot least
+table_is far rank slot _ _ w (row f least r rows le is rest) =
+    let pitch = 2 ^ column_low far in
+    let base = row_address far r in
+    let n = length (row_addresses pitch base 0 r.minors) in
+    let narrow = columns_fit far (length r.minors) w is.columns in
+    row_table pitch base 0 rank slot least (base + 2 ^ row_low far) r.minors (table_of far (rank + n) (slot + n + 2) rows) (pitch_least far w) is.some (omega arith)
+    (omega arith) (row_top far r w is) is.minors
+    (table_is far (rank + n) (slot + n + 2) (base + 2 ^ row_low far) rows w rest)
 
-pub table_is : (rank slot least : ℕ) (rows : List RowData) → AreRows least rows → IsTable rank slot least (table_of rank slot rows)
-table_is rank slot _ _ (no_row least) = no_column rank slot least
-table_is rank slot _ _ (row least r rows le is rest) =
-    let n = length (row_addresses (row_address r) 0 r.minors) in
-    row_table (row_address r) 0 rank slot least r.minors (table_of (rank + n) (slot + n + 2) rows) (row_top r is) is.some (omega arith) (omega (arith, is.columns)) is.minors
-    (table_is (rank + n) (slot + n + 2) (row_address r + 2 ^ 17) rows rest)
-
-pub table_addresses : (rank slot : ℕ) (rows : List RowData) → column_addresses (table_of rank slot rows) ≡ addresses rows
+pub table_addresses : (far : FieldWidths) (rank slot : ℕ) (rows : List RowData) → column_addresses (table_of far rank slot rows) ≡ addresses far rows
 unfolding addresses column_addresses
-table_addresses rank slot [] = refl
-table_addresses rank slot (r ∷ rows) =
-    let n = length (row_addresses (row_address r) 0 r.minors) in
-    addresses_append (row_columns (row_address r) 0 rank slot r.minors) (table_of (rank + n) (slot + n + 2) rows)
-    ∙ ap (λ (l : List ℕ). l ++ column_addresses (table_of (rank + n) (slot + n + 2) rows)) (row_addresses_are (row_address r) 0 rank slot r.minors)
-    ∙ ap (λ (l : List ℕ). row_addresses (row_address r) 0 r.minors ++ l) (table_addresses (rank + n) (slot + n + 2) rows)
+table_addresses far rank slot [] = refl
+table_addresses far rank slot (r ∷ rows) =
+    let pitch = 2 ^ column_low far in
+    let base = row_address far r in
+    let n = length (row_addresses pitch base 0 r.minors) in
+    addresses_append (row_columns pitch base 0 rank slot r.minors) (table_of far (rank + n) (slot + n + 2) rows)
+    ∙ ap (λ (l : List ℕ). l ++ column_addresses (table_of far (rank + n) (slot + n + 2) rows)) (row_addresses_are pitch base 0 rank slot r.minors)
+    ∙ ap (λ (l : List ℕ). row_addresses pitch base 0 r.minors ++ l) (table_addresses far (rank + n) (slot + n + 2) rows)
 
-pub table_slots : (rank slot least : ℕ) (rows : List RowData) → AreRows least rows → column_slots (table_of rank slot rows) ≡ slots rows
+pub table_slots : (far : FieldWidths) (rank slot least : ℕ) (rows : List RowData) → AreRows far least rows → column_slots (table_of far rank slot rows) ≡ slots far rows
 unfolding slots column_slots
-table_slots rank slot _ _ (no_row least) = refl
-table_slots rank slot _ _ (row least r rows le is rest) =
-    let n = length (row_addresses (row_address r) 0 r.minors) in
-    slots_append (row_columns (row_address r) 0 rank slot r.minors) (table_of (rank + n) (slot + n + 2) rows)
-    ∙ ap (λ (l : List Slot). l ++ column_slots (table_of (rank + n) (slot + n + 2) rows)) (row_slots_are (row_address r) 0 rank slot r.minors is.some)
-    ∙ ap (λ (l : List Slot). map Frame (row_addresses (row_address r) 0 r.minors) ++ Pad ∷ Pad ∷ [] ++ l) (table_slots (rank + n) (slot + n + 2) (row_address r + 2 ^ 17) rows rest)
+table_slots far rank slot _ _ (no_row f least) = refl
+table_slots far rank slot _ _ (row f least r rows le is rest) =
+    let pitch = 2 ^ column_low far in
+    let base = row_address far r in
+    let n = length (row_addresses pitch base 0 r.minors) in
+    slots_append (row_columns pitch base 0 rank slot r.minors) (table_of far (rank + n) (slot + n + 2) rows)
+    ∙ ap (λ (l : List Slot). l ++ column_slots (table_of far (rank + n) (slot + n + 2) rows)) (row_slots_are pitch base 0 rank slot r.minors is.some)
+    ∙ ap (λ (l : List Slot). map Frame (row_addresses pitch base 0 r.minors) ++ Pad ∷ Pad ∷ [] ++ l) (table_slots far (rank + n) (slot + n + 2) (base + 2 ^ row_low far) rows rest)
 
 -- ---- number order
 
@@ -174,35 +183,35 @@ smaller_before _ x (suc i) _ (rise l y ys k rest) h e =
 drop_step : (i : ℕ) (xs : List ℕ) → i < length xs → drop i xs ≡ get_or xs i 0 ∷ drop (i + 1) xs
 drop_step i xs h = rw (add-one, drop-cons xs i 0) refl
 
-one_more : (base i rank slot n : ℕ) (rest : List ℕ) (all : ℕ) → length rest ≡ all - (i + 1) → i < all →
-    row_columns base i rank slot (n ∷ rest)
-    ≡ record { first = base + i * 128; count = n; pads = (if i + 1 == all then 2 else 0); rank = rank; slot = slot }
-    ∷ row_columns base (i + 1) (rank + n) (slot + n) rest
-one_more base i rank slot n [] all e h = let f : eqb (i + 1) all ≡ true = eq-eqb (i + 1) all (omega arith) in rw f refl
-one_more base i rank slot n (m ∷ rest) all e h = let f : eqb (i + 1) all ≡ false = ne_eqb (i + 1) all (λ x. omega arith) in rw f refl
+one_more : (pitch base i rank slot n : ℕ) (rest : List ℕ) (all : ℕ) → length rest ≡ all - (i + 1) → i < all →
+    row_columns pitch base i rank slot (n ∷ rest)
+    ≡ record { first = base + i * pitch; count = n; pads = (if i + 1 == all then 2 else 0); rank = rank; slot = slot }
+    ∷ row_columns pitch base (i + 1) (rank + n) (slot + n) rest
+one_more pitch base i rank slot n [] all e h = let f : eqb (i + 1) all ≡ true = eq-eqb (i + 1) all (omega arith) in rw f refl
+one_more pitch base i rank slot n (m ∷ rest) all e h = let f : eqb (i + 1) all ≡ false = ne_eqb (i + 1) all (λ x. omega arith) in rw f refl
 
-pub row_more : (base i rank slot : ℕ) (minors : List ℕ) → i < length minors →
-    row_columns base i rank slot (drop i minors)
-    ≡ record { first = base + i * 128; count = get_or minors i 0; pads = (if i + 1 == length minors then 2 else 0); rank = rank; slot = slot }
-    ∷ row_columns base (i + 1) (rank + get_or minors i 0) (slot + get_or minors i 0) (drop (i + 1) minors)
-row_more base i rank slot minors h =
-    rw (drop_step i minors h) (one_more base i rank slot (get_or minors i 0) (drop (i + 1) minors) (length minors) (length-drop (i + 1) minors) h)
+pub row_more : (pitch base i rank slot : ℕ) (minors : List ℕ) → i < length minors →
+    row_columns pitch base i rank slot (drop i minors)
+    ≡ record { first = base + i * pitch; count = get_or minors i 0; pads = (if i + 1 == length minors then 2 else 0); rank = rank; slot = slot }
+    ∷ row_columns pitch base (i + 1) (rank + get_or minors i 0) (slot + get_or minors i 0) (drop (i + 1) minors)
+row_more pitch base i rank slot minors h =
+    rw (drop_step i minors h) (one_more pitch base i rank slot (get_or minors i 0) (drop (i + 1) minors) (length minors) (length-drop (i + 1) minors) h)
 
 -- ---- a part
 
-pub part_table : (cs : List Column) (rows : List RowData) → cs ≡ table_of 0 0 rows → AreRows 0 rows → IsTable 0 0 0 cs
-part_table cs rows e a = rw e (table_is 0 0 0 rows a)
+pub part_table : (far : FieldWidths) (cs : List Column) (rows : List RowData) → cs ≡ table_of far 0 0 rows → AreWidths far → AreRows far 0 rows → IsTable 0 0 0 cs
+part_table far cs rows e w a = rw e (table_is far 0 0 0 rows w a)
 
-pub part_addresses : (cs : List Column) (rows : List RowData) → cs ≡ table_of 0 0 rows → column_addresses cs ≡ addresses rows
-part_addresses cs rows e = rw e (table_addresses 0 0 rows)
+pub part_addresses : (far : FieldWidths) (cs : List Column) (rows : List RowData) → cs ≡ table_of far 0 0 rows → column_addresses cs ≡ addresses far rows
+part_addresses far cs rows e = rw e (table_addresses far 0 0 rows)
 
-pub part_slots : (cs : List Column) (rows : List RowData) → cs ≡ table_of 0 0 rows → AreRows 0 rows → column_slots cs ≡ slots rows
-part_slots cs rows e a = rw e (table_slots 0 0 0 rows a)
+pub part_slots : (far : FieldWidths) (cs : List Column) (rows : List RowData) → cs ≡ table_of far 0 0 rows → AreRows far 0 rows → column_slots cs ≡ slots far rows
+part_slots far cs rows e a = rw e (table_slots far 0 0 0 rows a)
 
-pub part_rises : (rows : List RowData) → AreRows 0 rows → Rises 0 (addresses rows)
-part_rises rows a = let r = addresses_rise 0 0 0 (table_of 0 0 rows) (table_is 0 0 0 rows a) in rw (table_addresses 0 0 rows) at r
+pub part_rises : (far : FieldWidths) (rows : List RowData) → AreWidths far → AreRows far 0 rows → Rises 0 (addresses far rows)
+part_rises far rows w a = let r = addresses_rise 0 0 0 (table_of far 0 0 rows) (table_is far 0 0 0 rows w a) in rw (table_addresses far 0 0 rows) at r
 
-pub rank_counts : (rows : List RowData) (r x : ℕ) → AreRows 0 rows → r < length (addresses rows) → get_or (addresses rows) r 0 ≡ x →
-    Contains (addresses rows) x × (r ≡ count_by (λ y. nat_lt y x) (addresses rows))
-rank_counts rows r x a h e =
-    ((r, h, get_or_default (addresses rows) r x 0 h ∙ e), sym (smaller_before 0 x r (addresses rows) (part_rises rows a) h e))
+pub rank_counts : (far : FieldWidths) (rows : List RowData) (r x : ℕ) → AreWidths far → AreRows far 0 rows → r < length (addresses far rows) → get_or (addresses far rows) r 0 ≡ x →
+    Contains (addresses far rows) x × (r ≡ count_by (λ y. nat_lt y x) (addresses far rows))
+rank_counts far rows r x w a h e =
+    ((r, h, get_or_default (addresses far rows) r x 0 h ∙ e), sym (smaller_before 0 x r (addresses far rows) (part_rises far rows w a) h e))

@@ -1,7 +1,7 @@
--- The frame addresses of rows in number order.
+-- The frame addresses of a part in number order (UG470, frame address register).
 use Rattle.std.specs.Prelude.{◌≡◌, ℕ, zero, suc, ◌+◌, ◌*◌, ◌^◌, ◌<◌, ◌≤◌, List, [], ◌∷◌, ◌++◌, length, slice_index}
 use Rattle.std.specs.List.{flat_map}
-use Rattle.x7_part.specs.Part.{RowData}
+use Rattle.x7_part.specs.Part.{FieldWidths, RowData, PartData}
 use Rattle.x7_part.specs.FrameAddress.{row_address, column_low}
 
 -- so many numbers from the first on
@@ -9,17 +9,21 @@ abbrev pub count_from : ℕ → ℕ → List ℕ
 count_from first zero = []
 count_from first (suc n) = first ∷ count_from (first + 1) n
 
--- the addresses of the row at `base`, from a column on, by the minors of these columns
-abbrev pub row_addresses : ℕ → ℕ → List ℕ → List ℕ
-row_addresses base column [] = []
-row_addresses base column (n ∷ minors) = count_from (base + column * 2 ^ column_low) n ++ row_addresses base (column + 1) minors
+-- the addresses of the row at `base`, from a column on, by the minors of these columns; the next column is `pitch` further
+abbrev pub row_addresses : ℕ → ℕ → ℕ → List ℕ → List ℕ
+row_addresses pitch base column [] = []
+row_addresses pitch base column (n ∷ minors) = count_from (base + column * pitch) n ++ row_addresses pitch base (column + 1) minors
 
-abbrev pub addresses_of : RowData → List ℕ
-addresses_of r = row_addresses (row_address r) 0 r.minors
+abbrev pub addresses_of : FieldWidths → RowData → List ℕ
+addresses_of far r = row_addresses (2 ^ column_low far) (row_address far r) 0 r.minors
 
 -- the addresses of the rows, which stand in number order
-unfoldable pub addresses : List RowData → List ℕ
-addresses rows = flat_map addresses_of rows
+unfoldable pub addresses : FieldWidths → List RowData → List ℕ
+addresses far rows = flat_map (addresses_of far) rows
+
+-- the addresses of a part
+abbrev pub addresses_in : PartData → List ℕ
+addresses_in part = addresses part.far part.rows
 
 -- each number is above those before it, and the first at least so much
 pub data Rises : ℕ → List ℕ → Type 0 where

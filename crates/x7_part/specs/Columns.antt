@@ -1,8 +1,8 @@
 -- The table of columns that addresses and slots are looked up in (this project's choice).
 use Rattle.std.specs.Prelude.{◌≡◌, ℕ, ◌+◌, ◌*◌, ◌^◌, ◌<◌, ◌≤◌, List, [], ◌∷◌, ◌++◌, length, map, replicate}
 use Rattle.std.specs.List.{flat_map}
-use Rattle.x7_part.specs.Part.{RowData}
-use Rattle.x7_part.specs.FrameAddress.{row_address, column_low, far_width}
+use Rattle.x7_part.specs.Part.{FieldWidths, RowData}
+use Rattle.x7_part.specs.FrameAddress.{row_address, column_low}
 use Rattle.x7_part.specs.AddressOrder.{count_from, addresses_of}
 use Rattle.x7_part.specs.declared.column.Column.{Column}
 use Rattle.x7_part.specs.declared.slot.Slot.{Slot}
@@ -26,21 +26,21 @@ column_slots columns = flat_map slots_of columns
 pub data IsTable : ℕ → ℕ → ℕ → List Column → Type 0 where
   no_column : (rank slot least : ℕ) → IsTable rank slot least []
   column : (rank slot least : ℕ) (c : Column) (columns : List Column) → c.rank ≡ rank → c.slot ≡ slot → least ≤ c.first →
-      0 < c.count → c.first + c.count ≤ 2 ^ far_width →
+      0 < c.count → c.first + c.count ≤ 2 ^ 32 →
       IsTable (rank + c.count) (slot + c.count + c.pads) (c.first + c.count) columns → IsTable rank slot least (c ∷ columns)
 
--- the columns of the row at `base`, from its `i`th on, after so many addresses and slots
-abbrev pub row_columns : ℕ → ℕ → ℕ → ℕ → List ℕ → List Column
-row_columns base i rank slot [] = []
-row_columns base i rank slot (n ∷ []) =
-    record { first = base + i * 2 ^ column_low; count = n; pads = 2; rank = rank; slot = slot } ∷ []
-row_columns base i rank slot (n ∷ m ∷ minors) =
-    record { first = base + i * 2 ^ column_low; count = n; pads = 0; rank = rank; slot = slot }
-    ∷ row_columns base (i + 1) (rank + n) (slot + n) (m ∷ minors)
+-- the columns of the row at `base`, from its `i`th on, after so many addresses and slots; the next one begins `pitch` further
+abbrev pub row_columns : ℕ → ℕ → ℕ → ℕ → ℕ → List ℕ → List Column
+row_columns pitch base i rank slot [] = []
+row_columns pitch base i rank slot (n ∷ []) =
+    record { first = base + i * pitch; count = n; pads = 2; rank = rank; slot = slot } ∷ []
+row_columns pitch base i rank slot (n ∷ m ∷ minors) =
+    record { first = base + i * pitch; count = n; pads = 0; rank = rank; slot = slot }
+    ∷ row_columns pitch base (i + 1) (rank + n) (slot + n) (m ∷ minors)
 
 -- the columns of the rows, after so many addresses and slots
-abbrev pub table_of : ℕ → ℕ → List RowData → List Column
-table_of rank slot [] = []
-table_of rank slot (r ∷ rows) =
-    row_columns (row_address r) 0 rank slot r.minors
-    ++ table_of (rank + length (addresses_of r)) (slot + length (addresses_of r) + 2) rows
+abbrev pub table_of : FieldWidths → ℕ → ℕ → List RowData → List Column
+table_of far rank slot [] = []
+table_of far rank slot (r ∷ rows) =
+    row_columns (2 ^ column_low far) (row_address far r) 0 rank slot r.minors
+    ++ table_of far (rank + length (addresses_of far r)) (slot + length (addresses_of far r) + 2) rows

@@ -1,37 +1,49 @@
--- Frame addresses (UG470, frame address register): minor 6:0, column 16:7, row 21:17, half 22, block type 25:23.
--- The lowest bit of each field is said here alone, and its weight in `src/address.rt` for the code.
+-- Frame addresses (UG470, frame address register): minor, column, row, half (0 top, 1 bottom) and block type, from bit 0 up,
+-- each with the part's width.
 use Rattle.std.specs.Prelude.{◌≡◌, ℕ, ◌+◌, ◌*◌, ◌^◌, ◌<◌, ◌≤◌, List, [], ◌∷◌, length, slice_index, Contains, All}
-use Rattle.x7_part.specs.Part.{RowData}
+use Rattle.x7_part.specs.Part.{FieldWidths, RowData, PartData}
 
 -- the lowest bit of the column, of the row, of the half and of the block type, and the width of an address
-abbrev pub column_low : ℕ
-column_low = 7
+abbrev pub column_low : FieldWidths → ℕ
+column_low far = far.minor
 
-abbrev pub row_low : ℕ
-row_low = 17
+abbrev pub row_low : FieldWidths → ℕ
+row_low far = far.minor + far.column
 
-abbrev pub half_low : ℕ
-half_low = 22
+abbrev pub half_low : FieldWidths → ℕ
+half_low far = far.minor + far.column + far.row
 
-abbrev pub block_low : ℕ
-block_low = 23
+abbrev pub block_low : FieldWidths → ℕ
+block_low far = far.minor + far.column + far.row + far.half
 
-abbrev pub far_width : ℕ
-far_width = 26
+abbrev pub address_width : FieldWidths → ℕ
+address_width far = far.minor + far.column + far.row + far.half + far.block
+
+abbrev pub far_width : PartData → ℕ
+far_width part = address_width part.far
+
+-- fields in which each part has its place, in an address of 25 to 32 bits
+pub record AreWidths (far : FieldWidths) : Type 0 where
+  pub minor : (7 ≤ far.minor) × (far.minor ≤ 12)
+  pub column : (10 ≤ far.column) × (far.column ≤ 12)
+  pub row : (5 ≤ far.row) × (far.row ≤ 8)
+  pub half : far.half ≡ 1
+  pub block : (2 ≤ far.block) × (far.block ≤ 3)
+  pub sum : address_width far ≤ 32
 
 -- the address of a row's column 0, minor 0
-abbrev pub row_address : RowData → ℕ
-row_address r = r.block * 2 ^ block_low + r.half * 2 ^ half_low + r.row * 2 ^ row_low
+abbrev pub row_address : FieldWidths → RowData → ℕ
+row_address far r = r.block * 2 ^ block_low far + r.half * 2 ^ half_low far + r.row * 2 ^ row_low far
 
 -- the address of a frame by its row, column and minor
-abbrev pub frame_address : RowData → ℕ → ℕ → ℕ
-frame_address r column minor = row_address r + column * 2 ^ column_low + minor
+abbrev pub frame_address : FieldWidths → RowData → ℕ → ℕ → ℕ
+frame_address far r column minor = row_address far r + column * 2 ^ column_low far + minor
 
--- it is the address of a frame of one of the rows: the column has a place in the row, and the minor is below its number
-abbrev pub IsAddress : List RowData → ℕ → Type 0
-IsAddress rows far =
-    (r : RowData) × (column : ℕ) × (minor : ℕ) × Contains rows r × (column < length r.minors)
-    × (minor < slice_index r.minors column) × (far ≡ frame_address r column minor)
+-- it is the address of a frame of one of the part's rows: the column has a place in the row, and the minor is below its number
+abbrev pub IsAddressOf : PartData → ℕ → Type 0
+IsAddressOf part address =
+    (r : RowData) × (column : ℕ) × (minor : ℕ) × Contains part.rows r × (column < length r.minors)
+    × (minor < slice_index r.minors column) × (address ≡ frame_address part.far r column minor)
 
 -- a row whose numbers are in range
 pub record IsRow (r : RowData) : Type 0 where
@@ -43,7 +55,7 @@ pub record IsRow (r : RowData) : Type 0 where
   pub minors : All (λ n. (1 ≤ n) × (n ≤ 128)) r.minors
 
 -- rows in range, in number order and no two of them the same; the first has its address at `least` or above
-pub data AreRows : ℕ → List RowData → Type 0 where
-  no_row : (least : ℕ) → AreRows least []
-  row : (least : ℕ) (r : RowData) (rows : List RowData) → least ≤ row_address r → IsRow r →
-      AreRows (row_address r + 2 ^ row_low) rows → AreRows least (r ∷ rows)
+pub data AreRows : FieldWidths → ℕ → List RowData → Type 0 where
+  no_row : (far : FieldWidths) (least : ℕ) → AreRows far least []
+  row : (far : FieldWidths) (least : ℕ) (r : RowData) (rows : List RowData) → least ≤ row_address far r → IsRow r →
+      AreRows far (row_address far r + 2 ^ row_low far) rows → AreRows far least (r ∷ rows)

@@ -5,4 +5,8 @@ pub mod PartRange
 pub mod Slots
 pub mod Columns
 pub mod PartKey
+pub mod PartValues
+pub mod PartChecks
+pub mod PartRows
+pub mod InRange
 pub mod PartFile

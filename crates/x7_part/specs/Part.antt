@@ -8,7 +8,17 @@ pub record RowData : Type 0 where
   pub row : ℕ
   pub minors : List ℕ
 
--- a part; `lock` and `matched` are the ticks that startup waits for lock and for match, `rows` stand in number order
+-- the widths in bits of the fields of a frame address, each field right above the one before it, from bit 0
+-- (UG470, frame address register; that they are the part's is this project's choice)
+pub record FieldWidths : Type 0 where
+  pub minor : ℕ
+  pub column : ℕ
+  pub row : ℕ
+  pub half : ℕ
+  pub block : ℕ
+
+-- a part; `lock` and `matched` are the ticks that startup waits for lock and for match, `words` those of a frame, `far` the
+-- fields of an address, `start_unit` the bytes that one step of WBSTAR's start address stands for, and `rows` stand in number order
 pub record PartData : Type 0 where
   pub name : List ℕ
   pub idcode : ℕ
@@ -16,8 +26,11 @@ pub record PartData : Type 0 where
   pub bus_width : ℕ
   pub lock : ℕ
   pub matched : ℕ
+  pub words : ℕ
+  pub far : FieldWidths
+  pub start_unit : ℕ
   pub rows : List RowData
 
 -- the words of a frame (UG470, frame data)
 abbrev pub frame_words : PartData → ℕ
-frame_words part = 101
+frame_words part = part.words

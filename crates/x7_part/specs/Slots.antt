@@ -1,18 +1,33 @@
 -- Slots: the places of frames and of pad frames in write order (UG470, frame data; two pads after each row's last frame are this project's choice).
-use Rattle.std.specs.Prelude.{ℕ, List, [], ◌∷◌, ◌++◌, map, ◌==◌, if◌then◌else◌}
+use Rattle.std.specs.Prelude.{ℕ, Contains, List, [], ◌∷◌, ◌++◌, map, ◌==◌, if◌then◌else◌}
 use Rattle.std.specs.List.{flat_map}
-use Rattle.x7_part.specs.Part.{RowData}
+use Rattle.x7_part.specs.Part.{FieldWidths, RowData, PartData}
 use Rattle.x7_part.specs.AddressOrder.{addresses_of}
 use Rattle.x7_part.specs.declared.slot.Slot.{Slot}
 use Rattle.x7_part.specs.declared.slot.Slot.TheVariants.{Frame, Pad, End}
 
 -- the addresses of the rows in number order, and two pads after each row's last
-unfoldable pub slots : List RowData → List Slot
-slots rows = flat_map (λ r. map Frame (addresses_of r) ++ Pad ∷ Pad ∷ []) rows
+unfoldable pub slots : FieldWidths → List RowData → List Slot
+slots far rows = flat_map (λ r. map Frame (addresses_of far r) ++ Pad ∷ Pad ∷ []) rows
+
+-- the slots of a part
+abbrev pub slots_in : PartData → List Slot
+slots_in part = slots part.far part.rows
 
 -- the slots from an address on
 abbrev pub from : ℕ → List Slot → List Slot
-from far [] = []
-from far (Frame a ∷ rest) = if a == far then Frame a ∷ rest else from far rest
-from far (Pad ∷ rest) = from far rest
-from far (End ∷ rest) = from far rest
+from address [] = []
+from address (Frame a ∷ rest) = if a == address then Frame a ∷ rest else from address rest
+from address (Pad ∷ rest) = from address rest
+from address (End ∷ rest) = from address rest
+
+-- the addresses of the slots that are frames
+abbrev pub addresses_among : List Slot → List ℕ
+addresses_among [] = []
+addresses_among (Frame address ∷ places) = address ∷ addresses_among places
+addresses_among (Pad ∷ places) = addresses_among places
+addresses_among (End ∷ places) = addresses_among places
+
+-- two addresses of one row
+abbrev pub AreInOneRow : PartData → ℕ → ℕ → Type 0
+AreInOneRow part a b = (r : RowData) × Contains part.rows r × Contains (addresses_of part.far r) a × Contains (addresses_of part.far r) b

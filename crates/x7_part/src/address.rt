@@ -1,10 +1,102 @@
-//! The weights of the fields of a frame address (UG470, frame address register). The minor's is 1.
+//! The fields of a frame address (UG470, frame address register).
+ghost use Rattle.std.specs.Prelude.{◌≡◌, ◌≤◌, ◌+◌, ◌^◌, nat_le, is_some, IfSome};
+ghost use Rattle.x7_part.specs.FrameAddress.{AreWidths, address_width, column_low, row_low, half_low, block_low};
+ghost use Rattle.x7_part.specs.Part.{FieldWidths};
 
-/// What one column more adds to an address.
-pub const COLUMN: u32 = 0x80;
-/// What one row more adds.
-pub const ROW: u32 = 0x2_0000;
-/// What the bottom half adds.
-pub const HALF: u32 = 0x40_0000;
-/// What one block type more adds.
-pub const BLOCK: u32 = 0x80_0000;
+use std::marker::Model;
+
+/// The widths of the fields in bits, each field right above the one before it, from bit 0.
+#[derive(Clone, Copy, Drop)]
+pub struct Fields {
+    pub minor: u8,
+    pub column: u8,
+    pub row: u8,
+    pub half: u8,
+    pub block: u8,
+}
+
+impl Model for Fields {
+    ghost Value = { FieldWidths };
+
+    ghost view = { λ f. record { minor = f.minor; column = f.column; row = f.row; half = f.half; block = f.block } };
+
+    ghost inverse = { λ d. record { minor = d.minor; column = d.column; row = d.row; half = d.half; block = d.block } };
+
+    ghost invariant = { λ f. AreWidths record { minor = f.minor; column = f.column; row = f.row; half = f.half; block = f.block } };
+}
+
+impl Fields {
+    /// The fields of an address in the 7 series.
+    pub fn usual() -> Fields
+        ensures { result ≡ record { minor = 7; column = 10; row = 5; half = 1; block = 3 } }
+    {
+        Fields {
+            minor: 7,
+            column: 10,
+            row: 5,
+            half: 1,
+            block: 3,
+        }
+    }
+
+    /// Fields of these widths, where they have 32 bits together.
+    pub fn of(minor: u8, column: u8, row: u8, half: u8, block: u8) -> Option<Fields>
+        requires minor { (7 ≤ minor) × (minor ≤ 12) }
+        requires column { (10 ≤ column) × (column ≤ 12) }
+        requires row { (5 ≤ row) × (row ≤ 8) }
+        requires half { half ≡ 1 }
+        requires block { (2 ≤ block) × (block ≤ 3) }
+        ensures found { IfSome result (λ far. far ≡ record { minor = minor; column = column; row = row; half = half; block = block }) }
+        ensures test { is_some result ≡ nat_le (minor + column + row + half + block) 32 }
+    {
+        if minor + column + row + half + block > 32 {
+            return None;
+        }
+        Some(Fields {
+            minor,
+            column,
+            row,
+            half,
+            block,
+        })
+    }
+
+    /// What one column more adds to an address.
+    pub fn column_weight(self) -> u32
+        ensures value { result ≡ 2 ^ column_low self }
+        ensures widths { AreWidths self }
+    {
+        1 << self.minor
+    }
+
+    /// What one row more adds.
+    pub fn row_weight(self) -> u32
+        ensures { result ≡ 2 ^ row_low self }
+    {
+        1 << (self.minor + self.column)
+    }
+
+    /// What the bottom half adds.
+    pub fn half_weight(self) -> u32
+        ensures { result ≡ 2 ^ half_low self }
+    {
+        1 << (self.minor + self.column + self.row)
+    }
+
+    /// What one block type more adds.
+    pub fn block_weight(self) -> u32
+        ensures value { result ≡ 2 ^ block_low self }
+        ensures widths { AreWidths self }
+    {
+        1 << (self.minor + self.column + self.row + self.half)
+    }
+
+    /// The width of an address.
+    pub fn width(self) -> u32
+        ensures value { result ≡ address_width self }
+        ensures least { 25 ≤ result }
+        ensures most { result ≤ 32 }
+    {
+        u32::from(self.minor + self.column + self.row + self.half + self.block)
+    }
+}

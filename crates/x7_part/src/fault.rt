@@ -16,6 +16,9 @@ pub enum PartKey {
     BusWidth,
     Lock,
     Match,
+    FrameWords,
+    Far,
+    StartUnit,
     Row,
     Block,
     Half,
@@ -35,6 +38,9 @@ impl PartKey {
             PartKey::BusWidth => "bus_width",
             PartKey::Lock => "lock",
             PartKey::Match => "match",
+            PartKey::FrameWords => "frame_words",
+            PartKey::Far => "far",
+            PartKey::StartUnit => "start_unit",
             PartKey::Row => "row",
             PartKey::Block => "block",
             PartKey::Half => "half",
@@ -75,7 +81,7 @@ pub enum PartFault {
     /// The row has the block type, the half and the row of an earlier one.
     #[error("same row {0}")]
     SameRow(u32),
-    /// The rows have so many frames, more than a part may have.
+    /// The rows have so many frames, more than a part may have, or more words with their pads.
     #[error("too many frames: {0}")]
     TooMany(u32),
     /// There was no memory for the part.

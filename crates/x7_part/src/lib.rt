@@ -2,14 +2,16 @@
 #![tactic(auto)]
 
 mod address;
+mod checks;
 mod column;
 mod fault;
-mod keys;
+mod kind;
+mod law;
 mod lookup;
 mod parse;
 mod part;
-mod read;
 mod row;
+mod rule;
 mod slot;
 mod table;
 #[cfg(test)]
@@ -17,6 +19,7 @@ mod tests;
 mod values;
 
 pub use fault::{PartFault, PartKey, Which};
+pub use law::slot_laws;
 pub use parse::part_of;
 pub use part::Part;
 pub use slot::Slot;

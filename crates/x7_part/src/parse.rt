@@ -1,26 +1,31 @@
 //! Part files.
-ghost use Rattle.std.specs.Prelude.{◌≡◌, ◌⊎◌, ◌≤◌, [], ◌∷◌, None, length, IsUtf8, IfOk, IfErr};
+ghost use Rattle.std.specs.Prelude.{◌≡◌, ◌⊎◌, ◌≤◌, [], ◌∷◌, Some, None, Ok, Err, length, IsUtf8, IfOk, IfErr};
 ghost use Rattle.toml.specs.Parse.{parse_document};
 ghost use Rattle.toml.specs.View.{table_view};
-ghost use Rattle.x7_part.specs.PartFile.{told, first_of, value_fault, same_row_fault, frames_fault, IsToml, IsPartOf, IsFaultOf};
+ghost use Rattle.x7_part.specs.Part.{PartData};
+ghost use Rattle.x7_part.specs.PartChecks.{told, first_of};
+ghost use Rattle.x7_part.specs.PartRows.{same_row_fault, frames_fault, has_few_frames};
+ghost use Rattle.x7_part.specs.PartFile.{part_in};
 ghost use Rattle.x7_part.specs.declared.fault.PartFault.{PartFault};
 
+use crate::checks::{check_values, require};
 use crate::fault::{PartFault, PartKey};
-use crate::keys::{check_rows_keys, check_rows_others, check_top_keys, check_top_others, require};
 use crate::lookup::items;
 use crate::part::Part;
-use crate::read::{check_rows_ranges, check_top_ranges};
 use crate::row::{Row, check_same_rows, frame_count};
-use crate::values::rows_of;
+use crate::values::{rows_of, value_or};
 use std::alloc::Global;
 use toml::Table;
 
 /// The most frames that a part may have.
 const MAX_FRAMES: u32 = 131_072;
 
+/// The most words that its frames and pads may have.
+const MAX_WORDS: u32 = 13_277_056;
+
 /// The table of a TOML text.
 fn table_in(alloc: Global, text: &[u8]) -> Result<Table, PartFault>
-    ensures table { IfOk result (λ table. IsToml text.now (table_view table)) }
+    ensures table { IfOk result (λ table. IsUtf8 text.now × (parse_document text.now ≡ Some (table_view table))) }
     ensures fault { IfErr result (λ fault. (fault ≡ PartFault.NoMemory) ⊎ ((fault ≡ PartFault.Toml) × (IsUtf8 text.now → parse_document text.now ≡ None))) }
 {
     let text = match std::str::from_utf8(text) {
@@ -39,38 +44,39 @@ fn table_in(alloc: Global, text: &[u8]) -> Result<Table, PartFault>
     }
 }
 
-/// The keys and the values of a part file's table, in the order of the checks.
-#[tactic(auto, unfolding(crate::specs::PartFile::value_fault))]
-fn check_values(part: &Table) -> Result<(), PartFault>
-    ensures { told result ≡ value_fault (table_view part.now) }
-{
-    let rows = items(part, PartKey::Row);
-    check_top_keys(part)?;
-    check_rows_keys(rows)?;
-    check_top_others(part)?;
-    check_rows_others(rows)?;
-    check_top_ranges(part)?;
-    check_rows_ranges(rows)
-}
-
-/// What the rows may not be together: the same, or too many frames.
-fn check_rows(rows: &[Row]) -> Result<(), PartFault>
-    requires { length rows.now ≤ 192 }
-    ensures { told result ≡ first_of (same_row_fault [] rows.now ∷ frames_fault rows.now ∷ []) }
+/// What the rows may not be together: the same, or too many frames for words of this width.
+fn check_rows(words: u32, rows: &[Row]) -> Result<(), PartFault>
+    requires words { words ≤ 255 }
+    requires rows { length rows.now ≤ 192 }
+    ensures { (part : PartData) → part.words ≡ words → part.rows ≡ rows.now →
+        told result ≡ first_of (same_row_fault [] rows.now ∷ frames_fault part ∷ []) }
 {
     check_same_rows(rows)?;
     let frames = frame_count(rows);
-    require(frames <= MAX_FRAMES, PartFault::TooMany(frames))
+    require(
+        are_few(words, frames, rows.len() as u32),
+        PartFault::TooMany(frames),
+    )
+}
+
+/// Whether a part may have so many frames in so many rows.
+fn are_few(words: u32, frames: u32, rows: u32) -> bool
+    requires words { words ≤ 255 }
+    requires rows { rows ≤ 192 }
+    ensures { result ≡ has_few_frames words frames rows }
+{
+    frames <= MAX_FRAMES && words * (frames + 2 * rows) <= MAX_WORDS
 }
 
 /// The part of a part file, or the first fault of the file.
 pub fn part_of(alloc: Global, text: &[u8]) -> Result<Part, PartFault>
-    ensures part { IfOk result (λ part. IsPartOf text.now part) }
-    ensures fault { IfErr result (λ fault. (fault ≡ PartFault.NoMemory) ⊎ IsFaultOf text.now fault) }
+    ensures part { IfOk result (λ part. part_in text.now ≡ Ok part) }
+    ensures fault { IfErr result (λ fault. (fault ≡ PartFault.NoMemory) ⊎ (part_in text.now ≡ Err fault)) }
 {
     let table = table_in(alloc, text)?;
     check_values(&table)?;
     let rows = rows_of(alloc, items(&table, PartKey::Row))?;
-    check_rows(&rows)?;
+    let words = value_or(101, &table, PartKey::FrameWords, 255);
+    check_rows(words, &rows)?;
     Ok(Part::of_table(alloc, &table, rows)?)
 }

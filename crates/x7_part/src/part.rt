@@ -1,29 +1,29 @@
 //! A part, and the questions that are asked of its addresses and slots.
-ghost use Rattle.std.specs.Prelude.{◌≡◌, ◌<◌, ◌≤◌, ◌^◌, ◌⊎◌, ◌↔◌, ◌%◌, true, None, [], All, IsPermutation, length, slice_index, slice_index_or, count_by, nat_lt, string_bytes, Contains, IfSome, IfNone, IfOk};
-ghost use Rattle.x7_part.specs.AddressOrder.{addresses, Follows, IsLast, Rises};
+ghost use Rattle.std.specs.Prelude.{◌≡◌, ◌+◌, ◌*◌, ◌<◌, ◌≤◌, ◌⊎◌, ◌↔◌, ◌%◌, true, None, [], All, length, slice_index, slice_index_or, count_by, nat_lt, string_bytes, Contains, IfSome, IfNone, IfOk};
+ghost use Rattle.x7_part.specs.AddressOrder.{addresses, addresses_in, Follows, IsLast, Rises};
 ghost use Rattle.x7_part.specs.Columns.{table_of as columns_of};
-ghost use Rattle.x7_part.specs.FrameAddress.{IsAddress, IsRow, AreRows};
+ghost use Rattle.x7_part.specs.FrameAddress.{IsAddressOf, IsRow, far_width};
 ghost use Rattle.x7_part.specs.Part.{PartData, frame_words};
 ghost use Rattle.toml.specs.View.{table_view};
-ghost use Rattle.x7_part.specs.PartFile.{part_with, same_row_fault, IsTopInRange};
+ghost use Rattle.x7_part.specs.PartValues.{part_with};
+ghost use Rattle.x7_part.specs.PartRows.{same_row_fault, frames_fault, in_order};
+ghost use Rattle.x7_part.specs.InRange.{IsTopInRange};
 ghost use Rattle.x7_part.specs.PartRange.{IsPart};
-ghost use Rattle.x7_part.specs.Slots.{slots, from};
+ghost use Rattle.x7_part.specs.Slots.{slots_in, from};
 ghost use Rattle.x7_part.specs.declared.slot.Slot.{Slot};
 
+use crate::address::Fields;
 use crate::column::{self, Column};
 use crate::fault::PartKey;
 use crate::lookup::text;
 use crate::row::{self, Row};
 use crate::slot::Slot;
 use crate::table::table_of;
-use crate::values::value;
+use crate::values::{fields, value_or};
 use std::alloc::{AllocError, Global};
 use std::marker::Model;
 use toml::Table;
 use x7_words::NoMemory;
-
-/// The words of a frame (UG470, frame data).
-const FRAME_WORDS: u32 = 101;
 
 /// A part: what its file says, with its rows in number order, and the table of its columns.
 #[derive(Drop)]
@@ -34,6 +34,9 @@ pub struct Part {
     bus_width: u8,
     lock: u16,
     matched: u16,
+    words: u8,
+    far: Fields,
+    start_unit: u16,
     rows: Vec<Row>,
     columns: Vec<Column>,
 }
@@ -41,9 +44,9 @@ pub struct Part {
 impl Model for Part {
     ghost Value = { PartData };
 
-    ghost view = { λ p. record { name = string_bytes p.name; idcode = p.idcode; mode = p.mode; bus_width = p.bus_width; lock = p.lock; matched = p.matched; rows = p.rows.items } };
+    ghost view = { λ p. record { name = string_bytes p.name; idcode = p.idcode; mode = p.mode; bus_width = p.bus_width; lock = p.lock; matched = p.matched; words = p.words; far = p.far; start_unit = p.start_unit; rows = p.rows.items } };
 
-    ghost invariant = { λ p. (p.columns.items ≡ columns_of 0 0 p.rows.items) × IsPart record { name = string_bytes p.name; idcode = p.idcode; mode = p.mode; bus_width = p.bus_width; lock = p.lock; matched = p.matched; rows = p.rows.items } };
+    ghost invariant = { λ p. (p.columns.items ≡ columns_of p.far 0 0 p.rows.items) × IsPart record { name = string_bytes p.name; idcode = p.idcode; mode = p.mode; bus_width = p.bus_width; lock = p.lock; matched = p.matched; words = p.words; far = p.far; start_unit = p.start_unit; rows = p.rows.items } };
 }
 
 impl Part {
@@ -54,21 +57,23 @@ impl Part {
         requires apart { same_row_fault [] rows.items ≡ None }
         requires some { 1 ≤ length rows.items }
         requires few { length rows.items ≤ 192 }
-        requires frames { length (addresses rows.items) ≤ 131072 }
-        ensures part { IfOk result (λ part. part ≡ part_with (table_view table.now) part.rows) }
-        ensures same { IfOk result (λ part. IsPermutation rows.items part.rows) }
-        ensures order { IfOk result (λ part. AreRows 0 part.rows) }
+        requires frames { frames_fault (part_with (table_view table.now) rows.items) ≡ None }
+        ensures { IfOk result (λ part. part ≡ part_with (table_view table.now) (in_order part.far rows.items)) }
     {
+        let far = fields(table);
         let mut rows = rows;
-        row::in_order(&mut rows);
-        let columns = table_of(alloc, &rows)?;
+        row::in_order(&mut rows, far);
+        let columns = table_of(alloc, far, &rows)?;
         Ok(Part {
             name: String::from_str(alloc, text(table, PartKey::Name))?,
-            idcode: value(table, PartKey::Idcode, 4_294_967_295),
-            mode: value(table, PartKey::Mode, 7) as u8,
-            bus_width: value(table, PartKey::BusWidth, 3) as u8,
-            lock: value(table, PartKey::Lock, 65_535) as u16,
-            matched: value(table, PartKey::Match, 65_535) as u16,
+            idcode: value_or(0, table, PartKey::Idcode, 4_294_967_295),
+            mode: value_or(0, table, PartKey::Mode, 7) as u8,
+            bus_width: value_or(0, table, PartKey::BusWidth, 3) as u8,
+            lock: value_or(0, table, PartKey::Lock, 65_535) as u16,
+            matched: value_or(0, table, PartKey::Match, 65_535) as u16,
+            words: value_or(101, table, PartKey::FrameWords, 255) as u8,
+            far,
+            start_unit: value_or(1, table, PartKey::StartUnit, 256) as u16,
             rows,
             columns,
         })
@@ -94,6 +99,9 @@ impl Part {
             bus_width: self.bus_width,
             lock: self.lock,
             matched: self.matched,
+            words: self.words,
+            far: self.far,
+            start_unit: self.start_unit,
             rows: row::copy_of(alloc, &self.rows)?,
             columns: self.columns.as_slice().to_vec(alloc)?,
         })
@@ -144,70 +152,90 @@ impl Part {
         self.matched
     }
 
-    /// The words of a frame.
+    /// The words of a frame (UG470, frame data).
     pub fn words(&self) -> u32
-        ensures { result ≡ frame_words self.now }
+        ensures value { result ≡ frame_words self.now }
+        ensures least { 2 ≤ result }
+        ensures most { result ≤ 255 }
     {
-        FRAME_WORDS
+        u32::from(self.words)
+    }
+
+    /// The width of an address in bits (UG470, frame address register).
+    pub fn far_width(&self) -> u32
+        ensures value { result ≡ far_width self.now }
+        ensures least { 25 ≤ result }
+        ensures most { result ≤ 32 }
+    {
+        self.far.width()
+    }
+
+    /// The bytes of the flash that one step of the start address in WBSTAR stands for.
+    pub fn start_unit(&self) -> u32
+        ensures value { result ≡ self.now.start_unit }
+        ensures either { (result ≡ 1) ⊎ (result ≡ 256) }
+    {
+        u32::from(self.start_unit)
     }
 
     /// The number of its frames, which is that of its addresses.
     pub fn frames(&self) -> u32
-        ensures value { result ≡ length (addresses self.now.rows) }
+        ensures value { result ≡ length (addresses_in self.now) }
         ensures some { 0 < result }
         ensures limit { result ≤ 131072 }
         ensures part { IsPart self.now }
-        ensures order { Rises 0 (addresses self.now.rows) }
+        ensures words { frame_words self.now * (result + 2 * length self.now.rows) ≤ 13277056 }
+        ensures order { Rises 0 (addresses_in self.now) }
     {
         column::frame_count(&self.columns)
     }
 
     /// Whether the part has a frame at the address.
     pub fn is_address(&self, far: u32) -> bool
-        ensures listed { (result ≡ true) ↔ Contains (addresses self.now.rows) far }
-        ensures fields { (result ≡ true) ↔ IsAddress self.now.rows far }
+        ensures listed { (result ≡ true) ↔ Contains (addresses_in self.now) far }
+        ensures fields { (result ≡ true) ↔ IsAddressOf self.now far }
     {
         column::column_of(&self.columns, far).is_some()
     }
 
     /// The next address in number order, none for the last one and for what is no address.
     pub fn next(&self, far: u32) -> Option<u32>
-        ensures found { IfSome result (λ y. Follows (addresses self.now.rows) far y) }
-        ensures none { IfNone result (IsLast (addresses self.now.rows) far ⊎ (¬ Contains (addresses self.now.rows) far)) }
+        ensures found { IfSome result (λ y. Follows (addresses_in self.now) far y) }
+        ensures none { IfNone result (IsLast (addresses_in self.now) far ⊎ (¬ Contains (addresses_in self.now) far)) }
     {
         column::next_of(&self.columns, far)
     }
 
     /// The number of smaller addresses, none for what is no address.
     pub fn rank(&self, far: u32) -> Option<u32>
-        ensures found { IfSome result (λ r. (r < length (addresses self.now.rows)) × (slice_index (addresses self.now.rows) r ≡ far)) }
-        ensures smaller { IfSome result (λ r. r ≡ count_by (λ y. nat_lt y far) (addresses self.now.rows)) }
-        ensures none { IfNone result (¬ Contains (addresses self.now.rows) far) }
+        ensures found { IfSome result (λ r. (r < length (addresses_in self.now)) × (slice_index (addresses_in self.now) r ≡ far)) }
+        ensures smaller { IfSome result (λ r. r ≡ count_by (λ y. nat_lt y far) (addresses_in self.now)) }
+        ensures none { IfNone result (¬ Contains (addresses_in self.now) far) }
     {
         column::rank_of(&self.columns, far)
     }
 
     /// The address with so many smaller ones, none from `frames()` on. It is the inverse of `rank`.
     pub fn address(&self, rank: u32) -> Option<u32>
-        ensures found { IfSome result (λ far. (rank < length (addresses self.now.rows)) × (slice_index (addresses self.now.rows) rank ≡ far)) }
-        ensures smaller { IfSome result (λ far. rank ≡ count_by (λ y. nat_lt y far) (addresses self.now.rows)) }
-        ensures none { IfNone result (length (addresses self.now.rows) ≤ rank) }
+        ensures found { IfSome result (λ far. (rank < length (addresses_in self.now)) × (slice_index (addresses_in self.now) rank ≡ far)) }
+        ensures smaller { IfSome result (λ far. rank ≡ count_by (λ y. nat_lt y far) (addresses_in self.now)) }
+        ensures none { IfNone result (length (addresses_in self.now) ≤ rank) }
     {
         column::address_of(&self.columns, rank)
     }
 
     /// Slot n of the slots from an address on, `End` where there are no more than n.
     pub fn slot_after(&self, far: u32, n: u64) -> Slot
-        requires address { Contains (addresses self.now.rows) far }
-        ensures { result ≡ slice_index_or (from far (slots self.now.rows)) n Slot.End }
+        requires address { Contains (addresses_in self.now) far }
+        ensures { result ≡ slice_index_or (from far (slots_in self.now)) n Slot.End }
     {
         column::slot_after(&self.columns, far, n)
     }
 
     /// The number of slots from an address on.
     pub fn slots_from(&self, far: u32) -> u64
-        requires address { Contains (addresses self.now.rows) far }
-        ensures { result ≡ length (from far (slots self.now.rows)) }
+        requires address { Contains (addresses_in self.now) far }
+        ensures { result ≡ length (from far (slots_in self.now)) }
     {
         column::slots_from(&self.columns, far)
     }

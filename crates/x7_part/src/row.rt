@@ -1,14 +1,15 @@
 //! Rows of a part.
 ghost use Rattle.std.specs.Prelude.{◌≡◌, ◌≤◌, [], length, sum, IfOk, IsPermutation};
+ghost use Rattle.std.specs.List.{sum_by};
 ghost use Rattle.std.specs.List.Sorted.{IsNonDecreasingBy};
-ghost use Rattle.x7_part.specs.AddressOrder.{addresses};
 ghost use Rattle.x7_part.specs.FrameAddress.{row_address, IsRow};
-ghost use Rattle.x7_part.specs.PartFile.{is_same, has_same, same_row_fault, told};
+ghost use Rattle.x7_part.specs.PartChecks.{told};
+ghost use Rattle.x7_part.specs.PartRows.{is_same, has_same, same_row_fault};
 ghost use Rattle.x7_part.specs.Part.{RowData};
 
-use crate::address::{BLOCK, HALF, ROW};
+use crate::address::Fields;
+use crate::checks::require;
 use crate::fault::PartFault;
-use crate::keys::require;
 use std::alloc::{AllocError, Global};
 use std::marker::Model;
 
@@ -50,10 +51,12 @@ impl Row {
     }
 
     /// The address of its column 0, minor 0.
-    pub fn address(&self) -> u32
-        ensures { result ≡ row_address self.now }
+    pub fn address(&self, far: Fields) -> u32
+        ensures { result ≡ row_address far self.now }
     {
-        u32::from(self.block) * BLOCK + u32::from(self.half) * HALF + u32::from(self.row) * ROW
+        u32::from(self.block) * far.block_weight()
+            + u32::from(self.half) * far.half_weight()
+            + u32::from(self.row) * far.row_weight()
     }
 
     /// The number of its frames.
@@ -96,7 +99,7 @@ pub fn check_same_rows(rows: &[Row]) -> Result<(), PartFault>
 /// The number of frames of the rows.
 pub fn frame_count(rows: &[Row]) -> u32
     requires { length rows.now ≤ 192 }
-    ensures { result ≡ length (addresses rows.now) }
+    ensures { result ≡ sum_by (λ row. sum row.minors) rows.now }
 {
     let mut frames = 0;
     for row in rows {
@@ -106,11 +109,11 @@ pub fn frame_count(rows: &[Row]) -> u32
 }
 
 /// Puts the rows in number order.
-pub fn in_order(rows: &mut Vec<Row>)
-    ensures sorted { IsNonDecreasingBy row_address rows.new.items }
+pub fn in_order(rows: &mut Vec<Row>, far: Fields)
+    ensures sorted { IsNonDecreasingBy (row_address far) rows.new.items }
     ensures same { IsPermutation rows.old.items rows.new.items }
 {
-    rows.sort_unstable_by_key(|row| row.address());
+    rows.sort_unstable_by_key(|row| row.address(far));
 }
 
 /// Equal rows in the same order.

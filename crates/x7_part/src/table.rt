@@ -4,7 +4,7 @@ ghost use Rattle.x7_part.specs.AddressOrder.{addresses};
 ghost use Rattle.x7_part.specs.Columns.{row_columns, table_of as columns_of};
 ghost use Rattle.x7_part.specs.FrameAddress.{row_address, AreRows, IsRow};
 
-use crate::address::COLUMN;
+use crate::address::Fields;
 use crate::column::Column;
 use crate::row::Row;
 use std::alloc::{AllocError, Global};
@@ -17,26 +17,27 @@ fn pads_behind(column: usize, columns: usize) -> u32
     if column + 1 == columns { 2 } else { 0 }
 }
 
-/// Adds a row's columns, with the numbers of addresses and slots before it.
+/// Adds a row's columns, with the numbers of addresses and slots before it. One column more adds `pitch` to an address.
 #[tactic(auto, using(crate::proofs::RowLemmas::row_more))]
 fn add_row(
     columns: &mut Vec<Column>,
+    pitch: u32,
     base: u32,
     minors: &[u8],
     rank: u32,
     slot: u64,
 ) -> Result<(), AllocError>
-    requires base { base + 2 ^ 17 ≤ 2 ^ 26 }
+    requires base { base + length minors.now * pitch ≤ 2 ^ 32 }
     requires columns { length minors.now ≤ 1024 }
     requires rank { rank < 2 ^ 31 }
     requires slot { slot < 2 ^ 62 }
-    ensures { OnOk result (columns.new.items ≡ columns.old.items ++ row_columns base 0 rank slot minors.now) }
+    ensures { OnOk result (columns.new.items ≡ columns.old.items ++ row_columns pitch base 0 rank slot minors.now) }
 {
     let mut rank = rank;
     let mut slot = slot;
     for (column, count) in minors.iter().enumerate() {
         columns.push(Column {
-            first: base + column as u32 * COLUMN,
+            first: base + column as u32 * pitch,
             count: u32::from(*count),
             pads: pads_behind(column, minors.len()),
             rank,
@@ -49,17 +50,25 @@ fn add_row(
 }
 
 /// The table of rows that stand in number order.
-pub fn table_of(alloc: Global, rows: &[Row]) -> Result<Vec<Column>, AllocError>
-    requires rows { AreRows 0 rows.now }
+pub fn table_of(alloc: Global, far: Fields, rows: &[Row]) -> Result<Vec<Column>, AllocError>
+    requires rows { AreRows far 0 rows.now }
     requires count { length rows.now ≤ 192 }
-    requires frames { length (addresses rows.now) ≤ 131072 }
-    ensures { IfOk result (λ columns. columns.items ≡ columns_of 0 0 rows.now) }
+    requires frames { length (addresses far rows.now) ≤ 131072 }
+    ensures { IfOk result (λ columns. columns.items ≡ columns_of far 0 0 rows.now) }
 {
     let mut columns = Vec::new(alloc);
     let mut rank = 0;
     let mut slot = 0;
     for row in rows {
-        add_row(&mut columns, row.address(), &row.minors, rank, slot)?;
+        let base = row.address(far);
+        add_row(
+            &mut columns,
+            far.column_weight(),
+            base,
+            &row.minors,
+            rank,
+            slot,
+        )?;
         let frames = row.frames();
         rank += frames;
         slot += u64::from(frames) + 2;

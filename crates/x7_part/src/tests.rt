@@ -38,6 +38,14 @@ fn slots_from(part: &Part, far: u32) -> Option<u64> {
     }
 }
 
+fn range(key: PartKey) -> PartFault {
+    PartFault::Range(top(key))
+}
+
+fn type_of(key: PartKey) -> PartFault {
+    PartFault::Key(top(key))
+}
+
 fn tiny(alloc: Global) -> Result<Part, PartFault> {
     part_of(alloc, TINY.as_bytes())
 }
@@ -54,6 +62,8 @@ fn values_of_a_small_part(rt: HostRuntime) -> Result<(), Fail> {
         assert_eq!(rt; part.lock(), 0);
         assert_eq!(rt; part.matched(), 0);
         assert_eq!(rt; part.words(), 101);
+        assert_eq!(rt; part.far_width(), 26);
+        assert_eq!(rt; part.start_unit(), 1);
         assert_eq!(rt; part.frames(), 4);
         assert_eq!(rt; slots_from(part, 0), Some(8));
     }
@@ -80,6 +90,87 @@ fn addresses_of_a_small_part(rt: HostRuntime) -> Result<(), Fail> {
     let addresses = [Some(0), Some(1), Some(0x0040_0000), Some(0x0040_0001), None];
     for (rank, far) in addresses.into_iter().enumerate() {
         assert_eq!(rt; part.address(rank as u32), far, "at {rank}");
+    }
+    Ok(())
+}
+
+/// A part file of one row with one frame, and these keys before it.
+fn with_keys(alloc: Global, keys: &str) -> Result<String, AllocError> {
+    let mut text = String::from_str(alloc, "name = \"t\"\nidcode = 1\n")?;
+    text.push_str(keys)?;
+    text.push_str("\n[[row]]\nblock = 2\nhalf = 1\nrow = 31\nminors = [1, 2]\n")?;
+    Ok(text)
+}
+
+#[test]
+fn parts_of_other_shapes(rt: HostRuntime) -> Result<(), Fail> {
+    // keys, words of a frame, width of an address, start unit, last address
+    let cases = [
+        ("", 101, 26, 1, 0x017E_0081),
+        ("frame_words = 2", 2, 26, 1, 0x017E_0081),
+        (
+            "frame_words = 255\nstart_unit = 256",
+            255,
+            26,
+            256,
+            0x017E_0081,
+        ),
+        ("far = [7, 10, 5, 1, 2]", 101, 25, 1, 0x017E_0081),
+        ("far = [8, 10, 5, 1, 3]", 101, 27, 1, 0x02FC_0101),
+        ("far = [12, 12, 5, 1, 2]", 101, 32, 1, 0xBF00_1001),
+        ("far = [9, 12, 8, 1, 2]", 101, 32, 1, 0xA3E0_0201),
+        ("far = [7, 11, 8, 1, 3]", 101, 30, 1, 0x147C_0081),
+    ];
+    for (keys, words, width, unit, last) in cases {
+        let part = part_of(rt.alloc(), with_keys(rt.alloc(), keys)?.as_bytes())?;
+        assert_eq!(rt; part.words(), words, "{keys}");
+        assert_eq!(rt; part.far_width(), width, "{keys}");
+        assert_eq!(rt; part.start_unit(), unit, "{keys}");
+        assert_eq!(rt; part.address(2), Some(last), "{keys}");
+        assert_eq!(rt; part.next(last - 1), Some(last), "{keys}");
+        assert_eq!(rt; part.next(last), None, "{keys}");
+    }
+    Ok(())
+}
+
+#[test]
+fn refused_shapes(rt: HostRuntime) -> Result<(), Fail> {
+    // keys, the fault
+    let cases = [
+        ("frame_words = 1", range(PartKey::FrameWords)),
+        ("frame_words = 256", range(PartKey::FrameWords)),
+        ("frame_words = -2", range(PartKey::FrameWords)),
+        ("frame_words = \"2\"", type_of(PartKey::FrameWords)),
+        ("far = 7", type_of(PartKey::Far)),
+        ("far = [7, 10, 5, 1, \"3\"]", type_of(PartKey::Far)),
+        ("far = [7, 10, 5, 1, 3.0]", type_of(PartKey::Far)),
+        ("far = []", range(PartKey::Far)),
+        ("far = [7, 10, 5, 1]", range(PartKey::Far)),
+        ("far = [7, 10, 5, 1, 3, 1]", range(PartKey::Far)),
+        ("far = [6, 10, 5, 1, 3]", range(PartKey::Far)),
+        ("far = [13, 10, 5, 1, 3]", range(PartKey::Far)),
+        ("far = [7, 9, 5, 1, 3]", range(PartKey::Far)),
+        ("far = [7, 10, 9, 1, 3]", range(PartKey::Far)),
+        ("far = [7, 10, 5, 2, 3]", range(PartKey::Far)),
+        ("far = [7, 10, 5, 1, 1]", range(PartKey::Far)),
+        ("far = [12, 12, 5, 1, 3]", range(PartKey::Far)),
+        ("start_unit = 2", range(PartKey::StartUnit)),
+        ("start_unit = 0", range(PartKey::StartUnit)),
+        ("start_unit = -1", range(PartKey::StartUnit)),
+        ("start_unit = 257", range(PartKey::StartUnit)),
+        ("start_unit = [1]", type_of(PartKey::StartUnit)),
+        ("match = 65536\nframe_words = 1", range(PartKey::Match)),
+        ("start_unit = 2\nfar = []", range(PartKey::Far)),
+        ("far = []\nframe_words = 1", range(PartKey::FrameWords)),
+        ("start_unit = true\nfar = 7", type_of(PartKey::Far)),
+    ];
+    for (keys, fault) in cases {
+        let text = with_keys(rt.alloc(), keys)?;
+        assert_eq!(rt;
+            part_of(rt.alloc(), text.as_bytes()).err(),
+            Some(fault),
+            "{keys}"
+        );
     }
     Ok(())
 }
@@ -310,6 +401,19 @@ fn as_many_frames_as_a_part_may_have(rt: HostRuntime) -> Result<(), Fail> {
 }
 
 #[test]
+fn as_many_words_as_a_part_may_have(rt: HostRuntime) -> Result<(), Fail> {
+    // 104 times (127,660 frames and 4 pads) is 13,277,056
+    let mut text = String::from_str(rt.alloc(), "frame_words = 104\n")?;
+    text.push_str(part_text(rt.alloc(), &[(1000, "127"), (660, "1")])?.as_str())?;
+    assert_eq!(rt; part_of(rt.alloc(), text.as_bytes())?.frames(), 127_660);
+    let mut text = String::from_str(rt.alloc(), "frame_words = 104\n")?;
+    text.push_str(part_text(rt.alloc(), &[(1000, "127"), (661, "1")])?.as_str())?;
+    let fault = part_of(rt.alloc(), text.as_bytes()).err();
+    assert_eq!(rt; fault, Some(PartFault::TooMany(127_661)));
+    Ok(())
+}
+
+#[test]
 fn a_repeated_row_is_told_before_too_many_frames(rt: HostRuntime) -> Result<(), Fail> {
     let mut text = part_text(rt.alloc(), &[(1024, "128")])?;
     add_row(&mut text, 0, 1, "1")?;
@@ -356,7 +460,7 @@ fn questions_for_each_frame_of_large_parts(rt: HostRuntime) -> Result<(), Fail> 
     let many_rows = part_text(rt.alloc(), &[(85, "8"); 192])?;
     for text in [&one_row, &many_rows] {
         let part = part_of(rt.alloc(), text.as_bytes())?;
-        for _round in 0..10 {
+        for _round in 0..3 {
             assert_eq!(rt; ask_for_each_frame(&part), true);
         }
     }
@@ -368,6 +472,9 @@ fn texts_of_faults(rt: HostRuntime) -> Result<(), Fail> {
     let cases = [
         (PartFault::Toml, "the text is no TOML"),
         (PartFault::Key(top(PartKey::BusWidth)), "key bus_width"),
+        (range(PartKey::FrameWords), "range frame_words"),
+        (type_of(PartKey::Far), "key far"),
+        (range(PartKey::StartUnit), "range start_unit"),
         (
             PartFault::Range(row(12, PartKey::Minors)),
             "range minors in row 12",

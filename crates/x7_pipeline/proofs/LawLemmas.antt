@@ -6,12 +6,12 @@ use Rattle.std.proofs.lemmas.Grind.{reverse_onto}
 use Rattle.std.proofs.lemmas.Option.{none-some, same_Some}
 use Rattle.std.proofs.lemmas.List.{length-reverse, drop_all, drop_more, get_or_past}
 use Rattle.std.proofs.lemmas.List.Elements.{All-nil, All-cons}
-use Rattle.std.proofs.Math.Nat.{le-div_iff_mul-le}
+use Rattle.std.proofs.Math.Nat.{le-div_iff_mul-le, zero-div}
 use Rattle.std.proofs.lemmas.Nat.{div-mul-add, mod-mul-add}
 use Rattle.x7_words.proofs.ListLemmas.{flat_map-last}
-use Rattle.x7_part.specs.Part.{RowData, PartData, frame_words}
+use Rattle.x7_part.specs.Part.{FieldWidths, RowData, PartData, frame_words}
 use Rattle.x7_part.specs.AddressOrder.{addresses_of}
-use Rattle.x7_part.specs.Slots.{slots, from}
+use Rattle.x7_part.specs.Slots.{slots, slots_in, from}
 use Rattle.x7_part.specs.declared.slot.Slot.{Slot}
 use Rattle.x7_part.specs.declared.slot.Slot.TheVariants.{Frame, Pad, End}
 use Rattle.x7_memory.specs.FrameMap.{FrameMap, AreSame, override}
@@ -146,12 +146,15 @@ first_from far (End ∷ places) h = first_from far places h
 
 loaded_at : (part : PartData) (base : ℕ) (b : Bool) → has_frame_at part base ≡ b → far_at part base 0 ≡ base
 loaded_at part base true t =
-    far_at-some part base 0 t ∙ ap (λ o. unwrap_or o (last_address part)) (first_from base (slots part.rows) (ltb-true 0 (length (slots_from part base)) t))
+    far_at-some part base 0 t ∙ ap (λ o. unwrap_or o (last_address part)) (first_from base (slots_in part) (ltb-true 0 (length (slots_from part base)) t))
 loaded_at part base false f = sym (far_at-none part base 0 f)
 
 pub far_loaded : (part : PartData) (base : ℕ) → far_of part base [] 0 ≡ base
 unfolding far_of frames_of
-far_loaded part base = loaded_at part base (has_frame_at part base) refl
+far_loaded part base = ap (far_at part base) (let z = nothing_divided (frame_words part) in let e : max 0 (0 / frame_words part) - 1 ≡ 0 = omega arith in e) ∙ loaded_at part base (has_frame_at part base) refl
+  where
+    nothing_divided : (w : ℕ) → 0 / w ≡ 0
+    nothing_divided w = zero-div w
 
 pub far_nowhere : (part : PartData) (base : ℕ) (run : List ℕ) (given : ℕ) → has_frame_at part base ≡ false → far_of part base run given ≡ base
 unfolding far_of
@@ -160,16 +163,16 @@ far_nowhere part base run given f = sym (far_at-none part base (max (length (fra
 commute : (a b n : ℕ) → a * b ≤ n → b * a ≤ n
 commute a b n h = grind (arith, h)
 
-many_frames : (part : PartData) (base given : ℕ) → read_limit part base ≤ given → 1 + length (slots_from part base) ≤ given / frame_words part
+many_frames : (part : PartData) (base given : ℕ) → 0 < frame_words part → read_limit part base ≤ given → 1 + length (slots_from part base) ≤ given / frame_words part
 unfolding read_limit
-many_frames part base given h =
-    (le-div_iff_mul-le {k = frame_words part} {x = 1 + length (slots_from part base)} {y = given} (omega arith)).1
+many_frames part base given some h =
+    (le-div_iff_mul-le {k = frame_words part} {x = 1 + length (slots_from part base)} {y = given} some).1
     (commute (frame_words part) (1 + length (slots_from part base)) given h)
 
-pub far_last : (part : PartData) (base : ℕ) (run : List ℕ) (given : ℕ) → has_frame_at part base ≡ true → read_limit part base ≤ given → far_of part base run given ≡ last_address part
+pub far_last : (part : PartData) (base : ℕ) (run : List ℕ) (given : ℕ) → 0 < frame_words part → has_frame_at part base ≡ true → read_limit part base ≤ given → far_of part base run given ≡ last_address part
 unfolding far_of
-far_last part base run given t h =
-    let many = many_frames part base given h in
+far_last part base run given some t h =
+    let many = many_frames part base given some h in
     let place = max (length (frames_of (frame_words part) run)) (given / frame_words part) - 1 in
     far_at-some part base place t
     ∙ ap (λ places. unwrap_or (first_address places) (last_address part)) (drop_all place (slots_from part base) (omega arith))
@@ -218,13 +221,13 @@ two_pads tail ends zero far h e = cc
 two_pads tail ends (suc zero) far h e = cc
 two_pads tail ends (suc (suc i)) far h e = ends i far (omega arith) e
 
-slots_end : (rows : List RowData) → EndsInPad (slots rows)
+slots_end : (widths : FieldWidths) (rows : List RowData) → EndsInPad (slots widths rows)
 unfolding EndsInPad slots
-slots_end [] i far h e = cc
-slots_end (r ∷ rows) i far h e =
-    let tail : List Slot = slots rows in
-    let same : map Frame (addresses_of r) ++ (Pad ∷ Pad ∷ tail) ≡ slots (r ∷ rows) = sym (append_assoc (map Frame (addresses_of r)) (Pad ∷ Pad ∷ []) tail) in
-    ends_behind (map Frame (addresses_of r)) (Pad ∷ Pad ∷ tail) (omega arith) (two_pads tail (slots_end rows)) i far (rw same h) (rw same e)
+slots_end widths [] i far h e = cc
+slots_end widths (r ∷ rows) i far h e =
+    let tail : List Slot = slots widths rows in
+    let same : map Frame (addresses_of widths r) ++ (Pad ∷ Pad ∷ tail) ≡ slots widths (r ∷ rows) = sym (append_assoc (map Frame (addresses_of widths r)) (Pad ∷ Pad ∷ []) tail) in
+    ends_behind (map Frame (addresses_of widths r)) (Pad ∷ Pad ∷ tail) (omega arith) (two_pads tail (slots_end widths rows)) i far (rw same h) (rw same e)
 
 from_end : (base : ℕ) (places : List Slot) → EndsInPad places → EndsInPad (from base places)
 unfolding EndsInPad
@@ -239,7 +242,7 @@ from_end base (End ∷ places) ends = from_end base places (λ i far h e. ends (
 
 last_slot : (part : PartData) (base i far : ℕ) → length (slots_from part base) ≤ i + 1 → get_or (slots_from part base) i End ≡ Frame far → ⊥
 unfolding EndsInPad
-last_slot part base = from_end base (slots part.rows) (slots_end part.rows)
+last_slot part base = from_end base (slots_in part) (slots_end part.far part.rows)
 
 -- ---- faults
 
@@ -382,14 +385,15 @@ other_source part old new run f = rw f refl
 
 -- ---- one pipeline
 
-same_fields : (p q : PipelineData) → p.width ≡ q.width → p.command ≡ q.command → p.base ≡ q.base → p.rest ≡ q.rest → p.newest ≡ q.newest → p.frame_count ≡ q.frame_count → p.source ≡ q.source → p.given ≡ q.given → p.slot ≡ q.slot → p ≡ q
-same_fields p q w c b r n f s g t =
+same_fields : (p q : PipelineData) → p.width ≡ q.width → p.far_width ≡ q.far_width → p.command ≡ q.command → p.base ≡ q.base → p.rest ≡ q.rest → p.newest ≡ q.newest → p.frame_count ≡ q.frame_count → p.source ≡ q.source → p.given ≡ q.given → p.slot ≡ q.slot → p ≡ q
+same_fields p q w v c b r n f s g t =
     ap (λ x. record p { width = x }) w
-    ∙ ap (λ x. record p { width = q.width; command = x }) c
-    ∙ ap (λ x. record p { width = q.width; command = q.command; base = x }) b
-    ∙ ap (λ x. record p { width = q.width; command = q.command; base = q.base; rest = x }) r
-    ∙ ap (λ x. record p { width = q.width; command = q.command; base = q.base; rest = q.rest; newest = x }) n
-    ∙ ap (λ x. record p { width = q.width; command = q.command; base = q.base; rest = q.rest; newest = q.newest; frame_count = x }) f
+    ∙ ap (λ x. record p { width = q.width; far_width = x }) v
+    ∙ ap (λ x. record p { width = q.width; far_width = q.far_width; command = x }) c
+    ∙ ap (λ x. record p { width = q.width; far_width = q.far_width; command = q.command; base = x }) b
+    ∙ ap (λ x. record p { width = q.width; far_width = q.far_width; command = q.command; base = q.base; rest = x }) r
+    ∙ ap (λ x. record p { width = q.width; far_width = q.far_width; command = q.command; base = q.base; rest = q.rest; newest = x }) n
+    ∙ ap (λ x. record p { width = q.width; far_width = q.far_width; command = q.command; base = q.base; rest = q.rest; newest = q.newest; frame_count = x }) f
     ∙ ap (λ x. record q { source = x; given = p.given; slot = p.slot }) s
     ∙ ap (λ x. record q { given = x; slot = p.slot }) g
     ∙ ap (λ x. record q { slot = x }) t
@@ -397,5 +401,5 @@ same_fields p q w c b r n f s g t =
 pub one_state : (part : PartData) (p q : PipelineData) (command : Command) (base : ℕ) (run : List ℕ) (source : Option (List ℕ)) (given : ℕ) →
     StandsFor part p command base run source given → StandsFor part q command base run source given → p ≡ q
 one_state part p q command base run source given s t =
-    same_fields p q (s.width_is ∙ sym t.width_is) (s.command_is ∙ sym t.command_is) (s.base_is ∙ sym t.base_is) (s.rest_is ∙ sym t.rest_is)
+    same_fields p q (s.width_is ∙ sym t.width_is) (s.far_width_is ∙ sym t.far_width_is) (s.command_is ∙ sym t.command_is) (s.base_is ∙ sym t.base_is) (s.rest_is ∙ sym t.rest_is)
     (s.newest_is ∙ sym t.newest_is) (s.count_is ∙ sym t.count_is) (s.source_is ∙ sym t.source_is) (s.given_is ∙ sym t.given_is) (s.slot_is ∙ sym t.slot_is)

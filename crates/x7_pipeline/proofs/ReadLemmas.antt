@@ -3,10 +3,10 @@ use Rattle.std.proofs.Common.{◌≡◌, ℕ, zero, suc, ◌+◌, ◌-◌, ◌*�
 use Rattle.std.proofs.lemmas.Bool.{cases_lt, cases_eq}
 use Rattle.std.proofs.lemmas.List.{get_or_past}
 use Rattle.std.proofs.lemmas.Nat.{div-mul-add, div-add-mod'}
-use Rattle.std.proofs.Math.Nat.{le-div_iff_mul-le, div-eq_of_lt, mod-lt}
-use Rattle.x7_part.specs.Part.{RowData, PartData, frame_words}
+use Rattle.std.proofs.Math.Nat.{le-div_iff_mul-le, div-eq_of_lt, mod-lt, mul-pos}
+use Rattle.x7_part.specs.Part.{FieldWidths, RowData, PartData, frame_words}
 use Rattle.x7_part.specs.AddressOrder.{addresses_of}
-use Rattle.x7_part.specs.Slots.{slots, from}
+use Rattle.x7_part.specs.Slots.{slots, slots_in, from}
 use Rattle.x7_part.specs.declared.slot.Slot.{Slot}
 use Rattle.x7_part.specs.declared.slot.Slot.TheVariants.{Frame, Pad, End}
 use Rattle.x7_memory.specs.FrameMap.{FrameMap}
@@ -28,8 +28,8 @@ unfolding read_slot
 read_slot-pad part base place h = ap (λ i. get_or (Pad ∷ slots_from part base) i End) (div-eq_of_lt h)
 
 -- before any word it is the pad
-pub first_slot : (part : PartData) (base : ℕ) → Pad ≡ read_slot part base (given_stored part base 0)
-first_slot part base = sym (read_slot-pad part base (given_stored part base 0) (omega arith))
+pub first_slot : (part : PartData) (base : ℕ) → 0 < frame_words part → Pad ≡ read_slot part base (given_stored part base 0)
+first_slot part base some = sym (read_slot-pad part base (given_stored part base 0) (omega arith))
 
 -- ---- the limit
 
@@ -51,10 +51,10 @@ unfolding NoEnds
 ends-frames [] = tt
 ends-frames (far ∷ fars) = ends-frames fars
 
-ends-slots : (rows : List RowData) → NoEnds (slots rows)
+ends-slots : (far : FieldWidths) (rows : List RowData) → NoEnds (slots far rows)
 unfolding NoEnds slots
-ends-slots [] = tt
-ends-slots (r ∷ rows) = ends-append (map Frame (addresses_of r) ++ Pad ∷ Pad ∷ []) (slots rows) (ends-append (map Frame (addresses_of r)) (Pad ∷ Pad ∷ []) (ends-frames (addresses_of r)) tt) (ends-slots rows)
+ends-slots far [] = tt
+ends-slots far (r ∷ rows) = ends-append (map Frame (addresses_of far r) ++ Pad ∷ Pad ∷ []) (slots far rows) (ends-append (map Frame (addresses_of far r)) (Pad ∷ Pad ∷ []) (ends-frames (addresses_of far r)) tt) (ends-slots far rows)
 
 ends-from : (far : ℕ) (places : List Slot) → NoEnds places → NoEnds (from far places)
 unfolding NoEnds
@@ -80,34 +80,34 @@ commute : (a b n : ℕ) → a * b ≤ n → b * a ≤ n
 commute a b n h = grind (arith, h)
 
 -- the slots end where the limit is
-pub past_limit : (part : PartData) (base place : ℕ) → read_limit part base ≤ place → read_slot part base place ≡ End
+pub past_limit : (part : PartData) (base place : ℕ) → 0 < frame_words part → read_limit part base ≤ place → read_slot part base place ≡ End
 unfolding read_slot read_limit
-past_limit part base place h =
+past_limit part base place some h =
     let many : 1 + length (slots_from part base) ≤ place / frame_words part =
-    (le-div_iff_mul-le {k = frame_words part} {x = 1 + length (slots_from part base)} {y = place} (omega arith)).1 (commute (frame_words part) (1 + length (slots_from part base)) place h) in
+    (le-div_iff_mul-le {k = frame_words part} {x = 1 + length (slots_from part base)} {y = place} some).1 (commute (frame_words part) (1 + length (slots_from part base)) place h) in
     get_or_past (Pad ∷ slots_from part base) (place / frame_words part) End (omega arith)
 
-pub at_end : (part : PartData) (base place : ℕ) → read_slot part base place ≡ End → read_limit part base ≤ place
+pub at_end : (part : PartData) (base place : ℕ) → 0 < frame_words part → read_slot part base place ≡ End → read_limit part base ≤ place
 unfolding read_slot read_limit NoEnds
-at_end part base place e =
+at_end part base place some e =
     elim (cases_lt (place / frame_words part) (1 + length (slots_from part base))) [
-      | inl low ↦ absurd (no_end (Pad ∷ slots_from part base) (place / frame_words part) (ends-from base (slots part.rows) (ends-slots part.rows)) (omega arith) e)
+      | inl low ↦ absurd (no_end (Pad ∷ slots_from part base) (place / frame_words part) (ends-from base (slots_in part) (ends-slots part.far part.rows)) (omega arith) e)
       | inr past ↦ commute (1 + length (slots_from part base)) (frame_words part) place
-          ((le-div_iff_mul-le {k = frame_words part} {x = 1 + length (slots_from part base)} {y = place} (omega arith)).0 past)
+          ((le-div_iff_mul-le {k = frame_words part} {x = 1 + length (slots_from part base)} {y = place} some).0 past)
     ]
 
 -- zeros from the limit on
-pub zeros_from : (part : PartData) (base : ℕ) (memory : FrameMap) (place : ℕ) → read_limit part base ≤ place → read_at part base memory place ≡ 0
+pub zeros_from : (part : PartData) (base : ℕ) (memory : FrameMap) (place : ℕ) → 0 < frame_words part → read_limit part base ≤ place → read_at part base memory place ≡ 0
 unfolding read_at
-zeros_from part base memory place high = ap (λ slot. word_at slot memory (place % frame_words part)) (past_limit part base place high)
+zeros_from part base memory place some high = ap (λ slot. word_at slot memory (place % frame_words part)) (past_limit part base place some high)
 
 -- the stored count gives the word of the count
-pub read_stored : (part : PartData) (base : ℕ) (memory : FrameMap) (given : ℕ) → read_at part base memory (given_stored part base given) ≡ read_at part base memory given
-read_stored part base memory given =
+pub read_stored : (part : PartData) (base : ℕ) (memory : FrameMap) (given : ℕ) → 0 < frame_words part → read_at part base memory (given_stored part base given) ≡ read_at part base memory given
+read_stored part base memory given some =
     elim (cases_lt given (read_limit part base)) [
       | inl low ↦ let e : given_stored part base given ≡ given = omega arith in rw e refl
       | inr high ↦ let e : given_stored part base given ≡ read_limit part base = omega arith in
-          ap (read_at part base memory) e ∙ zeros_from part base memory (read_limit part base) (omega arith) ∙ sym (zeros_from part base memory given high)
+          ap (read_at part base memory) e ∙ zeros_from part base memory (read_limit part base) some (omega arith) ∙ sym (zeros_from part base memory given some high)
     ]
 
 -- ---- words that are passed over
@@ -121,22 +121,22 @@ passed part base given n width w = rw w (lesser given n (frame_words part * (1 +
     lesser g n limit = omega arith
 
 -- at the end the stored count stands still
-pub stands_still : (part : PartData) (base given : ℕ) → read_slot part base (given_stored part base given) ≡ End → given_stored part base given ≡ given_stored part base (given + 1)
-stands_still part base given e = let high = at_end part base (given_stored part base given) e in omega arith
+pub stands_still : (part : PartData) (base given : ℕ) → 0 < frame_words part → read_slot part base (given_stored part base given) ≡ End → given_stored part base given ≡ given_stored part base (given + 1)
+stands_still part base given some e = let high = at_end part base (given_stored part base given) some e in omega arith
 
 -- and before the end it is the count
-pub goes_up : (part : PartData) (base given : ℕ) → (read_slot part base (given_stored part base given) ≡ End → ⊥) → given_stored part base given + 1 ≡ given_stored part base (given + 1)
-goes_up part base given n =
+pub goes_up : (part : PartData) (base given : ℕ) → 0 < frame_words part → (read_slot part base (given_stored part base given) ≡ End → ⊥) → given_stored part base given + 1 ≡ given_stored part base (given + 1)
+goes_up part base given some n =
     elim (cases_lt given (read_limit part base)) [
       | inl low ↦ omega arith
-      | inr high ↦ absurd (n (past_limit part base (given_stored part base given) (omega arith)))
+      | inr high ↦ absurd (n (past_limit part base (given_stored part base given) some (omega arith)))
     ]
 
 -- within a frame the slot stays
-pub same_slot : (part : PartData) (base place : ℕ) → ((place + 1) % frame_words part ≡ 0 → ⊥) → read_slot part base place ≡ read_slot part base (place + 1)
+pub same_slot : (part : PartData) (base place : ℕ) → 0 < frame_words part → ((place + 1) % frame_words part ≡ 0 → ⊥) → read_slot part base place ≡ read_slot part base (place + 1)
 unfolding read_slot
-same_slot part base place n =
-    ap (λ i. get_or (Pad ∷ slots_from part base) i End) (same_frame (frame_words part) place (omega arith) n)
+same_slot part base place some n =
+    ap (λ i. get_or (Pad ∷ slots_from part base) i End) (same_frame (frame_words part) place some n)
   where
     same_frame : (w a : ℕ) → 0 < w → ((a + 1) % w ≡ 0 → ⊥) → a / w ≡ (a + 1) / w
     same_frame w a some n =
@@ -148,9 +148,9 @@ same_slot part base place n =
         ap (λ x. x / w) e ∙ div-mul-add q w (r - 1) (omega arith)
 
 -- some words were given exactly where the stored count isn't 0
-pub none_given : (part : PartData) (base given : ℕ) → given_stored part base given ≡ 0 → given ≡ 0
+pub none_given : (part : PartData) (base given : ℕ) → 0 < frame_words part → given_stored part base given ≡ 0 → given ≡ 0
 unfolding read_limit
-none_given part base given e = none given (frame_words part * (1 + length (slots_from part base))) (omega arith) e
+none_given part base given some e = none given (frame_words part * (1 + length (slots_from part base))) (mul-pos some (omega arith)) e
   where
     none : (g limit : ℕ) → 0 < limit → min g limit ≡ 0 → g ≡ 0
     none g limit some e = omega arith

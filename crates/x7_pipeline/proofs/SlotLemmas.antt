@@ -4,10 +4,10 @@ use Rattle.std.specs.Prelude.{Contains}
 use Rattle.std.proofs.lemmas.Bool.{cases_eq, false≢true, ltb-true, lt-ltb}
 use Rattle.std.proofs.lemmas.Bool.Decides.{nat_tests}
 use Rattle.std.proofs.lemmas.List.{get_or_past}
-use Rattle.x7_part.specs.Part.{RowData, PartData}
+use Rattle.x7_part.specs.Part.{FieldWidths, RowData, PartData}
 use Rattle.x7_part.specs.PartRange.{IsPart}
-use Rattle.x7_part.specs.AddressOrder.{addresses_of, addresses}
-use Rattle.x7_part.specs.Slots.{slots, from}
+use Rattle.x7_part.specs.AddressOrder.{addresses_of, addresses, addresses_in}
+use Rattle.x7_part.specs.Slots.{slots, slots_in, from}
 use Rattle.x7_part.specs.declared.slot.Slot.{Slot}
 use Rattle.x7_part.specs.declared.slot.Slot.TheVariants.{Frame, Pad, End}
 use Rattle.x7_part.proofs.PartLemmas.{slots_count}
@@ -16,32 +16,32 @@ use Rattle.x7_pipeline.specs.FarAsRead.{has_frame_at}
 
 -- ---- the addresses among slots
 
-abbrev pub addresses_in : List Slot → List ℕ
-addresses_in [] = []
-addresses_in (Frame far ∷ places) = far ∷ addresses_in places
-addresses_in (Pad ∷ places) = addresses_in places
-addresses_in (End ∷ places) = addresses_in places
+abbrev pub addresses_among : List Slot → List ℕ
+addresses_among [] = []
+addresses_among (Frame far ∷ places) = far ∷ addresses_among places
+addresses_among (Pad ∷ places) = addresses_among places
+addresses_among (End ∷ places) = addresses_among places
 
-addresses_in-append : (first second : List Slot) → addresses_in (first ++ second) ≡ addresses_in first ++ addresses_in second
-addresses_in-append [] second = refl
-addresses_in-append (Frame far ∷ first) second = ap (λ rest. far ∷ rest) (addresses_in-append first second)
-addresses_in-append (Pad ∷ first) second = addresses_in-append first second
-addresses_in-append (End ∷ first) second = addresses_in-append first second
+addresses_among-append : (first second : List Slot) → addresses_among (first ++ second) ≡ addresses_among first ++ addresses_among second
+addresses_among-append [] second = refl
+addresses_among-append (Frame far ∷ first) second = ap (λ rest. far ∷ rest) (addresses_among-append first second)
+addresses_among-append (Pad ∷ first) second = addresses_among-append first second
+addresses_among-append (End ∷ first) second = addresses_among-append first second
 
-addresses_in-map : (fars : List ℕ) → addresses_in (map Frame fars) ≡ fars
-addresses_in-map [] = refl
-addresses_in-map (far ∷ fars) = ap (λ rest. far ∷ rest) (addresses_in-map fars)
+addresses_among-map : (fars : List ℕ) → addresses_among (map Frame fars) ≡ fars
+addresses_among-map [] = refl
+addresses_among-map (far ∷ fars) = ap (λ rest. far ∷ rest) (addresses_among-map fars)
 
 -- the slots of rows have just the rows' addresses
-pub addresses_in-slots : (rows : List RowData) → addresses_in (slots rows) ≡ addresses rows
+pub addresses_among-slots : (far : FieldWidths) (rows : List RowData) → addresses_among (slots far rows) ≡ addresses far rows
 unfolding slots addresses
-addresses_in-slots [] = refl
-addresses_in-slots (r ∷ rows) =
-    addresses_in-append (map Frame (addresses_of r) ++ Pad ∷ Pad ∷ []) (slots rows)
-    ∙ ap (λ rest. rest ++ addresses_in (slots rows)) (addresses_in-append (map Frame (addresses_of r)) (Pad ∷ Pad ∷ []))
-    ∙ append_assoc (addresses_in (map Frame (addresses_of r))) [] (addresses_in (slots rows))
-    ∙ ap (λ rest. rest ++ addresses_in (slots rows)) (addresses_in-map (addresses_of r))
-    ∙ ap (λ rest. addresses_of r ++ rest) (addresses_in-slots rows)
+addresses_among-slots far [] = refl
+addresses_among-slots far (r ∷ rows) =
+    addresses_among-append (map Frame (addresses_of far r) ++ Pad ∷ Pad ∷ []) (slots far rows)
+    ∙ ap (λ rest. rest ++ addresses_among (slots far rows)) (addresses_among-append (map Frame (addresses_of far r)) (Pad ∷ Pad ∷ []))
+    ∙ append_assoc (addresses_among (map Frame (addresses_of far r))) [] (addresses_among (slots far rows))
+    ∙ ap (λ rest. rest ++ addresses_among (slots far rows)) (addresses_among-map (addresses_of far r))
+    ∙ ap (λ rest. addresses_of far r ++ rest) (addresses_among-slots far rows)
 
 -- ---- the slots from an address on
 
@@ -49,29 +49,29 @@ behind : (far a : ℕ) (fars : List ℕ) → Contains fars far → Contains (a �
 behind far a fars has = (suc has.0, (let h = has.1 in omega arith), has.2)
 
 -- what stands among the slots from a place on stands among all
-pub slot_among : (base n far : ℕ) (places : List Slot) → get_or (from base places) n End ≡ Frame far → Contains (addresses_in places) far
+pub slot_among : (base n far : ℕ) (places : List Slot) → get_or (from base places) n End ≡ Frame far → Contains (addresses_among places) far
 slot_among base n far [] e = absurd (cc)
 slot_among base n far (Frame a ∷ places) e =
     elim (cases_eq a base) [
       | inl y ↦ here n far a places (rw (eq-eqb a base y) at e)
-      | inr x ↦ behind far a (addresses_in places) (slot_among base n far places (rw (ne_eqb a base x) at e))
+      | inr x ↦ behind far a (addresses_among places) (slot_among base n far places (rw (ne_eqb a base x) at e))
     ]
   where
-    listed : (n far : ℕ) (places : List Slot) → get_or places n End ≡ Frame far → Contains (addresses_in places) far
+    listed : (n far : ℕ) (places : List Slot) → get_or places n End ≡ Frame far → Contains (addresses_among places) far
     listed n far [] e = absurd (cc)
     listed zero far (Frame a ∷ places) e = (0, omega arith, (let same : a ≡ far = cc in same))
-    listed (suc n) far (Frame a ∷ places) e = behind far a (addresses_in places) (listed n far places e)
+    listed (suc n) far (Frame a ∷ places) e = behind far a (addresses_among places) (listed n far places e)
     listed zero far (Pad ∷ places) e = absurd (cc)
     listed (suc n) far (Pad ∷ places) e = listed n far places e
     listed zero far (End ∷ places) e = absurd (cc)
     listed (suc n) far (End ∷ places) e = listed n far places e
 
-    here : (n far a : ℕ) (places : List Slot) → get_or (Frame a ∷ places) n End ≡ Frame far → Contains (a ∷ addresses_in places) far
+    here : (n far a : ℕ) (places : List Slot) → get_or (Frame a ∷ places) n End ≡ Frame far → Contains (a ∷ addresses_among places) far
     here n far a places e = listed n far (Frame a ∷ places) e
 slot_among base n far (Pad ∷ places) e = slot_among base n far places e
 slot_among base n far (End ∷ places) e = slot_among base n far places e
 
-pub from_some : (far : ℕ) (places : List Slot) → Contains (addresses_in places) far → 0 < length (from far places)
+pub from_some : (far : ℕ) (places : List Slot) → Contains (addresses_among places) far → 0 < length (from far places)
 from_some far [] (k, low, e) = absurd (omega arith)
 from_some far (Frame a ∷ places) (k, low, e) =
     elim (cases_eq a far) [
@@ -79,18 +79,18 @@ from_some far (Frame a ∷ places) (k, low, e) =
       | inr x ↦ rw (ne_eqb a far x) (from_some far places (later k low e x))
     ]
   where
-    later : (k : ℕ) → k < length (a ∷ addresses_in places) → get_or (a ∷ addresses_in places) k far ≡ far → (a ≡ far → ⊥) → Contains (addresses_in places) far
+    later : (k : ℕ) → k < length (a ∷ addresses_among places) → get_or (a ∷ addresses_among places) k far ≡ far → (a ≡ far → ⊥) → Contains (addresses_among places) far
     later zero low e x = absurd (x e)
     later (suc k) low e x = (k, omega arith, e)
 from_some far (Pad ∷ places) has = from_some far places has
 from_some far (End ∷ places) has = from_some far places has
 
-pub some_from : (far : ℕ) (places : List Slot) → 0 < length (from far places) → Contains (addresses_in places) far
+pub some_from : (far : ℕ) (places : List Slot) → 0 < length (from far places) → Contains (addresses_among places) far
 some_from far [] h = absurd (omega arith)
 some_from far (Frame a ∷ places) h =
     elim (cases_eq a far) [
       | inl y ↦ (0, omega arith, y)
-      | inr x ↦ behind far a (addresses_in places) (some_from far places (rw (ne_eqb a far x) at h))
+      | inr x ↦ behind far a (addresses_among places) (some_from far places (rw (ne_eqb a far x) at h))
     ]
 some_from far (Pad ∷ places) h = some_from far places h
 some_from far (End ∷ places) h = some_from far places h
@@ -108,16 +108,16 @@ length-from far (End ∷ places) = let ih = length-from far places in omega arit
 -- ---- of a part
 
 -- an address has slots from it on
-pub address_has : (part : PartData) (far : ℕ) → Contains (addresses part.rows) far → has_frame_at part far ≡ true
+pub address_has : (part : PartData) (far : ℕ) → Contains (addresses_in part) far → has_frame_at part far ≡ true
 address_has part far has =
-    lt-ltb 0 (length (slots_from part far)) (from_some far (slots part.rows) (rw (addresses_in-slots part.rows) has))
+    lt-ltb 0 (length (slots_from part far)) (from_some far (slots_in part) (rw (addresses_among-slots part.far part.rows) has))
 
-pub has_address : (part : PartData) (far : ℕ) → has_frame_at part far ≡ true → Contains (addresses part.rows) far
+pub has_address : (part : PartData) (far : ℕ) → has_frame_at part far ≡ true → Contains (addresses_in part) far
 has_address part far t =
-    rw (addresses_in-slots part.rows) at (some_from far (slots part.rows) (ltb-true 0 (length (slots_from part far)) t))
+    rw (addresses_among-slots part.far part.rows) at (some_from far (slots_in part) (ltb-true 0 (length (slots_from part far)) t))
 
 -- the test for an address
-pub is_base_so : (part : PartData) (far : ℕ) (b : Bool) → (b ≡ true) ↔ Contains (addresses part.rows) far → b ≡ has_frame_at part far
+pub is_base_so : (part : PartData) (far : ℕ) (b : Bool) → (b ≡ true) ↔ Contains (addresses_in part) far → b ≡ has_frame_at part far
 is_base_so part far true h = sym (address_has part far (h.0 refl))
 is_base_so part far false h =
     elim (tells (has_frame_at part far)) [
@@ -137,10 +137,10 @@ pub no_slot : (part : PartData) (far n : ℕ) → has_frame_at part far ≡ fals
 no_slot part far n f = sym (get_or_past (slots_from part far) n End (let none = no_slots part far f in omega arith))
 
 -- a slot of a frame has an address of the part
-pub slot_address : (part : PartData) (base n far : ℕ) → Frame far ≡ get_or (slots_from part base) n End → Contains (addresses part.rows) far
-slot_address part base n far e = rw (addresses_in-slots part.rows) at (slot_among base n far (slots part.rows) (sym e))
+pub slot_address : (part : PartData) (base n far : ℕ) → Frame far ≡ get_or (slots_from part base) n End → Contains (addresses_in part) far
+slot_address part base n far e = rw (addresses_among-slots part.far part.rows) at (slot_among base n far (slots_in part) (sym e))
 
 -- a part has fewer than 2^31 slots
 pub few_slots : (part : PartData) (far : ℕ) → IsPart part → length (slots_from part far) < 2 ^ 31
 few_slots part far is =
-    let few = is.frames in let rows = is.few in let count = slots_count part.rows in let from_there = length-from far (slots part.rows) in omega arith
+    let few = is.frames in let rows = is.few in let count = slots_count part.far part.rows in let from_there = length-from far (slots_in part) in omega arith

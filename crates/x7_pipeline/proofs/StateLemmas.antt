@@ -3,6 +3,8 @@ use Rattle.std.proofs.Common.{◌≡◌, ℕ, ◌+◌, ◌-◌, ◌*◌, ◌/◌
 use Rattle.std.proofs.lemmas.Bool.{cases_eq, ltb-true, le-leb, lt-leb, and_left, and_right, false≢true}
 use Rattle.std.proofs.lemmas.Option.{none-some, same_Some}
 use Rattle.x7_part.specs.Part.{PartData, frame_words}
+use Rattle.std.proofs.Math.Nat.{mul-le-mul_right}
+use Rattle.x7_part.specs.FrameAddress.{far_width}
 use Rattle.x7_part.specs.PartRange.{IsPart}
 use Rattle.x7_part.specs.declared.slot.Slot.{Slot}
 use Rattle.x7_part.specs.declared.slot.Slot.TheVariants.{Frame, Pad, End}
@@ -25,11 +27,11 @@ use Rattle.x7_pipeline.proofs.ReadLemmas.{first_slot, none_given, passed, read_s
 -- ---- a run that begins
 
 -- nothing was written and nothing was read
-pub begins : (part : PartData) (p : PipelineData) (command : Command) (base : ℕ) (source : Option (List ℕ)) → p.width ≡ frame_words part → p.command ≡ command → p.base ≡ base → p.rest ≡ [] →
+pub begins : (part : PartData) (p : PipelineData) (command : Command) (base : ℕ) (source : Option (List ℕ)) → 0 < p.width → p.width ≡ frame_words part → p.far_width ≡ far_width part → p.command ≡ command → p.base ≡ base → p.rest ≡ [] →
     p.newest ≡ None → p.frame_count ≡ 0 → p.source ≡ source → p.given ≡ 0 → p.slot ≡ Pad → StandsFor part p command base [] source 0
 unfolding rest_of frames_of
-begins part p command base source w c b r n f s g t =
-    record { width_is = w; command_is = c; base_is = b; rest_is = r; newest_is = n; count_is = f; within = omega arith; source_is = s; given_is = g ∙ omega arith; slot_is = t ∙ first_slot part base }
+begins part p command base source some w v c b r n f s g t =
+    record { some_words = some; width_is = w; far_width_is = v; command_is = c; base_is = b; rest_is = r; newest_is = n; count_is = f; within = omega arith; source_is = s; given_is = g ∙ omega arith; slot_is = t ∙ first_slot part base (omega arith) }
 
 -- the source that it has after a command
 pub source_so : (part : PartData) (p : PipelineData) (old new : Command) (base : ℕ) (run : List ℕ) (source : Option (List ℕ)) (given : ℕ) → StandsFor part p old base run source given →
@@ -41,7 +43,7 @@ source_so part p old new base run source given s = rw (s.command_is, s.newest_is
 pub begins_at : (part : PartData) (p q : PipelineData) (command : Command) (base : ℕ) (run : List ℕ) (source : Option (List ℕ)) (given at : ℕ) → StandsFor part p command base run source given →
     q ≡ record p { base = at; rest = []; newest = None; frame_count = 0; given = 0; slot = Pad } → StandsFor part q command at [] source 0
 begins_at part p q command base run source given at s e =
-    rw e (begins part (record p { base = at; rest = []; newest = None; frame_count = 0; given = 0; slot = Pad }) command at source s.width_is s.command_is refl refl refl refl s.source_is refl refl)
+    rw e (begins part (record p { base = at; rest = []; newest = None; frame_count = 0; given = 0; slot = Pad }) command at source s.some_words s.width_is s.far_width_is s.command_is refl refl refl refl s.source_is refl refl)
 
 -- and under another command, with another source
 pub begins_under : (part : PartData) (p q : PipelineData) (old new : Command) (base : ℕ) (run : List ℕ) (source : Option (List ℕ)) (given at : ℕ) → StandsFor part p old base run source given →
@@ -49,7 +51,7 @@ pub begins_under : (part : PartData) (p q : PipelineData) (old new : Command) (b
     at ≡ far_of part base run given → StandsFor part q new (far_of part base run given) [] (source_after part old new run) 0
 begins_under part p q old new base run source given at s e f =
     rw e (begins part (record p { command = new; base = at; rest = []; newest = None; frame_count = 0; source = source_with p.command new p.newest; given = 0; slot = Pad }) new (far_of part base run given) (source_after part old new run)
-    s.width_is refl f refl refl refl (source_so part p old new base run source given s) refl refl)
+    s.some_words s.width_is s.far_width_is refl f refl refl refl (source_so part p old new base run source given s) refl refl)
 
 -- FAR as read of what it stands for
 pub far_so : (part : PartData) (p : PipelineData) (command : Command) (base : ℕ) (run : List ℕ) (source : Option (List ℕ)) (given : ℕ) → StandsFor part p command base run source given → 0 < p.width →
@@ -68,7 +70,9 @@ goes_on part p q w command base run source given s short e =
     let r = rest-goes_on (frame_words part) w run inside in
     let f = frames-goes_on (frame_words part) w run inside in
     rw e (record {
+      some_words = s.some_words;
       width_is = s.width_is;
+      far_width_is = s.far_width_is;
       command_is = s.command_is;
       base_is = s.base_is;
       rest_is = ap (λ t. t ++ w ∷ []) s.rest_is ∙ sym r;
@@ -90,7 +94,9 @@ completes_frame part p q w command base run source given s whole low e =
     let f = frames-completes (frame_words part) w run full in
     let count = s.count_is in
     rw e (record {
+      some_words = s.some_words;
       width_is = s.width_is;
+      far_width_is = s.far_width_is;
       command_is = s.command_is;
       base_is = s.base_is;
       rest_is = sym r;
@@ -269,11 +275,14 @@ source_is false kept seen v t = absurd (false≢true (ap is_some v ∙ t))
 
 -- ---- readback
 
+wide : (part : PartData) (p : PipelineData) (command : Command) (base : ℕ) (run : List ℕ) (source : Option (List ℕ)) (given : ℕ) → StandsFor part p command base run source given → 0 < frame_words part
+wide part p command base run source given s = rw s.width_is at s.some_words
+
 pub read_refused : (part : PartData) (p : PipelineData) (command : Command) (base : ℕ) (run : List ℕ) (source : Option (List ℕ)) (given : ℕ) → StandsFor part p command base run source given →
     p.given ≡ 0 → has_frame_at part p.base ≡ false → Some (Address p.base) ≡ read_fault part base given
 unfolding read_fault
 read_refused part p command base run source given s first f =
-    rw (s.base_is, eq-eqb given 0 (none_given part base given (sym s.given_is ∙ first))) (address_refused part base (rw s.base_is at f))
+    rw (s.base_is, eq-eqb given 0 (none_given part base given (wide part p command base run source given s) (sym s.given_is ∙ first))) (address_refused part base (rw s.base_is at f))
 
 pub read_allowed : (part : PartData) (p : PipelineData) (command : Command) (base : ℕ) (run : List ℕ) (source : Option (List ℕ)) (given : ℕ) → StandsFor part p command base run source given →
     (p.given ≡ 0 → has_frame_at part p.base ≡ true) → None ≡ read_fault part base given
@@ -297,7 +306,9 @@ reads : (part : PartData) (p q : PipelineData) (command : Command) (base : ℕ) 
     q ≡ record p { given = at; slot = slot } → at ≡ given_stored part base more → slot ≡ read_slot part base (given_stored part base more) → StandsFor part q command base run source more
 reads part p q command base run source given more at slot s e g t =
     rw e (record {
+      some_words = s.some_words;
       width_is = s.width_is;
+      far_width_is = s.far_width_is;
       command_is = s.command_is;
       base_is = s.base_is;
       rest_is = s.rest_is;
@@ -321,27 +332,30 @@ reads_on part p q n at command base run source given s a e =
 pub steps_nowhere : (part : PartData) (p : PipelineData) (command : Command) (base : ℕ) (run : List ℕ) (source : Option (List ℕ)) (given : ℕ) → StandsFor part p command base run source given →
     p.slot ≡ End → StandsFor part p command base run source (given + 1)
 steps_nowhere part p command base run source given s e =
-    let g = stands_still part base given (sym s.slot_is ∙ e) in
+    let g = stands_still part base given (wide part p command base run source given s) (sym s.slot_is ∙ e) in
     reads part p p command base run source given (given + 1) p.given p.slot s refl (s.given_is ∙ g) (s.slot_is ∙ ap (read_slot part base) g)
 
 pub steps_in : (part : PartData) (p q : PipelineData) (command : Command) (base : ℕ) (run : List ℕ) (source : Option (List ℕ)) (given : ℕ) → StandsFor part p command base run source given →
     (p.slot ≡ End → ⊥) → ((p.given + 1) % p.width ≡ 0 → ⊥) → q ≡ record p { given = p.given + 1 } → StandsFor part q command base run source (given + 1)
 steps_in part p q command base run source given s n m e =
-    let g : p.given + 1 ≡ given_stored part base (given + 1) = ap (λ x. x + 1) s.given_is ∙ goes_up part base given (λ end. n (s.slot_is ∙ end)) in
+    let g : p.given + 1 ≡ given_stored part base (given + 1) = ap (λ x. x + 1) s.given_is ∙ goes_up part base given (wide part p command base run source given s) (λ end. n (s.slot_is ∙ end)) in
     reads part p q command base run source given (given + 1) (p.given + 1) p.slot s e g
-    (s.slot_is ∙ ap (read_slot part base) (sym s.given_is) ∙ same_slot part base p.given (rw (← s.width_is) m) ∙ ap (read_slot part base) g)
+    (s.slot_is ∙ ap (read_slot part base) (sym s.given_is) ∙ same_slot part base p.given (wide part p command base run source given s) (rw (← s.width_is) m) ∙ ap (read_slot part base) g)
 
 pub steps_over : (part : PartData) (p q : PipelineData) (command : Command) (base : ℕ) (run : List ℕ) (source : Option (List ℕ)) (given : ℕ) → StandsFor part p command base run source given →
     (p.slot ≡ End → ⊥) → q ≡ record p { given = p.given + 1; slot = get_or (Pad ∷ slots_from part p.base) ((p.given + 1) / p.width) End } → StandsFor part q command base run source (given + 1)
 unfolding read_slot
 steps_over part p q command base run source given s n e =
-    let g : p.given + 1 ≡ given_stored part base (given + 1) = ap (λ x. x + 1) s.given_is ∙ goes_up part base given (λ end. n (s.slot_is ∙ end)) in
+    let g : p.given + 1 ≡ given_stored part base (given + 1) = ap (λ x. x + 1) s.given_is ∙ goes_up part base given (wide part p command base run source given s) (λ end. n (s.slot_is ∙ end)) in
     reads part p q command base run source given (given + 1) (p.given + 1) _ s e g (rw (s.base_is, s.width_is, g) refl)
 
 -- the count of a part stays small
 pub few_given : (part : PartData) (p : PipelineData) (command : Command) (base : ℕ) (run : List ℕ) (source : Option (List ℕ)) (given : ℕ) → StandsFor part p command base run source given → IsPart part → p.given + 1 < 2 ^ 64
 unfolding read_limit
-few_given part p command base run source given s is = let few = few_slots part base is in let g = s.given_is in omega arith
+few_given part p command base run source given s is =
+    let few = few_slots part base is in let g = s.given_is in
+    let most : frame_words part * (1 + length (slots_from part base)) ≤ 255 * (1 + length (slots_from part base)) = mul-le-mul_right (1 + length (slots_from part base)) is.words.1 in
+    omega arith
 
 pub same_given : (part : PartData) (p : PipelineData) (n : ℕ) (command : Command) (base : ℕ) (run : List ℕ) (source : Option (List ℕ)) (given : ℕ) → n ≡ 0 → StandsFor part p command base run source given →
     StandsFor part p command base run source (given + n)
@@ -351,7 +365,7 @@ same_given part p n command base run source given z s = let e : given + n ≡ gi
 pub read_so : (part : PartData) (p : PipelineData) (memory : FrameMap) (command : Command) (base : ℕ) (run : List ℕ) (source : Option (List ℕ)) (given : ℕ) → StandsFor part p command base run source given →
     word_at p.slot memory (p.given % p.width) ≡ read_at part base memory given
 unfolding read_at
-read_so part p memory command base run source given s = rw (s.slot_is, s.given_is, s.width_is) (read_stored part base memory given)
+read_so part p memory command base run source given s = rw (s.slot_is, s.given_is, s.width_is) (read_stored part base memory given (wide part p command base run source given s))
 
 -- ---- an equal pipeline
 

@@ -3,7 +3,7 @@
 use Rattle.std.specs.Prelude.{ℕ, ◌-◌, ◌/◌, ◌%◌, ◌^◌, max, nat_lt, Bool, if◌then◌else◌, List, [], ◌∷◌, length, drop, slice_index, Option, Some, None, unwrap_or}
 use Rattle.x7_part.specs.Part.{PartData, frame_words}
 use Rattle.x7_part.specs.FrameAddress.{far_width}
-use Rattle.x7_part.specs.AddressOrder.{addresses}
+use Rattle.x7_part.specs.AddressOrder.{addresses_in}
 use Rattle.x7_part.specs.declared.slot.Slot.{Slot}
 use Rattle.x7_part.specs.declared.slot.Slot.TheVariants.{Frame, Pad, End}
 use Rattle.x7_pipeline.specs.Runs.{frames_of, slots_from}
@@ -14,7 +14,7 @@ has_frame_at part far = nat_lt 0 (length (slots_from part far))
 
 -- the base that a FAR load leaves: the bits of an address
 abbrev pub loaded_base : PartData → ℕ → ℕ
-loaded_base part word = word % 2 ^ far_width
+loaded_base part word = word % 2 ^ far_width part
 
 -- the first address among slots
 abbrev pub first_address : List Slot → Option ℕ
@@ -25,7 +25,7 @@ first_address (End ∷ places) = first_address places
 
 -- the part's greatest address
 abbrev pub last_address : PartData → ℕ
-last_address part = slice_index (addresses part.rows) (length (addresses part.rows) - 1)
+last_address part = slice_index (addresses_in part) (length (addresses_in part) - 1)
 
 -- the first address at or after a slot of those from the base on, and the last address where there is none; a base that
 -- is no address stays as it is

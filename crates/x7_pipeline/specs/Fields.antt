@@ -13,6 +13,7 @@ source_seen p = if p.has_source then Some p.source.items else None
 abbrev pub seen : Inside → PipelineData
 seen p = record {
   width = p.width;
+  far_width = p.far_width;
   command = p.command;
   base = p.base;
   rest = p.rest.items;
@@ -26,6 +27,7 @@ seen p = record {
 -- there is room for a frame in each, the rest is shorter than one, and what is held is one
 pub record HasRoom (p : Inside) : Type 0 where
   pub some : 0 < p.width
+  pub narrow : p.far_width ≤ 32
   pub short : vec_len p.rest < p.width
   pub rest_room : p.width ≤ vec_capacity p.rest
   pub held_room : p.width ≤ vec_capacity p.held

@@ -1,16 +1,18 @@
 -- A frame pipeline, and what it stands for.
-use Rattle.std.specs.Prelude.{◌≡◌, ℕ, ◌≤◌, List, length, Option}
+use Rattle.std.specs.Prelude.{◌≡◌, ℕ, ◌≤◌, ◌<◌, List, length, Option}
 use Rattle.x7_part.specs.Part.{PartData, frame_words}
+use Rattle.x7_part.specs.FrameAddress.{far_width}
 use Rattle.x7_part.specs.declared.slot.Slot.{Slot}
 use Rattle.x7_regs.specs.declared.command.Command.{Command}
 use Rattle.x7_pipeline.specs.Runs.{rest_of, frames_of, slots_from}
 use Rattle.x7_pipeline.specs.Copies.{newest_of}
 use Rattle.x7_pipeline.specs.Readback.{read_slot, given_stored}
 
--- what it stores: the words of a frame, the command, the base, the words behind the run's last whole frame, the newest
+-- what it stores: the words of a frame, the bits of an address, the command, the base, the words behind the run's last whole frame, the newest
 -- whole frame and the number of all, the source, the count of words given, and the slot that a readback is at
 pub record PipelineData : Type 0 where
   pub width : ℕ
+  pub far_width : ℕ
   pub command : Command
   pub base : ℕ
   pub rest : List ℕ
@@ -22,11 +24,13 @@ pub record PipelineData : Type 0 where
 
 -- it is one of the part
 abbrev pub IsPipelineOf : PartData → PipelineData → Type 0
-IsPipelineOf part pipeline = pipeline.width ≡ frame_words part
+IsPipelineOf part pipeline = (pipeline.width ≡ frame_words part) × (pipeline.far_width ≡ far_width part)
 
 -- it stands for a command, a base, a run of frame data, a source of copies, and a count of words given
 pub record StandsFor (part : PartData) (pipeline : PipelineData) (command : Command) (base : ℕ) (run : List ℕ) (source : Option (List ℕ)) (given : ℕ) : Type 0 where
+  pub some_words : 0 < pipeline.width
   pub width_is : pipeline.width ≡ frame_words part
+  pub far_width_is : pipeline.far_width ≡ far_width part
   pub command_is : pipeline.command ≡ command
   pub base_is : pipeline.base ≡ base
   pub rest_is : pipeline.rest ≡ rest_of (frame_words part) run

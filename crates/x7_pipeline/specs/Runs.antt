@@ -2,7 +2,7 @@
 -- (UG470, frame data input register; that the newest whole frame is held back is the frame buffer of the guide).
 use Rattle.std.specs.Prelude.{◌≡◌, ℕ, ◌+◌, ◌==◌, if◌then◌else◌, List, [], ◌∷◌, ◌++◌, length, slice_index_or}
 use Rattle.x7_part.specs.Part.{PartData, frame_words}
-use Rattle.x7_part.specs.Slots.{slots, from}
+use Rattle.x7_part.specs.Slots.{slots_in, from}
 use Rattle.x7_part.specs.declared.slot.Slot.{Slot}
 use Rattle.x7_part.specs.declared.slot.Slot.TheVariants.{Frame, Pad, End}
 use Rattle.x7_memory.specs.FrameMap.{FrameMap, override, AreSame}
@@ -30,7 +30,7 @@ onto (w ∷ words) run = onto words (w ∷ run)
 
 -- the slots from an address of a part on, none where it is no address
 abbrev pub slots_from : PartData → ℕ → List Slot
-slots_from part far = from far (slots part.rows)
+slots_from part far = from far (slots_in part)
 
 -- a frame lands where its slot is an address, and nowhere at a pad or past the last slot
 abbrev pub at_slot : Slot → List ℕ → List PlanRow → List PlanRow

@@ -2,7 +2,7 @@
 ghost use Rattle.std.specs.Prelude.{◌≡◌, ◌≢◌, ◌+◌, ◌*◌, ◌<◌, ◌≤◌, ◌↔◌, ℕ, true, false, reverse, min, List, [], ◌∷◌, ◌++◌, length, slice_index_or, Contains, Option, Some, None};
 ghost use Rattle.std.specs.List.{zip, filter_map};
 ghost use Rattle.x7_part.specs.Part.{PartData, frame_words};
-ghost use Rattle.x7_part.specs.AddressOrder.{addresses};
+ghost use Rattle.x7_part.specs.AddressOrder.{addresses_in};
 ghost use Rattle.x7_part.specs.declared.slot.Slot.{Slot};
 ghost use Rattle.x7_memory.specs.FrameMap.{FrameMap, AreSame};
 ghost use Rattle.x7_memory.specs.Planned.{PlanRow};
@@ -54,7 +54,7 @@ pub fn source_laws()
 pub fn far_laws()
     ensures loaded { (part : PartData) (base : ℕ) → far_of part base [] 0 ≡ base }
     ensures nowhere { (part : PartData) (base : ℕ) (run : List ℕ) (given : ℕ) → has_frame_at part base ≡ false → far_of part base run given ≡ base }
-    ensures last { (part : PartData) (base : ℕ) (run : List ℕ) (given : ℕ) → has_frame_at part base ≡ true → read_limit part base ≤ given →
+    ensures last { (part : PartData) (base : ℕ) (run : List ℕ) (given : ℕ) → 0 < frame_words part → has_frame_at part base ≡ true → read_limit part base ≤ given →
         far_of part base run given ≡ last_address part }
 {}
 
@@ -63,13 +63,13 @@ pub fn read_laws()
     ensures pad { (part : PartData) (base : ℕ) (memory : FrameMap) (i : ℕ) → i < frame_words part → read_at part base memory i ≡ 0 }
     ensures frames { (part : PartData) (base : ℕ) (memory : FrameMap) (n i : ℕ) → i < frame_words part →
         read_at part base memory (frame_words part * (1 + n) + i) ≡ word_at (slice_index_or (slots_from part base) n Slot.End) memory i }
-    ensures zeros { (part : PartData) (base : ℕ) (memory : FrameMap) (place : ℕ) → read_limit part base ≤ place → read_at part base memory place ≡ 0 }
+    ensures zeros { (part : PartData) (base : ℕ) (memory : FrameMap) (place : ℕ) → 0 < frame_words part → read_limit part base ≤ place → read_at part base memory place ≡ 0 }
     ensures stored { (part : PartData) (base given n : ℕ) → given_stored part base (given + n) ≡ min (given_stored part base given + n) (read_limit part base) }
 {}
 
 /// When there are faults, and that a refused word would change neither the landed frames nor FAR as read.
 pub fn fault_laws()
-    ensures address { (part : PartData) (far : ℕ) → (has_frame_at part far ≡ true) ↔ Contains (addresses part.rows) far }
+    ensures address { (part : PartData) (far : ℕ) → (has_frame_at part far ≡ true) ↔ Contains (addresses_in part) far }
     ensures overrun { (part : PartData) (base word newest : ℕ) (run : List ℕ) → (write_fault part base (newest ∷ run) ≡ Some RunFault.Overrun)
         ↔ ((rest_of (frame_words part) (word ∷ newest ∷ run) ≡ []) × (length (slots_from part base) < length (frames_of (frame_words part) (word ∷ newest ∷ run)))) }
     ensures landed { (part : PartData) (base : ℕ) (run : List ℕ) (word : ℕ) (fault : RunFault) → write_fault part base run ≡ Some fault →

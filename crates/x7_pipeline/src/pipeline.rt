@@ -1,5 +1,5 @@
 //! The frame pipeline (UG470, frame data): frames on their way into the memory, copies, and words on their way out.
-ghost use Rattle.std.specs.Prelude.{◌≡◌, ◌+◌, ◌-◌, ◌*◌, ◌/◌, ◌%◌, ◌<◌, ◌≤◌, ◌==◌, ◌&&◌, not, ℕ, List, [], ◌∷◌, ◌++◌, length, min, slice_index_or, is_some, vec_len, vec_capacity, Option, Some, None, IfOk, OnOk, OnErr};
+ghost use Rattle.std.specs.Prelude.{◌≡◌, ◌+◌, ◌-◌, ◌*◌, ◌/◌, ◌%◌, ◌^◌, ◌<◌, ◌≤◌, ◌==◌, ◌&&◌, not, ℕ, List, [], ◌∷◌, ◌++◌, length, min, slice_index_or, is_some, vec_len, vec_capacity, Option, Some, None, IfOk, OnOk, OnErr};
 ghost use Rattle.std.specs.Result.{result_err};
 ghost use Rattle.x7_words.specs.Word.{words_of_bytes};
 ghost use Rattle.x7_part.specs.Part.{PartData, frame_words};
@@ -24,14 +24,13 @@ use x7_part::{Part, Slot};
 use x7_regs::Command;
 use x7_words::{NoMemory, word_of};
 
-/// The bits of a frame address (UG470, frame address register).
-const FAR_BITS: u32 = 0x03FF_FFFF;
-
 /// The words of a run that are in no frame of the memory yet, the frame that copies take, and how far a readback is.
 #[derive(Drop)]
 pub struct Pipeline {
     /// The words of a frame.
     width: u32,
+    /// The width of an address in bits.
+    far_width: u32,
     /// The command that stands.
     command: Command,
     /// The address that the run or the readback began at.
@@ -73,6 +72,7 @@ impl Pipeline {
         let width = part.words();
         Ok(Pipeline {
             width,
+            far_width: part.far_width(),
             command: Command::Null,
             base: 0,
             rest: room_for(alloc, width)?,
@@ -102,7 +102,7 @@ impl Pipeline {
             StandsFor part self.old command base run source given → StandsFor part self.new command (loaded_base part far) [] source 0 }
         ensures part { (part : PartData) → IsPipelineOf part self.old → IsPipelineOf part self.new }
     {
-        self.base = far & FAR_BITS;
+        self.base = low_bits(far, self.far_width);
         self.end_run();
     }
 
@@ -418,6 +418,14 @@ impl Pipeline {
         let frames = self.frame_count.max(self.given / u64::from(self.width));
         far_at(part, self.base, frames.saturating_sub(1))
     }
+}
+
+/// The lowest bits of a word.
+fn low_bits(word: u32, width: u32) -> u32
+    requires { width ≤ 32 }
+    ensures { result ≡ word % 2 ^ width }
+{
+    (u64::from(word) % (1 << width)) as u32
 }
 
 /// The command ends a run of frame data by one of copies.

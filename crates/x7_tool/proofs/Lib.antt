@@ -1,6 +1,5 @@
 pub mod AsmLemmas
 pub mod Causes
-pub mod PartLemmas
 pub mod PlayLemmas
 pub mod ReadLemmas
 pub mod RunLemmas

@@ -8,7 +8,6 @@ use Rattle.x7_words.specs.Word.{AreBytes}
 use Rattle.x7_part.specs.declared.fault.PartFault.{PartFault}
 use Rattle.x7_part.specs.declared.fault.PartFault.TheVariants as part
 use Rattle.x7_part.specs.Part.{PartData}
-use Rattle.x7_part.specs.PartFile.{IsFaultOf}
 use Rattle.x7_engine.specs.declared.fault.Fault.{Fault}
 use Rattle.x7_engine.specs.declared.fed.Fed.{Fed}
 use Rattle.x7_engine.specs.declared.fed.Fed.TheVariants as fed
@@ -20,25 +19,24 @@ use Rattle.x7_engine.specs.State.{line_by, reads_of, state_of, stop_in}
 use Rattle.x7_engine.specs.Stops.{Stopped, fault_of}
 use Rattle.x7_tool.specs.Event.{too_many_reads}
 use Rattle.x7_tool.specs.Outcome.{Known, part_by, reads_limit, report_of, reported}
-use Rattle.x7_tool.specs.Parts.{part_in}
+use Rattle.x7_part.specs.PartFile.{part_in}
 use Rattle.x7_tool.specs.Play.{IsPlayed, part_event}
 use Rattle.x7_tool.specs.Report.{report_text}
 use Rattle.x7_tool.specs.Run.{IsCaused}
-use Rattle.x7_tool.proofs.PartLemmas.{fault_is}
 use Rattle.x7_tool.proofs.ReadLemmas.{works}
 use Rattle.x7_words.proofs.ListLemmas.{all_front}
 use Rattle.x7_engine.proofs.ReadsLemmas.{reads_grow}
 use Rattle.x7_engine.proofs.StateLemmas.{stop_is_final-reads, stop_is_final-state, stop_is_final-stop}
 
 -- a part file that gave no part
-pub refused : (told : Option Known) (F L : List ℕ → Type 0) (name text : List ℕ) (fault : PartFault) → (fault ≡ part.NoMemory) ⊎ IsFaultOf text fault → IsCaused told F L (λ t. part_by name (part_in text)) (Err (part_event name fault))
+pub refused : (told : Option Known) (F L : List ℕ → Type 0) (name text : List ℕ) (fault : PartFault) → (fault ≡ part.NoMemory) ⊎ (part_in text ≡ Err fault) → IsCaused told F L (λ t. part_by name (part_in text)) (Err (part_event name fault))
 refused told F L name text part.NoMemory h = inl tt
 refused told F L name text fault (inl e) = absurd (cc)
-refused told F L name text part.Toml (inr h) = works told F L (part_by name (part_in text)) (Err (part_event name part.Toml)) tt tt (ap (part_by name) (fault_is text part.Toml h))
-refused told F L name text (part.Key which) (inr h) = works told F L (part_by name (part_in text)) (Err (part_event name (part.Key which))) tt tt (ap (part_by name) (fault_is text (part.Key which) h))
-refused told F L name text (part.Range which) (inr h) = works told F L (part_by name (part_in text)) (Err (part_event name (part.Range which))) tt tt (ap (part_by name) (fault_is text (part.Range which) h))
-refused told F L name text (part.SameRow n) (inr h) = works told F L (part_by name (part_in text)) (Err (part_event name (part.SameRow n))) tt tt (ap (part_by name) (fault_is text (part.SameRow n) h))
-refused told F L name text (part.TooMany n) (inr h) = works told F L (part_by name (part_in text)) (Err (part_event name (part.TooMany n))) tt tt (ap (part_by name) (fault_is text (part.TooMany n) h))
+refused told F L name text part.Toml (inr h) = works told F L (part_by name (part_in text)) (Err (part_event name part.Toml)) tt tt (ap (part_by name) h)
+refused told F L name text (part.Key which) (inr h) = works told F L (part_by name (part_in text)) (Err (part_event name (part.Key which))) tt tt (ap (part_by name) h)
+refused told F L name text (part.Range which) (inr h) = works told F L (part_by name (part_in text)) (Err (part_event name (part.Range which))) tt tt (ap (part_by name) h)
+refused told F L name text (part.SameRow n) (inr h) = works told F L (part_by name (part_in text)) (Err (part_event name (part.SameRow n))) tt tt (ap (part_by name) h)
+refused told F L name text (part.TooMany n) (inr h) = works told F L (part_by name (part_in text)) (Err (part_event name (part.TooMany n))) tt tt (ap (part_by name) h)
 
 -- ---- words read out
 

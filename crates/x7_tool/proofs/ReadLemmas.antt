@@ -4,7 +4,7 @@ use Rattle.x7_words.proofs.CountLemmas.{risen_from}
 use Rattle.x7_part.specs.Part.{PartData}
 use Rattle.x7_tool.specs.Event.{Event, Cause, Want, Fault, Absence, cause_of}
 use Rattle.x7_tool.specs.Outcome.{Known, and_so, put_before, data_of, part_by, raw, whole_in, with_inputs}
-use Rattle.x7_tool.specs.Parts.{part_in}
+use Rattle.x7_part.specs.PartFile.{part_in}
 use Rattle.x7_tool.specs.Run.{Among, FreeBy, IsCaused, IsCausedBy, IsDecided, IsFree, IsOpen, RisesFor}
 
 -- ---- one input

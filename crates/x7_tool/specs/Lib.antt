@@ -2,7 +2,6 @@ pub mod Event
 pub mod Form
 pub mod Message
 pub mod Outcome
-pub mod Parts
 pub mod Play
 pub mod Report
 pub mod Run

@@ -18,7 +18,7 @@ use Rattle.x7_mcs.specs.Text.{mcs_text}
 use Rattle.x7_tool.specs.declared.bad_input.InputFault.TheVariants as input
 use Rattle.x7_tool.specs.Event.{Event, bad_input, bad_part, missing, no_memory, too_large, too_many_reads, unbuilt, usage}
 use Rattle.x7_tool.specs.Form.{Asked, Assembling, FromMcs, Listing, Playing, ToMcs, names_flash}
-use Rattle.x7_tool.specs.Parts.{part_in}
+use Rattle.x7_part.specs.PartFile.{part_in}
 use Rattle.x7_tool.specs.Report.{report_text}
 
 -- what is known: the bytes of each input by its name, and those of the flash where they are known

@@ -1,10 +1,10 @@
-use Rattle.x7_part.specs.AddressOrder.{addresses}
+use Rattle.x7_part.specs.AddressOrder.{addresses_in}
 use Rattle.x7_memory.proofs.FrameLemmas.{among_none}
 use Rattle.x7_memory.proofs.MapLemmas.{zeros_at, same_memory}
 use Rattle.x7_memory.proofs.laws.memory_laws.Goals as goal
 
 pub returns-clause-outside : goal.returns-clause-outside
-returns-clause-outside c = λ part frames far out. among_none far (addresses part.rows) frames out
+returns-clause-outside c = λ part frames far out. among_none far (addresses_in part) frames out
 
 pub returns-clause-zeros : goal.returns-clause-zeros
 returns-clause-zeros c = zeros_at

@@ -1,6 +1,7 @@
 use Rattle.std.proofs.Common.{◌≡◌, ◌++◌, true, map, drop}
 use Rattle.toml.specs.View.{items_view}
-use Rattle.x7_part.specs.PartFile.{are_in, natural, numbers}
+use Rattle.x7_part.specs.PartChecks.{are_in}
+use Rattle.x7_part.specs.PartValues.{natural, numbers}
 use Rattle.x7_part.proofs.values.minors_of.Given as goal
 
 abbrev pub invariant-loop-item : goal.invariant-loop-item

@@ -1,7 +1,8 @@
 use Rattle.std.proofs.Common.{◌≡◌, ◌++◌, map, drop}
 use Rattle.std.specs.Prelude.{All}
 use Rattle.toml.specs.View.{items_view}
-use Rattle.x7_part.specs.PartFile.{tables, row_of, IsRowInRange}
+use Rattle.x7_part.specs.PartValues.{tables, row_of}
+use Rattle.x7_part.specs.InRange.{IsRowInRange}
 use Rattle.x7_part.proofs.values.rows_of.Given as goal
 
 abbrev pub invariant-loop-value : goal.invariant-loop-value

@@ -1,10 +1,9 @@
 use Rattle.std.proofs.Common.{ℕ, List, [], ◌∷◌, Ok, Err, ap}
 use Rattle.x7_tool.specs.Message.{event_of}
 use Rattle.x7_tool.specs.Outcome.{part_by, part_limit, part_of, with_inputs}
-use Rattle.x7_tool.specs.Parts.{part_in}
+use Rattle.x7_part.specs.PartFile.{part_in}
 use Rattle.x7_tool.specs.Play.{part_event}
 use Rattle.x7_tool.specs.Run.{RisesFor}
-use Rattle.x7_tool.proofs.PartLemmas.{part_is}
 use Rattle.x7_tool.proofs.PlayLemmas.{refused}
 use Rattle.x7_tool.proofs.ReadLemmas.{after_text, caused_event, works}
 use Rattle.x7_tool.proofs.play.read_part.Goals as goal
@@ -18,7 +17,7 @@ returns-in-Ok-part_of-clause-due g c = λ flash.
     let L : List ℕ → Type 0 = RisesFor (name ∷ []) (i.absences c.args.inputs.now) (i.absences c.read_whole.new.inputs) in
     let text = c.in-Ok.text.items in
     let part = rw c.deref.ensures.value at c.in-Ok-part_of.ensures.part in
-    after_text known F L part_limit name text (λ bytes. part_by name (part_in bytes)) (Ok c.in-Ok-part_of.part) (c.in-Ok.ensures.due flash) (works known F L (part_by name (part_in text)) (Ok c.in-Ok-part_of.part) tt tt (ap (part_by name) (part_is text c.in-Ok-part_of.part part)))
+    after_text known F L part_limit name text (λ bytes. part_by name (part_in bytes)) (Ok c.in-Ok-part_of.part) (c.in-Ok.ensures.due flash) (works known F L (part_by name (part_in text)) (Ok c.in-Ok-part_of.part) tt tt (ap (part_by name) part))
 
 pub returns-clause-due : goal.returns-clause-due
 returns-clause-due g c = λ flash.

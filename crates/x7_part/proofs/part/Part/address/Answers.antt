@@ -12,7 +12,7 @@ returns-clause-found c = let f = stands c.deref.result.now _ c.args.self.now (c.
 
 pub returns-clause-smaller : goal.returns-clause-smaller
 returns-clause-smaller c = let f = stands c.deref.result.now _ c.args.self.now (c.deref.ensures.value ∙ c.self.invariant.0) c.self.invariant.1 c.self.view_is in
-    IfSome_then c.address_of.result (rw f.listed at c.address_of.ensures.found) (λ far at. (rank_counts c.args.self.now.rows c.args.rank far f.is.rows at.0 at.1).1)
+    IfSome_then c.address_of.result (rw f.listed at c.address_of.ensures.found) (λ far at. (rank_counts c.args.self.now.far c.args.self.now.rows c.args.rank far f.is.far f.is.rows at.0 at.1).1)
 
 pub returns-clause-none : goal.returns-clause-none
 returns-clause-none c = let f = stands c.deref.result.now _ c.args.self.now (c.deref.ensures.value ∙ c.self.invariant.0) c.self.invariant.1 c.self.view_is in rw (← f.listed) c.address_of.ensures.none

@@ -22,4 +22,9 @@ pub returns-clause-part : goal.returns-clause-part
 returns-clause-part c = let f = stands c.deref.result.now _ c.args.self.now (c.deref.ensures.value ∙ c.self.invariant.0) c.self.invariant.1 c.self.view_is in f.is
 
 pub returns-clause-order : goal.returns-clause-order
-returns-clause-order c = let f = stands c.deref.result.now _ c.args.self.now (c.deref.ensures.value ∙ c.self.invariant.0) c.self.invariant.1 c.self.view_is in part_rises _ f.is.rows
+returns-clause-order c = let f = stands c.deref.result.now _ c.args.self.now (c.deref.ensures.value ∙ c.self.invariant.0) c.self.invariant.1 c.self.view_is in part_rises _ _ f.is.far f.is.rows
+
+pub returns-clause-words : goal.returns-clause-words
+returns-clause-words c =
+    let f = stands c.deref.result.now _ c.args.self.now (c.deref.ensures.value ∙ c.self.invariant.0) c.self.invariant.1 c.self.view_is in
+    rw (c.frame_count.ensures, f.listed) f.is.slots

@@ -15,7 +15,7 @@ returns-clause-found c = let f = stands c.deref.result.now _ c.args.self.now (c.
 
 pub returns-clause-smaller : goal.returns-clause-smaller
 returns-clause-smaller c = let f = stands c.deref.result.now _ c.args.self.now (c.deref.ensures.value ∙ c.self.invariant.0) c.self.invariant.1 c.self.view_is in
-    IfSome_then c.rank_of.result (rw f.listed at c.rank_of.ensures.found) (λ r at. (rank_counts c.args.self.now.rows r c.args.far f.is.rows at.0 at.1).1)
+    IfSome_then c.rank_of.result (rw f.listed at c.rank_of.ensures.found) (λ r at. (rank_counts c.args.self.now.far c.args.self.now.rows r c.args.far f.is.far f.is.rows at.0 at.1).1)
 
 pub returns-clause-none : goal.returns-clause-none
 returns-clause-none c = let f = stands c.deref.result.now _ c.args.self.now (c.deref.ensures.value ∙ c.self.invariant.0) c.self.invariant.1 c.self.view_is in rw (← f.listed) c.rank_of.ensures.none

@@ -1,0 +1,12 @@
+use Rattle.std.proofs.Common.{sym, subst}
+use Rattle.x7_memory.specs.Frames.{AreFramesOf}
+use Rattle.x7_memory.proofs.ZeroLemmas.{cleared, zeros_are}
+use Rattle.x7_memory.proofs.memory.Memory.clear.Goals as goal
+
+pub returns-clause-zeros : goal.returns-clause-zeros
+returns-clause-zeros c part are = cleared part c.self.inside c.args.self.now c.clear.new.self.items c.self.invariant c.self.view_is are c.clear.ensures.items
+
+pub returns-clause-part : goal.returns-clause-part
+returns-clause-part c part are =
+    subst (λ frames. AreFramesOf part frames) (sym (cleared part c.self.inside c.args.self.now c.clear.new.self.items c.self.invariant c.self.view_is are c.clear.ensures.items))
+    (zeros_are part are.order)

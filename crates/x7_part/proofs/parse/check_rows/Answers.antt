@@ -1,0 +1,10 @@
+use Rattle.std.proofs.Common.{◌∙◌, ap}
+use Rattle.x7_part.specs.declared.fault.PartFault.TheVariants.{TooMany}
+use Rattle.x7_part.specs.PartChecks.{unless}
+use Rattle.x7_part.proofs.PassLemmas.{rows_checked}
+use Rattle.x7_part.proofs.parse.check_rows.Goals as goal
+
+pub returns : goal.returns
+returns c part words rows =
+    rows_checked part c.args.words c.frame_count-frames.result c.args.rows.now c.require.result words rows c.frame_count-frames.ensures (c.in_ok-check_same_rows.ensures)
+    (c.require.ensures ∙ ap (λ b. unless b (TooMany c.frame_count-frames.result)) c.are_few.ensures)

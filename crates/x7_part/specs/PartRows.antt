@@ -1,0 +1,40 @@
+-- The checks of a part file's rows together: none the same as another, and not too many frames (this project's choice).
+use Rattle.std.specs.Prelude.{ℕ, ◌+◌, ◌*◌, List, [], ◌∷◌, ◌++◌, length, Bool, false, not, ◌&&◌, ◌||◌, ◌==◌, nat_le, nat_lt, if◌then◌else◌, Option, None}
+use Rattle.x7_part.specs.declared.fault.PartFault.{PartFault}
+use Rattle.x7_part.specs.declared.fault.PartFault.TheVariants.{SameRow, TooMany}
+use Rattle.x7_part.specs.Part.{FieldWidths, RowData, PartData, frame_words}
+use Rattle.x7_part.specs.FrameAddress.{row_address}
+use Rattle.x7_part.specs.AddressOrder.{addresses_in}
+use Rattle.x7_part.specs.PartChecks.{unless, first_of}
+
+abbrev pub is_same : RowData → RowData → Bool
+is_same r s = ((r.block == s.block) && (r.half == s.half)) && (r.row == s.row)
+
+abbrev pub has_same : RowData → List RowData → Bool
+has_same r [] = false
+has_same r (s ∷ rows) = is_same r s || has_same r rows
+
+-- the first row that is the same as an earlier one
+abbrev pub same_row_fault : List RowData → List RowData → Option PartFault
+same_row_fault earlier [] = None
+same_row_fault earlier (r ∷ rows) =
+    first_of (unless (not (has_same r earlier)) (SameRow (length earlier + 1)) ∷ same_row_fault (earlier ++ r ∷ []) rows ∷ [])
+
+-- at most 131,072 frames, and at most 13,277,056 words of frames and of the two pads behind each row
+abbrev pub has_few_frames : ℕ → ℕ → ℕ → Bool
+has_few_frames words frames rows = nat_le frames 131072 && nat_le (words * (frames + 2 * rows)) 13277056
+
+abbrev pub frames_fault : PartData → Option PartFault
+frames_fault part =
+    unless (has_few_frames (frame_words part) (length (addresses_in part)) (length part.rows)) (TooMany (length (addresses_in part)))
+
+-- ---- their order
+
+-- rows in the order of their numbers
+abbrev pub put_in : FieldWidths → RowData → List RowData → List RowData
+put_in far r [] = r ∷ []
+put_in far r (s ∷ rows) = if nat_lt (row_address far s) (row_address far r) then s ∷ put_in far r rows else r ∷ s ∷ rows
+
+unfoldable pub in_order : FieldWidths → List RowData → List RowData
+in_order far [] = []
+in_order far (r ∷ rows) = put_in far r (in_order far rows)

@@ -1,0 +1,24 @@
+//! Laws of addresses, of slots and of part files. The functions do nothing: their contracts are the laws.
+ghost use Rattle.std.specs.Prelude.{◌≡◌, ◌+◌, ◌*◌, ◌<◌, ◌↔◌, ℕ, List, [], ◌∷◌, ◌++◌, Ok, length, map, slice_index, slice_index_or, Contains, IsPermutation};
+ghost use Rattle.toml.specs.Data.{Members};
+ghost use Rattle.x7_part.specs.Part.{PartData, RowData};
+ghost use Rattle.x7_part.specs.PartRange.{IsPart};
+ghost use Rattle.x7_part.specs.FrameAddress.{AreRows};
+ghost use Rattle.x7_part.specs.AddressOrder.{addresses_in, addresses_of, Follows};
+ghost use Rattle.x7_part.specs.Slots.{slots, slots_in, from, addresses_among, AreInOneRow};
+ghost use Rattle.x7_part.specs.declared.slot.Slot.{Slot};
+ghost use Rattle.x7_part.specs.declared.slot.Slot.TheVariants.{Frame, Pad, End};
+
+/// The slots of a part in words: the slots from an address are their end that begins with it, each row ends in two pads,
+/// the slots of frames are the addresses in order, and a frame stands right behind another in one row alone.
+pub fn slot_laws()
+    ensures split { (part : PartData) (far : ℕ) → Contains (addresses_in part) far → (before : List Slot) × (slots_in part ≡ before ++ from far (slots_in part)) }
+    ensures first { (part : PartData) (far : ℕ) → Contains (addresses_in part) far → slice_index_or (from far (slots_in part)) 0 End ≡ Frame far }
+    ensures count { (part : PartData) → length (slots_in part) ≡ length (addresses_in part) + 2 * length part.rows }
+    ensures all { (part : PartData) → IsPart part → from (slice_index (addresses_in part) 0) (slots_in part) ≡ slots_in part }
+    ensures rows { (part : PartData) (before after : List RowData) (r : RowData) → part.rows ≡ before ++ r ∷ after →
+        slots_in part ≡ slots part.far before ++ (map Frame (addresses_of part.far r) ++ (Pad ∷ Pad ∷ slots part.far after)) }
+    ensures frames { (part : PartData) → addresses_among (slots_in part) ≡ addresses_in part }
+    ensures next { (part : PartData) (far next : ℕ) → IsPart part → Contains (addresses_in part) far →
+        (slice_index_or (from far (slots_in part)) 1 End ≡ Frame next) ↔ (Follows (addresses_in part) far next × AreInOneRow part far next) }
+{}
