@@ -21,13 +21,17 @@ abbrev pub with_records : Reading → Result (List DataRecord) McsFault → Resu
 with_records r (Ok xs) = Ok (record { base = r.base; ended = r.ended; records = xs })
 with_records r (Err f) = Err f
 
+-- after line n's data at an address
+abbrev pub after_data : ℕ → Reading → ℕ → List ℕ → Result Reading McsFault
+after_data n r address content = with_records r (with_record n r.records (record { place = r.base + address; bytes = content }))
+
 -- after the bytes of line n, which say this
 abbrev pub after_meaning : ℕ → Reading → List ℕ → Result Meaning McsFault → Result Reading McsFault
 after_meaning n r bs (Err f) = Err f
 after_meaning n r bs (Ok meaning.Start) = Ok r
 after_meaning n r bs (Ok meaning.End) = Ok (record { base = r.base; ended = true; records = r.records })
 after_meaning n r bs (Ok (meaning.Base base)) = Ok (record { base = base; ended = r.ended; records = r.records })
-after_meaning n r bs (Ok (meaning.Data address)) = with_records r (with_record n r.records (record { place = r.base + address; bytes = data_of bs }))
+after_meaning n r bs (Ok (meaning.Data address)) = after_data n r address (data_of bs)
 
 abbrev pub after_bytes : ℕ → Reading → Option (List ℕ) → Result Reading McsFault
 after_bytes n r None = Err (fault.Line n)

@@ -1,8 +1,8 @@
 //! One line more.
 ghost use Rattle.std.specs.Prelude.{◌≡◌, ℕ, Bool, true, false, ◌≤◌, ◌<◌, ◌+◌, ◌^◌, List, length, get_or, Some, Result, MatchResult, MatchOption};
 ghost use Rattle.x7_mcs.specs.Record.{data_of, meaning_of, pairs};
-ghost use Rattle.x7_mcs.specs.Places.{DataRecord, with_record};
-ghost use Rattle.x7_mcs.specs.Flash.{Reading, after_line, after_meaning, with_records};
+ghost use Rattle.x7_mcs.specs.Places.{DataRecord};
+ghost use Rattle.x7_mcs.specs.Flash.{Reading, after_data, after_line, after_meaning};
 ghost use Rattle.x7_mcs.specs.State.{Fails, Goes, Holds, Took, at_base};
 ghost use Rattle.x7_mcs.specs.declared.fault.McsFault.{McsFault};
 
@@ -36,8 +36,8 @@ fn put_data(
     requires address { address < 2 ^ 16 }
     ensures { (xs : List DataRecord) → Holds xs image.old.bytes.items image.old.marks.items
         → MatchResult result
-        (λ c. Took (with_records (at_base context.base context.ended xs) (with_record n xs (record { place = context.base + address; bytes = content.now }))) c.base c.ended image.new.bytes.items image.new.marks.items)
-        (λ f. Fails (with_records (at_base context.base context.ended xs) (with_record n xs (record { place = context.base + address; bytes = content.now }))) f) }
+        (λ c. Took (after_data n (at_base context.base context.ended xs) address content.now) c.base c.ended image.new.bytes.items image.new.marks.items)
+        (λ f. Fails (after_data n (at_base context.base context.ended xs) address content.now) f) }
 {
     match put_content(image, n, context.base as usize + address as usize, content) {
         Ok(()) => Ok(context),

@@ -1,4 +1,4 @@
-use Rattle.std.proofs.Common.{arith, inr}
+use Rattle.std.proofs.Common.{inr}
 use Rattle.x7_mcs.specs.State.{at_base}
 use Rattle.x7_mcs.proofs.LongLemmas.{long-line}
 use Rattle.x7_mcs.proofs.step.put_line.Goals as goal
