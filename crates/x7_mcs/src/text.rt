@@ -93,7 +93,7 @@ fn put_row(out: &mut Vec<u8>, place: u32, row: &[u8])
     put_data(out, place % 65536, row);
 }
 
-/// Appends the lines of the rows of bytes from a place on, which a row begins with.
+/// Appends the lines of rows of 16 bytes, the first of which stands at a place. After `NoMemory` some of them stand there.
 pub fn put_rows(text: &mut Vec<u8>, place: u32, bytes: &[u8]) -> Result<(), NoMemory>
     requires { place + length bytes.now ≤ 2 ^ 27 }
     ensures { IfOk result (λ _. text.new.items ≡ text.old.items ++ row_lines place (rows 16 bytes.now)) }
