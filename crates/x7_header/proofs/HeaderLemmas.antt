@@ -225,6 +225,23 @@ pub is_found : {X : Type 0} (view : X → Contents × ℕ) (result : Result X He
 is_found view (Ok x) bytes f g = let t = header_takes bytes (view x) f g in (t.have_header, t.front, t.size)
 is_found view (Err e) bytes f g = tt
 
+header_size : (x : Contents) → length (header_bytes x) ≡ 13 + (3 + length x.a + (3 + length x.b + (3 + length x.c + (3 + length x.d + 5))))
+header_size x =
+    let d = length-append x.d (0x65 ∷ (bytes_of_word x.data_length ++ [])) in
+    let c = length-append x.c (0x64 ∷ (length x.d / 256 ∷ length x.d % 256 ∷ (x.d ++ (0x65 ∷ (bytes_of_word x.data_length ++ []))))) in
+    let b = length-append x.b (0x63 ∷ (length x.c / 256 ∷ length x.c % 256 ∷ (x.c ++ (0x64 ∷ (length x.d / 256 ∷ length x.d % 256 ∷ (x.d ++ (0x65 ∷ (bytes_of_word x.data_length ++ [])))))))) in
+    let a = length-append x.a (0x62 ∷ (length x.b / 256 ∷ length x.b % 256 ∷ (x.b ++ (0x63 ∷ (length x.c / 256 ∷ length x.c % 256 ∷ (x.c ++ (0x64 ∷ (length x.d / 256 ∷ length x.d % 256 ∷ (x.d ++ (0x65 ∷ (bytes_of_word x.data_length ++ []))))))))))) in
+    omega (arith, a, b, c, d)
+
+pub is_short : {X : Type 0} (view : X → Contents × ℕ) (result : Result X HeaderFault) (bytes : List ℕ) → AreBytes bytes → Gives view result (header_at bytes) →
+    IfOk result (λ x. (view x).1 ≤ 262170)
+is_short view (Ok x) bytes f g =
+    let t = header_takes bytes (view x) f g in
+    let h = t.have_header in
+    let a = h.a in let b = h.b in let c = h.c in let d = h.d in let n = t.size in
+    omega (arith, a, b, c, d, n, header_size (view x).0)
+is_short view (Err e) bytes f g = tt
+
 pub is_only : {X : Type 0} (view : X → Contents × ℕ) (result : Result X HeaderFault) (bytes : List ℕ) → Gives view result (header_at bytes) →
     (x : Contents) (rest : List ℕ) → HaveHeader x → bytes ≡ header_bytes x ++ rest → IsOkAnd result (λ head. (view head).0 ≡ x)
 is_only view (Ok y) bytes g x rest h e =

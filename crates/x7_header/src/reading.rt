@@ -43,6 +43,8 @@ pub fn header_of(bytes: &[u8]) -> Result<Head<'_>, HeaderFault>
     ensures found { IfOk result (λ head. HaveHeader (contents_of head)
         × (bytes.now ≡ header_bytes (contents_of head) ++ drop head.size bytes.now)
         × (head.size ≡ length (header_bytes (contents_of head)))) }
+    // Four texts of at most 65,535 bytes each, with the fixed bytes, five letters and the counts.
+    ensures limit { IfOk result (λ head. head.size ≤ 262170) }
     // Each header that stands at the front is read, whatever follows it.
     ensures only { (x : Contents) (rest : List ℕ) → HaveHeader x → bytes.now ≡ header_bytes x ++ rest →
         IsOkAnd result (λ head. contents_of head ≡ x) }

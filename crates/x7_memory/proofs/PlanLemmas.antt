@@ -1,15 +1,19 @@
 -- Rows of a plan by their addresses.
-use Rattle.std.proofs.Common.{◌≡◌, ℕ, zero, suc, ◌+◌, ◌-◌, ◌<◌, ◌≤◌, inl, inr, List, [], ◌∷◌, length, get_or, eq-eqb, ne_eqb, Some, None, Result, Ok, Err, IfOk, IfErr, refl, sym, ap, subst, ◌∙◌, ◌==◌, if◌then◌else◌, arith}
+use Rattle.std.proofs.Common.{◌≡◌, ℕ, zero, suc, ◌+◌, ◌-◌, ◌<◌, ◌≤◌, inl, inr, List, [], ◌∷◌, length, get_or, eq-eqb, ne_eqb, Option, Some, None, ◌^◌, Result, Ok, Err, IfOk, IfErr, refl, sym, ap, subst, ◌∙◌, ◌==◌, if◌then◌else◌, arith}
 use Rattle.std.specs.Prelude.{All, Contains}
 use Rattle.std.specs.List.{insert}
-use Rattle.std.specs.List.Sorted.{IsSearchInRange, IsBinarySearchResult, IsNonDecreasingBy}
+use Rattle.std.specs.List.Sorted.{IsSearchInRange, IsBinarySearchResult, IsNonDecreasingBy, IsPermutation}
 use Rattle.std.specs.Ordering.{nat_cmp, ordering_index}
 use Rattle.std.proofs.lemmas.Bool.Decides.{eqb_tells, nat_tests}
 use Rattle.std.proofs.lemmas.Cmp.{ranked}
 use Rattle.std.proofs.lemmas.List.{get_or-map, length-map}
 use Rattle.std.proofs.lemmas.List.Edits.{length-insert, get_or-insert_below, get_or-insert_at, get_or-insert_above}
-use Rattle.std.proofs.lemmas.List.Sorted.{IsNonDecreasingBy-from_default}
-use Rattle.x7_memory.specs.Planned.{PlanRow, IsPlan, AreInOrder, planned, planned_addresses}
+use Rattle.std.proofs.lemmas.List.Sorted.{IsNonDecreasingBy-from_default, All-permutation, IsPermutation-sym}
+use Rattle.std.proofs.lemmas.List.Elements.{All-nil, All-cons, All-head, All-tail}
+use Rattle.std.proofs.lemmas.Option.{none-some, same_Some}
+use Rattle.std.proofs.lemmas.Bool.{cases_order}
+use Rattle.x7_words.specs.Word.{AreWords}
+use Rattle.x7_memory.specs.Planned.{PlanRow, IsPlan, IsPlanRow, AreInOrder, AreApart, planned, planned_addresses}
 use Rattle.x7_memory.specs.Places.{IsPlace, IsGap}
 
 pub no_row : PlanRow
@@ -74,21 +78,74 @@ module _ (rows : List PlanRow) (row : PlanRow) (at : ℕ) (gap : IsGap rows row.
       λ i h. subst (λ q. (get_or new q d).far ≡ (get_or rows (i - 1) d).far) {x = i - 1 + 1} (omega arith) (ap (λ r. r.far) (get_or-insert_above rows at row d (i - 1) (omega arith) gap.inside)) in
       grind (arith, below i, here i, above i, below j, here j, above j, order i j d, order i (j - 1) d, order (i - 1) (j - 1) d, gap.smaller i d, gap.greater (j - 1) d)
 
-  pub width_insert : (n : ℕ) → All (λ r. length r.words ≡ n) rows → length row.words ≡ n → All (λ r. length r.words ≡ n) (insert rows at row)
-  width_insert n all is i d inside =
+  pub all_insert : (P : PlanRow → Type 0) → All P rows → P row → All P (insert rows at row)
+  all_insert P all p i d inside =
       let new = insert rows at row in
       let length_new = length-insert rows at row gap.inside in
-      let below : (i : ℕ) → i < at → length (get_or new i d).words ≡ length (get_or rows i d).words = λ i h. ap (λ r. length r.words) (get_or-insert_below rows at row d i h gap.inside) in
-      let here : (i : ℕ) → i ≡ at → length (get_or new i d).words ≡ length row.words = λ i h. rw h (ap (λ r. length r.words) (get_or-insert_at rows at row d gap.inside)) in
-      let above : (i : ℕ) → at < i → length (get_or new i d).words ≡ length (get_or rows (i - 1) d).words =
-      λ i h. subst (λ q. length (get_or new q d).words ≡ length (get_or rows (i - 1) d).words) {x = i - 1 + 1} (omega arith) (ap (λ r. length r.words) (get_or-insert_above rows at row d (i - 1) (omega arith) gap.inside)) in
-      let low : i < length rows → length (get_or rows i d).words ≡ n = all i d in
-      let high : i - 1 < length rows → length (get_or rows (i - 1) d).words ≡ n = all (i - 1) d in
-      grind (arith, below i, here i, above i, low, high)
+      let in_gap = gap.inside in
+      elim (cases_order i at) [
+        | inl same ↦ subst P (sym (ap (λ k. get_or new k d) same ∙ get_or-insert_at rows at row d gap.inside)) p
+        | inr (inl below) ↦ subst P (sym (get_or-insert_below rows at row d i below gap.inside)) (all i d (omega arith))
+        | inr (inr above) ↦
+            let place : i - 1 + 1 ≡ i = omega arith in
+            subst P (sym (ap (λ k. get_or new k d) (sym place) ∙ get_or-insert_above rows at row d (i - 1) (omega arith) gap.inside)) (all (i - 1) d (omega arith))
+      ]
 
 pub plan_insert : (width : ℕ) (rows : List PlanRow) (row : PlanRow) (at : ℕ) → IsPlan record { width = width; rows = rows } → IsGap rows row.far at → length row.words ≡ width →
-    IsPlan record { width = width; rows = insert rows at row }
-plan_insert width rows row at is gap e = record { order = order_insert rows row at gap is.order; width = width_insert rows row at gap width is.width e }
+    IsPlanRow row → IsPlan record { width = width; rows = insert rows at row }
+plan_insert width rows row at is gap e fits = record {
+  order = order_insert rows row at gap is.order;
+  width = all_insert rows row at gap (λ r. length r.words ≡ width) is.width e;
+  each = all_insert rows row at gap IsPlanRow is.each fits;
+}
+
+-- a list of words, element by element
+pub words_by_place : (ws : List ℕ) → ((i : ℕ) → i < length ws → get_or ws i 0 < 2 ^ 32) → AreWords ws
+words_by_place [] f = tt
+words_by_place (w ∷ ws) f = (f 0 (omega arith), words_by_place ws (λ i h. f (suc i) (omega arith)))
+
+-- ---- rows in another order
+
+none_planned : (rows : List PlanRow) (far : ℕ) → All (λ r. r.far ≡ far → ⊥) rows → planned rows far ≡ None
+none_planned rows far all = planned_none rows far (λ j h. all j no_row h)
+
+unplanned : (rows : List PlanRow) (far : ℕ) → planned rows far ≡ None → All (λ r. r.far ≡ far → ⊥) rows
+unplanned [] far e = All-nil (λ r. r.far ≡ far → ⊥)
+unplanned (r ∷ rows) far e =
+    elim (eqb_tells far r.far) [
+      | inl y ↦ absurd (none-some r.words (sym e ∙ planned_here r rows far y.1))
+      | inr n ↦ All-cons (λ r. r.far ≡ far → ⊥) r rows (λ same. n.1 (sym same)) (unplanned rows far (sym (planned_behind r rows far n.1) ∙ e))
+    ]
+
+-- the frame of an address is that of each of its rows, and a row of it is there
+alone : (rows : List PlanRow) (far : ℕ) (words : List ℕ) → AreApart rows → planned rows far ≡ Some words → All (λ r. r.far ≡ far → r.words ≡ words) rows
+alone [] far words apart e = All-nil (λ r. r.far ≡ far → r.words ≡ words)
+alone (r ∷ rows) far words apart e =
+    elim (eqb_tells far r.far) [
+      | inl y ↦ All-cons (λ r. r.far ≡ far → r.words ≡ words) r rows (λ same. same_Some _ _ (sym (planned_here r rows far y.1) ∙ e))
+          (λ k d h same. absurd (apart 0 (suc k) d (omega arith) (omega arith) (sym y.1 ∙ sym same)))
+      | inr n ↦ All-cons (λ r. r.far ≡ far → r.words ≡ words) r rows (λ same. absurd (n.1 (sym same)))
+          (alone rows far words (λ i j d lt h. apart (suc i) (suc j) d (omega arith) (omega arith)) (sym (planned_behind r rows far n.1) ∙ e))
+    ]
+
+found : (rows : List PlanRow) (far : ℕ) (words others : List ℕ) → All (λ r. r.far ≡ far → r.words ≡ words) rows → planned rows far ≡ Some others → others ≡ words
+unfolding planned
+found [] far words others all e = absurd (none-some others e)
+found (r ∷ rows) far words others all e =
+    elim (eqb_tells far r.far) [
+      | inl y ↦ same_Some _ _ (sym e ∙ planned_here r rows far y.1) ∙ All-head (λ r. r.far ≡ far → r.words ≡ words) r rows all (sym y.1)
+      | inr n ↦ found rows far words others (All-tail (λ r. r.far ≡ far → r.words ≡ words) r rows all) (sym (planned_behind r rows far n.1) ∙ e)
+    ]
+
+pub planned_permuted : (rows others : List PlanRow) (far : ℕ) → IsPermutation rows others → AreApart rows → planned rows far ≡ planned others far
+planned_permuted rows others far same apart = by (planned rows far) refl (planned others far) refl
+  where
+    by : (o : Option (List ℕ)) → planned rows far ≡ o → (p : Option (List ℕ)) → planned others far ≡ p → planned rows far ≡ planned others far
+    by None e p f = e ∙ sym (none_planned others far (All-permutation (λ r. r.far ≡ far → ⊥) rows others same (unplanned rows far e)))
+    by (Some words) e None f =
+        absurd (none-some words (sym (none_planned rows far (All-permutation (λ r. r.far ≡ far → ⊥) others rows (IsPermutation-sym rows others same) (unplanned others far f))) ∙ e))
+    by (Some words) e (Some more) f =
+        e ∙ ap Some (sym (found others far words more (All-permutation (λ r. r.far ≡ far → r.words ≡ words) rows others same (alone rows far words apart e)) f)) ∙ sym f
 
 -- ---- whether an address is planned
 

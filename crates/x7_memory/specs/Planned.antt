@@ -1,5 +1,6 @@
 -- A plan: the frames that a user plans to write, in number order of their addresses.
-use Rattle.std.specs.Prelude.{◌≡◌, ℕ, ◌<◌, List, [], ◌∷◌, ◌++◌, length, map, slice_index_or, All, Some, None, if◌then◌else◌, ◌==◌}
+use Rattle.std.specs.Prelude.{◌≡◌, ℕ, ◌^◌, ◌<◌, List, [], ◌∷◌, ◌++◌, length, map, slice_index_or, All, Some, None, if◌then◌else◌, ◌==◌}
+use Rattle.x7_words.specs.Word.{AreWords}
 use Rattle.x7_part.specs.Part.{PartData}
 use Rattle.x7_memory.specs.FrameMap.{FrameMap, override}
 use Rattle.x7_memory.specs.Frames.{zeros}
@@ -27,10 +28,20 @@ planned (row ∷ rows) far = if far == row.far then Some row.words else planned 
 abbrev pub AreInOrder : List PlanRow → Type 0
 AreInOrder rows = (i j : ℕ) (d : PlanRow) → i < j → j < length rows → (slice_index_or rows i d).far < (slice_index_or rows j d).far
 
--- a plan's rows stand in order and have its width
+-- a row's address and words have 32 bits
+pub record IsPlanRow (row : PlanRow) : Type 0 where
+  pub far : row.far < 2 ^ 32
+  pub words : AreWords row.words
+
+-- no address comes twice, in whatever order
+abbrev pub AreApart : List PlanRow → Type 0
+AreApart rows = (i j : ℕ) (d : PlanRow) → i < j → j < length rows → (slice_index_or rows i d).far ≡ (slice_index_or rows j d).far → ⊥
+
+-- a plan's rows stand in order, have its width and 32 bits
 pub record IsPlan (plan : PlanData) : Type 0 where
   pub order : AreInOrder plan.rows
   pub width : All (λ row. length row.words ≡ plan.width) plan.rows
+  pub each : All IsPlanRow plan.rows
 
 -- new is old with one row more
 abbrev pub HasMore : PlanData → PlanRow → PlanData → Type 0

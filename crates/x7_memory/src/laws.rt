@@ -1,10 +1,10 @@
 //! Laws of maps, memories and plans, for the theorems above. The functions do nothing: their contracts are the laws.
-ghost use Rattle.std.specs.Prelude.{◌≡◌, ℕ, ◌<◌, ◌++◌, ◌==◌, ◌↔◌, if◌then◌else◌, List, length, replicate, slice_index_or, Contains, Some, None};
+ghost use Rattle.std.specs.Prelude.{◌≡◌, ℕ, ◌<◌, ◌++◌, ◌==◌, ◌↔◌, if◌then◌else◌, List, length, replicate, slice_index_or, Contains, IsPermutation, Some, None};
 ghost use Rattle.x7_part.specs.AddressOrder.{addresses_in};
 ghost use Rattle.x7_part.specs.Part.{PartData, frame_words};
 ghost use Rattle.x7_memory.specs.FrameMap.{FrameMap, override, nothing, only, AreDisjoint, AreSame};
 ghost use Rattle.x7_memory.specs.Frames.{frame_at, zeros, AreFramesOf};
-ghost use Rattle.x7_memory.specs.Planned.{PlanRow, PlanData, IsPlan, AreInOrder, planned, planned_addresses, total};
+ghost use Rattle.x7_memory.specs.Planned.{PlanRow, PlanData, IsPlan, AreInOrder, AreApart, planned, planned_addresses, total};
 
 /// One map over another: twice, in any order where no address is in both, and by one frame.
 pub fn override_laws()
@@ -29,6 +29,7 @@ pub fn plan_laws()
     ensures named { (rows : List PlanRow) (far : ℕ) → (planned rows far ≡ None) ↔ (¬ Contains (planned_addresses rows) far) }
     ensures joined { (before after : List PlanRow) → AreSame (planned (before ++ after)) (override (planned after) (planned before)) }
     ensures apart { (before after : List PlanRow) → AreInOrder (before ++ after) → AreDisjoint (planned before) (planned after) }
+    ensures permuted { (rows others : List PlanRow) → IsPermutation rows others → AreApart rows → AreSame (planned rows) (planned others) }
     ensures total { (part : PartData) (plan : PlanData) → AreSame (total part plan) (override (zeros part) (planned plan.rows)) }
     ensures unplanned { (part : PartData) (plan : PlanData) (far : ℕ) → (¬ Contains (planned_addresses plan.rows) far) → total part plan far ≡ zeros part far }
     ensures planned { (part : PartData) (plan : PlanData) (far : ℕ) → Contains (planned_addresses plan.rows) far → total part plan far ≡ planned plan.rows far }

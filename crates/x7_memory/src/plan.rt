@@ -1,5 +1,5 @@
 //! The frames that a user plans to write.
-ghost use Rattle.std.specs.Prelude.{◌≡◌, ℕ, ◌<◌, ◌≤◌, ◌==◌, ◌↔◌, true, false, if◌then◌else◌, [], length, slice_index_or, Contains, Some, None, IfSome, IfNone, IfOk, IfErr, OnOk, OnErr};
+ghost use Rattle.std.specs.Prelude.{◌≡◌, ℕ, ◌<◌, ◌≤◌, ◌==◌, ◌↔◌, true, false, Ok, if◌then◌else◌, [], length, slice_index_or, Contains, Some, None, IfSome, IfNone, IfOk, IfErr, OnOk, OnErr};
 ghost use Rattle.std.specs.List.{insert};
 ghost use Rattle.x7_memory.specs.Planned.{PlanRow, PlanData, IsPlan, HasMore, planned, planned_addresses};
 ghost use Rattle.x7_memory.specs.Places.{IsPlace, IsGap};
@@ -54,6 +54,7 @@ impl Plan {
     /// Plans a frame. It is false, and changes nothing, where the address has one.
     pub fn insert(&mut self, far: u32, words: &[u32]) -> Result<bool, NoMemory>
         requires width { length words.now ≡ self.old.width }
+        ensures certain { Contains (planned_addresses self.old.rows) far → result ≡ Ok false }
         ensures answer { IfOk result (λ added. (added ≡ false) ↔ Contains (planned_addresses self.old.rows) far) }
         ensures added { IfOk result (λ added. added ≡ true → HasMore self.old record { far = far; words = words.now } self.new) }
         ensures frames { IfOk result (λ added. added ≡ true → (a : ℕ) → planned self.new.rows a ≡ (if a == far then Some words.now else planned self.old.rows a)) }

@@ -1,12 +1,16 @@
 use Rattle.std.proofs.Common.{◌<◌, arith}
 use Rattle.x7_words.proofs.ListLemmas.{all_from_places}
 use Rattle.x7_header.specs.Header.{contents_of}
-use Rattle.x7_header.proofs.HeaderLemmas.{is_cut, is_found, is_only, is_raw}
+use Rattle.x7_header.proofs.HeaderLemmas.{is_cut, is_found, is_only, is_raw, is_short}
 use Rattle.x7_header.proofs.reading.header_of.Goals as goal
 
 pub returns-clause-found : goal.returns-clause-found
 returns-clause-found c =
     is_found (λ head. (contents_of head, head.size)) c.head_of.result c.args.bytes.now (all_from_places (λ b. b < 256) c.args.bytes.now (λ k l. omega (arith, c.type_inv.bytes k))) c.head_of.ensures
+
+pub returns-clause-limit : goal.returns-clause-limit
+returns-clause-limit c =
+    is_short (λ head. (contents_of head, head.size)) c.head_of.result c.args.bytes.now (all_from_places (λ b. b < 256) c.args.bytes.now (λ k l. omega (arith, c.type_inv.bytes k))) c.head_of.ensures
 
 pub returns-clause-only : goal.returns-clause-only
 returns-clause-only c =

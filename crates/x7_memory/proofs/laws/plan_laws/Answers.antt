@@ -1,5 +1,5 @@
 use Rattle.std.proofs.Common.{refl}
-use Rattle.x7_memory.proofs.PlanLemmas.{planned_at}
+use Rattle.x7_memory.proofs.PlanLemmas.{planned_at, planned_permuted}
 use Rattle.x7_memory.proofs.MapLemmas.{named_some, unnamed_none, planned_joined, planned_apart, total_unplanned, total_planned, override_whole}
 use Rattle.x7_memory.proofs.laws.plan_laws.Goals as goal
 
@@ -14,6 +14,9 @@ returns-clause-joined c = planned_joined
 
 pub returns-clause-apart : goal.returns-clause-apart
 returns-clause-apart c = planned_apart
+
+pub returns-clause-permuted : goal.returns-clause-permuted
+returns-clause-permuted c = λ rows others same apart far. planned_permuted rows others far same apart
 
 pub returns-clause-unplanned : goal.returns-clause-unplanned
 returns-clause-unplanned c = total_unplanned

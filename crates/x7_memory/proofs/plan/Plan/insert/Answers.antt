@@ -17,3 +17,9 @@ returns-in-Ok-insert_at-clause-frames c e a =
     ap (λ rows. planned rows a) c.in-Ok-insert_at.ensures.added
     ∙ planned_insert c.args.self.now.rows c.in-Err.place record { far = c.args.far; words = c.args.words.now } a gap.inside
     (λ j h. gap_free c.args.self.now.rows c.args.far c.in-Err.place gap j (let k = gap.inside in omega arith))
+
+pub returns-in-Ok-insert_at-clause-certain : goal.returns-in-Ok-insert_at-clause-certain
+returns-in-Ok-insert_at-clause-certain c has = absurd (gap_unlisted c.args.self.now.rows c.args.far c.in-Err.place c.in-Err.ensures.gap has)
+
+pub returns-in-Err-insert_at-clause-certain : goal.returns-in-Err-insert_at-clause-certain
+returns-in-Err-insert_at-clause-certain c has = absurd (gap_unlisted c.args.self.now.rows c.args.far c.in-Err.place c.in-Err.ensures.gap has)
