@@ -81,9 +81,7 @@ impl Lister {
         let Some(room) = room.checked_add(3 * self.cutter.kept().len() + 128) else {
             return Err(NoMemory);
         };
-        if self.text.reserve(room).is_err() {
-            return Err(NoMemory);
-        }
+        self.text.reserve(room)?;
         self.pen = take_all(&mut self.text, &mut self.cutter, self.pen, piece);
         Ok(())
     }
@@ -93,9 +91,7 @@ impl Lister {
         ensures ok { OnOk result ((given before bytes : List ℕ) → ListerStandsFor self.old given before bytes → Finished self.new given before bytes) }
         ensures err { OnErr result (self.new ≡ self.old) }
     {
-        if self.text.reserve(64).is_err() {
-            return Err(NoMemory);
-        }
+        self.text.reserve(64)?;
         put_end(&mut self.text, self.pen, self.cutter.kept());
         self.cutter = Cutter::new();
         self.pen = new_pen();

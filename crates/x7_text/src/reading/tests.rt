@@ -1,6 +1,6 @@
 use crate::{
-    byte_of_pair, decimal_below, first_line, number_of_digit, put_byte_row, put_word_row,
-    word_of_hex,
+    byte_of_pair, decimal_below, first_line, make_room, number_of_digit, put, put_byte_row,
+    put_word_row, word_of_hex,
 };
 use std::test::Fail;
 
@@ -107,4 +107,14 @@ fn a_text_begins_with_its_first_line(rt: HostRuntime) {
         assert_eq!(rt; rest.is_some(), more.is_some());
         assert_eq!(rt; rest.unwrap_or(b""), more.unwrap_or(b""));
     }
+}
+
+#[test]
+fn room_is_made_for_a_text(rt: HostRuntime) -> Result<(), Fail> {
+    let mut text = Vec::new(rt.alloc());
+    make_room(&mut text, 5)?;
+    put(&mut text, b"frame");
+    make_room(&mut text, 0)?;
+    assert_eq!(rt; text.as_slice(), b"frame".as_slice());
+    Ok(())
 }
