@@ -16,6 +16,7 @@ use Rattle.x7_listing.specs.Listing.{listing_of}
 use Rattle.x7_tool.specs.Form.{Asked, Listing}
 use Rattle.x7_tool.specs.Event.{Event, missing, no_memory, read_fault, too_large, unbuilt, write_fault}
 use Rattle.x7_tool.specs.Outcome.{Answer, Known, and_so, has_header, judged, listed, stream_limit, with_inputs}
+use Rattle.x7_tool.specs.Turn.{Unopened}
 use Rattle.x7_tool.specs.Run.{Ends, IsCaused, IsPrefixOf, RisesFor}
 
 -- a name that isn't there
@@ -128,6 +129,14 @@ listed_whole (Some inputs) flash F L stream taken rest Full old now s e h l p =
 -- the same event
 pub ends_same : (known : Option Known) (F L : List ℕ → Type 0) (form : Option Asked) (Full : Type 0) (old now : Option (List ℕ)) (x y : Event) → x ≡ y → Ends known F L form Full old now (Err y) → Ends known F L form Full old now (Err x)
 ends_same known F L form Full old now x y e h = subst (λ (event : Event). Ends known F L form Full old now (Err event)) (sym e) h
+
+-- a stream that could not be opened
+pub unopened : (contents : Option (List ℕ → Option (List ℕ))) (flash : Option (List ℕ)) (stream : List ℕ) (f0 f1 a0 a1 : ℕ) (Full : Type 0) (old : Option (List ℕ)) (event : Event) → Unopened contents stream f0 f1 a0 a1 event
+    → Ends (with_inputs contents flash) (RisesFor (stream ∷ []) f0 f1) (RisesFor (stream ∷ []) a0 a1) (Some (Listing stream)) Full old old (Err event)
+unopened contents flash stream f0 f1 a0 a1 Full old event (inl h) =
+    ends_same (with_inputs contents flash) (RisesFor (stream ∷ []) f0 f1) (RisesFor (stream ∷ []) a0 a1) (Some (Listing stream)) Full old old event (missing stream) h.0 (not_there contents flash (RisesFor (stream ∷ []) f0 f1) stream a0 a1 Full old h.1)
+unopened contents flash stream f0 f1 a0 a1 Full old event (inr h) =
+    ends_same (with_inputs contents flash) (RisesFor (stream ∷ []) f0 f1) (RisesFor (stream ∷ []) a0 a1) (Some (Listing stream)) Full old old event (read_fault stream) h.0 (not_selected contents flash (RisesFor (stream ∷ []) a0 a1) stream f0 f1 Full old h.1)
 
 -- an error by two of its clauses
 pub both_err : {A B : Type 0} (r : Result A B) (P Q R : B → Type 0) → ((e : B) → P e → Q e → R e) → IfErr r P → IfErr r Q → IfErr r R

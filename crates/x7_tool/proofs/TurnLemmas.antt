@@ -1,5 +1,5 @@
 -- A listing that is written turn by turn.
-use Rattle.std.proofs.Common.{◌≡◌, ℕ, ◌+◌, ◌≤◌, ◌<◌, ◌==◌, ◌&&◌, Bool, true, List, [], ◌∷◌, ◌++◌, false, Option, None, Some, Result, Ok, Err, OnOk, take, length, refl, ap, sym, subst, ◌∙◌, append_assoc, append-nil, arith}
+use Rattle.std.proofs.Common.{length-append, arith, inl, inr, ◌≡◌, ℕ, ◌+◌, ◌≤◌, ◌<◌, ◌==◌, ◌&&◌, Bool, true, List, [], ◌∷◌, ◌++◌, false, Option, None, Some, Result, Ok, Err, OnOk, take, length, refl, ap, sym, subst, ◌∙◌, append_assoc, append-nil}
 use Rattle.std.specs.Result.{is_err}
 use Rattle.std.proofs.Math.Seq.{take-append-add}
 use Rattle.std.proofs.lemmas.List.{length-take-le, take-take}
@@ -15,13 +15,14 @@ use Rattle.x7_listing.proofs.FrontLemmas.{told_front}
 use Rattle.x7_words.specs.Input.{AtEnd, Selects, preceded}
 use Rattle.x7_words.proofs.ListLemmas.{all-append}
 use Rattle.x7_tool.specs.Form.{Listing}
-use Rattle.x7_tool.specs.Run.{Ends}
+use Rattle.x7_tool.specs.Run.{Ends, RisesFor}
 use Rattle.x7_words.proofs.InputLemmas.{preceded-preceded}
 use Rattle.std.proofs.lemmas.Bool.Decides.{nat_tests}
-use Rattle.x7_tool.specs.Event.{write_fault}
+use Rattle.x7_words.proofs.CountLemmas.{risen_from}
+use Rattle.x7_tool.specs.Event.{Event, read_fault, too_large, write_fault}
 use Rattle.x7_tool.specs.Outcome.{has_header, stream_limit, with_inputs}
-use Rattle.x7_tool.specs.Turn.{Lists}
-use Rattle.x7_tool.proofs.Causes.{no_header_stays, known_all, unwritten}
+use Rattle.x7_tool.specs.Turn.{Lists, Unread}
+use Rattle.x7_tool.proofs.Causes.{broken, ends_same, known_all, no_header_stays, oversized, unwritten}
 
 pub from_ok : {A B P : Type 0} (r : Result A B) → is_err r ≡ false → OnOk r P → P
 from_ok (Ok a) e h = h
@@ -141,6 +142,20 @@ end_failed (Some inputs) flash F L stream taken rest Full old now s e f p =
     let none : all.0 ≡ [] = let end = rw all.1.0 at e in end in
     (f, (taken, (all.1.1 ∙ ap (λ t. Some (taken ++ t)) none ∙ ap Some (append-nil taken), λ fits. p)))
 
--- a turn that was filled within the limit is a long one
-pub turn_long : (left most n : ℕ) → (65536 ≤ left → most ≡ 65536) → (left < 65536 → most ≡ left + 1) → most ≤ n → n ≤ left → 13 ≤ n
-turn_long left most n full short more within = grind (arith, full, short, more, within)
+-- a turn that could not be read
+pub unread_end : (contents : Option (List ℕ → Option (List ℕ))) (flash : Option (List ℕ)) (stream taken : List ℕ) (rest rest_now : Option (List ℕ)) (l : ListerState) (left f0 f1 f2 a0 a2 : ℕ) (Full : Type 0) (old now : Option (List ℕ)) (event : Event)
+    → f0 ≤ f1 → Selects contents stream (preceded taken rest) → Lists l old now taken → length taken + left ≡ stream_limit → (left < stream_limit → (13 ≤ length taken) × (has_header taken ≡ false)) → Unread rest rest_now stream left f1 f2 event
+    → Ends (with_inputs contents flash) (RisesFor (stream ∷ []) f0 f2) (RisesFor (stream ∷ []) a0 a2) (Some (Listing stream)) Full old now (Err event)
+unread_end contents flash stream taken rest rest_now l left f0 f1 f2 a0 a2 Full old now event f s t k j (inl h) =
+    ends_same (with_inputs contents flash) (RisesFor (stream ∷ []) f0 f2) (RisesFor (stream ∷ []) a0 a2) (Some (Listing stream)) Full old now event (read_fault stream) h.0
+    (broken contents flash (RisesFor (stream ∷ []) a0 a2) stream taken rest f0 f2 Full old now s (risen_from f0 f1 f2 f h.1) (lists_here l old now taken t))
+unread_end contents flash stream taken rest rest_now l left f0 f1 f2 a0 a2 Full old now event f s t k j (inr h) =
+    let piece = h.1.0 in
+    let less : left < stream_limit = omega (arith, h.1.1.1, h.1.1.2) in
+    let before = j less in
+    let none = no_header_stays taken piece fixed_bytes before.0 before.1 in
+    let size = length-append taken piece in
+    let long : 13 ≤ length (taken ++ piece) = omega (arith, size, before.0) in
+    let over : stream_limit < length (taken ++ piece) = omega (arith, size, h.1.1.1, k) in
+    ends_same (with_inputs contents flash) (RisesFor (stream ∷ []) f0 f2) (RisesFor (stream ∷ []) a0 a2) (Some (Listing stream)) Full old now event (too_large stream) h.0
+    (oversized contents flash (RisesFor (stream ∷ []) f0 f2) (RisesFor (stream ∷ []) a0 a2) stream (taken ++ piece) taken rest_now rest Full old now (taken_more contents stream taken piece rest rest_now s h.1.1.0) s long none over (lists_here l old now taken t))

@@ -1,6 +1,9 @@
--- A listing that is written turn by turn.
-use Rattle.std.specs.Prelude.{◌≡◌, ℕ, List, [], Option}
+-- Inputs that are read, and a listing that is written, turn by turn.
+use Rattle.std.specs.Prelude.{◌≡◌, ◌<◌, ◌≤◌, ◌⊎◌, ℕ, List, [], Option, length}
+use Rattle.x7_words.specs.Count.{HasRisen}
+use Rattle.x7_words.specs.Input.{Lacks, preceded}
 use Rattle.x7_words.specs.Sink.{appended}
+use Rattle.x7_tool.specs.Event.{Event, missing, read_fault, too_large}
 use Rattle.x7_listing.specs.Telling.{ListerState, ListerStandsFor}
 
 -- What was put after the first bytes is the listing so far of these bytes, and the lister keeps no text of it.
@@ -9,3 +12,14 @@ pub record Lists (l : ListerState) (first now : Option (List ℕ)) (bytes : List
   pub stands : ListerStandsFor l given [] bytes
   pub put : now ≡ appended first given
   pub clear : l.text ≡ []
+
+-- an input was not opened: its name isn't there, or the inputs failed
+abbrev pub Unopened : Option (List ℕ → Option (List ℕ)) → List ℕ → ℕ → ℕ → ℕ → ℕ → Event → Type 0
+Unopened contents name faults faults_now absences absences_now event =
+    ((event ≡ missing name) × (Lacks contents name ⊎ HasRisen absences absences_now)) ⊎ ((event ≡ read_fault name) × HasRisen faults faults_now)
+
+-- a turn of at most 65,536 bytes was not read: the inputs failed, or it went over the limit
+abbrev pub Unread : Option (List ℕ) → Option (List ℕ) → List ℕ → ℕ → ℕ → ℕ → Event → Type 0
+Unread rest rest_now name left faults faults_now event =
+    ((event ≡ read_fault name) × HasRisen faults faults_now)
+    ⊎ ((event ≡ too_large name) × ((piece : List ℕ) × ((rest ≡ preceded piece rest_now) × (left < length piece) × (length piece ≤ 65536))))

@@ -11,12 +11,12 @@ ghost use Rattle.x7_tool.specs.Outcome.{has_header, with_inputs};
 ghost use Rattle.x7_tool.specs.Run.{Ends, RisesFor};
 ghost use Rattle.x7_tool.specs.Turn.{Lists};
 
-use crate::read::{STREAM_LIMIT, TURN, fill, turn_len};
+use crate::read::{STREAM_LIMIT, TURN, next_turn, open};
 use crate::refusal::{Refusal, Why};
 use std::alloc::Global;
 use x7_header::behind_fixed_bytes;
 use x7_listing::Lister;
-use x7_words::{Inputs, SelectFault, Sink, write_all};
+use x7_words::{Inputs, Sink, write_all};
 
 /// Whether the stream's first piece begins with a .bit header.
 fn has_bit_header(left: usize, piece: &[u8]) -> bool
@@ -68,44 +68,31 @@ pub(crate) fn list<'w, I: Inputs, O: Sink>(
     ensures ok { OnOk result ((flash : Option (List ℕ)) → (text : List ℕ) × Ends (with_inputs (I.contents inputs.old) flash) (RisesFor (stream.now ∷ []) (I.faults inputs.old) (I.faults inputs.new)) (RisesFor (stream.now ∷ []) (I.absences inputs.old) (I.absences inputs.new)) (Some (Listing stream.now)) (HasRisen (O.faults out.old) (O.faults out.new)) (O.written out.old) (O.written out.new) (Ok (record { stopped = false; text = text }))) }
     ensures err { IfErr result (λ r. (flash : Option (List ℕ)) → Ends (with_inputs (I.contents inputs.old) flash) (RisesFor (stream.now ∷ []) (I.faults inputs.old) (I.faults inputs.new)) (RisesFor (stream.now ∷ []) (I.absences inputs.old) (I.absences inputs.new)) (Some (Listing stream.now)) (HasRisen (O.faults out.old) (O.faults out.new)) (O.written out.old) (O.written out.new) (Err (event_of r))) }
 {
-    match inputs.select(stream) {
+    match open(inputs, stream) {
         Ok(()) => (),
-        Err(SelectFault::Missing) => return Err(Refusal {
-            reason: Why::Missing,
-            name: stream,
-        }),
-        Err(SelectFault::Failed) => return Err(Refusal {
-            reason: Why::ReadFault,
-            name: stream,
-        }),
+        Err(refusal) => return Err(refusal),
     }
     let mut lister = Lister::new(alloc);
     let mut piece = [0u8; TURN];
     let mut left = STREAM_LIMIT;
     loop {
-        let most = turn_len(left);
-        let count = match fill(inputs, stream, &mut piece[..most]) {
-            Ok(count) => count,
+        let turn = match next_turn(inputs, stream, left, &mut piece) {
+            Ok(turn) => turn,
             Err(refusal) => return Err(refusal),
         };
-        if has_bit_header(left, &piece[..count]) {
+        let bytes = &piece[..turn.count];
+        if has_bit_header(left, bytes) {
             return Err(Refusal {
                 reason: Why::Unbuilt,
                 name: stream,
             });
         }
-        if count > left {
-            return Err(Refusal {
-                reason: Why::TooLarge,
-                name: stream,
-            });
-        }
-        match put_turn(&mut lister, out, &piece[..count]) {
+        match put_turn(&mut lister, out, bytes) {
             Ok(()) => (),
             Err(refusal) => return Err(refusal),
         }
-        left -= count;
-        if count < most {
+        left -= turn.count;
+        if turn.last {
             return put_end(&mut lister, out);
         }
     }

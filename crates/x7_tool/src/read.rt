@@ -1,10 +1,11 @@
 //! Reading an input in turns.
-ghost use Rattle.std.specs.Prelude.{◌≡◌, ◌+◌, ◌<◌, ◌≤◌, ◌∷◌, [], ℕ, List, Option, length, map, string_bytes, take, true, vec_len, IfErr, IfOk, OnOk};
+ghost use Rattle.std.specs.Prelude.{◌≡◌, ◌+◌, ◌<◌, ◌≤◌, ◌∷◌, [], ℕ, List, Option, length, map, string_bytes, take, true, false, vec_len, IfErr, IfOk, OnOk};
 ghost use Rattle.x7_words.specs.Count.{HasRisen};
-ghost use Rattle.x7_words.specs.Input.{AtEnd, preceded};
+ghost use Rattle.x7_words.specs.Input.{AtEnd, Selects, preceded};
 ghost use Rattle.x7_tool.specs.Message.{event_of};
 ghost use Rattle.x7_tool.specs.Event.{read_fault};
 ghost use Rattle.x7_tool.specs.Outcome.{and_so, put_before, data_of, raw, stream_limit, whole_in, with_inputs};
+ghost use Rattle.x7_tool.specs.Turn.{Unopened, Unread};
 ghost use Rattle.x7_tool.specs.Run.{IsCaused, RisesFor, seen};
 
 use crate::refusal::{Refusal, Why};
@@ -23,7 +24,7 @@ pub(crate) const TURN: usize = 65_536;
 
 /// How many bytes a turn asks for, where this many are still within the limit: one more than they at
 /// most.
-pub(crate) fn turn_len(left: usize) -> usize
+fn turn_len(left: usize) -> usize
     ensures some { 0 < result }
     ensures within { result ≤ 65536 }
     ensures over { result ≤ left + 1 }
@@ -35,11 +36,7 @@ pub(crate) fn turn_len(left: usize) -> usize
 
 /// Fills the buffer with the next bytes of the selected input, and answers how many there were:
 /// fewer than it holds only where the input ended.
-pub(crate) fn fill<'w, I: Inputs>(
-    inputs: &mut I,
-    name: &'w str,
-    buf: &mut [u8],
-) -> Result<usize, Refusal<'w>>
+fn fill<'w, I: Inputs>(inputs: &mut I, name: &'w str, buf: &mut [u8]) -> Result<usize, Refusal<'w>>
     requires { I.selected inputs.old ≡ true }
     ensures selected { OnOk result (I.selected inputs.new ≡ true) }
     ensures within { IfOk result (λ n. n ≤ length buf.old) }
@@ -68,6 +65,72 @@ pub(crate) fn fill<'w, I: Inputs>(
     Ok(at)
 }
 
+/// Opens an input, of which nothing is read yet.
+pub(crate) fn open<'w, I: Inputs>(inputs: &mut I, name: &'w str) -> Result<(), Refusal<'w>>
+    ensures selected { OnOk result (I.selected inputs.new ≡ true) }
+    ensures found { OnOk result (Selects (I.contents inputs.old) name.now (I.rest inputs.new)) }
+    ensures err { IfErr result (λ r. Unopened (I.contents inputs.old) name.now (I.faults inputs.old) (I.faults inputs.new) (I.absences inputs.old) (I.absences inputs.new) (event_of r)) }
+    ensures map { I.contents inputs.new ≡ I.contents inputs.old }
+    ensures faults { I.faults inputs.old ≤ I.faults inputs.new }
+    ensures absences { I.absences inputs.old ≤ I.absences inputs.new }
+{
+    match inputs.select(name) {
+        Ok(()) => Ok(()),
+        Err(SelectFault::Missing) => Err(Refusal {
+            reason: Why::Missing,
+            name,
+        }),
+        Err(SelectFault::Failed) => Err(Refusal {
+            reason: Why::ReadFault,
+            name,
+        }),
+    }
+}
+
+/// What a turn read: how many bytes stand at the start of the buffer, and whether the input ends after them.
+#[derive(Clone, Copy, Drop)]
+pub(crate) struct Turn {
+    pub(crate) count: usize,
+    pub(crate) last: bool,
+}
+
+/// Reads the next turn of the open input, of which this many bytes more are within the limit.
+pub(crate) fn next_turn<'w, I: Inputs>(
+    inputs: &mut I,
+    name: &'w str,
+    left: usize,
+    buf: &mut [u8],
+) -> Result<Turn, Refusal<'w>>
+    requires selected { I.selected inputs.old ≡ true }
+    requires buffer { length buf.old ≡ 65536 }
+    ensures selected { OnOk result (I.selected inputs.new ≡ true) }
+    ensures within { IfOk result (λ turn. (turn.count ≤ left) × (turn.count ≤ 65536)) }
+    ensures goes { IfOk result (λ turn. turn.last ≡ false → turn.count ≡ 65536) }
+    ensures taken { IfOk result (λ turn. I.rest inputs.old ≡ preceded (take turn.count buf.new) (I.rest inputs.new)) }
+    ensures end { IfOk result (λ turn. turn.last ≡ true → AtEnd (I.rest inputs.new)) }
+    ensures length { length buf.new ≡ length buf.old }
+    ensures err { IfErr result (λ r. Unread (I.rest inputs.old) (I.rest inputs.new) name.now left (I.faults inputs.old) (I.faults inputs.new) (event_of r)) }
+    ensures map { I.contents inputs.new ≡ I.contents inputs.old }
+    ensures faults { I.faults inputs.old ≤ I.faults inputs.new }
+    ensures absences { I.absences inputs.old ≤ I.absences inputs.new }
+{
+    let most = turn_len(left);
+    let count = match fill(inputs, name, &mut buf[..most]) {
+        Ok(count) => count,
+        Err(refusal) => return Err(refusal),
+    };
+    if count > left {
+        return Err(Refusal {
+            reason: Why::TooLarge,
+            name,
+        });
+    }
+    Ok(Turn {
+        count,
+        last: count < most,
+    })
+}
+
 /// Appends all bytes of an input that has at most so many. Of a larger one at most one byte more than the limit is read.
 pub(crate) fn read_onto<'w, I: Inputs>(
     inputs: &mut I,
@@ -83,37 +146,23 @@ pub(crate) fn read_onto<'w, I: Inputs>(
     ensures faults { I.faults inputs.old ≤ I.faults inputs.new }
     ensures absences { I.absences inputs.old ≤ I.absences inputs.new }
 {
-    match inputs.select(name) {
+    match open(inputs, name) {
         Ok(()) => (),
-        Err(SelectFault::Missing) => return Err(Refusal {
-            reason: Why::Missing,
-            name,
-        }),
-        Err(SelectFault::Failed) => return Err(Refusal {
-            reason: Why::ReadFault,
-            name,
-        }),
+        Err(refusal) => return Err(refusal),
     }
     let mut piece = [0u8; TURN];
     let mut left = limit;
     loop {
-        let most = turn_len(left);
-        let count = match fill(inputs, name, &mut piece[..most]) {
-            Ok(count) => count,
+        let turn = match next_turn(inputs, name, left, &mut piece) {
+            Ok(turn) => turn,
             Err(refusal) => return Err(refusal),
         };
-        if count > left {
-            return Err(Refusal {
-                reason: Why::TooLarge,
-                name,
-            });
-        }
-        match onto.extend_from_slice(&piece[..count]) {
+        match onto.extend_from_slice(&piece[..turn.count]) {
             Ok(()) => (),
             Err(_) => return Err(Refusal::unnamed(Why::NoMemory)),
         }
-        left -= count;
-        if count < most {
+        left -= turn.count;
+        if turn.last {
             return Ok(());
         }
     }

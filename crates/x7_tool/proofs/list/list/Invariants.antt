@@ -4,8 +4,8 @@ use Rattle.x7_tool.specs.Outcome.{has_header, stream_limit}
 use Rattle.x7_tool.specs.Turn.{Lists}
 use Rattle.x7_tool.proofs.list.list.Given as goal
 
-abbrev pub invariant-loop-count : goal.invariant-loop-count
-invariant-loop-count g l =
+abbrev pub invariant-loop-turn : goal.invariant-loop-turn
+invariant-loop-turn g l =
     let i = g.I.Inputs in
     let o = g.O.Sink in
     record {
@@ -21,5 +21,5 @@ invariant-loop-count g l =
           × (l.left < stream_limit → (13 ≤ length taken) × (has_header taken ≡ false)));
     }
 
-abbrev pub decreases-loop-count : goal.decreases-loop-count
-decreases-loop-count g l = l.left
+abbrev pub decreases-loop-turn : goal.decreases-loop-turn
+decreases-loop-turn g l = l.left

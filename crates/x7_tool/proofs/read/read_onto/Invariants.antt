@@ -2,8 +2,8 @@ use Rattle.std.proofs.Common.{◌≡◌, ℕ, List, ◌+◌, ◌≤◌, ◌++◌
 use Rattle.x7_words.specs.Input.{Selects, preceded}
 use Rattle.x7_tool.proofs.read.read_onto.Given as goal
 
-abbrev pub invariant-loop-count : goal.invariant-loop-count
-invariant-loop-count g l =
+abbrev pub invariant-loop-turn : goal.invariant-loop-turn
+invariant-loop-turn g l =
     let i = g.I.Inputs in
     record {
       selected : i.selected l.inputs ≡ true;
@@ -15,5 +15,5 @@ invariant-loop-count g l =
       told : (taken : List ℕ) × ((l.onto.items ≡ l.fn.onto.items ++ taken) × Selects (i.contents l.fn.inputs) l.name (preceded taken (i.rest l.inputs)) × (length taken + l.left ≡ l.limit));
     }
 
-abbrev pub decreases-loop-count : goal.decreases-loop-count
-decreases-loop-count g l = l.left
+abbrev pub decreases-loop-turn : goal.decreases-loop-turn
+decreases-loop-turn g l = l.left
