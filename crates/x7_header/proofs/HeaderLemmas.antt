@@ -1,5 +1,5 @@
 -- The two laws of headers: what is read is written so, and what is written is read again.
-use Rattle.std.proofs.Common.{◌≡◌, ◌≤◌, ℕ, ◌+◌, ◌-◌, ◌*◌, ◌/◌, ◌%◌, ◌^◌, ◌<◌, Bool, true, false, cond, List, [], ◌∷◌, ◌++◌, length, take, drop, Result, Ok, Err, nat_le, nat_eq, refl, sym, ap, subst, ◌∙◌, append_assoc, arith, length-append, take-append-drop}
+use Rattle.std.proofs.Common.{◌≡◌, ◌≤◌, ℕ, ◌+◌, ◌-◌, ◌*◌, ◌/◌, ◌%◌, ◌^◌, ◌<◌, Bool, true, false, cond, List, [], ◌∷◌, ◌++◌, length, take, drop, Result, Ok, Err, nat_le, nat_eq, refl, sym, ap, subst, ◌∙◌, append_assoc, arith, inl, inr, ◌⊎◌, ne_eqb, length-append, take-append-drop}
 use Rattle.std.specs.Prelude.{◌≢◌, ◌↔◌, IfOk, IsOkAnd, IsErrOf}
 use Rattle.std.proofs.lemmas.Bool.{false≢true, eqb-true, leb-true, le-leb}
 use Rattle.std.proofs.lemmas.List.{take_at, drop_at, length-take-le}
@@ -9,7 +9,7 @@ use Rattle.std.specs.List.{AllByRecursion, starts_with}
 use Rattle.x7_words.specs.Word.{AreBytes, bytes_of_word, word_of_bytes}
 use Rattle.x7_words.proofs.ListLemmas.{all_front, all_back, shorter_front}
 use Rattle.x7_words.proofs.WordLemmas.{bytes-words, words-fit}
-use Rattle.x7_header.specs.Header.{fixed_bytes, Kind, Field, layout, Holds, count_bytes, field_bytes, fields_bytes, Contents, listed, HaveHeader, header_bytes}
+use Rattle.x7_header.specs.Header.{fixed_bytes, Kind, Field, layout, Holds, Hold, HasOtherLetter, HasOtherLetterAt, count_bytes, field_bytes, fields_bytes, Contents, listed, HaveHeader, header_bytes}
 use Rattle.x7_header.specs.Reading.{◌>>=◌, letter_at, bytes_at, content_at, field_at, fields_at, contents_from, fixed_at, layout_at, header_at, Gives}
 use Rattle.x7_header.specs.declared.fault.HeaderFault.{HeaderFault}
 use Rattle.x7_header.specs.declared.fault.HeaderFault.TheVariants as fault
@@ -45,13 +45,6 @@ pub field_again : (total : ℕ) (field : Field) (content rest : List ℕ) → Ho
 unfolding field_at
 field_again total field content rest h =
     rw (append_assoc (count_bytes field.kind content) content rest, letter_again total field.letter (count_bytes field.kind content ++ (content ++ rest))) (content_again total field.kind content rest h)
-
--- each field holds what it can hold
-abbrev pub Hold : List Field → List (List ℕ) → Type 0
-Hold (field ∷ fields) (content ∷ contents) = Holds field.kind content × Hold fields contents
-Hold (field ∷ fields) [] = ⊥
-Hold [] (content ∷ contents) = ⊥
-Hold [] [] = Unit {0}
 
 pub fields_again : (total : ℕ) (fields : List Field) (contents : List (List ℕ)) (rest : List ℕ) → Hold fields contents → fields_at total fields (fields_bytes fields contents ++ rest) ≡ Ok (contents, rest)
 unfolding fields_at
@@ -339,6 +332,130 @@ is_cut view (Ok x) bytes g place i = absurd (ok_not_err x (fault.Cut place) i)
 is_cut {X = X} view (Err d) bytes g place i =
     let same : d ≡ fault.Cut place = err_is X d (fault.Cut place) i in
     cut_at bytes place (starts_with nat_eq bytes fixed_bytes) refl (rw same at g)
+
+-- ---- another byte than a letter
+
+-- a step that failed
+bind_err : {A B : Type 0} (r : Result A HeaderFault) (f : A → Result B HeaderFault) (d : HeaderFault) → (r >>= f) ≡ Err d → (r ≡ Err d) ⊎ ((x : A) × (r ≡ Ok x) × (f x ≡ Err d))
+bind_err {A = A} {B = B} (Err c) f d e = inl (ap (failed A) (err_is B c d e))
+bind_err (Ok x) f d e = inr (x, refl, e)
+
+cut_no_field : (A : Type 0) (total place : ℕ) → failed A (fault.Cut total) ≡ Err (fault.Field place) → ⊥
+cut_no_field A total place e = let same : fault.Cut total ≡ fault.Field place = err_is A (fault.Cut total) (fault.Field place) e in cc
+
+bytes_no_field : (total count place : ℕ) (bytes : List ℕ) (b : Bool) → cond b (done {A = List ℕ × List ℕ} (take count bytes, drop count bytes)) (Err (fault.Cut total)) ≡ Err (fault.Field place) → ⊥
+bytes_no_field total count place bytes true e = ok_not_err (take count bytes, drop count bytes) (fault.Field place) e
+bytes_no_field total count place bytes false e = cut_no_field (List ℕ × List ℕ) total place e
+
+content_no_field : (total place : ℕ) (kind : Kind) (bytes : List ℕ) → content_at total kind bytes ≡ Err (fault.Field place) → ⊥
+content_no_field total place Kind.Four bytes e = bytes_no_field total 4 place bytes (nat_le 4 (length bytes)) e
+content_no_field total place Kind.Counted [] e = cut_no_field (List ℕ × List ℕ) total place e
+content_no_field total place Kind.Counted (high ∷ []) e = cut_no_field (List ℕ × List ℕ) total place e
+content_no_field total place Kind.Counted (high ∷ low ∷ bytes) e = bytes_no_field total (high * 256 + low) place bytes (nat_le (high * 256 + low) (length bytes)) e
+
+field_is : (m n : ℕ) → failed (List ℕ) (fault.Field m) ≡ Err (fault.Field n) → m ≡ n
+field_is m n e = let same : fault.Field m ≡ fault.Field n = err_is (List ℕ) (fault.Field m) (fault.Field n) e in cc
+
+letter_by : (total letter place first : ℕ) (bytes : List ℕ) (b : Bool) → nat_eq first letter ≡ b → cond b (done bytes) (Err (fault.Field (total - length (first ∷ bytes)))) ≡ Err (fault.Field place) →
+    (first ≢ letter) × (place ≡ total - length (first ∷ bytes))
+letter_by total letter place first bytes true t e = absurd (ok_not_err bytes (fault.Field place) e)
+letter_by total letter place first bytes false t e =
+    ((λ same. false≢true (sym t ∙ (let y : nat_eq first letter ≡ true = grind (arith, same) in y))), sym (field_is (total - length (first ∷ bytes)) place e))
+
+other_first : (total place : ℕ) (field : Field) (fields : List Field) (bytes : List ℕ) → length bytes ≤ total → letter_at total field.letter bytes ≡ Err (fault.Field place) →
+    (place ≤ total) × HasOtherLetter (field ∷ fields) bytes (total - place)
+other_first total place field fields [] h e = absurd (cut_no_field (List ℕ) total place e)
+other_first total place field fields (first ∷ bytes) h e =
+    let t = letter_by total field.letter place first bytes (nat_eq first field.letter) refl e in
+    let at = t.1 in (
+      omega (arith, at),
+      record { done = []; contents = []; next = field; later = fields; other = first; rest = bytes; fields_are = refl; hold = tt; bytes_are = refl; left_is = omega (arith, at, h); differs = t.0 },
+    )
+
+other_letter : (total place : ℕ) (fields : List Field) (bytes : List ℕ) → AreBytes bytes → length bytes ≤ total → fields_at total fields bytes ≡ Err (fault.Field place) →
+    (place ≤ total) × HasOtherLetter fields bytes (total - place)
+unfolding fields_at field_at
+other_letter total place [] bytes f h e = absurd (ok_not_err ([], bytes) (fault.Field place) e)
+other_letter total place (field ∷ fields) bytes f h e =
+    elim (bind_err (field_at total field bytes) (λ first. fields_at total fields first.1 >>= λ others. Ok (first.0 ∷ others.0, others.1)) (fault.Field place) e) [
+      | inl here ↦ elim (bind_err (letter_at total field.letter bytes) (content_at total field.kind) (fault.Field place) here) [
+        | inl letter ↦ other_first total place field fields bytes h letter
+        | inr behind ↦ absurd (content_no_field total place field.kind behind.0 behind.2)
+      ]
+      | inr there ↦
+          let t = field_takes total field bytes there.0 f there.1 in
+          let fits : AreBytes (field_bytes field there.0.0 ++ there.0.1) = subst AreBytes t.0 f in
+          let long = length-append (field_bytes field there.0.0) there.0.1 in
+          elim (bind_err (fields_at total fields there.0.1) (λ others. Ok (there.0.0 ∷ others.0, others.1)) (fault.Field place) there.2) [
+            | inl later ↦
+                let w = other_letter total place fields there.0.1 (all_back (λ c. c < 256) (field_bytes field there.0.0) there.0.1 fits) (omega (arith, h, ap length t.0, long)) later in
+                (w.0, record {
+                  done = field ∷ w.1.done;
+                  contents = there.0.0 ∷ w.1.contents;
+                  next = w.1.next;
+                  later = w.1.later;
+                  other = w.1.other;
+                  rest = w.1.rest;
+                  fields_are = ap (λ fs. field ∷ fs) w.1.fields_are;
+                  hold = (t.1, w.1.hold);
+                  bytes_are = t.0 ∙ ap (λ r. field_bytes field there.0.0 ++ r) w.1.bytes_are ∙ sym (append_assoc (field_bytes field there.0.0) (fields_bytes w.1.done w.1.contents) (w.1.other ∷ w.1.rest));
+                  left_is = w.1.left_is;
+                  differs = w.1.differs;
+                })
+            | inr good ↦ absurd (ok_not_err (there.0.0 ∷ good.0.0, good.0.1) (fault.Field place) good.2)
+          ]
+    ]
+
+letter_told : (total letter other : ℕ) (rest : List ℕ) → other ≢ letter → letter_at total letter (other ∷ rest) ≡ Err (fault.Field (total - length (other ∷ rest)))
+letter_told total letter other rest n = let f : nat_eq other letter ≡ false = ne_eqb other letter n in rw f refl
+
+field_told_first : (total : ℕ) (next : Field) (other : ℕ) (rest : List ℕ) → other ≢ next.letter → field_at total next (other ∷ rest) ≡ Err (fault.Field (total - length (other ∷ rest)))
+unfolding field_at
+field_told_first total next other rest n = rw (letter_told total next.letter other rest n) refl
+
+other_told : (total : ℕ) (before : List Field) (contents : List (List ℕ)) (next : Field) (later : List Field) (other : ℕ) (rest : List ℕ) → Hold before contents → other ≢ next.letter →
+    fields_at total (before ++ next ∷ later) (fields_bytes before contents ++ other ∷ rest) ≡ Err (fault.Field (total - length (other ∷ rest)))
+unfolding fields_at
+other_told total [] [] next later other rest h n = rw (field_told_first total next other rest n) refl
+other_told total [] (content ∷ contents) next later other rest h n = absurd h
+other_told total (field ∷ before) [] next later other rest h n = absurd h
+other_told total (field ∷ before) (content ∷ contents) next later other rest h n =
+    rw (append_assoc (field_bytes field content) (fields_bytes before contents) (other ∷ rest), field_again total field content (fields_bytes before contents ++ other ∷ rest) h.0, other_told total before contents next later other rest h.1 n) refl
+
+field_at_place : (bytes : List ℕ) (place : ℕ) (b : Bool) → AreBytes bytes → starts_with nat_eq bytes fixed_bytes ≡ b → header_at bytes ≡ Err (fault.Field place) → HasOtherLetterAt bytes place
+unfolding header_at layout_at
+field_at_place bytes place true f s e =
+    let there = (starts_is Decides-eqb bytes fixed_bytes (starts_with nat_eq bytes fixed_bytes) refl).0 s in
+    let at : header_at bytes ≡ layout_at (length bytes) (drop 13 bytes) = rw s refl in
+    elim (bind_err (fields_at (length bytes) layout (drop 13 bytes)) (λ read. Ok (contents_from read.0, length bytes - length read.1)) (fault.Field place) (sym at ∙ e)) [
+      | inl later ↦
+          let w = other_letter (length bytes) place layout (drop 13 bytes) (all_back (λ c. c < 256) fixed_bytes (drop 13 bytes) (subst AreBytes there f)) (omega (arith, ap length there, length-append fixed_bytes (drop 13 bytes))) later in
+          (drop 13 bytes, there, w.0, w.1)
+      | inr good ↦ absurd (ok_not_err (contents_from good.0.0, length bytes - length good.0.1) (fault.Field place) good.2)
+    ]
+field_at_place bytes place false f s e =
+    let at : header_at bytes ≡ Err fault.Raw = rw s refl in
+    let same : fault.Raw ≡ fault.Field place = err_is (Contents × ℕ) fault.Raw (fault.Field place) (sym at ∙ e) in
+    absurd cc
+
+field_told : (bytes : List ℕ) (place : ℕ) → HasOtherLetterAt bytes place → header_at bytes ≡ Err (fault.Field place)
+unfolding header_at layout_at
+field_told bytes place (behind, front, h, w) =
+    let told = other_told (length bytes) w.done w.contents w.next w.later w.other w.rest w.hold w.differs in
+    let l = w.left_is in
+    let back : length bytes - length (w.other ∷ w.rest) ≡ place = omega (arith, l, h) in
+    let fields : fields_at (length bytes) layout behind ≡ Err (fault.Field place) = rw (w.fields_are, w.bytes_are) told ∙ ap (λ n. failed (List (List ℕ) × List ℕ) (fault.Field n)) back in
+    let layout_told : layout_at (length bytes) behind ≡ Err (fault.Field place) = rw fields refl in
+    ap header_at front ∙ ap (λ n. layout_at n behind) (sym (ap length front)) ∙ layout_told
+
+pub is_other : {X : Type 0} (view : X → Contents × ℕ) (result : Result X HeaderFault) (bytes : List ℕ) → AreBytes bytes → Gives view result (header_at bytes) → (place : ℕ) →
+    IsErrOf result (fault.Field place) ↔ HasOtherLetterAt bytes place
+is_other view (Ok x) bytes f g place =
+    (λ i. absurd (ok_not_err x (fault.Field place) i), λ w. absurd (ok_not_err (view x) (fault.Field place) (sym g ∙ field_told bytes place w)))
+is_other {X = X} view (Err d) bytes f g place = (
+  λ i. field_at_place bytes place (starts_with nat_eq bytes fixed_bytes) f refl (g ∙ ap (failed (Contents × ℕ)) (err_is X d (fault.Field place) i)),
+  λ w. ap (failed X) (err_is (Contents × ℕ) d (fault.Field place) (sym g ∙ field_told bytes place w)),
+)
 
 -- ---- the fixed bytes of a piece
 

@@ -1,5 +1,5 @@
 -- The header in front of a stream, as a list of fields (not in UG470: the layout that the vendor's tool writes).
-use Rattle.std.specs.Prelude.{◌≡◌, ℕ, ◌/◌, ◌%◌, ◌<◌, ◌^◌, List, [], ◌∷◌, ◌++◌, length}
+use Rattle.std.specs.Prelude.{◌≡◌, ◌≢◌, ◌≤◌, ◌-◌, ℕ, ◌/◌, ◌%◌, ◌<◌, ◌^◌, List, [], ◌∷◌, ◌++◌, length}
 use Rattle.x7_words.specs.Word.{bytes_of_word}
 use Rattle.x7_header.specs.declared.header.Head.{Head}
 
@@ -47,6 +47,32 @@ abbrev pub fields_bytes : List Field → List (List ℕ) → List ℕ
 fields_bytes (field ∷ fields) (content ∷ contents) = field_bytes field content ++ fields_bytes fields contents
 fields_bytes (field ∷ fields) [] = []
 fields_bytes [] contents = []
+
+-- each field holds what it can hold
+abbrev pub Hold : List Field → List (List ℕ) → Type 0
+Hold (field ∷ fields) (content ∷ contents) = Holds field.kind content × Hold fields contents
+Hold (field ∷ fields) [] = ⊥
+Hold [] (content ∷ contents) = ⊥
+Hold [] [] = Unit {0}
+
+-- behind whole fields, the first of these, stands another byte than the next field's letter, with `left` bytes from it on
+pub record HasOtherLetter (fields : List Field) (bytes : List ℕ) (left : ℕ) : Type 0 where
+  pub done : List Field
+  pub contents : List (List ℕ)
+  pub next : Field
+  pub later : List Field
+  pub other : ℕ
+  pub rest : List ℕ
+  pub fields_are : fields ≡ done ++ next ∷ later
+  pub hold : Hold done contents
+  pub bytes_are : bytes ≡ fields_bytes done contents ++ other ∷ rest
+  pub left_is : left ≡ length (other ∷ rest)
+  pub differs : other ≢ next.letter
+
+-- the same of a header: the bytes before the place are its beginning, and a letter is due there
+abbrev pub HasOtherLetterAt : List ℕ → ℕ → Type 0
+HasOtherLetterAt bytes place =
+    (behind : List ℕ) × (bytes ≡ fixed_bytes ++ behind) × (place ≤ length bytes) × HasOtherLetter layout behind (length bytes - place)
 
 -- what the fields of a header hold
 pub record Contents : Type 0 where

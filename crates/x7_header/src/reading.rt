@@ -1,7 +1,7 @@
 //! Reading a header, field by field.
 ghost use Rattle.std.specs.Prelude.{◌≡◌, ◌≢◌, ◌↔◌, IsOkAnd, IsErrOf, ◌≤◌, ◌++◌, ℕ, List, length, take, drop, IfOk, Ok};
 ghost use Rattle.x7_words.specs.Word.{bytes_of_word, word_of_bytes};
-ghost use Rattle.x7_header.specs.Header.{Kind, Contents, HaveHeader, contents_of, fixed_bytes, header_bytes};
+ghost use Rattle.x7_header.specs.Header.{Kind, Contents, HaveHeader, HasOtherLetterAt, contents_of, fixed_bytes, header_bytes};
 ghost use Rattle.x7_header.specs.Reading.{Gives, letter_at, bytes_at, field_at, fixed_at, layout_at, header_at};
 
 use crate::fault::HeaderFault;
@@ -50,6 +50,8 @@ pub fn header_of(bytes: &[u8]) -> Result<Head<'_>, HeaderFault>
         IsOkAnd result (λ head. contents_of head ≡ x) }
     ensures raw { IsErrOf result HeaderFault.Raw ↔ ((rest : List ℕ) → bytes.now ≢ fixed_bytes ++ rest) }
     ensures cut { (place : ℕ) → IsErrOf result (HeaderFault.Cut place) → place ≡ length bytes.now }
+    // `Field` is told exactly where the bytes before the place begin a header, a letter is due there, and another byte stands there.
+    ensures field { (place : ℕ) → IsErrOf result (HeaderFault.Field place) ↔ HasOtherLetterAt bytes.now place }
     // Which fault it is, field by field.
     ensures exact { Gives (λ head. (contents_of head, head.size)) result (header_at bytes.now) }
 {

@@ -73,7 +73,11 @@ fn frames_of_other_widths(rt: HostRuntime) -> Result<(), Fail> {
         let copied = memory.copy(rt.alloc())?;
         let words = [(0, 0), (1, 9), (0x0040_0000, 7), (0x0040_0001, 0)];
         for (far, word) in words {
-            assert_eq!(rt; copied.frame(&part, far), Some(&[word; 255][..width]), "{width}");
+            assert_eq!(rt;
+                copied.frame(&part, far),
+                Some(&[word; 255][..width]),
+                "{width}"
+            );
         }
     }
     Ok(())

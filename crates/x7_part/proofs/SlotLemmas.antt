@@ -250,9 +250,9 @@ next_is far l [] x y rises (k, low, e) = absurd (omega arith)
 next_is far l (r ∷ rows) x y rises has =
     elim (Contains-append_cases (addresses_of far r) (addresses far rows) x has) [
       | inl here ↦ (
-          λ s. here_next far r rows l x y rises here (ap (λ t. get_or t 1 End) (sym (flat far r rows l x y rises)) ∙ s),
-          λ f. ap (λ t. get_or t 1 End) (flat far r rows l x y rises) ∙ here_frame far r rows l x y rises here f.0 f.1,
-        )
+        λ s. here_next far r rows l x y rises here (ap (λ t. get_or t 1 End) (sym (flat far r rows l x y rises)) ∙ s),
+        λ f. ap (λ t. get_or t 1 End) (flat far r rows l x y rises) ∙ here_frame far r rows l x y rises here f.0 f.1,
+      )
       | inr behind ↦
           let ih = next_is far (rises_behind l (addresses_of far r) (addresses far rows) rises).0 rows x y (rises_behind l (addresses_of far r) (addresses far rows) rises).1 behind in
           let same = flat far r rows l x y rises ∙ skips x (addresses_of far r) (Pad ∷ Pad ∷ slots far rows) (λ here. not_both far r rows l x y rises here behind) in (

@@ -13,7 +13,7 @@ use crate::fault::{PartFault, PartKey};
 use crate::lookup::items;
 use crate::part::Part;
 use crate::row::{Row, check_same_rows, frame_count};
-use crate::values::{rows_of, value_or};
+use crate::values::{USUAL_WORDS, rows_of, value_or};
 use std::alloc::Global;
 use toml::Table;
 
@@ -76,7 +76,7 @@ pub fn part_of(alloc: Global, text: &[u8]) -> Result<Part, PartFault>
     let table = table_in(alloc, text)?;
     check_values(&table)?;
     let rows = rows_of(alloc, items(&table, PartKey::Row))?;
-    let words = value_or(101, &table, PartKey::FrameWords, 255);
+    let words = value_or(USUAL_WORDS, &table, PartKey::FrameWords, 255);
     check_rows(words, &rows)?;
     Ok(Part::of_table(alloc, &table, rows)?)
 }

@@ -19,7 +19,7 @@ use crate::lookup::text;
 use crate::row::{self, Row};
 use crate::slot::Slot;
 use crate::table::table_of;
-use crate::values::{fields, value_or};
+use crate::values::{USUAL_WORDS, fields, value_or};
 use std::alloc::{AllocError, Global};
 use std::marker::Model;
 use toml::Table;
@@ -71,7 +71,7 @@ impl Part {
             bus_width: value_or(0, table, PartKey::BusWidth, 3) as u8,
             lock: value_or(0, table, PartKey::Lock, 65_535) as u16,
             matched: value_or(0, table, PartKey::Match, 65_535) as u16,
-            words: value_or(101, table, PartKey::FrameWords, 255) as u8,
+            words: value_or(USUAL_WORDS, table, PartKey::FrameWords, 255) as u8,
             far,
             start_unit: value_or(1, table, PartKey::StartUnit, 256) as u16,
             rows,

@@ -14,6 +14,9 @@ use crate::row::Row;
 use std::alloc::{AllocError, Global};
 use toml::{Table, Value};
 
+/// The words of a frame where a part file doesn't say (UG470, frame data).
+pub const USUAL_WORDS: u32 = 101;
+
 /// A number that lies between 0 and `high`.
 fn natural(number: i64, high: u32) -> u32
     requires { is_in 0 high number ≡ true }

@@ -1,7 +1,7 @@
 use Rattle.std.proofs.Common.{◌<◌, arith}
 use Rattle.x7_words.proofs.ListLemmas.{all_from_places}
 use Rattle.x7_header.specs.Header.{contents_of}
-use Rattle.x7_header.proofs.HeaderLemmas.{is_cut, is_found, is_only, is_raw, is_short}
+use Rattle.x7_header.proofs.HeaderLemmas.{is_cut, is_found, is_only, is_other, is_raw, is_short}
 use Rattle.x7_header.proofs.reading.header_of.Goals as goal
 
 pub returns-clause-found : goal.returns-clause-found
@@ -11,6 +11,10 @@ returns-clause-found c =
 pub returns-clause-limit : goal.returns-clause-limit
 returns-clause-limit c =
     is_short (λ head. (contents_of head, head.size)) c.head_of.result c.args.bytes.now (all_from_places (λ b. b < 256) c.args.bytes.now (λ k l. omega (arith, c.type_inv.bytes k))) c.head_of.ensures
+
+pub returns-clause-field : goal.returns-clause-field
+returns-clause-field c =
+    is_other (λ head. (contents_of head, head.size)) c.head_of.result c.args.bytes.now (all_from_places (λ b. b < 256) c.args.bytes.now (λ k l. omega (arith, c.type_inv.bytes k))) c.head_of.ensures
 
 pub returns-clause-only : goal.returns-clause-only
 returns-clause-only c =

@@ -1,0 +1,119 @@
+//! Asks a large part ten million questions of one kind, and as many of a sorted list: bench/asks times them.
+#![tactic(auto)]
+
+use std::alloc::{AllocError, Global};
+use std::io;
+use std::process::ExitCode;
+use x7_part::{Part, PartFault, Slot, part_of};
+
+/// How many questions are asked.
+const QUESTIONS: u32 = 10_000_000;
+
+/// A part file of 192 rows with 131,072 frames: 128 rows of 683, and 64 of 682.
+fn part_text(alloc: Global) -> Result<String, AllocError> {
+    let rows = [
+        "0", "1", "2", "3", "4", "5", "6", "7", "8", "9", "10", "11", "12", "13", "14", "15", "16",
+        "17", "18", "19", "20", "21", "22", "23", "24", "25", "26", "27", "28", "29", "30", "31",
+    ];
+    let mut text = String::from_str(alloc, "name = \"large\"\nidcode = 1\n")?;
+    for (block, minors) in [("0", "107"), ("1", "107"), ("2", "106")] {
+        for half in ["0", "1"] {
+            for row in rows {
+                text.push_str("[[row]]\nblock = ")?;
+                text.push_str(block)?;
+                text.push_str("\nhalf = ")?;
+                text.push_str(half)?;
+                text.push_str("\nrow = ")?;
+                text.push_str(row)?;
+                text.push_str(
+                    "\nminors = [36, 36, 36, 36, 36, 36, 36, 36, 36, 36, 36, 36, 36, 36, 36, 36, ",
+                )?;
+                text.push_str(minors)?;
+                text.push_str("]\n")?;
+            }
+        }
+    }
+    Ok(text)
+}
+
+/// The next of numbers in no order.
+fn next_number(x: u32) -> u32 {
+    x.wrapping_mul(1_664_525).wrapping_add(1_013_904_223)
+}
+
+/// One question about a frame, by its rank and its address.
+fn ask(part: &Part, kind: &str, addresses: &[u32], rank: u32, far: u32) -> u64 {
+    match kind {
+        "sorted" => match addresses.binary_search(&far) {
+            Ok(place) => place as u64,
+            Err(_) => 0,
+        },
+        "rank" => u64::from(part.rank(far).unwrap_or(0)),
+        "address" => u64::from(part.address(rank).unwrap_or(0)),
+        "next" => u64::from(part.next(far).unwrap_or(0)),
+        "slot_after" => slot_after(part, far, rank),
+        "slots_from" => slots_from(part, far),
+        _ => 0,
+    }
+}
+
+fn slot_after(part: &Part, far: u32, place: u32) -> u64 {
+    if !part.is_address(far) {
+        return 0;
+    }
+    match part.slot_after(far, u64::from(place)) {
+        Slot::Frame(far) => u64::from(far),
+        Slot::Pad => 1,
+        Slot::End => 2,
+    }
+}
+
+fn slots_from(part: &Part, far: u32) -> u64 {
+    if part.is_address(far) {
+        part.slots_from(far)
+    } else {
+        0
+    }
+}
+
+/// The sum of the answers.
+fn ask_all(part: &Part, kind: &str, addresses: &[u32]) -> u64 {
+    let mut sum = 0u64;
+    let mut x = 1u32;
+    for _question in 0..QUESTIONS {
+        x = next_number(x);
+        let rank = (x >> 8) % part.frames();
+        let far = match addresses.get(rank as usize) {
+            Some(far) => *far,
+            None => 0,
+        };
+        sum = sum.wrapping_add(ask(part, kind, addresses, rank, far));
+    }
+    sum
+}
+
+/// All addresses in order.
+fn addresses_of(alloc: Global, part: &Part) -> Result<Vec<u32>, AllocError> {
+    let mut addresses = Vec::new(alloc);
+    for rank in 0..part.frames() {
+        addresses.push(part.address(rank).unwrap_or(0))?;
+    }
+    Ok(addresses)
+}
+
+fn answer(alloc: Global, kind: &str) -> Result<u64, PartFault> {
+    let text = part_text(alloc)?;
+    let part = part_of(alloc, text.as_bytes())?;
+    let addresses = addresses_of(alloc, &part)?;
+    Ok(ask_all(&part, kind, &addresses))
+}
+
+fn main(rt: HostRuntime) -> io::Result<ExitCode> {
+    for word in std::env::args(&rt)?.skip(1) {
+        match answer(rt.alloc(), word.as_str()) {
+            Ok(sum) => println!(rt; "{word} {sum}")?,
+            Err(_) => return Ok(ExitCode::from(1)),
+        }
+    }
+    Ok(ExitCode::SUCCESS)
+}
