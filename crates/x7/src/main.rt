@@ -1,5 +1,6 @@
 //! The program `x7`: the real objects of the system, and the command over them.
 #![tactic(auto)]
+
 ghost use Rattle.std.specs.Prelude.{◌≡◌};
 ghost use Rattle.std.specs.Process.{exit_status};
 ghost use Rattle.x7_tool.specs.Message.{number_of};

@@ -20,7 +20,9 @@ use std::alloc::Global;
 use std::{fs, io};
 
 /// The files of cases, each with the end `.txt`.
-const SUBJECTS: [&str; 8] = ["list", "asm", "play", "startup", "mcs", "parts", "faults", "limits"];
+const SUBJECTS: [&str; 8] = [
+    "list", "asm", "play", "startup", "mcs", "parts", "faults", "limits",
+];
 
 /// The report of one file of cases.
 fn report(alloc: Global, subject: &str, part: &[u8], text: &str) -> Result<String, Fault> {

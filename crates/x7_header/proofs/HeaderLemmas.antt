@@ -388,20 +388,22 @@ other_letter total place (field ∷ fields) bytes f h e =
           let long = length-append (field_bytes field there.0.0) there.0.1 in
           elim (bind_err (fields_at total fields there.0.1) (λ others. Ok (there.0.0 ∷ others.0, others.1)) (fault.Field place) there.2) [
             | inl later ↦
-                let w = other_letter total place fields there.0.1 (all_back (λ c. c < 256) (field_bytes field there.0.0) there.0.1 fits) (omega (arith, h, ap length t.0, long)) later in
-                (w.0, record {
-                  done = field ∷ w.1.done;
-                  contents = there.0.0 ∷ w.1.contents;
-                  next = w.1.next;
-                  later = w.1.later;
-                  other = w.1.other;
-                  rest = w.1.rest;
-                  fields_are = ap (λ fs. field ∷ fs) w.1.fields_are;
-                  hold = (t.1, w.1.hold);
-                  bytes_are = t.0 ∙ ap (λ r. field_bytes field there.0.0 ++ r) w.1.bytes_are ∙ sym (append_assoc (field_bytes field there.0.0) (fields_bytes w.1.done w.1.contents) (w.1.other ∷ w.1.rest));
-                  left_is = w.1.left_is;
-                  differs = w.1.differs;
-                })
+                let w = other_letter total place fields there.0.1 (all_back (λ c. c < 256) (field_bytes field there.0.0) there.0.1 fits) (omega (arith, h, ap length t.0, long)) later in (
+                  w.0,
+                  record {
+                    done = field ∷ w.1.done;
+                    contents = there.0.0 ∷ w.1.contents;
+                    next = w.1.next;
+                    later = w.1.later;
+                    other = w.1.other;
+                    rest = w.1.rest;
+                    fields_are = ap (λ fs. field ∷ fs) w.1.fields_are;
+                    hold = (t.1, w.1.hold);
+                    bytes_are = t.0 ∙ ap (λ r. field_bytes field there.0.0 ++ r) w.1.bytes_are ∙ sym (append_assoc (field_bytes field there.0.0) (fields_bytes w.1.done w.1.contents) (w.1.other ∷ w.1.rest));
+                    left_is = w.1.left_is;
+                    differs = w.1.differs;
+                  },
+                )
             | inr good ↦ absurd (ok_not_err (there.0.0 ∷ good.0.0, good.0.1) (fault.Field place) good.2)
           ]
     ]
