@@ -247,8 +247,7 @@ cut_in_header bytes place false f s e =
 other_more : (bytes more : List ℕ) (place : ℕ) → HasOtherLetterAt bytes place → HasOtherLetterAt (bytes ++ more) place
 other_more bytes more place (after, prefix, h, w) =
     let l = w.left_is in
-    let here = length-append bytes more in
-    (
+    let here = length-append bytes more in (
       after ++ more,
       ap (λ r. r ++ more) prefix,
       omega (arith, h, here),
@@ -272,7 +271,7 @@ header_cut bytes (Ok x) f w e =
     let t = header_takes bytes x f e in
     let more = drop x.1 bytes in
     let both : header_bytes w.header ++ [] ≡ header_bytes x.0 ++ (more ++ w.next ∷ w.missing) =
-        append-nil (header_bytes w.header) ∙ w.goes_on ∙ ap (λ r. r ++ w.next ∷ w.missing) t.prefix ∙ append_assoc (header_bytes x.0) more (w.next ∷ w.missing) in
+    append-nil (header_bytes w.header) ∙ w.goes_on ∙ ap (λ r. r ++ w.next ∷ w.missing) t.prefix ∙ append_assoc (header_bytes x.0) more (w.next ∷ w.missing) in
     let same = header_tells w.header x.0 [] (more ++ w.next ∷ w.missing) w.have_header t.have_header both in
     let a = ap (λ c. length (header_bytes c)) same in
     let b = ap length w.goes_on in
@@ -297,9 +296,9 @@ is_cut view (Ok x) bytes f g place =
     (λ i. absurd (ok_not_err x (fault.Cut place) i), λ w. absurd (ok_not_err (view x) (fault.Cut (length bytes)) (sym g ∙ header_cut bytes (header_at bytes) f w.1 refl)))
 is_cut {X = X} view (Err d) bytes f g place = (
   λ i.
-    let e : header_at bytes ≡ Err (fault.Cut place) = g ∙ ap (failed (Contents × ℕ)) (err_is X d (fault.Cut place) i) in
-    (cut_at bytes place (starts_with nat_eq bytes fixed_bytes) refl e, cut_in_header bytes place (starts_with nat_eq bytes fixed_bytes) f refl e),
+      let e : header_at bytes ≡ Err (fault.Cut place) = g ∙ ap (failed (Contents × ℕ)) (err_is X d (fault.Cut place) i) in
+      (cut_at bytes place (starts_with nat_eq bytes fixed_bytes) refl e, cut_in_header bytes place (starts_with nat_eq bytes fixed_bytes) f refl e),
   λ w.
-    let same : d ≡ fault.Cut (length bytes) = err_is (Contents × ℕ) d (fault.Cut (length bytes)) (sym g ∙ header_cut bytes (header_at bytes) f w.1 refl) in
-    ap (failed X) (same ∙ ap (λ n. fault.Cut n) (sym w.0)),
+      let same : d ≡ fault.Cut (length bytes) = err_is (Contents × ℕ) d (fault.Cut (length bytes)) (sym g ∙ header_cut bytes (header_at bytes) f w.1 refl) in
+      ap (failed X) (same ∙ ap (λ n. fault.Cut n) (sym w.0)),
 )
