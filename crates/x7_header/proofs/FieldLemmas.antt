@@ -1,9 +1,9 @@
 -- Lemmas on one field that is read from a piece of the input: what follows the piece does not change how it is judged.
-use Rattle.std.proofs.Common.{◌≡◌, ℕ, ◌+◌, ◌-◌, ◌*◌, ◌/◌, ◌%◌, ◌≤◌, suc, Bool, true, false, cond, List, [], ◌∷◌, ◌++◌, length, take, drop, Result, Ok, Err, nat_le, nat_eq, refl, sym, ap, ◌∙◌, append_assoc, arith, length-append}
+use Rattle.std.proofs.Common.{◌≡◌, ℕ, ◌+◌, ◌-◌, ◌*◌, ◌≤◌, Bool, true, false, cond, List, [], ◌∷◌, ◌++◌, length, take, drop, Result, Ok, Err, nat_le, nat_eq, refl, sym, ap, ◌∙◌, append_assoc, arith, length-append}
 use Rattle.std.specs.Prelude.{IfOk, IsErrOf}
 use Rattle.x7_words.specs.Word.{AreBytes}
 use Rattle.x7_header.specs.Header.{Kind, Field, field_bytes}
-use Rattle.x7_header.specs.Reading.{Gives, content_at, field_at, text_size}
+use Rattle.x7_header.specs.Reading.{Gives, content_at, field_at}
 use Rattle.x7_header.specs.declared.fault.HeaderFault.{HeaderFault}
 use Rattle.x7_header.specs.declared.fault.HeaderFault.TheVariants as fault
 use Rattle.x7_header.proofs.HeaderLemmas.{field_takes, field_again, err_is}
@@ -52,16 +52,3 @@ is_other {X = X} view (Ok x) total field piece l g place rest i = absurd cc
 is_other {X = X} view (Err d) total field piece l g place rest i =
     let same : d ≡ fault.Field place = err_is X d (fault.Field place) i in
     field_other total field piece rest place l (rw same at g)
-
-size_from : (high low count : ℕ) → high ≡ count / 256 → low ≡ count % 256 → 3 + high * 256 + low ≡ suc (suc (suc count))
-size_from high low count p q = omega (arith, p, q)
-
--- a front that has its count
-pub text_size_is : (letter : ℕ) (text front more : List ℕ) → 3 ≤ length front → field_bytes (record { letter = letter; kind = Kind.Counted }) text ≡ front ++ more → text_size front ≡ length (field_bytes (record { letter = letter; kind = Kind.Counted }) text)
-text_size_is letter text [] more l e = absurd (omega arith)
-text_size_is letter text (a ∷ []) more l e = absurd (omega arith)
-text_size_is letter text (a ∷ b ∷ []) more l e = absurd (omega arith)
-text_size_is letter text (a ∷ b ∷ c ∷ front) more l e =
-    let high : length text / 256 ≡ b = cc in
-    let low : length text % 256 ≡ c = cc in
-    size_from b c (length text) (sym high) (sym low)

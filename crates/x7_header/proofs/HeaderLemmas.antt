@@ -7,7 +7,7 @@ use Rattle.std.proofs.lemmas.Bool.Decides.{Decides-eqb}
 use Rattle.std.proofs.lemmas.Slice.Eq.{starts_is}
 use Rattle.std.specs.List.{AllByRecursion, starts_with}
 use Rattle.x7_words.specs.Word.{AreBytes, bytes_of_word, word_of_bytes}
-use Rattle.x7_words.proofs.ListLemmas.{all_front, all_back, shorter_front}
+use Rattle.x7_words.proofs.ListLemmas.{all_front, all_back}
 use Rattle.x7_words.proofs.WordLemmas.{bytes-words, words-fit}
 use Rattle.x7_header.specs.Header.{fixed_bytes, Kind, Field, layout, Holds, Hold, HasOtherLetter, HasOtherLetterAt, count_bytes, field_bytes, fields_bytes, Contents, listed, HaveHeader, header_bytes}
 use Rattle.x7_header.specs.Reading.{◌>>=◌, letter_at, bytes_at, content_at, field_at, fields_at, contents_from, fixed_at, layout_at, header_at, Gives}
@@ -451,30 +451,3 @@ is_other {X = X} view (Err d) bytes f g place = (
   λ i. field_at_place bytes place (starts_with nat_eq bytes fixed_bytes) f refl (g ∙ ap (failed (Contents × ℕ)) (err_is X d (fault.Field place) i)),
   λ w. ap (failed X) (err_is (Contents × ℕ) d (fault.Field place) (sym g ∙ header_refused bytes place w)),
 )
-
--- ---- the fixed bytes of a piece
-
-fixed_more : (bytes left rest : List ℕ) → fixed_at bytes ≡ Ok left → fixed_at (bytes ++ rest) ≡ Ok (left ++ rest)
-fixed_more bytes left rest e =
-    let p = fixed_takes bytes left e in
-    ap (λ (r : List ℕ). fixed_at (r ++ rest)) p
-
-fixed_raw_at : (bytes rest : List ℕ) (b : Bool) → starts_with nat_eq (bytes ++ rest) fixed_bytes ≡ b → 13 ≤ length bytes → fixed_at bytes ≡ Err fault.Raw → fixed_at (bytes ++ rest) ≡ Err fault.Raw
-fixed_raw_at bytes rest false s l e = rw s refl
-fixed_raw_at bytes rest true s l e =
-    let there = (starts_is Decides-eqb (bytes ++ rest) fixed_bytes (starts_with nat_eq (bytes ++ rest) fixed_bytes) refl).0 s in
-    let m = shorter_front fixed_bytes bytes (drop 13 (bytes ++ rest)) rest l (sym there) in
-    let read : fixed_at bytes ≡ Ok m.0 = ap fixed_at m.1 in
-    absurd (ok_not_err m.0 fault.Raw (sym read ∙ e))
-
-pub is_fixed_more : {X : Type 0} (view : X → List ℕ) (result : Result X HeaderFault) (bytes : List ℕ) → Gives view result (fixed_at bytes) →
-    IfOk result (λ x. (rest : List ℕ) → fixed_at (bytes ++ rest) ≡ Ok (view x ++ rest))
-is_fixed_more view (Ok x) bytes g = λ rest. fixed_more bytes (view x) rest g
-is_fixed_more view (Err d) bytes g = tt
-
-pub is_fixed_raw : {X : Type 0} (view : X → List ℕ) (result : Result X HeaderFault) (bytes : List ℕ) → Gives view result (fixed_at bytes) →
-    (rest : List ℕ) → 13 ≤ length bytes → IsErrOf result fault.Raw → fixed_at (bytes ++ rest) ≡ Err fault.Raw
-is_fixed_raw view (Ok x) bytes g rest l i = absurd (ok_not_err x fault.Raw i)
-is_fixed_raw {X = X} view (Err d) bytes g rest l i =
-    let same : d ≡ fault.Raw = err_is X d fault.Raw i in
-    fixed_raw_at bytes rest (starts_with nat_eq (bytes ++ rest) fixed_bytes) refl l (rw same at g)

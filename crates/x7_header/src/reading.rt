@@ -5,7 +5,7 @@ ghost use Rattle.x7_header.specs.Header.{Kind, Contents, HaveHeader, EndsInHeade
 ghost use Rattle.x7_header.specs.Reading.{Gives, letter_at, bytes_at, field_at, fixed_at, layout_at, header_at};
 
 use crate::fault::HeaderFault;
-use crate::field::{fixed_bytes_at, number_at, text_at};
+use crate::field::{behind_fixed_bytes, number_at, text_at};
 use crate::header::Head;
 
 /// The fields after the fixed bytes, of an input of so many bytes.
@@ -34,7 +34,7 @@ fn fields(bytes: &[u8], total: usize) -> Result<Head<'_>, HeaderFault>
 fn head_of(bytes: &[u8]) -> Result<Head<'_>, HeaderFault>
     ensures { Gives (λ head. (contents_of head, head.size)) result (header_at bytes.now) }
 {
-    fields(fixed_bytes_at(bytes)?, bytes.len())
+    fields(behind_fixed_bytes(bytes)?, bytes.len())
 }
 
 /// The header at the beginning of the bytes. What follows it is not looked at.
