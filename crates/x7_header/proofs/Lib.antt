@@ -1,4 +1,3 @@
 pub mod CutLemmas
-pub mod FieldLemmas
 pub mod HeaderLemmas
 pub mod StepLemmas

@@ -47,35 +47,6 @@ fn first_bytes(bytes: &[u8], count: usize, total: usize) -> Result<(&[u8], &[u8]
     Ok(bytes.split_at(count))
 }
 
-/// The text of the field of this letter, and what follows it.
-#[tactic(auto, unfolding(crate::specs::Reading::field_at))]
-pub(crate) fn text_at(bytes: &[u8], letter: u8, total: usize) -> Result<(&[u8], &[u8]), HeaderFault>
-    requires { length bytes.now ≤ total }
-    ensures value { Gives (λ x. (x.0.now, x.1.now)) result
-        (field_at total (record { letter = letter; kind = Kind.Counted }) bytes.now) }
-    ensures within { IfOk result (λ x. length x.1.now ≤ total) }
-{
-    match after_letter(bytes, letter, total)? {
-        [high, low, rest @ ..] => {
-            first_bytes(rest, usize::from(*high) * 256 + usize::from(*low), total)
-        }
-        _ => Err(HeaderFault::Cut(total)),
-    }
-}
-
-/// The number of the field of this letter, and what follows it.
-#[tactic(auto, unfolding(crate::specs::Reading::field_at))]
-pub(crate) fn number_at(bytes: &[u8], letter: u8, total: usize) -> Result<(u32, &[u8]), HeaderFault>
-    requires { length bytes.now ≤ total }
-    ensures value { Gives (λ x. (bytes_of_word x.0, x.1.now)) result
-        (field_at total (record { letter = letter; kind = Kind.Four }) bytes.now) }
-    ensures word { IfOk result (λ x. word_of_bytes (bytes_of_word x.0) ≡ x.0) }
-    ensures within { IfOk result (λ x. length x.1.now ≤ total) }
-{
-    let (number, rest) = first_bytes(after_letter(bytes, letter, total)?, 4, total)?;
-    Ok((word_of([number[0], number[1], number[2], number[3]]), rest))
-}
-
 /// How many bytes the field of text has of which this is a prefix, with its letter: 3 until its count is there.
 pub fn size_of_text_field(prefix: &[u8]) -> usize
     ensures value { result ≡ text_size prefix.now }
@@ -91,10 +62,13 @@ pub fn size_of_text_field(prefix: &[u8]) -> usize
 }
 
 /// The text of the field of this letter, and what follows it.
+#[tactic(auto, unfolding(crate::specs::Reading::field_at))]
 pub fn text_field(bytes: &[u8], letter: u8, total: usize) -> Result<(&[u8], &[u8]), HeaderFault>
     requires { length bytes.now ≤ total }
     ensures value { Gives (λ x. (x.0.now, x.1.now)) result
         (field_at total (record { letter = letter; kind = Kind.Counted }) bytes.now) }
+    // What follows is left of the bytes.
+    ensures within { IfOk result (λ x. length x.1.now ≤ length bytes.now) }
     // A field that is whole is judged alike whatever follows.
     ensures more { IfOk result (λ x. (all : ℕ) (rest : List ℕ) →
         field_at all (record { letter = letter; kind = Kind.Counted }) (bytes.now ++ rest)
@@ -104,14 +78,24 @@ pub fn text_field(bytes: &[u8], letter: u8, total: usize) -> Result<(&[u8], &[u8
         field_at (total + length rest) (record { letter = letter; kind = Kind.Counted }) (bytes.now ++ rest)
         ≡ Err (HeaderFault.Field place) }
 {
-    text_at(bytes, letter, total)
+    match after_letter(bytes, letter, total)? {
+        [high, low, rest @ ..] => {
+            first_bytes(rest, usize::from(*high) * 256 + usize::from(*low), total)
+        }
+        _ => Err(HeaderFault::Cut(total)),
+    }
 }
 
 /// The number of the field of this letter, and what follows it.
+#[tactic(auto, unfolding(crate::specs::Reading::field_at))]
 pub fn number_field(bytes: &[u8], letter: u8, total: usize) -> Result<(u32, &[u8]), HeaderFault>
     requires { length bytes.now ≤ total }
     ensures value { Gives (λ x. (bytes_of_word x.0, x.1.now)) result
         (field_at total (record { letter = letter; kind = Kind.Four }) bytes.now) }
+    // The number is the word of the field's four bytes.
+    ensures word { IfOk result (λ x. word_of_bytes (bytes_of_word x.0) ≡ x.0) }
+    // What follows is left of the bytes.
+    ensures within { IfOk result (λ x. length x.1.now ≤ length bytes.now) }
     // A field that is whole is judged alike whatever follows.
     ensures more { IfOk result (λ x. (all : ℕ) (rest : List ℕ) →
         field_at all (record { letter = letter; kind = Kind.Four }) (bytes.now ++ rest)
@@ -121,5 +105,6 @@ pub fn number_field(bytes: &[u8], letter: u8, total: usize) -> Result<(u32, &[u8
         field_at (total + length rest) (record { letter = letter; kind = Kind.Four }) (bytes.now ++ rest)
         ≡ Err (HeaderFault.Field place) }
 {
-    number_at(bytes, letter, total)
+    let (number, rest) = first_bytes(after_letter(bytes, letter, total)?, 4, total)?;
+    Ok((word_of([number[0], number[1], number[2], number[3]]), rest))
 }

@@ -5,7 +5,7 @@ ghost use Rattle.x7_header.specs.Header.{Kind, Contents, HaveHeader, EndsInHeade
 ghost use Rattle.x7_header.specs.Reading.{Gives, letter_at, bytes_at, field_at, fixed_at, layout_at, header_at};
 
 use crate::fault::HeaderFault;
-use crate::field::{behind_fixed_bytes, number_at, text_at};
+use crate::field::{behind_fixed_bytes, number_field, text_field};
 use crate::header::Head;
 
 /// The fields after the fixed bytes, of an input of so many bytes.
@@ -14,11 +14,11 @@ fn fields(bytes: &[u8], total: usize) -> Result<Head<'_>, HeaderFault>
     requires { length bytes.now ≤ total }
     ensures { Gives (λ head. (contents_of head, head.size)) result (layout_at total bytes.now) }
 {
-    let (a, rest) = text_at(bytes, b'a', total)?;
-    let (b, rest) = text_at(rest, b'b', total)?;
-    let (c, rest) = text_at(rest, b'c', total)?;
-    let (d, rest) = text_at(rest, b'd', total)?;
-    let (length, rest) = number_at(rest, b'e', total)?;
+    let (a, rest) = text_field(bytes, b'a', total)?;
+    let (b, rest) = text_field(rest, b'b', total)?;
+    let (c, rest) = text_field(rest, b'c', total)?;
+    let (d, rest) = text_field(rest, b'd', total)?;
+    let (length, rest) = number_field(rest, b'e', total)?;
     Ok(Head {
         a,
         b,
