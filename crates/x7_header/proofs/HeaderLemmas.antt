@@ -7,7 +7,7 @@ use Rattle.std.proofs.lemmas.Bool.Decides.{Decides-eqb}
 use Rattle.std.proofs.lemmas.Slice.Eq.{starts_is}
 use Rattle.std.specs.List.{AllByRecursion, starts_with}
 use Rattle.x7_words.specs.Word.{AreBytes, bytes_of_word, word_of_bytes}
-use Rattle.x7_words.proofs.ListLemmas.{all_front, all_back, shorter_front}
+use Rattle.x7_words.proofs.ListLemmas.{all_front, all_back}
 use Rattle.x7_words.proofs.WordLemmas.{bytes-words, words-fit}
 use Rattle.x7_header.specs.Header.{fixed_bytes, Kind, Field, layout, Holds, Hold, HasOtherLetter, HasOtherLetterAt, count_bytes, field_bytes, fields_bytes, Contents, listed, HaveHeader, header_bytes}
 use Rattle.x7_header.specs.Reading.{◌>>=◌, letter_at, bytes_at, content_at, field_at, fields_at, contents_from, fixed_at, layout_at, header_at, Gives}
@@ -57,17 +57,17 @@ fields_again total (field ∷ fields) (content ∷ contents) rest h =
 word-bytes : (w : ℕ) → w < 2 ^ 32 → word_of_bytes (bytes_of_word w) ≡ w
 word-bytes w h = omega arith
 
--- a header that stands at the front is read, with its size
+-- a header that stands at the beginning is read, with its size
 pub header_again : (x : Contents) (rest : List ℕ) → HaveHeader x → header_at (header_bytes x ++ rest) ≡ Ok (x, length (header_bytes x))
 unfolding header_at layout_at
 header_again x rest h =
     let size : length (header_bytes x ++ rest) - length rest ≡ length (header_bytes x) = omega (arith, length-append (header_bytes x) rest) in
     rw (fields_again (length (header_bytes x ++ rest)) layout (listed x) rest (h.a, (h.b, (h.c, (h.d, (refl, tt))))), size, word-bytes x.data_length h.data_length) refl
 
-abbrev done : {A : Type 0} → A → Result A HeaderFault
+abbrev pub done : {A : Type 0} → A → Result A HeaderFault
 done x = Ok x
 
-abbrev failed : (A : Type 0) → HeaderFault → Result A HeaderFault
+abbrev pub failed : (A : Type 0) → HeaderFault → Result A HeaderFault
 failed A d = Err d
 
 ok_is : {A : Type 0} (x y : A) → done x ≡ done y → x ≡ y
@@ -76,7 +76,7 @@ ok_is x y e = cc
 pub err_is : (A : Type 0) (d e : HeaderFault) → failed A d ≡ failed A e → d ≡ e
 err_is A d e p = cc
 
-ok_not_err : {A : Type 0} (x : A) (d : HeaderFault) → done x ≡ Err d → ⊥
+pub ok_not_err : {A : Type 0} (x : A) (d : HeaderFault) → done x ≡ Err d → ⊥
 ok_not_err x d e = cc
 
 -- no two heads have the same bytes, whatever follows them
@@ -89,7 +89,7 @@ header_same x y p q e = header_tells x y [] [] p q (ap (λ (r : List ℕ). r ++ 
 
 -- ---- what is read is written so
 
-letter_takes : (total letter : ℕ) (bytes rest : List ℕ) → letter_at total letter bytes ≡ Ok rest → bytes ≡ letter ∷ rest
+pub letter_takes : (total letter : ℕ) (bytes rest : List ℕ) → letter_at total letter bytes ≡ Ok rest → bytes ≡ letter ∷ rest
 letter_takes total letter [] rest e = absurd cc
 letter_takes total letter (first ∷ bytes) rest e =
     let t = test_ok (nat_eq first letter) (fault.Field (total - length (first ∷ bytes))) bytes rest e in
@@ -105,10 +105,10 @@ record Takes (kind : Kind) (bytes : List ℕ) (x : List ℕ × List ℕ) : Type 
   pub parts : bytes ≡ count_bytes kind x.0 ++ (x.0 ++ x.1)
   pub holds : Holds kind x.0
 
-count_again : (high low count : ℕ) → high < 256 → low < 256 → count ≡ high * 256 + low → (high ≡ count / 256) × (low ≡ count % 256) × (count < 2 ^ 16)
+pub count_again : (high low count : ℕ) → high < 256 → low < 256 → count ≡ high * 256 + low → (high ≡ count / 256) × (low ≡ count % 256) × (count < 2 ^ 16)
 count_again high low count h l e = (omega arith, omega arith, omega arith)
 
-two_and : (a b c d : ℕ) (xs ys : List ℕ) → a ≡ c → b ≡ d → xs ≡ ys → a ∷ b ∷ xs ≡ c ∷ d ∷ ys
+pub two_and : (a b c d : ℕ) (xs ys : List ℕ) → a ≡ c → b ≡ d → xs ≡ ys → a ∷ b ∷ xs ≡ c ∷ d ∷ ys
 two_and a b c d xs ys p q r = rw (p, q, r) refl
 
 content_takes : (total : ℕ) (kind : Kind) (bytes : List ℕ) (x : List ℕ × List ℕ) → AreBytes bytes → content_at total kind bytes ≡ Ok x → Takes kind bytes x
@@ -164,11 +164,11 @@ four_again (a ∷ b ∷ c ∷ d ∷ x ∷ more) f l = absurd (omega (arith, l))
 four_again (a ∷ b ∷ c ∷ d ∷ []) f l = (bytes-words (a ∷ b ∷ c ∷ d ∷ []) 1 f refl, (words-fit (a ∷ b ∷ c ∷ d ∷ []) f).0)
 
 -- fields that hold what the layout's can are those of a head
-record FromHead (contents : List (List ℕ)) : Type 0 where
+pub record FromHead (contents : List (List ℕ)) : Type 0 where
   pub listed_again : listed (contents_from contents) ≡ contents
   pub have_header : HaveHeader (contents_from contents)
 
-from_layout : (contents : List (List ℕ)) → Hold layout contents → AllByRecursion AreBytes contents → FromHead contents
+pub from_layout : (contents : List (List ℕ)) → Hold layout contents → AllByRecursion AreBytes contents → FromHead contents
 from_layout [] h f = absurd h
 from_layout (a ∷ []) h f = absurd h.1
 from_layout (a ∷ b ∷ []) h f = absurd h.1.1
@@ -182,14 +182,14 @@ from_layout (a ∷ b ∷ c ∷ d ∷ e ∷ []) h f =
       have_header = record { a = h.0; b = h.1.0; c = h.1.1.0; d = h.1.1.1.0; data_length = w.1 };
     }
 
--- what was read is at the front, with its size
-pub record IsFront (bytes : List ℕ) (x : Contents × ℕ) : Type 0 where
+-- what was read stands at the beginning, with its size
+pub record IsPrefix (bytes : List ℕ) (x : Contents × ℕ) : Type 0 where
   pub have_header : HaveHeader x.0
-  pub front : bytes ≡ header_bytes x.0 ++ drop x.1 bytes
+  pub prefix : bytes ≡ header_bytes x.0 ++ drop x.1 bytes
   pub size : x.1 ≡ length (header_bytes x.0)
 
-front_of : (bytes header rest : List ℕ) → bytes ≡ header ++ rest → (length bytes - length rest ≡ length header) × (bytes ≡ header ++ drop (length bytes - length rest) bytes)
-front_of bytes header rest e =
+prefix_of : (bytes header rest : List ℕ) → bytes ≡ header ++ rest → (length bytes - length rest ≡ length header) × (bytes ≡ header ++ drop (length bytes - length rest) bytes)
+prefix_of bytes header rest e =
     let n : length bytes - length rest ≡ length header = omega (arith, ap length e, length-append header rest) in
     (n, e ∙ ap (λ (r : List ℕ). header ++ r) (sym (rw (n, e) (drop_at header rest (length header) refl))))
 
@@ -198,7 +198,7 @@ fixed_takes bytes rest e =
     let t = test_ok (starts_with nat_eq bytes fixed_bytes) fault.Raw (drop 13 bytes) rest e in
     (starts_is Decides-eqb bytes fixed_bytes (starts_with nat_eq bytes fixed_bytes) refl).0 t.0 ∙ ap (λ (r : List ℕ). fixed_bytes ++ r) t.1
 
-pub header_takes : (bytes : List ℕ) (x : Contents × ℕ) → AreBytes bytes → header_at bytes ≡ Ok x → IsFront bytes x
+pub header_takes : (bytes : List ℕ) (x : Contents × ℕ) → AreBytes bytes → header_at bytes ≡ Ok x → IsPrefix bytes x
 unfolding header_at layout_at
 header_takes bytes x f e =
     let a = bind_ok (fixed_at bytes) (layout_at (length bytes)) x e in
@@ -207,15 +207,15 @@ header_takes bytes x f e =
     let t = fields_take (length bytes) layout a.0 b.0 (all_back (λ c. c < 256) fixed_bytes a.0 (subst AreBytes p f)) b.1 in
     let h = from_layout b.0.0 t.hold t.fit in
     let whole : bytes ≡ header_bytes (contents_from b.0.0) ++ b.0.1 = p ∙ ap (λ (r : List ℕ). fixed_bytes ++ r) (t.parts ∙ ap (λ (c : List (List ℕ)). fields_bytes layout c ++ b.0.1) (sym h.listed_again)) in
-    let n = front_of bytes (header_bytes (contents_from b.0.0)) b.0.1 whole in
+    let n = prefix_of bytes (header_bytes (contents_from b.0.0)) b.0.1 whole in
     let made : Contents × ℕ = (contents_from b.0.0, length bytes - length b.0.1) in
-    subst (IsFront bytes) (ok_is made x b.2) (record { have_header = h.have_header; front = n.1; size = n.0 })
+    subst (IsPrefix bytes) (ok_is made x b.2) (record { have_header = h.have_header; prefix = n.1; size = n.0 })
 
 -- ---- the clauses of what reads a header
 
 pub is_found : {X : Type 0} (view : X → Contents × ℕ) (result : Result X HeaderFault) (bytes : List ℕ) → AreBytes bytes → Gives view result (header_at bytes) →
     IfOk result (λ x. HaveHeader (view x).0 × (bytes ≡ header_bytes (view x).0 ++ drop (view x).1 bytes) × ((view x).1 ≡ length (header_bytes (view x).0)))
-is_found view (Ok x) bytes f g = let t = header_takes bytes (view x) f g in (t.have_header, t.front, t.size)
+is_found view (Ok x) bytes f g = let t = header_takes bytes (view x) f g in (t.have_header, t.prefix, t.size)
 is_found view (Err e) bytes f g = tt
 
 header_size : (x : Contents) → length (header_bytes x) ≡ 13 + (3 + length x.a + (3 + length x.b + (3 + length x.c + (3 + length x.d + 5))))
@@ -243,7 +243,7 @@ is_only view (Err d) bytes g x rest h e =
     let again : header_at bytes ≡ Ok (x, length (header_bytes x)) = ap header_at e ∙ header_again x rest h in
     absurd (ok_not_err (x, length (header_bytes x)) d (sym again ∙ g))
 
--- what a fault behind the fixed bytes can be
+-- what a fault after the fixed bytes can be
 abbrev pub IsInside : ℕ → HeaderFault → Type 0
 IsInside total fault.Raw = ⊥
 IsInside total (fault.Cut place) = place ≡ total
@@ -293,8 +293,8 @@ inside_not : {A : Type 0} (total : ℕ) (r : Result A HeaderFault) → FaultInsi
 inside_not total (Ok x) i e = ok_not_err x fault.Raw e
 inside_not total (Err d) i e = subst (FaultInside total) e i
 
--- Raw is told exactly where the fixed bytes aren't at the front
-raw_at : (bytes : List ℕ) (b : Bool) → starts_with nat_eq bytes fixed_bytes ≡ b → (header_at bytes ≡ Err fault.Raw) ↔ ((rest : List ℕ) → bytes ≢ fixed_bytes ++ rest)
+-- Raw comes exactly where the fixed bytes aren't at the beginning
+pub raw_at : (bytes : List ℕ) (b : Bool) → starts_with nat_eq bytes fixed_bytes ≡ b → (header_at bytes ≡ Err fault.Raw) ↔ ((rest : List ℕ) → bytes ≢ fixed_bytes ++ rest)
 unfolding header_at
 raw_at bytes true s =
     let at : header_at bytes ≡ layout_at (length bytes) (drop 13 bytes) = rw s refl in
@@ -316,7 +316,7 @@ is_raw {X = X} view (Err d) bytes g =
     let r = raw_at bytes (starts_with nat_eq bytes fixed_bytes) refl in
     (λ i. r.0 (g ∙ ap (failed (Contents × ℕ)) (err_is X d fault.Raw i)), λ n. ap (failed X) (err_is (Contents × ℕ) d fault.Raw (sym g ∙ r.1 n)))
 
-cut_at : (bytes : List ℕ) (place : ℕ) (b : Bool) → starts_with nat_eq bytes fixed_bytes ≡ b → header_at bytes ≡ Err (fault.Cut place) → place ≡ length bytes
+pub cut_at : (bytes : List ℕ) (place : ℕ) (b : Bool) → starts_with nat_eq bytes fixed_bytes ≡ b → header_at bytes ≡ Err (fault.Cut place) → place ≡ length bytes
 unfolding header_at
 cut_at bytes place true s e =
     let at : header_at bytes ≡ layout_at (length bytes) (drop 13 bytes) = rw s refl in
@@ -326,17 +326,10 @@ cut_at bytes place false s e =
     let same : fault.Raw ≡ fault.Cut place = err_is (Contents × ℕ) fault.Raw (fault.Cut place) (sym at ∙ e) in
     absurd cc
 
--- a cut is told with the input's length
-pub is_cut : {X : Type 0} (view : X → Contents × ℕ) (result : Result X HeaderFault) (bytes : List ℕ) → Gives view result (header_at bytes) → (place : ℕ) → IsErrOf result (fault.Cut place) → place ≡ length bytes
-is_cut view (Ok x) bytes g place i = absurd (ok_not_err x (fault.Cut place) i)
-is_cut {X = X} view (Err d) bytes g place i =
-    let same : d ≡ fault.Cut place = err_is X d (fault.Cut place) i in
-    cut_at bytes place (starts_with nat_eq bytes fixed_bytes) refl (rw same at g)
-
 -- ---- another byte than a letter
 
 -- a step that failed
-bind_err : {A B : Type 0} (r : Result A HeaderFault) (f : A → Result B HeaderFault) (d : HeaderFault) → (r >>= f) ≡ Err d → (r ≡ Err d) ⊎ ((x : A) × (r ≡ Ok x) × (f x ≡ Err d))
+pub bind_err : {A B : Type 0} (r : Result A HeaderFault) (f : A → Result B HeaderFault) (d : HeaderFault) → (r >>= f) ≡ Err d → (r ≡ Err d) ⊎ ((x : A) × (r ≡ Ok x) × (f x ≡ Err d))
 bind_err {A = A} {B = B} (Err c) f d e = inl (ap (failed A) (err_is B c d e))
 bind_err (Ok x) f d e = inr (x, refl, e)
 
@@ -380,7 +373,7 @@ other_letter total place (field ∷ fields) bytes f h e =
     elim (bind_err (field_at total field bytes) (λ first. fields_at total fields first.1 >>= λ others. Ok (first.0 ∷ others.0, others.1)) (fault.Field place) e) [
       | inl here ↦ elim (bind_err (letter_at total field.letter bytes) (content_at total field.kind) (fault.Field place) here) [
         | inl letter ↦ other_first total place field fields bytes h letter
-        | inr behind ↦ absurd (content_no_field total place field.kind behind.0 behind.2)
+        | inr after ↦ absurd (content_no_field total place field.kind after.0 after.2)
       ]
       | inr there ↦
           let t = field_takes total field bytes there.0 f there.1 in
@@ -408,23 +401,23 @@ other_letter total place (field ∷ fields) bytes f h e =
           ]
     ]
 
-letter_told : (total letter other : ℕ) (rest : List ℕ) → other ≢ letter → letter_at total letter (other ∷ rest) ≡ Err (fault.Field (total - length (other ∷ rest)))
-letter_told total letter other rest n = let f : nat_eq other letter ≡ false = ne_eqb other letter n in rw f refl
+letter_refused : (total letter other : ℕ) (rest : List ℕ) → other ≢ letter → letter_at total letter (other ∷ rest) ≡ Err (fault.Field (total - length (other ∷ rest)))
+letter_refused total letter other rest n = let f : nat_eq other letter ≡ false = ne_eqb other letter n in rw f refl
 
-field_told_first : (total : ℕ) (next : Field) (other : ℕ) (rest : List ℕ) → other ≢ next.letter → field_at total next (other ∷ rest) ≡ Err (fault.Field (total - length (other ∷ rest)))
+first_letter_refused : (total : ℕ) (next : Field) (other : ℕ) (rest : List ℕ) → other ≢ next.letter → field_at total next (other ∷ rest) ≡ Err (fault.Field (total - length (other ∷ rest)))
 unfolding field_at
-field_told_first total next other rest n = rw (letter_told total next.letter other rest n) refl
+first_letter_refused total next other rest n = rw (letter_refused total next.letter other rest n) refl
 
-other_told : (total : ℕ) (before : List Field) (contents : List (List ℕ)) (next : Field) (later : List Field) (other : ℕ) (rest : List ℕ) → Hold before contents → other ≢ next.letter →
+other_refused : (total : ℕ) (before : List Field) (contents : List (List ℕ)) (next : Field) (later : List Field) (other : ℕ) (rest : List ℕ) → Hold before contents → other ≢ next.letter →
     fields_at total (before ++ next ∷ later) (fields_bytes before contents ++ other ∷ rest) ≡ Err (fault.Field (total - length (other ∷ rest)))
 unfolding fields_at
-other_told total [] [] next later other rest h n = rw (field_told_first total next other rest n) refl
-other_told total [] (content ∷ contents) next later other rest h n = absurd h
-other_told total (field ∷ before) [] next later other rest h n = absurd h
-other_told total (field ∷ before) (content ∷ contents) next later other rest h n =
-    rw (append_assoc (field_bytes field content) (fields_bytes before contents) (other ∷ rest), field_again total field content (fields_bytes before contents ++ other ∷ rest) h.0, other_told total before contents next later other rest h.1 n) refl
+other_refused total [] [] next later other rest h n = rw (first_letter_refused total next other rest n) refl
+other_refused total [] (content ∷ contents) next later other rest h n = absurd h
+other_refused total (field ∷ before) [] next later other rest h n = absurd h
+other_refused total (field ∷ before) (content ∷ contents) next later other rest h n =
+    rw (append_assoc (field_bytes field content) (fields_bytes before contents) (other ∷ rest), field_again total field content (fields_bytes before contents ++ other ∷ rest) h.0, other_refused total before contents next later other rest h.1 n) refl
 
-field_at_place : (bytes : List ℕ) (place : ℕ) (b : Bool) → AreBytes bytes → starts_with nat_eq bytes fixed_bytes ≡ b → header_at bytes ≡ Err (fault.Field place) → HasOtherLetterAt bytes place
+pub field_at_place : (bytes : List ℕ) (place : ℕ) (b : Bool) → AreBytes bytes → starts_with nat_eq bytes fixed_bytes ≡ b → header_at bytes ≡ Err (fault.Field place) → HasOtherLetterAt bytes place
 unfolding header_at layout_at
 field_at_place bytes place true f s e =
     let there = (starts_is Decides-eqb bytes fixed_bytes (starts_with nat_eq bytes fixed_bytes) refl).0 s in
@@ -440,48 +433,21 @@ field_at_place bytes place false f s e =
     let same : fault.Raw ≡ fault.Field place = err_is (Contents × ℕ) fault.Raw (fault.Field place) (sym at ∙ e) in
     absurd cc
 
-field_told : (bytes : List ℕ) (place : ℕ) → HasOtherLetterAt bytes place → header_at bytes ≡ Err (fault.Field place)
+pub header_refused : (bytes : List ℕ) (place : ℕ) → HasOtherLetterAt bytes place → header_at bytes ≡ Err (fault.Field place)
 unfolding header_at layout_at
-field_told bytes place (behind, front, h, w) =
-    let told = other_told (length bytes) w.done w.contents w.next w.later w.other w.rest w.hold w.differs in
+header_refused bytes place (after, prefix, h, w) =
+    let refused = other_refused (length bytes) w.done w.contents w.next w.later w.other w.rest w.hold w.differs in
     let l = w.left_is in
     let back : length bytes - length (w.other ∷ w.rest) ≡ place = omega (arith, l, h) in
-    let fields : fields_at (length bytes) layout behind ≡ Err (fault.Field place) = rw (w.fields_are, w.bytes_are) told ∙ ap (λ n. failed (List (List ℕ) × List ℕ) (fault.Field n)) back in
-    let layout_told : layout_at (length bytes) behind ≡ Err (fault.Field place) = rw fields refl in
-    ap header_at front ∙ ap (λ n. layout_at n behind) (sym (ap length front)) ∙ layout_told
+    let fields : fields_at (length bytes) layout after ≡ Err (fault.Field place) = rw (w.fields_are, w.bytes_are) refused ∙ ap (λ n. failed (List (List ℕ) × List ℕ) (fault.Field n)) back in
+    let layout_refused : layout_at (length bytes) after ≡ Err (fault.Field place) = rw fields refl in
+    ap header_at prefix ∙ ap (λ n. layout_at n after) (sym (ap length prefix)) ∙ layout_refused
 
 pub is_other : {X : Type 0} (view : X → Contents × ℕ) (result : Result X HeaderFault) (bytes : List ℕ) → AreBytes bytes → Gives view result (header_at bytes) → (place : ℕ) →
     IsErrOf result (fault.Field place) ↔ HasOtherLetterAt bytes place
 is_other view (Ok x) bytes f g place =
-    (λ i. absurd (ok_not_err x (fault.Field place) i), λ w. absurd (ok_not_err (view x) (fault.Field place) (sym g ∙ field_told bytes place w)))
+    (λ i. absurd (ok_not_err x (fault.Field place) i), λ w. absurd (ok_not_err (view x) (fault.Field place) (sym g ∙ header_refused bytes place w)))
 is_other {X = X} view (Err d) bytes f g place = (
   λ i. field_at_place bytes place (starts_with nat_eq bytes fixed_bytes) f refl (g ∙ ap (failed (Contents × ℕ)) (err_is X d (fault.Field place) i)),
-  λ w. ap (failed X) (err_is (Contents × ℕ) d (fault.Field place) (sym g ∙ field_told bytes place w)),
+  λ w. ap (failed X) (err_is (Contents × ℕ) d (fault.Field place) (sym g ∙ header_refused bytes place w)),
 )
-
--- ---- the fixed bytes of a piece
-
-fixed_more : (bytes left rest : List ℕ) → fixed_at bytes ≡ Ok left → fixed_at (bytes ++ rest) ≡ Ok (left ++ rest)
-fixed_more bytes left rest e =
-    let p = fixed_takes bytes left e in
-    ap (λ (r : List ℕ). fixed_at (r ++ rest)) p
-
-fixed_raw_at : (bytes rest : List ℕ) (b : Bool) → starts_with nat_eq (bytes ++ rest) fixed_bytes ≡ b → 13 ≤ length bytes → fixed_at bytes ≡ Err fault.Raw → fixed_at (bytes ++ rest) ≡ Err fault.Raw
-fixed_raw_at bytes rest false s l e = rw s refl
-fixed_raw_at bytes rest true s l e =
-    let there = (starts_is Decides-eqb (bytes ++ rest) fixed_bytes (starts_with nat_eq (bytes ++ rest) fixed_bytes) refl).0 s in
-    let m = shorter_front fixed_bytes bytes (drop 13 (bytes ++ rest)) rest l (sym there) in
-    let read : fixed_at bytes ≡ Ok m.0 = ap fixed_at m.1 in
-    absurd (ok_not_err m.0 fault.Raw (sym read ∙ e))
-
-pub is_fixed_more : {X : Type 0} (view : X → List ℕ) (result : Result X HeaderFault) (bytes : List ℕ) → Gives view result (fixed_at bytes) →
-    IfOk result (λ x. (rest : List ℕ) → fixed_at (bytes ++ rest) ≡ Ok (view x ++ rest))
-is_fixed_more view (Ok x) bytes g = λ rest. fixed_more bytes (view x) rest g
-is_fixed_more view (Err d) bytes g = tt
-
-pub is_fixed_raw : {X : Type 0} (view : X → List ℕ) (result : Result X HeaderFault) (bytes : List ℕ) → Gives view result (fixed_at bytes) →
-    (rest : List ℕ) → 13 ≤ length bytes → IsErrOf result fault.Raw → fixed_at (bytes ++ rest) ≡ Err fault.Raw
-is_fixed_raw view (Ok x) bytes g rest l i = absurd (ok_not_err x fault.Raw i)
-is_fixed_raw {X = X} view (Err d) bytes g rest l i =
-    let same : d ≡ fault.Raw = err_is X d fault.Raw i in
-    fixed_raw_at bytes rest (starts_with nat_eq (bytes ++ rest) fixed_bytes) refl l (rw same at g)

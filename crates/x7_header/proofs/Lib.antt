@@ -1,3 +1,3 @@
-pub mod FieldLemmas
+pub mod CutLemmas
 pub mod HeaderLemmas
 pub mod StepLemmas

@@ -1,13 +1,13 @@
 -- The header in front of a stream, as a list of fields (not in UG470: the layout that the vendor's tool writes).
 use Rattle.std.specs.Prelude.{◌≡◌, ◌≢◌, ◌≤◌, ◌-◌, ℕ, ◌/◌, ◌%◌, ◌<◌, ◌^◌, List, [], ◌∷◌, ◌++◌, length}
-use Rattle.x7_words.specs.Word.{bytes_of_word}
+use Rattle.x7_words.specs.Word.{AreBytes, bytes_of_word}
 use Rattle.x7_header.specs.declared.header.Head.{Head}
 
--- the bytes in front of the first field
+-- the bytes before the first field
 abbrev pub fixed_bytes : List ℕ
 fixed_bytes = 0x00 ∷ 0x09 ∷ 0x0F ∷ 0xF0 ∷ 0x0F ∷ 0xF0 ∷ 0x0F ∷ 0xF0 ∷ 0x0F ∷ 0xF0 ∷ 0x00 ∷ 0x00 ∷ 0x01 ∷ []
 
--- what stands behind a field's letter
+-- what stands after a field's letter
 pub data Kind : Type 0 where
   -- the number of the bytes that follow, in two bytes, the highest first, and these bytes
   Counted : Kind
@@ -55,7 +55,7 @@ Hold (field ∷ fields) [] = ⊥
 Hold [] (content ∷ contents) = ⊥
 Hold [] [] = Unit {0}
 
--- behind whole fields, the first of these, stands another byte than the next field's letter, with `left` bytes from it on
+-- after whole fields, the first of these, stands another byte than the next field's letter, with `left` bytes from it on
 pub record HasOtherLetter (fields : List Field) (bytes : List ℕ) (left : ℕ) : Type 0 where
   pub done : List Field
   pub contents : List (List ℕ)
@@ -72,7 +72,7 @@ pub record HasOtherLetter (fields : List Field) (bytes : List ℕ) (left : ℕ) 
 -- the same of a header: the bytes before the place are its beginning, and a letter is due there
 abbrev pub HasOtherLetterAt : List ℕ → ℕ → Type 0
 HasOtherLetterAt bytes place =
-    (behind : List ℕ) × (bytes ≡ fixed_bytes ++ behind) × (place ≤ length bytes) × HasOtherLetter layout behind (length bytes - place)
+    (after : List ℕ) × (bytes ≡ fixed_bytes ++ after) × (place ≤ length bytes) × HasOtherLetter layout after (length bytes - place)
 
 -- what the fields of a header hold
 pub record Contents : Type 0 where
@@ -96,6 +96,17 @@ pub record HaveHeader (x : Contents) : Type 0 where
 
 abbrev pub header_bytes : Contents → List ℕ
 header_bytes x = fixed_bytes ++ fields_bytes layout (listed x)
+
+-- the input ends inside a header: its fixed bytes are there, and some header begins with the whole input and goes on
+pub record EndsInHeader (bytes : List ℕ) : Type 0 where
+  pub header : Contents
+  pub after : List ℕ
+  pub next : ℕ
+  pub missing : List ℕ
+  pub have_header : HaveHeader header
+  pub fixed_are : bytes ≡ fixed_bytes ++ after
+  pub goes_on : header_bytes header ≡ bytes ++ next ∷ missing
+  pub missing_are : AreBytes (next ∷ missing)
 
 -- what a head holds, wherever it lies
 abbrev pub contents_of : Head → Contents

@@ -16,7 +16,7 @@ abbrev pub Gives : {X Y : Type 0} → (X → Y) → Result X HeaderFault → Res
 Gives view (Ok x) reading = reading ≡ Ok (view x)
 Gives view (Err e) reading = reading ≡ Err e
 
--- All below reads at the front of what is left of an input of `total` bytes.
+-- All below reads at the beginning of what is left of an input of `total` bytes.
 
 -- what follows the letter
 abbrev pub letter_at : ℕ → ℕ → List ℕ → Result (List ℕ) HeaderFault
@@ -27,7 +27,7 @@ letter_at total letter (first ∷ bytes) = if first == letter then Ok bytes else
 abbrev pub bytes_at : ℕ → ℕ → List ℕ → Result (List ℕ × List ℕ) HeaderFault
 bytes_at total count bytes = if nat_le count (length bytes) then Ok (take count bytes, drop count bytes) else Err (fault.Cut total)
 
--- what a field holds, read behind its letter, and what follows it
+-- what a field holds, read after its letter, and what follows it
 abbrev pub content_at : ℕ → Kind → List ℕ → Result (List ℕ × List ℕ) HeaderFault
 content_at total Kind.Four bytes = bytes_at total 4 bytes
 content_at total Kind.Counted (high ∷ low ∷ bytes) = bytes_at total (high * 256 + low) bytes
@@ -37,10 +37,10 @@ content_at total Kind.Counted [] = Err (fault.Cut total)
 -- what a field holds, and what follows it
 unfoldable pub field_at : ℕ → Field → List ℕ → Result (List ℕ × List ℕ) HeaderFault
 field_at total field bytes = do
-  behind ← letter_at total field.letter bytes
-  content_at total field.kind behind
+  after ← letter_at total field.letter bytes
+  content_at total field.kind after
 
--- how many bytes the field of text has whose front this is, with its letter; 3 until its count is there
+-- how many bytes the field of text has of which this is a prefix, with its letter; 3 until its count is there
 abbrev pub text_size : List ℕ → ℕ
 text_size (letter ∷ high ∷ low ∷ bytes) = 3 + high * 256 + low
 text_size (letter ∷ high ∷ []) = 3
@@ -73,5 +73,5 @@ layout_at total bytes = do
 -- what the header's fields hold, and the header's size in bytes
 unfoldable pub header_at : List ℕ → Result (Contents × ℕ) HeaderFault
 header_at bytes = do
-  behind ← fixed_at bytes
-  layout_at (length bytes) behind
+  after ← fixed_at bytes
+  layout_at (length bytes) after

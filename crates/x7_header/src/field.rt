@@ -1,7 +1,7 @@
 //! The fields of a header one by one, for a caller who reads an input piece by piece.
 //!
-//! Each call reads at the front of what is left of an input; `total` is how many bytes the input
-//! has, or how many of it were read so far. A `Cut` is told for good only where the input has ended.
+//! Each call reads at the beginning of what is left of an input; `total` is how many bytes the input
+//! has, or how many of it were read so far. A `Cut` is final only where the input has ended.
 ghost use Rattle.std.specs.Prelude.{◌≡◌, ◌≤◌, ◌<◌, ◌+◌, ◌^◌, ◌++◌, ℕ, List, length, IfOk, IsErrOf, Ok, Err};
 ghost use Rattle.x7_words.specs.Word.{bytes_of_word, word_of_bytes};
 ghost use Rattle.x7_header.specs.Header.{Kind, field_bytes};
@@ -19,14 +19,6 @@ pub fn behind_fixed_bytes(bytes: &[u8]) -> Result<&[u8], HeaderFault>
     ensures raw { (rest : List ℕ) → 13 ≤ length bytes.now → IsErrOf result HeaderFault.Raw →
         fixed_at (bytes.now ++ rest) ≡ Err HeaderFault.Raw }
 {
-    fixed_bytes_at(bytes)
-}
-
-/// What follows the fixed bytes.
-pub(crate) fn fixed_bytes_at(bytes: &[u8]) -> Result<&[u8], HeaderFault>
-    ensures value { Gives (λ rest. rest.now) result (fixed_at bytes.now) }
-    ensures within { IfOk result (λ rest. length rest.now ≤ length bytes.now) }
-{
     if !bytes.starts_with(&FIXED_BYTES) {
         return Err(HeaderFault::Raw);
     }
@@ -34,7 +26,7 @@ pub(crate) fn fixed_bytes_at(bytes: &[u8]) -> Result<&[u8], HeaderFault>
 }
 
 /// What follows the letter that is due.
-fn behind_letter(bytes: &[u8], letter: u8, total: usize) -> Result<&[u8], HeaderFault>
+fn after_letter(bytes: &[u8], letter: u8, total: usize) -> Result<&[u8], HeaderFault>
     requires { length bytes.now ≤ total }
     ensures { Gives (λ rest. rest.now) result (letter_at total letter bytes.now) }
 {
@@ -55,61 +47,28 @@ fn first_bytes(bytes: &[u8], count: usize, total: usize) -> Result<(&[u8], &[u8]
     Ok(bytes.split_at(count))
 }
 
-/// The text of the field of this letter, and what follows it.
-#[tactic(auto, unfolding(crate::specs::Reading::field_at))]
-pub(crate) fn text_at(bytes: &[u8], letter: u8, total: usize) -> Result<(&[u8], &[u8]), HeaderFault>
-    requires { length bytes.now ≤ total }
-    ensures value { Gives (λ x. (x.0.now, x.1.now)) result
-        (field_at total (record { letter = letter; kind = Kind.Counted }) bytes.now) }
-    ensures within { IfOk result (λ x. length x.1.now ≤ total) }
-{
-    match behind_letter(bytes, letter, total)? {
-        [high, low, rest @ ..] => {
-            first_bytes(rest, usize::from(*high) * 256 + usize::from(*low), total)
-        }
-        _ => Err(HeaderFault::Cut(total)),
-    }
-}
-
-/// The number of the field of this letter, and what follows it.
-#[tactic(auto, unfolding(crate::specs::Reading::field_at))]
-pub(crate) fn number_at(bytes: &[u8], letter: u8, total: usize) -> Result<(u32, &[u8]), HeaderFault>
-    requires { length bytes.now ≤ total }
-    ensures value { Gives (λ x. (bytes_of_word x.0, x.1.now)) result
-        (field_at total (record { letter = letter; kind = Kind.Four }) bytes.now) }
-    ensures word { IfOk result (λ x. word_of_bytes (bytes_of_word x.0) ≡ x.0) }
-    ensures within { IfOk result (λ x. length x.1.now ≤ total) }
-{
-    let (number, rest) = first_bytes(behind_letter(bytes, letter, total)?, 4, total)?;
-    Ok((word_of([number[0], number[1], number[2], number[3]]), rest))
-}
-
-/// How many bytes the field of text has whose front this is, with its letter: 3 until its count is there.
-pub fn size_of_text_field(front: &[u8]) -> usize
-    ensures value { result ≡ text_size front.now }
-    // The front of a field that has its count tells the field's size.
-    ensures whole { (letter : ℕ) (text more : List ℕ) → length text < 2 ^ 16 → 3 ≤ length front.now →
-        field_bytes (record { letter = letter; kind = Kind.Counted }) text ≡ front.now ++ more →
+/// How many bytes the field of text has of which this is a prefix, with its letter: 3 until its count is there.
+pub fn size_of_text_field(prefix: &[u8]) -> usize
+    ensures value { result ≡ text_size prefix.now }
+    // The beginning of a field that has its count tells the field's size.
+    ensures whole { (letter : ℕ) (text more : List ℕ) → length text < 2 ^ 16 → 3 ≤ length prefix.now →
+        field_bytes (record { letter = letter; kind = Kind.Counted }) text ≡ prefix.now ++ more →
         result ≡ length (field_bytes (record { letter = letter; kind = Kind.Counted }) text) }
 {
-    size_at(front)
-}
-
-/// The field's size, or 3.
-fn size_at(front: &[u8]) -> usize
-    ensures { result ≡ text_size front.now }
-{
-    match front {
+    match prefix {
         [_, high, low, ..] => 3 + usize::from(*high) * 256 + usize::from(*low),
         _ => 3,
     }
 }
 
 /// The text of the field of this letter, and what follows it.
+#[tactic(auto, unfolding(crate::specs::Reading::field_at))]
 pub fn text_field(bytes: &[u8], letter: u8, total: usize) -> Result<(&[u8], &[u8]), HeaderFault>
     requires { length bytes.now ≤ total }
     ensures value { Gives (λ x. (x.0.now, x.1.now)) result
         (field_at total (record { letter = letter; kind = Kind.Counted }) bytes.now) }
+    // What follows is left of the bytes.
+    ensures within { IfOk result (λ x. length x.1.now ≤ length bytes.now) }
     // A field that is whole is judged alike whatever follows.
     ensures more { IfOk result (λ x. (all : ℕ) (rest : List ℕ) →
         field_at all (record { letter = letter; kind = Kind.Counted }) (bytes.now ++ rest)
@@ -119,14 +78,24 @@ pub fn text_field(bytes: &[u8], letter: u8, total: usize) -> Result<(&[u8], &[u8
         field_at (total + length rest) (record { letter = letter; kind = Kind.Counted }) (bytes.now ++ rest)
         ≡ Err (HeaderFault.Field place) }
 {
-    text_at(bytes, letter, total)
+    match after_letter(bytes, letter, total)? {
+        [high, low, rest @ ..] => {
+            first_bytes(rest, usize::from(*high) * 256 + usize::from(*low), total)
+        }
+        _ => Err(HeaderFault::Cut(total)),
+    }
 }
 
 /// The number of the field of this letter, and what follows it.
+#[tactic(auto, unfolding(crate::specs::Reading::field_at))]
 pub fn number_field(bytes: &[u8], letter: u8, total: usize) -> Result<(u32, &[u8]), HeaderFault>
     requires { length bytes.now ≤ total }
     ensures value { Gives (λ x. (bytes_of_word x.0, x.1.now)) result
         (field_at total (record { letter = letter; kind = Kind.Four }) bytes.now) }
+    // The number is the word of the field's four bytes.
+    ensures word { IfOk result (λ x. word_of_bytes (bytes_of_word x.0) ≡ x.0) }
+    // What follows is left of the bytes.
+    ensures within { IfOk result (λ x. length x.1.now ≤ length bytes.now) }
     // A field that is whole is judged alike whatever follows.
     ensures more { IfOk result (λ x. (all : ℕ) (rest : List ℕ) →
         field_at all (record { letter = letter; kind = Kind.Four }) (bytes.now ++ rest)
@@ -136,5 +105,6 @@ pub fn number_field(bytes: &[u8], letter: u8, total: usize) -> Result<(u32, &[u8
         field_at (total + length rest) (record { letter = letter; kind = Kind.Four }) (bytes.now ++ rest)
         ≡ Err (HeaderFault.Field place) }
 {
-    number_at(bytes, letter, total)
+    let (number, rest) = first_bytes(after_letter(bytes, letter, total)?, 4, total)?;
+    Ok((word_of([number[0], number[1], number[2], number[3]]), rest))
 }

@@ -1,24 +1,24 @@
 //! Reading a header, field by field.
 ghost use Rattle.std.specs.Prelude.{◌≡◌, ◌≢◌, ◌↔◌, IsOkAnd, IsErrOf, ◌≤◌, ◌++◌, ℕ, List, length, take, drop, IfOk, Ok};
 ghost use Rattle.x7_words.specs.Word.{bytes_of_word, word_of_bytes};
-ghost use Rattle.x7_header.specs.Header.{Kind, Contents, HaveHeader, HasOtherLetterAt, contents_of, fixed_bytes, header_bytes};
+ghost use Rattle.x7_header.specs.Header.{Kind, Contents, HaveHeader, EndsInHeader, HasOtherLetterAt, contents_of, fixed_bytes, header_bytes};
 ghost use Rattle.x7_header.specs.Reading.{Gives, letter_at, bytes_at, field_at, fixed_at, layout_at, header_at};
 
 use crate::fault::HeaderFault;
-use crate::field::{fixed_bytes_at, number_at, text_at};
+use crate::field::{behind_fixed_bytes, number_field, text_field};
 use crate::header::Head;
 
-/// The fields behind the fixed bytes, of an input of so many bytes.
+/// The fields after the fixed bytes, of an input of so many bytes.
 #[tactic(auto, unfolding(crate::specs::Reading::layout_at, crate::specs::Reading::fields_at))]
 fn fields(bytes: &[u8], total: usize) -> Result<Head<'_>, HeaderFault>
     requires { length bytes.now ≤ total }
     ensures { Gives (λ head. (contents_of head, head.size)) result (layout_at total bytes.now) }
 {
-    let (a, rest) = text_at(bytes, b'a', total)?;
-    let (b, rest) = text_at(rest, b'b', total)?;
-    let (c, rest) = text_at(rest, b'c', total)?;
-    let (d, rest) = text_at(rest, b'd', total)?;
-    let (length, rest) = number_at(rest, b'e', total)?;
+    let (a, rest) = text_field(bytes, b'a', total)?;
+    let (b, rest) = text_field(rest, b'b', total)?;
+    let (c, rest) = text_field(rest, b'c', total)?;
+    let (d, rest) = text_field(rest, b'd', total)?;
+    let (length, rest) = number_field(rest, b'e', total)?;
     Ok(Head {
         a,
         b,
@@ -29,28 +29,29 @@ fn fields(bytes: &[u8], total: usize) -> Result<Head<'_>, HeaderFault>
     })
 }
 
-/// The fixed bytes and the fields behind them.
+/// The fixed bytes and the fields after them.
 #[tactic(auto, unfolding(crate::specs::Reading::header_at))]
 fn head_of(bytes: &[u8]) -> Result<Head<'_>, HeaderFault>
     ensures { Gives (λ head. (contents_of head, head.size)) result (header_at bytes.now) }
 {
-    fields(fixed_bytes_at(bytes)?, bytes.len())
+    fields(behind_fixed_bytes(bytes)?, bytes.len())
 }
 
-/// The header at the front of the bytes. What follows it is not looked at.
+/// The header at the beginning of the bytes. What follows it is not looked at.
 pub fn header_of(bytes: &[u8]) -> Result<Head<'_>, HeaderFault>
-    // What is read is the header that stands at the front, with its size.
+    // What is read is the header that stands at the beginning, with its size.
     ensures found { IfOk result (λ head. HaveHeader (contents_of head)
         × (bytes.now ≡ header_bytes (contents_of head) ++ drop head.size bytes.now)
         × (head.size ≡ length (header_bytes (contents_of head)))) }
     // Four texts of at most 65,535 bytes each, with the fixed bytes, five letters and the counts.
     ensures limit { IfOk result (λ head. head.size ≤ 262170) }
-    // Each header that stands at the front is read, whatever follows it.
+    // Each header that stands at the beginning is read, whatever follows it.
     ensures only { (x : Contents) (rest : List ℕ) → HaveHeader x → bytes.now ≡ header_bytes x ++ rest →
         IsOkAnd result (λ head. contents_of head ≡ x) }
     ensures raw { IsErrOf result HeaderFault.Raw ↔ ((rest : List ℕ) → bytes.now ≢ fixed_bytes ++ rest) }
-    ensures cut { (place : ℕ) → IsErrOf result (HeaderFault.Cut place) → place ≡ length bytes.now }
-    // `Field` is told exactly where the bytes before the place begin a header, a letter is due there, and another byte stands there.
+    // `Cut` comes, with the input's length, exactly where the input begins some header, has its fixed bytes, and ends inside it.
+    ensures cut { (place : ℕ) → IsErrOf result (HeaderFault.Cut place) ↔ (place ≡ length bytes.now) × EndsInHeader bytes.now }
+    // `Field` comes exactly where the bytes before the place begin a header, a letter is due there, and another byte stands there.
     ensures field { (place : ℕ) → IsErrOf result (HeaderFault.Field place) ↔ HasOtherLetterAt bytes.now place }
     // Which fault it is, field by field.
     ensures exact { Gives (λ head. (contents_of head, head.size)) result (header_at bytes.now) }
