@@ -11,7 +11,7 @@ use Rattle.x7_tool.proofs.ReadLemmas.{after_text_by}
 -- want of memory is free, and any other fault is the text's
 faulted_by : (F L : List ℕ → Type 0) (name text : List ℕ) (f : AsmFault) → (f ≡ fault.NoMemory) ⊎ IsAsm text (Err f)
     → let got : Result Answer Event = Err (asm_event name f) in IsFree F L got ⊎ (IsOpen got × IsDecided got × AssembledAs name (Ok text) got)
-faulted_by F L name text fault.NoMemory h = inl tt
+faulted_by F L name text fault.NoMemory h = inl refl
 faulted_by F L name text (fault.Line n) (inl e) = absurd (cc)
 faulted_by F L name text (fault.Line n) (inr h) = inr (tt, tt, (fault.Line n, (h, refl)))
 faulted_by F L name text (fault.TooLong n) (inl e) = absurd (cc)

@@ -60,7 +60,7 @@ broken contents flash L stream taken rest a b Full old now s h p = (inl (inl ref
 -- memory that ended after these bytes
 pub out_of_memory : (contents : Option (List ℕ → Option (List ℕ))) (flash : Option (List ℕ)) (F L : List ℕ → Type 0) (stream taken : List ℕ) (rest : Option (List ℕ)) (Full : Type 0) (old now : Option (List ℕ))
     → Selects contents stream (preceded taken rest) → PutsFront old (listing_of taken) now → Ends (with_inputs contents flash) F L (Some (Listing stream)) Full old now (Err no_memory)
-out_of_memory contents flash F L stream taken rest Full old now s p = (inl tt, (taken, (front_taken contents flash stream taken rest s, p)))
+out_of_memory contents flash F L stream taken rest Full old now s p = (inl refl, (taken, (front_taken contents flash stream taken rest s, p)))
 
 -- what is known of a stream of which these bytes were taken
 pub known_all : (inputs : List ℕ → Option (List ℕ)) (stream taken : List ℕ) (rest : Option (List ℕ)) → Selects (Some inputs) stream (preceded taken rest) → (left : List ℕ) × ((rest ≡ Some left) × (inputs stream ≡ Some (taken ++ left)))
@@ -74,10 +74,10 @@ known_all inputs stream taken (Some left) s =
 pub unwritten : (contents : Option (List ℕ → Option (List ℕ))) (flash : Option (List ℕ)) (F L : List ℕ → Type 0) (stream taken : List ℕ) (rest : Option (List ℕ)) (Full : Type 0) (old now : Option (List ℕ))
     → Selects contents stream (preceded taken rest) → Full → PutsFront old (listing_of taken) now → ((left : List ℕ) → AreBytes (taken ++ left) → PutsFront old (listing_of (taken ++ left)) now)
     → Ends (with_inputs contents flash) F L (Some (Listing stream)) Full old now (Err write_fault)
-unwritten None flash F L stream taken rest Full old now s f here p = (f, (listing_of taken, here))
+unwritten None flash F L stream taken rest Full old now s f here p = (refl, f, (listing_of taken, here))
 unwritten (Some inputs) flash F L stream taken rest Full old now s f here p =
     let all = known_all inputs stream taken rest s in
-    (f, (taken ++ all.0, (all.1.1, λ fits. p all.0 fits)))
+    (refl, f, (taken ++ all.0, (all.1.1, λ fits. p all.0 fits)))
 
 -- bytes that begin with a header, whatever follows
 header_stays : (xs ys p : List ℕ) → starts_with nat_eq xs p ≡ true → starts_with nat_eq (xs ++ ys) p ≡ true

@@ -30,7 +30,7 @@ use Rattle.x7_engine.proofs.StateLemmas.{stop_is_final-reads, stop_is_final-stat
 
 -- a part file that gave no part
 pub refused : (told : Option Known) (F L : List ℕ → Type 0) (name text : List ℕ) (fault : PartFault) → (fault ≡ part.NoMemory) ⊎ (part_in text ≡ Err fault) → IsCaused told F L (λ t. part_by name (part_in text)) (Err (part_event name fault))
-refused told F L name text part.NoMemory h = inl tt
+refused told F L name text part.NoMemory h = inl refl
 refused told F L name text fault (inl e) = absurd (cc)
 refused told F L name text part.Toml (inr h) = works told F L (part_by name (part_in text)) (Err (part_event name part.Toml)) tt tt (ap (part_by name) h)
 refused told F L name text (part.Key which) (inr h) = works told F L (part_by name (part_in text)) (Err (part_event name (part.Key which))) tt tt (ap (part_by name) h)

@@ -56,7 +56,7 @@ text_is known F L (Some form) answer (inr h) = h.1
 
 -- an event other than the output's failure came as it should
 came_by : (cause : Cause) (known : Option Known) (F L : List ℕ → Type 0) (form : Option Asked) (Full : Type 0) (old new : Option (List ℕ)) (event : Event) → (Full → ⊥) → EndsBy cause known F L form Full old new event → Comes known F L form (Err event)
-came_by Break known F L form Full old new event n h = absurd (n h.0)
+came_by Break known F L form Full old new event n h = absurd (n h.1)
 came_by cause known F L form Full old new event n h = h.0
 
 -- the end is the outcome or want of memory
@@ -83,7 +83,7 @@ is_ok (Ok a) = true
 is_ok (Err event) = false
 
 no_form_by : (cause : Cause) (known : Option Known) (F L : List ℕ → Type 0) (Full : Type 0) (old new : Option (List ℕ)) (event : Event) → EndsBy cause known F L None Full old new event → event ≡ usage
-no_form_by Break known F L Full old new event h = absurd h.1
+no_form_by Break known F L Full old new event h = absurd h.2
 no_form_by cause known F L Full old new event h = sym (ap event_in h.0)
 
 no_form_end : (known : Option Known) (F L : List ℕ → Type 0) (Full : Type 0) (old new : Option (List ℕ)) (s : Status) (end : Result Answer Event) → s ≡ final_status end → Ends known F L None Full old new end → s ≡ status.Usage
@@ -99,7 +99,8 @@ run_no_form known F L form Full old new s end e h n =
 -- ---- the cause of an end
 
 known_cause : (cause : Cause) (known : Known) (form : Asked) (old new : Outside) (event : Event) → FreeBy cause (Fails (Some form) old new) (Lacks (Some form) old new) event.concerned ⊎ (DecidedBy cause × Gives known form (Err event)) → CausedBy cause (Some known) (Some form) old new event
-known_cause Want known form old new event h = tt
+known_cause Want known form old new event (inl h) = h
+known_cause Want known form old new event (inr h) = absurd h.0
 known_cause Fault known form old new event (inl h) = h
 known_cause Fault known form old new event (inr h) = absurd h.0
 known_cause Absence known form old new event (inl h) = inl h
@@ -110,7 +111,8 @@ known_cause cause known form old new event (inl h) = absurd h
 known_cause cause known form old new event (inr h) = absurd h.0
 
 open_cause : (cause : Cause) (form : Asked) (old new : Outside) (event : Event) → FreeBy cause (Fails (Some form) old new) (Lacks (Some form) old new) event.concerned ⊎ OpenBy cause → CausedBy cause None (Some form) old new event
-open_cause Want form old new event h = tt
+open_cause Want form old new event (inl h) = h
+open_cause Want form old new event (inr h) = absurd h
 open_cause Fault form old new event (inl h) = h
 open_cause Fault form old new event (inr h) = absurd h
 open_cause Absence form old new event (inl h) = inl h
@@ -121,23 +123,23 @@ open_cause cause form old new event (inr h) = absurd h
 
 came_cause : (known : Option Known) (form : Option Asked) (old new : Outside) (event : Event) → Comes known (Fails form old new) (Lacks form old new) form (Err event) → CausedBy (cause_of event) known form old new event
 came_cause known None old new event h =
-    subst (λ (e : Event). CausedBy (cause_of e) known None old new e) (ap event_in h) refl
+    subst (λ (e : Event). CausedBy (cause_of e) known None old new e) (ap event_in h) (refl, refl)
 came_cause None (Some form) old new event h = open_cause (cause_of event) form old new event h
 came_cause (Some known) (Some form) old new event h = known_cause (cause_of event) known form old new event h
 
 -- what an event's cause says, and what it leaves
 ended_by : (cause : Cause) (known : Option Known) (form : Option Asked) (old new : Outside) (event : Event) → cause_of event ≡ cause
     → EndsBy cause known (Fails form old new) (Lacks form old new) form (HasRisen old.out_faults new.out_faults) old.out new.out event → CausedBy cause known form old new event
-ended_by Break known form old new event e h = h.0
+ended_by Break known form old new event e h = (h.0, h.1)
 ended_by Wording known form old new event e h = rw e at (came_cause known form old new event h.0)
-ended_by Want known form old new event e h = tt
+ended_by Want known form old new event e h = rw e at (came_cause known form old new event h.0)
 ended_by Fault known form old new event e h = rw e at (came_cause known form old new event h.0)
 ended_by Absence known form old new event e h = rw e at (came_cause known form old new event h.0)
 ended_by Contents known form old new event e h = rw e at (came_cause known form old new event h.0)
 
 left_by : (cause : Cause) (form : Option Asked) (old new : Outside) (event : Event)
     → EndsBy cause (known_in form old) (Fails form old new) (Lacks form old new) form (HasRisen old.out_faults new.out_faults) old.out new.out event → LeftBy cause form old new event
-left_by Break form old new event h = h.1
+left_by Break form old new event h = h.2
 left_by cause form old new event h = h.1
 
 agrees_text : (known : Option Known) (F L : List ℕ → Type 0) (form : Option Asked) (answer : Answer) → Comes known F L form (Ok answer) → Agrees known form (Ok answer)
@@ -249,9 +251,9 @@ pub puts_end : (known : Option Known) (F L : List ℕ → Type 0) (form : Asked)
     → ((event : Event) → new ≡ old → Leaves known (Some form) event old new)
     → IsCausedBy known F L (λ t end. Gives t form end) whole → Puts whole Full old new got → EndsAs known F L (Some form) Full old new got
 puts_end known F L form Full old new (Ok answer) (Ok stopped) gets leaves c p = (answer.text, (subst (λ (s : Bool). IsCausedBy known F L (λ t end. Gives t form end) (Ok (record { stopped = s; text = answer.text }))) (sym p.0) c, p.1))
-puts_end None F L form Full old new (Ok answer) (Err event) gets leaves c p = subst (λ (e : Event). Ends None F L (Some form) Full old new (Err e)) (sym p.0) (p.1, (answer.text, p.2))
+puts_end None F L form Full old new (Ok answer) (Err event) gets leaves c p = subst (λ (e : Event). Ends None F L (Some form) Full old new (Err e)) (sym p.0) (refl, p.1, (answer.text, p.2))
 puts_end (Some t) F L form Full old new (Ok answer) (Err event) gets leaves (inl c) p = absurd c
-puts_end (Some t) F L form Full old new (Ok answer) (Err event) gets leaves (inr c) p = subst (λ (e : Event). Ends (Some t) F L (Some form) Full old new (Err e)) (sym p.0) (p.1, gets t answer c.1 p.2)
+puts_end (Some t) F L form Full old new (Ok answer) (Err event) gets leaves (inr c) p = subst (λ (e : Event). Ends (Some t) F L (Some form) Full old new (Err e)) (sym p.0) (refl, p.1, gets t answer c.1 p.2)
 puts_end known F L form Full old new (Err event) (Ok stopped) gets leaves c p = let e : true ≡ false = ap is_ok p.0 in absurd (cc)
 puts_end known F L form Full old new (Err event) (Err other) gets leaves c p =
     let same : other ≡ event = ap event_in p.0 in

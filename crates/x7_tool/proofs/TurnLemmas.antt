@@ -136,11 +136,11 @@ write_failed contents flash F L stream taken piece same l rest Full old mid now 
 -- a sink that failed at the end
 pub end_failed : (contents : Option (List ℕ → Option (List ℕ))) (flash : Option (List ℕ)) (F L : List ℕ → Type 0) (stream taken : List ℕ) (rest : Option (List ℕ)) (Full : Type 0) (old now : Option (List ℕ))
     → Selects contents stream (preceded taken rest) → AtEnd rest → Full → PutsFront old (listing_of taken) now → Ends (with_inputs contents flash) F L (Some (Listing stream)) Full old now (Err write_fault)
-end_failed None flash F L stream taken rest Full old now s e f p = (f, (listing_of taken, p))
+end_failed None flash F L stream taken rest Full old now s e f p = (refl, f, (listing_of taken, p))
 end_failed (Some inputs) flash F L stream taken rest Full old now s e f p =
     let all = known_all inputs stream taken rest s in
     let none : all.0 ≡ [] = let end = rw all.1.0 at e in end in
-    (f, (taken, (all.1.1 ∙ ap (λ t. Some (taken ++ t)) none ∙ ap Some (append-nil taken), λ fits. p)))
+    (refl, f, (taken, (all.1.1 ∙ ap (λ t. Some (taken ++ t)) none ∙ ap Some (append-nil taken), λ fits. p)))
 
 -- a turn that could not be read
 pub unread_end : (contents : Option (List ℕ → Option (List ℕ))) (flash : Option (List ℕ)) (stream taken : List ℕ) (rest rest_now : Option (List ℕ)) (l : ListerState) (left f0 f1 f2 a0 a2 : ℕ) (Full : Type 0) (old now : Option (List ℕ)) (event : Event)

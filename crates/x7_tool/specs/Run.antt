@@ -42,9 +42,9 @@ seen value (Err refusal) = Err (event_of refusal)
 
 -- ---- one step of a command
 
--- what may come whatever is known: want of memory, and a fault or an absence whose count rose
+-- what may come whatever is known: want of memory, which names no input, and a fault or an absence whose count rose
 abbrev pub FreeBy : Cause → (List ℕ → Type 0) → (List ℕ → Type 0) → List ℕ → Type 0
-FreeBy Want Fails Lacks name = Unit {0}
+FreeBy Want Fails Lacks name = name ≡ []
 FreeBy Fault Fails Lacks name = Fails name
 FreeBy Absence Fails Lacks name = Lacks name
 FreeBy _ Fails Lacks name = ⊥
@@ -122,7 +122,7 @@ GetsPrefix (Some known) (Some form) old new = (answer : Answer) × (Gives known 
 
 -- how an event ended the command, and what the sink got: a prefix of the text where the sink failed, or what the event leaves
 abbrev pub EndsBy : Cause → Option Known → (List ℕ → Type 0) → (List ℕ → Type 0) → Option Asked → Type 0 → Option (List ℕ) → Option (List ℕ) → Event → Type 0
-EndsBy Break known Fails Lacks form Full old new event = Full × GetsPrefix known form old new
+EndsBy Break known Fails Lacks form Full old new event = (event.concerned ≡ []) × Full × GetsPrefix known form old new
 EndsBy _ known Fails Lacks form Full old new event = Comes known Fails Lacks form (Err event) × Leaves known form event old new
 
 -- how the command ended, and what the sink got

@@ -1,5 +1,5 @@
 -- What a run comes to: how it ended and why, its status, and what the outside holds then (this project's choice).
-use Rattle.std.specs.Prelude.{◌≡◌, ◌≤◌, ℕ, length, List, Option, None, Some, ◌⊎◌, Bool, true, false, Result, Ok, Err}
+use Rattle.std.specs.Prelude.{◌≡◌, ◌≤◌, ℕ, [], length, List, Option, None, Some, ◌⊎◌, Bool, true, false, Result, Ok, Err}
 use Rattle.x7_words.specs.Count.{HasRisen}
 use Rattle.x7_words.specs.Sink.{appended}
 use Rattle.x7_tool.specs.declared.status.Status.{Status}
@@ -49,11 +49,11 @@ IsQuiet old new = ¬ HasRisen old.faults new.faults × ¬ HasRisen old.absences 
 
 -- what a cause says of an event
 abbrev pub CausedBy : Cause → Option Known → Option Asked → Outside → Outside → Event → Type 0
-CausedBy Wording known form old new event = form ≡ None
-CausedBy Want known form old new event = Unit {0}
+CausedBy Wording known form old new event = (event.concerned ≡ []) × (form ≡ None)
+CausedBy Want known form old new event = event.concerned ≡ []
 CausedBy Fault known form old new event = Fails form old new event.concerned
 CausedBy Absence known form old new event = Lacks form old new event.concerned ⊎ Shows known form (Err event)
-CausedBy Break known form old new event = HasRisen old.out_faults new.out_faults
+CausedBy Break known form old new event = (event.concerned ≡ []) × HasRisen old.out_faults new.out_faults
 CausedBy Contents known form old new event = Agrees known form (Err event)
 
 -- why the run ended so: a whole text is that of the known contents, and an event has its cause
