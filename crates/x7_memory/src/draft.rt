@@ -1,7 +1,7 @@
 //! Frames as they come, which become a plan at once.
 ghost use Rattle.std.specs.Prelude.{◌≡◌, [], ◌∷◌, ◌++◌, length, IsPermutation, OnOk, OnErr};
 ghost use Rattle.std.specs.List.Sorted.{IsNonDecreasingBy};
-ghost use Rattle.x7_memory.specs.Planned.{PlanRow, IsDraft, AreApart};
+ghost use Rattle.x7_memory.specs.Planned.{IsPlan, AreApart};
 
 use crate::plan::{Plan, Row};
 use std::alloc::{AllocError, Global};
@@ -68,6 +68,7 @@ impl Draft {
         requires apart { AreApart self.rows }
         ensures width { result.width ≡ self.width }
         ensures same { IsPermutation self.rows result.rows }
+        ensures plan { IsPlan result }
     {
         let mut rows = self.rows;
         sort(&mut rows);
