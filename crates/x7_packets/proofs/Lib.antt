@@ -10,3 +10,5 @@ pub mod SearchLemmas
 pub mod SyncLemmas
 pub mod TakeLemmas
 pub mod UniqueLemmas
+pub mod SeamLemmas
+pub mod AppendedLemmas

@@ -9,3 +9,4 @@ pub mod RunningCheck
 pub mod SyncWord
 pub mod Taking
 pub mod Nops
+pub mod Appended

@@ -1,6 +1,7 @@
 //! Packets of a configuration stream: the search for the sync word, the words of a session, and a stream cut into its parts.
 #![tactic(auto)]
 
+mod appended;
 mod cutter;
 mod examples;
 mod header;
@@ -11,6 +12,7 @@ mod sync;
 #[cfg(test)]
 mod tests;
 
+pub use appended::{gaps_ask_nothing, packets_append, streams_append};
 pub use cutter::{Cut, Cutter};
 pub use examples::{
     examples_of_ends, examples_of_headers, examples_of_the_history, examples_of_the_search,
