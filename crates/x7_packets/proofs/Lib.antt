@@ -12,3 +12,4 @@ pub mod TakeLemmas
 pub mod UniqueLemmas
 pub mod SeamLemmas
 pub mod AppendedLemmas
+pub mod EndedLemmas

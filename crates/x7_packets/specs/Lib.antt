@@ -10,3 +10,4 @@ pub mod SyncWord
 pub mod Taking
 pub mod Nops
 pub mod Appended
+pub mod Ended

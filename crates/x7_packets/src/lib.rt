@@ -20,7 +20,7 @@ pub use examples::{
 pub use header::Step;
 pub use laws::{
     accesses_fit, histories_grow, nothing_enters, one_list_of_packets, one_reading,
-    packets_are_found, reading_is_found, words_after, words_enter,
+    packets_are_found, reading_is_found, searching_after_desync, words_after, words_enter,
 };
 pub use machine::Machine;
 pub use sync::Matcher;
