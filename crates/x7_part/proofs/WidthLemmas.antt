@@ -49,14 +49,20 @@ half_end far r w is =
     let block = block_half far w in
     omega arith
 
--- a row's addresses stay below the end
-pub row_top : (far : FieldWidths) (r : RowData) → AreWidths far → IsRow r → row_address far r + 2 ^ row_low far ≤ 2 ^ 32
-row_top far r w is =
+-- a row's addresses have the width of an address
+pub row_within : (far : FieldWidths) (r : RowData) → AreWidths far → IsRow r → row_address far r + 2 ^ row_low far ≤ 2 ^ address_width far
+row_within far r w is =
     let inner = half_end far r w is in
     let block : r.block * 2 ^ block_low far ≤ 2 * 2 ^ block_low far = mul-le-mul_right (2 ^ block_low far) is.block in
     let four : 2 ^ 2 ≤ 2 ^ far.block = two_to 2 far.block w.block.0 in
     let times : 2 ^ block_low far * 4 ≤ 2 ^ block_low far * 2 ^ far.block = mul-le-mul_left (2 ^ block_low far) four in
     let split : 2 ^ address_width far ≡ 2 ^ block_low far * 2 ^ far.block = pow-add 2 (block_low far) far.block in
+    omega arith
+
+-- and stay below the end
+pub row_top : (far : FieldWidths) (r : RowData) → AreWidths far → IsRow r → row_address far r + 2 ^ row_low far ≤ 2 ^ 32
+row_top far r w is =
+    let within : row_address far r + 2 ^ row_low far ≤ 2 ^ address_width far = row_within far r w is in
     let all : 2 ^ address_width far ≤ 2 ^ 32 = two_to (address_width far) 32 w.sum in
     omega arith
 
