@@ -39,6 +39,7 @@ fn put_number(out: &mut Vec<u8>, letter: u8, number: u32) -> Result<(), NoMemory
 }
 
 /// The header's bytes. The size is not looked at.
+#[tactic(auto, using(crate::proofs::HeaderLemmas::header_same))]
 pub fn write_header(alloc: Global, head: &Head<'_>) -> Result<Vec<u8>, NoMemory>
     requires { HaveHeader (contents_of head.now) }
     ensures bytes { IfOk result (λ out. out.items ≡ header_bytes (contents_of head.now)) }
