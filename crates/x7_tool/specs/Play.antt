@@ -6,6 +6,7 @@ use Rattle.x7_engine.specs.Standing.{DeviceState, DeviceStandsFor}
 use Rattle.x7_engine.specs.State.{reads_of, state_of, stop_in}
 use Rattle.x7_part.specs.declared.fault.PartFault.{PartFault}
 use Rattle.x7_part.specs.declared.fault.PartFault.TheVariants as part
+use Rattle.x7_mcs.specs.Text.{mcs_text}
 use Rattle.x7_tool.specs.Outcome.{Answer, reads_limit}
 use Rattle.x7_tool.specs.Event.{Event, bad_part, no_memory}
 use Rattle.x7_tool.specs.declared.text.Text.{Text}
@@ -22,6 +23,10 @@ pub record IsPlayed (part : PartData) (bytes : List ℕ) (d : DeviceState) (read
 -- a whole text as its answer
 abbrev pub whole_of : Text → Answer
 whole_of t = record { stopped = t.stopped; text = t.text.items }
+
+-- the text of a flash image as its answer
+abbrev pub text_of_image : List ℕ → Answer
+text_of_image image = record { stopped = false; text = mcs_text image }
 
 -- the event of a part file that gave no part
 abbrev pub part_event : List ℕ → PartFault → Event
