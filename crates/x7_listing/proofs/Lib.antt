@@ -12,3 +12,4 @@ pub mod RunLemmas
 pub mod SessionLemmas
 pub mod StandLemmas
 pub mod TakeLemmas
+pub mod NearLemmas

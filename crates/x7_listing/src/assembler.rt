@@ -7,11 +7,11 @@ ghost use Rattle.x7_listing.specs.Assembly.{IsAsm};
 ghost use Rattle.x7_listing.specs.Line.{bytes_of, FitsLine, text_of};
 ghost use Rattle.x7_listing.specs.Listing.{listing_of};
 
+use crate::lines::next_line;
 use crate::reading::put_line;
 use std::alloc::{AllocError, Global};
 use thiserror::Error;
 use x7_crc::Checker;
-use x7_text::first_line;
 use x7_words::is_same;
 
 /// How many bytes a text may stand for.
@@ -66,7 +66,7 @@ fn bytes_of_text(alloc: Global, text: &[u8]) -> Result<Vec<u8>, AsmFault>
     let mut rest = text;
     let mut count: u64 = 0;
     loop {
-        let (line, more) = first_line(rest);
+        let (line, more) = next_line(rest);
         count += 1;
         out.reserve(32)?;
         if !put_checked(&mut out, &mut checker, line) {

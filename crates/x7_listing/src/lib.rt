@@ -4,6 +4,7 @@
 mod assembler;
 mod laws;
 mod line;
+mod lines;
 mod lister;
 mod pen;
 mod reading;

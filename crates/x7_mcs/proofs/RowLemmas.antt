@@ -77,16 +77,6 @@ row-written address v content fields first second last l s f c d =
     ∙ ap (λ (n : ℕ). 58 ∷ (flat_map hex_byte ((16 ∷ address / 256 ∷ address % 256 ∷ 0 ∷ content) ++ n ∷ []) ++ 10 ∷ [])) s
     ∙ ap (λ (n : ℕ). record_line (n ∷ address / 256 ∷ address % 256 ∷ 0 ∷ content)) (sym l)
 
--- a line that is appended in its six parts
-pub in-parts : (out a b c d e f one two three four five six : List ℕ) → one ≡ out ++ a → two ≡ one ++ b → three ≡ two ++ c → four ≡ three ++ d → five ≡ four ++ e → six ≡ five ++ f → six ≡ out ++ (a ++ (b ++ (c ++ (d ++ (e ++ f)))))
-in-parts out a b c d e f one two three four five six p q r s t u =
-    u ∙ ap (λ x. x ++ f) (t ∙ ap (λ x. x ++ e) (s ∙ ap (λ x. x ++ d) (r ∙ ap (λ x. x ++ c) (q ∙ ap (λ x. x ++ b) p))))
-    ∙ append_assoc ((((out ++ a) ++ b) ++ c) ++ d) e f
-    ∙ append_assoc (((out ++ a) ++ b) ++ c) d (e ++ f)
-    ∙ append_assoc ((out ++ a) ++ b) c (d ++ (e ++ f))
-    ∙ append_assoc (out ++ a) b (c ++ (d ++ (e ++ f)))
-    ∙ append_assoc out a (b ++ (c ++ (d ++ (e ++ f))))
-
 -- a row that is whole
 pub whole-row : (row whole : List ℕ) → whole ≡ take 16 row → length row ≤ 16 → whole ≡ row
 whole-row row whole e h = e ∙ take_all 16 row h

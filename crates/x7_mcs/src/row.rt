@@ -24,7 +24,7 @@ fn hex_digits(numbers: u8x16) -> u8x16
 
 /// The digits of sixteen bytes: those of the first eight, and those of the others.
 #[inline(always)]
-pub(crate) fn hex_of_content(content: &[u8; 16]) -> ([u8; 16], [u8; 16])
+fn hex_of_content(content: &[u8; 16]) -> ([u8; 16], [u8; 16])
     ensures { result.0 ++ result.1 ≡ flat_map hex_byte content.now }
 {
     let bytes = u8x16::from_array(*content);
@@ -50,7 +50,7 @@ fn sum_of_content(content: &[u8; 16]) -> u8
 
 /// The sum byte of a data record of sixteen bytes.
 #[inline(always)]
-pub(crate) fn sum_byte_of_row(address: u32, content: &[u8; 16]) -> u8
+fn sum_byte_of_row(address: u32, content: &[u8; 16]) -> u8
     requires { address < 2 ^ 16 }
     ensures { result ≡ sum_byte (16 ∷ address / 256 ∷ address % 256 ∷ 0 ∷ content.now) }
 {
@@ -60,7 +60,7 @@ pub(crate) fn sum_byte_of_row(address: u32, content: &[u8; 16]) -> u8
 
 /// The digits of the fields of a data record of sixteen bytes.
 #[inline(always)]
-pub(crate) fn hex_of_fields(address: u32) -> [u8; 8]
+fn hex_of_fields(address: u32) -> [u8; 8]
     requires { address < 2 ^ 16 }
     ensures { result ≡ flat_map hex_byte (16 ∷ address / 256 ∷ address % 256 ∷ 0 ∷ []) }
 {
@@ -71,7 +71,7 @@ pub(crate) fn hex_of_fields(address: u32) -> [u8; 8]
 
 /// The line of a data record of sixteen bytes at an address.
 #[inline(always)]
-fn row_line(address: u32, content: &[u8; 16]) -> [u8; 44]
+pub(crate) fn row_line(address: u32, content: &[u8; 16]) -> [u8; 44]
     requires { address < 2 ^ 16 }
     ensures line { result ≡ data_line address content.now }
     ensures bytes { AreBytes content.now }

@@ -8,7 +8,7 @@ ghost use Rattle.x7_mcs.specs.Flash.{mcs_of};
 ghost use Rattle.x7_mcs.specs.Text.{base_line, block_start, data_line, mcs_text, record_line, row_lines};
 
 use crate::record::sum_byte;
-use crate::row::{hex_of_content, hex_of_fields, sum_byte_of_row};
+use crate::row::row_line;
 use std::alloc::Global;
 use x7_text::{hex_of_byte, put};
 use x7_words::NoMemory;
@@ -61,24 +61,6 @@ fn put_block_start(out: &mut Vec<u8>, place: u32)
     }
 }
 
-/// Appends the data record of a whole row, each part straight from where it is made.
-#[inline(always)]
-fn put_whole_row(out: &mut Vec<u8>, address: u32, content: &[u8; 16])
-    requires room { vec_len out.old + 44 ≤ vec_capacity out.old }
-    requires address { address < 2 ^ 16 }
-    ensures items { out.new.items ≡ out.old.items ++ data_line address content.now }
-    ensures length { vec_len out.new ≤ vec_len out.old + 44 }
-    ensures room { vec_capacity out.old ≤ vec_capacity out.new }
-{
-    let (first, second) = hex_of_content(content);
-    put(out, b":");
-    put(out, &hex_of_fields(address));
-    put(out, &first);
-    put(out, &second);
-    put(out, &hex_of_byte(sum_byte_of_row(address, content)));
-    put(out, b"\n");
-}
-
 /// Appends the data record of a row.
 #[inline(always)]
 fn put_data(out: &mut Vec<u8>, address: u32, row: &[u8])
@@ -99,7 +81,7 @@ fn put_data(out: &mut Vec<u8>, address: u32, row: &[u8])
         put_record(out, &fields, row);
         return;
     };
-    put_whole_row(out, address, whole);
+    put(out, &row_line(address, whole));
 }
 
 /// Appends the lines of a row.

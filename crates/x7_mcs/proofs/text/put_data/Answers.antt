@@ -5,5 +5,5 @@ use Rattle.x7_mcs.proofs.text.put_data.Goals as goal
 
 pub returns-clause-items : goal.returns-clause-items
 returns-clause-items c =
-    c.put_whole_row.ensures.items
-    ∙ ap (λ (t : List ℕ). c.args.out.now.items ++ t) (ap (data_line c.args.address) (whole-row c.args.row.now c.in-Some.whole.now c.in-Some.ensures.cases.same c.requires.row))
+    c.put.ensures.appends.items
+    ∙ ap (λ (t : List ℕ). c.args.out.now.items ++ t) (c.row_line.ensures.line ∙ ap (data_line c.args.address) (whole-row c.args.row.now c.in-Some.whole.now c.in-Some.ensures.cases.same c.requires.row))
