@@ -8,6 +8,7 @@ mod form;
 mod list;
 mod mcs;
 mod play;
+mod player;
 mod read;
 mod refusal;
 mod reports;

@@ -132,7 +132,7 @@ loop-turn-preserved g c =
     let raw = judged_more taken piece c.loop-turn.left v.told.1.2 v.left v.told.1.3 (sym c.has_bit_header.ensures ∙ c.if-has_bit_header.false) in
     let lists : Lists c.put_turn.new.lister old (o.written c.put_turn.new.out) (taken ++ piece) = c.in-Ok-put_turn.ensures.ok old taken v.told.1.1 in
     let size : length (taken ++ piece) ≡ length taken + n = length-append taken piece ∙ ap (λ k. length taken + k) (length-take-le n c.next_turn.new.buf (omega (arith, c.in-Ok-next_turn.ensures.within.1, c.next_turn.ensures.length, v.piece))) in
-    let full : n ≡ 65536 = c.in-Ok-next_turn.ensures.goes c.if-turn.false in
+    let full : n ≡ 65536 = c.in-Ok-next_turn.ensures.goes c.if-turn.false ∙ v.piece in
     record {
       selected = c.in-Ok-next_turn.ensures.selected;
       map = c.next_turn.ensures.map ∙ v.map;
