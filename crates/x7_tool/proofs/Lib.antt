@@ -6,3 +6,4 @@ pub mod PlayerLemmas
 pub mod ReadLemmas
 pub mod RunLemmas
 pub mod TurnLemmas
+pub mod FormLemmas

@@ -1,6 +1,6 @@
 use Rattle.std.proofs.Common.{◌≡◌, Option, Some, Err, map, string_bytes, sym, ap, subst, ◌∙◌}
 use Rattle.x7_words.specs.Count.{HasRisen}
-use Rattle.x7_tool.specs.Form.{Asked, Assembling, FromMcs, Listing, Playing, ToMcs, form_of, names_of}
+use Rattle.x7_tool.specs.Form.{Asked, Assembling, FromMcs, Listing, PlanningFull, PlanningRead, Playing, ToMcs, form_of, names_of}
 use Rattle.x7_tool.specs.Message.{event_of}
 use Rattle.x7_tool.specs.Outcome.{known_of}
 use Rattle.x7_tool.specs.Play.{whole_of, text_of_image}
@@ -43,3 +43,15 @@ returns-in-Some-Unmcs-clause-ends g c =
     let flash = g.F.Flash.bytes c.args.flash.now in
     ready_ends _ (FromMcs c.in-Some-Unmcs.text.now) _ flash _ _ _ _ _ _ _ (seen whole_of c.unmcs.result) _
     (sym c.words_of.ensures ∙ ap asked c.in-Some-Unmcs.is ∙ ap (λ f. Some (asked_by f)) c.in-Some-Unmcs.field-0-is) tt (c.unmcs.ensures flash) c.put_whole-in-Some-Unmcs.ensures
+
+pub returns-in-Some-PlanFull-clause-ends : goal.returns-in-Some-PlanFull-clause-ends
+returns-in-Some-PlanFull-clause-ends g c =
+    let flash = g.F.Flash.bytes c.args.flash.now in
+    ready_ends _ (PlanningFull c.in-Some-PlanFull.part.now c.in-Some-PlanFull.frames.now) _ flash _ _ _ _ _ _ _ (seen whole_of c.plan_full.result) _
+    (sym c.words_of.ensures ∙ ap asked c.in-Some-PlanFull.is ∙ ap (λ f. Some (asked_by f)) c.in-Some-PlanFull.field-0-is) tt (c.plan_full.ensures flash) c.put_whole-in-Some-PlanFull.ensures
+
+pub returns-in-Some-PlanRead-clause-ends : goal.returns-in-Some-PlanRead-clause-ends
+returns-in-Some-PlanRead-clause-ends g c =
+    let flash = g.F.Flash.bytes c.args.flash.now in
+    ready_ends _ (PlanningRead c.in-Some-PlanRead.part.now c.in-Some-PlanRead.far c.in-Some-PlanRead.n) _ flash _ _ _ _ _ _ _ (seen whole_of c.plan_read.result) _
+    (sym c.words_of.ensures ∙ ap asked c.in-Some-PlanRead.is ∙ ap (λ f. Some (asked_by f)) c.in-Some-PlanRead.field-0-is) tt (c.plan_read.ensures flash) c.put_whole-in-Some-PlanRead.ensures
