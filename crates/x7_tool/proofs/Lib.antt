@@ -4,6 +4,7 @@ pub mod HeadLemmas
 pub mod PlayLemmas
 pub mod PlayerLemmas
 pub mod ReadLemmas
+pub mod ReportLemmas
 pub mod RunLemmas
 pub mod TurnLemmas
 pub mod FormLemmas

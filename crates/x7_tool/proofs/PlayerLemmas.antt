@@ -128,6 +128,8 @@ played_all part bytes d reads s due = by s.ends
           stands = s.stands;
           stop = rw all refl;
           state = rw all refl;
+          memory = rw all refl;
+          none_due = due;
           reads_are = s.told ∙ told_all part on_the_bench d s.taken due ∙ ap (reads_of part on_the_bench) (sym all);
           few = s.few;
         }

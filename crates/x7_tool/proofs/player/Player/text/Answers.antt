@@ -14,5 +14,5 @@ returns-in-Ok-clause-ok c = λ part bytes h.
     let p = c.args.self.now in
     let on = not_over p.over part bytes p.device p.buffer p.reads.items c.if-self.false h in
     let all = played_all part bytes p.device p.reads.items on.0 on.1 in
-    let text = rw c.deref.ensures.value at (c.in-Ok.ensures part on_the_bench false all.prefix all.stands) in
+    let text = rw c.deref.ensures.value at (c.in-Ok.ensures part on_the_bench false all.prefix all.stands all.none_due) in
     reported_is part bytes p.device p.reads.items c.in-Ok.text.items c.fault.result c.is_some.result all (c.fault.ensures part on_the_bench false all.prefix all.stands) c.is_some.ensures text
