@@ -6,7 +6,10 @@ ghost use Rattle.x7_listing.specs.Assembly.{asm_limit, IsAsm};
 ghost use Rattle.x7_listing.specs.declared.assembler.AsmFault.{AsmFault};
 ghost use Rattle.x7_listing.specs.Line.{FitsLine, IsLine, IsListed, Line, text_of};
 ghost use Rattle.x7_listing.specs.Listed.{listing_lines, texts_of};
+ghost use Rattle.x7_listing.specs.BitLine.{bit_text, IsHeld};
 ghost use Rattle.x7_listing.specs.Listing.{IsListing, listing_of};
+ghost use Rattle.x7_listing.specs.StreamListing.{stream_listing};
+ghost use Rattle.x7_header.specs.Header.{Contents};
 ghost use Rattle.x7_listing.specs.Telling.{ListerStandsFor, ListerState};
 
 /// A list of bytes has at most one listing.
@@ -35,9 +38,15 @@ pub fn lines_hold_no_end()
     ensures { (line : Line) → FitsLine line → IsListed line → has_no_end (text_of line) ≡ true }
 {}
 
-/// A listing assembles back to the bytes that it is of.
+/// The listing of a stream assembles back to the stream, its header included.
 pub fn listing_assembles_back()
-    ensures { (bytes : List ℕ) → AreBytes bytes → length bytes ≤ asm_limit → IsAsm (listing_of bytes) (Ok bytes) }
+    ensures { (bytes text : List ℕ) → AreBytes bytes → length bytes ≤ asm_limit → stream_listing bytes ≡ Ok text → IsAsm text (Ok bytes) }
+{}
+
+/// A header's line is that of no other header, and no other line.
+pub fn header_line_is_its_own()
+    ensures one { (x y : Contents) → IsHeld x → IsHeld y → bit_text x ≡ bit_text y → x ≡ y }
+    ensures no_line { (x : Contents) (line : Line) → IsLine (bit_text x) line → ⊥ }
 {}
 
 /// A text assembles to one outcome.
