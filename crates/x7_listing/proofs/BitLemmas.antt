@@ -160,20 +160,20 @@ header-made line fields r1 r2 r3 digits x bytes e a b c d n is = record {
 }
 
 -- a header has at most 262,170 bytes
-pub header-short : (line bytes : List ℕ) → IsHeaderOf line bytes → length bytes ≤ 262170
-header-short line bytes h = short-of h.header h.held.have bytes h.are
-  where
-    counted : (letter : ℕ) (x rest : List ℕ) → length x < 2 ^ 16 → length (field_bytes (record { letter = letter; kind = Kind.Counted }) x ++ rest) ≤ 65538 + length rest
-    counted letter x rest k = omega (arith, k, length-append x rest)
+counted : (letter : ℕ) (x rest : List ℕ) → length x < 2 ^ 16 → length (field_bytes (record { letter = letter; kind = Kind.Counted }) x ++ rest) ≤ 65538 + length rest
+counted letter x rest k = omega (arith, k, length-append x rest)
 
-    short-of : (x : Contents) → HaveHeader x → (bytes : List ℕ) → bytes ≡ header_bytes x → length bytes ≤ 262170
-    short-of x k bytes e =
-        let last = bytes_of_word x.data_length ++ [] in
-        let after_d = 0x65 ∷ last in
-        let after_c = field_bytes (record { letter = 0x64; kind = Kind.Counted }) x.d ++ after_d in
-        let after_b = field_bytes (record { letter = 0x63; kind = Kind.Counted }) x.c ++ after_c in
-        let after_a = field_bytes (record { letter = 0x62; kind = Kind.Counted }) x.b ++ after_b in
-        omega (arith, ap length e, counted 0x61 x.a after_a k.a, counted 0x62 x.b after_b k.b, counted 0x63 x.c after_c k.c, counted 0x64 x.d after_d k.d)
+pub header-limit : (x : Contents) → HaveHeader x → length (header_bytes x) ≤ 262170
+header-limit x k =
+    let last = bytes_of_word x.data_length ++ [] in
+    let after_d = 0x65 ∷ last in
+    let after_c = field_bytes (record { letter = 0x64; kind = Kind.Counted }) x.d ++ after_d in
+    let after_b = field_bytes (record { letter = 0x63; kind = Kind.Counted }) x.c ++ after_c in
+    let after_a = field_bytes (record { letter = 0x62; kind = Kind.Counted }) x.b ++ after_b in
+    omega (arith, counted 0x61 x.a after_a k.a, counted 0x62 x.b after_b k.b, counted 0x63 x.c after_c k.c, counted 0x64 x.d after_d k.d)
+
+pub header-short : (line bytes : List ℕ) → IsHeaderOf line bytes → length bytes ≤ 262170
+header-short line bytes h = subst (λ b. length b ≤ 262170) (sym h.are) (header-limit h.header h.held.have)
 
 pub is-field : (bs : List ℕ) → AreBytes bs → length bs < 2 ^ 16 → IsField bs
 is-field bs a h = record { bytes = a; short = h }

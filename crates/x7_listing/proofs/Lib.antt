@@ -1,5 +1,6 @@
 pub mod AssemblyLemmas
 pub mod BitLemmas
+pub mod BoundLemmas
 pub mod FrontLemmas
 pub mod GapLemmas
 pub mod GuessLemmas

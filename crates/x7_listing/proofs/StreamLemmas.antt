@@ -76,11 +76,11 @@ headed b head p a h =
 back-by : (b text : List ℕ) (r : Result (Contents × ℕ) HeaderFault) → header_at b ≡ r → AreBytes b → length b ≤ asm_limit → listing_by b r ≡ Ok text → IsAsm text (Ok b)
 back-by b text (Ok head) e a h is = subst (λ t. IsAsm t (Ok b)) (ok-text (bit_text head.0 ++ 10 ∷ listing_of (drop head.1 b)) text is) (inl (headed b head (header_takes b head a e) a h))
   where
-    ok-text : (s t : List ℕ) → ◌≡◌ {A = Result (List ℕ) HeaderFault} (Ok s) (Ok t) → s ≡ t
+    ok-text : (s t : List ℕ) → ◌≡◌ {A = Result (List ℕ) ℕ} (Ok s) (Ok t) → s ≡ t
     ok-text s t f = cc
 back-by b text (Err fault.Raw) e a h is = subst (λ t. IsAsm t (Ok b)) (ok-text (listing_of b) text is) (inr (no-head asm_limit (split (listing_of b)) b (round-trip asm_limit b a h), round-trip asm_limit b a h))
   where
-    ok-text : (s t : List ℕ) → ◌≡◌ {A = Result (List ℕ) HeaderFault} (Ok s) (Ok t) → s ≡ t
+    ok-text : (s t : List ℕ) → ◌≡◌ {A = Result (List ℕ) ℕ} (Ok s) (Ok t) → s ≡ t
     ok-text s t f = cc
 back-by b text (Err (fault.Cut place)) e a h is = absurd cc
 back-by b text (Err (fault.Field place)) e a h is = absurd cc

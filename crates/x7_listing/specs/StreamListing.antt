@@ -8,12 +8,12 @@ use Rattle.x7_listing.specs.BitLine.{bit_text}
 use Rattle.x7_listing.specs.Listing.{listing_of}
 
 -- the listing of a stream by what its header is read as: contents and size, or why there is none
-abbrev pub listing_by : List ℕ → Result (Contents × ℕ) HeaderFault → Result (List ℕ) HeaderFault
+abbrev pub listing_by : List ℕ → Result (Contents × ℕ) HeaderFault → Result (List ℕ) ℕ
 listing_by bytes (Ok head) = Ok (bit_text head.0 ++ 10 ∷ listing_of (drop head.1 bytes))
 listing_by bytes (Err fault.Raw) = Ok (listing_of bytes)
-listing_by bytes (Err (fault.Cut place)) = Err (fault.Cut place)
-listing_by bytes (Err (fault.Field place)) = Err (fault.Field place)
+listing_by bytes (Err (fault.Cut place)) = Err place
+listing_by bytes (Err (fault.Field place)) = Err place
 
--- the listing of a stream, or the fault of its header
-abbrev pub stream_listing : List ℕ → Result (List ℕ) HeaderFault
+-- the listing of a stream, or the byte at which its header is refused
+abbrev pub stream_listing : List ℕ → Result (List ℕ) ℕ
 stream_listing bytes = listing_by bytes (header_at bytes)

@@ -1,5 +1,5 @@
 //! Laws of the definitions.
-ghost use Rattle.std.specs.Prelude.{◌≡◌, ◌≤◌, ℕ, List, [], ◌++◌, length, true, Result, Ok};
+ghost use Rattle.std.specs.Prelude.{◌≡◌, ◌+◌, ◌≤◌, ℕ, List, [], ◌++◌, length, true, Result, Ok};
 ghost use Rattle.x7_words.specs.Word.{AreBytes};
 ghost use Rattle.x7_text.specs.Lines.{has_no_end};
 ghost use Rattle.x7_listing.specs.Assembly.{asm_limit, IsAsm};
@@ -17,10 +17,16 @@ pub fn one_listing()
     ensures { (bytes text other : List ℕ) → IsListing bytes text → IsListing bytes other → text ≡ other }
 {}
 
-/// What a lister has told of bytes is a front of the listing of those bytes with any further ones.
+/// What a lister has told, behind the listings before, is a front of the listing of its bytes with any further ones.
 pub fn told_is_a_front()
-    ensures { (l : ListerState) (given bytes rest : List ℕ) → ListerStandsFor l given [] bytes → AreBytes (bytes ++ rest)
-        → (more : List ℕ) × (listing_of (bytes ++ rest) ≡ given ++ l.text ++ more) }
+    ensures { (l : ListerState) (given before bytes rest : List ℕ) → ListerStandsFor l given before bytes → AreBytes (bytes ++ rest)
+        → (more : List ℕ) × (before ++ listing_of (bytes ++ rest) ≡ given ++ l.text ++ more) }
+{}
+
+/// A lister's text is never more than four bytes behind the bytes that it took.
+pub fn few_bytes_are_held()
+    ensures { (l : ListerState) (given before bytes : List ℕ) → ListerStandsFor l given before bytes
+        → length before + length bytes ≤ length (given ++ l.text) + 4 }
 {}
 
 /// A text is that of at most one line.

@@ -1,5 +1,6 @@
 pub mod AsmLemmas
 pub mod Causes
+pub mod FrontLemmas
 pub mod PlayLemmas
 pub mod ReadLemmas
 pub mod RunLemmas
