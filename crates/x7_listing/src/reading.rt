@@ -14,7 +14,7 @@ use x7_text::{decimal_below, put, put_byte_row, put_word_row, word_of_hex};
 use x7_words::{bytes_of, is_same};
 
 /// What stands after a word that the text begins with.
-fn after<'t>(text: &'t [u8], word: &[u8]) -> Option<&'t [u8]>
+pub(crate) fn after<'t>(text: &'t [u8], word: &[u8]) -> Option<&'t [u8]>
     ensures { MatchOption result ((rest : List ℕ) → text.now ≢ word.now ++ rest) (λ rest. text.now ≡ word.now ++ rest.now) }
 {
     text.strip_prefix(word)

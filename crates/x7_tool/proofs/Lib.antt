@@ -1,6 +1,7 @@
 pub mod AsmLemmas
 pub mod Causes
 pub mod HeadLemmas
+pub mod FrontLemmas
 pub mod PlayLemmas
 pub mod PlayerLemmas
 pub mod ReadLemmas

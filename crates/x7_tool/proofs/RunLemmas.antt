@@ -3,10 +3,10 @@ use Rattle.std.proofs.Common.{◌≡◌, ◌≤◌, arith, length, ℕ, List, Bo
 use Rattle.std.specs.Prelude.{nat_lt}
 use Rattle.std.proofs.lemmas.Bool.Decides.{nat_tests}
 use Rattle.x7_words.specs.Count.{HasRisen}
-use Rattle.x7_listing.specs.Assembly.{IsAsm, asm_limit}
-use Rattle.x7_listing.specs.Listing.{listing_of}
+use Rattle.x7_listing.specs.Assembly.{IsAsm}
+use Rattle.x7_listing.specs.StreamListing.{stream_listing}
 use Rattle.x7_listing.proofs.OutcomeLemmas.{one-outcome}
-use Rattle.x7_listing.proofs.RoundLemmas.{round-trip}
+use Rattle.x7_listing.proofs.StreamLemmas.{stream-back}
 use Rattle.x7_mcs.specs.Flash.{mcs_of}
 use Rattle.x7_mcs.specs.Text.{mcs_text}
 use Rattle.x7_mcs.proofs.BackLemmas.{text-gives}
@@ -179,12 +179,12 @@ leads_back s form known end goal_end (inl n) back = inl n
 leads_back s form known end goal_end (inr h) back = inr (back h)
 
 back_is : (form : Option Asked) (old new : Outside) (s : Status) (end : Result Answer Event) → ((known : Known) → known_in form old ≡ Some known → IsQuiet old new → (s ≡ status.NoMemory) ⊎ IsOutcome known form end) → Back form old new s end
-back_is (Some (Assembling name)) old new s end outcome = λ bytes fits short has quiet.
+back_is (Some (Assembling name)) old new s end outcome = λ bytes text fits short listed has quiet.
     let known : Known = record { inputs = has.0; flash = old.flash.bytes } in
     let is : known_in (Some (Assembling name)) old ≡ Some known = ap (λ (i : Option (List ℕ → Option (List ℕ))). with_inputs i old.flash.bytes) has.1.0 in
-    let whole : whole_in known text_limit name ≡ Ok (listing_of bytes) = ap (λ (i : Option (List ℕ)). and_so (present name i) (within name text_limit)) has.1.1 ∙ within_limit name (listing_of bytes) text_limit has.1.2 in
+    let whole : whole_in known text_limit name ≡ Ok text = ap (λ (i : Option (List ℕ)). and_so (present name i) (within name text_limit)) has.1.1 ∙ within_limit name text text_limit has.1.2 in
     leads_back s (Assembling name) known end (Ok (record { stopped = false; text = bytes })) (outcome known is quiet)
-    (λ h. asm_back name (listing_of bytes) bytes end (round-trip asm_limit bytes fits short) (subst (λ (r : Result (List ℕ) Event). AssembledAs name r end) whole h))
+    (λ h. asm_back name text bytes end (stream-back bytes text fits short listed) (subst (λ (r : Result (List ℕ) Event). AssembledAs name r end) whole h))
 back_is (Some (FromMcs name)) old new s end outcome = λ bytes fits short has quiet.
     let known : Known = record { inputs = has.0; flash = old.flash.bytes } in
     let is : known_in (Some (FromMcs name)) old ≡ Some known = ap (λ (i : Option (List ℕ → Option (List ℕ))). with_inputs i old.flash.bytes) has.1.0 in

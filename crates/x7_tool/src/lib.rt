@@ -5,6 +5,7 @@ mod asm;
 mod bad_input;
 mod bad_part;
 mod form;
+mod front;
 mod list;
 mod mcs;
 mod plan;
