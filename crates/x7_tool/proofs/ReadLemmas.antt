@@ -218,9 +218,9 @@ stream_judged known F L limit name whole got read e =
 pub rest_more : (old mid new : Option (List ℕ)) (taken piece : List ℕ) → old ≡ preceded taken mid → mid ≡ preceded piece new → old ≡ preceded (taken ++ piece) new
 rest_more old mid new taken piece e f = e ∙ ap (preceded taken) f ∙ preceded-preceded taken piece new
 
-pub rest_unread : (old mid new : Option (List ℕ)) (name taken : List ℕ) (limit left f0 f1 f2 : ℕ) (event : Event) → old ≡ preceded taken mid → length taken + left ≡ limit → f0 ≤ f1 → Unread mid new name left f1 f2 event → UnreadRest old name limit f0 f2 event
-rest_unread old mid new name taken limit left f0 f1 f2 event e n fl (inl h) = inl (h.0, risen_from f0 f1 f2 fl h.1)
-rest_unread old mid new name taken limit left f0 f1 f2 event e n fl (inr h) =
+pub rest_unread : (old mid new : Option (List ℕ)) (name taken : List ℕ) (limit left most f0 f1 f2 : ℕ) (event : Event) → old ≡ preceded taken mid → length taken + left ≡ limit → f0 ≤ f1 → Unread mid new name left most f1 f2 event → UnreadRest old name limit f0 f2 event
+rest_unread old mid new name taken limit left most f0 f1 f2 event e n fl (inl h) = inl (h.0, risen_from f0 f1 f2 fl h.1)
+rest_unread old mid new name taken limit left most f0 f1 f2 event e n fl (inr h) =
     let piece = h.1.0 in
     inr (h.0, (taken ++ piece, (new, (rest_more old mid new taken piece e h.1.1.0, omega (arith, n, h.1.1.1, length-append taken piece)))))
 
