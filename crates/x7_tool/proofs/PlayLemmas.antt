@@ -1,9 +1,9 @@
 -- What is known where a play ends.
-use Rattle.std.proofs.Common.{◌≡◌, ℕ, zero, suc, ◌+◌, ◌-◌, ◌≤◌, ◌<◌, List, [], ◌∷◌, ◌++◌, length, length-append, take, drop, Bool, true, false, Option, None, Some, Ok, Err, refl, ap, subst, sym, ◌∙◌, append_assoc, append-nil, arith, inl, inr, ◌⊎◌}
+use Rattle.std.proofs.Common.{◌≡◌, ℕ, zero, suc, ◌+◌, ◌≤◌, ◌<◌, List, [], ◌∷◌, ◌++◌, length, length-append, take, drop, Bool, true, false, Option, Some, Ok, Err, refl, ap, subst, sym, ◌∙◌, append_assoc, arith, inl, inr, ◌⊎◌}
 use Rattle.std.specs.Prelude.{is_some, nat_lt}
 use Rattle.std.proofs.lemmas.Bool.Decides.{nat_tests}
 use Rattle.std.proofs.Math.Seq.{take-add, take-length}
-use Rattle.std.proofs.lemmas.List.{length-take, take-append-drop}
+use Rattle.std.proofs.lemmas.List.{take-append-drop}
 use Rattle.x7_words.specs.Word.{AreBytes}
 use Rattle.x7_part.specs.declared.fault.PartFault.{PartFault}
 use Rattle.x7_part.specs.declared.fault.PartFault.TheVariants as part
@@ -24,7 +24,6 @@ use Rattle.x7_tool.specs.Play.{IsPlayed, part_event}
 use Rattle.x7_tool.specs.Report.{report_text}
 use Rattle.x7_tool.specs.Run.{IsCaused}
 use Rattle.x7_tool.proofs.ReadLemmas.{works}
-use Rattle.x7_words.proofs.ListLemmas.{all_front}
 use Rattle.x7_engine.proofs.ReadsLemmas.{reads_grow}
 use Rattle.x7_engine.proofs.StateLemmas.{stop_is_final-reads, stop_is_final-state, stop_is_final-stop}
 

@@ -1,5 +1,5 @@
 -- What the end of a command says of its status.
-use Rattle.std.proofs.Common.{◌≡◌, ◌≤◌, arith, length, ℕ, List, [], Bool, true, false, Option, None, Some, Result, Ok, Err, refl, ap, subst, sym, ◌∙◌, inl, inr, ◌⊎◌}
+use Rattle.std.proofs.Common.{◌≡◌, ◌≤◌, arith, length, ℕ, List, Bool, true, false, Option, None, Some, Result, Ok, Err, refl, ap, subst, sym, ◌∙◌, inl, inr, ◌⊎◌}
 use Rattle.std.specs.Prelude.{nat_lt}
 use Rattle.std.proofs.lemmas.Bool.Decides.{nat_tests}
 use Rattle.x7_words.specs.Count.{HasRisen}
@@ -10,16 +10,16 @@ use Rattle.x7_listing.proofs.RoundLemmas.{round-trip}
 use Rattle.x7_mcs.specs.Flash.{mcs_of}
 use Rattle.x7_mcs.specs.Text.{mcs_text}
 use Rattle.x7_mcs.proofs.BackLemmas.{text-gives}
-use Rattle.x7_words.specs.Sink.{PutsFront, appended}
+use Rattle.x7_words.specs.Sink.{PutsFront}
 use Rattle.x7_tool.specs.declared.refusal.Why.{Why}
 use Rattle.x7_tool.specs.declared.refusal.Why.TheVariants as why
 use Rattle.x7_tool.specs.declared.status.Status.{Status}
 use Rattle.x7_tool.specs.declared.status.Status.TheVariants as status
-use Rattle.x7_tool.specs.Event.{Event, Cause, Wording, Want, Fault, Absence, Break, Contents, cause_of, no_memory, row_of, status_of, usage, write_fault}
+use Rattle.x7_tool.specs.Event.{Event, Cause, Wording, Want, Fault, Absence, Break, Contents, cause_of, row_of, status_of, usage}
 use Rattle.x7_tool.specs.Form.{Asked, Assembling, FromMcs, Listing, Playing, ToMcs, names_flash}
 use Rattle.x7_tool.specs.Message.{final_status}
 use Rattle.x7_tool.specs.Outcome.{Answer, AssembledAs, Known, Gives, IsOutcome, and_so, mcs_image, present, text_limit, whole_in, with_inputs, within}
-use Rattle.x7_tool.specs.Run.{Agrees, Comes, DecidedBy, OpenBy, Ends, EndsAs, EndsBy, FreeBy, GetsPrefix, IsCausedBy, Leaves, Puts, Says, Shows}
+use Rattle.x7_tool.specs.Run.{Agrees, Comes, DecidedBy, OpenBy, Ends, EndsAs, EndsBy, FreeBy, GetsPrefix, IsCausedBy, Leaves, Puts, Says}
 use Rattle.x7_tool.specs.Runs.{Back, CausedBy, Fails, FlashState, HasCause, IsQuiet, KeepsFlash, Lacks, LeftBy, Outside, Runs, Wrote, known_in}
 
 -- ---- which status an event has

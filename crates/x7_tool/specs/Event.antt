@@ -51,6 +51,7 @@ part_text part.NoMemory = codes "no memory"
 
 -- why an input has no reading
 abbrev pub input_text : InputFault → List ℕ
+input_text (input.Byte place) = codes "byte " ++ decimal place
 input_text (input.Line line) = codes "line " ++ decimal line
 input_text (input.LongLine line) = codes "long line " ++ decimal line
 input_text (input.Sum line want got) = codes "sum line " ++ (decimal line ++ (codes " want " ++ (hex_byte want ++ (codes " got " ++ hex_byte got))))

@@ -1,7 +1,10 @@
 -- What a command comes to, over known inputs and a known flash: the first event in the order of the work decides (this project's choice).
-use Rattle.std.specs.Prelude.{◌≡◌, ℕ, List, [], ◌∷◌, ◌++◌, ◌-◌, Option, None, Some, is_some, Result, Ok, Err, Bool, false, if◌then◌else◌, length, nat_eq, nat_lt}
+use Rattle.std.specs.Prelude.{◌≡◌, ℕ, List, [], ◌∷◌, ◌++◌, ◌-◌, Option, None, Some, is_some, Result, Ok, Err, Bool, false, if◌then◌else◌, drop, length, nat_eq, nat_lt}
 use Rattle.std.specs.List.{starts_with}
-use Rattle.x7_header.specs.Header.{fixed_bytes}
+use Rattle.x7_header.specs.Header.{Contents, fixed_bytes}
+use Rattle.x7_header.specs.Reading.{header_at}
+use Rattle.x7_header.specs.declared.fault.HeaderFault.{HeaderFault}
+use Rattle.x7_header.specs.declared.fault.HeaderFault.TheVariants as header
 use Rattle.x7_listing.specs.Assembly.{IsAsm}
 use Rattle.x7_listing.specs.Listing.{listing_of}
 use Rattle.x7_listing.specs.declared.assembler.AsmFault.{AsmFault}
@@ -40,6 +43,17 @@ and_so (Err event) next = Err event
 abbrev pub present : List ℕ → Option (List ℕ) → Result (List ℕ) Event
 present name None = Err (missing name)
 present name (Some bytes) = Ok bytes
+
+-- the data of a stream by what stands at its beginning: a header and its size, or why there is none
+abbrev pub data_by : List ℕ → List ℕ → Result (Contents × ℕ) HeaderFault → Result (List ℕ) Event
+data_by name bytes (Ok head) = Ok (drop head.1 bytes)
+data_by name bytes (Err header.Raw) = Ok bytes
+data_by name bytes (Err (header.Cut place)) = Err (bad_input name (input.Byte place))
+data_by name bytes (Err (header.Field place)) = Err (bad_input name (input.Byte place))
+
+-- the data of a stream: the bytes after its header where it has one; a header that is cut, or that has another byte in a letter's place, is a bad input
+abbrev pub data_in : List ℕ → List ℕ → Result (List ℕ) Event
+data_in name bytes = data_by name bytes (header_at bytes)
 
 -- whether a stream begins with a .bit header
 abbrev pub has_header : List ℕ → Bool
@@ -91,10 +105,19 @@ part_of known name = and_so (whole_in known part_limit name) (λ text. part_by n
 abbrev pub put_before : List ℕ → Result (List ℕ) Event → Result (List ℕ) Event
 put_before prefix more = and_so more (λ bytes. Ok (prefix ++ bytes))
 
--- the data of streams, one after the other, within a limit together; a stream's limit is judged before its header
+-- a stream that was read: its data, and how many bytes of later streams are still within the limit
+pub record StreamRead : Type 0 where
+  pub bytes : List ℕ
+  pub room : ℕ
+
+-- the stream of this name, whose limit is judged before its header
+abbrev pub read_of : Known → ℕ → List ℕ → Result StreamRead Event
+read_of known limit name = and_so (whole_in known limit name) (λ whole. and_so (data_in name whole) (λ bytes. Ok (record { bytes = bytes; room = limit - length whole })))
+
+-- the data of streams, one after the other; the streams are within a limit together, headers included
 abbrev pub data_of : Known → ℕ → List (List ℕ) → Result (List ℕ) Event
 data_of known limit [] = Ok []
-data_of known limit (name ∷ names) = and_so (and_so (whole_in known limit name) (raw name)) (λ bytes. put_before bytes (data_of known (limit - length bytes) names))
+data_of known limit (name ∷ names) = and_so (read_of known limit name) (λ stream. put_before stream.bytes (data_of known stream.room names))
 
 -- the most words that a play reads out
 abbrev pub reads_limit : ℕ

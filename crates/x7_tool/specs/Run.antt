@@ -9,7 +9,7 @@ use Rattle.x7_tool.specs.declared.form.Form.TheVariants as form
 use Rattle.x7_tool.specs.declared.refusal.Refusal.{Refusal}
 use Rattle.x7_tool.specs.declared.refusal.Why.{Why}
 use Rattle.x7_tool.specs.declared.refusal.Why.TheVariants as why
-use Rattle.x7_tool.specs.Event.{Event, Cause, Wording, Want, Fault, Absence, Break, Contents, cause_of, line_of, usage, write_fault}
+use Rattle.x7_tool.specs.Event.{Event, Cause, Want, Fault, Absence, Break, Contents, cause_of, line_of, usage, write_fault}
 use Rattle.x7_tool.specs.Form.{Asked, Assembling, FromMcs, Listing, Playing, ToMcs}
 use Rattle.x7_tool.specs.Outcome.{Answer, Known, Gives, IsOutcome}
 use Rattle.x7_tool.specs.Message.{event_of}

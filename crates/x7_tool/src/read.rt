@@ -1,16 +1,17 @@
 //! Reading an input in turns.
-ghost use Rattle.std.specs.Prelude.{◌≡◌, ◌+◌, ◌<◌, ◌≤◌, ◌∷◌, [], ℕ, List, Option, length, map, string_bytes, take, true, false, vec_len, IfErr, IfOk, OnOk};
+ghost use Rattle.std.specs.Prelude.{◌≡◌, ◌+◌, ◌-◌, ◌<◌, ◌≤◌, ◌∷◌, [], ℕ, List, Option, drop, length, map, string_bytes, take, true, false, vec_len, IfErr, IfOk, OnOk};
 ghost use Rattle.x7_words.specs.Count.{HasRisen};
 ghost use Rattle.x7_words.specs.Input.{AtEnd, Selects, preceded};
 ghost use Rattle.x7_tool.specs.Message.{event_of};
 ghost use Rattle.x7_tool.specs.Event.{read_fault};
-ghost use Rattle.x7_tool.specs.Outcome.{and_so, put_before, data_of, raw, stream_limit, whole_in, with_inputs};
+ghost use Rattle.x7_tool.specs.Outcome.{data_in, data_of, put_before, read_of, stream_limit, whole_in, with_inputs};
 ghost use Rattle.x7_tool.specs.Turn.{Unopened, Unread};
 ghost use Rattle.x7_tool.specs.Run.{IsCaused, RisesFor, seen};
 
+use crate::bad_input::InputFault;
 use crate::refusal::{Refusal, Why};
 use std::alloc::Global;
-use x7_header::behind_fixed_bytes;
+use x7_header::{HeaderFault, header_of};
 use x7_words::{Inputs, SelectFault};
 
 /// The most bytes of a stream, and of all streams of one command.
@@ -189,35 +190,56 @@ pub(crate) fn read_whole<'w, I: Inputs>(
     }
 }
 
-/// Appends the data of a stream of at most so many bytes. A .bit header isn't built yet.
+/// Where the data of a stream begin: after its header, or at its first byte where it has none.
+fn data_start<'w>(name: &'w str, bytes: &[u8]) -> Result<usize, Refusal<'w>>
+    ensures data { seen (λ start. drop start bytes.now) result ≡ data_in name.now bytes.now }
+    ensures within { IfOk result (λ start. start ≤ length bytes.now) }
+{
+    let place = match header_of(bytes) {
+        Ok(head) => return Ok(head.size),
+        Err(HeaderFault::Raw) => return Ok(0),
+        Err(HeaderFault::Cut(place)) => place,
+        Err(HeaderFault::Field(place)) => place,
+    };
+    Err(Refusal {
+        reason: Why::BadInput(InputFault::Byte(place as u64)),
+        name,
+    })
+}
+
+/// A stream that was read whole, and where its data begin.
+#[derive(Drop)]
+struct Stream {
+    bytes: Vec<u8>,
+    start: usize,
+}
+
+/// A stream of at most so many bytes.
 fn read_stream<'w, I: Inputs>(
+    alloc: Global,
     inputs: &mut I,
     name: &'w str,
     limit: usize,
-    onto: &mut Vec<u8>,
-) -> Result<(), Refusal<'w>>
+) -> Result<Stream, Refusal<'w>>
     ensures due { (flash : Option (List ℕ)) → IsCaused (with_inputs (I.contents inputs.old) flash) (RisesFor (name.now ∷ []) (I.faults inputs.old) (I.faults inputs.new)) (RisesFor (name.now ∷ []) (I.absences inputs.old) (I.absences inputs.new))
-        (λ known. put_before onto.old.items (and_so (whole_in known limit name.now) (raw name.now))) (seen (λ _. onto.new.items) result) }
-    ensures within { OnOk result (vec_len onto.new ≤ vec_len onto.old + limit) }
+        (λ known. read_of known limit name.now) (seen (λ stream. record { bytes = drop stream.start stream.bytes.items; room = limit - length stream.bytes.items }) result) }
+    ensures start { IfOk result (λ stream. stream.start ≤ vec_len stream.bytes) }
+    ensures within { IfOk result (λ stream. vec_len stream.bytes ≤ limit) }
     ensures map { I.contents inputs.new ≡ I.contents inputs.old }
     ensures faults { I.faults inputs.old ≤ I.faults inputs.new }
     ensures absences { I.absences inputs.old ≤ I.absences inputs.new }
 {
-    let start = onto.len();
-    match read_onto(inputs, name, limit, onto) {
-        Ok(()) => (),
+    let bytes = match read_whole(alloc, inputs, name, limit) {
+        Ok(bytes) => bytes,
         Err(refusal) => return Err(refusal),
-    }
-    match behind_fixed_bytes(&onto[start..]) {
-        Ok(_) => Err(Refusal {
-            reason: Why::Unbuilt,
-            name,
-        }),
-        Err(_) => Ok(()),
+    };
+    match data_start(name, &bytes) {
+        Ok(start) => Ok(Stream { bytes, start }),
+        Err(refusal) => Err(refusal),
     }
 }
 
-/// The data of streams, one after the other, within the limit together.
+/// The data of streams, one after the other. The streams are within the limit together, headers included.
 pub(crate) fn read_streams<'w, I: Inputs>(
     alloc: Global,
     inputs: &mut I,
@@ -231,12 +253,17 @@ pub(crate) fn read_streams<'w, I: Inputs>(
     ensures absences { I.absences inputs.old ≤ I.absences inputs.new }
 {
     let mut whole = Vec::new(alloc);
+    let mut left = STREAM_LIMIT;
     for name in streams {
-        let left = STREAM_LIMIT - whole.len();
-        match read_stream(inputs, name.as_str(), left, &mut whole) {
-            Ok(()) => (),
+        let stream = match read_stream(alloc, inputs, name.as_str(), left) {
+            Ok(stream) => stream,
             Err(refusal) => return Err(refusal),
+        };
+        match whole.extend_from_slice(&stream.bytes[stream.start..]) {
+            Ok(()) => (),
+            Err(_) => return Err(Refusal::unnamed(Why::NoMemory)),
         }
+        left -= stream.bytes.len();
     }
     Ok(whole)
 }

@@ -1,11 +1,14 @@
 use Rattle.std.proofs.Common.{append_assoc}
 use Rattle.x7_tool.proofs.bad_input.say_bad_input.Goals as goal
 
+pub returns-in-Line : goal.returns-in-Line
+returns-in-Line g c = rw c.in-Line.is c.say_number-in-Line.ensures
+
 pub returns-in-LongLine : goal.returns-in-LongLine
-returns-in-LongLine g c = rw c.in-LongLine.is c.say_line-in-LongLine.ensures
+returns-in-LongLine g c = rw c.in-LongLine.is c.say_number-in-LongLine.ensures
 
 pub returns-in-LargeLine : goal.returns-in-LargeLine
-returns-in-LargeLine g c = rw c.in-LargeLine.is c.say_line-in-LargeLine.ensures
+returns-in-LargeLine g c = rw c.in-LargeLine.is c.say_number-in-LargeLine.ensures
 
 pub returns-in-Overlap : goal.returns-in-Overlap
 returns-in-Overlap g c =

@@ -1,4 +1,4 @@
-use Rattle.std.proofs.Common.{◌≡◌, ℕ, ◌+◌, ◌<◌, ◌≤◌, ◌==◌, ◌&&◌, ◌⊎◌, false, List, [], ◌∷◌, ◌++◌, Option, Some, Err, take, length, length-append, length-take-le, refl, sym, ap, ◌∙◌, inl, inr, arith}
+use Rattle.std.proofs.Common.{◌≡◌, ℕ, ◌+◌, ◌≤◌, ◌⊎◌, List, [], ◌∷◌, ◌++◌, Option, Some, Err, take, length, length-append, length-take-le, refl, sym, ap, ◌∙◌, inl, inr, arith}
 use Rattle.std.proofs.lemmas.Result.{on_ok_weaker}
 use Rattle.x7_words.specs.Count.{HasRisen}
 use Rattle.x7_words.specs.Sink.{PutsFront}
@@ -8,7 +8,7 @@ use Rattle.x7_listing.specs.Listing.{listing_of}
 use Rattle.x7_tool.specs.Event.{no_memory, write_fault}
 use Rattle.x7_tool.specs.Form.{Listing}
 use Rattle.x7_tool.specs.Message.{event_of}
-use Rattle.x7_tool.specs.Outcome.{has_header, stream_limit, with_inputs}
+use Rattle.x7_tool.specs.Outcome.{stream_limit, with_inputs}
 use Rattle.x7_tool.specs.Run.{Ends, RisesFor}
 use Rattle.x7_tool.specs.Turn.{Lists}
 use Rattle.x7_tool.proofs.Causes.{both_err, ends_same, listed_whole, out_of_memory, unopened}

@@ -1,10 +1,10 @@
-use Rattle.std.proofs.Common.{◌≡◌, ℕ, List, Option, Some, Ok, Err, map, string_bytes, sym, ap, subst, ◌∙◌}
+use Rattle.std.proofs.Common.{◌≡◌, Option, Some, Err, map, string_bytes, sym, ap, subst, ◌∙◌}
 use Rattle.x7_words.specs.Count.{HasRisen}
 use Rattle.x7_tool.specs.Form.{Asked, Assembling, FromMcs, Listing, Playing, ToMcs, form_of, names_of}
 use Rattle.x7_tool.specs.Message.{event_of}
 use Rattle.x7_tool.specs.Outcome.{known_of, with_inputs}
 use Rattle.x7_tool.specs.Play.{whole_of}
-use Rattle.x7_tool.specs.Run.{Ends, EndsAs, RisesFor, asked, asked_by, seen}
+use Rattle.x7_tool.specs.Run.{Ends, RisesFor, asked, asked_by, seen}
 use Rattle.x7_tool.proofs.RunLemmas.{puts_end}
 use Rattle.x7_tool.proofs.top.answer.Goals as goal
 

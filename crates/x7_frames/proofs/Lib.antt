@@ -1,0 +1,4 @@
+pub mod DigitLemmas
+pub mod LineLemmas
+pub mod GoodLemmas
+pub mod TextLemmas
