@@ -2,6 +2,7 @@
 #![tactic(auto)]
 
 mod fault;
+mod laws;
 mod line;
 mod reading;
 #[cfg(test)]
@@ -9,5 +10,6 @@ mod tests;
 mod text;
 
 pub use fault::FramesFault;
+pub use laws::{one_plan, plan_text_leads_back};
 pub use reading::plan_of;
 pub use text::plan_text;

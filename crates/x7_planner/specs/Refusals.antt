@@ -1,5 +1,5 @@
 -- Why a planner refuses.
-use Rattle.std.specs.Prelude.{◌≡◌, ◌⊎◌, ℕ, ◌<◌, List, ◌∷◌, ◌++◌, length, All, Contains}
+use Rattle.std.specs.Prelude.{◌≡◌, ◌⊎◌, ℕ, ◌<◌, ◌≤◌, List, ◌∷◌, ◌++◌, length, All, Contains}
 use Rattle.x7_part.specs.AddressOrder.{addresses_in}
 use Rattle.x7_part.specs.Part.{PartData}
 use Rattle.x7_part.specs.Slots.{slots_in, from}
@@ -20,6 +20,12 @@ pub record IsFirstForeign (part : PartData) (rows : List PlanRow) (address : ℕ
   pub addressed : AreAddressed part before
   pub foreign : ¬ Contains (addresses_in part) row.far
   pub is : address ≡ row.far
+
+-- n slots can be read from an address: at least one, and no more than there are
+pub record CanRead (part : PartData) (address n : ℕ) : Type 0 where
+  pub has : Contains (addresses_in part) address
+  pub some : 0 < n
+  pub within : n ≤ length (from address (slots_in part))
 
 -- n slots can't be read from an address
 abbrev pub IsOutOfRange : PartData → ℕ → ℕ → Type 0

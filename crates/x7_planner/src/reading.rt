@@ -1,9 +1,7 @@
 //! The stream of a readback.
-ghost use Rattle.std.specs.Prelude.{◌≡◌, ◌⊎◌, ◌^◌, ◌<◌, ◌≤◌, ◌++◌, [], ◌∷◌, length, replicate, Contains, IfOk, IfErr};
-ghost use Rattle.x7_part.specs.AddressOrder.{addresses_in};
-ghost use Rattle.x7_part.specs.Slots.{from, slots_in};
+ghost use Rattle.std.specs.Prelude.{◌≡◌, ◌⊎◌, ◌^◌, ◌<◌, IfOk, IfErr};
 ghost use Rattle.x7_planner.specs.Readback.{read_stream, read_of_words};
-ghost use Rattle.x7_planner.specs.Refusals.{IsReadFault};
+ghost use Rattle.x7_planner.specs.Refusals.{CanRead, IsReadFault};
 ghost use Rattle.x7_planner.specs.declared.fault.PlanFault.{PlanFault};
 
 use crate::fault::PlanFault;
@@ -54,9 +52,7 @@ fn read_of(alloc: Global, far: u32, words: u32) -> Result<Vec<u8>, NoMemory>
 /// The stream that reads back n slots from an address on, behind a frame of zeros.
 pub fn readback(alloc: Global, part: &Part, far: u32, n: u32) -> Result<Vec<u8>, PlanFault>
     ensures stream { IfOk result (λ bytes. bytes.items ≡ read_stream part.now far n) }
-    ensures address { IfOk result (λ bytes. Contains (addresses_in part.now) far) }
-    ensures some { IfOk result (λ bytes. 0 < n) }
-    ensures within { IfOk result (λ bytes. n ≤ length (from far (slots_in part.now))) }
+    ensures can { IfOk result (λ bytes. CanRead part.now far n) }
     ensures fault { IfErr result (λ fault. (fault ≡ PlanFault.NoMemory) ⊎ IsReadFault part.now far n fault) }
 {
     if !part.is_address(far) {

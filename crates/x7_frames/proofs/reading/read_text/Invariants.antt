@@ -1,7 +1,7 @@
 use Rattle.std.proofs.Common.{◌≡◌, ◌+◌, ◌≤◌, length, vec_capacity}
 use Rattle.x7_part.specs.Part.{frame_words}
 use Rattle.x7_frames.specs.Steps.{Goes, HasMarks}
-use Rattle.x7_frames.proofs.reading.plan_of.Given as goal
+use Rattle.x7_frames.proofs.reading.read_text.Given as goal
 
 abbrev pub invariant-loop-fault : goal.invariant-loop-fault
 invariant-loop-fault l = record {
