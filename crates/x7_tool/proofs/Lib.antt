@@ -4,3 +4,4 @@ pub mod PlayLemmas
 pub mod ReadLemmas
 pub mod RunLemmas
 pub mod TurnLemmas
+pub mod FormLemmas

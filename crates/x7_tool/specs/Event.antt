@@ -58,6 +58,10 @@ input_text (input.Sum line want got) = codes "sum line " ++ (decimal line ++ (co
 input_text (input.LargeLine line) = codes "large line " ++ decimal line
 input_text (input.Overlap place) = codes "overlap " ++ hex_word place
 input_text input.NoEnd = codes "no end"
+input_text (input.AddressLine line) = codes "address line " ++ decimal line
+input_text (input.TwiceLine line) = codes "twice line " ++ decimal line
+input_text input.Foreign = codes "foreign"
+input_text input.Range = codes "range"
 
 -- a row of the table of reasons: the words stand before the name, the detail after it
 pub record Row : Type 0 where

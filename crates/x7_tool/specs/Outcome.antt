@@ -17,10 +17,19 @@ use Rattle.x7_engine.specs.Stops.{fault_of}
 use Rattle.x7_mcs.specs.declared.fault.McsFault.{McsFault}
 use Rattle.x7_mcs.specs.declared.fault.McsFault.TheVariants as mcs
 use Rattle.x7_mcs.specs.Flash.{mcs_of}
+use Rattle.x7_memory.specs.Planned.{PlanData}
+use Rattle.x7_frames.specs.FramesText.{IsPlanOf}
+use Rattle.x7_frames.specs.declared.fault.FramesFault.{FramesFault}
+use Rattle.x7_frames.specs.declared.fault.FramesFault.TheVariants as frames
+use Rattle.x7_planner.specs.Full.{full_stream}
+use Rattle.x7_planner.specs.Readback.{read_stream}
+use Rattle.x7_planner.specs.Refusals.{CanRead, IsReadFault}
+use Rattle.x7_planner.specs.declared.fault.PlanFault.{PlanFault}
+use Rattle.x7_planner.specs.declared.fault.PlanFault.TheVariants as planner
 use Rattle.x7_mcs.specs.Text.{mcs_text}
 use Rattle.x7_tool.specs.declared.bad_input.InputFault.TheVariants as input
 use Rattle.x7_tool.specs.Event.{Event, bad_input, bad_part, missing, no_memory, too_large, too_many_reads, unbuilt, usage}
-use Rattle.x7_tool.specs.Form.{Asked, Assembling, FromMcs, Listing, Playing, ToMcs, names_flash}
+use Rattle.x7_tool.specs.Form.{Asked, Assembling, FromMcs, Listing, PlanningFull, PlanningRead, Playing, ToMcs, names_flash}
 use Rattle.x7_part.specs.PartFile.{part_in}
 use Rattle.x7_tool.specs.Report.{report_text}
 
@@ -181,6 +190,42 @@ mcs_image name (Err fault) = Err (mcs_event name fault)
 abbrev pub mcs_read : Known → List ℕ → Result Answer Event
 mcs_read known text = and_so (whole_in known text_limit text) (λ bytes. mcs_image text (mcs_of bytes))
 
+-- ---- plans
+
+-- a part, and a frames text
+pub record PlanTexts : Type 0 where
+  pub part : PartData
+  pub text : List ℕ
+
+-- the part of a part file and then the text of a frames text
+abbrev pub plan_texts : Known → List ℕ → List ℕ → Result PlanTexts Event
+plan_texts known part frames = and_so (part_of known part) (λ p. and_so (whole_in known text_limit frames) (λ text. Ok (record { part = p; text = text })))
+
+-- the event of a frames text that gives no plan
+abbrev pub frames_event : List ℕ → FramesFault → Event
+frames_event name (frames.Line line) = bad_input name (input.Line line)
+frames_event name (frames.Address line) = bad_input name (input.AddressLine line)
+frames_event name (frames.Twice line) = bad_input name (input.TwiceLine line)
+frames_event name frames.NoMemory = no_memory
+
+-- `plan full PART FRAMES`: the full stream of the plan, or the frames text's first line at fault
+abbrev pub PlannedFull : List ℕ → Result PlanTexts Event → Result Answer Event → Type 0
+PlannedFull name (Err event) end = Err event ≡ end
+PlannedFull name (Ok texts) (Ok answer) = (answer.stopped ≡ false) × (plan : PlanData) × IsPlanOf texts.part texts.text (Ok plan) × (answer.text ≡ full_stream texts.part plan)
+PlannedFull name (Ok texts) (Err event) = (fault : FramesFault) × IsPlanOf texts.part texts.text (Err fault) × (frames_event name fault ≡ event)
+
+-- the event of a readback that isn't planned
+abbrev pub planner_event : List ℕ → PlanFault → Event
+planner_event name (planner.Foreign far) = bad_input name input.Foreign
+planner_event name (planner.Range n) = bad_input name input.Range
+planner_event name _ = no_memory
+
+-- `plan read PART FAR N`: the read stream, or why there is none
+abbrev pub PlannedRead : List ℕ → ℕ → ℕ → Result PartData Event → Result Answer Event → Type 0
+PlannedRead name far n (Err event) end = Err event ≡ end
+PlannedRead name far n (Ok part) (Ok answer) = (answer.stopped ≡ false) × CanRead part far n × (answer.text ≡ read_stream part far n)
+PlannedRead name far n (Ok part) (Err event) = (fault : PlanFault) × IsReadFault part far n fault × (planner_event name fault ≡ event)
+
 -- a form comes to this end, each form one case
 abbrev pub Gives : Known → Asked → Result Answer Event → Type 0
 Gives known (Listing stream) end = listed known stream ≡ end
@@ -188,6 +233,8 @@ Gives known (Playing part streams) end = played known part streams ≡ end
 Gives known (Assembling text) end = AssembledAs text (whole_in known text_limit text) end
 Gives known (ToMcs image) end = mcs_written known image ≡ end
 Gives known (FromMcs text) end = mcs_read known text ≡ end
+Gives known (PlanningFull part frames) end = PlannedFull frames (plan_texts known part frames) end
+Gives known (PlanningRead part far n) end = PlannedRead part far n (part_of known part) end
 
 -- the words come to this end: words without a form are a wrong usage
 abbrev pub IsOutcome : Known → Option Asked → Result Answer Event → Type 0

@@ -33,6 +33,14 @@ pub enum InputFault {
     Overlap(u32),
     /// The line that ends the text is missing.
     NoEnd,
+    /// The first line with an address that the part lacks.
+    AddressLine(u64),
+    /// The first line with an address that an earlier line has.
+    TwiceLine(u64),
+    /// The part has no frame at the address.
+    Foreign,
+    /// So many slots can't be read: none, or more than there are.
+    Range,
 }
 
 /// The start of the line, before the name of the input.
@@ -99,6 +107,10 @@ pub(crate) fn say_bad_input<E: Sink>(
         InputFault::LargeLine(line) => say_number(err, name, b": large line ", line),
         InputFault::Overlap(place) => say_at(err, name, b": overlap ", &hex_of_word(place)),
         InputFault::NoEnd => say_at(err, name, b": no end", b""),
+        InputFault::AddressLine(line) => say_number(err, name, b": address line ", line),
+        InputFault::TwiceLine(line) => say_number(err, name, b": twice line ", line),
+        InputFault::Foreign => say_at(err, name, b": foreign", b""),
+        InputFault::Range => say_at(err, name, b": range", b""),
         InputFault::Sum { line, want, got } => {
             let mut buffer = Buffer::new();
             say_sum(

@@ -7,6 +7,7 @@ mod bad_part;
 mod form;
 mod list;
 mod mcs;
+mod plan;
 mod play;
 mod read;
 mod refusal;

@@ -40,7 +40,7 @@ fn refusal_of<'w>(name: &'w str, fault: PartFault) -> Refusal<'w>
 }
 
 /// The part of a part file.
-fn read_part<'w, I: Inputs>(
+pub(crate) fn read_part<'w, I: Inputs>(
     alloc: Global,
     inputs: &mut I,
     name: &'w str,

@@ -22,3 +22,15 @@ pub returns-in-Sum : goal.returns-in-Sum
 returns-in-Sum g c =
     let said = rw (c.hex_of_byte.ensures, c.hex_of_byte-in-Sum.ensures, c.as_bytes.ensures.value, c.format.ensures.text) at c.say_sum.ensures in
     rw c.in-Sum.is (simp append_assoc said)
+
+pub returns-in-AddressLine : goal.returns-in-AddressLine
+returns-in-AddressLine g c = rw c.in-AddressLine.is c.say_number-in-AddressLine.ensures
+
+pub returns-in-TwiceLine : goal.returns-in-TwiceLine
+returns-in-TwiceLine g c = rw c.in-TwiceLine.is c.say_number-in-TwiceLine.ensures
+
+pub returns-in-Foreign : goal.returns-in-Foreign
+returns-in-Foreign g c = rw c.in-Foreign.is c.say_at-in-Foreign.ensures
+
+pub returns-in-Range : goal.returns-in-Range
+returns-in-Range g c = rw c.in-Range.is c.say_at-in-Range.ensures

@@ -1,6 +1,6 @@
 use Rattle.std.proofs.Common.{◌≡◌, Option, Some, Err, map, string_bytes, sym, ap, subst, ◌∙◌}
 use Rattle.x7_words.specs.Count.{HasRisen}
-use Rattle.x7_tool.specs.Form.{Asked, Assembling, FromMcs, Listing, Playing, ToMcs, form_of, names_of}
+use Rattle.x7_tool.specs.Form.{Asked, Assembling, FromMcs, Listing, PlanningFull, PlanningRead, Playing, ToMcs, form_of, names_of}
 use Rattle.x7_tool.specs.Message.{event_of}
 use Rattle.x7_tool.specs.Outcome.{known_of, with_inputs}
 use Rattle.x7_tool.specs.Play.{whole_of}
@@ -63,3 +63,25 @@ returns-in-Some-Asm-clause-ends g c =
     rw form (puts_end (with_inputs (i.contents c.args.inputs.now) flash) (RisesFor (names_of (Some asks)) (i.faults c.args.inputs.now) (i.faults c.asm.new.inputs)) (RisesFor (names_of (Some asks)) (i.absences c.args.inputs.now) (i.absences c.asm.new.inputs))
     asks (HasRisen (o.faults c.args.out.now) (o.faults c.put_whole-in-Some-Asm.new.out)) (o.written c.args.out.now) (o.written c.put_whole-in-Some-Asm.new.out) (seen whole_of c.asm.result) (seen (λ stopped. stopped) c.put_whole-in-Some-Asm.result)
     (λ t a e p. (a, (e, p))) (λ event e. e) (c.asm.ensures flash) c.put_whole-in-Some-Asm.ensures)
+
+pub returns-in-Some-PlanFull-clause-ends : goal.returns-in-Some-PlanFull-clause-ends
+returns-in-Some-PlanFull-clause-ends g c =
+    let i = g.I.Inputs in
+    let o = g.O.Sink in
+    let asks : Asked = PlanningFull c.in-Some-PlanFull.part.now c.in-Some-PlanFull.frames.now in
+    let form : form_of (map string_bytes c.args.words.now.items) ≡ Some asks = sym c.words_of.ensures ∙ ap asked c.in-Some-PlanFull.is ∙ ap (λ f. Some (asked_by f)) c.in-Some-PlanFull.field-0-is in
+    let flash = g.F.Flash.bytes c.args.flash.now in
+    rw form (puts_end (with_inputs (i.contents c.args.inputs.now) flash) (RisesFor (names_of (Some asks)) (i.faults c.args.inputs.now) (i.faults c.plan_full.new.inputs)) (RisesFor (names_of (Some asks)) (i.absences c.args.inputs.now) (i.absences c.plan_full.new.inputs))
+    asks (HasRisen (o.faults c.args.out.now) (o.faults c.put_whole-in-Some-PlanFull.new.out)) (o.written c.args.out.now) (o.written c.put_whole-in-Some-PlanFull.new.out) (seen whole_of c.plan_full.result) (seen (λ stopped. stopped) c.put_whole-in-Some-PlanFull.result)
+    (λ t a e p. (a, (e, p))) (λ event e. e) (c.plan_full.ensures flash) c.put_whole-in-Some-PlanFull.ensures)
+
+pub returns-in-Some-PlanRead-clause-ends : goal.returns-in-Some-PlanRead-clause-ends
+returns-in-Some-PlanRead-clause-ends g c =
+    let i = g.I.Inputs in
+    let o = g.O.Sink in
+    let asks : Asked = PlanningRead c.in-Some-PlanRead.part.now c.in-Some-PlanRead.far c.in-Some-PlanRead.n in
+    let form : form_of (map string_bytes c.args.words.now.items) ≡ Some asks = sym c.words_of.ensures ∙ ap asked c.in-Some-PlanRead.is ∙ ap (λ f. Some (asked_by f)) c.in-Some-PlanRead.field-0-is in
+    let flash = g.F.Flash.bytes c.args.flash.now in
+    rw form (puts_end (with_inputs (i.contents c.args.inputs.now) flash) (RisesFor (names_of (Some asks)) (i.faults c.args.inputs.now) (i.faults c.plan_read.new.inputs)) (RisesFor (names_of (Some asks)) (i.absences c.args.inputs.now) (i.absences c.plan_read.new.inputs))
+    asks (HasRisen (o.faults c.args.out.now) (o.faults c.put_whole-in-Some-PlanRead.new.out)) (o.written c.args.out.now) (o.written c.put_whole-in-Some-PlanRead.new.out) (seen whole_of c.plan_read.result) (seen (λ stopped. stopped) c.put_whole-in-Some-PlanRead.result)
+    (λ t a e p. (a, (e, p))) (λ event e. e) (c.plan_read.ensures flash) c.put_whole-in-Some-PlanRead.ensures)
