@@ -29,7 +29,8 @@ use Rattle.x7_flow.specs.declared.asked.Asked.{Asked}
 use Rattle.x7_flow.specs.declared.asked.Asked.TheVariants.{Load, Order, Word, Copies, Reads, Other}
 use Rattle.x7_flow.specs.Flow.{Flow, asked, asks, base_of, fault_by, flow_by, flow_of, frame_fault, given_of}
 use Rattle.x7_flow.specs.FrameMemory.{copy_pairs, landed_more, memory_of, puts}
-use Rattle.x7_flow.specs.Standing.{AfterAccess, AreFramesAfter, AreOf, Did, HasFlow, less, words_from, words_due, frames_read}
+use Rattle.x7_flow.specs.FrameAccess.{reads_frame_data}
+use Rattle.x7_flow.specs.Standing.{AfterAccess, AfterRead, AreFramesAfter, FramesStandFor, FramesState, AreOf, Did, HasFlow, less, words_from, words_due, frames_read}
 use Rattle.x7_flow.proofs.FlowLemmas.{flow_more, flow_sound, given_nowhere, landed_grows, memory_more, put_none}
 
 -- ---- each call of a pipeline does what is asked
@@ -309,6 +310,11 @@ frame_read_refused part p frames h r count fault b refused are =
     let f : Flow = flow_of part h in
     ap (λ (x : Asked). fault_by part x f) (read_asked (settings_of part.idcode h) r count true b) ∙ sym (refused f (same_flow part p (less 0 f) f (sym (no_less f)) are.flow))
 
+pub read_answered : (part : PartData) (f : FramesState) (h : History) (r count place : ℕ) (result : Option RunFault) → reads_frame_data h (Read r count) ≡ true →
+    ((g : Flow) → HasFlow part f.pipeline g → result ≡ fault_by part (Reads count) g) → FramesStandFor part f h 0 → AfterRead part f h r count place result
+read_answered part f h r count place None b none are = frame_read part f.pipeline f.memory h r count place b none are
+read_answered part f h r count place (Some fault) b refused are = frame_read_refused part f.pipeline f.memory h r count fault b refused are
+
 -- ---- a written word
 
 pub word_fault_is : (part : PartData) (p : PipelineData) (frames : List (List ℕ)) (h : History) (access : Access) (a : Asked) (result : Option RunFault) → a ≡ asks part.idcode h access →
@@ -331,12 +337,6 @@ begins_so part p frames stands none = record {
   memory = λ far. ap (λ (fs : List (List ℕ)). frame_at part fs far) none;
   due_given = omega arith;
 }
-
-pub reads_now : (idcode ctl0 held r count : ℕ) (h : History) (b : Bool) → b ≡ (r == 3 && (not (count == 0) && (held == 4 && not (forbids_reading ctl0)))) → ctl0_held h ≡ ctl0 → command_held h ≡ held →
-    (r == 3 && (not (count == 0) && gives_frames (settings_of idcode h))) ≡ b
-reads_now idcode ctl0 held r count h b e c d =
-    ap (λ (n : ℕ). r == 3 && (not (count == 0) && (n == 4 && not (forbids_reading (ctl0_held h))))) d
-    ∙ ap (λ (n : ℕ). r == 3 && (not (count == 0) && (held == 4 && not (forbids_reading n)))) c ∙ sym e
 
 -- ---- two that stand for the same
 

@@ -1,6 +1,6 @@
 -- A pipeline and a memory that stand for a history, and the words of frame data that are read out.
-use Rattle.std.specs.Prelude.{◌≡◌, ℕ, zero, suc, ◌+◌, ◌-◌, ◌≤◌, false, List, [], ◌∷◌, Option, None, Some, Result, Ok, Err}
-use Rattle.x7_packets.specs.History.{Entry, History}
+use Rattle.std.specs.Prelude.{◌≡◌, ℕ, zero, suc, ◌+◌, ◌-◌, ◌≤◌, false, List, [], ◌∷◌, Option, None, Some}
+use Rattle.x7_packets.specs.History.{Entry, History, Read, entry}
 use Rattle.x7_pipeline.specs.declared.fault.RunFault.{RunFault}
 use Rattle.x7_part.specs.Part.{PartData}
 use Rattle.x7_memory.specs.FrameMap.{FrameMap, AreSame}
@@ -56,11 +56,6 @@ pub record AreOf (part : PartData) (p : PipelineData) (frames : List (List ℕ))
   pub pipeline_fits : IsPipelineOf part p
   pub frames_fit : AreFramesOf part frames
 
--- after a read: its words of frame data are due, none where it asks for none; or it is refused
-abbrev pub AfterRead : PartData → PipelineData → List (List ℕ) → History → Entry → Result ℕ RunFault → Type 0
-AfterRead part p frames h e (Ok due) = (frame_fault part h e.access ≡ None) × AreFramesAfter part p frames (e ∷ h) due × (words_due part (e ∷ h) due ≡ frames_read part h due)
-AfterRead part p frames h e (Err fault) = frame_fault part h e.access ≡ Some fault
-
 -- ---- the frames of a device
 
 -- a pipeline, and the frames of a memory in number order of their addresses
@@ -75,3 +70,11 @@ FramesFit part f = AreOf part f.pipeline f.memory
 -- they stand for a history, of whose last read so many words of frame data are still due
 abbrev pub FramesStandFor : PartData → FramesState → History → ℕ → Type 0
 FramesStandFor part f h due = AreFramesAfter part f.pipeline f.memory h due
+
+-- after a read of frame data: all its words are due; or it is refused
+abbrev pub AfterRead : PartData → FramesState → History → ℕ → ℕ → ℕ → Option RunFault → Type 0
+AfterRead part f h register count place None =
+    (frame_fault part h (Read register count) ≡ None)
+    × FramesStandFor part f (entry (Read register count) place ∷ h) count
+    × (words_due part (entry (Read register count) place ∷ h) count ≡ frames_read part h count)
+AfterRead part f h register count place (Some fault) = frame_fault part h (Read register count) ≡ Some fault

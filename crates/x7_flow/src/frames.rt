@@ -4,12 +4,13 @@ ghost use Rattle.x7_words.specs.Word.{words_of_bytes};
 ghost use Rattle.x7_part.specs.Part.{PartData};
 ghost use Rattle.x7_packets.specs.History.{History, Read, Write, entry};
 ghost use Rattle.x7_regs.specs.Register.{number_of};
+ghost use Rattle.x7_flow.specs.FrameAccess.{reads_frame_data};
 ghost use Rattle.x7_flow.specs.Settings.{AreSettingsAfter, settings_of, takes_frames};
 ghost use Rattle.x7_flow.specs.Flow.{far_in, flow_of, frame_fault};
 ghost use Rattle.x7_flow.specs.Standing.{AfterAccess, AfterRead, FramesFit, FramesStandFor, less, words_due};
 ghost use Rattle.x7_flow.specs.Words.{WordsTaken};
 
-use crate::asking::{asked_write, reads_frames};
+use crate::asking::asked_write;
 use crate::settings::FrameSettings;
 use crate::taking::{next_word, pass_words, refuses_read, take, take_words};
 use std::alloc::Global;
@@ -92,25 +93,13 @@ impl Frames {
         take_words(bytes, part, &mut self.pipeline, &mut self.memory)
     }
 
-    /// A read begins. It gives the number of words of frame data that are due from now on, 0 where it reads other words, or why it
-    /// is refused. It takes nothing: `next` gives the words.
-    pub fn begin_read(
-        &self,
-        settings: FrameSettings,
-        register: u8,
-        count: u32,
-        part: &Part,
-    ) -> Result<u32, RunFault>
-        ensures begins { (h : History) (place : ℕ) → AreSettingsAfter part.now.idcode settings h → FramesStandFor part.now self.now h 0 →
-            AfterRead part.now self.now.pipeline self.now.memory h (entry (Read register count) place) result }
+    /// A read of so many words of frame data begins: from now on they are due, and `next` gives them. Or it is refused, and this
+    /// says why.
+    pub fn begin_read(&self, count: u32, part: &Part) -> Option<RunFault>
+        ensures { (h : History) (register place : ℕ) → reads_frame_data h (Read register count) ≡ true → FramesStandFor part.now self.now h 0 →
+            AfterRead part.now self.now h register count place result }
     {
-        if !reads_frames(settings, register, count) {
-            return Ok(0);
-        }
-        match refuses_read(count, part, &self.pipeline) {
-            Some(fault) => Err(fault),
-            None => Ok(count),
-        }
+        refuses_read(count, part, &self.pipeline)
     }
 
     /// The next of the words of frame data that are due.

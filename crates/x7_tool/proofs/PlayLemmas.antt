@@ -15,8 +15,9 @@ use Rattle.x7_engine.specs.Kept.{on_the_bench}
 use Rattle.x7_engine.specs.ReadBuffer.{IsFull, IsFullBy, ReadBufState, gathered, with_words}
 use Rattle.x7_engine.proofs.FeedLemmas.{told_all, told_within}
 use Rattle.x7_engine.specs.Standing.{NoWordDue, Answers, DeviceState, DeviceStandsFor, taken_in, told_of}
-use Rattle.x7_engine.specs.State.{line_by, reads_of, state_of, stop_in}
+use Rattle.x7_engine.specs.State.{line_by, memory_in, reads_of, state_of, stop_in}
 use Rattle.x7_engine.specs.Stops.{Stopped, fault_of}
+use Rattle.x7_memory.specs.FrameMap.{FrameMap}
 use Rattle.x7_tool.specs.Event.{too_many_reads}
 use Rattle.x7_tool.specs.Outcome.{Known, part_by, reads_limit, report_of, reported}
 use Rattle.x7_part.specs.PartFile.{part_in}
@@ -25,7 +26,7 @@ use Rattle.x7_tool.specs.Report.{report_text}
 use Rattle.x7_tool.specs.Run.{IsCaused}
 use Rattle.x7_tool.proofs.ReadLemmas.{works}
 use Rattle.x7_engine.proofs.ReadsLemmas.{reads_grow}
-use Rattle.x7_engine.proofs.StateLemmas.{stop_is_final-reads, stop_is_final-state, stop_is_final-stop}
+use Rattle.x7_engine.proofs.StateLemmas.{stop_is_final-memory, stop_is_final-reads, stop_is_final-state, stop_is_final-stop}
 
 -- a part file that gave no part
 pub refused : (told : Option Known) (F L : List ℕ → Type 0) (name text : List ℕ) (fault : PartFault) → (fault ≡ part.NoMemory) ⊎ (part_in text ≡ Err fault) → IsCaused told F L (λ t. part_by name (part_in text)) (Err (part_event name fault))
@@ -96,6 +97,8 @@ stopped_end part bytes prefix rest d reads s fits split stands told few stop due
       stands = stands;
       stop = ap (stop_in part on_the_bench) split ∙ stop_is_final-stop part on_the_bench prefix rest s all stop ∙ sym stop;
       state = ap (state_of part on_the_bench false) split ∙ stop_is_final-state part on_the_bench false prefix rest s all stop;
+      memory = ap (memory_in part on_the_bench) split ∙ stop_is_final-memory part on_the_bench prefix rest s all stop;
+      none_due = due;
       reads_are = told ∙ told_all part on_the_bench d prefix due ∙ sym (ap (reads_of part on_the_bench) split ∙ stop_is_final-reads part on_the_bench prefix rest s all stop);
       few = few;
     }
@@ -117,6 +120,8 @@ play_end part bytes at d read reads fed.All fits e stands answer told few =
       stands = stands;
       stop = ap (stop_in part on_the_bench) (sym whole);
       state = ap (state_of part on_the_bench false) (sym whole);
+      memory = ap (memory_in part on_the_bench) (sym whole);
+      none_due = answer.1;
       reads_are = told ∙ told_all part on_the_bench d (take at bytes ++ take (length (drop at bytes)) (drop at bytes)) answer.1 ∙ ap (reads_of part on_the_bench) whole;
       few = few;
     }
@@ -130,15 +135,17 @@ reported_over part bytes k =
     rw long refl
 
 pub reported_is : (part : PartData) (bytes : List ℕ) (d : DeviceState) (reads text : List ℕ) (fault : Option Fault) (stopped : Bool) → (p : IsPlayed part bytes d reads) → fault ≡ fault_of (line_by (stop_in part on_the_bench p.prefix)) → stopped ≡ is_some fault
-    → text ≡ report_text part.name (state_of part on_the_bench false p.prefix) reads → reported part bytes ≡ Ok (record { stopped = stopped; text = text })
+    → text ≡ report_text part (state_of part on_the_bench false p.prefix) reads (memory_in part on_the_bench p.prefix) → reported part bytes ≡ Ok (record { stopped = stopped; text = text })
 unfolding reported
 reported_is part bytes d reads text fault stopped p f s t =
     let few : length (reads_of part on_the_bench bytes) ≤ reads_limit = subst (λ x. length x ≤ reads_limit) p.reads_are p.few in
     let short : nat_lt reads_limit (length (reads_of part on_the_bench bytes)) ≡ false = grind (arith, few, nat_tests) in
     let stop : is_some (fault_of (line_by (stop_in part on_the_bench bytes))) ≡ stopped = ap (λ x. is_some (fault_of (line_by x))) p.stop ∙ sym (ap is_some f) ∙ sym s in
-    let whole : report_text part.name (state_of part on_the_bench false bytes) (reads_of part on_the_bench bytes) ≡ text
-    = ap (λ x. report_text part.name x (reads_of part on_the_bench bytes)) p.state ∙ ap (report_text part.name (state_of part on_the_bench false p.prefix)) (sym p.reads_are) ∙ sym t in
-    let answer : report_of part bytes ≡ record { stopped = stopped; text = text } = ap (λ x. record { stopped = x; text = report_text part.name (state_of part on_the_bench false bytes) (reads_of part on_the_bench bytes) }) stop ∙ ap (λ x. record { stopped = stopped; text = x }) whole in
+    let memory : FrameMap = memory_in part on_the_bench bytes in
+    let whole : report_text part (state_of part on_the_bench false bytes) (reads_of part on_the_bench bytes) memory ≡ text
+    = ap (λ x. report_text part x (reads_of part on_the_bench bytes) memory) p.state ∙ ap (λ x. report_text part (state_of part on_the_bench false p.prefix) x memory) (sym p.reads_are)
+    ∙ ap (report_text part (state_of part on_the_bench false p.prefix) reads) p.memory ∙ sym t in
+    let answer : report_of part bytes ≡ record { stopped = stopped; text = text } = ap (λ x. record { stopped = x; text = report_text part (state_of part on_the_bench false bytes) (reads_of part on_the_bench bytes) memory }) stop ∙ ap (λ x. record { stopped = stopped; text = x }) whole in
     rw short (ap Ok answer)
 
 -- ---- lists

@@ -12,7 +12,7 @@ use Rattle.x7_listing.specs.declared.assembler.AsmFault.TheVariants as asm
 use Rattle.x7_part.specs.declared.fault.PartFault.{PartFault}
 use Rattle.x7_part.specs.Part.{PartData}
 use Rattle.x7_engine.specs.Kept.{on_the_bench}
-use Rattle.x7_engine.specs.State.{line_by, reads_of, state_of, stop_in}
+use Rattle.x7_engine.specs.State.{line_by, memory_in, reads_of, state_of, stop_in}
 use Rattle.x7_engine.specs.Stops.{fault_of}
 use Rattle.x7_mcs.specs.declared.fault.McsFault.{McsFault}
 use Rattle.x7_mcs.specs.declared.fault.McsFault.TheVariants as mcs
@@ -136,7 +136,7 @@ reads_limit = 16777216
 abbrev pub report_of : PartData → List ℕ → Answer
 report_of part bytes = record {
   stopped = is_some (fault_of (line_by (stop_in part on_the_bench bytes)));
-  text = report_text part.name (state_of part on_the_bench false bytes) (reads_of part on_the_bench bytes);
+  text = report_text part (state_of part on_the_bench false bytes) (reads_of part on_the_bench bytes) (memory_in part on_the_bench bytes);
 }
 
 unfoldable pub reported : PartData → List ℕ → Result Answer Event

@@ -21,5 +21,5 @@ returns-in-Ok-report-clause-ok c =
     let part = c.args.part.now in
     let bytes = c.args.bytes.now in
     let p = c.in-Ok.ensures.ok in
-    let text = rw c.deref.ensures.value at (c.in-Ok-report.ensures part on_the_bench false p.prefix p.stands) in
+    let text = rw c.deref.ensures.value at (c.in-Ok-report.ensures part on_the_bench false p.prefix p.stands p.none_due) in
     reported_is part bytes c.in-Ok.played.device c.in-Ok.played.reads.items c.in-Ok-report.text.items c.fault.result c.is_some.result p (c.fault.ensures part on_the_bench false p.prefix p.stands) c.is_some.ensures text
