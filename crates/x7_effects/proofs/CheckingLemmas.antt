@@ -11,7 +11,7 @@ use Rattle.x7_crc.specs.OpenWrites.{in_order, running_check}
 use Rattle.x7_crc.proofs.CheckLemmas.{check_after-none, check_after_fits, check_after-append, check_of-more}
 use Rattle.x7_effects.proofs.Items.{Item, desync, closed, Noop, Dummy, Write, WriteLong, Read, ReadLong, item_words, IsItem, AreItems, writes_entered, item_entered, items_entered, MayLead, opened, bytes_of_words}
 use Rattle.x7_effects.proofs.Checking.{Checking, clears_by, after_write, after_writes, after_item, after_items, after_step, after_steps, checking_of, at_first, ClearFirst, Piece, Put, Check, piece_item, with_checks, ChecksAgree, IsPiece, ArePieces, register_written}
-use Rattle.x7_effects.proofs.StreamLemmas.{opened_history, behind_history, items_entered-append}
+use Rattle.x7_effects.proofs.StreamLemmas.{opened_history, appended_history, items_entered-append}
 use Rattle.x7_words.specs.Word.{AreBytes}
 use Rattle.x7_packets.specs.ByHand.{reading_of}
 use Rattle.x7_packets.specs.Appended.{MayFollow}
@@ -122,39 +122,39 @@ pieces_agree place (p ∷ pieces) h f a =
     (pieces_agree n pieces (item_entered place i h) f.1 (piece_agrees place p h f.0 a))
 
 -- the word of a check is that of the items before it
-pub checks_after : (c : Checking) (front back : List Piece) → with_checks c (front ++ back) ≡ with_checks c front ++ with_checks (after_items c (with_checks c front)) back
+pub checks_after : (c : Checking) (prefix back : List Piece) → with_checks c (prefix ++ back) ≡ with_checks c prefix ++ with_checks (after_items c (with_checks c prefix)) back
 checks_after c [] back = refl
-checks_after c (p ∷ front) back = ap (λ t. piece_item c p ∷ t) (checks_after (after_item c (piece_item c p)) front back)
+checks_after c (p ∷ prefix) back = ap (λ t. piece_item c p ∷ t) (checks_after (after_item c (piece_item c p)) prefix back)
 
 pub begins : checking_of [] ≡ record { check = 0; held = 0 }
 begins = checking_is (checking_of []) (record { check = 0; held = 0 }) (check_after-none 0 (lit< tt)) refl
 
-pub check_value : (leading : List ℕ) (front back : List Piece) → MayLead leading → AreItems (with_checks (record { check = 0; held = 0 }) front)
-    → (let items : List Item = with_checks (record { check = 0; held = 0 }) front in
+pub check_value : (leading : List ℕ) (prefix back : List Piece) → MayLead leading → AreItems (with_checks (record { check = 0; held = 0 }) prefix)
+    → (let items : List Item = with_checks (record { check = 0; held = 0 }) prefix in
     let word : ℕ = running_check (history_of (bytes_of_words (opened leading items))) in
-    (rest : List Item) × (with_checks (record { check = 0; held = 0 }) (front ++ Check ∷ back) ≡ items ++ Write 0 (word ∷ []) ∷ rest))
-check_value leading front back m f =
-    let items : List Item = with_checks at_first front in
+    (rest : List Item) × (with_checks (record { check = 0; held = 0 }) (prefix ++ Check ∷ back) ≡ items ++ Write 0 (word ∷ []) ∷ rest))
+check_value leading prefix back m f =
+    let items : List Item = with_checks at_first prefix in
     let c : Checking = after_items at_first items in
     let place : ℕ = 4 * length leading + 4 in
     let same : c ≡ checking_of (history_of (bytes_of_words (opened leading items))) =
     ap (λ (x : Checking). after_items x items) (sym begins) ∙ sym (items_checked place items []) ∙ ap checking_of (sym (opened_history leading items m f)) in
     let rest : List Item = with_checks (after_item c (Write 0 (c.check ∷ []))) back in
-    (rest, checks_after at_first front (Check ∷ back) ∙ ap (λ (x : ℕ). items ++ Write 0 (x ∷ []) ∷ rest) (ap (λ (x : Checking). x.check) same))
+    (rest, checks_after at_first prefix (Check ∷ back) ∙ ap (λ (x : ℕ). items ++ Write 0 (x ∷ []) ∷ rest) (ap (λ (x : Checking). x.check) same))
 
 pub checks_cleared : (c d : Checking) (pieces : List Piece) → with_checks c (Put (Write 4 (7 ∷ [])) ∷ pieces) ≡ with_checks d (Put (Write 4 (7 ∷ [])) ∷ pieces)
 checks_cleared c d pieces = refl
 
--- behind any bytes whose checks agree, all checks agree
-pub checks_behind : (bytes leading : List ℕ) (pieces : List Piece) (k : ℕ) → AreBytes bytes → MayFollow (reading_of bytes).place (bytes_of_words (closed leading (with_checks at_first pieces) k)) → MayLead leading → ArePieces pieces → ClearFirst pieces
+-- after any bytes whose checks agree, all checks agree
+pub checks_appended : (bytes leading : List ℕ) (pieces : List Piece) (k : ℕ) → AreBytes bytes → MayFollow (reading_of bytes).place (bytes_of_words (closed leading (with_checks at_first pieces) k)) → MayLead leading → ArePieces pieces → ClearFirst pieces
     → ChecksAgree (history_of bytes) → ChecksAgree (history_of (bytes ++ bytes_of_words (closed leading (with_checks at_first pieces) k)))
-checks_behind bytes leading pieces k b e m f same a =
+checks_appended bytes leading pieces k b e m f same a =
     let items : List Item = with_checks at_first pieces in
     let n : ℕ = length bytes + 4 * length leading + 4 in
     let h : History = history_of bytes in
     let fits : AreItems items = pieces_fit at_first pieces (omega arith) f in
     let agree : ChecksAgree (items_entered n items h) = subst (λ (t : List Item). ChecksAgree (items_entered n t h)) (same (checking_of h)) (pieces_agree n pieces h f a) in
-    subst ChecksAgree (sym (behind_history bytes leading items k b e m fits ∙ items_entered-append n items (desync ∷ []) h)) (λ r. absurd (omega (arith, r)), agree)
+    subst ChecksAgree (sym (appended_history bytes leading items k b e m fits ∙ items_entered-append n items (desync ∷ []) h)) (λ r. absurd (omega (arith, r)), agree)
 
 -- the same of any words, each with its step
 step_checked : (place : ℕ) (s : Step) (h : History) → checking_of (entered place s h) ≡ after_step (checking_of h) s

@@ -23,8 +23,8 @@ use Rattle.x7_effects.proofs.Frames.{joined, AreWide, zero_frame, frame_of, fram
 use Rattle.x7_effects.specs.Partial.{Stretch, Copies, Rows}
 use Rattle.x7_effects.proofs.Streams.{one, stream_of, full_pieces, full_stream, copy_pieces, stretch_pieces, stretches_pieces, partial_pieces, read_pieces, read_stream, HaveWords, IsStretch, AreStretches}
 use Rattle.x7_effects.proofs.FrameLemmas.{all_wide, plan_wide, first_small}
-use Rattle.x7_effects.proofs.StreamLemmas.{bytes_count, behind_history, behind_ends, head_leads, items_entered-append}
-use Rattle.x7_effects.proofs.CheckingLemmas.{pieces_fit, checks_behind}
+use Rattle.x7_effects.proofs.StreamLemmas.{bytes_count, appended_history, appended_ends, head_leads, items_entered-append}
+use Rattle.x7_effects.proofs.CheckingLemmas.{pieces_fit, checks_appended}
 use Rattle.x7_packets.specs.Appended.{MayFollow}
 use Rattle.x7_packets.specs.ByHand.{reading_of}
 use Rattle.x7_packets.specs.History as access
@@ -222,22 +222,22 @@ full_length part plan is e = stream_length (full_pieces part plan) 16 ∙ omega 
 pub read_length : (part : PartData) (far n : ℕ) → length (read_stream part far n) ≡ 100
 read_length part far n = stream_length (read_pieces part far n) 4
 
--- a planner's stream behind bytes that end searching
+-- a planner's stream after bytes that end searching
 stream_parted : (bytes : List ℕ) (pieces : List Piece) (k : ℕ) → is_synced (reading_of bytes).place ≡ false → MayFollow (reading_of bytes).place (stream_of pieces k)
 stream_parted bytes pieces k e = record { searching = e; apart = inr (bytes_of_words (closed (0xFFFFFFFF ∷ 0xFFFFFFFF ∷ 0xFFFFFFFF ∷ 0x000000BB ∷ 0x11220044 ∷ 0xFFFFFFFF ∷ 0xFFFFFFFF ∷ []) (with_checks at_first pieces) k), refl) }
 
-pub stream_behind : (bytes : List ℕ) (pieces : List Piece) (k : ℕ) → AreBytes bytes → is_synced (reading_of bytes).place ≡ false → ArePieces pieces
+pub stream_appended : (bytes : List ℕ) (pieces : List Piece) (k : ℕ) → AreBytes bytes → is_synced (reading_of bytes).place ≡ false → ArePieces pieces
     → history_of (bytes ++ stream_of pieces k) ≡ items_entered (length bytes + 36) (with_checks at_first pieces ++ desync ∷ []) (history_of bytes)
-stream_behind bytes pieces k b e f =
-    behind_history bytes bus_width_head (with_checks at_first pieces) k b (stream_parted bytes pieces k e) head_leads (pieces_fit at_first pieces (omega arith) f)
+stream_appended bytes pieces k b e f =
+    appended_history bytes bus_width_head (with_checks at_first pieces) k b (stream_parted bytes pieces k e) head_leads (pieces_fit at_first pieces (omega arith) f)
     ∙ ap (λ (x : ℕ). items_entered x (with_checks at_first pieces ++ desync ∷ []) (history_of bytes)) (omega arith)
 
 pub stream_ends : (bytes : List ℕ) (pieces : List Piece) (k : ℕ) → AreBytes bytes → is_synced (reading_of bytes).place ≡ false → ArePieces pieces → is_synced (reading_of (bytes ++ stream_of pieces k)).place ≡ false
-stream_ends bytes pieces k b e f = behind_ends bytes bus_width_head (with_checks at_first pieces) k b (stream_parted bytes pieces k e) head_leads (pieces_fit at_first pieces (omega arith) f)
+stream_ends bytes pieces k b e f = appended_ends bytes bus_width_head (with_checks at_first pieces) k b (stream_parted bytes pieces k e) head_leads (pieces_fit at_first pieces (omega arith) f)
 
 pub stream_agrees : (bytes : List ℕ) (pieces : List Piece) (k : ℕ) → AreBytes bytes → is_synced (reading_of bytes).place ≡ false → ArePieces pieces → ClearFirst pieces
     → ChecksAgree (history_of bytes) → ChecksAgree (history_of (bytes ++ stream_of pieces k))
-stream_agrees bytes pieces k b e f c a = checks_behind bytes bus_width_head pieces k b (stream_parted bytes pieces k e) head_leads f c a
+stream_agrees bytes pieces k b e f c a = checks_appended bytes bus_width_head pieces k b (stream_parted bytes pieces k e) head_leads f c a
 
 -- the word of DESYNC is the last access, and its place
 pub last_is : (n : ℕ) (items : List Item) (h : History) → items_entered n (items ++ desync ∷ []) h ≡ entry (access.Write 4 13) (n + 4 * length (items_words items) + 8) ∷ items_entered n items h

@@ -102,17 +102,17 @@ frames_paired part plan (End ∷ places) more = frames_paired part plan places m
 
 -- slots end in a pad
 pub record EndsInPad (places : List Slot) : Type 0 where
-  pub front : List Slot
-  pub split : places ≡ front ++ Pad ∷ []
+  pub prefix : List Slot
+  pub split : places ≡ prefix ++ Pad ∷ []
 
 pub slots_end : (far : FieldWidths) (rows : List RowData) → 1 ≤ length rows → EndsInPad (slots far rows)
 unfolding slots
 slots_end far [] h = absurd (omega arith)
-slots_end far (r ∷ []) h = record { front = map Frame (addresses_of far r) ++ Pad ∷ []; split = append-nil (map Frame (addresses_of far r) ++ Pad ∷ Pad ∷ []) ∙ sym (append_assoc (map Frame (addresses_of far r)) (Pad ∷ []) (Pad ∷ [])) }
+slots_end far (r ∷ []) h = record { prefix = map Frame (addresses_of far r) ++ Pad ∷ []; split = append-nil (map Frame (addresses_of far r) ++ Pad ∷ Pad ∷ []) ∙ sym (append_assoc (map Frame (addresses_of far r)) (Pad ∷ []) (Pad ∷ [])) }
 slots_end far (r ∷ s ∷ rows) h =
     let e : EndsInPad (slots far (s ∷ rows)) = slots_end far (s ∷ rows) (omega arith) in
     let first : List Slot = map Frame (addresses_of far r) ++ Pad ∷ Pad ∷ [] in
-    record { front = first ++ e.front; split = ap (λ t. first ++ t) e.split ∙ sym (append_assoc first e.front (Pad ∷ [])) }
+    record { prefix = first ++ e.prefix; split = ap (λ t. first ++ t) e.split ∙ sym (append_assoc first e.prefix (Pad ∷ [])) }
 
 addresses_before_pad : (places : List Slot) → addresses_among (places ++ Pad ∷ []) ≡ addresses_among places
 addresses_before_pad [] = refl
@@ -130,15 +130,15 @@ pub slots_land : (part : PartData) (plan : PlanData) → IsPart part → IsPlan 
 slots_land part plan is p same_width =
     let first : ℕ = get_or (addresses_in part) 0 0 in
     let e : EndsInPad (slots_in part) = slots_end part.far part.rows is.some in
-    let frames : List (List ℕ) = frames_at part plan e.front in
+    let frames : List (List ℕ) = frames_at part plan e.prefix in
     let last : List ℕ = zero_frame part in
-    let split : frames_at part plan (slots_in part) ≡ frames ++ last ∷ [] = ap (frames_at part plan) e.split ∙ frames_at-append part plan e.front (Pad ∷ []) in
+    let split : frames_at part plan (slots_in part) ≡ frames ++ last ∷ [] = ap (frames_at part plan) e.split ∙ frames_at-append part plan e.prefix (Pad ∷ []) in
     let wide : AreWide (frame_words part) (frames ++ last ∷ []) = rw split at (all_wide part plan (slots_in part) (plan_wide part plan p same_width)) in
-    let fars : addresses_in part ≡ addresses_among e.front = sym (addresses_among-slots part.far part.rows) ∙ ap addresses_among e.split ∙ addresses_before_pad e.front in
+    let fars : addresses_in part ≡ addresses_among e.prefix = sym (addresses_among-slots part.far part.rows) ∙ ap addresses_among e.split ∙ addresses_before_pad e.prefix in
     ap (λ t. landed part first (onto (joined t) [])) split
     ∙ frames_land part first frames last (omega (arith, is.words)) wide
     ∙ ap (λ t. reverse (filter_map pair_of (zip t frames))) (slots_all part is ∙ e.split)
-    ∙ ap reverse (frames_paired part plan e.front (Pad ∷ []) ∙ ap (map (row_of part plan)) (sym fars))
+    ∙ ap reverse (frames_paired part plan e.prefix (Pad ∷ []) ∙ ap (map (row_of part plan)) (sym fars))
 
 -- a map of addresses to frames of their own
 row_here : (part : PartData) (plan : PlanData) (fars : List ℕ) (far : ℕ) → Contains fars far → planned (map (row_of part plan) fars) far ≡ Some (frame_of part plan (Frame far))

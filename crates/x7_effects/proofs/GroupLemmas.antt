@@ -23,10 +23,10 @@ abbrev pub Names : ℕ → List PlanRow → Type 0
 Names far [] = ⊥
 Names far (p ∷ pairs) = (p.far ≡ far) ⊎ Names far pairs
 
-names_front : (far : ℕ) (ps qs : List PlanRow) → Names far ps → Names far (ps ++ qs)
-names_front far [] qs n = absurd n
-names_front far (p ∷ ps) qs (inl e) = inl e
-names_front far (p ∷ ps) qs (inr n) = inr (names_front far ps qs n)
+names_prefix : (far : ℕ) (ps qs : List PlanRow) → Names far ps → Names far (ps ++ qs)
+names_prefix far [] qs n = absurd n
+names_prefix far (p ∷ ps) qs (inl e) = inl e
+names_prefix far (p ∷ ps) qs (inr n) = inr (names_prefix far ps qs n)
 
 names_back : (far : ℕ) (ps qs : List PlanRow) → Names far qs → Names far (ps ++ qs)
 names_back far [] qs n = n
@@ -35,7 +35,7 @@ names_back far (p ∷ ps) qs n = inr (names_back far ps qs n)
 names_reverse : (far : ℕ) (ps : List PlanRow) → Names far ps → Names far (reverse ps)
 names_reverse far [] n = n
 names_reverse far (p ∷ ps) (inl e) = subst (Names far) (sym (reverse_onto ps p [])) (names_back far (reverse ps) (p ∷ []) (inl e))
-names_reverse far (p ∷ ps) (inr n) = subst (Names far) (sym (reverse_onto ps p [])) (names_front far (reverse ps) (p ∷ []) (names_reverse far ps n))
+names_reverse far (p ∷ ps) (inr n) = subst (Names far) (sym (reverse_onto ps p [])) (names_prefix far (reverse ps) (p ∷ []) (names_reverse far ps n))
 
 names_or_not : (far : ℕ) (ps : List PlanRow) → Names far ps ⊎ (Names far ps → ⊥)
 names_or_not far [] = inr (λ n. n)
@@ -59,12 +59,12 @@ named_same : (rows pairs : List PlanRow) (far : ℕ) → Agree rows pairs → Na
 named_same rows [] far a n = absurd n
 named_same rows (p ∷ pairs) far a n = elim (cases_eq far p.far) [
   | inl e ↦ planned_here p pairs far e ∙ sym a.0 ∙ ap (planned rows) (sym e)
-  | inr x ↦ planned_behind p pairs far x ∙ named_same rows pairs far a.1 (behind n x)
+  | inr x ↦ planned_behind p pairs far x ∙ named_same rows pairs far a.1 (in_rest n x)
 ]
   where
-    behind : (p.far ≡ far) ⊎ Names far pairs → (far ≡ p.far → ⊥) → Names far pairs
-    behind (inl e) x = absurd (x (sym e))
-    behind (inr n) x = n
+    in_rest : (p.far ≡ far) ⊎ Names far pairs → (far ≡ p.far → ⊥) → Names far pairs
+    in_rest (inl e) x = absurd (x (sym e))
+    in_rest (inr n) x = n
 
 unnamed : (pairs : List PlanRow) (far : ℕ) → (Names far pairs → ⊥) → planned pairs far ≡ None
 unfolding planned
@@ -91,20 +91,20 @@ later far r rows o n = in_rows rows (λ k d h. o 0 (suc k) d (omega arith) (omeg
     in_rows (q ∷ qs) above (inl e) = let h : r.far < q.far = above 0 q (omega arith) in omega (arith, e)
     in_rows (q ∷ qs) above (inr n) = in_rows qs (λ k d h. above (suc k) d (omega arith)) n
 
-pub order_behind : (r : PlanRow) (rows : List PlanRow) → AreInOrder (r ∷ rows) → AreInOrder rows
-order_behind r rows o i j d low inside = o (suc i) (suc j) d (omega arith) (omega arith)
+pub order_rest : (r : PlanRow) (rows : List PlanRow) → AreInOrder (r ∷ rows) → AreInOrder rows
+order_rest r rows o i j d low inside = o (suc i) (suc j) d (omega arith) (omega arith)
 
 all_named : (rows pairs : List PlanRow) → ((far : ℕ) → Names far rows → Names far pairs) → Cover rows pairs
 all_named [] pairs f = tt
 all_named (r ∷ rows) pairs f = (f r.far (inl refl), all_named rows pairs (λ far n. f far (inr n)))
 
-own_behind : (r : PlanRow) (rows qs : List PlanRow) → ((far : ℕ) → Names far qs → r.far < far) → Agree rows qs → Agree (r ∷ rows) qs
-own_behind r rows [] f a = tt
-own_behind r rows (q ∷ qs) f a = (planned_behind r rows q.far (λ e. let h : r.far < q.far = f q.far (inl refl) in omega (arith, e)) ∙ a.0, own_behind r rows qs (λ far n. f far (inr n)) a.1)
+own_rest : (r : PlanRow) (rows qs : List PlanRow) → ((far : ℕ) → Names far qs → r.far < far) → Agree rows qs → Agree (r ∷ rows) qs
+own_rest r rows [] f a = tt
+own_rest r rows (q ∷ qs) f a = (planned_behind r rows q.far (λ e. let h : r.far < q.far = f q.far (inl refl) in omega (arith, e)) ∙ a.0, own_rest r rows qs (λ far n. f far (inr n)) a.1)
 
 pub own : (rows : List PlanRow) → AreInOrder rows → Agree rows rows
 own [] o = tt
-own (r ∷ rows) o = (planned_here r rows r.far refl, own_behind r rows rows (λ far n. later far r rows o n) (own rows (order_behind r rows o)))
+own (r ∷ rows) o = (planned_here r rows r.far refl, own_rest r rows rows (λ far n. later far r rows o n) (own rows (order_rest r rows o)))
 
 -- ---- stretches in order
 
@@ -139,7 +139,7 @@ newest_names : (far : ℕ) (stretches : List Stretch) → Names far (flat_map pa
 newest_names far [] n = n
 newest_names far (s ∷ stretches) n = elim (names_either far (pairs_of s) (flat_map pairs_of stretches) n) [
   | inl m ↦ names_back far (newest stretches) (reverse (pairs_of s)) (names_reverse far (pairs_of s) m)
-  | inr m ↦ names_front far (newest stretches) (reverse (pairs_of s)) (newest_names far stretches m)
+  | inr m ↦ names_prefix far (newest stretches) (reverse (pairs_of s)) (newest_names far stretches m)
 ]
 
 cover_newest : (rows : List PlanRow) (stretches : List Stretch) → Cover rows (flat_map pairs_of stretches) → Cover rows (newest stretches)
@@ -261,16 +261,16 @@ group_names all [] r far i t n = absurd i
 group_names all (q ∷ qs) r far i t n = by_place i (λ j. group_names all qs r far j t n)
   where
     here : (b : Bool) → b ≡ true → Names far (Pairs q.words (with_content q.words all)) → Names far (flat_map pairs_of (if b then Copies q.words (planned_addresses (with_content q.words all)) ∷ groups_led all qs else groups_led all qs))
-    here true e m = names_front far (Pairs q.words (with_content q.words all)) (flat_map pairs_of (groups_led all qs)) m
+    here true e m = names_prefix far (Pairs q.words (with_content q.words all)) (flat_map pairs_of (groups_led all qs)) m
     here false e m = absurd (cc)
 
-    behind : (b : Bool) → Names far (flat_map pairs_of (groups_led all qs)) → Names far (flat_map pairs_of (if b then Copies q.words (planned_addresses (with_content q.words all)) ∷ groups_led all qs else groups_led all qs))
-    behind true m = names_back far (Pairs q.words (with_content q.words all)) (flat_map pairs_of (groups_led all qs)) m
-    behind false m = m
+    in_rest : (b : Bool) → Names far (flat_map pairs_of (groups_led all qs)) → Names far (flat_map pairs_of (if b then Copies q.words (planned_addresses (with_content q.words all)) ∷ groups_led all qs else groups_led all qs))
+    in_rest true m = names_back far (Pairs q.words (with_content q.words all)) (flat_map pairs_of (groups_led all qs)) m
+    in_rest false m = m
 
     by_place : (q ≡ r) ⊎ IsIn r qs → (IsIn r qs → Names far (flat_map pairs_of (groups_led all qs))) → Names far (flat_map pairs_of (groups_led all (q ∷ qs)))
     by_place (inl e) ih = here (leads_group all q) (ap (leads_group all) e ∙ t) (subst (λ (x : PlanRow). Names far (Pairs x.words (with_content x.words all))) (sym e) n)
-    by_place (inr j) ih = behind (leads_group all q) (ih j)
+    by_place (inr j) ih = in_rest (leads_group all q) (ih j)
 
 shared_long : (all : List PlanRow) (q : PlanRow) → is_shared all q ≡ true → 0 < length (with_content q.words all)
 shared_long all q t = grind (arith, nat_tests)
@@ -295,7 +295,7 @@ others_named all (r ∷ qs) q i f = by_test (is_shared all r) refl i (λ j. othe
     by_test false t (inr i) ih = inr (ih i)
 
 row_named : (rows : List PlanRow) (q : PlanRow) (b : Bool) → is_shared rows q ≡ b → IsIn q rows → Names q.far (flat_map pairs_of (groups_led rows rows) ++ others rows rows)
-row_named rows q true t i = names_front q.far (flat_map pairs_of (groups_led rows rows)) (others rows rows) (shared_named rows q i t)
+row_named rows q true t i = names_prefix q.far (flat_map pairs_of (groups_led rows rows)) (others rows rows) (shared_named rows q i t)
 row_named rows q false t i = names_back q.far (flat_map pairs_of (groups_led rows rows)) (others rows rows) (others_named rows rows q i t)
 
 all_rows_named : (rows qs pairs : List PlanRow) → ((q : PlanRow) → IsIn q rows → Names q.far pairs) → ((q : PlanRow) → IsIn q qs → IsIn q rows) → Cover qs pairs

@@ -6,7 +6,7 @@ use Rattle.std.proofs.lemmas.Bool.{eqb-true}
 use Rattle.x7_part.specs.Part.{PartData}
 use Rattle.x7_memory.specs.Planned.{AreApart, AreInOrder, PlanRow, planned, planned_addresses}
 use Rattle.x7_effects.specs.Partial.{Copies, WritesOnce, groups_led, is_shared, leads_group, others, pairs_in, same_words, stretches_of, with_content}
-use Rattle.x7_effects.proofs.GroupLemmas.{Agree, Names, Pairs, content_agrees, later, names_either, order_behind, own, stretches_agree, stretches_cover, stretches_pairs}
+use Rattle.x7_effects.proofs.GroupLemmas.{Agree, Names, Pairs, content_agrees, later, names_either, order_rest, own, stretches_agree, stretches_cover, stretches_pairs}
 use Rattle.x7_effects.proofs.PlacedLemmas.{by_all}
 
 -- no address comes twice
@@ -20,7 +20,7 @@ apart_append (x ∷ xs) ys a b f = ((λ n. elim (names_either x.far xs ys n) [ i
 
 apart_rows : (rows : List PlanRow) → AreInOrder rows → Apart rows
 apart_rows [] o = tt
-apart_rows (r ∷ rows) o = ((λ n. let above : r.far < r.far = later r.far r rows o n in omega (arith, above)), apart_rows rows (order_behind r rows o))
+apart_rows (r ∷ rows) o = ((λ n. let above : r.far < r.far = later r.far r rows o n in omega (arith, above)), apart_rows rows (order_rest r rows o))
 
 -- ---- rows of one content, and the other rows, are some of the rows
 
@@ -76,15 +76,15 @@ led_by : (all qs : List PlanRow) (far : ℕ) → Names far (pairs_in (groups_led
 led_by all [] far n = absurd n
 led_by all (q ∷ qs) far n = by (leads_group all q) refl n (λ m. led_by all qs far m)
   where
-    behind : LedBy all qs far → LedBy all (q ∷ qs) far
-    behind l = record { row = l.row; there = inr l.there; leads = l.leads; named = l.named }
+    in_rest : LedBy all qs far → LedBy all (q ∷ qs) far
+    in_rest l = record { row = l.row; there = inr l.there; leads = l.leads; named = l.named }
 
     by : (b : Bool) → leads_group all q ≡ b → Names far (pairs_in (if b then Copies q.words (planned_addresses (with_content q.words all)) ∷ groups_led all qs else groups_led all qs)) → (Names far (pairs_in (groups_led all qs)) → LedBy all qs far) → LedBy all (q ∷ qs) far
     by true e n ih = elim (names_either far (Pairs q.words (with_content q.words all)) (pairs_in (groups_led all qs)) n) [
       | inl m ↦ record { row = q; there = inl refl; leads = e; named = m }
-      | inr m ↦ behind (ih m)
+      | inr m ↦ in_rest (ih m)
     ]
-    by false e n ih = behind (ih n)
+    by false e n ih = in_rest (ih n)
 
 both_true : (a b : Bool) → (a && b) ≡ true → (a ≡ true) × (b ≡ true)
 both_true true b e = (refl, e)
@@ -128,13 +128,13 @@ alone : (all qs : List PlanRow) (far : ℕ) → Agree all qs → Names far (othe
 alone all [] far a n = absurd n
 alone all (q ∷ qs) far a n = by (is_shared all q) refl n (λ m. alone all qs far a.1 m)
   where
-    behind : Alone all qs far → Alone all (q ∷ qs) far
-    behind l = record { row = l.row; lone = l.lone; named = l.named }
+    in_rest : Alone all qs far → Alone all (q ∷ qs) far
+    in_rest l = record { row = l.row; lone = l.lone; named = l.named }
 
     by : (b : Bool) → is_shared all q ≡ b → Names far (if b then others all qs else q ∷ others all qs) → (Names far (others all qs) → Alone all qs far) → Alone all (q ∷ qs) far
-    by true e n ih = behind (ih n)
+    by true e n ih = in_rest (ih n)
     by false e (inl m) ih = record { row = q; lone = e; named = ap (planned all) (sym m) ∙ a.0 }
-    by false e (inr m) ih = behind (ih m)
+    by false e (inr m) ih = in_rest (ih m)
 
 group_or_other : (all : List PlanRow) (far : ℕ) → Agree all all → Names far (pairs_in (groups_led all all)) → Names far (others all all) → ⊥
 group_or_other all far a n m =

@@ -28,7 +28,7 @@ use Rattle.x7_effects.proofs.FormLemmas.{partial_clears}
 use Rattle.x7_effects.proofs.FrameLemmas.{address_small}
 use Rattle.x7_effects.proofs.GoingLemmas.{IsGoing, going_bytes, written, written_append}
 use Rattle.x7_effects.proofs.GroupLemmas.{plan_put}
-use Rattle.x7_effects.proofs.PlacedLemmas.{by_all, by_recursion, plan_fits, rises_behind, rises_in, stretches_land}
+use Rattle.x7_effects.proofs.PlacedLemmas.{by_all, by_recursion, plan_fits, rises_rest, rises_in, stretches_land}
 use Rattle.x7_effects.proofs.PlanLemmas.{stretches_stand}
 use Rattle.x7_effects.proofs.RestingLemmas.{going_at_rest, going_closed}
 use Rattle.x7_effects.proofs.StretchLemmas.{pieces_sum, stretches_ready}
@@ -53,13 +53,13 @@ fewer a l [] ys r s c = omega arith
 fewer a l (x ∷ xs) [] r s c = absurd (let low = c.0.1 in omega arith)
 fewer a l (x ∷ xs) (y ∷ ys) r s c =
     elim (cases_eq x y) [
-      | inl e ↦ (let rest : AllByRecursion (Contains ys) xs = all_later y xs ys (subst (λ (z : ℕ). Rises (z + 1) xs) e (rises_behind a x xs r)) c.1 in
-          let fewer_rest : length xs ≤ length ys = fewer (x + 1) (y + 1) xs ys (rises_behind a x xs r) (rises_behind l y ys s) rest in
+      | inl e ↦ (let rest : AllByRecursion (Contains ys) xs = all_later y xs ys (subst (λ (z : ℕ). Rises (z + 1) xs) e (rises_rest a x xs r)) c.1 in
+          let fewer_rest : length xs ≤ length ys = fewer (x + 1) (y + 1) xs ys (rises_rest a x xs r) (rises_rest l y ys s) rest in
           omega (arith, fewer_rest))
       | inr n ↦ (let there : Contains ys x = not_first x y ys n c.0 in
-          let above : y + 1 ≤ x = rises_in (y + 1) ys x (rises_behind l y ys s) there in
-          let rises : Rises (y + 1) (x ∷ xs) = rise (y + 1) x xs above (rises_behind a x xs r) in
-          let fewer_all : length (x ∷ xs) ≤ length ys = fewer (y + 1) (y + 1) (x ∷ xs) ys rises (rises_behind l y ys s) (all_later y (x ∷ xs) ys rises c) in
+          let above : y + 1 ≤ x = rises_in (y + 1) ys x (rises_rest l y ys s) there in
+          let rises : Rises (y + 1) (x ∷ xs) = rise (y + 1) x xs above (rises_rest a x xs r) in
+          let fewer_all : length (x ∷ xs) ≤ length ys = fewer (y + 1) (y + 1) (x ∷ xs) ys rises (rises_rest l y ys s) (all_later y (x ∷ xs) ys rises c) in
           omega (arith, fewer_all))
     ]
   where

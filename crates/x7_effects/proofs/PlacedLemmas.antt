@@ -37,8 +37,8 @@ rises_in _ _ x (risen l) (k, low, e) = absurd (omega arith)
 rises_in _ _ x (rise l y ys le more) (zero, low, e) = omega (arith, e)
 rises_in _ _ x (rise l y ys le more) (suc k, low, e) = let h : y + 1 ≤ x = rises_in (y + 1) ys x more (k, omega arith, e) in omega arith
 
-pub rises_behind : (l y : ℕ) (ys : List ℕ) → Rises l (y ∷ ys) → Rises (y + 1) ys
-rises_behind _ _ _ (rise l y ys le more) = more
+pub rises_rest : (l y : ℕ) (ys : List ℕ) → Rises l (y ∷ ys) → Rises (y + 1) ys
+rises_rest _ _ _ (rise l y ys le more) = more
 
 -- from an address on the first slot is its frame
 record Begins (far : ℕ) (places : List Slot) : Type 0 where
@@ -64,14 +64,14 @@ from_next l a b [] rest r e = absurd (cc)
 from_next l a b (Frame x ∷ places) rest r e =
     elim (cases_eq x a) [
       | inl y ↦ (let whole : Frame x ∷ places ≡ Frame a ∷ Frame b ∷ rest = rw (eq-eqb x a y) at e in
-          let behind : places ≡ Frame b ∷ rest = cc in
-          let risen_there : Rises (x + 1) (b ∷ addresses_among rest) = subst (λ t. Rises (x + 1) (addresses_among t)) behind (rises_behind l x (addresses_among places) r) in
+          let rest_is : places ≡ Frame b ∷ rest = cc in
+          let risen_there : Rises (x + 1) (b ∷ addresses_among rest) = subst (λ t. Rises (x + 1) (addresses_among t)) rest_is (rises_rest l x (addresses_among places) r) in
           let above : x + 1 ≤ b = rises_in (x + 1) (b ∷ addresses_among rest) b risen_there (0, omega arith, refl) in
-          rw (ne_eqb x b (λ h. omega (arith, h))) (ap (from b) behind ∙ rw (eq-eqb b b refl) refl))
+          rw (ne_eqb x b (λ h. omega (arith, h))) (ap (from b) rest_is ∙ rw (eq-eqb b b refl) refl))
       | inr n ↦ (let whole : from a places ≡ Frame a ∷ Frame b ∷ rest = rw (ne_eqb x a n) at e in
           let there : Contains (addresses_among places) b = slot_among a 1 b places (ap (λ t. get_or t 1 End) whole) in
-          let above : x + 1 ≤ b = rises_in (x + 1) (addresses_among places) b (rises_behind l x (addresses_among places) r) there in
-          rw (ne_eqb x b (λ h. omega (arith, h))) (from_next (x + 1) a b places rest (rises_behind l x (addresses_among places) r) whole))
+          let above : x + 1 ≤ b = rises_in (x + 1) (addresses_among places) b (rises_rest l x (addresses_among places) r) there in
+          rw (ne_eqb x b (λ h. omega (arith, h))) (from_next (x + 1) a b places rest (rises_rest l x (addresses_among places) r) whole))
     ]
 from_next l a b (Pad ∷ places) rest r e = from_next l a b places rest r e
 from_next l a b (End ∷ places) rest r e = from_next l a b places rest r e

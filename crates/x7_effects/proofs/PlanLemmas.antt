@@ -36,33 +36,33 @@ pub targets : (part : PartData) (rows : List PlanRow) → IsPart part → AllByR
 targets part [] is a = tt
 targets part (r ∷ rows) is a = (target part r.far is a.0, targets part rows is a.1)
 
--- ---- slots behind a run
+-- ---- slots after a run
 
 -- from an address on the slots end in a pad
 from_pad : (far : ℕ) (places : List Slot) → 0 < length (from far (places ++ Pad ∷ [])) → EndsInPad (from far (places ++ Pad ∷ []))
 from_pad far [] l = absurd (omega arith)
 from_pad far (Frame a ∷ places) l =
     elim (cases_eq a far) [
-      | inl y ↦ rw (eq-eqb a far y) (record { front = Frame a ∷ places; split = refl })
+      | inl y ↦ rw (eq-eqb a far y) (record { prefix = Frame a ∷ places; split = refl })
       | inr n ↦ rw (ne_eqb a far n) (from_pad far places (rw (ne_eqb a far n) at l))
     ]
 from_pad far (Pad ∷ places) l = from_pad far places l
 from_pad far (End ∷ places) l = from_pad far places l
 
-no_pad : (rows : List PlanRow) (front : List Slot) → row_slots rows ≡ front ++ Pad ∷ [] → ⊥
+no_pad : (rows : List PlanRow) (prefix : List Slot) → row_slots rows ≡ prefix ++ Pad ∷ [] → ⊥
 no_pad [] [] e = cc
-no_pad [] (s ∷ front) e = cc
+no_pad [] (s ∷ prefix) e = cc
 no_pad (r ∷ rows) [] e = cc
-no_pad (r ∷ rows) (s ∷ front) e = no_pad rows front (let t : row_slots rows ≡ front ++ Pad ∷ [] = cc in t)
+no_pad (r ∷ rows) (s ∷ prefix) e = no_pad rows prefix (let t : row_slots rows ≡ prefix ++ Pad ∷ [] = cc in t)
 
 -- a run's rows leave one slot more at least
 one_more : (part : PartData) (far : ℕ) (rows : List PlanRow) (more : List Slot) → IsPart part → has_frame_at part far ≡ true → slots_from part far ≡ row_slots rows ++ more → length rows + 1 ≤ length (slots_from part far)
 one_more part far rows [] is a e =
     let some : 0 < length (slots_from part far) = grind (arith, nat_tests, a) in
     let pads : EndsInPad (slots_in part) = slots_end part.far part.rows is.some in
-    let whole : slots_from part far ≡ from far (pads.front ++ Pad ∷ []) = ap (from far) pads.split in
-    let ends : EndsInPad (from far (pads.front ++ Pad ∷ [])) = from_pad far pads.front (subst (λ (t : List Slot). 0 < length t) whole some) in
-    absurd (no_pad rows ends.front (sym (append-nil (row_slots rows)) ∙ sym e ∙ whole ∙ ends.split))
+    let whole : slots_from part far ≡ from far (pads.prefix ++ Pad ∷ []) = ap (from far) pads.split in
+    let ends : EndsInPad (from far (pads.prefix ++ Pad ∷ [])) = from_pad far pads.prefix (subst (λ (t : List Slot). 0 < length t) whole some) in
+    absurd (no_pad rows ends.prefix (sym (append-nil (row_slots rows)) ∙ sym e ∙ whole ∙ ends.split))
 one_more part far rows (s ∷ more) is a e =
     let count : length (slots_from part far) ≡ length (row_slots rows) + length (s ∷ more) = ap length e ∙ length-append (row_slots rows) (s ∷ more) in
     omega (arith, count, slots_count rows)

@@ -53,29 +53,29 @@ item_more items i =
     ap (λ t. bytes_of_words (bus_width_head ++ sync_word ∷ t)) last
     ∙ flat_map-append bytes_of_word (opened bus_width_head items) (item_words i)
 
-piece_more : (front : List Piece) (p : Piece) → bytes_so (front ++ p ∷ []) ≡ bytes_so front ++ bytes_of_words (item_words (piece_item (after_items at_first (with_checks at_first front)) p))
-piece_more front p =
-    ap (λ t. bytes_of_words (opened bus_width_head t)) (checks_after at_first front (p ∷ []))
-    ∙ item_more (with_checks at_first front) (piece_item (after_items at_first (with_checks at_first front)) p)
+piece_more : (prefix : List Piece) (p : Piece) → bytes_so (prefix ++ p ∷ []) ≡ bytes_so prefix ++ bytes_of_words (item_words (piece_item (after_items at_first (with_checks at_first prefix)) p))
+piece_more prefix p =
+    ap (λ t. bytes_of_words (opened bus_width_head t)) (checks_after at_first prefix (p ∷ []))
+    ∙ item_more (with_checks at_first prefix) (piece_item (after_items at_first (with_checks at_first prefix)) p)
 
 -- the check is that of the bytes before it
-check_so : (front : List Piece) → ArePieces front → (after_items at_first (with_checks at_first front)).check ≡ check_of_bytes (bytes_so front)
-check_so front f =
-    let items : List Item = with_checks at_first front in
-    let fits : AreItems items = pieces_fit at_first front (omega arith) f in
+check_so : (prefix : List Piece) → ArePieces prefix → (after_items at_first (with_checks at_first prefix)).check ≡ check_of_bytes (bytes_so prefix)
+check_so prefix f =
+    let items : List Item = with_checks at_first prefix in
+    let fits : AreItems items = pieces_fit at_first prefix (omega arith) f in
     ap (λ (c : Checking). c.check)
     (ap (λ (c : Checking). after_items c items) (sym begins) ∙ sym (items_checked 36 items []) ∙ ap checking_of (sym (opened_history bus_width_head items head_leads fits)))
 
-spelled_one : (front : List Piece) (p : Piece) → ArePieces front → planner.with_piece (bytes_so front) (spelled p) ≡ bytes_so (front ++ p ∷ [])
-spelled_one front (Put i) f = sym (piece_more front (Put i))
-spelled_one front Check f = ap (λ (c : ℕ). bytes_so front ++ bytes_of_words (0x30000001 ∷ c ∷ [])) (sym (check_so front f)) ∙ sym (piece_more front Check)
+spelled_one : (prefix : List Piece) (p : Piece) → ArePieces prefix → planner.with_piece (bytes_so prefix) (spelled p) ≡ bytes_so (prefix ++ p ∷ [])
+spelled_one prefix (Put i) f = sym (piece_more prefix (Put i))
+spelled_one prefix Check f = ap (λ (c : ℕ). bytes_so prefix ++ bytes_of_words (0x30000001 ∷ c ∷ [])) (sym (check_so prefix f)) ∙ sym (piece_more prefix Check)
 
-spelled_all : (front pieces : List Piece) → ArePieces front → ArePieces pieces → fold planner.with_piece (bytes_so front) (map spelled pieces) ≡ bytes_so (front ++ pieces)
-spelled_all front [] f g = ap bytes_so (sym (append-nil front))
-spelled_all front (p ∷ pieces) f g =
-    ap (λ b. fold planner.with_piece b (map spelled pieces)) (spelled_one front p f)
-    ∙ spelled_all (front ++ p ∷ []) pieces (all-append IsPiece front (p ∷ []) f (g.0, tt)) g.1
-    ∙ ap bytes_so (append_assoc front (p ∷ []) pieces)
+spelled_all : (prefix pieces : List Piece) → ArePieces prefix → ArePieces pieces → fold planner.with_piece (bytes_so prefix) (map spelled pieces) ≡ bytes_so (prefix ++ pieces)
+spelled_all prefix [] f g = ap bytes_so (sym (append-nil prefix))
+spelled_all prefix (p ∷ pieces) f g =
+    ap (λ b. fold planner.with_piece b (map spelled pieces)) (spelled_one prefix p f)
+    ∙ spelled_all (prefix ++ p ∷ []) pieces (all-append IsPiece prefix (p ∷ []) f (g.0, tt)) g.1
+    ∙ ap bytes_so (append_assoc prefix (p ∷ []) pieces)
 
 -- DESYNC and the no-ops
 spelled_end : (pieces : List Piece) (noops : ℕ) → planner.with_piece (bytes_so pieces) (planner.Words (planner.desync ++ replicate noops planner.no_op)) ≡ stream_of pieces noops
@@ -127,18 +127,18 @@ full_same part plan is p e =
     let ws : List ℕ = joined (frames_at part plan (slots_in part)) in
     let fits : ArePieces (full_pieces part plan) = full_fits part plan is p e (have_words plan.rows p.each) in
     let count : frame_words part * length (slots_in part) ≡ length ws = sym (frames_long part plan (slots_in part) p e) in
-    let front : List Piece = opening part ws in
-    let first : bytes_of_words (full.full_opening part) ++ bytes_of_words (full.slot_words part plan (slots_in part)) ≡ bytes_so front =
+    let prefix : List Piece = opening part ws in
+    let first : bytes_of_words (full.full_opening part) ++ bytes_of_words (full.slot_words part plan (slots_in part)) ≡ bytes_so prefix =
     ap (λ t. bytes_of_words (full.full_opening part) ++ bytes_of_words t) (slots_same part plan (slots_in part))
     ∙ ap (λ (k : ℕ). bytes_of_words (words_before part k) ++ bytes_of_words ws) count
     ∙ sym (flat_map-append bytes_of_word (words_before part (length ws)) ws)
     ∙ ap (λ t. bytes_of_words (words_before part (length ws) ++ t)) (sym (append-nil ws))
     ∙ ap bytes_of_words (sym (opening_same part ws)) in
-    let front_fits : ArePieces front = (fits.0, (fits.1.0, (fits.1.1.0, (fits.1.1.1.0, (fits.1.1.1.1.0, (fits.1.1.1.1.1.0, (fits.1.1.1.1.1.1.0, (fits.1.1.1.1.1.1.1.0, (fits.1.1.1.1.1.1.1.1.0, (fits.1.1.1.1.1.1.1.1.1.0, (fits.1.1.1.1.1.1.1.1.1.1.0, tt))))))))))) in
+    let prefix_fits : ArePieces prefix = (fits.0, (fits.1.0, (fits.1.1.0, (fits.1.1.1.0, (fits.1.1.1.1.0, (fits.1.1.1.1.1.0, (fits.1.1.1.1.1.1.0, (fits.1.1.1.1.1.1.1.0, (fits.1.1.1.1.1.1.1.1.0, (fits.1.1.1.1.1.1.1.1.1.0, (fits.1.1.1.1.1.1.1.1.1.1.0, tt))))))))))) in
     let closing_fits : ArePieces closing = fits.1.1.1.1.1.1.1.1.1.1.1 in
     ap (λ b. fold planner.with_piece b (planner.Check ∷ planner.Words (planner.lfrm ++ planner.start) ∷ planner.Check ∷ planner.Words (planner.desync ++ replicate 16 planner.no_op) ∷ [])) first
-    ∙ ap (λ b. planner.with_piece (planner.with_piece b planner.Check) (planner.Words (planner.desync ++ replicate 16 planner.no_op))) (words_twice (planner.with_piece (bytes_so front) planner.Check) planner.lfrm planner.start)
-    ∙ ap (λ b. planner.with_piece b (planner.Words (planner.desync ++ replicate 16 planner.no_op))) (spelled_all front closing front_fits closing_fits)
+    ∙ ap (λ b. planner.with_piece (planner.with_piece b planner.Check) (planner.Words (planner.desync ++ replicate 16 planner.no_op))) (words_twice (planner.with_piece (bytes_so prefix) planner.Check) planner.lfrm planner.start)
+    ∙ ap (λ b. planner.with_piece b (planner.Words (planner.desync ++ replicate 16 planner.no_op))) (spelled_all prefix closing prefix_fits closing_fits)
     ∙ spelled_end (full_pieces part plan) 16
 
 -- ---- a partial stream
@@ -207,17 +207,17 @@ stretches_width part rows w =
 abbrev before_check : PartData → List PlanRow → List Piece
 before_check part rows = Put item.Noop ∷ command 7 ∷ Put item.Noop ∷ one 12 part.idcode ∷ stretches_pieces part (stretches_of part rows)
 
-front_of : (P : Piece → Type 0) (xs ys : List Piece) → AllByRecursion P (xs ++ ys) → AllByRecursion P xs
-front_of P [] ys a = tt
-front_of P (x ∷ xs) ys a = (a.0, front_of P xs ys a.1)
+prefix_of : (P : Piece → Type 0) (xs ys : List Piece) → AllByRecursion P (xs ++ ys) → AllByRecursion P xs
+prefix_of P [] ys a = tt
+prefix_of P (x ∷ xs) ys a = (a.0, prefix_of P xs ys a.1)
 
 pub partial_same : (part : PartData) (rows : List PlanRow) → AllByRecursion (λ row. length row.words ≡ frame_words part) rows → ArePieces (plan_pieces part rows) → partial_stream part rows ≡ stream_of (plan_pieces part rows) 4
 partial_same part rows w fits =
-    let front : List Piece = before_check part rows in
+    let prefix : List Piece = before_check part rows in
     let c : Checking = after_pieces at_first (Put item.Noop ∷ command 7 ∷ Put item.Noop ∷ one 12 part.idcode ∷ []) in
     let words : flat_map (stretch_words part) (stretches_of part rows) ≡ items_words (with_checks c (stretches_pieces part (stretches_of part rows))) = sym (stretches_spelled part c (stretches_of part rows) (stretches_width part rows w)) in
     ap (λ t. planner.with_piece (planner.with_piece (bytes_of_words (planner.head ++ (planner.rcrc ++ (planner.no_op ∷ (planner.write_one planner.idcode part.idcode ++ t))))) planner.Check) (planner.Words (planner.desync ++ replicate 4 planner.no_op))) words
-    ∙ ap (λ b. planner.with_piece b (planner.Words (planner.desync ++ replicate 4 planner.no_op))) (spelled_one front Check (front_of IsPiece front (Check ∷ []) fits))
+    ∙ ap (λ b. planner.with_piece b (planner.Words (planner.desync ++ replicate 4 planner.no_op))) (spelled_one prefix Check (prefix_of IsPiece prefix (Check ∷ []) fits))
     ∙ spelled_end (plan_pieces part rows) 4
 
 -- ---- addresses

@@ -21,7 +21,7 @@ use Rattle.x7_engine.proofs.FirstStopLemmas.{newest_within}
 use Rattle.x7_effects.proofs.Items.{items_entered}
 use Rattle.x7_effects.proofs.Checking.{ArePieces, ClearFirst, Piece, at_first, checking_of, pieces_length, with_checks}
 use Rattle.x7_effects.proofs.Streams.{stream_of}
-use Rattle.x7_effects.proofs.FormLemmas.{last_is, pieces_long, stream_behind, stream_length}
+use Rattle.x7_effects.proofs.FormLemmas.{last_is, pieces_long, stream_appended, stream_length}
 use Rattle.x7_effects.proofs.GoingLemmas.{IsGoing, going_bytes, going_desync, line_none, written, written_is}
 use Rattle.x7_effects.proofs.StillLemmas.{IsStill, disarmed, never_armed, still_rests}
 
@@ -69,7 +69,7 @@ pub stream_history : (bytes : List ℕ) (pieces : List Piece) (noops : ℕ) → 
 stream_history bytes pieces noops f e a c =
     let h : History = history_of bytes in
     let n : ℕ = length bytes + 36 in
-    stream_behind bytes pieces noops f e a
+    stream_appended bytes pieces noops f e a
     ∙ last_is n (with_checks at_first pieces) h
     ∙ ap (λ (k : ℕ). entry (access.Write 4 13) (n + 4 * k + 8) ∷ items_entered n (with_checks at_first pieces) h) (pieces_long at_first pieces)
     ∙ ap (λ t. entry (access.Write 4 13) (n + 4 * pieces_length pieces + 8) ∷ items_entered n t h) (sym (c (checking_of h)))

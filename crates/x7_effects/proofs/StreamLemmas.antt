@@ -120,7 +120,7 @@ closed_place leading items k m f =
 pub closed_dummy : (leading : List ℕ) (items : List Item) (k : ℕ) → BeginsWithDummy (bytes_of_words (closed (0xFFFFFFFF ∷ leading) items k))
 closed_dummy leading items k = (bytes_of_words (closed leading items k), refl)
 
--- items behind other bytes
+-- items after other bytes
 writes_moved : (n place k r : ℕ) (ws : List ℕ) (h g : History) → k ≡ n + place → writes_entered k r ws (moved n h ++ g) ≡ moved n (writes_entered place r ws h) ++ g
 writes_moved n place k r [] h g e = refl
 writes_moved n place k r (w ∷ ws) h g e =
@@ -141,17 +141,17 @@ items_moved n place k (i ∷ items) h g e =
     ap (λ (t : History). items_entered (k + 4 * length (item_words i)) items t) (item_moved n place k i h g e)
     ∙ items_moved n (place + 4 * length (item_words i)) (k + 4 * length (item_words i)) items (item_entered place i h) g (omega arith)
 
--- what is written behind bytes that end searching enters behind their history
-pub behind_history : (bytes leading : List ℕ) (items : List Item) (k : ℕ) → AreBytes bytes → MayFollow (reading_of bytes).place (bytes_of_words (closed leading items k)) → MayLead leading → AreItems items
+-- what is written after bytes that end searching enters after their history
+pub appended_history : (bytes leading : List ℕ) (items : List Item) (k : ℕ) → AreBytes bytes → MayFollow (reading_of bytes).place (bytes_of_words (closed leading items k)) → MayLead leading → AreItems items
     → history_of (bytes ++ bytes_of_words (closed leading items k)) ≡ items_entered (length bytes + 4 * length leading + 4) (items ++ desync ∷ []) (history_of bytes)
-behind_history bytes leading items k b e m f =
+appended_history bytes leading items k b e m f =
     history_after bytes (bytes_of_words (closed leading items k)) (all-append (λ x. x < 256) bytes (bytes_of_words (closed leading items k)) b (bytes_fit (closed leading items k))) e
     ∙ ap (λ (t : History). moved (length bytes) t ++ history_of bytes) (closed_history leading items k m f)
     ∙ sym (items_moved (length bytes) (4 * length leading + 4) (length bytes + 4 * length leading + 4) (items ++ desync ∷ []) [] (history_of bytes) (omega arith))
 
-pub behind_ends : (bytes leading : List ℕ) (items : List Item) (k : ℕ) → AreBytes bytes → MayFollow (reading_of bytes).place (bytes_of_words (closed leading items k)) → MayLead leading → AreItems items
+pub appended_ends : (bytes leading : List ℕ) (items : List Item) (k : ℕ) → AreBytes bytes → MayFollow (reading_of bytes).place (bytes_of_words (closed leading items k)) → MayLead leading → AreItems items
     → is_synced (reading_of (bytes ++ bytes_of_words (closed leading items k))).place ≡ false
-behind_ends bytes leading items k b e m f =
+appended_ends bytes leading items k b e m f =
     ends_after bytes (bytes_of_words (closed leading items k)) (all-append (λ x. x < 256) bytes (bytes_of_words (closed leading items k)) b (bytes_fit (closed leading items k))) e
     ∙ ap is_synced (closed_place leading items k m f)
 

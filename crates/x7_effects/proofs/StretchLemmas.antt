@@ -37,13 +37,13 @@ use Rattle.x7_effects.proofs.WalkLemmas.{HasWritten, IsLoaded, IsReady, allows_w
 
 -- ---- copies
 
--- behind MFW with this source
+-- after MFW with this source
 record IsCopying (part : PartData) (kept : Kept) (phase : ℕ) (words : List ℕ) (h : History) (n : ℕ) (m : FrameMap) : Type 0 where
   ready : IsReady part kept phase h n m
   held_is : command_held h ≡ 2
   source_is : source_of part h ≡ Some words
 
--- MFW behind the words of one frame
+-- MFW after the words of one frame
 begins_copies : (part : PartData) (kept : Kept) (phase far : ℕ) (words : List ℕ) (h : History) (n : ℕ) (m : FrameMap) → 0 < frame_words part → length words ≡ frame_words part → HasWritten part kept phase far words h n m
     → landed part far (onto words []) ≡ [] → IsCopying part kept phase words (written n (command 2 ∷ []) h) (n + 8) m
 begins_copies part kept phase far words h n m some wide w none =
@@ -167,11 +167,11 @@ copies_ready : (part : PartData) (kept : Kept) (phase : ℕ) (words fars : List 
     → IsReady part kept phase (written n (stretch_pieces part (stretch.Copies words fars)) h) (n + 4 * pieces_length (stretch_pieces part (stretch.Copies words fars))) (put_over (reverse (Pairs words fars)) m)
 copies_ready part kept phase words fars h n m some r l s =
     let far : ℕ = get_or fars 0 0 in
-    let front : History = written n (command 1 ∷ one 1 far ∷ []) h in
-    let loaded : IsLoaded part kept phase 1 far front (n + 8 + 8) m = ready_load part kept phase far h n m r s.0.begins.0 in
+    let prefix : History = written n (command 1 ∷ one 1 far ∷ []) h in
+    let loaded : IsLoaded part kept phase 1 far prefix (n + 8 + 8) m = ready_load part kept phase far h n m r s.0.begins.0 in
     let k : ℕ = n + 8 + 8 + 4 * piece_length (Put (WriteLong 2 words)) in
-    let data_in : History = written (n + 8 + 8) (Put (WriteLong 2 words) ∷ []) front in
-    let w : HasWritten part kept phase far words data_in k m = loaded_words part kept phase far front (n + 8 + 8) m words loaded s.0.begins.1 s.0.few in
+    let data_in : History = written (n + 8 + 8) (Put (WriteLong 2 words) ∷ []) prefix in
+    let w : HasWritten part kept phase far words data_in k m = loaded_words part kept phase far prefix (n + 8 + 8) m words loaded s.0.begins.1 s.0.few in
     let copying : IsCopying part kept phase words (written k (command 2 ∷ []) data_in) (k + 8) m = begins_copies part kept phase far words data_in k m some s.1 w l.0 in
     let all : IsCopying part kept phase words (written (k + 8) (flat_map copy_pieces fars) (written k (command 2 ∷ []) data_in)) (k + 8 + 16 * length fars) (put_over (reverse (Pairs words fars)) m) =
     copy_all part kept phase words fars (written k (command 2 ∷ []) data_in) (k + 8) m copying s.0.targets in

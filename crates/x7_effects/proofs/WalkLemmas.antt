@@ -80,7 +80,7 @@ pub record IsReady (part : PartData) (kept : Kept) (phase : ℕ) (h : History) (
   pub allows : forbids_reading (ctl0_held h) ≡ false
   pub memory : AreSame (memory_of part h) m
 
--- the same behind a command and a FAR load
+-- the same after a command and a FAR load
 pub record IsLoaded (part : PartData) (kept : Kept) (phase held far : ℕ) (h : History) (n : ℕ) (m : FrameMap) : Type 0 where
   pub ready : IsReady part kept phase h n m
   pub held_is : command_held h ≡ held

@@ -54,7 +54,7 @@ is_frame far End = false
 abbrev pub follows : PartData → ℕ → ℕ → Bool
 follows part a b = is_frame b (slice_index_or (slots_from part a) 1 End)
 
--- runs with a row more in front, which joins the first of them where that follows it
+-- runs with a row more before them, which joins the first of them where that follows it
 abbrev pub with_row : PartData → PlanRow → List (List PlanRow) → List (List PlanRow)
 with_row part r [] = (r ∷ []) ∷ []
 with_row part r ([] ∷ runs) = (r ∷ []) ∷ runs
