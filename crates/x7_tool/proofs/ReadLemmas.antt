@@ -1,6 +1,12 @@
 -- Inputs that are read whole, one after the other, and what that comes to.
-use Rattle.std.proofs.Common.{◌≡◌, ◌⊎◌, ℕ, zero, suc, List, [], ◌∷◌, ◌++◌, ◌+◌, ◌-◌, ◌≤◌, ◌<◌, drop, drop-cons, get_or, add-one, length, map, Option, None, Some, Result, Ok, Err, refl, ap, append_assoc, subst, sym, ◌∙◌, arith, inl, inr}
+use Rattle.std.proofs.Common.{◌≡◌, ◌⊎◌, ℕ, zero, suc, List, [], Bool, true, false, append-nil, ◌∷◌, ◌++◌, ◌+◌, ◌-◌, ◌≤◌, ◌<◌, drop, drop-cons, get_or, take, add-one, length, length-append, map, Option, None, Some, Result, Ok, Err, refl, ap, append_assoc, subst, sym, ◌∙◌, arith, inl, inr}
+use Rattle.std.specs.Prelude.{nat_lt}
+use Rattle.std.proofs.lemmas.Bool.Decides.{nat_tests}
+use Rattle.std.proofs.lemmas.List.{drop-take}
+use Rattle.x7_words.specs.Input.{AtEnd, Selects, preceded}
+use Rattle.x7_words.specs.Word.{AreBytes}
 use Rattle.x7_words.proofs.CountLemmas.{risen_from}
+use Rattle.x7_words.proofs.InputLemmas.{preceded-preceded}
 use Rattle.x7_header.specs.Header.{Contents}
 use Rattle.x7_header.specs.Reading.{header_at}
 use Rattle.x7_header.specs.declared.fault.HeaderFault.{HeaderFault}
@@ -8,6 +14,9 @@ use Rattle.x7_header.specs.declared.fault.HeaderFault.TheVariants as header
 use Rattle.x7_tool.specs.declared.bad_input.InputFault.TheVariants as input
 use Rattle.x7_tool.specs.Event.{Event, Cause, Want, Fault, Absence, bad_input, cause_of}
 use Rattle.x7_tool.specs.Outcome.{Known, StreamRead, and_so, data_by, data_in, data_of, put_before, read_of, whole_in, with_inputs}
+use Rattle.x7_tool.specs.Turn.{Unread, UnreadRest}
+use Rattle.x7_tool.proofs.Causes.{known_all}
+use Rattle.x7_tool.proofs.HeadLemmas.{data_more}
 use Rattle.x7_tool.specs.Run.{Among, FreeBy, IsCaused, IsCausedBy, IsDecided, IsFree, IsOpen, RisesFor}
 
 -- ---- one input
@@ -134,6 +143,26 @@ stream_next f contents now F L ss k limit room s name whole read same h e nm due
     let due1 = rw eq at due in
     rw add-one (rests_next contents F L (map f ss) limit name (map f (drop (suc k) ss)) room whole read due1 got1)
 
+-- nothing was read
+pub rests_none : (contents : Option (List ℕ → Option (List ℕ))) (names : List (List ℕ)) (limit : ℕ) → Rests contents names limit names limit []
+rests_none None names limit = tt
+rests_none (Some inputs) names limit = λ flash. sym (before_none (data_of (record { inputs = inputs; flash = flash }) limit names))
+
+none_left : {X : Type 0} (k : ℕ) (ss : List X) → length ss ≤ k → drop k ss ≡ []
+none_left zero [] h = refl
+none_left zero (x ∷ xs) h = absurd (omega (arith, h))
+none_left (suc k) [] h = refl
+none_left (suc k) (x ∷ xs) h = none_left k xs (omega (arith, h))
+
+-- all streams were read
+pub rests_all : {X : Type 0} (f : X → List ℕ) (contents : Option (List ℕ → Option (List ℕ))) (flash : Option (List ℕ)) (F L : List ℕ → Type 0) (ss : List X) (k limit room : ℕ) (whole : List ℕ) → length ss ≤ k → Rests contents (map f ss) limit (map f (drop k ss)) room whole
+    → IsCaused (with_inputs contents flash) F L (λ t. data_of t limit (map f ss)) (Ok whole)
+rests_all f None flash F L ss k limit room whole h due = inr tt
+rests_all f (Some inputs) flash F L ss k limit room whole h due =
+    let left : map f (drop k ss) ≡ [] = ap (map f) (none_left k ss h) in
+    let is = due flash ∙ ap (λ names. put_before whole (data_of (record { inputs = inputs; flash = flash }) room names)) left ∙ ap Ok (append-nil whole) in
+    inr (tt, is)
+
 -- an input that was read behind nothing
 pub read_alone : (known : Option Known) (F L : List ℕ → Type 0) (limit : ℕ) (name : List ℕ) (got : Result (List ℕ) Event) → IsCaused known F L (due_after [] limit name) got → IsCaused known F L (λ t. whole_in t limit name) got
 read_alone known F L limit name got h = caused_same known F L (due_after [] limit name) (λ t. whole_in t limit name) got (λ t. before_none (whole_in t limit name)) h
@@ -183,3 +212,71 @@ stream_judged known F L limit name whole got read e =
     let judged = judged_by name whole got made e in
     after_text known F L limit name whole (λ text. and_so (data_in name text) (λ bytes. Ok (record { bytes = bytes; room = limit - length text }))) (and_so got (λ bytes. Ok (made bytes))) read
     (works known F L (and_so (data_in name whole) (λ bytes. Ok (made bytes))) (and_so got (λ bytes. Ok (made bytes))) judged.0 judged.1 (ap (λ d. and_so d (λ bytes. Ok (made bytes))) (sym e)))
+
+-- ---- an input that is read turn by turn
+
+pub rest_more : (old mid new : Option (List ℕ)) (taken piece : List ℕ) → old ≡ preceded taken mid → mid ≡ preceded piece new → old ≡ preceded (taken ++ piece) new
+rest_more old mid new taken piece e f = e ∙ ap (preceded taken) f ∙ preceded-preceded taken piece new
+
+pub rest_unread : (old mid new : Option (List ℕ)) (name taken : List ℕ) (limit left f0 f1 f2 : ℕ) (event : Event) → old ≡ preceded taken mid → length taken + left ≡ limit → f0 ≤ f1 → Unread mid new name left f1 f2 event → UnreadRest old name limit f0 f2 event
+rest_unread old mid new name taken limit left f0 f1 f2 event e n fl (inl h) = inl (h.0, risen_from f0 f1 f2 fl h.1)
+rest_unread old mid new name taken limit left f0 f1 f2 event e n fl (inr h) =
+    let piece = h.1.0 in
+    inr (h.0, (taken ++ piece, (new, (rest_more old mid new taken piece e h.1.1.0, omega (arith, n, h.1.1.1, length-append taken piece)))))
+
+-- an input that was read to its end
+whole_read : (contents : Option (List ℕ → Option (List ℕ))) (flash : Option (List ℕ)) (F L : List ℕ → Type 0) (name whole : List ℕ) (rest : Option (List ℕ)) (limit : ℕ) → Selects contents name (preceded whole rest) → AtEnd rest → length whole ≤ limit
+    → IsCaused (with_inputs contents flash) F L (λ t. whole_in t limit name) (Ok whole)
+whole_read None flash F L name whole rest limit s e h = inr tt
+whole_read (Some inputs) flash F L name whole rest limit s e h =
+    let all = known_all inputs name whole rest s in
+    let none : all.0 ≡ [] = let end = rw all.1.0 at e in end in
+    let is : inputs name ≡ Some whole = all.1.1 ∙ ap (λ t. Some (whole ++ t)) none ∙ ap Some (append-nil whole) in
+    let short : nat_lt limit (length whole) ≡ false = grind (arith, h, nat_tests) in
+    inr (tt, rw (is, short) refl)
+
+-- where the first turn was the last one, nothing more was read
+none_more : (inputs : List ℕ → Option (List ℕ)) (name first more : List ℕ) (mid rest : Option (List ℕ)) → Selects (Some inputs) name (preceded first mid) → mid ≡ preceded more rest → AtEnd mid → more ≡ []
+none_more inputs name first more mid None s e h = let t = known_all inputs name first mid s in let same = t.1.0 in absurd (cc)
+none_more inputs name first [] mid (Some rest) s e h = refl
+none_more inputs name first (x ∷ more) mid (Some rest) s e h = let none = rw e at h in absurd (cc)
+
+-- the first turn is the whole stream, or has as many bytes as the longest header
+enough : (inputs : List ℕ → Option (List ℕ)) (name first more : List ℕ) (mid rest : Option (List ℕ)) (last : Bool) → Selects (Some inputs) name (preceded first mid) → mid ≡ preceded more rest → (last ≡ true → AtEnd mid) → (last ≡ false → 262170 ≤ length first)
+    → (more ≡ []) ⊎ (262170 ≤ length first)
+enough inputs name first more mid rest true s e end long = inl (none_more inputs name first more mid rest s e (end refl))
+enough inputs name first more mid rest false s e end long = inr (long refl)
+
+sum_more : (first more : List ℕ) (left limit : ℕ) → length more + left ≡ limit - length first → length first ≤ limit → (left ≡ limit - length (first ++ more)) × (length (first ++ more) ≤ limit)
+sum_more first more left limit n l = (omega (arith, n, l, length-append first more), omega (arith, n, l, length-append first more))
+
+-- a stream whose data were read turn by turn
+pub stream_read : (contents : Option (List ℕ → Option (List ℕ))) (flash : Option (List ℕ)) (F L : List ℕ → Type 0) (name first more after : List ℕ) (mid rest : Option (List ℕ)) (limit left : ℕ) (last : Bool) → Selects contents name (preceded first mid) → mid ≡ preceded more rest → AtEnd rest
+    → (last ≡ true → AtEnd mid) → (last ≡ false → 262170 ≤ length first) → AreBytes first → length more + left ≡ limit - length first → length first ≤ limit → Ok after ≡ data_in name first
+    → IsCaused (with_inputs contents flash) F L (λ t. read_of t limit name) (Ok (record { bytes = after ++ more; room = left }))
+stream_read None flash F L name first more after mid rest limit left last s e end ends long fits n l head = inr tt
+stream_read (Some inputs) flash F L name first more after mid rest limit left last s e end ends long fits n l head =
+    let whole = first ++ more in
+    let sizes = sum_more first more left limit n l in
+    let taken : Selects (Some inputs) name (preceded whole rest) = subst (λ (r : Option (List ℕ)). Selects (Some inputs) name r) (ap (preceded first) e ∙ preceded-preceded first more rest) s in
+    let judged : data_in name whole ≡ Ok (after ++ more) = data_more name first more fits (enough inputs name first more mid rest last s e ends long) ∙ ap (λ d. and_so d (λ bytes. Ok (bytes ++ more))) (sym head) in
+    let read = stream_judged (with_inputs (Some inputs) flash) F L limit name whole (Ok (after ++ more)) (whole_read (Some inputs) flash F L name whole rest limit taken end sizes.1) (sym judged) in
+    subst (λ (room : ℕ). IsCaused (with_inputs (Some inputs) flash) F L (λ t. read_of t limit name) (Ok (record { bytes = after ++ more; room = room }))) (sym sizes.0) read
+
+-- a stream whose header is refused, after it was read to its end
+pub stream_refused : (contents : Option (List ℕ → Option (List ℕ))) (flash : Option (List ℕ)) (F L : List ℕ → Type 0) (name first more : List ℕ) (mid rest : Option (List ℕ)) (limit : ℕ) (last : Bool) (event : Event) → Selects contents name (preceded first mid) → mid ≡ preceded more rest → AtEnd rest
+    → (last ≡ true → AtEnd mid) → (last ≡ false → 262170 ≤ length first) → AreBytes first → length more ≤ limit - length first → length first ≤ limit → Err event ≡ data_in name first
+    → IsCaused (with_inputs contents flash) F L (λ t. read_of t limit name) (Err event)
+stream_refused None flash F L name first more mid rest limit last event s e end ends long fits n l head = inr (head_by StreamRead name first (header_at first) event (sym head)).0
+stream_refused (Some inputs) flash F L name first more mid rest limit last event s e end ends long fits n l head =
+    let whole = first ++ more in
+    let size : length whole ≤ limit = omega (arith, n, l, length-append first more) in
+    let taken : Selects (Some inputs) name (preceded whole rest) = subst (λ (r : Option (List ℕ)). Selects (Some inputs) name r) (ap (preceded first) e ∙ preceded-preceded first more rest) s in
+    let judged : data_in name whole ≡ Err event = data_more name first more fits (enough inputs name first more mid rest last s e ends long) ∙ ap (λ d. and_so d (λ bytes. Ok (bytes ++ more))) (sym head) in
+    stream_judged (with_inputs (Some inputs) flash) F L limit name whole (Err event) (whole_read (Some inputs) flash F L name whole rest limit taken end size) (sym judged)
+
+-- a slice of a buffer's first bytes
+pub slice_of : (start count : ℕ) (buf : List ℕ) → start ≤ count → drop start (take count buf) ≡ take (count - start) (drop start buf)
+slice_of start count buf h =
+    let sum : start + (count - start) ≡ count = omega (arith, h) in
+    sym (ap (λ k. drop start (take k buf)) sum) ∙ drop-take start (count - start) buf

@@ -80,7 +80,6 @@ row_of why.ReadFault = record { ends_as = status.ReadFault; cause = Fault; words
 row_of why.WriteFault = record { ends_as = status.WriteFault; cause = Break; words = codes "write fault"; detail = [] }
 row_of why.NoMemory = record { ends_as = status.NoMemory; cause = Want; words = codes "no memory"; detail = [] }
 row_of why.TooLarge = record { ends_as = status.TooLarge; cause = Contents; words = codes "too large "; detail = [] }
-row_of why.Unbuilt = record { ends_as = status.Unbuilt; cause = Contents; words = codes "not built "; detail = [] }
 
 abbrev pub cause_of : Event → Cause
 cause_of e = (row_of e.reason).cause
@@ -121,6 +120,3 @@ too_large name = record { reason = why.TooLarge; concerned = name }
 -- too many words were read out
 abbrev pub too_many_reads : Event
 too_many_reads = too_large (codes "reads")
-
-abbrev pub unbuilt : List ℕ → Event
-unbuilt name = record { reason = why.Unbuilt; concerned = name }

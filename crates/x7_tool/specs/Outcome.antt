@@ -1,12 +1,11 @@
 -- What a command comes to, over known inputs and a known flash: the first event in the order of the work decides (this project's choice).
-use Rattle.std.specs.Prelude.{◌≡◌, ℕ, List, [], ◌∷◌, ◌++◌, ◌-◌, Option, None, Some, is_some, Result, Ok, Err, Bool, false, if◌then◌else◌, drop, length, nat_eq, nat_lt}
-use Rattle.std.specs.List.{starts_with}
-use Rattle.x7_header.specs.Header.{Contents, fixed_bytes}
+use Rattle.std.specs.Prelude.{◌≡◌, ℕ, List, [], ◌∷◌, ◌++◌, ◌-◌, Option, None, Some, is_some, Result, Ok, Err, Bool, false, if◌then◌else◌, drop, length, nat_lt}
+use Rattle.x7_header.specs.Header.{Contents}
 use Rattle.x7_header.specs.Reading.{header_at}
 use Rattle.x7_header.specs.declared.fault.HeaderFault.{HeaderFault}
 use Rattle.x7_header.specs.declared.fault.HeaderFault.TheVariants as header
 use Rattle.x7_listing.specs.Assembly.{IsAsm}
-use Rattle.x7_listing.specs.Listing.{listing_of}
+use Rattle.x7_listing.specs.StreamListing.{stream_listing}
 use Rattle.x7_listing.specs.declared.assembler.AsmFault.{AsmFault}
 use Rattle.x7_listing.specs.declared.assembler.AsmFault.TheVariants as asm
 use Rattle.x7_part.specs.declared.fault.PartFault.{PartFault}
@@ -28,7 +27,7 @@ use Rattle.x7_planner.specs.declared.fault.PlanFault.{PlanFault}
 use Rattle.x7_planner.specs.declared.fault.PlanFault.TheVariants as planner
 use Rattle.x7_mcs.specs.Text.{mcs_text}
 use Rattle.x7_tool.specs.declared.bad_input.InputFault.TheVariants as input
-use Rattle.x7_tool.specs.Event.{Event, bad_input, bad_part, missing, no_memory, too_large, too_many_reads, unbuilt, usage}
+use Rattle.x7_tool.specs.Event.{Event, bad_input, bad_part, missing, no_memory, too_large, too_many_reads, usage}
 use Rattle.x7_tool.specs.Form.{Asked, Assembling, FromMcs, Listing, PlanningFull, PlanningRead, Playing, ToMcs, names_flash}
 use Rattle.x7_part.specs.PartFile.{part_in}
 use Rattle.x7_tool.specs.Report.{report_text}
@@ -64,14 +63,6 @@ data_by name bytes (Err (header.Field place)) = Err (bad_input name (input.Byte 
 abbrev pub data_in : List ℕ → List ℕ → Result (List ℕ) Event
 data_in name bytes = data_by name bytes (header_at bytes)
 
--- whether a stream begins with a .bit header
-abbrev pub has_header : List ℕ → Bool
-has_header bytes = starts_with nat_eq bytes fixed_bytes
-
--- a stream is taken that has no .bit header
-abbrev pub raw : List ℕ → List ℕ → Result (List ℕ) Event
-raw name bytes = if has_header bytes then Err (unbuilt name) else Ok bytes
-
 -- an input is taken that has no more than so many bytes
 abbrev pub within : List ℕ → ℕ → List ℕ → Result (List ℕ) Event
 within name limit bytes = if nat_lt limit (length bytes) then Err (too_large name) else Ok bytes
@@ -80,17 +71,18 @@ within name limit bytes = if nat_lt limit (length bytes) then Err (too_large nam
 abbrev pub stream_limit : ℕ
 stream_limit = 67108864
 
--- the bytes of a stream: its header is judged as soon as its bytes are read, and its length after it
-abbrev pub judged : List ℕ → List ℕ → Result (List ℕ) Event
-judged stream bytes = and_so (raw stream bytes) (within stream stream_limit)
+-- a listing, or the event of a header that is refused
+abbrev pub text_by : List ℕ → Result (List ℕ) ℕ → Result (List ℕ) Event
+text_by name (Ok text) = Ok text
+text_by name (Err place) = Err (bad_input name (input.Byte place))
 
--- the stream that a name stands for
-abbrev pub stream_of : Known → List ℕ → Result (List ℕ) Event
-stream_of known name = and_so (present name (known.inputs name)) (judged name)
+-- the listing of a stream's bytes: its header is judged as soon as its bytes are read, and its length after it
+abbrev pub listed_bytes : List ℕ → List ℕ → Result Answer Event
+listed_bytes stream bytes = and_so (text_by stream (stream_listing bytes)) (λ text. and_so (within stream stream_limit bytes) (λ _. Ok (record { stopped = false; text = text })))
 
--- `list STREAM`: the listing of the stream
+-- `list STREAM`: the listing of the stream, its header's line first
 abbrev pub listed : Known → List ℕ → Result Answer Event
-listed known stream = and_so (stream_of known stream) (λ bytes. Ok (record { stopped = false; text = listing_of bytes }))
+listed known stream = and_so (present stream (known.inputs stream)) (listed_bytes stream)
 
 -- ---- play
 

@@ -3,7 +3,7 @@ use Rattle.std.specs.Prelude.{◌≡◌, ℕ, List, [], ◌∷◌, ◌++◌, Opt
 use Rattle.x7_words.specs.Word.{AreBytes}
 use Rattle.x7_words.specs.Count.{HasRisen}
 use Rattle.x7_words.specs.Sink.{appended, PutsFront, Tells}
-use Rattle.x7_listing.specs.Listing.{listing_of}
+use Rattle.x7_listing.specs.StreamListing.{stream_listing}
 use Rattle.x7_tool.specs.declared.form.Form.{Form}
 use Rattle.x7_tool.specs.declared.form.Form.TheVariants as form
 use Rattle.x7_tool.specs.declared.refusal.Refusal.{Refusal}
@@ -99,9 +99,13 @@ abbrev pub IsPrefixOf : Option Known → List ℕ → List ℕ → Type 0
 IsPrefixOf None name bytes = Unit {0}
 IsPrefixOf (Some known) name bytes = (rest : List ℕ) × (unwrap_or (known.inputs name) [] ≡ bytes ++ rest)
 
+-- the sink got a prefix of the listing of a stream of these bytes
+abbrev pub PutsListing : List ℕ → Option (List ℕ) → Option (List ℕ) → Type 0
+PutsListing bytes old new = (text : List ℕ) × ((stream_listing bytes ≡ Ok text) × PutsFront old text new)
+
 -- the sink got a prefix of the listing of bytes that are a prefix of the stream
 abbrev pub ListsPrefix : Option Known → List ℕ → Option (List ℕ) → Option (List ℕ) → Type 0
-ListsPrefix known stream old new = (bytes : List ℕ) × (IsPrefixOf known stream bytes × PutsFront old (listing_of bytes) new)
+ListsPrefix known stream old new = (bytes : List ℕ) × (IsPrefixOf known stream bytes × PutsListing bytes old new)
 
 -- what `list` wrote where a reason ended it: what it had listed as it read, or nothing where the reason comes before the listing
 abbrev pub ListLeaves : Why → Option Known → List ℕ → Option (List ℕ) → Option (List ℕ) → Type 0
@@ -119,7 +123,7 @@ Leaves known form event old new = new ≡ old
 abbrev pub GetsPrefix : Option Known → Option Asked → Option (List ℕ) → Option (List ℕ) → Type 0
 GetsPrefix known None old new = ⊥
 GetsPrefix None (Some form) old new = (text : List ℕ) × PutsFront old text new
-GetsPrefix (Some known) (Some (Listing stream)) old new = (bytes : List ℕ) × ((known.inputs stream ≡ Some bytes) × (AreBytes bytes → PutsFront old (listing_of bytes) new))
+GetsPrefix (Some known) (Some (Listing stream)) old new = (bytes : List ℕ) × ((known.inputs stream ≡ Some bytes) × (AreBytes bytes → PutsListing bytes old new))
 GetsPrefix (Some known) (Some form) old new = (answer : Answer) × (Gives known form (Ok answer) × PutsFront old answer.text new)
 
 -- how an event ended the command, and what the sink got: a prefix of the text where the sink failed, or what the event leaves
