@@ -80,3 +80,10 @@ effective_registers = Crc ∷ Far ∷ Fdri ∷ Cmd ∷ Ctl0 ∷ Lout ∷ Mfwr �
 
 abbrev pub has_effect : ℕ → Bool
 has_effect register = list_any (λ reg. register == number_of reg) effective_registers
+
+-- a word written to this register moves a flag, a register under MASK or the clock, or isn't just folded
+abbrev pub controlling_registers : List Reg
+controlling_registers = Crc ∷ Far ∷ Cmd ∷ Ctl0 ∷ Lout ∷ Idcode ∷ Timer ∷ Ctl1 ∷ []
+
+abbrev pub is_controlling : ℕ → Bool
+is_controlling register = list_any (λ reg. register == number_of reg) controlling_registers
