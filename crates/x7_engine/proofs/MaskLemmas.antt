@@ -17,7 +17,7 @@ choose : (o w m : ℕ) → o < 2 → w < 2 → m < 2 → max (min o (1 - m)) (mi
 choose o w m a b c = grind (arith, nat_tests)
 
 -- a bit after the write of a word under a mask
-bit_step : (m w old i : ℕ) → m < 2 ^ 32 → i < 32 → bit_at (bit_or (bit_and old (2 ^ 32 - 1 - m)) (bit_and w m)) i ≡ (if bit_at m i == 1 then bit_at w i else bit_at old i)
+pub bit_step : (m w old i : ℕ) → m < 2 ^ 32 → i < 32 → bit_at (bit_or (bit_and old (2 ^ 32 - 1 - m)) (bit_and w m)) i ≡ (if bit_at m i == 1 then bit_at w i else bit_at old i)
 bit_step m w old i f h =
     bit_at_or (bit_and old (2 ^ 32 - 1 - m)) (bit_and w m) i
     ∙ ap (λ (x : ℕ). max x (bit_at (bit_and w m) i)) (bit_at_and old (2 ^ 32 - 1 - m) i ∙ ap (λ (x : ℕ). min (bit_at old i) x) (bit_at_not w32 m i f h))

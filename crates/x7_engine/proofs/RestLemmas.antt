@@ -61,7 +61,7 @@ never_fires : (on full : Bool) → on ≡ false → (on && full) ≡ false
 never_fires true full e = absurd (cc)
 never_fires false full e = refl
 
-stop_on : (part : PartData) (kept : Kept) (h : History) (n k : ℕ) → newest_place h ≤ n → (turns_on (timer_held kept h) && not (is_fallback kept.kind)) ≡ false → stop_of part kept h n ≡ None → stop_of part kept h (n + k) ≡ None
+pub stop_on : (part : PartData) (kept : Kept) (h : History) (n k : ℕ) → newest_place h ≤ n → (turns_on (timer_held kept h) && not (is_fallback kept.kind)) ≡ false → stop_of part kept h n ≡ None → stop_of part kept h (n + k) ≡ None
 stop_on part kept h n k l off none =
     stop_more_bytes part kept h n k l
     ∙ ap (λ (o : Option Stopped). or_else o (stopped_by_watchdog (first_firing part kept h n k))) none

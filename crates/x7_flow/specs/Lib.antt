@@ -12,3 +12,4 @@ pub mod Standing
 pub mod Words
 pub mod Alike
 pub mod Quiet
+pub mod Inside

@@ -1,5 +1,5 @@
 //! Laws of the definitions. The functions do nothing: their contracts are the laws.
-ghost use Rattle.std.specs.Prelude.{◌≡◌, ◌↔◌, ◌∷◌, ◌++◌, ◌==◌, ◌&&◌, [], ℕ, List, None, Option, Some, is_some, length, reverse, ◌<◌, ◌-◌, ◌%◌, ◌^◌, true, false};
+ghost use Rattle.std.specs.Prelude.{◌≡◌, ◌↔◌, ◌∷◌, ◌++◌, ◌==◌, ◌&&◌, [], ℕ, List, None, Option, Some, is_some, length, reverse, ◌<◌, ◌≤◌, ◌+◌, ◌*◌, ◌-◌, ◌%◌, ◌^◌, true, false};
 ghost use Rattle.std.specs.List.{AllByRecursion, filter_map, flat_map, zip};
 ghost use Rattle.x7_pipeline.specs.InWords.{pair_of};
 ghost use Rattle.x7_memory.specs.FrameMap.{AreSame, override};
@@ -25,7 +25,9 @@ ghost use Rattle.x7_flow.specs.FrameMemory.{landed_more, memory_of, puts};
 ghost use Rattle.x7_flow.specs.Alike.{AreAlike, MasksFirst};
 ghost use Rattle.x7_flow.specs.Later.{flow_from, pairs_from, pairs_loaded};
 ghost use Rattle.x7_flow.specs.Sound.{IsSound};
+ghost use Rattle.x7_flow.specs.Words.{NoneRefused};
 ghost use Rattle.x7_flow.specs.Stretches.{ends_of, is_boundary, overridden};
+ghost use Rattle.x7_flow.specs.Inside.{HasFrames};
 ghost use Rattle.x7_flow.specs.InWords.{base_after, frame_taken, words_given, words_written};
 
 /// A flow has what its settings say.
@@ -152,4 +154,17 @@ pub fn plan_laws()
     ensures keep { (part : PartData) (earlier : History) (w place n : ℕ) (ws : List ℕ) →
         (source_of part (entered_all n (payload_steps 10 ws) (entry (Write 1 w) place ∷ earlier)) ≡ source_of part earlier)
         × (settings_of part.idcode (entered_all n (payload_steps 10 ws) (entry (Write 1 w) place ∷ earlier)) ≡ settings_of part.idcode earlier) }
+{}
+
+/// The memory of a history has frames of the part's width, at the part's addresses alone.
+pub fn memory_has_frames()
+    ensures { (part : PartData) (h : History) → 0 < frame_words part → HasFrames part (memory_of part h) }
+{}
+
+/// Words of frame data for which there are slots: none is refused, and where they begin a run the memory gets what they land.
+pub fn words_have_room()
+    ensures none { (part : PartData) (n : ℕ) (ws : List ℕ) (h : History) → takes_frames (settings_of part.idcode h) ≡ true → has_frame_at part (base_of part h) ≡ true →
+        length (run_of part h) + length ws ≤ frame_words part * length (slots_from part (base_of part h)) → NoneRefused part n ws h }
+    ensures memory { (part : PartData) (n : ℕ) (ws : List ℕ) (h : History) → takes_frames (settings_of part.idcode h) ≡ true → run_of part h ≡ [] →
+        AreSame (memory_of part (entered_all n (payload_steps 2 ws) h)) (put_over (landed part (base_of part h) (onto ws [])) (memory_of part h)) }
 {}

@@ -1,4 +1,5 @@
 pub mod CountLemmas
+pub mod FileFlashLemmas
 pub mod FilesLemmas
 pub mod InputLemmas
 pub mod ListLemmas

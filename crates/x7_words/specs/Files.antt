@@ -31,6 +31,23 @@ after_open f rest (Err Failed) = record f { selected = false; rest = None; fault
 abbrev pub Gives : Option (List ℕ) → Option (List ℕ) → List ℕ → ℕ → Type 0
 Gives old new buf n = Consumes old new (take n buf) × (n ≡ 0 → 0 < length buf → IsAtEnd new)
 
+-- a file as a flash
+pub record RealFlash : Type 0 where
+  -- whether a file is open
+  pub attached : Bool
+  -- the number of its bytes
+  pub extent : ℕ
+  -- the faults counted; the last u64 stays
+  pub faults : ℕ
+  -- the absences counted; the last u64 stays
+  pub absences : ℕ
+
+-- the flash after an attach with this answer: each fault and each absence is counted once
+abbrev pub after_attach : RealFlash → ℕ → Result (Unit {0}) SelectFault → RealFlash
+after_attach f extent (Ok _) = record f { attached = true; extent = extent }
+after_attach f extent (Err Missing) = record f { attached = false; extent = extent; absences = raised f.absences }
+after_attach f extent (Err Failed) = record f { attached = false; extent = extent; faults = raised f.faults }
+
 -- a writer as a sink
 pub record RealSink : Type 0 where
   -- what the writer holds, where it knows that

@@ -1,12 +1,15 @@
-//! The real outside: files as inputs, and a writer such as standard output as a sink.
+//! The real outside: files as inputs and as a flash, and a writer such as standard output as a sink.
 ghost use Rattle.std.specs.Prelude.{◌≡◌, ◌<◌, ◌≤◌, ◌^◌, ◌↔◌, length, take, None, true, false, IfOk, OnOk, OnErr};
 ghost use Rattle.std.specs.Io.KnownBytes.{Appends, Keeps, ReadConsumes, WriteAppends};
 ghost use Rattle.x7_words.specs.Count.{raised};
 ghost use Rattle.x7_words.specs.Files.{after_open, Gives};
 
+mod flash;
+
 use crate::count::next_count;
 use crate::input::{Failed, Inputs, SelectFault};
 use crate::sink::Sink;
+pub use flash::FileFlash;
 use std::fs;
 use std::io::{ErrorKind, Read, Write};
 use std::marker::Model;

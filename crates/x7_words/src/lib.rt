@@ -13,7 +13,7 @@ mod tests;
 mod word;
 
 pub use bytes::is_same;
-pub use files::{FileInputs, StdSink};
+pub use files::{FileFlash, FileInputs, StdSink};
 pub use flash::Flash;
 pub use input::{Failed, Inputs, NoMemory, SelectFault};
 pub use memory::{MemoryFlash, MemoryInputs, MemorySink};

@@ -1,7 +1,7 @@
 //! What no clause says: that calls succeed while memory is left, and the real files and writers.
 use crate::{
-    Failed, FileInputs, Flash, Inputs, MemoryFlash, MemoryInputs, MemorySink, SelectFault, Sink,
-    StdSink, bytes_of, word_of, write_all, write_pieces,
+    Failed, FileFlash, FileInputs, Flash, Inputs, MemoryFlash, MemoryInputs, MemorySink,
+    SelectFault, Sink, StdSink, bytes_of, word_of, write_all, write_pieces,
 };
 use std::io::{ErrorKind, Write};
 use std::test::Fail;
@@ -168,6 +168,36 @@ fn flash_bytes_are_at_their_places(rt: HostRuntime) -> Result<(), Fail> {
         assert_eq!(rt; size_and_bytes(&mut flash, name, place), answer);
         assert_eq!(rt; flash.bytes(), [1, 2, 3, 4, 5].as_slice());
     }
+    Ok(())
+}
+
+#[test]
+fn calls_of_a_flash_are_counted(rt: HostRuntime) -> Result<(), Fail> {
+    let mut flash = MemoryFlash::new(rt.alloc(), "chip", &[1, 2, 3, 4, 5])?;
+    assert_eq!(rt; flash.calls(), 0);
+    let _missing = size_and_bytes(&mut flash, "other", 0);
+    assert_eq!(rt; flash.calls(), 1);
+    let _found = size_and_bytes(&mut flash, "chip", 0);
+    assert_eq!(rt; flash.calls(), 3);
+    Ok(())
+}
+
+#[test]
+fn a_file_is_a_flash(rt: HostRuntime) -> Result<(), Fail> {
+    let folder = env::temp_dir(&rt)?;
+    let name = format!(in rt.alloc(); "x7-words-flash-{}", process::id(rt.process()))?;
+    let path = folder.join(rt.alloc(), name.as_str())?;
+    fs::write(&rt, path.as_path(), b"hello")?;
+    let mut flash = FileFlash::new(&rt);
+    let late = size_and_bytes(&mut flash, path.as_path().as_str(), 2);
+    let early = size_and_bytes(&mut flash, path.as_path().as_str(), 0);
+    fs::remove_file(&rt, path.as_path())?;
+    let gone = size_and_bytes(&mut flash, path.as_path().as_str(), 0);
+    let no_file = size_and_bytes(&mut flash, folder.as_path().as_str(), 0);
+    assert_eq!(rt; late, Ok((5, *b"llo")));
+    assert_eq!(rt; early, Ok((5, *b"hel")));
+    assert_eq!(rt; gone, Err(SelectFault::Missing));
+    assert_eq!(rt; no_file, Err(SelectFault::Failed));
     Ok(())
 }
 

@@ -33,6 +33,13 @@ impl Calls {
         }
     }
 
+    /// The number of the last call, 0 before the first. After the last u64 it stays.
+    pub fn last(&self) -> u64
+        ensures { result ≡ self.now.last }
+    {
+        self.last
+    }
+
     /// The call of this number is to fail.
     pub fn fail_at(&mut self, call: u64) -> Result<(), NoMemory>
         ensures ok { OnOk result (self.new ≡ planned self.old call) }

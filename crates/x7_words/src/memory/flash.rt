@@ -64,6 +64,13 @@ impl MemoryFlash {
         self.calls.fail_at(call)
     }
 
+    /// The number of the latest call, 0 before the first. After the last u64 it stays.
+    pub fn calls(&self) -> u64
+        ensures { result ≡ self.now.calls.last }
+    {
+        self.calls.last()
+    }
+
     /// The flash's bytes.
     pub fn bytes(&self) -> &[u8]
         ensures { result.now ≡ self.now.bytes }

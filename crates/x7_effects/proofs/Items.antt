@@ -1,0 +1,103 @@
+-- What a planner writes: items, their words, and what they ask of the registers.
+use Rattle.std.specs.Prelude.{ℕ, ◌+◌, ◌*◌, ◌^◌, ◌<◌, List, [], ◌∷◌, ◌++◌, length, replicate}
+use Rattle.std.specs.List.{flat_map, AllByRecursion}
+use Rattle.x7_words.specs.Word.{AreWords, bytes_of_word}
+use Rattle.x7_packets.specs.Appended.{LacksFirst}
+use Rattle.x7_packets.specs.Packet.{NoneEnds}
+use Rattle.x7_packets.specs.History as access
+use Rattle.x7_packets.specs.History.{History, entry}
+
+-- no-op, dummy word, words written to a register by a type 1 packet, the same by an empty type 1 packet and a type 2 packet, and reads of some words by either
+pub data Item : Type 0 where
+  Noop : Item
+  Dummy : Item
+  Write : (register : ℕ) (ws : List ℕ) → Item
+  WriteLong : (register : ℕ) (ws : List ℕ) → Item
+  Read : (register count : ℕ) → Item
+  ReadLong : (register count : ℕ) → Item
+
+-- header words: a type 1 write and read of a register, and a type 2 write and read
+abbrev pub write_header : ℕ → ℕ → ℕ
+write_header register count = 0x30000000 + 8192 * register + count
+
+abbrev pub read_header : ℕ → ℕ → ℕ
+read_header register count = 0x28000000 + 8192 * register + count
+
+abbrev pub long_write_header : ℕ → ℕ
+long_write_header count = 0x50000000 + count
+
+abbrev pub long_read_header : ℕ → ℕ
+long_read_header count = 0x48000000 + count
+
+-- the words of an item
+abbrev pub item_words : Item → List ℕ
+item_words Noop = 0x20000000 ∷ []
+item_words Dummy = 0xFFFFFFFF ∷ []
+item_words (Write register ws) = write_header register (length ws) ∷ ws
+item_words (WriteLong register ws) = write_header register 0 ∷ long_write_header (length ws) ∷ ws
+item_words (Read register count) = read_header register count ∷ []
+item_words (ReadLong register count) = read_header register 0 ∷ long_read_header count ∷ []
+
+abbrev pub items_words : List Item → List ℕ
+items_words items = flat_map item_words items
+
+-- the item can be written: register, count and words have their bits, a read asks for some words, and no word ends the session
+abbrev pub IsItem : Item → Type 0
+IsItem Noop = Unit {0}
+IsItem Dummy = Unit {0}
+IsItem (Write register ws) = (register < 2 ^ 5) × (length ws < 2 ^ 11) × AreWords ws × NoneEnds register ws
+IsItem (WriteLong register ws) = (register < 2 ^ 5) × (length ws < 2 ^ 27) × AreWords ws × NoneEnds register ws
+IsItem (Read register count) = (register < 2 ^ 5) × (0 < count) × (count < 2 ^ 11)
+IsItem (ReadLong register count) = (register < 2 ^ 5) × (0 < count) × (count < 2 ^ 27)
+
+abbrev pub AreItems : List Item → Type 0
+AreItems items = AllByRecursion IsItem items
+
+-- a history with words written to a register, the first of which begins at this place
+abbrev pub writes_entered : ℕ → ℕ → List ℕ → History → History
+writes_entered place register [] h = h
+writes_entered place register (w ∷ ws) h = writes_entered (place + 4) register ws (entry (access.Write register w) (place + 4) ∷ h)
+
+-- a history with the accesses of an item, whose first word begins at this place
+abbrev pub item_entered : ℕ → Item → History → History
+item_entered place Noop h = h
+item_entered place Dummy h = h
+item_entered place (Write register ws) h = writes_entered (place + 4) register ws h
+item_entered place (WriteLong register ws) h = writes_entered (place + 8) register ws h
+item_entered place (Read register count) h = entry (access.Read register count) (place + 4) ∷ h
+item_entered place (ReadLong register count) h = entry (access.Read register count) (place + 8) ∷ h
+
+-- the same of items in order
+abbrev pub items_entered : ℕ → List Item → History → History
+items_entered place [] h = h
+items_entered place (i ∷ items) h = items_entered (place + 4 * length (item_words i)) items (item_entered place i h)
+
+-- DESYNC written to CMD
+abbrev pub desync : Item
+desync = Write 4 (13 ∷ [])
+
+-- the sync word, and the bytes of words
+abbrev pub sync_word : ℕ
+sync_word = 0xAA995566
+
+abbrev pub bytes_of_words : List ℕ → List ℕ
+bytes_of_words ws = flat_map bytes_of_word ws
+
+-- words before the sync word, the sync word and items
+abbrev pub opened : List ℕ → List Item → List ℕ
+opened leading items = leading ++ sync_word ∷ items_words items
+
+-- the same, then DESYNC and so many no-ops
+abbrev pub closed : List ℕ → List Item → ℕ → List ℕ
+closed leading items noops = opened leading (items ++ desync ∷ []) ++ replicate noops 0x20000000
+
+-- the first byte of the sync word is not among these bytes
+
+-- words that may lead
+pub record MayLead (leading : List ℕ) : Type 0 where
+  pub fits : AreWords leading
+  pub lacks : LacksFirst (bytes_of_words leading)
+
+-- four dummy words, the bus width pattern and two dummy words
+abbrev pub bus_width_head : List ℕ
+bus_width_head = 0xFFFFFFFF ∷ 0xFFFFFFFF ∷ 0xFFFFFFFF ∷ 0xFFFFFFFF ∷ 0x000000BB ∷ 0x11220044 ∷ 0xFFFFFFFF ∷ 0xFFFFFFFF ∷ []

@@ -1,0 +1,245 @@
+-- The runs of a plan stand at slots that follow one another, and land as they are.
+use Rattle.std.proofs.Common.{◌≡◌, ℕ, zero, suc, ◌+◌, ◌*◌, ◌^◌, ◌<◌, ◌≤◌, inl, inr, Bool, true, false, if◌then◌else◌, List, [], ◌∷◌, ◌++◌, length, map, get_or, refl, ap, sym, subst, ◌∙◌, append-nil, arith, eq-eqb, ne_eqb, length-append}
+use Rattle.std.specs.Prelude.{Contains, All}
+use Rattle.std.specs.List.{AllByRecursion}
+use Rattle.std.proofs.Math.Nat.{mul-le-mul_left}
+use Rattle.std.proofs.lemmas.Bool.{cases_eq, eqb-true}
+use Rattle.std.proofs.lemmas.List.Elements.{All-head, All-tail, All-nil, All-cons}
+use Rattle.std.proofs.lemmas.List.{length-replicate}
+use Rattle.x7_words.specs.Word.{AreWords}
+use Rattle.x7_words.proofs.ListLemmas.{all-append, all_front, all_back}
+use Rattle.x7_part.specs.AddressOrder.{addresses_in, Rises, risen, rise}
+use Rattle.x7_part.specs.Part.{PartData, frame_words}
+use Rattle.x7_part.specs.PartRange.{IsPart}
+use Rattle.x7_part.specs.Slots.{addresses_among, slots_in, from}
+use Rattle.x7_part.specs.declared.slot.Slot.{Slot}
+use Rattle.x7_part.specs.declared.slot.Slot.TheVariants.{Frame, Pad, End}
+use Rattle.x7_part.proofs.RowLemmas.{part_rises}
+use Rattle.x7_memory.specs.Planned.{PlanRow, planned_addresses}
+use Rattle.x7_pipeline.specs.Runs.{frames_of, slots_from, in_slots, landed, onto, but_newest}
+use Rattle.x7_pipeline.specs.Copies.{newest_of}
+use Rattle.x7_pipeline.proofs.SlotLemmas.{addresses_among-slots, slot_among}
+use Rattle.x7_effects.proofs.Frames.{joined, AreWide, zero_frame, row_frames}
+use Rattle.x7_effects.specs.Partial.{Copies, Rows}
+use Rattle.x7_effects.proofs.Streams.{HaveWords, IsStretch, AreStretches}
+use Rattle.x7_effects.specs.Partial.{with_content, is_shared, leads_group, groups_led, others, is_frame, follows, with_row, runs_of, stretches_of, same_words}
+use Rattle.x7_effects.proofs.Groups.{IsPlaced, LandsAs, plan_pieces}
+use Rattle.x7_flow.proofs.StreamLemmas.{whole_cut}
+use Rattle.x7_effects.proofs.FrameLemmas.{rows_land}
+use Rattle.x7_effects.proofs.FormLemmas.{joined_length, partial_fits}
+use Rattle.x7_effects.proofs.Checking.{ArePieces}
+use Rattle.x7_effects.proofs.GroupLemmas.{run_rows, runs_joined}
+
+-- ---- slots that follow one another
+
+pub rises_in : (l : ℕ) (xs : List ℕ) (x : ℕ) → Rises l xs → Contains xs x → l ≤ x
+rises_in _ _ x (risen l) (k, low, e) = absurd (omega arith)
+rises_in _ _ x (rise l y ys le more) (zero, low, e) = omega (arith, e)
+rises_in _ _ x (rise l y ys le more) (suc k, low, e) = let h : y + 1 ≤ x = rises_in (y + 1) ys x more (k, omega arith, e) in omega arith
+
+pub rises_rest : (l y : ℕ) (ys : List ℕ) → Rises l (y ∷ ys) → Rises (y + 1) ys
+rises_rest _ _ _ (rise l y ys le more) = more
+
+-- from an address on the first slot is its frame
+record Begins (far : ℕ) (places : List Slot) : Type 0 where
+  rest : List Slot
+  is : places ≡ Frame far ∷ rest
+
+from_begins : (far : ℕ) (places : List Slot) → Contains (addresses_among places) far → Begins far (from far places)
+from_begins far [] (k, low, e) = absurd (omega arith)
+from_begins far (Frame a ∷ places) (k, low, e) =
+    elim (cases_eq a far) [
+      | inl y ↦ rw (eq-eqb a far y) (record { rest = places; is = ap (λ (x : ℕ). Frame x ∷ places) y })
+      | inr x ↦ rw (ne_eqb a far x) (from_begins far places (later k low e x))
+    ]
+  where
+    later : (k : ℕ) → k < length (a ∷ addresses_among places) → get_or (a ∷ addresses_among places) k far ≡ far → (a ≡ far → ⊥) → Contains (addresses_among places) far
+    later zero low e x = absurd (x e)
+    later (suc k) low e x = (k, omega arith, e)
+from_begins far (Pad ∷ places) has = from_begins far places has
+from_begins far (End ∷ places) has = from_begins far places has
+
+from_next : (l a b : ℕ) (places rest : List Slot) → Rises l (addresses_among places) → from a places ≡ Frame a ∷ Frame b ∷ rest → from b places ≡ Frame b ∷ rest
+from_next l a b [] rest r e = absurd (cc)
+from_next l a b (Frame x ∷ places) rest r e =
+    elim (cases_eq x a) [
+      | inl y ↦ (let whole : Frame x ∷ places ≡ Frame a ∷ Frame b ∷ rest = rw (eq-eqb x a y) at e in
+          let rest_is : places ≡ Frame b ∷ rest = cc in
+          let risen_there : Rises (x + 1) (b ∷ addresses_among rest) = subst (λ t. Rises (x + 1) (addresses_among t)) rest_is (rises_rest l x (addresses_among places) r) in
+          let above : x + 1 ≤ b = rises_in (x + 1) (b ∷ addresses_among rest) b risen_there (0, omega arith, refl) in
+          rw (ne_eqb x b (λ h. omega (arith, h))) (ap (from b) rest_is ∙ rw (eq-eqb b b refl) refl))
+      | inr n ↦ (let whole : from a places ≡ Frame a ∷ Frame b ∷ rest = rw (ne_eqb x a n) at e in
+          let there : Contains (addresses_among places) b = slot_among a 1 b places (ap (λ t. get_or t 1 End) whole) in
+          let above : x + 1 ≤ b = rises_in (x + 1) (addresses_among places) b (rises_rest l x (addresses_among places) r) there in
+          rw (ne_eqb x b (λ h. omega (arith, h))) (from_next (x + 1) a b places rest (rises_rest l x (addresses_among places) r) whole))
+    ]
+from_next l a b (Pad ∷ places) rest r e = from_next l a b places rest r e
+from_next l a b (End ∷ places) rest r e = from_next l a b places rest r e
+
+-- an address that follows another: the slots from the other on are its frame and the slots from there on
+frame_is : (b : ℕ) (s : Slot) → is_frame b s ≡ true → s ≡ Frame b
+frame_is b (Frame x) t = ap (λ (y : ℕ). Frame y) (eqb-true x b t)
+frame_is b Pad t = absurd (cc)
+frame_is b End t = absurd (cc)
+
+second : (a b : ℕ) (rest : List Slot) → is_frame b (get_or (Frame a ∷ rest) 1 End) ≡ true → Begins b rest
+second a b [] t = absurd (cc)
+second a b (s ∷ rest) t = record { rest = rest; is = ap (λ (x : Slot). x ∷ rest) (frame_is b s t) }
+
+next_slots : (part : PartData) (a b : ℕ) → Rises 0 (addresses_among (slots_in part)) → Contains (addresses_among (slots_in part)) a → follows part a b ≡ true → slots_from part a ≡ Frame a ∷ slots_from part b
+next_slots part a b r h f =
+    let here : Begins a (slots_from part a) = from_begins a (slots_in part) h in
+    let then_b : Begins b here.rest = second a b here.rest (ap (λ t. is_frame b (get_or t 1 End)) (sym here.is) ∙ f) in
+    let whole : slots_from part a ≡ Frame a ∷ Frame b ∷ then_b.rest = here.is ∙ ap (λ t. Frame a ∷ t) then_b.is in
+    whole ∙ ap (λ t. Frame a ∷ t) (sym (from_next 0 a b (slots_in part) then_b.rest r whole))
+
+-- ---- the runs of rows
+
+abbrev AreHere : PartData → List PlanRow → Type 0
+AreHere part rows = AllByRecursion (λ row. Contains (addresses_among (slots_in part)) row.far) rows
+
+alone : (part : PartData) (r : PlanRow) → Contains (addresses_among (slots_in part)) r.far → IsPlaced part (r ∷ [])
+alone part r h = let here : Begins r.far (slots_from part r.far) = from_begins r.far (slots_in part) h in (here.rest, here.is)
+
+row_placed : (part : PartData) (r : PlanRow) (runs : List (List PlanRow)) → Rises 0 (addresses_among (slots_in part)) → Contains (addresses_among (slots_in part)) r.far → AllByRecursion (IsPlaced part) runs → AllByRecursion (IsPlaced part) (with_row part r runs)
+row_placed part r [] s h a = (alone part r h, tt)
+row_placed part r ([] ∷ runs) s h a = absurd a.0
+row_placed part r ((q ∷ run) ∷ runs) s h a = by_test (follows part r.far q.far) refl
+  where
+    by_test : (b : Bool) → follows part r.far q.far ≡ b → AllByRecursion (IsPlaced part) (if b then (r ∷ q ∷ run) ∷ runs else (r ∷ []) ∷ (q ∷ run) ∷ runs)
+    by_test true t = ((a.0.0, next_slots part r.far q.far s h t ∙ ap (λ t. Frame r.far ∷ t) a.0.1), a.1)
+    by_test false t = (alone part r h, a)
+
+pub runs_placed : (part : PartData) (rows : List PlanRow) → Rises 0 (addresses_among (slots_in part)) → AreHere part rows → AllByRecursion (IsPlaced part) (runs_of part rows)
+runs_placed part [] s h = tt
+runs_placed part (r ∷ rows) s h = row_placed part r (runs_of part rows) s h.0 (runs_placed part rows s h.1)
+
+-- what holds of each row holds of each row of each run, and of the rows that are not shared
+each_run : (P : PlanRow → Type 0) (runs : List (List PlanRow)) → AllByRecursion P (run_rows runs) → AllByRecursion (AllByRecursion P) runs
+each_run P [] a = tt
+each_run P (run ∷ runs) a = (all_front P run (run_rows runs) a, each_run P runs (all_back P run (run_rows runs) a))
+
+of_others : (P : PlanRow → Type 0) (all qs : List PlanRow) → AllByRecursion P qs → AllByRecursion P (others all qs)
+of_others P all [] a = tt
+of_others P all (r ∷ qs) a = by_test (is_shared all r) (of_others P all qs a.1)
+  where
+    by_test : (b : Bool) → AllByRecursion P (others all qs) → AllByRecursion P (if b then others all qs else r ∷ others all qs)
+    by_test true ih = ih
+    by_test false ih = (a.0, ih)
+
+pub of_content : (P : PlanRow → Type 0) (words : List ℕ) (qs : List PlanRow) → AllByRecursion P qs → AllByRecursion P (with_content words qs)
+of_content P words [] a = tt
+of_content P words (r ∷ qs) a = by_test (same_words r.words words) (of_content P words qs a.1)
+  where
+    by_test : (b : Bool) → AllByRecursion P (with_content words qs) → AllByRecursion P (if b then r ∷ with_content words qs else with_content words qs)
+    by_test true ih = (a.0, ih)
+    by_test false ih = ih
+
+pub of_runs : (P : PlanRow → Type 0) (part : PartData) (rows : List PlanRow) → AllByRecursion P rows → AllByRecursion (AllByRecursion P) (runs_of part (others rows rows))
+of_runs P part rows a = each_run P (runs_of part (others rows rows)) (rw (runs_joined part (others rows rows)) (of_others P rows rows a))
+
+pub by_recursion : (P : PlanRow → Type 0) (rows : List PlanRow) → All P rows → AllByRecursion P rows
+by_recursion P [] a = tt
+by_recursion P (r ∷ rows) a = (All-head P r rows a, by_recursion P rows (All-tail P r rows a))
+
+pub by_all : (P : PlanRow → Type 0) (rows : List PlanRow) → AllByRecursion P rows → All P rows
+by_all P [] a = All-nil P
+by_all P (r ∷ rows) a = All-cons P r rows a.0 (by_all P rows a.1)
+
+-- ---- how stretches land
+
+pub rows_wide : (width : ℕ) (rows : List PlanRow) (last : List ℕ) → AllByRecursion (λ row. length row.words ≡ width) rows → length last ≡ width → AreWide width (row_frames rows ++ last ∷ [])
+rows_wide width [] last a l = (l, tt)
+rows_wide width (r ∷ rows) last a l = (a.0, rows_wide width rows last a.1 l)
+
+run_lands : (part : PartData) (run : List PlanRow) → 0 < frame_words part → IsPlaced part run → AllByRecursion (λ row. length row.words ≡ frame_words part) run → LandsAs part (Rows run)
+run_lands part [] some p w = absurd p
+run_lands part (r ∷ run) some p w = rows_land part r.far (r ∷ run) p.0 (zero_frame part) some (rows_wide (frame_words part) (r ∷ run) (zero_frame part) w (length-replicate (frame_words part) 0)) p.1
+
+runs_land : (part : PartData) (runs : List (List PlanRow)) → 0 < frame_words part → AllByRecursion (IsPlaced part) runs → AllByRecursion (AllByRecursion (λ row. length row.words ≡ frame_words part)) runs → AllByRecursion (LandsAs part) (map Rows runs)
+runs_land part [] some p w = tt
+runs_land part (run ∷ runs) some p w = (run_lands part run some p.0 w.0, runs_land part runs some p.1 w.1)
+
+copies_land : (part : PartData) (words fars : List ℕ) → 0 < frame_words part → length words ≡ frame_words part → LandsAs part (Copies words fars)
+unfolding landed in_slots
+copies_land part words fars some w =
+    let one : frames_of (frame_words part) (onto words []) ≡ words ∷ [] = ap (λ t. frames_of (frame_words part) (onto t [])) (sym (append-nil words)) ∙ whole_cut part [] words some (w, tt) in
+    (ap (λ t. in_slots (slots_from part (get_or fars 0 0)) (but_newest t)) one, ap newest_of one)
+
+groups_land : (part : PartData) (all qs : List PlanRow) → 0 < frame_words part → AllByRecursion (λ row. length row.words ≡ frame_words part) qs → AllByRecursion (LandsAs part) (groups_led all qs)
+groups_land part all [] some w = tt
+groups_land part all (r ∷ qs) some w = by_test (leads_group all r) (groups_land part all qs some w.1)
+  where
+    by_test : (b : Bool) → AllByRecursion (LandsAs part) (groups_led all qs) → AllByRecursion (LandsAs part) (if b then Copies r.words (planned_addresses (with_content r.words all)) ∷ groups_led all qs else groups_led all qs)
+    by_test true ih = (copies_land part r.words (planned_addresses (with_content r.words all)) some w.0, ih)
+    by_test false ih = ih
+
+here_of : (part : PartData) (rows : List PlanRow) → All (λ row. Contains (addresses_in part) row.far) rows → AreHere part rows
+here_of part rows a = rw (addresses_among-slots part.far part.rows) (by_recursion (λ row. Contains (addresses_in part) row.far) rows a)
+
+-- the runs of a plan's other rows stand at slots that follow one another
+pub plan_placed : (part : PartData) (rows : List PlanRow) → IsPart part → All (λ row. Contains (addresses_in part) row.far) rows → AllByRecursion (IsPlaced part) (runs_of part (others rows rows))
+plan_placed part rows is h =
+    let rises : Rises 0 (addresses_among (slots_in part)) = rw (addresses_among-slots part.far part.rows) (part_rises part.far part.rows is.far is.rows) in
+    runs_placed part (others rows rows) rises (of_others (λ row. Contains (addresses_among (slots_in part)) row.far) rows rows (here_of part rows h))
+
+pub stretches_land : (part : PartData) (rows : List PlanRow) → IsPart part → All (λ row. length row.words ≡ frame_words part) rows → All (λ row. Contains (addresses_in part) row.far) rows → AllByRecursion (LandsAs part) (stretches_of part rows)
+stretches_land part rows is w h =
+    let wide : AllByRecursion (λ row. length row.words ≡ frame_words part) rows = by_recursion (λ row. length row.words ≡ frame_words part) rows w in
+    all-append (LandsAs part) (groups_led rows rows) (map Rows (runs_of part (others rows rows)))
+    (groups_land part rows rows (omega (arith, is.words)) wide)
+    (runs_land part (runs_of part (others rows rows)) (omega (arith, is.words))
+    (plan_placed part rows is h)
+    (of_runs (λ row. length row.words ≡ frame_words part) part rows wide))
+
+-- ---- they can be written
+
+addresses_words : (rows : List PlanRow) → AllByRecursion (λ row. row.far < 2 ^ 32) rows → AreWords (planned_addresses rows)
+addresses_words [] a = tt
+addresses_words (r ∷ rows) a = (a.0, addresses_words rows a.1)
+
+groups_fit : (part : PartData) (all qs : List PlanRow) → frame_words part < 2 ^ 27 → AllByRecursion (λ row. row.far < 2 ^ 32) all → AllByRecursion (λ row. AreWords row.words) qs → AllByRecursion (λ row. length row.words ≡ frame_words part) qs → AreStretches part (groups_led all qs)
+groups_fit part all [] n f a w = tt
+groups_fit part all (r ∷ qs) n f a w = by_test (leads_group all r) (groups_fit part all qs n f a.1 w.1)
+  where
+    by_test : (b : Bool) → AreStretches part (groups_led all qs) → AreStretches part (if b then Copies r.words (planned_addresses (with_content r.words all)) ∷ groups_led all qs else groups_led all qs)
+    by_test true ih = ((omega (arith, w.0), a.0, addresses_words (with_content r.words all) (of_content (λ row. row.far < 2 ^ 32) r.words all f)), ih)
+    by_test false ih = ih
+
+run_fits : (part : PartData) (k : ℕ) (run : List PlanRow) → length run ≤ k → frame_words part * (k + 1) < 2 ^ 27 → AllByRecursion (λ row. row.far < 2 ^ 32) run → AllByRecursion (λ row. AreWords row.words) run → AllByRecursion (λ row. length row.words ≡ frame_words part) run → IsStretch part (Rows run)
+run_fits part k run l n f a w =
+    let count : length (row_frames run ++ zero_frame part ∷ []) ≡ length run + 1 = length-append (row_frames run) (zero_frame part ∷ []) ∙ ap (λ x. x + 1) (length_map run) in
+    let long : length (joined (row_frames run ++ zero_frame part ∷ [])) ≡ frame_words part * (length run + 1) = joined_length (frame_words part) (row_frames run ++ zero_frame part ∷ []) (rows_wide (frame_words part) run (zero_frame part) w (length-replicate (frame_words part) 0)) ∙ ap (λ x. frame_words part * x) count in
+    let most : frame_words part * (length run + 1) ≤ frame_words part * (k + 1) = mul-le-mul_left (frame_words part) (omega (arith, l)) in
+    (omega (arith, long, most, n), by_all (λ row. AreWords row.words) run a, addresses_words run f)
+  where
+    length_map : (rows : List PlanRow) → length (row_frames rows) ≡ length rows
+    length_map [] = refl
+    length_map (r ∷ rows) = omega (arith, length_map rows)
+
+runs_fit : (part : PartData) (k : ℕ) (runs : List (List PlanRow)) → length (run_rows runs) ≤ k → frame_words part * (k + 1) < 2 ^ 27 → AllByRecursion (AllByRecursion (λ row. row.far < 2 ^ 32)) runs → AllByRecursion (AllByRecursion (λ row. AreWords row.words)) runs → AllByRecursion (AllByRecursion (λ row. length row.words ≡ frame_words part)) runs → AreStretches part (map Rows runs)
+runs_fit part k [] l n f a w = tt
+runs_fit part k (run ∷ runs) l n f a w =
+    let both : length (run ++ run_rows runs) ≡ length run + length (run_rows runs) = length-append run (run_rows runs) in
+    (run_fits part k run (omega arith) n f.0 a.0 w.0, runs_fit part k runs (omega arith) n f.1 a.1 w.1)
+
+fewer_others : (all qs : List PlanRow) → length (others all qs) ≤ length qs
+fewer_others all [] = omega arith
+fewer_others all (r ∷ qs) = by_test (is_shared all r) (fewer_others all qs)
+  where
+    by_test : (b : Bool) → length (others all qs) ≤ length qs → length (if b then others all qs else r ∷ others all qs) ≤ length (r ∷ qs)
+    by_test true ih = omega arith
+    by_test false ih = omega arith
+
+pub stretches_are : (part : PartData) (rows : List PlanRow) → frame_words part * (length rows + 1) < 2 ^ 27 → All (λ row. row.far < 2 ^ 32) rows → HaveWords rows → All (λ row. length row.words ≡ frame_words part) rows → AreStretches part (stretches_of part rows)
+stretches_are part rows n f a w =
+    let ff : AllByRecursion (λ row. row.far < 2 ^ 32) rows = by_recursion (λ row. row.far < 2 ^ 32) rows f in
+    let aa : AllByRecursion (λ row. AreWords row.words) rows = by_recursion (λ row. AreWords row.words) rows a in
+    let ww : AllByRecursion (λ row. length row.words ≡ frame_words part) rows = by_recursion (λ row. length row.words ≡ frame_words part) rows w in
+    let few : length (run_rows (runs_of part (others rows rows))) ≤ length rows = rw (runs_joined part (others rows rows)) (fewer_others rows rows) in
+    all-append (IsStretch part) (groups_led rows rows) (map Rows (runs_of part (others rows rows)))
+    (groups_fit part rows rows (omega arith) ff aa ww)
+    (runs_fit part (length rows) (runs_of part (others rows rows)) few n (of_runs (λ row. row.far < 2 ^ 32) part rows ff) (of_runs (λ row. AreWords row.words) part rows aa) (of_runs (λ row. length row.words ≡ frame_words part) part rows ww))
+
+pub plan_fits : (part : PartData) (rows : List PlanRow) → part.idcode < 2 ^ 32 → frame_words part * (length rows + 1) < 2 ^ 27 → All (λ row. row.far < 2 ^ 32) rows → HaveWords rows → All (λ row. length row.words ≡ frame_words part) rows → ArePieces (plan_pieces part rows)
+plan_fits part rows i n f a w = partial_fits part (stretches_of part rows) i (stretches_are part rows n f a w)

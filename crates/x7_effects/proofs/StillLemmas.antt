@@ -1,0 +1,136 @@
+-- Startup over a history that grows: what it is after each access, by what that asks of it.
+use Rattle.std.proofs.Common.{◌≡◌, ◌/◌, ◌+◌, ◌-◌, ◌≤◌, ◌⊎◌, inl, inr, ℕ, Bool, true, false, List, [], ◌∷◌, ◌++◌, refl, sym, ap, subst, ◌∙◌, append-nil, arith}
+use Rattle.x7_packets.specs.History.{Access, History, entry}
+use Rattle.x7_part.specs.Part.{PartData}
+use Rattle.x7_startup.specs.Arrivals.{IsPhase, arrival, wait_of}
+use Rattle.x7_startup.specs.Calls.{Begun, Call, NotBegun, Progress, is_armed, progress_of, since_taking}
+use Rattle.x7_startup.specs.Calls as call
+use Rattle.x7_startup.proofs.CallLemmas.{first_place, further, is_armed-arm, is_armed-bytes, is_armed-desync, is_armed-drop, progress_arm, progress_bytes, progress_desync, progress_drop}
+use Rattle.x7_startup.proofs.PhaseLemmas.{one_phase}
+use Rattle.x7_engine.specs.Clock.{newest_place}
+use Rattle.x7_engine.specs.Startup.{phase_by, phase_of, startup_call, startup_calls, startup_progress}
+use Rattle.x7_engine.proofs.ClockLemmas.{last_of, phase_rises, startup_entered, startup_more}
+use Rattle.x7_engine.proofs.StartupLemmas.{phase_is}
+
+-- whether startup is armed after n bytes, and how far it is
+pub record HasStartup (h : History) (n : ℕ) (armed : Bool) (progress : Progress) : Type 0 where
+  pub armed_is : is_armed false (since_taking (startup_calls h n)) ≡ armed
+  pub progress_is : startup_progress h n ≡ progress
+
+pub startup_bytes : (h : History) (n m : ℕ) (armed : Bool) (progress : Progress) → newest_place h ≤ n → n ≤ m → HasStartup h n armed progress → HasStartup h m armed (further (m - n) progress)
+startup_bytes h n m armed progress l k s =
+    let sum : n + (m - n) ≡ m = omega (arith, k) in
+    subst (λ (x : ℕ). HasStartup h x armed (further (m - n) progress)) sum (record {
+      armed_is = ap (λ (t : List Call). is_armed false (since_taking t)) (startup_more h n (m - n) l) ∙ is_armed-bytes (startup_calls h n) (m - n) ∙ s.armed_is;
+      progress_is = ap progress_of (startup_more h n (m - n) l) ∙ progress_bytes (startup_calls h n) (m - n) ∙ ap (further (m - n)) s.progress_is;
+    })
+
+-- the calls with those of an access
+entered_by : (h : History) (access : Access) (place : ℕ) (calls : List Call) → startup_call h access ≡ calls → startup_calls (entry access place ∷ h) place ≡ startup_calls h place ++ calls
+entered_by h access place calls e = startup_entered h access place ∙ ap (λ (t : List Call). startup_calls h place ++ t) e
+
+armed_by : (h : History) (place : ℕ) (armed b : Bool) (calls : List Call) → startup_calls h place ≡ calls → is_armed false (since_taking calls) ≡ b → is_armed false (since_taking (startup_calls h place)) ≡ b
+armed_by h place armed b calls e f = ap (λ (t : List Call). is_armed false (since_taking t)) e ∙ f
+
+-- an access that asks nothing of startup
+pub startup_none : (h : History) (access : Access) (place : ℕ) (armed : Bool) (progress : Progress) → startup_call h access ≡ [] → HasStartup h place armed progress → HasStartup (entry access place ∷ h) place armed progress
+startup_none h access place armed progress e s =
+    let same : startup_calls (entry access place ∷ h) place ≡ startup_calls h place = entered_by h access place [] e ∙ append-nil (startup_calls h place) in
+    record {
+      armed_is = ap (λ (t : List Call). is_armed false (since_taking t)) same ∙ s.armed_is;
+      progress_is = ap progress_of same ∙ s.progress_is;
+    }
+
+-- START
+pub startup_armed : (h : History) (access : Access) (place : ℕ) (armed : Bool) (progress : Progress) → startup_call h access ≡ call.Arm ∷ [] → HasStartup h place armed progress → HasStartup (entry access place ∷ h) place true progress
+startup_armed h access place armed progress e s =
+    let calls : startup_calls (entry access place ∷ h) place ≡ startup_calls h place ++ call.Arm ∷ [] = entered_by h access place (call.Arm ∷ []) e in
+    record {
+      armed_is = ap (λ (t : List Call). is_armed false (since_taking t)) calls ∙ is_armed-arm (startup_calls h place);
+      progress_is = ap progress_of calls ∙ progress_arm (startup_calls h place) ∙ s.progress_is;
+    }
+
+-- a shutdown taken
+pub startup_dropped : (h : History) (access : Access) (place : ℕ) → startup_call h access ≡ call.DropBack ∷ [] → HasStartup (entry access place ∷ h) place false NotBegun
+startup_dropped h access place e =
+    let calls : startup_calls (entry access place ∷ h) place ≡ startup_calls h place ++ call.DropBack ∷ [] = entered_by h access place (call.DropBack ∷ []) e in
+    record {
+      armed_is = ap (λ (t : List Call). is_armed false (since_taking t)) calls ∙ is_armed-drop (startup_calls h place);
+      progress_is = ap progress_of calls ∙ progress_drop (startup_calls h place);
+    }
+
+-- DESYNC
+pub startup_desynced : (h : History) (access : Access) (place cor0 : ℕ) (armed : Bool) (progress : Progress) → startup_call h access ≡ call.Desync cor0 ∷ [] → HasStartup h place armed progress
+    → HasStartup (entry access place ∷ h) place false (first_place progress armed cor0)
+startup_desynced h access place cor0 armed progress e s =
+    let calls : startup_calls (entry access place ∷ h) place ≡ startup_calls h place ++ call.Desync cor0 ∷ [] = entered_by h access place (call.Desync cor0 ∷ []) e in
+    record {
+      armed_is = ap (λ (t : List Call). is_armed false (since_taking t)) calls ∙ is_armed-desync (startup_calls h place) cor0;
+      progress_is = ap progress_of calls ∙ progress_desync (startup_calls h place) cor0
+          ∙ ap (λ (p : Progress). first_place p (is_armed false (since_taking (startup_calls h place))) cor0) s.progress_is
+          ∙ ap (λ (b : Bool). first_place progress b cor0) s.armed_is;
+    }
+
+-- DESYNC is the newest access, or there is none: startup isn't armed
+pub never_armed : (n : ℕ) → is_armed false (since_taking (startup_calls [] n)) ≡ false
+never_armed n = is_armed-bytes [] n
+
+pub disarmed : (h : History) (access : Access) (place n cor0 : ℕ) → startup_call h access ≡ call.Desync cor0 ∷ [] → place ≤ n → is_armed false (since_taking (startup_calls (entry access place ∷ h) n)) ≡ false
+disarmed h access place n cor0 e l =
+    let here : HasStartup (entry access place ∷ h) place false (first_place (startup_progress h place) (is_armed false (since_taking (startup_calls h place))) cor0) =
+    startup_desynced h access place cor0 (is_armed false (since_taking (startup_calls h place))) (startup_progress h place) e (record { armed_is = refl; progress_is = refl }) in
+    (startup_bytes (entry access place ∷ h) place n false _ (omega arith) l here).armed_is
+
+-- ---- startup that hasn't begun and isn't armed, or has ended
+
+abbrev pub IsStill : PartData → ℕ → History → ℕ → Type 0
+IsStill part phase h n = (HasStartup h n false NotBegun × (phase ≡ 0)) ⊎ ((phase_of part h n ≡ 7) × (phase ≡ 7))
+
+pub still_phase : (part : PartData) (phase : ℕ) (h : History) (n : ℕ) → IsStill part phase h n → phase_of part h n ≡ phase
+still_phase part phase h n (inl s) = ap (phase_by part) s.0.progress_is ∙ sym s.1
+still_phase part phase h n (inr s) = s.0 ∙ sym s.1
+
+pub still_rests : (part : PartData) (phase : ℕ) (h : History) (n : ℕ) → IsStill part phase h n → (startup_progress h n ≡ NotBegun) ⊎ (phase_of part h n ≡ 7)
+still_rests part phase h n (inl s) = inl s.0.progress_is
+still_rests part phase h n (inr s) = inr s.0
+
+pub ended_bytes : (part : PartData) (h : History) (n m : ℕ) → newest_place h ≤ n → n ≤ m → phase_of part h n ≡ 7 → phase_of part h m ≡ 7
+ended_bytes part h n m l k e =
+    let sum : n + (m - n) ≡ m = omega (arith, k) in
+    let rises : phase_of part h n ≤ phase_of part h (n + (m - n)) = phase_rises part h n (m - n) l in
+    let most : phase_of part h (n + (m - n)) ≤ 7 = last_of part (startup_progress h (n + (m - n))) in
+    let end : phase_of part h (n + (m - n)) ≡ 7 = omega (arith, rises, most, e) in
+    subst (λ (x : ℕ). phase_of part h x ≡ 7) sum end
+
+pub still_bytes : (part : PartData) (phase : ℕ) (h : History) (n m : ℕ) → newest_place h ≤ n → n ≤ m → IsStill part phase h n → IsStill part phase h m
+still_bytes part phase h n m l k (inl s) = inl (startup_bytes h n m false NotBegun l k s.0, s.1)
+still_bytes part phase h n m l k (inr s) = inr (ended_bytes part h n m l k s.0, s.1)
+
+pub still_none : (part : PartData) (phase : ℕ) (h : History) (access : Access) (place : ℕ) → startup_call h access ≡ [] → IsStill part phase h place → IsStill part phase (entry access place ∷ h) place
+still_none part phase h access place e (inl s) = inl (startup_none h access place false NotBegun e s.0, s.1)
+still_none part phase h access place e (inr s) =
+    let same : startup_calls (entry access place ∷ h) place ≡ startup_calls h place = entered_by h access place [] e ∙ append-nil (startup_calls h place) in
+    inr (ap (λ (t : List Call). phase_by part (progress_of t)) same ∙ s.0, s.1)
+
+goes_on : (part : PartData) (progress : Progress) (armed : Bool) (cor0 : ℕ) → phase_by part progress ≡ 7 → phase_by part (first_place progress armed cor0) ≡ 7
+goes_on part NotBegun armed cor0 e = absurd (omega (arith, e))
+goes_on part (Begun c bytes) armed cor0 e = e
+
+pub still_desynced : (part : PartData) (phase : ℕ) (h : History) (access : Access) (place cor0 : ℕ) → startup_call h access ≡ call.Desync cor0 ∷ [] → IsStill part phase h place → IsStill part phase (entry access place ∷ h) place
+still_desynced part phase h access place cor0 e (inl s) = inl (startup_desynced h access place cor0 false NotBegun e s.0, s.1)
+still_desynced part phase h access place cor0 e (inr s) =
+    let calls : startup_calls (entry access place ∷ h) place ≡ startup_calls h place ++ call.Desync cor0 ∷ [] = entered_by h access place (call.Desync cor0 ∷ []) e in
+    let armed : Bool = is_armed false (since_taking (startup_calls h place)) in
+    inr (ap (λ (t : List Call). phase_by part (progress_of t)) calls ∙ ap (phase_by part) (progress_desync (startup_calls h place) cor0) ∙ goes_on part (startup_progress h place) armed cor0 s.0, s.1)
+
+-- ---- the startup of a full stream: COR0 waits in no phase, so seven ticks end it
+
+no_waits : (lock matched : ℕ) → arrival (wait_of lock matched 0x02003FE5) 7 ≡ 7
+unfolding arrival
+no_waits lock matched = refl
+
+pub ends_in_seven : (part : PartData) (bytes : ℕ) → 28 ≤ bytes → phase_by part (Begun 0x02003FE5 bytes) ≡ 7
+ends_in_seven part bytes l =
+    let wait : ℕ → ℕ = wait_of part.lock part.matched 0x02003FE5 in
+    let seven : IsPhase wait (bytes / 4) 7 = record { last = omega arith; begun = omega (arith, l, no_waits part.lock part.matched); greatest = λ p small come. small } in
+    one_phase wait (bytes / 4) (phase_by part (Begun 0x02003FE5 bytes)) 7 (phase_is part (Begun 0x02003FE5 bytes)) seven

@@ -1,0 +1,145 @@
+-- Item by item through what a planner writes: nothing stops the device, and what the memory gets.
+use Rattle.std.proofs.Common.{◌≡◌, ◌==◌, ◌||◌, ◌+◌, ◌*◌, ◌/◌, ◌%◌, ◌^◌, ◌≤◌, ℕ, Bool, true, false, not, None, List, [], ◌∷◌, length, refl, sym, ap, subst, ◌∙◌, arith}
+use Rattle.std.proofs.lemmas.Bool.Decides.{nat_tests}
+use Rattle.x7_packets.specs.History as access
+use Rattle.x7_packets.specs.History.{History, command_held, entered_all, entry, executes}
+use Rattle.x7_packets.specs.Packet.{payload_steps}
+use Rattle.x7_part.specs.Part.{PartData, frame_words}
+use Rattle.x7_memory.specs.FrameMap.{AreSame, FrameMap}
+use Rattle.x7_memory.specs.Planned.{PlanRow, planned}
+use Rattle.x7_memory.proofs.MapLemmas.{override_same}
+use Rattle.x7_pipeline.specs.FarAsRead.{has_frame_at, loaded_base}
+use Rattle.x7_pipeline.specs.Runs.{landed, onto, put_over, slots_from}
+use Rattle.x7_words.specs.Word.{field_of}
+use Rattle.x7_flow.specs.Controls.{ctl0_held, forbids_reading, forbids_writing, is_matched}
+use Rattle.x7_flow.specs.Flow.{Flow, base_of, frame_fault, run_of}
+use Rattle.x7_flow.specs.FrameMemory.{memory_of}
+use Rattle.x7_flow.specs.Settings.{Settings, settings_of, takes_frames}
+use Rattle.x7_flow.specs.Words.{NoneRefused}
+use Rattle.x7_flow.proofs.FlowLemmas.{flow_more}
+use Rattle.x7_flow.proofs.ManyLemmas.{words_settings}
+use Rattle.x7_flow.proofs.QuietLemmas.{quiet_memory}
+use Rattle.x7_engine.specs.declared.kept.Kept.{Kept}
+use Rattle.x7_engine.specs.Stops.{access_line}
+use Rattle.x7_effects.proofs.Items.{Write, WriteLong, item_entered, writes_entered}
+use Rattle.x7_effects.proofs.Checking.{Put, piece_length}
+use Rattle.x7_effects.proofs.Streams.{command, one}
+use Rattle.x7_effects.proofs.CalmLemmas.{IsOff}
+use Rattle.x7_flow.proofs.RoomLemmas.{words_memory, words_none, words_run}
+use Rattle.x7_effects.proofs.GoingLemmas.{IsGoing, IsQuiet, data_line, far_line, going_access, going_bytes, line_none, quiet_far, written}
+use Rattle.x7_effects.proofs.ItemLemmas.{payload_enters}
+
+-- ---- one word written to a register
+
+pub going_one : (part : PartData) (kept : Kept) (phase : ℕ) (h : History) (n r w : ℕ) → IsQuiet h (access.Write r w) → access_line part kept h (access.Write r w) ≡ None → frame_fault part h (access.Write r w) ≡ None
+    → IsOff kept (entry (access.Write r w) (n + 4 + 4) ∷ h) → IsGoing part kept phase h n → IsGoing part kept phase (item_entered n (Write r (w ∷ [])) h) (n + 8)
+going_one part kept phase h n r w q line fault off g =
+    going_bytes part kept phase (entry (access.Write r w) (n + 4 + 4) ∷ h) (n + 4 + 4) (n + 8) (omega arith)
+    (going_access part kept phase h (access.Write r w) n (n + 4 + 4) (omega arith) g q (line_none part kept h (access.Write r w) line fault) off)
+
+same_then : (l m n : FrameMap) → AreSame l m → AreSame m n → AreSame l n
+same_then l m n a b far = a far ∙ b far
+
+pub put_same : (xs ys : List PlanRow) (m n : FrameMap) → xs ≡ ys → AreSame m n → AreSame (put_over xs m) (put_over ys n)
+put_same xs ys m n e s = override_same m n (planned xs) (planned ys) s (λ far. ap (λ t. planned t far) e)
+
+-- ---- words of frame data
+
+pub going_words : (part : PartData) (kept : Kept) (phase : ℕ) (h : History) (p : ℕ) (ws : List ℕ) → is_matched part.idcode h ≡ true → NoneRefused part p ws h → IsGoing part kept phase h p
+    → IsGoing part kept phase (writes_entered p 2 ws h) (p + 4 * length ws)
+unfolding NoneRefused
+going_words part kept phase h p [] m none g = going_bytes part kept phase h p (p + 4 * 0) (omega arith) g
+going_words part kept phase h p (w ∷ ws) m none g =
+    let here : IsGoing part kept phase (entry (access.Write 2 w) (p + 4) ∷ h) (p + 4) =
+    going_access part kept phase h (access.Write 2 w) p (p + 4) (omega arith) g (record { start = refl; shutdown = refl; desync = refl })
+    (line_none part kept h (access.Write 2 w) (data_line part kept h w m) none.0) g.calm.off in
+    let end : p + 4 + 4 * length ws ≡ p + 4 * length (w ∷ ws) = omega arith in
+    subst (λ (k : ℕ). IsGoing part kept phase (writes_entered (p + 4) 2 ws (entry (access.Write 2 w) (p + 4) ∷ h)) k) end
+    (going_words part kept phase (entry (access.Write 2 w) (p + 4) ∷ h) (p + 4) ws m none.1 here)
+
+-- where SBITS allow reading they allow writing
+no_sbits : (ctl0 : ℕ) → ctl0 / 2 ^ 4 % 2 ^ 2 ≡ 0 → ctl0 / 2 ^ 5 % 2 ^ 1 ≡ 1 → ⊥
+no_sbits ctl0 e f = omega (arith, e, f)
+
+pub allows_writing : (ctl0 : ℕ) → forbids_reading ctl0 ≡ false → forbids_writing ctl0 ≡ false
+allows_writing ctl0 e = by (field_of 4 2 ctl0 == 0) (field_of 5 1 ctl0 == 1) refl refl e
+  where
+    by : (a b : Bool) → (field_of 4 2 ctl0 == 0) ≡ a → (field_of 5 1 ctl0 == 1) ≡ b → not a ≡ false → b ≡ false
+    by false b f g e = absurd (cc)
+    by true false f g e = refl
+    by true true f g e = absurd (no_sbits ctl0 (grind (arith, nat_tests, f)) (grind (arith, nat_tests, g)))
+
+pub takes : (part : PartData) (h : History) → is_matched part.idcode h ≡ true → forbids_reading (ctl0_held h) ≡ false → command_held h ≡ 1 → takes_frames (settings_of part.idcode h) ≡ true
+takes part h m f e = rw (m, allows_writing (ctl0_held h) f, e) refl
+
+-- ---- a matched device that may be written, with this memory
+
+pub record IsReady (part : PartData) (kept : Kept) (phase : ℕ) (h : History) (n : ℕ) (m : FrameMap) : Type 0 where
+  pub going : IsGoing part kept phase h n
+  pub matched : is_matched part.idcode h ≡ true
+  pub allows : forbids_reading (ctl0_held h) ≡ false
+  pub memory : AreSame (memory_of part h) m
+
+-- the same after a command and a FAR load
+pub record IsLoaded (part : PartData) (kept : Kept) (phase held far : ℕ) (h : History) (n : ℕ) (m : FrameMap) : Type 0 where
+  pub ready : IsReady part kept phase h n m
+  pub held_is : command_held h ≡ held
+  pub base_is : base_of part h ≡ far
+  pub run_is : run_of part h ≡ []
+
+-- an access that writes neither FDRI nor MFWR
+pub quiet_one : (part : PartData) (h : History) (a : access.Access) (place : ℕ) (m : FrameMap) → (access.writes 2 a || access.writes 10 a) ≡ false → AreSame (memory_of part h) m → AreSame (memory_of part (entry a place ∷ h)) m
+quiet_one part h a place m q s = same_then (memory_of part (entry a place ∷ h)) (memory_of part h) m (quiet_memory part (entry a place ∷ []) h (q, tt)) s
+
+pub ready_load : (part : PartData) (kept : Kept) (phase far : ℕ) (h : History) (n : ℕ) (m : FrameMap) → IsReady part kept phase h n m → loaded_base part far ≡ far
+    → IsLoaded part kept phase 1 far (written n (command 1 ∷ one 1 far ∷ []) h) (n + 8 + 8) m
+ready_load part kept phase far h n m r s =
+    let g : History = entry (access.Write 4 1) (n + 4 + 4) ∷ h in
+    let first : IsGoing part kept phase g (n + 8) = going_one part kept phase h n 4 1 (record { start = refl; shutdown = refl; desync = refl }) refl refl r.going.calm.off r.going in
+    let second : IsGoing part kept phase (item_entered (n + 8) (Write 1 (far ∷ [])) g) (n + 8 + 8) =
+    going_one part kept phase g (n + 8) 1 far (quiet_far g far 1 refl refl refl refl refl) (far_line part kept g far 1 refl refl refl refl) refl first.calm.off first in
+    let loaded = flow_more part (entry (access.Write 1 far) (n + 8 + 4 + 4)) g in
+    record {
+      ready = record {
+        going = second;
+        matched = r.matched;
+        allows = r.allows;
+        memory = quiet_one part g (access.Write 1 far) (n + 8 + 4 + 4) m refl (quiet_one part h (access.Write 4 1) (n + 4 + 4) m refl r.memory);
+      };
+      held_is = refl;
+      base_is = ap (λ (f : Flow). f.base) loaded ∙ s;
+      run_is = ap (λ (f : Flow). f.run) loaded;
+    }
+
+-- words of frame data from there on
+pub record HasWritten (part : PartData) (kept : Kept) (phase far : ℕ) (words : List ℕ) (h : History) (n : ℕ) (m : FrameMap) : Type 0 where
+  pub ready : IsReady part kept phase h n (put_over (landed part far (onto words [])) m)
+  pub held_is : command_held h ≡ 1
+  pub run_is : run_of part h ≡ onto words []
+
+pub loaded_words : (part : PartData) (kept : Kept) (phase far : ℕ) (h : History) (n : ℕ) (m : FrameMap) (ws : List ℕ) → IsLoaded part kept phase 1 far h n m → has_frame_at part far ≡ true
+    → length ws ≤ frame_words part * length (slots_from part far) → HasWritten part kept phase far ws (written n (Put (WriteLong 2 ws) ∷ []) h) (n + 4 * piece_length (Put (WriteLong 2 ws))) m
+loaded_words part kept phase far h n m ws l a few =
+    let t : takes_frames (settings_of part.idcode h) ≡ true = takes part h l.ready.matched l.ready.allows l.held_is in
+    let g : History = writes_entered (n + 8) 2 ws h in
+    let same : entered_all (n + 8) (payload_steps 2 ws) h ≡ g = payload_enters (n + 8) 2 ws h in
+    let settings : settings_of part.idcode g ≡ settings_of part.idcode h = ap (settings_of part.idcode) (sym same) ∙ words_settings part.idcode (n + 8) ws h in
+    let there : has_frame_at part (base_of part h) ≡ true = ap (has_frame_at part) l.base_is ∙ a in
+    let none : length (run_of part h) ≡ 0 = ap length l.run_is in
+    let slots : frame_words part * length (slots_from part (base_of part h)) ≡ frame_words part * length (slots_from part far) = ap (λ (x : ℕ). frame_words part * length (slots_from part x)) l.base_is in
+    let refused : NoneRefused part (n + 8) ws h = words_none part (n + 8) ws h t there (omega (arith, few, none, slots)) in
+    let going : IsGoing part kept phase g (n + 8 + 4 * length ws) = going_words part kept phase h (n + 8) ws l.ready.matched refused (going_bytes part kept phase h n (n + 8) (omega arith) l.ready.going) in
+    let end : n + 8 + 4 * length ws ≡ n + 4 * piece_length (Put (WriteLong 2 ws)) = omega arith in
+    let pairs : landed part (base_of part h) (onto ws []) ≡ landed part far (onto ws []) = ap (λ (x : ℕ). landed part x (onto ws [])) l.base_is in
+    let memory : AreSame (memory_of part g) (put_over (landed part (base_of part h) (onto ws [])) (memory_of part h)) =
+    subst (λ (x : History). AreSame (memory_of part x) (put_over (landed part (base_of part h) (onto ws [])) (memory_of part h))) same (words_memory part (n + 8) ws h t l.run_is) in
+    record {
+      ready = record {
+        going = subst (λ (k : ℕ). IsGoing part kept phase g k) end going;
+        matched = ap (λ (s : Settings). s.matched) settings ∙ l.ready.matched;
+        allows = ap (λ (s : Settings). forbids_reading s.ctl0) settings ∙ l.ready.allows;
+        memory = same_then (memory_of part g) _ (put_over (landed part far (onto ws [])) m) memory (put_same (landed part (base_of part h) (onto ws [])) (landed part far (onto ws [])) (memory_of part h) m pairs l.ready.memory);
+      };
+      held_is = ap (λ (s : Settings). s.held) settings ∙ l.held_is;
+      run_is = ap (run_of part) (sym same) ∙ ap (λ (f : Flow). f.run) (words_run part (n + 8) ws h t l.run_is);
+    }

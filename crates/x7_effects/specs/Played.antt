@@ -1,0 +1,41 @@
+-- What planned streams do on a device at rest (this project's choice).
+use Rattle.std.specs.Prelude.{◌≡◌, ℕ, Bool, List, ◌++◌, replicate, take, unwrap_or}
+use Rattle.std.specs.List.{flat_map}
+use Rattle.x7_part.specs.Part.{PartData, frame_words}
+use Rattle.x7_part.specs.declared.slot.Slot.{Slot}
+use Rattle.x7_part.specs.declared.slot.Slot.TheVariants.{Frame, Pad, End}
+use Rattle.x7_memory.specs.FrameMap.{AreSame, FrameMap, override}
+use Rattle.x7_memory.specs.Planned.{PlanData, planned, total}
+use Rattle.x7_pipeline.specs.Runs.{slots_from}
+use Rattle.x7_engine.specs.declared.kept.Kept.{Kept}
+use Rattle.x7_engine.specs.Rest.{AtRest}
+use Rattle.x7_engine.specs.State.{memory_in, reads_of, state_of}
+
+-- the words of a memory at a slot: its frame at an address, zeros at a pad
+abbrev pub slot_words : PartData → FrameMap → Slot → List ℕ
+slot_words part memory (Frame far) = unwrap_or (memory far) (replicate (frame_words part) 0)
+slot_words part memory Pad = replicate (frame_words part) 0
+slot_words part memory End = replicate (frame_words part) 0
+
+-- what a readback of n slots from an address on gives: a frame of zeros, and the frames along the slots
+abbrev pub words_along : PartData → FrameMap → ℕ → ℕ → List ℕ
+words_along part memory far n = replicate (frame_words part) 0 ++ flat_map (slot_words part memory) (take n (slots_from part far))
+
+-- After a full stream the memory is the plan over zeros and startup has ended. There is no stop, and the device is at rest again.
+pub record PlaysFull (part : PartData) (kept : Kept) (bytes stream : List ℕ) (plan : PlanData) : Type 0 where
+  pub memory : AreSame (memory_in part kept (bytes ++ stream)) (total part plan)
+  pub phase : (wrapped : Bool) → (state_of part kept wrapped (bytes ++ stream)).phase ≡ 7
+  pub rests : AtRest part kept (bytes ++ stream)
+
+-- After a partial stream the memory is that before it, overridden by the plan, and the phase stays. There is no stop, and the device is at rest again.
+pub record PlaysPartial (part : PartData) (kept : Kept) (bytes stream : List ℕ) (plan : PlanData) : Type 0 where
+  pub memory : AreSame (memory_in part kept (bytes ++ stream)) (override (memory_in part kept bytes) (planned plan.rows))
+  pub phase : (wrapped : Bool) → (state_of part kept wrapped (bytes ++ stream)).phase ≡ (state_of part kept wrapped bytes).phase
+  pub rests : AtRest part kept (bytes ++ stream)
+
+-- A read stream reads out the words of n slots from an address on; memory and phase stay. There is no stop, and the device is at rest again.
+pub record PlaysRead (part : PartData) (kept : Kept) (bytes stream : List ℕ) (far n : ℕ) : Type 0 where
+  pub reads : reads_of part kept (bytes ++ stream) ≡ reads_of part kept bytes ++ words_along part (memory_in part kept bytes) far n
+  pub memory : AreSame (memory_in part kept (bytes ++ stream)) (memory_in part kept bytes)
+  pub phase : (wrapped : Bool) → (state_of part kept wrapped (bytes ++ stream)).phase ≡ (state_of part kept wrapped bytes).phase
+  pub rests : AtRest part kept (bytes ++ stream)

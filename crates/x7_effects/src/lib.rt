@@ -1,0 +1,8 @@
+//! What planned streams do on a device at rest: laws of the definitions, for the proofs of crates above.
+#![tactic(auto)]
+
+mod law;
+
+pub use law::{
+    full_streams_play, partial_streams_play, partial_streams_write_once, read_streams_play,
+};

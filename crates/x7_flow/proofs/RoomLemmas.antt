@@ -1,0 +1,81 @@
+-- Words of frame data for which there are slots: none is refused, and what they leave.
+use Rattle.std.proofs.Common.{◌≡◌, ◌&&◌, ◌+◌, ◌*◌, ◌<◌, ◌≤◌, inl, inr, ℕ, Bool, true, false, if◌then◌else◌, None, Some, List, [], ◌∷◌, length, refl, sym, ap, ◌∙◌, arith, length-append}
+use Rattle.std.proofs.lemmas.Bool.{cases_eq}
+use Rattle.std.proofs.lemmas.Bool.Decides.{nat_tests}
+use Rattle.std.proofs.Math.Nat.{mul-le-mul_left}
+use Rattle.x7_packets.specs.History.{History, Write, entered_all, entry}
+use Rattle.x7_packets.specs.Packet.{payload_steps}
+use Rattle.x7_part.specs.Part.{PartData, frame_words}
+use Rattle.x7_memory.specs.FrameMap.{AreSame}
+use Rattle.x7_pipeline.specs.declared.fault.RunFault.TheVariants.{Overrun}
+use Rattle.x7_pipeline.specs.FarAsRead.{has_frame_at}
+use Rattle.x7_pipeline.specs.Faults.{address_fault, completes, has_filled, write_fault}
+use Rattle.x7_pipeline.specs.Runs.{frames_of, landed, onto, put_over, rest_of, slots_from}
+use Rattle.x7_pipeline.proofs.LawLemmas.{landed_empty, lands_over}
+use Rattle.x7_pipeline.proofs.RunLemmas.{frames-completes, frames-goes_on, rest-completes, rest-goes_on}
+use Rattle.x7_flow.specs.Flow.{Flow, base_of, fault_by, flow_of, frame_fault, run_of}
+use Rattle.x7_flow.specs.FrameMemory.{memory_of}
+use Rattle.x7_flow.specs.Settings.{settings_of, takes_frames}
+use Rattle.x7_flow.specs.Words.{NoneRefused}
+use Rattle.x7_flow.proofs.FlowLemmas.{put_none}
+use Rattle.x7_flow.proofs.ManyLemmas.{word_asked, word_flow, words_flow, words_land}
+
+-- a run's words are those of its frames and of its rest
+nothing_cut : (width : ℕ) → length {A = ℕ} [] ≡ width * length (frames_of width []) + length (rest_of width [])
+unfolding frames_of rest_of
+nothing_cut width = omega arith
+
+run_length : (width : ℕ) (run : List ℕ) → length run ≡ width * length (frames_of width run) + length (rest_of width run)
+run_length width [] = nothing_cut width
+run_length width (w ∷ run) =
+    let ih : length run ≡ width * length (frames_of width run) + length (rest_of width run) = run_length width run in
+    elim (cases_eq (length (rest_of width run) + 1) width) [
+      | inl y ↦ (let rest : length (rest_of width (w ∷ run)) ≡ 0 = ap length (rest-completes width w run y) in
+          let frames : length (frames_of width (w ∷ run)) ≡ length (frames_of width run) + 1 = omega (arith, ap length (frames-completes width w run y)) in
+          let product : width * length (frames_of width (w ∷ run)) ≡ width * length (frames_of width run) + width = ap (λ (k : ℕ). width * k) frames ∙ grind arith in
+          omega (arith, ih, rest, product, y))
+      | inr n ↦ (let rest : length (rest_of width (w ∷ run)) ≡ length (rest_of width run) + 1 = ap length (rest-goes_on width w run n) ∙ length-append (rest_of width run) (w ∷ []) in
+          let frames : width * length (frames_of width (w ∷ run)) ≡ width * length (frames_of width run) = ap (λ t. width * length t) (frames-goes_on width w run n) in
+          omega (arith, ih, rest, frames))
+    ]
+
+-- a word for which there is a slot
+pub write_none : (part : PartData) (base : ℕ) (run : List ℕ) → has_frame_at part base ≡ true → length run < frame_words part * length (slots_from part base) → write_fault part base run ≡ None
+unfolding write_fault address_fault
+write_none part base [] t l = rw t refl
+write_none part base (w ∷ run) t l = by (completes part (w ∷ run)) (has_filled part base (w ∷ run)) refl refl
+  where
+    by : (a b : Bool) → completes part (w ∷ run) ≡ a → has_filled part base (w ∷ run) ≡ b → (if a && b then Some Overrun else None) ≡ None
+    by false b e f = refl
+    by true false e f = refl
+    by true true e f =
+        let full : length (slots_from part base) ≤ length (frames_of (frame_words part) (w ∷ run)) = grind (arith, nat_tests, f) in
+        let more : frame_words part * length (slots_from part base) ≤ frame_words part * length (frames_of (frame_words part) (w ∷ run)) = mul-le-mul_left (frame_words part) full in
+        absurd (omega (arith, l, more, run_length (frame_words part) (w ∷ run)))
+
+-- words for all of which there are slots
+pub words_none : (part : PartData) (n : ℕ) (ws : List ℕ) (h : History) → takes_frames (settings_of part.idcode h) ≡ true → has_frame_at part (base_of part h) ≡ true
+    → length (run_of part h) + length ws ≤ frame_words part * length (slots_from part (base_of part h)) → NoneRefused part n ws h
+unfolding NoneRefused
+words_none part n [] h t a l = tt
+words_none part n (w ∷ ws) h t a l =
+    let flow : flow_of part (entry (Write 2 w) (n + 4) ∷ h) ≡ record (flow_of part h) { run = w ∷ run_of part h } = word_flow part w (n + 4) h t in
+    let base : base_of part (entry (Write 2 w) (n + 4) ∷ h) ≡ base_of part h = ap (λ (f : Flow). f.base) flow in
+    let run : length (run_of part (entry (Write 2 w) (n + 4) ∷ h)) ≡ length (run_of part h) + 1 = omega (arith, ap (λ (f : Flow). length f.run) flow) in
+    let slots : frame_words part * length (slots_from part (base_of part (entry (Write 2 w) (n + 4) ∷ h))) ≡ frame_words part * length (slots_from part (base_of part h)) = ap (λ (x : ℕ). frame_words part * length (slots_from part x)) base in
+    let fault : frame_fault part h (Write 2 w) ≡ None =
+    ap (λ a. fault_by part a (flow_of part h)) (word_asked (settings_of part.idcode h) w t) ∙ write_none part (base_of part h) (run_of part h) a (omega (arith, l)) in
+    (fault, words_none part (n + 4) ws (entry (Write 2 w) (n + 4) ∷ h) t (ap (has_frame_at part) base ∙ a) (omega (arith, l, run, slots)))
+
+-- the memory that words leave which begin a run
+pub words_memory : (part : PartData) (n : ℕ) (ws : List ℕ) (h : History) → takes_frames (settings_of part.idcode h) ≡ true → run_of part h ≡ []
+    → AreSame (memory_of part (entered_all n (payload_steps 2 ws) h)) (put_over (landed part (base_of part h) (onto ws [])) (memory_of part h))
+words_memory part n ws h t e =
+    let base : ℕ = base_of part h in
+    let first : AreSame (memory_of part h) (put_over (landed part base (run_of part h)) (memory_of part h)) = λ far. sym (put_none (landed part base (run_of part h)) (memory_of part h) (ap (landed part base) e ∙ landed_empty part base) far) in
+    let all : AreSame (memory_of part (entered_all n (payload_steps 2 ws) h)) (put_over (landed part base (onto ws (run_of part h))) (memory_of part h)) =
+    lands_over part base (run_of part h) (onto ws (run_of part h)) (memory_of part h) (memory_of part h) (memory_of part (entered_all n (payload_steps 2 ws) h)) (words_land part n ws h t) first in
+    λ far. all far ∙ ap (λ t. put_over (landed part base (onto ws t)) (memory_of part h) far) e
+
+pub words_run : (part : PartData) (n : ℕ) (ws : List ℕ) (h : History) → takes_frames (settings_of part.idcode h) ≡ true → run_of part h ≡ [] → flow_of part (entered_all n (payload_steps 2 ws) h) ≡ record (flow_of part h) { run = onto ws [] }
+words_run part n ws h t e = words_flow part n ws h t ∙ ap (λ (x : List ℕ). record (flow_of part h) { run = onto ws x }) e
