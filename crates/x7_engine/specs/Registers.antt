@@ -7,7 +7,7 @@ use Rattle.x7_packets.specs.History.{Access, Write, History, last_word, command_
 use Rattle.x7_crc.specs.OpenWrites.{running_check}
 use Rattle.x7_regs.specs.declared.command.Command.TheVariants.{Aghigh, Iprog, Lfrm, Rcrc, Shutdown}
 use Rattle.x7_regs.specs.declared.register.Reg.{Reg}
-use Rattle.x7_regs.specs.declared.register.Reg.TheVariants.{Cbc, Cmd, Crc, Ctl0, Ctl1, Far, Fdri, Idcode, Lout, Mask, Mfwr, Timer}
+use Rattle.x7_regs.specs.declared.register.Reg.TheVariants.{Cbc, Cmd, Crc, Ctl0, Ctl1, Far, Fdri, Idcode, Lout, Mfwr, Timer}
 use Rattle.x7_regs.specs.Command.{code_of}
 use Rattle.x7_regs.specs.Register.{number_of}
 use Rattle.x7_flow.specs.Controls.{mask_held}

@@ -1,5 +1,5 @@
 //! The frames of a device: its pipeline and its memory, which stand for a history.
-ghost use Rattle.std.specs.Prelude.{◌≡◌, ◌+◌, ◌%◌, ◌∷◌, [], ℕ, suc, true, length, IfOk};
+ghost use Rattle.std.specs.Prelude.{◌≡◌, ◌+◌, ◌/◌, ◌%◌, ◌≤◌, ◌∷◌, [], ℕ, suc, true, length, IfOk};
 ghost use Rattle.x7_words.specs.Word.{words_of_bytes};
 ghost use Rattle.x7_part.specs.Part.{PartData};
 ghost use Rattle.x7_packets.specs.History.{History, Read, Write, entry};
@@ -93,6 +93,7 @@ impl Frames {
         requires part { FramesFit part.now self.old }
         ensures taken { (n : ℕ) (h : History) → AreSettingsAfter part.now.idcode settings h → FramesStandFor part.now self.old h 0 →
             WordsTaken part.now self.new.pipeline self.new.memory n h (words_of_bytes bytes.now) result.0 result.1 }
+        ensures within { result.0 ≤ length bytes.now / 4 }
         ensures part { FramesFit part.now self.new }
     {
         if takes_frames(settings) {

@@ -9,7 +9,7 @@ use Rattle.x7_engine.specs.declared.kept.Kept.{Kept}
 use Rattle.x7_engine.specs.Standing.{AreLastWords, IsProgress, RegistersStandFor, RegistersState, controls_in, counted_in, due_count, progress_in, registers_in}
 use Rattle.x7_engine.proofs.BodyLemmas.{length_of_words}
 use Rattle.x7_engine.proofs.FrameLemmas.{plain_are, ticks_on}
-use Rattle.x7_engine.proofs.PlainLemmas.{Clocked, IsPlain, clocked_all, controls_stay, counted_behind, front_all, not_controlling, plain_is, plain_lines, words_front}
+use Rattle.x7_engine.proofs.PlainLemmas.{Clocked, IsPlain, clocked_all, controls_stay, counted_behind, front_all, plain_is, plain_lines, words_front}
 use Rattle.x7_engine.proofs.registers.Registers.pass_all.Goals as goal
 
 until_stands : (part : PartData) (kept : Kept) (d : RegistersState) (all front : History) (m : ℕ) → all ≡ front → RegistersStandFor part kept d front m → RegistersStandFor part kept d all m

@@ -1,7 +1,6 @@
-use Rattle.std.proofs.Common.{◌≡◌, ◌∙◌, sym, subst}
+use Rattle.std.proofs.Common.{◌∙◌, sym, subst}
 use Rattle.x7_words.specs.Word.{words_of_bytes}
 use Rattle.x7_flow.specs.Standing.{FramesState, FramesStandFor}
-use Rattle.x7_flow.specs.Words.{WordsTaken}
 use Rattle.x7_flow.proofs.TakenLemmas.{length_of_words, words_folded}
 use Rattle.x7_flow.proofs.frames.Frames.write_words.Goals as goal
 
