@@ -1,10 +1,9 @@
 -- Lemmas on the frames of a device: accesses that they take, and those that they refuse.
-use Rattle.std.proofs.Common.{◌≡◌, ◌==◌, ◌&&◌, not, ◌+◌, ◌%◌, ◌^◌, ℕ, zero, suc, Bool, true, false, if◌then◌else◌, Option, None, Some, List, [], ◌∷◌, ◌++◌, length, replicate, refl, sym, ap, subst, ◌∙◌, append-nil, arith}
-use Rattle.std.specs.Option.{is_some}
+use Rattle.std.proofs.Common.{◌≡◌, ◌==◌, ◌&&◌, not, ◌+◌, ◌%◌, ◌^◌, ℕ, zero, suc, Bool, true, false, if◌then◌else◌, Option, None, Some, List, [], ◌∷◌, ◌++◌, length, replicate, refl, sym, ap, subst, ◌∙◌, append-nil}
 use Rattle.std.proofs.lemmas.Bool.{and_parts, eqb-true}
 use Rattle.std.proofs.lemmas.List.{length-replicate}
 use Rattle.std.proofs.lemmas.Option.{none-some}
-use Rattle.x7_packets.specs.History.{Access, Bad, Entry, History, Read, Write, command_held, entered_all, entry, executes}
+use Rattle.x7_packets.specs.History.{Access, Bad, Entry, History, Read, Write, entered_all, entry}
 use Rattle.x7_packets.specs.Packet.{payload_steps}
 use Rattle.x7_packets.proofs.HistoryLemmas.{kept_all}
 use Rattle.x7_crc.specs.OpenWrites.{running_check}
@@ -18,7 +17,7 @@ use Rattle.x7_flow.specs.declared.asked.Asked.{Asked}
 use Rattle.x7_flow.specs.declared.asked.Asked.TheVariants.{Copies, Load, Order, Other, Word}
 use Rattle.x7_flow.specs.Controls.{is_matched, same_idcode}
 use Rattle.x7_flow.specs.Settings.{settings_of, takes_copies, takes_frames}
-use Rattle.x7_flow.specs.Flow.{Flow, asks, far_in, far_read, fault_by, flow_of, frame_fault}
+use Rattle.x7_flow.specs.Flow.{asks, far_in, fault_by, flow_of, frame_fault}
 use Rattle.x7_flow.specs.FrameMemory.{memory_of}
 use Rattle.x7_flow.specs.Standing.{AfterAccess, Did, FramesStandFor, FramesState, less, words_due, words_from}
 use Rattle.x7_flow.proofs.FaultLemmas.{refused_far_read, refused_memory}
@@ -108,7 +107,7 @@ frames_none part f line h d e z s = subst (λ (n : ℕ). FramesAre part f line h
 
 -- ---- the line of an access is one alone
 
-line_fdri : (part : PartData) (kept : Kept) (h : History) (w : ℕ) → is_matched part.idcode h ≡ true → write_line part kept h 2 w ≡ None
+pub line_fdri : (part : PartData) (kept : Kept) (h : History) (w : ℕ) → is_matched part.idcode h ≡ true → write_line part kept h 2 w ≡ None
 line_fdri part kept h w t = rw t refl
 
 line_mfwr : (part : PartData) (kept : Kept) (h : History) (w : ℕ) → is_matched part.idcode h ≡ true → write_line part kept h 10 w ≡ None

@@ -2,8 +2,10 @@ pub mod BeginsLemmas
 pub mod BodyLemmas
 pub mod CheckedLemmas
 pub mod ClockLemmas
+pub mod DataLemmas
 pub mod DeviceLemmas
 pub mod FeedLemmas
+pub mod FiringLemmas
 pub mod FirstStopLemmas
 pub mod FrameLemmas
 pub mod MaskLemmas

@@ -24,7 +24,7 @@ use Rattle.x7_engine.specs.declared.stop.Stop.TheVariants as stop
 use Rattle.x7_engine.specs.Clock.{ClockState, IsClock, newest_place}
 use Rattle.x7_engine.specs.Kept.{is_fallback}
 use Rattle.x7_flow.specs.Controls.{is_matched, same_idcode}
-use Rattle.x7_engine.specs.Registers.{ghigh_after, has_effect, has_ghigh, is_clearance, is_pending, pending_after, takes_shutdown, word_held, wrote_iprog}
+use Rattle.x7_engine.specs.Registers.{ghigh_after, has_effect, has_ghigh, is_clearance, is_controlling, is_pending, pending_after, takes_shutdown, word_held, wrote_iprog}
 use Rattle.x7_engine.specs.Standing.{AreControls, ControlsState, counted_in}
 use Rattle.x7_engine.specs.Startup.{has_ended, phase_by, startup_call, startup_calls}
 use Rattle.x7_engine.specs.State.{last_counted}
@@ -37,19 +37,23 @@ either_false : (a b : Bool) → (a || b) ≡ false → (a ≡ false) × (b ≡ f
 either_false true b e = absurd cc
 either_false false b e = (refl, e)
 
--- the register is none of those whose words have an effect
-pub record IsPlain (register : ℕ) : Type 0 where
+-- words of the register move no flag, no register under MASK and no clock
+pub record IsQuiet (register : ℕ) : Type 0 where
   pub crc : (register == 0) ≡ false
   pub far : (register == 1) ≡ false
-  pub fdri : (register == 2) ≡ false
   pub cmd : (register == 4) ≡ false
   pub ctl0 : (register == 5) ≡ false
   pub lout : (register == 8) ≡ false
-  pub mfwr : (register == 10) ≡ false
-  pub cbc : (register == 11) ≡ false
   pub idcode : (register == 12) ≡ false
   pub timer : (register == 17) ≡ false
   pub ctl1 : (register == 24) ≡ false
+
+-- the register is none of those whose words have an effect
+pub record IsPlain (register : ℕ) : Type 0 where
+  pub quiet : IsQuiet register
+  pub fdri : (register == 2) ≡ false
+  pub mfwr : (register == 10) ≡ false
+  pub cbc : (register == 11) ≡ false
 
 all_false : (a b c d e f g h i j k : Bool) → (a || (b || (c || (d || (e || (f || (g || (h || (i || (j || (k || false))))))))))) ≡ false
     → (a ≡ false) × (b ≡ false) × (c ≡ false) × (d ≡ false) × (e ≡ false) × (f ≡ false) × (g ≡ false) × (h ≡ false) × (i ≡ false) × (j ≡ false) × (k ≡ false)
@@ -69,21 +73,45 @@ all_false false false false false false false false false false false false p = 
 pub plain_is : (register : ℕ) → has_effect register ≡ false → IsPlain register
 plain_is register e =
     let a = all_false (register == 0) (register == 1) (register == 2) (register == 4) (register == 5) (register == 8) (register == 10) (register == 11) (register == 12) (register == 17) (register == 24) e in
-    record { crc = a.0; far = a.1; fdri = a.2; cmd = a.3; ctl0 = a.4; lout = a.5; mfwr = a.6; cbc = a.7; idcode = a.8; timer = a.9; ctl1 = a.10 }
+    record { quiet = record { crc = a.0; far = a.1; cmd = a.3; ctl0 = a.4; lout = a.5; idcode = a.8; timer = a.9; ctl1 = a.10 }; fdri = a.2; mfwr = a.6; cbc = a.7 }
+
+eight_false : (a b c d e f g h : Bool) → (a || (b || (c || (d || (e || (f || (g || (h || false)))))))) ≡ false
+    → (a ≡ false) × (b ≡ false) × (c ≡ false) × (d ≡ false) × (e ≡ false) × (f ≡ false) × (g ≡ false) × (h ≡ false)
+eight_false true b c d e f g h p = absurd cc
+eight_false false true c d e f g h p = absurd cc
+eight_false false false true d e f g h p = absurd cc
+eight_false false false false true e f g h p = absurd cc
+eight_false false false false false true f g h p = absurd cc
+eight_false false false false false false true g h p = absurd cc
+eight_false false false false false false false true h p = absurd cc
+eight_false false false false false false false false true p = absurd cc
+eight_false false false false false false false false false p = (refl, refl, refl, refl, refl, refl, refl, refl)
+
+pub quiet_is : (register : ℕ) → is_controlling register ≡ false → IsQuiet register
+quiet_is register e =
+    let a = eight_false (register == 0) (register == 1) (register == 4) (register == 5) (register == 8) (register == 12) (register == 17) (register == 24) e in
+    record { crc = a.0; far = a.1; cmd = a.2; ctl0 = a.3; lout = a.4; idcode = a.5; timer = a.6; ctl1 = a.7 }
+
+-- a register without an effect is one of them
+pub not_controlling : (register : ℕ) → IsPlain register → false ≡ is_controlling register
+not_controlling register p = let q = p.quiet in rw (q.crc, q.far, q.cmd, q.ctl0, q.lout, q.idcode, q.timer, q.ctl1) refl
+
+pub fdri_quiet : IsQuiet 2
+fdri_quiet = record { crc = refl; far = refl; cmd = refl; ctl0 = refl; lout = refl; idcode = refl; timer = refl; ctl1 = refl }
 
 -- its words execute no command, clear no check and come to no line
-pub executes_none : (held register w : ℕ) → IsPlain register → executed_by held (Write register w) ≡ None
+pub executes_none : (held register w : ℕ) → IsQuiet register → executed_by held (Write register w) ≡ None
 executes_none held register w p = rw (p.cmd, p.far) refl
 
-pub clears_none : (h : History) (register w : ℕ) → IsPlain register → clears h (Write register w) ≡ false
+pub clears_none : (h : History) (register w : ℕ) → IsQuiet register → clears h (Write register w) ≡ false
 clears_none h register w p = rw (executes_none (command_held h) register w p, p.crc) refl
 
 -- they ask nothing of the frames
 pub plain_asks : (idcode : ℕ) (h : History) (register w : ℕ) → IsPlain register → asks idcode h (Write register w) ≡ Other
-plain_asks idcode h register w p = rw (p.far, p.cmd, p.fdri, p.mfwr) refl
+plain_asks idcode h register w p = let q = p.quiet in rw (q.far, q.cmd, p.fdri, p.mfwr) refl
 
 own_none : (part : PartData) (kept : Kept) (h : History) (register w : ℕ) → IsPlain register → access_line part kept h (Write register w) ≡ None
-own_none part kept h register w p = rw (executes_none (command_held h) register w p, p.crc, p.fdri, p.cmd, p.ctl0, p.mfwr, p.cbc, p.idcode) refl
+own_none part kept h register w p = let q = p.quiet in rw (executes_none (command_held h) register w q, q.crc, p.fdri, q.cmd, q.ctl0, p.mfwr, p.cbc, q.idcode) refl
 
 pub line_none : (part : PartData) (kept : Kept) (h : History) (register w : ℕ) → IsPlain register → None ≡ line_at part kept h (Write register w)
 line_none part kept h register w p =
@@ -98,7 +126,7 @@ pub record AreFlags (idcode : ℕ) (matched pending ghigh iprog : Bool) (h : His
   pub iprog_is : iprog ≡ wrote_iprog h
 
 -- and so they are behind a word of it
-pub flags_more : (idcode : ℕ) (matched pending ghigh iprog : Bool) (h : History) (register w place : ℕ) → IsPlain register → AreFlags idcode matched pending ghigh iprog h → AreFlags idcode matched pending ghigh iprog (entry (Write register w) place ∷ h)
+pub flags_more : (idcode : ℕ) (matched pending ghigh iprog : Bool) (h : History) (register w place : ℕ) → IsQuiet register → AreFlags idcode matched pending ghigh iprog h → AreFlags idcode matched pending ghigh iprog (entry (Write register w) place ∷ h)
 flags_more idcode matched pending ghigh iprog h register w place p s =
     let none : executed_by (command_held h) (Write register w) ≡ None = executes_none (command_held h) register w p in
     let cleared : is_clearance h (Write register w) ≡ false = rw (none, p.crc) refl in
@@ -120,7 +148,7 @@ clock_other part kept c h access place start watch s =
     }
 
 -- its words ask nothing of the clock
-pub clock_plain : (part : PartData) (kept : Kept) (c : ClockState) (h : History) (register w place : ℕ) → IsPlain register → IsClock part kept c h place → IsClock part kept c (entry (Write register w) place ∷ h) place
+pub clock_plain : (part : PartData) (kept : Kept) (c : ClockState) (h : History) (register w place : ℕ) → IsQuiet register → IsClock part kept c h place → IsClock part kept c (entry (Write register w) place ∷ h) place
 clock_plain part kept c h register w place p s =
     let start : startup_call h (Write register w) ≡ [] = rw (executes_none (command_held h) register w p, p.crc) refl in
     let watch : watch_call h (Write register w) ≡ [] = rw (executes_none (command_held h) register w p, p.timer) refl in
@@ -151,24 +179,24 @@ words_last chunks last w e f =
     ∙ ap (λ x. map word_of_bytes (take (length chunks - 1) chunks) ++ x ∷ []) (sym f)
 
 -- registers under MASK stay
-pub controls_stay : (d : ControlsState) (register n : ℕ) (ws : List ℕ) (h : History) → IsPlain register → AreControls d h → AreControls d (entered_all n (payload_steps register ws) h)
+pub controls_stay : (d : ControlsState) (register n : ℕ) (ws : List ℕ) (h : History) → IsQuiet register → AreControls d h → AreControls d (entered_all n (payload_steps register ws) h)
 controls_stay d register n ws h p s =
     kept_all (AreControls d) register (λ (h : History) (w place : ℕ) (s : AreControls d h). record { ctl0 = rw p.ctl0 s.ctl0; ctl1 = rw p.ctl1 s.ctl1 }) n ws h s
 
 -- the flags stay behind all of them
-pub flags_stay : (idcode : ℕ) (matched pending ghigh iprog : Bool) (register n : ℕ) (ws : List ℕ) (h : History) → IsPlain register → AreFlags idcode matched pending ghigh iprog h → AreFlags idcode matched pending ghigh iprog (entered_all n (payload_steps register ws) h)
+pub flags_stay : (idcode : ℕ) (matched pending ghigh iprog : Bool) (register n : ℕ) (ws : List ℕ) (h : History) → IsQuiet register → AreFlags idcode matched pending ghigh iprog h → AreFlags idcode matched pending ghigh iprog (entered_all n (payload_steps register ws) h)
 flags_stay idcode matched pending ghigh iprog register n ws h p s =
     kept_all (AreFlags idcode matched pending ghigh iprog) register (λ (h : History) (w place : ℕ) (s : AreFlags idcode matched pending ghigh iprog h). flags_more idcode matched pending ghigh iprog h register w place p s) n ws h s
 
 -- ---- its words behind bytes that the clock took already
 
-plain_calls : (h : History) (register w : ℕ) → IsPlain register → startup_call h (Write register w) ≡ []
+plain_calls : (h : History) (register w : ℕ) → IsQuiet register → startup_call h (Write register w) ≡ []
 plain_calls h register w p = rw (executes_none (command_held h) register w p, p.crc) refl
 
-plain_watches : (h : History) (register w : ℕ) → IsPlain register → watch_call h (Write register w) ≡ []
+plain_watches : (h : History) (register w : ℕ) → IsQuiet register → watch_call h (Write register w) ≡ []
 plain_watches h register w p = rw (executes_none (command_held h) register w p, p.timer) refl
 
-plain_startup : (h : History) (register w place m : ℕ) → IsPlain register → newest_place h ≤ place → place ≤ m → startup_calls (entry (Write register w) place ∷ h) m ≡ startup_calls h m
+plain_startup : (h : History) (register w place m : ℕ) → IsQuiet register → newest_place h ≤ place → place ≤ m → startup_calls (entry (Write register w) place ∷ h) m ≡ startup_calls h m
 plain_startup h register w place m p l k =
     let sum : place + (m - place) ≡ m = omega (arith, k) in
     ap (λ t. (startup_calls h place ++ t) ++ replicate (m - place) call.Byte) (plain_calls h register w p)
@@ -176,16 +204,16 @@ plain_startup h register w place m p l k =
     ∙ sym (startup_more h place (m - place) l)
     ∙ ap (startup_calls h) sum
 
-plain_ended : (part : PartData) (h : History) (register w place m : ℕ) → IsPlain register → newest_place h ≤ place → place ≤ m → has_ended part (entry (Write register w) place ∷ h) m ≡ has_ended part h m
+plain_ended : (part : PartData) (h : History) (register w place m : ℕ) → IsQuiet register → newest_place h ≤ place → place ≤ m → has_ended part (entry (Write register w) place ∷ h) m ≡ has_ended part h m
 plain_ended part h register w place m p l k = ap (λ t. phase_by part (progress_of t) == 7) (plain_startup h register w place m p l k)
 
-plain_watched : (part : PartData) (h : History) (register w place count : ℕ) → IsPlain register → newest_place h ≤ place → watched_bytes part (entry (Write register w) place ∷ h) place count ≡ watched_bytes part h place count
+plain_watched : (part : PartData) (h : History) (register w place count : ℕ) → IsQuiet register → newest_place h ≤ place → watched_bytes part (entry (Write register w) place ∷ h) place count ≡ watched_bytes part h place count
 plain_watched part h register w place zero p l = refl
 plain_watched part h register w place (suc count) p l =
     ap (λ t. t ++ Watched (has_ended part (entry (Write register w) place ∷ h) (place + count + 1)) ∷ []) (plain_watched part h register w place count p l)
     ∙ ap (λ (b : Bool). watched_bytes part h place count ++ Watched b ∷ []) (plain_ended part h register w place (place + count + 1) p l (omega arith))
 
-plain_watch : (part : PartData) (h : History) (register w place m : ℕ) → IsPlain register → newest_place h ≤ place → place ≤ m → watch_calls part (entry (Write register w) place ∷ h) m ≡ watch_calls part h m
+plain_watch : (part : PartData) (h : History) (register w place m : ℕ) → IsQuiet register → newest_place h ≤ place → place ≤ m → watch_calls part (entry (Write register w) place ∷ h) m ≡ watch_calls part h m
 plain_watch part h register w place m p l k =
     let sum : place + (m - place) ≡ m = omega (arith, k) in
     ap (λ t. (watch_calls part h place ++ t) ++ watched_bytes part (entry (Write register w) place ∷ h) place (m - place)) (plain_watches h register w p)
@@ -194,23 +222,23 @@ plain_watch part h register w place m p l k =
     ∙ sym (watch_more part h place (m - place) l)
     ∙ ap (watch_calls part h) sum
 
-plain_fires : (part : PartData) (kept : Kept) (h : History) (register w place m : ℕ) → IsPlain register → newest_place h ≤ place → place ≤ m → fires part kept (entry (Write register w) place ∷ h) m ≡ fires part kept h m
+plain_fires : (part : PartData) (kept : Kept) (h : History) (register w place m : ℕ) → IsQuiet register → newest_place h ≤ place → place ≤ m → fires part kept (entry (Write register w) place ∷ h) m ≡ fires part kept h m
 plain_fires part kept h register w place m p l k =
     let timer : timer_held kept (entry (Write register w) place ∷ h) ≡ timer_held kept h = rw p.timer refl in
     ap (λ (t : ℕ). is_on (is_fallback kept.kind) t (has_ended part (entry (Write register w) place ∷ h) m) && count_of (is_fallback kept.kind) kept.timer (watch_calls part (entry (Write register w) place ∷ h) m) == timer_value_of t * 4) timer
     ∙ ap (λ (b : Bool). is_on (is_fallback kept.kind) (timer_held kept h) b && count_of (is_fallback kept.kind) kept.timer (watch_calls part (entry (Write register w) place ∷ h) m) == timer_value_of (timer_held kept h) * 4) (plain_ended part h register w place m p l k)
     ∙ ap (λ t. is_on (is_fallback kept.kind) (timer_held kept h) (has_ended part h m) && count_of (is_fallback kept.kind) kept.timer t == timer_value_of (timer_held kept h) * 4) (plain_watch part h register w place m p l k)
 
-plain_firing : (part : PartData) (kept : Kept) (h : History) (register w place count : ℕ) → IsPlain register → newest_place h ≤ place → first_firing part kept (entry (Write register w) place ∷ h) place count ≡ first_firing part kept h place count
+plain_firing : (part : PartData) (kept : Kept) (h : History) (register w place count : ℕ) → IsQuiet register → newest_place h ≤ place → first_firing part kept (entry (Write register w) place ∷ h) place count ≡ first_firing part kept h place count
 plain_firing part kept h register w place zero p l = refl
 plain_firing part kept h register w place (suc count) p l =
     ap (λ (o : Option ℕ). fired_or o (fires part kept (entry (Write register w) place ∷ h) (place + count + 1)) (place + count + 1)) (plain_firing part kept h register w place count p l)
     ∙ ap (λ (b : Bool). fired_or (first_firing part kept h place count) b (place + count + 1)) (plain_fires part kept h register w place (place + count + 1) p l (omega arith))
 
-plain_stop : (part : PartData) (kept : Kept) (h : History) (register w place m : ℕ) → IsPlain register → newest_place h ≤ place → place ≤ m → stop_of part kept (entry (Write register w) place ∷ h) m ≡ stop_of part kept h m
-plain_stop part kept h register w place m p l k =
+plain_stop : (part : PartData) (kept : Kept) (h : History) (register w place m : ℕ) → IsQuiet register → line_at part kept h (Write register w) ≡ None → newest_place h ≤ place → place ≤ m → stop_of part kept (entry (Write register w) place ∷ h) m ≡ stop_of part kept h m
+plain_stop part kept h register w place m p none l k =
     let sum : place + (m - place) ≡ m = omega (arith, k) in
-    ap (λ (o : Option Stop). or_else (stop_of part kept h place) (or_else (stopped_at place o) (stopped_by_watchdog (first_firing part kept (entry (Write register w) place ∷ h) place (m - place))))) (sym (line_none part kept h register w p))
+    ap (λ (o : Option Stop). or_else (stop_of part kept h place) (or_else (stopped_at place o) (stopped_by_watchdog (first_firing part kept (entry (Write register w) place ∷ h) place (m - place))))) none
     ∙ ap (λ (o : Option ℕ). or_else (stop_of part kept h place) (stopped_by_watchdog o)) (plain_firing part kept h register w place (m - place) p l)
     ∙ sym (stop_more_bytes part kept h place (m - place) l)
     ∙ ap (stop_of part kept h) sum
@@ -221,8 +249,17 @@ pub record Clocked (part : PartData) (kept : Kept) (c : ClockState) (d : Option 
   pub clock : IsClock part kept c h m
   pub stop : stop_of part kept h m ≡ stopped_at m d
 
-clocked_more : (part : PartData) (kept : Kept) (c : ClockState) (d : Option Stop) (h : History) (n m register w : ℕ) → IsPlain register → n + 4 ≤ m → Clocked part kept c d h n m → Clocked part kept c d (entry (Write register w) (n + 4) ∷ h) (n + 4) m
-clocked_more part kept c d h n m register w p l s =
+-- words that come to no line, each behind those before it
+abbrev pub NoLines : PartData → Kept → ℕ → ℕ → List ℕ → History → Type 0
+NoLines part kept register n [] h = Unit {0}
+NoLines part kept register n (w ∷ ws) h = (line_at part kept h (Write register w) ≡ None) × NoLines part kept register (n + 4) ws (entry (Write register w) (n + 4) ∷ h)
+
+pub plain_lines : (part : PartData) (kept : Kept) (register n : ℕ) (ws : List ℕ) (h : History) → IsPlain register → NoLines part kept register n ws h
+plain_lines part kept register n [] h p = tt
+plain_lines part kept register n (w ∷ ws) h p = (sym (line_none part kept h register w p), plain_lines part kept register (n + 4) ws (entry (Write register w) (n + 4) ∷ h) p)
+
+clocked_more : (part : PartData) (kept : Kept) (c : ClockState) (d : Option Stop) (h : History) (n m register w : ℕ) → IsQuiet register → line_at part kept h (Write register w) ≡ None → n + 4 ≤ m → Clocked part kept c d h n m → Clocked part kept c d (entry (Write register w) (n + 4) ∷ h) (n + 4) m
+clocked_more part kept c d h n m register w p none l s =
     let before : newest_place h ≤ n + 4 = omega (arith, newest_within n h s.places) in
     record {
       places = (omega arith, omega arith, placed_within n (n + 4 - 1) h (omega arith) s.places);
@@ -230,16 +267,16 @@ clocked_more part kept c d h n m register w p l s =
         startup = subst (λ t. StandsFor part.lock part.matched c.startup t) (sym (plain_startup h register w (n + 4) m p before l)) s.clock.startup;
         watchdog = subst (λ t. WatchesFor (is_fallback kept.kind) kept.timer c.watchdog t) (sym (plain_watch part h register w (n + 4) m p before l)) s.clock.watchdog;
       };
-      stop = plain_stop part kept h register w (n + 4) m p before l ∙ s.stop;
+      stop = plain_stop part kept h register w (n + 4) m p none before l ∙ s.stop;
     }
 
-pub clocked_all : (part : PartData) (kept : Kept) (c : ClockState) (d : Option Stop) (register n m : ℕ) (ws : List ℕ) (h : History) → IsPlain register → n + 4 * length ws ≤ m → Clocked part kept c d h n m
+pub clocked_all : (part : PartData) (kept : Kept) (c : ClockState) (d : Option Stop) (register n m : ℕ) (ws : List ℕ) (h : History) → IsQuiet register → NoLines part kept register n ws h → n + 4 * length ws ≤ m → Clocked part kept c d h n m
     → Clocked part kept c d (entered_all n (payload_steps register ws) h) (n + 4 * length ws) m
-clocked_all part kept c d register n m [] h p l s = let same : n ≡ n + 0 = omega arith in subst (λ (k : ℕ). Clocked part kept c d h k m) same s
-clocked_all part kept c d register n m (w ∷ ws) h p l s =
+clocked_all part kept c d register n m [] h p none l s = let same : n ≡ n + 0 = omega arith in subst (λ (k : ℕ). Clocked part kept c d h k m) same s
+clocked_all part kept c d register n m (w ∷ ws) h p none l s =
     let place : n + 4 + 4 * length ws ≡ n + 4 * length (w ∷ ws) = omega arith in
     subst (λ (k : ℕ). Clocked part kept c d (entered_all (n + 4) (payload_steps register ws) (entry (Write register w) (n + 4) ∷ h)) k m) place
-    (clocked_all part kept c d register (n + 4) m ws (entry (Write register w) (n + 4) ∷ h) p (omega (arith, l)) (clocked_more part kept c d h n m register w p (omega (arith, l)) s))
+    (clocked_all part kept c d register (n + 4) m ws (entry (Write register w) (n + 4) ∷ h) p none.1 (omega (arith, l)) (clocked_more part kept c d h n m register w p none.0 (omega (arith, l)) s))
 
 -- the accesses of the words that end before a byte
 pub front_all : (n k m : ℕ) (register : ℕ) (ws : List ℕ) (h : History) → k ≤ length ws → n + 4 * k ≤ m → m < n + 4 * k + 4 → Placed (n + 4 * k) (entered_all n (payload_steps register (take k ws)) h)

@@ -7,7 +7,7 @@ use Rattle.x7_packets.specs.History.{Access, Write, History, last_word, command_
 use Rattle.x7_crc.specs.OpenWrites.{running_check}
 use Rattle.x7_regs.specs.declared.command.Command.TheVariants.{Aghigh, Iprog, Lfrm, Rcrc, Shutdown}
 use Rattle.x7_regs.specs.declared.register.Reg.{Reg}
-use Rattle.x7_regs.specs.declared.register.Reg.TheVariants.{Cbc, Cmd, Crc, Ctl0, Ctl1, Far, Fdri, Idcode, Lout, Mask, Mfwr, Timer}
+use Rattle.x7_regs.specs.declared.register.Reg.TheVariants.{Cbc, Cmd, Crc, Ctl0, Ctl1, Far, Fdri, Idcode, Lout, Mfwr, Timer}
 use Rattle.x7_regs.specs.Command.{code_of}
 use Rattle.x7_regs.specs.Register.{number_of}
 use Rattle.x7_flow.specs.Controls.{mask_held}
@@ -80,3 +80,10 @@ effective_registers = Crc ∷ Far ∷ Fdri ∷ Cmd ∷ Ctl0 ∷ Lout ∷ Mfwr �
 
 abbrev pub has_effect : ℕ → Bool
 has_effect register = list_any (λ reg. register == number_of reg) effective_registers
+
+-- a word written to this register moves a flag, a register under MASK or the clock, or isn't just folded
+abbrev pub controlling_registers : List Reg
+controlling_registers = Crc ∷ Far ∷ Cmd ∷ Ctl0 ∷ Lout ∷ Idcode ∷ Timer ∷ Ctl1 ∷ []
+
+abbrev pub is_controlling : ℕ → Bool
+is_controlling register = list_any (λ reg. register == number_of reg) controlling_registers

@@ -1,7 +1,7 @@
 -- What stops a device (UG470, configuration registers; the order of the lines is this project's choice).
-use Rattle.std.specs.Prelude.{ℕ, ◌-◌, ◌%◌, ◌^◌, ◌==◌, ◌&&◌, ◌||◌, Bool, false, not, if◌then◌else◌, [], ◌∷◌, Option, None, Some}
+use Rattle.std.specs.Prelude.{ℕ, ◌-◌, ◌%◌, ◌^◌, ◌==◌, ◌&&◌, ◌||◌, Bool, not, if◌then◌else◌, [], ◌∷◌, Option, None, Some}
 use Rattle.x7_words.specs.Word.{field_of}
-use Rattle.x7_packets.specs.History.{Access, Write, Read, Bad, History, command_held, executes, writes}
+use Rattle.x7_packets.specs.History.{Access, Write, Read, Bad, History, executes}
 use Rattle.x7_crc.specs.OpenWrites.{running_check}
 use Rattle.x7_part.specs.Part.{PartData}
 use Rattle.x7_regs.specs.declared.command.Command.TheVariants as command

@@ -211,6 +211,19 @@ impl Clock {
         self.move_on(part, count)
     }
 
+    /// How many of the bytes to come end before the watchdog fires.
+    #[inline(always)]
+    pub(crate) fn before_firing(&self, part: &Part, count: usize) -> usize
+        ensures within { result ≤ count }
+        ensures none { (kept : Kept) (h : History) (n : ℕ) → newest_place h ≤ n → IsClock part.now kept (clock_in self.now) h n → first_firing part.now kept h n result ≡ None }
+    {
+        let mut then = *self;
+        match then.bytes(part, count) {
+            Some(firing) => firing - 1,
+            None => count,
+        }
+    }
+
     /// The same where they may move it.
     #[inline(never)]
     fn move_on(&mut self, part: &Part, count: usize) -> Option<usize>

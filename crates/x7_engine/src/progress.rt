@@ -7,7 +7,7 @@ ghost use Rattle.x7_crc.specs.OpenWrites.{running_check};
 ghost use Rattle.x7_regs.specs.Command.{code_of};
 ghost use Rattle.x7_regs.specs.Register.{number_of};
 ghost use Rattle.x7_flow.specs.Controls.{names_part, same_idcode};
-ghost use Rattle.x7_engine.specs.Registers.{clears_by, ghigh_after, has_effect, pending_after, takes_shutdown, writes_command};
+ghost use Rattle.x7_engine.specs.Registers.{clears_by, ghigh_after, has_effect, is_controlling, pending_after, takes_shutdown, writes_command};
 
 use x7_crc::{fold, fold_slice};
 use x7_regs::{Command, Reg};
@@ -141,10 +141,10 @@ impl Progress {
         };
     }
 
-    /// Takes words written to a register that has no effect beside the check.
+    /// Takes words written to a register that moves nothing else of these.
     pub(crate) fn pass_all(&mut self, register: u8, bytes: &[u8])
         requires register { register < 32 }
-        requires plain { has_effect register ≡ false }
+        requires quiet { is_controlling register ≡ false }
         requires whole { length bytes.now % 4 ≡ 0 }
         ensures { (idcode : ℕ) (h : History) (n : ℕ) → IsProgress idcode (progress_in self.old) h → IsProgress idcode (progress_in self.new) (entered_all n (payload_steps register (words_of_bytes bytes.now)) h) }
     {

@@ -1,5 +1,5 @@
 //! The registers of a device, and what an access does to them.
-ghost use Rattle.std.specs.Prelude.{◌≡◌, ◌≤◌, ◌<◌, ◌+◌, ◌*◌, ◌/◌, ◌%◌, ◌==◌, ◌&&◌, not, ℕ, ◌∷◌, [], List, Bool, true, false, Option, None, Some, IfSome, IfNone, IsTrue, ◌↔◌, ◌-◌, ◌++◌, length};
+ghost use Rattle.std.specs.Prelude.{◌≡◌, ◌≤◌, ◌<◌, ◌+◌, ◌*◌, ◌/◌, ◌%◌, ◌==◌, ◌&&◌, not, ℕ, ◌∷◌, [], List, Bool, true, false, Option, None, Some, IfSome, IfNone, IsTrue, ◌↔◌, ◌-◌, ◌++◌, length, take};
 ghost use Rattle.x7_words.specs.Word.{words_of_bytes};
 ghost use Rattle.x7_packets.specs.Cutting.{IsRun, run_steps};
 ghost use Rattle.x7_packets.specs.History.{command_held, entered, entered_all, entry, executed_by, History, until, Write};
@@ -8,6 +8,7 @@ ghost use Rattle.x7_part.specs.Part.{PartData};
 ghost use Rattle.x7_regs.specs.Register.{number_of};
 ghost use Rattle.x7_flow.specs.Settings.{AreSettingsAfter};
 ghost use Rattle.x7_flow.specs.Standing.{FramesFit, FramesStandFor};
+ghost use Rattle.x7_flow.specs.Words.{words_before};
 ghost use Rattle.x7_engine.specs.Kept.{is_fallback};
 ghost use Rattle.x7_engine.specs.Registers.{has_effect};
 ghost use Rattle.x7_engine.specs.Standing.{counted_in, due_count};
@@ -74,6 +75,17 @@ fn counted(stop: Option<Stop>, taken: usize) -> usize
     match stop {
         Some(Stop::Fault(Fault::Watchdog)) => taken.saturating_sub(1),
         _ => taken,
+    }
+}
+
+/// How many of the words looked at were taken: not the last one, where it is refused.
+fn taken_of(count: usize, refused: Option<RunFault>) -> usize
+    ensures value { result ≡ words_before count refused }
+    ensures within { result ≤ count }
+{
+    match refused {
+        Some(_) => count.saturating_sub(1),
+        None => count,
     }
 }
 
@@ -392,6 +404,78 @@ impl Registers {
         taken
     }
 
+    /// Takes frame data of a matched device at once: the words before the first that is refused or in which the watchdog
+    /// fires. Says how many bytes these are.
+    fn frame_data(&mut self, part: &Part, bytes: &[u8]) -> usize
+        requires going { self.old.stop ≡ None }
+        requires none_due { due_count self.old.due ≡ 0 }
+        requires frames { FramesFit part.now self.old.frames }
+        requires matched { self.old.progress.matched ≡ true }
+        ensures within { result ≤ length bytes.now }
+        ensures whole { result % 4 ≡ 0 }
+        ensures going { self.new.stop ≡ None }
+        ensures due { self.new.due ≡ self.old.due }
+        ensures frames { FramesFit part.now self.new.frames }
+        ensures stands { (kept : KeptData) (h : History) (n : ℕ) → RegistersStandFor part.now kept (registers_in self.old) h n
+            → RegistersStandFor part.now kept (registers_in self.new) (entered_all n (payload_steps 2 (words_of_bytes (take result bytes.now))) h) (n + result) }
+    {
+        let settings = self.settings();
+        let before = self.clock.before_firing(part, bytes.len()) / 4 * 4;
+        let (count, refused) = self.frames.write_words(settings, &bytes[..before], part);
+        let taken = taken_of(count, refused) * 4;
+        let front = &bytes[..taken];
+        let _ = self.clock.bytes(part, taken);
+        self.progress.pass_all(2, front);
+        self.words.pass_all(2, front);
+        taken
+    }
+
+    /// Takes those of a payload's words that can be taken at once, and says how many bytes these are.
+    fn at_once(&mut self, part: &Part, reg: Reg, bytes: &[u8]) -> usize
+        requires going { self.old.stop ≡ None }
+        requires none_due { due_count self.old.due ≡ 0 }
+        requires frames { FramesFit part.now self.old.frames }
+        ensures within { result ≤ length bytes.now }
+        ensures whole { result % 4 ≡ 0 }
+        ensures going { self.new.stop ≡ None }
+        ensures due { self.new.due ≡ self.old.due }
+        ensures frames { FramesFit part.now self.new.frames }
+        ensures stands { (kept : KeptData) (h : History) (n : ℕ) → RegistersStandFor part.now kept (registers_in self.old) h n
+            → RegistersStandFor part.now kept (registers_in self.new) (entered_all n (payload_steps (number_of reg) (words_of_bytes (take result bytes.now))) h) (n + result) }
+    {
+        match reg {
+            Reg::Fdri if self.progress.matched => self.frame_data(part, bytes),
+            _ => 0,
+        }
+    }
+
+    /// Takes payload words one by one up to a byte that stops the device, and says how many bytes these are.
+    fn each(&mut self, part: &Part, register: u8, bytes: &[u8]) -> usize
+        requires going { self.old.stop ≡ None }
+        requires none_due { due_count self.old.due ≡ 0 }
+        requires frames { FramesFit part.now self.old.frames }
+        requires register { register < 32 }
+        requires whole { length bytes.now % 4 ≡ 0 }
+        ensures within { result ≤ length bytes.now }
+        ensures some { 0 < length bytes.now → 0 < result }
+        ensures goes_on { self.new.stop ≡ None → result ≡ length bytes.now }
+        ensures due { self.new.due ≡ self.old.due }
+        ensures frames { FramesFit part.now self.new.frames }
+        ensures stands { (kept : KeptData) (h : History) (n : ℕ) → RegistersStandFor part.now kept (registers_in self.old) h n
+            → RegistersStandFor part.now kept (registers_in self.new) (until (counted_in self.new.stop (n + result)) (entered_all n (payload_steps register (words_of_bytes bytes.now)) h)) (n + result) }
+    {
+        let (words, _) = bytes.as_chunks::<4>();
+        let mut taken = 0;
+        for word in words {
+            let left = self.word(part, register, word_of(*word), 4);
+            taken += 4 - left;
+            if self.stop.is_some() {
+                return taken;
+            }
+        }
+        taken
+    }
+
     /// Takes the payload words of a packet up to a byte that stops the device, and says how many bytes these are.
     #[inline(always)]
     fn body(&mut self, part: &Part, register: u8, bytes: &[u8]) -> usize
@@ -408,19 +492,11 @@ impl Registers {
         ensures stands { (kept : KeptData) (h : History) (n : ℕ) → RegistersStandFor part.now kept (registers_in self.old) h n
             → RegistersStandFor part.now kept (registers_in self.new) (until (counted_in self.new.stop (n + result)) (entered_all n (payload_steps register (words_of_bytes bytes.now)) h)) (n + result) }
     {
-        let Some(_) = effective(register) else {
+        let Some(reg) = effective(register) else {
             return self.pass_all(part, register, bytes);
         };
-        let (words, _) = bytes.as_chunks::<4>();
-        let mut taken = 0;
-        for word in words {
-            let left = self.word(part, register, word_of(*word), 4);
-            taken += 4 - left;
-            if self.stop.is_some() {
-                return taken;
-            }
-        }
-        taken
+        let taken = self.at_once(part, reg, bytes);
+        taken + self.each(part, register, &bytes[taken..])
     }
 
     /// Takes a word in a header's place.

@@ -3,9 +3,7 @@ use Rattle.std.proofs.Common.{◌≡◌, ℕ, zero, suc, ◌+◌, ◌-◌, ◌%�
 use Rattle.std.proofs.lemmas.Bool.Decides.{nat_tests}
 use Rattle.std.proofs.lemmas.Option.{none-some}
 use Rattle.std.proofs.lemmas.List.{append_cancel_right}
-use Rattle.x7_packets.specs.History.{Access, Read, Entry, History, command_held, entry}
-use Rattle.x7_flow.specs.Controls.{ctl0_held}
-use Rattle.x7_flow.specs.Controls.{forbids_reading}
+use Rattle.x7_packets.specs.History.{Access, Read, Entry, History, entry}
 use Rattle.x7_part.specs.Part.{PartData, frame_words}
 use Rattle.x7_part.specs.declared.slot.Slot.{Slot}
 use Rattle.x7_part.specs.declared.slot.Slot.TheVariants.{Frame, Pad, End}

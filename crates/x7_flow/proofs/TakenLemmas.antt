@@ -1,7 +1,7 @@
 -- Words of frame data taken at once.
-use Rattle.std.proofs.Common.{◌≡◌, ℕ, ◌+◌, true, List, [], ◌∷◌, ◌++◌, length, Option, None, Some, refl, sym, ap, subst, ◌∙◌, arith}
+use Rattle.std.proofs.Common.{◌≡◌, ℕ, zero, suc, ◌+◌, ◌/◌, Bool, true, false, if◌then◌else◌, append-nil, List, [], ◌∷◌, ◌++◌, length, Option, None, Some, refl, sym, ap, subst, ◌∙◌, arith}
 use Rattle.std.proofs.lemmas.List.{append_cancel_right}
-use Rattle.x7_packets.specs.History.{Write, History, entry}
+use Rattle.x7_packets.specs.History.{Entry, Write, History, entry}
 use Rattle.x7_part.specs.Part.{PartData}
 use Rattle.x7_memory.specs.FrameMap.{FrameMap, AreSame}
 use Rattle.x7_memory.specs.Frames.{frame_at}
@@ -13,13 +13,15 @@ use Rattle.x7_pipeline.specs.Runs.{landed, onto, put_over, Lands}
 use Rattle.x7_pipeline.specs.Faults.{write_fault}
 use Rattle.x7_pipeline.specs.Pipeline.{PipelineData, StandsFor}
 use Rattle.x7_pipeline.specs.Words.{Written, one_written, written}
+use Rattle.x7_words.specs.Word.{words_of_bytes}
 use Rattle.x7_flow.specs.declared.asked.Asked.{Asked}
+use Rattle.x7_flow.specs.declared.asked.Asked.TheVariants.{Other, Word}
 use Rattle.x7_flow.specs.Settings.{settings_of, takes_frames}
-use Rattle.x7_flow.specs.Flow.{Flow, base_of, fault_by, flow_of, frame_fault, run_of}
+use Rattle.x7_flow.specs.Flow.{Flow, asks, base_of, fault_by, flow_of, frame_fault, run_of}
 use Rattle.x7_flow.specs.FrameMemory.{memory_of}
-use Rattle.x7_flow.specs.Standing.{AreFramesAfter, HasFlow, less}
+use Rattle.x7_flow.specs.Standing.{AreFramesAfter, Did, FramesStandFor, FramesState, HasFlow, less}
 use Rattle.x7_flow.specs.Words.{EndsBy, NoneRefused, WordsTaken, with_words}
-use Rattle.x7_flow.proofs.StandingLemmas.{no_less, same_flow}
+use Rattle.x7_flow.proofs.StandingLemmas.{did_other, no_less, one_more, same_flow}
 use Rattle.x7_flow.proofs.ManyLemmas.{word_asked, word_flow, words_flow, words_land}
 
 word_fault : (part : PartData) (h : History) (w : ℕ) → takes_frames (settings_of part.idcode h) ≡ true → frame_fault part h (Write 2 w) ≡ write_fault part (base_of part h) (run_of part h)
@@ -109,3 +111,47 @@ words_taken part p q old new words count n fault h stands lands counted faulty t
         due_given = omega arith;
       };
     }
+
+-- ---- words of FDRI that no frame takes
+
+unasked : (part : PartData) (h : History) (w : ℕ) → takes_frames (settings_of part.idcode h) ≡ false → asks part.idcode h (Write 2 w) ≡ Other
+unasked part h w t = ap (λ (b : Bool). if b then Word w else Other) t
+
+other_access : (part : PartData) (f : FramesState) (h : History) (e : Entry) → asks part.idcode h e.access ≡ Other → FramesStandFor part f h 0 → FramesStandFor part f (e ∷ h) 0
+other_access part f h e a s = one_more part f.pipeline f.pipeline f.memory f.memory e h (subst (λ (x : Asked). Did part x f.pipeline f.pipeline f.memory f.memory) (sym a) (did_other part f.pipeline f.memory)) s
+
+none_refused : (part : PartData) (n : ℕ) (ws : List ℕ) (h : History) → takes_frames (settings_of part.idcode h) ≡ false → NoneRefused part n ws h
+unfolding NoneRefused
+none_refused part n [] h t = tt
+none_refused part n (w ∷ ws) h t = (ap (λ (a : Asked). fault_by part a (flow_of part h)) (unasked part h w t), none_refused part (n + 4) ws (entry (Write 2 w) (n + 4) ∷ h) t)
+
+still_stand : (part : PartData) (f : FramesState) (n : ℕ) (ws : List ℕ) (h : History) → takes_frames (settings_of part.idcode h) ≡ false → FramesStandFor part f h 0 → FramesStandFor part f (with_words n ws h) 0
+still_stand part f n [] h t s = s
+still_stand part f n (w ∷ ws) h t s = still_stand part f (n + 4) ws (entry (Write 2 w) (n + 4) ∷ h) t (other_access part f h (entry (Write 2 w) (n + 4)) (unasked part h w t) s)
+
+pub words_folded : (part : PartData) (f : FramesState) (n count : ℕ) (ws : List ℕ) (h : History) → takes_frames (settings_of part.idcode h) ≡ false → count ≡ length ws → FramesStandFor part f h 0
+    → WordsTaken part f.pipeline f.memory n h ws count None
+words_folded part f n count ws h t c s = record {
+  front = ws;
+  rest = [];
+  words_are = sym (append-nil ws);
+  none_refused = none_refused part n ws h t;
+  end = (refl, c);
+  stands = still_stand part f n ws h t s;
+}
+
+-- there is a word for each four bytes
+pub length_of_words : (bytes : List ℕ) → length (words_of_bytes bytes) ≡ length bytes / 4
+length_of_words bytes = by_fours (length bytes / 4) bytes refl
+  where
+    by_fours : (n : ℕ) (bs : List ℕ) → length bs / 4 ≡ n → length (words_of_bytes bs) ≡ n
+    by_fours zero [] h = refl
+    by_fours zero (a ∷ []) h = refl
+    by_fours zero (a ∷ b ∷ []) h = refl
+    by_fours zero (a ∷ b ∷ c ∷ []) h = refl
+    by_fours zero (a ∷ b ∷ c ∷ d ∷ bs) h = absurd (omega arith)
+    by_fours (suc n) [] h = absurd (omega arith)
+    by_fours (suc n) (a ∷ []) h = absurd (omega arith)
+    by_fours (suc n) (a ∷ b ∷ []) h = absurd (omega arith)
+    by_fours (suc n) (a ∷ b ∷ c ∷ []) h = absurd (omega arith)
+    by_fours (suc n) (a ∷ b ∷ c ∷ d ∷ bs) h = ap suc (by_fours n bs (omega arith))

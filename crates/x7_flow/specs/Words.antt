@@ -1,5 +1,5 @@
 -- Words of frame data taken at once, up to the first that is refused.
-use Rattle.std.specs.Prelude.{◌≡◌, ℕ, ◌+◌, List, [], ◌∷◌, ◌++◌, length, Option, None, Some}
+use Rattle.std.specs.Prelude.{◌≡◌, ℕ, ◌+◌, ◌-◌, List, [], ◌∷◌, ◌++◌, length, Option, None, Some}
 use Rattle.x7_packets.specs.History.{Write, History, entered_all, entry}
 use Rattle.x7_packets.specs.Packet.{payload_steps}
 use Rattle.x7_part.specs.Part.{PartData}
@@ -21,6 +21,11 @@ NoneRefused part n (w ∷ ws) h = (frame_fault part h (Write 2 w) ≡ None) × N
 abbrev pub EndsBy : PartData → History → List ℕ → ℕ → ℕ → Option RunFault → Type 0
 EndsBy part h rest taken count None = (rest ≡ []) × (count ≡ taken)
 EndsBy part h rest taken count (Some fault) = (w : ℕ) × (back : List ℕ) × (rest ≡ w ∷ back) × (frame_fault part h (Write 2 w) ≡ Some fault) × (count ≡ taken + 1)
+
+-- how many of the words looked at were taken: not the last one, where it is refused
+abbrev pub words_before : ℕ → Option RunFault → ℕ
+words_before count None = count
+words_before count (Some fault) = count - 1
 
 -- the words up to the first refused one were taken; the count has the refused one too
 pub record WordsTaken (part : PartData) (q : PipelineData) (frames : List (List ℕ)) (n : ℕ) (h : History) (words : List ℕ) (count : ℕ) (fault : Option RunFault) : Type 0 where

@@ -4,7 +4,7 @@ ghost use Rattle.x7_packets.specs.History.{History, Read, Write};
 ghost use Rattle.x7_regs.specs.Register.{number_of};
 ghost use Rattle.x7_flow.specs.Controls.{forbids_reading, forbids_writing};
 ghost use Rattle.x7_flow.specs.FrameAccess.{reads_frame_data};
-ghost use Rattle.x7_flow.specs.Settings.{AreSettingsAfter};
+ghost use Rattle.x7_flow.specs.Settings.{AreSettingsAfter, settings_of, takes_frames as takes_frames_by};
 ghost use Rattle.x7_flow.specs.Flow.{asks};
 
 use crate::asked::Asked;
@@ -34,7 +34,8 @@ fn takes_copies(settings: FrameSettings) -> bool
 
 /// Whether words of FDRI go to the memory.
 pub fn takes_frames(settings: FrameSettings) -> bool
-    ensures { result ≡ (settings.matched && (settings.held == 1 && not (forbids_writing settings.ctl0))) }
+    ensures value { result ≡ (settings.matched && (settings.held == 1 && not (forbids_writing settings.ctl0))) }
+    ensures after { (idcode : ℕ) (h : History) → AreSettingsAfter idcode settings h → result ≡ takes_frames_by (settings_of idcode h) }
 {
     settings.matched && u32::from(settings.held) == Command::Wcfg.code() && may_write(settings.ctl0)
 }

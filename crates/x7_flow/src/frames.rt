@@ -1,16 +1,16 @@
 //! The frames of a device: its pipeline and its memory, which stand for a history.
-ghost use Rattle.std.specs.Prelude.{◌≡◌, ◌+◌, ◌%◌, ◌∷◌, [], ℕ, suc, true, length, IfOk};
+ghost use Rattle.std.specs.Prelude.{◌≡◌, ◌+◌, ◌/◌, ◌%◌, ◌≤◌, ◌∷◌, [], ℕ, suc, true, length, IfOk};
 ghost use Rattle.x7_words.specs.Word.{words_of_bytes};
 ghost use Rattle.x7_part.specs.Part.{PartData};
 ghost use Rattle.x7_packets.specs.History.{History, Read, Write, entry};
 ghost use Rattle.x7_regs.specs.Register.{number_of};
 ghost use Rattle.x7_flow.specs.FrameAccess.{reads_frame_data};
-ghost use Rattle.x7_flow.specs.Settings.{AreSettingsAfter, settings_of, takes_frames};
+ghost use Rattle.x7_flow.specs.Settings.{AreSettingsAfter};
 ghost use Rattle.x7_flow.specs.Flow.{far_in, flow_of, frame_fault};
 ghost use Rattle.x7_flow.specs.Standing.{AfterAccess, AfterRead, FramesFit, FramesStandFor, less, words_due};
 ghost use Rattle.x7_flow.specs.Words.{WordsTaken};
 
-use crate::asking::asked_write;
+use crate::asking::{asked_write, takes_frames};
 use crate::settings::FrameSettings;
 use crate::taking::{next_word, pass_words, refuses_read, take, take_words};
 use std::alloc::Global;
@@ -81,16 +81,25 @@ impl Frames {
         take(asked, part, &mut self.pipeline, &mut self.memory)
     }
 
-    /// Takes words of frame data, four bytes each, up to the first that is refused. It gives the number of words looked at,
-    /// a refused one included, and the fault.
-    pub fn write_words(&mut self, bytes: &[u8], part: &Part) -> (usize, Option<RunFault>)
+    /// Takes words written to FDRI on a matched device, four bytes each, up to the first that is refused. It gives the number of
+    /// words looked at, a refused one included, and the fault.
+    pub fn write_words(
+        &mut self,
+        settings: FrameSettings,
+        bytes: &[u8],
+        part: &Part,
+    ) -> (usize, Option<RunFault>)
         requires whole { length bytes.now % 4 ≡ 0 }
         requires part { FramesFit part.now self.old }
-        ensures taken { (n : ℕ) (h : History) → takes_frames (settings_of part.now.idcode h) ≡ true → FramesStandFor part.now self.old h 0 →
+        ensures taken { (n : ℕ) (h : History) → AreSettingsAfter part.now.idcode settings h → FramesStandFor part.now self.old h 0 →
             WordsTaken part.now self.new.pipeline self.new.memory n h (words_of_bytes bytes.now) result.0 result.1 }
+        ensures within { result.0 ≤ length bytes.now / 4 }
         ensures part { FramesFit part.now self.new }
     {
-        take_words(bytes, part, &mut self.pipeline, &mut self.memory)
+        if takes_frames(settings) {
+            return take_words(bytes, part, &mut self.pipeline, &mut self.memory);
+        }
+        (bytes.len() / 4, None)
     }
 
     /// A read of so many words of frame data begins: from now on they are due, and `next` gives them. Or it is refused, and this

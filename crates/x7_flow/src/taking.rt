@@ -1,5 +1,5 @@
 //! A pipeline and a memory do what an access asks.
-ghost use Rattle.std.specs.Prelude.{◌≡◌, ◌+◌, ◌%◌, ◌∷◌, suc, ℕ, List, true, length, IfNone, OnSome};
+ghost use Rattle.std.specs.Prelude.{◌≡◌, ◌+◌, ◌/◌, ◌%◌, ◌≤◌, ◌∷◌, suc, ℕ, List, true, length, IfNone, OnSome};
 ghost use Rattle.x7_words.specs.Word.{words_of_bytes};
 ghost use Rattle.x7_flow.specs.Settings.{settings_of, takes_frames};
 ghost use Rattle.x7_flow.specs.Words.{WordsTaken};
@@ -97,6 +97,7 @@ pub fn take_words(
     requires memory { AreFramesOf part.now memory.old }
     ensures taken { (n : ℕ) (h : History) → takes_frames (settings_of part.now.idcode h) ≡ true → AreFramesAfter part.now pipeline.old memory.old h 0 →
         WordsTaken part.now pipeline.new memory.new n h (words_of_bytes bytes.now) result.0 result.1 }
+    ensures within { result.0 ≤ length bytes.now / 4 }
     ensures pipeline { IsPipelineOf part.now pipeline.new }
     ensures memory { AreFramesOf part.now memory.new }
 {

@@ -191,6 +191,7 @@ impl Pipeline {
             StandsFor part.now self.old command base run source given → result.0 ≡ (written part.now base run (words_of_bytes bytes.now)).count }
         ensures fault { (command : Command) (base : ℕ) (run : List ℕ) (source : Option (List ℕ)) (given : ℕ) →
             StandsFor part.now self.old command base run source given → result.1 ≡ (written part.now base run (words_of_bytes bytes.now)).fault }
+        ensures within { result.0 ≤ length bytes.now / 4 }
         ensures part { IsPipelineOf part.now self.new }
         ensures memory { AreFramesOf part.now memory.new }
     {

@@ -1,4 +1,4 @@
-use Rattle.std.proofs.Common.{◌≡◌, ◌-◌, ◌≤◌, ◌++◌, ℕ, true, false, Option, List, length, take, sym, ap, subst, ◌∙◌, append_assoc, append-nil, refl, [], arith, Bool}
+use Rattle.std.proofs.Common.{◌≡◌, ◌≤◌, ◌++◌, ℕ, true, false, Option, List, length, take, sym, ap, subst, ◌∙◌, append_assoc, append-nil, refl, [], arith, Bool}
 use Rattle.std.specs.Option.{is_some}
 use Rattle.x7_packets.specs.Cutting.{between}
 use Rattle.x7_part.specs.Part.{PartData}

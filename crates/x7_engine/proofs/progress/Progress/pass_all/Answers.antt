@@ -2,14 +2,14 @@ use Rattle.std.proofs.Common.{ℕ, List, sym, ap, ◌∙◌}
 use Rattle.x7_words.specs.Word.{words_of_bytes}
 use Rattle.x7_packets.specs.History.{History}
 use Rattle.x7_crc.specs.RunningCheck.{check_after, writes_to}
-use Rattle.x7_engine.proofs.PlainLemmas.{AreFlags, IsPlain, clears_none, flags_stay, plain_is}
+use Rattle.x7_engine.proofs.PlainLemmas.{AreFlags, IsQuiet, clears_none, flags_stay, quiet_is}
 use Rattle.x7_engine.proofs.RunningLemmas.{check-all_folded}
 use Rattle.x7_engine.proofs.progress.Progress.pass_all.Goals as goal
 
 pub returns : goal.returns
 returns c = λ idcode h n s.
     let ws : List ℕ = words_of_bytes c.args.bytes.now in
-    let p : IsPlain c.args.register = plain_is c.args.register c.requires.plain in
+    let p : IsQuiet c.args.register = quiet_is c.args.register c.requires.quiet in
     let flags : AreFlags idcode c.args.self.now.matched c.args.self.now.pending c.args.self.now.ghigh c.args.self.now.iprog _ =
     flags_stay idcode c.args.self.now.matched c.args.self.now.pending c.args.self.now.ghigh c.args.self.now.iprog c.args.register n ws h p (record { matched_is = s.matched; pending_is = s.pending; ghigh_is = s.ghigh; iprog_is = s.iprog }) in
     record {

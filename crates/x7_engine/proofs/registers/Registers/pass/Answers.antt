@@ -10,15 +10,16 @@ use Rattle.x7_engine.proofs.registers.Registers.pass.Goals as goal
 pub returns-clause-stands : goal.returns-clause-stands
 returns-clause-stands c = λ part kept h place next s.
     let p : IsPlain c.args.register = plain_is c.args.register c.requires.plain in
+    let q = p.quiet in
     let going : stop_of part kept h place ≡ None = s.stop ∙ ap (stopped_at place) c.requires.going in
     record {
       places = (next.0, omega arith, next.1);
       words = c.write.ensures kept h place s.words;
-      controls = record { ctl0 = rw p.ctl0 s.controls.ctl0; ctl1 = rw p.ctl1 s.controls.ctl1 };
+      controls = record { ctl0 = rw q.ctl0 s.controls.ctl0; ctl1 = rw q.ctl1 s.controls.ctl1 };
       progress = c.pass.ensures part.idcode h place s.progress;
       kind = s.kind;
       before = s.before;
-      clock = clock_plain part kept (registers_in c.args.self.now).clock h c.args.register c.args.word place p s.clock;
+      clock = clock_plain part kept (registers_in c.args.self.now).clock h c.args.register c.args.word place q s.clock;
       stop = stop_of-access part kept h (Write c.args.register c.args.word) place going ∙ ap (stopped_at place) (sym (line_none part kept h c.args.register c.args.word p)) ∙ sym (ap (stopped_at place) c.requires.going);
       frames = frames_none part c.args.self.now.frames c.args.self.now.stop (entry (Write c.args.register c.args.word) place ∷ h) c.args.self.now.due c.requires.going c.requires.none_due
           (other_access part c.args.self.now.frames h (entry (Write c.args.register c.args.word) place) (plain_asks part.idcode h c.args.register c.args.word p) (standing_frames part c.args.self.now.frames c.args.self.now.stop h c.args.self.now.due c.requires.going c.requires.none_due s.frames));

@@ -9,7 +9,7 @@ use Rattle.x7_engine.specs.declared.kept.Kept.{Kept}
 use Rattle.x7_engine.specs.Standing.{AreLastWords, IsProgress, RegistersStandFor, RegistersState, controls_in, counted_in, due_count, progress_in, registers_in}
 use Rattle.x7_engine.proofs.BodyLemmas.{length_of_words}
 use Rattle.x7_engine.proofs.FrameLemmas.{plain_are, ticks_on}
-use Rattle.x7_engine.proofs.PlainLemmas.{Clocked, IsPlain, clocked_all, controls_stay, counted_behind, front_all, plain_is, words_front}
+use Rattle.x7_engine.proofs.PlainLemmas.{Clocked, IsPlain, clocked_all, controls_stay, counted_behind, front_all, plain_is, plain_lines, words_front}
 use Rattle.x7_engine.proofs.registers.Registers.pass_all.Goals as goal
 
 until_stands : (part : PartData) (kept : Kept) (d : RegistersState) (all front : History) (m : ℕ) → all ≡ front → RegistersStandFor part kept d front m → RegistersStandFor part kept d all m
@@ -34,14 +34,14 @@ returns-clause-stands c = λ kept h n four s.
     let here : counted_in c.tick-left.new.self.stop m ≡ n + c.counted.result = counted_behind c.tick-left.new.self.stop n (length bytes) left c.tick-left.ensures.fired ∙ sym (ap (λ (x : ℕ). n + x) c.counted.ensures.value) in
     let start : Clocked part kept (registers_in c.tick-left.new.self).clock c.tick-left.new.self.stop h n m = record { places = s.places; clock = t.clock; stop = t.stop } in
     let clocked : Clocked part kept (registers_in c.tick-left.new.self).clock c.tick-left.new.self.stop (entered_all n (payload_steps c.args.register front) h) (n + 4 * length front) m =
-    clocked_all part kept (registers_in c.tick-left.new.self).clock c.tick-left.new.self.stop c.args.register n m front h p (omega (arith, size, within)) start in
+    clocked_all part kept (registers_in c.tick-left.new.self).clock c.tick-left.new.self.stop c.args.register n m front h p.quiet (plain_lines part kept c.args.register n front h p) (omega (arith, size, within)) start in
     let all : until (counted_in c.tick-left.new.self.stop m) (entered_all n (payload_steps c.args.register ws) h) ≡ entered_all n (payload_steps c.args.register front) h =
     front_all n k (counted_in c.tick-left.new.self.stop m) c.args.register ws h few (omega (arith, here)) (omega (arith, here))
     (subst (λ (x : ℕ). Placed (n + 4 * x) (entered_all n (payload_steps c.args.register front) h)) size clocked.places) in
     until_stands part kept _ (until (counted_in c.tick-left.new.self.stop m) (entered_all n (payload_steps c.args.register ws) h)) (entered_all n (payload_steps c.args.register front) h) m all record {
       places = placed_within (n + 4 * length front) m (entered_all n (payload_steps c.args.register front) h) (omega (arith, size, within)) clocked.places;
       words = subst (λ (x : List ℕ). AreLastWords kept c.pass_all-2.new.self.last (entered_all n (payload_steps c.args.register x) h)) same (c.pass_all-2.ensures kept h n t.words);
-      controls = controls_stay (controls_in c.tick-left.new.self.controls) c.args.register n front h p t.controls;
+      controls = controls_stay (controls_in c.tick-left.new.self.controls) c.args.register n front h p.quiet t.controls;
       progress = subst (λ (x : List ℕ). IsProgress part.idcode (progress_in c.pass_all.new.self) (entered_all n (payload_steps c.args.register x) h)) same (c.pass_all.ensures part.idcode h n t.progress);
       kind = t.kind;
       before = t.before;

@@ -1,4 +1,4 @@
-use Rattle.std.proofs.Common.{◌≡◌, ◌∷◌, ℕ, None, Option, Some, true, false, if◌then◌else◌, [], List, replicate, refl, sym, ap, subst, ◌∙◌, arith}
+use Rattle.std.proofs.Common.{◌≡◌, ◌∷◌, ℕ, None, Option, Some, true, false, if◌then◌else◌, [], replicate, refl, sym, ap, subst, ◌∙◌, arith}
 use Rattle.std.specs.Option.{is_some}
 use Rattle.x7_packets.specs.History.{History, Read, entry}
 use Rattle.x7_part.specs.Part.{PartData}
@@ -13,7 +13,7 @@ use Rattle.x7_engine.specs.Standing.{FramesAre, frames_due, registers_in}
 use Rattle.x7_engine.specs.Stops.{frame_line, line_at, stop_by, stop_of, stopped_at}
 use Rattle.x7_engine.specs.Values.{answer_of, read_value, words_read}
 use Rattle.x7_engine.proofs.ClockLemmas.{stop_of-access}
-use Rattle.x7_engine.proofs.FrameLemmas.{frames_at, frames_none, goes_on, none_frames, none_left, refused, standing_frames}
+use Rattle.x7_engine.proofs.FrameLemmas.{frames_at, goes_on, none_frames, none_left, refused, standing_frames}
 use Rattle.x7_engine.proofs.PlainLemmas.{clock_other}
 use Rattle.x7_engine.proofs.registers.Registers.read.Goals as goal
 

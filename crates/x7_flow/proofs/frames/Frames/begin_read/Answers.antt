@@ -1,7 +1,4 @@
-use Rattle.std.proofs.Common.{ℕ, Option, sym, subst}
-use Rattle.x7_part.specs.Part.{PartData}
-use Rattle.x7_packets.specs.History.{History}
-use Rattle.x7_pipeline.specs.declared.fault.RunFault.{RunFault}
+use Rattle.std.proofs.Common.{sym, subst}
 use Rattle.x7_flow.specs.Standing.{AfterRead, FramesState, FramesStandFor}
 use Rattle.x7_flow.proofs.StandingLemmas.{read_answered}
 use Rattle.x7_flow.proofs.frames.Frames.begin_read.Goals as goal

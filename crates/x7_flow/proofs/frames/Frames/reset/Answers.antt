@@ -1,6 +1,5 @@
 use Rattle.std.proofs.Common.{sym, subst}
-use Rattle.x7_part.specs.Part.{PartData}
-use Rattle.x7_flow.specs.Standing.{FramesFit, FramesState}
+use Rattle.x7_flow.specs.Standing.{FramesFit}
 use Rattle.x7_flow.proofs.StandingLemmas.{begins_so}
 use Rattle.x7_flow.proofs.frames.Frames.reset.Goals as goal
 

@@ -1,4 +1,4 @@
-use Rattle.std.proofs.Common.{None, ap, refl, sym, ◌∙◌, arith}
+use Rattle.std.proofs.Common.{None, ap, refl, ◌∙◌}
 use Rattle.x7_regs.specs.declared.command.Command.TheVariants.{Null}
 use Rattle.x7_pipeline.specs.Pipeline.{PipelineData}
 use Rattle.x7_pipeline.proofs.StateLemmas.{begins}

@@ -1,0 +1,47 @@
+use Rattle.std.proofs.Common.{◌≡◌, ◌+◌, ◌-◌, ◌<◌, ℕ, List, [], ◌∷◌, ◌++◌, length, take, None, refl, sym, subst, ◌∙◌, arith}
+use Rattle.x7_words.specs.Word.{words_of_bytes}
+use Rattle.x7_engine.specs.Standing.{RegistersStandFor, registers_in}
+use Rattle.x7_engine.proofs.BodyLemmas.{chunk_word, chunks_are, word_after, word_on, words_all}
+use Rattle.x7_engine.proofs.TurnLemmas.{none_there}
+use Rattle.x7_engine.proofs.registers.Registers.each.Goals as goal
+
+pub loop-word-init : goal.loop-word-init
+loop-word-init c = record {
+  going = c.requires.going;
+  count = refl;
+  due = refl;
+  frames = c.requires.frames;
+  stands = λ kept h n s. let none : n ≡ n + 0 = omega arith in subst (λ (m : ℕ). RegistersStandFor c.args.part.now kept (registers_in c.args.self.now) h m) none s;
+}
+
+pub returns-then-is_some-clause-stands : goal.returns-then-is_some-clause-stands
+returns-then-is_some-clause-stands c = λ kept h n s.
+    let ws : List ℕ = words_of_bytes c.args.bytes.now in
+    let word : take (c.loop-word.word-index + 1) ws ≡ take c.loop-word.word-index ws ++ c.word_of.result ∷ [] =
+    chunk_word c.args.bytes.now c.as_chunks.result.0.now c.loop-word.word-index c.word_of.result c.as_chunks.ensures.front c.loop-word-test.true c.word_of.ensures.value in
+    let few : c.loop-word.word-index < length ws = let all : length ws ≡ length c.as_chunks.result.0.now = chunks_are c.args.bytes.now c.as_chunks.result.0.now c.as_chunks.ensures.front in omega (arith, all, c.loop-word-test.true) in
+    word_after c.args.part.now kept (registers_in c.loop-word.self) (registers_in c.word-left.new.self) c.args.register n c.loop-word.word-index c.word_of.result c.word-left.result c.loop-word.taken (n + (c.loop-word.taken + (4 - c.word-left.result))) ws h
+    word few c.loop-word.invariant.count c.word-left.ensures.within refl (c.word-left.ensures.stands kept) (c.loop-word.invariant.stands kept h n s)
+
+pub loop-word-preserved : goal.loop-word-preserved
+loop-word-preserved c =
+    let ws : List ℕ = words_of_bytes c.args.bytes.now in
+    let word : take (c.loop-word.word-index + 1) ws ≡ take c.loop-word.word-index ws ++ c.word_of.result ∷ [] =
+    chunk_word c.args.bytes.now c.as_chunks.result.0.now c.loop-word.word-index c.word_of.result c.as_chunks.ensures.front c.loop-word-test.true c.word_of.ensures.value in
+    let few : c.loop-word.word-index < length ws = let all : length ws ≡ length c.as_chunks.result.0.now = chunks_are c.args.bytes.now c.as_chunks.result.0.now c.as_chunks.ensures.front in omega (arith, all, c.loop-word-test.true) in
+    let going : c.word-left.new.self.stop ≡ None = none_there c.word-left.new.self.stop (sym c.is_some.ensures ∙ c.if-is_some.false) in
+    let none : c.word-left.result ≡ 0 = c.word-left.ensures.goes_on going in
+    record {
+      going = going;
+      count = omega (arith, c.loop-word.invariant.count, none);
+      due = c.word-left.ensures.due ∙ c.loop-word.invariant.due;
+      frames = c.word-left.ensures.frames;
+      stands = λ kept h n s.
+          word_on c.args.part.now kept (registers_in c.loop-word.self) (registers_in c.word-left.new.self) c.args.register n c.loop-word.word-index c.word_of.result c.word-left.result c.loop-word.taken (n + (c.loop-word.taken + (4 - c.word-left.result))) ws h
+          word few c.loop-word.invariant.count none refl going (c.word-left.ensures.stands kept) (c.loop-word.invariant.stands kept h n s);
+    }
+
+pub returns-clause-stands : goal.returns-clause-stands
+returns-clause-stands c = λ kept h n s.
+    let all : length (words_of_bytes c.args.bytes.now) ≡ length c.as_chunks.result.0.now = chunks_are c.args.bytes.now c.as_chunks.result.0.now c.as_chunks.ensures.front in
+    words_all c.args.part.now kept (registers_in c.loop-word.self) c.args.register n c.loop-word.word-index (n + c.loop-word.taken) (words_of_bytes c.args.bytes.now) h (omega (arith, all, c.loop-word-test.false)) c.loop-word.invariant.going (c.loop-word.invariant.stands kept h n s)
