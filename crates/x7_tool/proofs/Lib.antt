@@ -1,5 +1,6 @@
 pub mod AsmLemmas
 pub mod Causes
+pub mod DebugLemmas
 pub mod HeadLemmas
 pub mod FrontLemmas
 pub mod PlayLemmas

@@ -14,6 +14,7 @@ pub data Asked : Type 0 where
   FromMcs : (text : List ℕ) → Asked
   PlanningFull : (part frames : List ℕ) → Asked
   PlanningRead : (part : List ℕ) (far n : ℕ) → Asked
+  Debugging : (part stream script : List ℕ) → Asked
 
 -- a form of one name
 abbrev pub one_name : (List ℕ → Asked) → List (List ℕ) → Option Asked
@@ -61,6 +62,11 @@ abbrev pub play_form : List (List ℕ) → Option Asked
 play_form [] = None
 play_form (part ∷ streams) = if nat_le 1 (length streams) && nat_le (length streams) 8 then Some (Playing part streams) else None
 
+-- `debug PART STREAM SCRIPT`
+abbrev pub debug_form : List (List ℕ) → Option Asked
+debug_form (part ∷ stream ∷ script ∷ []) = Some (Debugging part stream script)
+debug_form _ = None
+
 -- the form of the words, by the first of them
 abbrev pub form_of : List (List ℕ) → Option Asked
 form_of [] = None
@@ -71,6 +77,7 @@ form_of (command ∷ names) =
     else if bytes_eq command (codes "mcs") then one_name ToMcs names
     else if bytes_eq command (codes "unmcs") then one_name FromMcs names
     else if bytes_eq command (codes "plan") then plan_form names
+    else if bytes_eq command (codes "debug") then debug_form names
     else None
 
 -- the names of the inputs that a form reads
@@ -83,6 +90,7 @@ names_of (Some (ToMcs image)) = image ∷ []
 names_of (Some (FromMcs text)) = text ∷ []
 names_of (Some (PlanningFull part frames)) = part ∷ frames ∷ []
 names_of (Some (PlanningRead part far n)) = part ∷ []
+names_of (Some (Debugging part stream script)) = part ∷ stream ∷ script ∷ []
 
 -- whether a form names the flash
 abbrev pub names_flash : Option Asked → Bool
@@ -94,3 +102,4 @@ names_flash (Some (ToMcs image)) = false
 names_flash (Some (FromMcs text)) = false
 names_flash (Some (PlanningFull part frames)) = false
 names_flash (Some (PlanningRead part far n)) = false
+names_flash (Some (Debugging part stream script)) = false

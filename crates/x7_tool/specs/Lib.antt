@@ -1,3 +1,4 @@
+pub mod Debug
 pub mod Event
 pub mod Form
 pub mod Message

@@ -1,5 +1,5 @@
 -- What a command comes to, over known inputs and a known flash: the first event in the order of the work decides (this project's choice).
-use Rattle.std.specs.Prelude.{◌≡◌, ℕ, List, [], ◌∷◌, ◌++◌, ◌-◌, Option, None, Some, is_some, Result, Ok, Err, Bool, false, if◌then◌else◌, drop, length, nat_lt}
+use Rattle.std.specs.Prelude.{◌≡◌, ℕ, List, [], ◌∷◌, ◌++◌, ◌-◌, Option, None, Some, is_some, Result, Ok, Err, Bool, false, if◌then◌else◌, drop, length, nat_lt, take}
 use Rattle.x7_header.specs.Header.{Contents}
 use Rattle.x7_header.specs.Reading.{header_at}
 use Rattle.x7_header.specs.declared.fault.HeaderFault.{HeaderFault}
@@ -26,9 +26,14 @@ use Rattle.x7_planner.specs.Refusals.{CanRead, IsReadFault}
 use Rattle.x7_planner.specs.declared.fault.PlanFault.{PlanFault}
 use Rattle.x7_planner.specs.declared.fault.PlanFault.TheVariants as planner
 use Rattle.x7_mcs.specs.Text.{mcs_text}
+use Rattle.x7_debug.specs.declared.fault.ScriptFault.{ScriptFault}
+use Rattle.x7_debug.specs.declared.fault.ScriptFault.TheVariants as script
+use Rattle.x7_debug.specs.declared.order.Order.{Order}
+use Rattle.x7_debug.specs.Script.{IsScriptOf}
+use Rattle.x7_debug.specs.Transcript.{final_position, transcript_of}
 use Rattle.x7_tool.specs.declared.bad_input.InputFault.TheVariants as input
 use Rattle.x7_tool.specs.Event.{Event, bad_input, bad_part, missing, no_memory, too_large, too_many_reads, usage}
-use Rattle.x7_tool.specs.Form.{Asked, Assembling, FromMcs, Listing, PlanningFull, PlanningRead, Playing, ToMcs, names_flash}
+use Rattle.x7_tool.specs.Form.{Asked, Assembling, Debugging, FromMcs, Listing, PlanningFull, PlanningRead, Playing, ToMcs, names_flash}
 use Rattle.x7_part.specs.PartFile.{part_in}
 use Rattle.x7_tool.specs.Report.{report_text}
 
@@ -218,6 +223,44 @@ PlannedRead name far n (Err event) end = Err event ≡ end
 PlannedRead name far n (Ok part) (Ok answer) = (answer.stopped ≡ false) × CanRead part far n × (answer.text ≡ read_stream part far n)
 PlannedRead name far n (Ok part) (Err event) = (fault : PlanFault) × IsReadFault part far n fault × (planner_event name fault ≡ event)
 
+-- ---- debug
+
+-- the data of the stream of this name
+abbrev pub stream_data : Known → List ℕ → Result (List ℕ) Event
+stream_data known name = and_so (whole_in known stream_limit name) (data_in name)
+
+-- the most bytes of a script
+abbrev pub script_limit : ℕ
+script_limit = 1048576
+
+-- what a debugging reads: a part, the data of a stream, and the text of a script
+pub record DebugInputs : Type 0 where
+  pub part : PartData
+  pub stream : List ℕ
+  pub script : List ℕ
+
+abbrev pub debug_inputs : Known → List ℕ → List ℕ → List ℕ → Result DebugInputs Event
+debug_inputs known part stream script =
+    and_so (part_of known part) (λ p. and_so (stream_data known stream) (λ bytes. and_so (whole_in known script_limit script) (λ text. Ok (record { part = p; stream = bytes; script = text }))))
+
+-- the event of a text that gives no script
+abbrev pub script_event : List ℕ → ScriptFault → Event
+script_event name (script.Line line) = bad_input name (input.Line line)
+script_event name script.NoMemory = no_memory
+
+-- what a script shows of a stream, and whether the device has a fault at the script's last position
+abbrev pub shown_of : PartData → List ℕ → List Order → Answer
+shown_of part stream orders = record {
+  stopped = is_some (fault_of (line_by (stop_in part on_the_bench (take (final_position part stream orders) stream))));
+  text = transcript_of part stream orders;
+}
+
+-- `debug PART STREAM SCRIPT`: what the script shows of the stream, or its first line that is none
+abbrev pub DebuggedAs : List ℕ → Result DebugInputs Event → Result Answer Event → Type 0
+DebuggedAs name (Err event) end = Err event ≡ end
+DebuggedAs name (Ok d) (Ok answer) = (orders : List Order) × (IsScriptOf d.script (Ok orders) × (shown_of d.part d.stream orders ≡ answer))
+DebuggedAs name (Ok d) (Err event) = (fault : ScriptFault) × (IsScriptOf d.script (Err fault) × (script_event name fault ≡ event))
+
 -- a form comes to this end, each form one case
 abbrev pub Gives : Known → Asked → Result Answer Event → Type 0
 Gives known (Listing stream) end = listed known stream ≡ end
@@ -227,6 +270,7 @@ Gives known (ToMcs image) end = mcs_written known image ≡ end
 Gives known (FromMcs text) end = mcs_read known text ≡ end
 Gives known (PlanningFull part frames) end = PlannedFull frames (plan_texts known part frames) end
 Gives known (PlanningRead part far n) end = PlannedRead part far n (part_of known part) end
+Gives known (Debugging part stream script) end = DebuggedAs script (debug_inputs known part stream script) end
 
 -- the words come to this end: words without a form are a wrong usage
 abbrev pub IsOutcome : Known → Option Asked → Result Answer Event → Type 0

@@ -1,6 +1,6 @@
 //! The forms of the command line.
 ghost use Rattle.std.specs.Prelude.{◌≡◌, map, string_bytes};
-ghost use Rattle.x7_tool.specs.Form.{Assembling, FromMcs, Listing, PlanningFull, ToMcs, form_of, number_in, one_name, plan_form, plan_read_form, play_form, two_names, word_in};
+ghost use Rattle.x7_tool.specs.Form.{Assembling, FromMcs, Listing, PlanningFull, ToMcs, debug_form, form_of, number_in, one_name, plan_form, plan_read_form, play_form, two_names, word_in};
 ghost use Rattle.x7_tool.specs.Run.{asked};
 
 use x7_text::{decimal_below, word_of_hex};
@@ -50,6 +50,15 @@ pub enum Form<'w> {
         part: &'w str,
         /// The streams' names.
         streams: &'w [String],
+    },
+    /// `debug PART STREAM SCRIPT`: what a script shows of a stream.
+    Debug {
+        /// The part file's name.
+        part: &'w str,
+        /// The stream's name.
+        stream: &'w str,
+        /// The script's name.
+        script: &'w str,
     },
 }
 
@@ -178,6 +187,20 @@ fn plan_form(names: &[String]) -> Option<Form<'_>>
     }
 }
 
+/// `debug PART STREAM SCRIPT`.
+fn debug_form(names: &[String]) -> Option<Form<'_>>
+    ensures { asked result ≡ debug_form (map string_bytes names.now) }
+{
+    match names {
+        [part, stream, script] => Some(Form::Debug {
+            part: part.as_str(),
+            stream: stream.as_str(),
+            script: script.as_str(),
+        }),
+        _ => None,
+    }
+}
+
 /// The form of the words, where they have one.
 pub fn words_of(words: &Vec<String>) -> Option<Form<'_>>
     ensures { asked result ≡ form_of (map string_bytes words.now.items) }
@@ -192,6 +215,7 @@ pub fn words_of(words: &Vec<String>) -> Option<Form<'_>>
         "mcs" => mcs_form(names),
         "unmcs" => unmcs_form(names),
         "plan" => plan_form(names),
+        "debug" => debug_form(names),
         _ => None,
     }
 }

@@ -4,6 +4,7 @@
 mod asm;
 mod bad_input;
 mod bad_part;
+mod debug;
 mod form;
 mod front;
 mod list;

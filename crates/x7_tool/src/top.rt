@@ -9,6 +9,7 @@ ghost use Rattle.x7_tool.specs.Run.{Ends, EndsAs, RisesFor, Says, seen};
 ghost use Rattle.x7_tool.specs.Runs.{Runs};
 
 use crate::asm::asm;
+use crate::debug::debug;
 use crate::form::{Form, words_of};
 use crate::list::list;
 use crate::mcs::{mcs, unmcs};
@@ -48,6 +49,13 @@ fn answer<'w, I: Inputs, O: Sink, F: Flash>(
             put_whole(plan_read(alloc, inputs, part, far, n), out)
         }
         Some(Form::Unmcs { text }) => put_whole(unmcs(alloc, inputs, text), out),
+        Some(
+            Form::Debug {
+                part,
+                stream,
+                script,
+            },
+        ) => put_whole(debug(alloc, inputs, part, stream, script), out),
     }
 }
 

@@ -1,0 +1,73 @@
+-- What a device takes of a piece: all of it, or the bytes up to the stop.
+use Rattle.std.proofs.Common.{◌≡◌, ℕ, ◌≤◌, Bool, List, [], ◌++◌, length, take, drop, Option, Some, None, refl, ap, sym, subst, ◌∙◌, arith, append_assoc}
+use Rattle.std.proofs.Math.Seq.{take-append_seam, take-length}
+use Rattle.std.proofs.lemmas.List.{take-append-drop}
+use Rattle.x7_words.specs.Word.{AreBytes}
+use Rattle.x7_part.specs.Part.{PartData}
+use Rattle.x7_engine.specs.declared.fed.Fed.{Fed}
+use Rattle.x7_engine.specs.declared.fed.Fed.TheVariants as fed
+use Rattle.x7_engine.specs.declared.kept.Kept.{Kept}
+use Rattle.x7_engine.specs.ReadBuffer.{IsFullBy, ReadBufState, with_words}
+use Rattle.x7_engine.specs.Standing.{Answers, DeviceState, DeviceStandsFor, NoWordDue, taken_in}
+use Rattle.x7_engine.specs.State.{stop_in, taken_by, taken_of}
+use Rattle.x7_engine.specs.Stops.{Stopped}
+use Rattle.x7_engine.proofs.StateLemmas.{stop_is_final-stop, stop_place}
+
+-- bytes without a stop are all taken
+pub taken-all : (part : PartData) (kept : Kept) (bytes : List ℕ) → stop_in part kept bytes ≡ None → taken_of part kept bytes ≡ length bytes
+taken-all part kept bytes e = ap (λ (o : Option Stopped). taken_by o (length bytes)) e
+
+-- bytes are taken up to their stop
+pub taken-stopped : (part : PartData) (kept : Kept) (bytes : List ℕ) (s : Stopped) → stop_in part kept bytes ≡ Some s → taken_of part kept bytes ≡ s.place
+taken-stopped part kept bytes s e = ap (λ (o : Option Stopped). taken_by o (length bytes)) e
+
+-- no more bytes are taken than there are
+pub taken-within : (part : PartData) (kept : Kept) (bytes : List ℕ) → AreBytes bytes → taken_of part kept bytes ≤ length bytes
+taken-within part kept bytes fits = by (stop_in part kept bytes) refl
+  where
+    by : (o : Option Stopped) → stop_in part kept bytes ≡ o → taken_of part kept bytes ≤ length bytes
+    by None e = omega (arith, taken-all part kept bytes e)
+    by (Some s) e = omega (arith, taken-stopped part kept bytes s e, (stop_place part kept bytes s fits e).1)
+
+-- a front that the device took, where it goes on behind it or has stopped at its end
+all-part : (part : PartData) (kept : Kept) (front : List ℕ) → stop_in part kept front ≡ None → front ≡ take (taken_of part kept front) front
+all-part part kept front e = sym (ap (λ (n : ℕ). take n front) (taken-all part kept front e) ∙ take-length front)
+
+stopped-part : (part : PartData) (kept : Kept) (front rest : List ℕ) (s : Stopped) → AreBytes (front ++ rest) → stop_in part kept front ≡ Some s → s.place ≡ length front → front ≡ take (taken_of part kept (front ++ rest)) (front ++ rest)
+stopped-part part kept front rest s fits e place =
+    let taken : taken_of part kept (front ++ rest) ≡ length front = taken-stopped part kept (front ++ rest) s (stop_is_final-stop part kept front rest s fits e) ∙ place in
+    sym (ap (λ (n : ℕ). take n (front ++ rest)) taken ∙ take-append_seam front rest)
+
+-- bytes and a piece, of which so many are taken
+piece-split : (bytes piece : List ℕ) (n : ℕ) → (bytes ++ take n piece) ++ drop n piece ≡ bytes ++ piece
+piece-split bytes piece n = append_assoc bytes (take n piece) (drop n piece) ∙ ap (λ t. bytes ++ t) (take-append-drop n piece)
+
+module _ (part : PartData) (kept : Kept) (wrapped : Bool) (bytes piece : List ℕ) (d : DeviceState) where
+  at-stop : (n : ℕ) (s : Stopped) → AreBytes (bytes ++ piece) → DeviceStandsFor part kept wrapped d (bytes ++ take n piece) → stop_in part kept (bytes ++ take n piece) ≡ Some s → s.place ≡ length (bytes ++ take n piece)
+      → DeviceStandsFor part kept wrapped d (take (taken_of part kept (bytes ++ piece)) (bytes ++ piece))
+  at-stop n s fits stands e place =
+      let whole = piece-split bytes piece n in
+      let same : bytes ++ take n piece ≡ take (taken_of part kept (bytes ++ piece)) (bytes ++ piece)
+      = stopped-part part kept (bytes ++ take n piece) (drop n piece) s (subst (λ b. AreBytes b) (sym whole) fits) e place ∙ ap (λ b. take (taken_of part kept b) b) whole in
+      subst (λ b. DeviceStandsFor part kept wrapped d b) same stands
+
+  -- a buffer that drops words never waits for room
+  pub fed-stands : (read : ReadBufState) (f : Fed) → AreBytes (bytes ++ piece) → read.most ≡ None → DeviceStandsFor part kept wrapped d (bytes ++ take (taken_in (length piece) f) piece) → Answers part kept d (bytes ++ take (taken_in (length piece) f) piece) read f
+      → DeviceStandsFor part kept wrapped d (take (taken_of part kept (bytes ++ piece)) (bytes ++ piece))
+  fed-stands read fed.All fits most stands answer =
+      let all : bytes ++ take (length piece) piece ≡ bytes ++ piece = ap (λ t. bytes ++ t) (take-length piece) in
+      let none : stop_in part kept (bytes ++ piece) ≡ None = ap (stop_in part kept) (sym all) ∙ answer.0 in
+      subst (λ b. DeviceStandsFor part kept wrapped d b) (all ∙ all-part part kept (bytes ++ piece) none) stands
+  fed-stands read (fed.Stopped n) fits most stands answer = at-stop n _ fits stands answer.1 refl
+  fed-stands read (fed.Iprog n) fits most stands answer = at-stop n _ fits stands answer.0 refl
+  fed-stands read (fed.ReadFull n) fits most stands answer = absurd (subst (λ (m : Option ℕ). IsFullBy m (length read.words)) most answer.2)
+
+  pub fed-none-due : (read : ReadBufState) (f : Fed) → read.most ≡ None → Answers part kept d (bytes ++ take (taken_in (length piece) f) piece) read f → NoWordDue d
+  fed-none-due read fed.All most answer = answer.1
+  fed-none-due read (fed.Stopped n) most answer = answer.2
+  fed-none-due read (fed.Iprog n) most answer = answer.1
+  fed-none-due read (fed.ReadFull n) most answer = absurd (subst (λ (m : Option ℕ). IsFullBy m (length read.words)) most answer.2)
+
+-- a dropping buffer goes on to drop
+pub drops : (old new : ReadBufState) (more : List ℕ) → old ≡ record { most = None; words = [] } → new ≡ with_words old more → new.most ≡ None
+drops old new more is e = ap (λ (b : ReadBufState). b.most) e ∙ ap (λ (b : ReadBufState). b.most) is

@@ -1,0 +1,6 @@
+pub mod FeedLemmas
+pub mod LeastLemmas
+pub mod PositionLemmas
+pub mod ScriptLemmas
+pub mod TranscriptLemmas
+pub mod UniqueLemmas

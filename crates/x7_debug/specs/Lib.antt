@@ -1,0 +1,4 @@
+pub mod Position
+pub mod Script
+pub mod Session
+pub mod Transcript

@@ -1,0 +1,56 @@
+-- Positions in a stream: the first bytes of it, taken by a new device (this project's choice).
+use Rattle.std.specs.Prelude.{ℕ, ◌+◌, ◌-◌, ◌==◌, Bool, true, false, List, take, unwrap_or}
+use Rattle.std.specs.List.{find, range_with_len}
+use Rattle.x7_part.specs.Part.{PartData}
+use Rattle.x7_memory.specs.FrameMap.{FrameMap}
+use Rattle.x7_engine.specs.declared.regs.End.{End}
+use Rattle.x7_engine.specs.declared.regs.End.TheVariants as at_end
+use Rattle.x7_engine.specs.declared.regs.Regs.{Regs}
+use Rattle.x7_engine.specs.Kept.{on_the_bench}
+use Rattle.x7_engine.specs.State.{memory_in, state_of, taken_of}
+use Rattle.x7_debug.specs.declared.order.Stop.{Stop}
+use Rattle.x7_debug.specs.declared.order.Stop.TheVariants as stop
+
+-- the last position: all bytes, or those up to the first stop
+abbrev pub last_of : PartData → List ℕ → ℕ
+last_of part stream = taken_of part on_the_bench stream
+
+-- the registers at a position
+abbrev pub state_at : PartData → List ℕ → ℕ → Regs
+state_at part stream n = state_of part on_the_bench false (take n stream)
+
+-- the frames at a position
+abbrev pub memory_at : PartData → List ℕ → ℕ → FrameMap
+memory_at part stream n = memory_in part on_the_bench (take n stream)
+
+-- the bytes end in a session, in a gap, or at a fault or an obeyed IPROG
+abbrev pub is_synced : End → Bool
+is_synced at_end.Synced = true
+is_synced _ = false
+
+abbrev pub is_searching : End → Bool
+is_searching at_end.Searching = true
+is_searching _ = false
+
+abbrev pub has_stopped : End → Bool
+has_stopped (at_end.Iprog wbstar) = true
+has_stopped (at_end.Fault fault) = true
+has_stopped _ = false
+
+-- a session that goes forward to this stops in this state
+abbrev pub holds_in : Stop → Regs → Bool
+holds_in stop.Synced r = is_synced r.end
+holds_in stop.Searching r = is_searching r.end
+holds_in stop.Stopped r = has_stopped r.end
+holds_in (stop.Phase phase) r = r.phase == phase
+
+abbrev pub holds_at : PartData → List ℕ → Stop → ℕ → Bool
+holds_at part stream stop n = holds_in stop (state_at part stream n)
+
+-- the positions behind this one, up to the last
+abbrev pub later_than : PartData → List ℕ → ℕ → List ℕ
+later_than part stream at = range_with_len (at + 1) (last_of part stream - at)
+
+-- the least later position where it holds, and the last one where there is none
+abbrev pub until_of : PartData → List ℕ → Stop → ℕ → ℕ
+until_of part stream stop at = unwrap_or (find (holds_at part stream stop) (later_than part stream at)) (last_of part stream)

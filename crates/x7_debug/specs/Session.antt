@@ -1,0 +1,30 @@
+-- A session: a device that stands at a position of a stream.
+use Rattle.std.specs.Prelude.{◌≡◌, ◌≤◌, ℕ, List, false, take}
+use Rattle.x7_part.specs.Part.{PartData}
+use Rattle.x7_engine.specs.Kept.{on_the_bench}
+use Rattle.x7_engine.specs.Standing.{DeviceState, DeviceStandsFor, NoWordDue}
+use Rattle.x7_debug.specs.Position.{last_of}
+
+-- the part, the bytes of the stream, and the position
+pub record SessionState : Type 0 where
+  pub part : PartData
+  pub stream : List ℕ
+  pub at : ℕ
+
+-- the same part and stream, at this position
+pub record MovesTo (old new : SessionState) (n : ℕ) : Type 0 where
+  pub part : new.part ≡ old.part
+  pub stream : new.stream ≡ old.stream
+  pub at : new.at ≡ n
+
+-- a device took the first n bytes of a stream, and no word that it read out is due
+pub record StandsAt (part : PartData) (stream : List ℕ) (d : DeviceState) (n : ℕ) : Type 0 where
+  pub stands : DeviceStandsFor part on_the_bench false d (take n stream)
+  pub taken : d.taken ≡ n
+  pub within : n ≤ last_of part stream
+  pub none_due : NoWordDue d
+
+-- how a session is kept
+pub record IsSession (d : DeviceState) (stream : List ℕ) (last : ℕ) : Type 0 where
+  pub stands : StandsAt d.part stream d d.taken
+  pub last_is : last ≡ last_of d.part stream

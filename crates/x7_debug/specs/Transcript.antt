@@ -1,0 +1,58 @@
+-- What a script shows of a stream: each order at the position where it leaves the session (this project's choice).
+use Rattle.std.specs.Prelude.{ℕ, ◌+◌, ◌-◌, List, [], ◌∷◌, ◌++◌, Option, None, Some, codes, decimal, fold, min}
+use Rattle.x7_text.specs.Digits.{hex_word}
+use Rattle.x7_part.specs.Part.{PartData}
+use Rattle.x7_memory.specs.FrameMap.{FrameMap}
+use Rattle.x7_engine.specs.declared.regs.Regs.{Regs}
+use Rattle.x7_engine.specs.Text.{end_text, frame_text, phase_text, reg_text}
+use Rattle.x7_debug.specs.declared.order.Order.{Order}
+use Rattle.x7_debug.specs.declared.order.Order.TheVariants as order
+use Rattle.x7_debug.specs.Position.{last_of, memory_at, state_at, until_of}
+
+-- the position that an order brings a session to: moves are cut at 0 and at the last position
+abbrev pub position_after : PartData → List ℕ → ℕ → Order → ℕ
+position_after part stream at (order.Step count) = min (at + count) (last_of part stream)
+position_after part stream at (order.Back count) = at - count
+position_after part stream at (order.Go position) = min position (last_of part stream)
+position_after part stream at (order.Until stop) = until_of part stream stop at
+position_after part stream at order.Regs = at
+position_after part stream at order.Phase = at
+position_after part stream at (order.Frame far) = at
+
+-- the position that orders bring a session to that begins at 0
+abbrev pub final_position : PartData → List ℕ → List Order → ℕ
+final_position part stream orders = fold (position_after part stream) 0 orders
+
+-- where a move led: the position, and where the bytes up to it end
+unfoldable pub position_text : Regs → List ℕ
+position_text r = codes "at " ++ (decimal r.taken ++ (codes " " ++ (end_text r.end ++ codes "\n")))
+
+-- the line of an address where there is no frame
+unfoldable pub none_text : ℕ → List ℕ
+none_text far = codes "none " ++ (hex_word far ++ codes "\n")
+
+abbrev pub frame_shown : ℕ → Option (List ℕ) → List ℕ
+frame_shown far None = none_text far
+frame_shown far (Some words) = frame_text far words
+
+-- what an order shows of these registers and frames
+abbrev pub shown_by : Order → Regs → FrameMap → List ℕ
+shown_by (order.Step count) r frames = position_text r
+shown_by (order.Back count) r frames = position_text r
+shown_by (order.Go position) r frames = position_text r
+shown_by (order.Until stop) r frames = position_text r
+shown_by order.Regs r frames = reg_text r
+shown_by order.Phase r frames = phase_text r
+shown_by (order.Frame far) r frames = frame_shown far (frames far)
+
+abbrev pub shown_at : PartData → List ℕ → ℕ → Order → List ℕ
+shown_at part stream n order = shown_by order (state_at part stream n) (memory_at part stream n)
+
+-- what orders show, the first of which begins at this position
+abbrev pub transcript_from : PartData → List ℕ → ℕ → List Order → List ℕ
+transcript_from part stream at [] = []
+transcript_from part stream at (o ∷ orders) = shown_at part stream (position_after part stream at o) o ++ transcript_from part stream (position_after part stream at o) orders
+
+-- what a script shows of a stream on a new device of the part
+abbrev pub transcript_of : PartData → List ℕ → List Order → List ℕ
+transcript_of part stream orders = transcript_from part stream 0 orders

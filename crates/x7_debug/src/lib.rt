@@ -1,0 +1,17 @@
+//! Forwards and backwards through a stream: a script of orders, and a session that follows it.
+#![tactic(auto)]
+
+mod fault;
+mod law;
+mod line;
+mod order;
+mod script;
+mod session;
+mod showing;
+
+pub use fault::ScriptFault;
+pub use law::{one_order, one_script, until_leads_to_the_least};
+pub use order::{Order, Stop};
+pub use script::{Script, script_of};
+pub use session::Session;
+pub use showing::transcript;

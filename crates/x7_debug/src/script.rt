@@ -1,0 +1,78 @@
+//! The script of a text, line by line.
+ghost use Rattle.std.specs.Prelude.{◌≡◌, ◌⊎◌, ℕ, List, [], ◌∷◌, ◌++◌, Ok, Err, IfOk, IfErr, OnOk};
+ghost use Rattle.x7_debug.specs.Script.{AreOrders, IsNoOrder, IsScriptOf};
+ghost use Rattle.x7_debug.specs.declared.fault.ScriptFault.{ScriptFault};
+
+use crate::fault::ScriptFault;
+use crate::line::{means_nothing, order_of};
+use crate::order::Order;
+use std::alloc::Global;
+use std::marker::Model;
+use x7_text::first_line;
+
+/// The orders of a script, in the order of its lines.
+#[derive(Drop)]
+pub struct Script {
+    orders: Vec<Order>,
+}
+
+impl Model for Script {
+    ghost use Rattle.std.specs.Prelude.{List};
+    ghost use Rattle.x7_debug.specs.declared.order.Order.{Order};
+
+    ghost Value = { List Order };
+
+    ghost view = { λ s. s.orders.items };
+}
+
+impl Script {
+    /// The orders.
+    pub fn orders(&self) -> &[Order]
+        ensures { result.now ≡ self.now }
+    {
+        &self.orders
+    }
+}
+
+/// Takes line `n`, behind the orders of the lines before it.
+fn take_line(orders: &mut Vec<Order>, n: u64, line: &[u8]) -> Result<(), ScriptFault>
+    ensures taken { OnOk result ((before : List (List ℕ)) → AreOrders before orders.old.items → AreOrders (before ++ line.now ∷ []) orders.new.items) }
+    ensures fault { IfErr result (λ fault. (fault ≡ ScriptFault.NoMemory) ⊎ ((fault ≡ ScriptFault.Line n) × IsNoOrder line.now)) }
+{
+    if means_nothing(line) {
+        return Ok(());
+    }
+    let Some(order) = order_of(line) else {
+        return Err(ScriptFault::Line(n));
+    };
+    match orders.push(order) {
+        Ok(()) => Ok(()),
+        Err(_) => Err(ScriptFault::NoMemory),
+    }
+}
+
+/// The script of a text, or its first line that is none of a script's.
+///
+/// A line is empty, a comment that `#` begins, or an order: `step N`, `back N`, `go N`, with a number of 32 bits in decimal
+/// without leading zeros; `until synced`, `until searching`, `until stopped`, `until phase P` with P from 0 to 7; `regs`;
+/// `phase`; `frame FAR`, the address in eight upper-case digits (this project's choice). One space stands between the words,
+/// and the last line may lack its end.
+pub fn script_of(alloc: Global, text: &[u8]) -> Result<Script, ScriptFault>
+    ensures script { IfOk result (λ script. IsScriptOf text.now (Ok script)) }
+    ensures fault { IfErr result (λ fault. (fault ≡ ScriptFault.NoMemory) ⊎ IsScriptOf text.now (Err fault)) }
+{
+    let mut orders = Vec::new(alloc);
+    let mut rest = text;
+    let mut count: u64 = 0;
+    loop {
+        let (line, more) = first_line(rest);
+        count += 1;
+        if let Err(fault) = take_line(&mut orders, count, line) {
+            return Err(fault);
+        }
+        match more {
+            Some(after) => rest = after,
+            None => return Ok(Script { orders }),
+        }
+    }
+}

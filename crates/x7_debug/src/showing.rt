@@ -1,0 +1,109 @@
+//! What a script shows of a stream.
+ghost use Rattle.std.specs.Prelude.{◌≡◌, ◌++◌, List, IfOk, OnErr, OnOk};
+ghost use Rattle.x7_memory.specs.Frames.{AreFramesOf, frame_at};
+ghost use Rattle.x7_debug.specs.Session.{MovesTo};
+ghost use Rattle.x7_debug.specs.Transcript.{final_position, frame_shown, none_text, position_after, position_text, shown_at, transcript_of};
+ghost use Rattle.x7_debug.specs.declared.order.Order.{Order as OrderData};
+
+use crate::order::Order;
+use crate::script::Script;
+use crate::session::Session;
+use std::alloc::Global;
+use x7_engine::{Regs, end_words, frame_line, phase_line, reg_lines};
+use x7_memory::Memory;
+use x7_part::Part;
+use x7_text::{hex_of_word, make_room, put, put_decimal};
+use x7_words::NoMemory;
+
+/// Appends where a move led.
+#[tactic(auto, unfolding(crate::specs::Transcript::position_text))]
+fn put_position(text: &mut Vec<u8>, regs: &Regs) -> Result<(), NoMemory>
+    ensures { OnOk result (text.new.items ≡ text.old.items ++ position_text regs.now) }
+{
+    make_room(text, 24)?;
+    put(text, b"at ");
+    put_decimal(text, regs.taken);
+    put(text, b" ");
+    end_words(text, regs)?;
+    make_room(text, 1)?;
+    put(text, b"\n");
+    Ok(())
+}
+
+/// Appends the line of an address where there is no frame.
+#[tactic(auto, unfolding(crate::specs::Transcript::none_text))]
+fn none_line(text: &mut Vec<u8>, far: u32) -> Result<(), NoMemory>
+    ensures { OnOk result (text.new.items ≡ text.old.items ++ none_text far) }
+{
+    make_room(text, 14)?;
+    put(text, b"none ");
+    put(text, &hex_of_word(far));
+    put(text, b"\n");
+    Ok(())
+}
+
+/// Appends the line of the frame at an address.
+fn put_frame(text: &mut Vec<u8>, part: &Part, memory: &Memory, far: u32) -> Result<(), NoMemory>
+    requires { AreFramesOf part.now memory.now }
+    ensures { OnOk result (text.new.items ≡ text.old.items ++ frame_shown far (frame_at part.now memory.now far)) }
+{
+    match memory.frame(part, far) {
+        Some(words) => frame_line(text, far, words),
+        None => none_line(text, far),
+    }
+}
+
+/// Appends what an order shows where it left the session.
+fn show(text: &mut Vec<u8>, session: &Session, order: Order) -> Result<(), NoMemory>
+    ensures { OnOk result (text.new.items ≡ text.old.items ++ shown_at session.now.part session.now.stream session.now.at order) }
+{
+    let device = session.device();
+    match order {
+        Order::Step(_) | Order::Back(_) | Order::Go(_) | Order::Until(_) => {
+            put_position(text, &device.state())
+        }
+        Order::Regs => reg_lines(text, &device.state()),
+        Order::Phase => phase_line(text, &device.state()),
+        Order::Frame(far) => put_frame(text, device.part(), device.memory(), far),
+    }
+}
+
+impl Session {
+    /// Follows an order, where it is a move.
+    fn follow(&mut self, order: Order)
+        ensures { MovesTo self.old self.new (position_after self.old.part self.old.stream self.old.at order) }
+    {
+        match order {
+            Order::Step(count) => self.step(u64::from(count)),
+            Order::Back(count) => self.back(u64::from(count)),
+            Order::Go(position) => self.go(u64::from(position)),
+            Order::Until(stop) => self.until(stop),
+            Order::Regs | Order::Phase | Order::Frame(_) => (),
+        }
+    }
+}
+
+/// What a script shows of a session's stream, from position 0 on (this project's choice). A move shows `at N` and where the
+/// bytes up to there end; `regs` the fifteen lines of the registers; `phase` the line of startup; `frame` the line of the
+/// frame, also of zeros, or `none FAR` where the part has no such address. After `NoMemory` the session stands where some
+/// of the orders left it.
+pub fn transcript(
+    alloc: Global,
+    session: &mut Session,
+    script: &Script,
+) -> Result<Vec<u8>, NoMemory>
+    requires { session.old.at ≡ 0 }
+    ensures text { IfOk result (λ text. text.items ≡ transcript_of session.old.part session.old.stream script.now) }
+    ensures position { OnOk result (MovesTo session.old session.new (final_position session.old.part session.old.stream script.now)) }
+    ensures err { OnErr result ((done : List OrderData) × (left : List OrderData) × (script.now ≡ done ++ left) × MovesTo session.old session.new (final_position session.old.part session.old.stream done)) }
+{
+    let mut text = Vec::new(alloc);
+    for order in script.orders() {
+        session.follow(*order);
+        match show(&mut text, session, *order) {
+            Ok(()) => (),
+            Err(NoMemory) => return Err(NoMemory),
+        }
+    }
+    Ok(text)
+}

@@ -1,0 +1,28 @@
+-- What a script shows, from the session that followed it.
+use Rattle.std.proofs.Common.{◌≡◌, ℕ, List, take, Bool, false, Option, ap, sym, ◌∙◌}
+use Rattle.std.specs.Prelude.{is_some}
+use Rattle.x7_part.specs.Part.{PartData}
+use Rattle.x7_engine.specs.declared.fault.Fault.{Fault}
+use Rattle.x7_engine.specs.Kept.{on_the_bench}
+use Rattle.x7_engine.specs.State.{line_by, stop_in}
+use Rattle.x7_engine.specs.Stops.{fault_of}
+use Rattle.x7_debug.specs.declared.order.Order.{Order}
+use Rattle.x7_debug.specs.Session.{MovesTo, SessionState}
+use Rattle.x7_debug.specs.Transcript.{final_position, transcript_of}
+use Rattle.x7_tool.specs.Outcome.{Answer, shown_of}
+
+-- the first n bytes of a stream have a fault
+abbrev fails_at : PartData → List ℕ → ℕ → Bool
+fails_at part stream n = is_some (fault_of (line_by (stop_in part on_the_bench (take n stream))))
+
+pub shown_is : (part : PartData) (stream : List ℕ) (orders : List Order) (begin now : SessionState) (text : List ℕ) (fault : Option Fault) (stopped : Bool)
+    → begin ≡ record { part = part; stream = stream; at = 0 } → text ≡ transcript_of begin.part begin.stream orders → MovesTo begin now (final_position begin.part begin.stream orders)
+    → fault ≡ fault_of (line_by (stop_in now.part on_the_bench (take now.at now.stream))) → stopped ≡ is_some fault → shown_of part stream orders ≡ record { stopped = stopped; text = text }
+shown_is part stream orders begin now text fault stopped e t m f s =
+    let ends : fails_at part stream (final_position part stream orders) ≡ stopped
+    = ap (λ (x : SessionState). fails_at x.part x.stream (final_position x.part x.stream orders)) (sym e)
+    ∙ ap (λ (p : PartData). fails_at p begin.stream (final_position begin.part begin.stream orders)) (sym m.part)
+    ∙ ap (λ (x : List ℕ). fails_at now.part x (final_position begin.part begin.stream orders)) (sym m.stream)
+    ∙ ap (λ (n : ℕ). fails_at now.part now.stream n) (sym m.at) ∙ ap is_some (sym f) ∙ sym s in
+    let shows : transcript_of part stream orders ≡ text = ap (λ (x : SessionState). transcript_of x.part x.stream orders) (sym e) ∙ sym t in
+    ap (λ (b : Bool). record { stopped = b; text = transcript_of part stream orders }) ends ∙ ap (λ (x : List ℕ). record { stopped = stopped; text = x }) shows

@@ -1,0 +1,142 @@
+//! The command `debug`.
+ghost use Rattle.std.specs.Prelude.{◌≡◌, ◌⊎◌, ◌≤◌, ℕ, List, [], ◌∷◌, Option, Ok, Err, IfErr, IfOk};
+ghost use Rattle.x7_debug.specs.Script.{IsScriptOf};
+ghost use Rattle.x7_debug.specs.declared.fault.ScriptFault.{ScriptFault as FaultData};
+ghost use Rattle.x7_tool.specs.Debug.{given_of};
+ghost use Rattle.x7_tool.specs.Message.{event_of};
+ghost use Rattle.x7_tool.specs.Event.{no_memory};
+ghost use Rattle.x7_tool.specs.Outcome.{DebuggedAs, debug_inputs, script_event, stream_data, with_inputs};
+ghost use Rattle.x7_tool.specs.Play.{whole_of};
+ghost use Rattle.x7_tool.specs.Run.{IsCaused, IsCausedBy, RisesFor, seen};
+
+use crate::bad_input::InputFault;
+use crate::play::read_part;
+use crate::read::{STREAM_LIMIT, data_start, read_whole};
+use crate::refusal::{Refusal, Why};
+use crate::text::Text;
+use std::alloc::Global;
+use x7_debug::{ScriptFault, Session, script_of, transcript};
+use x7_part::Part;
+use x7_words::Inputs;
+
+/// The most bytes of a script.
+const SCRIPT_LIMIT: usize = 1_048_576;
+
+/// What a debugging reads: a part, the data of a stream, and the text of a script.
+#[derive(Drop)]
+pub(crate) struct Given {
+    part: Part,
+    stream: Vec<u8>,
+    script: Vec<u8>,
+}
+
+/// Why a text gives no script.
+fn refusal_of<'w>(name: &'w str, fault: ScriptFault) -> Refusal<'w>
+    ensures { event_of result ≡ script_event name.now fault }
+{
+    match fault {
+        ScriptFault::Line(line) => Refusal {
+            reason: Why::BadInput(InputFault::Line(line)),
+            name,
+        },
+        ScriptFault::NoMemory => Refusal::unnamed(Why::NoMemory),
+    }
+}
+
+/// The data of a stream: what follows its header, where it has one.
+fn read_data<'w, I: Inputs>(
+    alloc: Global,
+    inputs: &mut I,
+    name: &'w str,
+) -> Result<Vec<u8>, Refusal<'w>>
+    ensures due { (flash : Option (List ℕ)) → IsCaused (with_inputs (I.contents inputs.old) flash) (RisesFor (name.now ∷ []) (I.faults inputs.old) (I.faults inputs.new)) (RisesFor (name.now ∷ []) (I.absences inputs.old) (I.absences inputs.new))
+        (λ known. stream_data known name.now) (seen (λ bytes. bytes.items) result) }
+    ensures map { I.contents inputs.new ≡ I.contents inputs.old }
+    ensures faults { I.faults inputs.old ≤ I.faults inputs.new }
+    ensures absences { I.absences inputs.old ≤ I.absences inputs.new }
+{
+    let mut bytes = match read_whole(alloc, inputs, name, STREAM_LIMIT) {
+        Ok(bytes) => bytes,
+        Err(refusal) => return Err(refusal),
+    };
+    let start = match data_start(name, &bytes) {
+        Ok(start) => start,
+        Err(refusal) => return Err(refusal),
+    };
+    match bytes.split_off(start) {
+        Ok(data) => Ok(data),
+        Err(_) => Err(Refusal::unnamed(Why::NoMemory)),
+    }
+}
+
+/// Reads the inputs in the order of the words.
+fn read_given<'w, I: Inputs>(
+    alloc: Global,
+    inputs: &mut I,
+    part: &'w str,
+    stream: &'w str,
+    script: &'w str,
+) -> Result<Given, Refusal<'w>>
+    ensures { (flash : Option (List ℕ)) → IsCaused (with_inputs (I.contents inputs.old) flash) (RisesFor (part.now ∷ stream.now ∷ script.now ∷ []) (I.faults inputs.old) (I.faults inputs.new)) (RisesFor (part.now ∷ stream.now ∷ script.now ∷ []) (I.absences inputs.old) (I.absences inputs.new))
+        (λ known. debug_inputs known part.now stream.now script.now) (seen given_of result) }
+{
+    let part = match read_part(alloc, inputs, part) {
+        Ok(part) => part,
+        Err(refusal) => return Err(refusal),
+    };
+    let stream = match read_data(alloc, inputs, stream) {
+        Ok(stream) => stream,
+        Err(refusal) => return Err(refusal),
+    };
+    match read_whole(alloc, inputs, script, SCRIPT_LIMIT) {
+        Ok(script) => Ok(Given {
+            part,
+            stream,
+            script,
+        }),
+        Err(refusal) => Err(refusal),
+    }
+}
+
+/// What a script shows of a stream, and whether the device has a fault where it ends.
+fn text_of<'w>(alloc: Global, given: Given, name: &'w str) -> Result<Text, Refusal<'w>>
+    ensures ok { IfOk result (λ text. DebuggedAs name.now (Ok (given_of given)) (Ok (whole_of text))) }
+    ensures err { IfErr result (λ r. (event_of r ≡ no_memory) ⊎ DebuggedAs name.now (Ok (given_of given)) (Err (event_of r))) }
+{
+    let Given {
+        part,
+        stream,
+        script,
+    } = given;
+    let script = match script_of(alloc, &script) {
+        Ok(script) => script,
+        Err(fault) => return Err(refusal_of(name, fault)),
+    };
+    let Ok(mut session) = Session::new(alloc, &part, stream) else {
+        return Err(Refusal::unnamed(Why::NoMemory));
+    };
+    match transcript(alloc, &mut session, &script) {
+        Ok(text) => Ok(Text {
+            stopped: session.device().fault().is_some(),
+            text,
+        }),
+        Err(_) => Err(Refusal::unnamed(Why::NoMemory)),
+    }
+}
+
+/// The text of `debug PART STREAM SCRIPT`: what a script shows of a stream's data.
+pub(crate) fn debug<'w, I: Inputs>(
+    alloc: Global,
+    inputs: &mut I,
+    part: &'w str,
+    stream: &'w str,
+    script: &'w str,
+) -> Result<Text, Refusal<'w>>
+    ensures { (flash : Option (List ℕ)) → IsCausedBy (with_inputs (I.contents inputs.old) flash) (RisesFor (part.now ∷ stream.now ∷ script.now ∷ []) (I.faults inputs.old) (I.faults inputs.new)) (RisesFor (part.now ∷ stream.now ∷ script.now ∷ []) (I.absences inputs.old) (I.absences inputs.new))
+        (λ known end. DebuggedAs script.now (debug_inputs known part.now stream.now script.now) end) (seen whole_of result) }
+{
+    match read_given(alloc, inputs, part, stream, script) {
+        Ok(given) => text_of(alloc, given, script),
+        Err(refusal) => Err(refusal),
+    }
+}
