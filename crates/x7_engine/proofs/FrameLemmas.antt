@@ -13,15 +13,15 @@ use Rattle.x7_regs.specs.declared.register.Reg.TheVariants as reg
 use Rattle.x7_regs.specs.Command.{command_by}
 use Rattle.x7_pipeline.specs.declared.fault.RunFault.{RunFault}
 use Rattle.x7_pipeline.specs.declared.fault.RunFault.TheVariants.{Address, Multi, Overrun}
-use Rattle.x7_flow.specs.declared.asked.Asked.{Asked}
 use Rattle.x7_flow.specs.declared.asked.Asked.TheVariants.{Copies, Load, Order, Other, Word}
 use Rattle.x7_flow.specs.Controls.{is_matched, same_idcode}
 use Rattle.x7_flow.specs.Settings.{settings_of, takes_copies, takes_frames}
-use Rattle.x7_flow.specs.Flow.{asks, far_in, fault_by, flow_of, frame_fault}
+use Rattle.x7_flow.specs.Flow.{far_in, fault_by, flow_of, frame_fault}
 use Rattle.x7_flow.specs.FrameMemory.{memory_of}
-use Rattle.x7_flow.specs.Standing.{AfterAccess, Did, FramesStandFor, FramesState, less, words_due, words_from}
+use Rattle.x7_flow.specs.Standing.{AfterAccess, FramesStandFor, FramesState, less, words_due, words_from}
 use Rattle.x7_flow.proofs.FaultLemmas.{refused_far_read, refused_memory}
-use Rattle.x7_flow.proofs.StandingLemmas.{did_other, no_less, one_more}
+use Rattle.x7_flow.proofs.StandingLemmas.{no_less}
+use Rattle.x7_flow.proofs.TakenLemmas.{other_access}
 use Rattle.x7_engine.specs.declared.due.Due.{Due}
 use Rattle.x7_engine.specs.declared.due.Due.TheVariants as due
 use Rattle.x7_engine.specs.declared.fault.Fault.{Fault}
@@ -193,11 +193,7 @@ pub line_is : (part : PartData) (kept : Kept) (h : History) (access : Access) (l
     → now ≡ line_at part kept h access
 line_is part kept h access line now result r l n = n ∙ ap (λ (o : Option Stop). or_else o (frame_line result)) l ∙ ap (λ (o : Option RunFault). or_else (access_line part kept h access) (frame_line o)) r
 
--- one that asks nothing of the frames
-pub other_access : (part : PartData) (f : FramesState) (h : History) (e : Entry) → asks part.idcode h e.access ≡ Other → FramesStandFor part f h 0 → FramesStandFor part f (e ∷ h) 0
-other_access part f h e a s = one_more part f.pipeline f.pipeline f.memory f.memory e h (subst (λ (x : Asked). Did part x f.pipeline f.pipeline f.memory f.memory) (sym a) (did_other part f.pipeline f.memory)) s
-
--- so do words of a register without an effect
+-- words of a register without an effect ask nothing of the frames
 pub plain_frames : (part : PartData) (f : FramesState) (register n : ℕ) (ws : List ℕ) (h : History) → IsPlain register → FramesStandFor part f h 0 → FramesStandFor part f (entered_all n (payload_steps register ws) h) 0
 plain_frames part f register n ws h p s =
     kept_all (λ (x : History). FramesStandFor part f x 0) register (λ (x : History) (w place : ℕ) (t : FramesStandFor part f x 0). other_access part f x (entry (Write register w) place) (plain_asks part.idcode x register w p) t) n ws h s

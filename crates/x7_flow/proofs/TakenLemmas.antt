@@ -1,5 +1,5 @@
 -- Words of frame data taken at once.
-use Rattle.std.proofs.Common.{◌≡◌, ℕ, zero, suc, ◌+◌, ◌/◌, Bool, true, false, if◌then◌else◌, append-nil, List, [], ◌∷◌, ◌++◌, length, Option, None, Some, refl, sym, ap, subst, ◌∙◌, arith}
+use Rattle.std.proofs.Common.{◌≡◌, ℕ, ◌+◌, Bool, true, false, if◌then◌else◌, append-nil, List, [], ◌∷◌, ◌++◌, length, Option, None, Some, refl, sym, ap, subst, ◌∙◌, arith}
 use Rattle.std.proofs.lemmas.List.{append_cancel_right}
 use Rattle.x7_packets.specs.History.{Entry, Write, History, entry}
 use Rattle.x7_part.specs.Part.{PartData}
@@ -13,7 +13,6 @@ use Rattle.x7_pipeline.specs.Runs.{landed, onto, put_over, Lands}
 use Rattle.x7_pipeline.specs.Faults.{write_fault}
 use Rattle.x7_pipeline.specs.Pipeline.{PipelineData, StandsFor}
 use Rattle.x7_pipeline.specs.Words.{Written, one_written, written}
-use Rattle.x7_words.specs.Word.{words_of_bytes}
 use Rattle.x7_flow.specs.declared.asked.Asked.{Asked}
 use Rattle.x7_flow.specs.declared.asked.Asked.TheVariants.{Other, Word}
 use Rattle.x7_flow.specs.Settings.{settings_of, takes_frames}
@@ -117,7 +116,7 @@ words_taken part p q old new words count n fault h stands lands counted faulty t
 unasked : (part : PartData) (h : History) (w : ℕ) → takes_frames (settings_of part.idcode h) ≡ false → asks part.idcode h (Write 2 w) ≡ Other
 unasked part h w t = ap (λ (b : Bool). if b then Word w else Other) t
 
-other_access : (part : PartData) (f : FramesState) (h : History) (e : Entry) → asks part.idcode h e.access ≡ Other → FramesStandFor part f h 0 → FramesStandFor part f (e ∷ h) 0
+pub other_access : (part : PartData) (f : FramesState) (h : History) (e : Entry) → asks part.idcode h e.access ≡ Other → FramesStandFor part f h 0 → FramesStandFor part f (e ∷ h) 0
 other_access part f h e a s = one_more part f.pipeline f.pipeline f.memory f.memory e h (subst (λ (x : Asked). Did part x f.pipeline f.pipeline f.memory f.memory) (sym a) (did_other part f.pipeline f.memory)) s
 
 none_refused : (part : PartData) (n : ℕ) (ws : List ℕ) (h : History) → takes_frames (settings_of part.idcode h) ≡ false → NoneRefused part n ws h
@@ -139,19 +138,3 @@ words_folded part f n count ws h t c s = record {
   end = (refl, c);
   stands = still_stand part f n ws h t s;
 }
-
--- there is a word for each four bytes
-pub length_of_words : (bytes : List ℕ) → length (words_of_bytes bytes) ≡ length bytes / 4
-length_of_words bytes = by_fours (length bytes / 4) bytes refl
-  where
-    by_fours : (n : ℕ) (bs : List ℕ) → length bs / 4 ≡ n → length (words_of_bytes bs) ≡ n
-    by_fours zero [] h = refl
-    by_fours zero (a ∷ []) h = refl
-    by_fours zero (a ∷ b ∷ []) h = refl
-    by_fours zero (a ∷ b ∷ c ∷ []) h = refl
-    by_fours zero (a ∷ b ∷ c ∷ d ∷ bs) h = absurd (omega arith)
-    by_fours (suc n) [] h = absurd (omega arith)
-    by_fours (suc n) (a ∷ []) h = absurd (omega arith)
-    by_fours (suc n) (a ∷ b ∷ []) h = absurd (omega arith)
-    by_fours (suc n) (a ∷ b ∷ c ∷ []) h = absurd (omega arith)
-    by_fours (suc n) (a ∷ b ∷ c ∷ d ∷ bs) h = ap suc (by_fours n bs (omega arith))

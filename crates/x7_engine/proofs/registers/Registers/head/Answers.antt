@@ -1,12 +1,13 @@
 use Rattle.std.proofs.Common.{◌≡◌, ◌==◌, ◌∷◌, Some, None, false, refl, ap, ◌∙◌, arith}
 use Rattle.std.proofs.lemmas.Bool.Decides.{nat_tests}
 use Rattle.x7_packets.specs.History.{Bad, entry}
+use Rattle.x7_flow.proofs.TakenLemmas.{other_access}
 use Rattle.x7_engine.specs.declared.fault.Fault.TheVariants as fault
 use Rattle.x7_engine.specs.declared.stop.Stop.TheVariants as stop
 use Rattle.x7_engine.specs.Standing.{registers_in}
 use Rattle.x7_engine.specs.Stops.{stop_of, stopped_at}
 use Rattle.x7_engine.proofs.ClockLemmas.{stop_of-access}
-use Rattle.x7_engine.proofs.FrameLemmas.{frames_none_at, other_access, standing_frames}
+use Rattle.x7_engine.proofs.FrameLemmas.{frames_none_at, standing_frames}
 use Rattle.x7_engine.proofs.PlainLemmas.{clock_other}
 use Rattle.x7_engine.proofs.registers.Registers.head.Goals as goal
 

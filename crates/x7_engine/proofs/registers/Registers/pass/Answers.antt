@@ -1,9 +1,10 @@
 use Rattle.std.proofs.Common.{◌≡◌, ◌∷◌, None, sym, ap, ◌∙◌, arith}
 use Rattle.x7_packets.specs.History.{Write, entry}
+use Rattle.x7_flow.proofs.TakenLemmas.{other_access}
 use Rattle.x7_engine.specs.Standing.{registers_in}
 use Rattle.x7_engine.specs.Stops.{stop_of, stopped_at}
 use Rattle.x7_engine.proofs.ClockLemmas.{stop_of-access}
-use Rattle.x7_engine.proofs.FrameLemmas.{frames_none, other_access, standing_frames}
+use Rattle.x7_engine.proofs.FrameLemmas.{frames_none, standing_frames}
 use Rattle.x7_engine.proofs.PlainLemmas.{IsPlain, clock_plain, line_none, plain_asks, plain_is}
 use Rattle.x7_engine.proofs.registers.Registers.pass.Goals as goal
 
