@@ -11,6 +11,10 @@ ghost use Rattle.x7_engine.specs.Values.{cause_of};
 ghost use Rattle.x7_engine.specs.declared.fault.Fault.{Fault as FaultData};
 ghost use Rattle.x7_engine.specs.declared.kept.Kept.{Kept as KeptData};
 
+mod boot;
+
+pub use boot::flash_may_end;
+
 use crate::fault::Fault;
 use crate::fed::Fed;
 use crate::kept::Kept;
