@@ -20,8 +20,8 @@ use std::alloc::Global;
 use std::{fs, io};
 
 /// The files of cases, each with the end `.txt`.
-const SUBJECTS: [&str; 8] = [
-    "list", "asm", "play", "startup", "mcs", "parts", "faults", "limits",
+const SUBJECTS: [&str; 10] = [
+    "list", "asm", "play", "frames", "startup", "mcs", "plan", "parts", "faults", "limits",
 ];
 
 /// The report of one file of cases.

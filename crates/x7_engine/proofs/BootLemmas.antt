@@ -1,6 +1,5 @@
 -- Lemmas on what a boot asks of a device.
-use Rattle.std.proofs.Common.{◌≡◌, ◌==◌, ◌+◌, ℕ, Bool, false, List, [], ◌++◌, length, replicate, Option, None, Some, length-append, refl, ap, sym, subst, ◌∙◌, arith}
-use Rattle.std.proofs.lemmas.List.{length-replicate}
+use Rattle.std.proofs.Common.{◌≡◌, ◌==◌, ◌+◌, ℕ, zero, suc, Bool, false, List, [], ◌∷◌, ◌++◌, length, replicate, Option, None, Some, refl, ap, sym, subst, ◌∙◌}
 use Rattle.x7_part.specs.Part.{PartData}
 use Rattle.x7_packets.specs.History.{History}
 use Rattle.x7_regs.specs.declared.boot_status.Kind.TheVariants.{Bench}
@@ -8,7 +7,9 @@ use Rattle.x7_startup.specs.Calls.{IsPhaseOf}
 use Rattle.x7_engine.specs.declared.kept.Kept.{Kept}
 use Rattle.x7_engine.specs.declared.stop.Stop.{Stop}
 use Rattle.x7_engine.specs.declared.stop.Stop.TheVariants as stop
-use Rattle.x7_engine.specs.Standing.{DeviceState, DeviceStandsFor, MayWrap, NoWordDue}
+use Rattle.x7_engine.specs.declared.due.Due.{Due}
+use Rattle.x7_engine.specs.declared.due.Due.TheVariants as due
+use Rattle.x7_engine.specs.Standing.{DeviceState, DeviceStandsFor, MayWrap, NoWordDue, due_count, words_left}
 use Rattle.x7_engine.specs.Startup.{phase_of, startup_progress}
 use Rattle.x7_engine.specs.State.{history_taken, line_by, state_of, stop_in, taken_of}
 use Rattle.x7_engine.specs.Stops.{fault_of}
@@ -32,11 +33,16 @@ may_wrap part kept wrapped d bytes s boots not_started not_failed not_left none 
       none_due = none;
     }
 
-few : (xs : List ℕ) (n w : ℕ) → [] ≡ xs ++ replicate n w → n ≡ 0
-few xs n w e =
-    let all : 0 ≡ length xs + length (replicate n w) = ap length e ∙ length-append xs (replicate n w) in
-    let long : length (replicate n w) ≡ n = length-replicate n w in
-    omega arith
+nothing_more : {A : Type 0} (xs ys : List A) (y : A) → [] ≡ xs ++ y ∷ ys → ⊥
+nothing_more [] ys y e = cc
+nothing_more (x ∷ xs) ys y e = cc
+
+few : (part : PartData) (h : History) (told : List ℕ) (words : Due) → [] ≡ told ++ words_left part h words → due_count words ≡ 0
+few part h told due.Nothing e = refl
+few part h told (due.Same word zero) e = refl
+few part h told (due.Same word (suc n)) e = absurd (nothing_more told (replicate n word) word e)
+few part h told (due.Frames zero) e = refl
+few part h told (due.Frames (suc n)) e = absurd (nothing_more told _ _ e)
 
 pub none_due_at_first : (part : PartData) (kept : Kept) (wrapped : Bool) (d : DeviceState) → DeviceStandsFor part kept wrapped d [] → NoWordDue d
-none_due_at_first part kept wrapped d s = few s.due_are.told d.registers.due d.registers.due_word s.due_are.all
+none_due_at_first part kept wrapped d s = few part (history_taken part kept []) s.due_are.told d.registers.due s.due_are.all

@@ -14,7 +14,7 @@ use Rattle.x7_engine.specs.declared.kept.Kept.{Kept}
 use Rattle.x7_engine.specs.declared.stop.Stop.{Stop}
 use Rattle.x7_engine.specs.declared.stop.Stop.TheVariants as stop
 use Rattle.x7_engine.specs.Checked.{HasStarted, StandsIn}
-use Rattle.x7_engine.specs.Registers.{is_matched, same_idcode}
+use Rattle.x7_flow.specs.Controls.{is_matched, same_idcode}
 use Rattle.x7_engine.specs.Sequence.{Begins}
 use Rattle.x7_engine.specs.Startup.{phase_by, startup_progress}
 use Rattle.x7_engine.specs.State.{history_by, history_taken, last_counted, state_of, stop_in, taken_by, taken_of}
@@ -76,7 +76,6 @@ counted_most (stop.Fault (fault.Address far)) place = omega arith
 counted_most (stop.Fault fault.Overrun) place = omega arith
 counted_most (stop.Fault fault.Multi) place = omega arith
 counted_most (stop.Fault fault.Encrypted) place = omega arith
-counted_most (stop.Fault fault.Unbuilt) place = omega arith
 counted_most stop.Iprog place = omega arith
 
 -- ---- no line before the stop of bytes

@@ -1,7 +1,7 @@
 -- Lemmas on specs/Standing: a device takes one run more.
-use Rattle.std.proofs.Common.{◌≡◌, ◌+◌, ◌-◌, ◌*◌, ◌/◌, ◌<◌, ◌≤◌, ℕ, Option, None, Some, List, [], ◌∷◌, ◌++◌, length, take, drop, replicate, ap, sym, subst, ◌∙◌, append_assoc, arith, length-append, length-drop, Bool}
+use Rattle.std.proofs.Common.{◌≡◌, ◌+◌, ◌-◌, ◌*◌, ◌/◌, ◌<◌, ◌≤◌, ℕ, Option, None, Some, List, [], ◌∷◌, ◌++◌, length, take, drop, ap, sym, subst, ◌∙◌, append_assoc, arith, length-append, length-drop, Bool}
 use Rattle.std.proofs.Math.Seq.{take-append_seam}
-use Rattle.std.proofs.lemmas.List.{length-map, length-replicate, length-take-le, take-append-drop, take-take}
+use Rattle.std.proofs.lemmas.List.{length-map, length-take-le, take-append-drop, take-take}
 use Rattle.x7_words.specs.Word.{AreBytes, words_of_bytes}
 use Rattle.x7_words.proofs.ListLemmas.{all_front}
 use Rattle.x7_packets.specs.declared.cutter.Cut.{Cut}
@@ -19,21 +19,23 @@ use Rattle.x7_packets.proofs.HistoryLemmas.{cut_enters, next_word-is, words_end}
 use Rattle.x7_part.specs.Part.{PartData}
 use Rattle.x7_engine.specs.declared.kept.Kept.{Kept}
 use Rattle.x7_engine.specs.declared.stop.Stop.{Stop}
-use Rattle.x7_engine.specs.Standing.{DeviceStandsFor, DeviceState, EndsWords, HoldsRun, IsCutterOf, RegistersStandFor, counted_in, told_of}
+use Rattle.x7_engine.specs.Standing.{DeviceStandsFor, DeviceState, EndsWords, HoldsRun, IsCutterOf, RegistersStandFor, counted_in, due_count, told_of, words_left}
 use Rattle.x7_engine.specs.State.{history_by, history_taken, reads_of, stop_in}
 use Rattle.x7_engine.specs.Stops.{Stopped, stop_of, stopped_at}
 use Rattle.x7_engine.specs.Values.{read_out}
 use Rattle.x7_engine.proofs.BodyLemmas.{length_of_words}
+use Rattle.x7_engine.proofs.FrameLemmas.{length_left}
 use Rattle.x7_engine.proofs.TurnLemmas.{history_until, no_rest, stop_until}
 
 -- the words told, where all that is read out are these and some more that are due
-pub front_told : (told : List ℕ) (due w : ℕ) → take (length (told ++ replicate due w) - due) (told ++ replicate due w) ≡ told
-front_told told due w =
-    let count : length (told ++ replicate due w) - due ≡ length told = omega (arith, length-append told (replicate due w), length-replicate due w) in
-    ap (λ (n : ℕ). take n (told ++ replicate due w)) count ∙ take-append_seam told (replicate due w)
+front_told : (told rest : List ℕ) (due : ℕ) → length rest ≡ due → take (length (told ++ rest) - due) (told ++ rest) ≡ told
+front_told told rest due e =
+    let count : length (told ++ rest) - due ≡ length told = omega (arith, length-append told rest, e) in
+    ap (λ (n : ℕ). take n (told ++ rest)) count ∙ take-append_seam told rest
 
-pub told_by : (part : PartData) (kept : Kept) (d : DeviceState) (bytes told : List ℕ) → reads_of part kept bytes ≡ told ++ replicate d.registers.due d.registers.due_word → told_of part kept d bytes ≡ told
-told_by part kept d bytes told e = ap (λ (t : List ℕ). take (length t - d.registers.due) t) e ∙ front_told told d.registers.due d.registers.due_word
+pub told_by : (part : PartData) (kept : Kept) (d : DeviceState) (bytes told : List ℕ) (h : History) → reads_of part kept bytes ≡ told ++ words_left part h d.registers.due → told_of part kept d bytes ≡ told
+told_by part kept d bytes told h e =
+    ap (λ (t : List ℕ). take (length t - due_count d.registers.due) t) e ∙ front_told told (words_left part h d.registers.due) (due_count d.registers.due) (length_left part h d.registers.due)
 
 -- a part of a piece, cut at a place in it
 pub between_front : (piece : List ℕ) (from at left : ℕ) → from ≤ at - left → between piece from at ≡ between piece from (at - left) ++ drop (at - left - from) (between piece from at)
@@ -103,10 +105,11 @@ pub turned : (part : PartData) (kept : Kept) (wrapped : Bool) (d e : DeviceState
     → ((sessions : List Session) (place : Place) → CutterStandsFor d.cutter bytes sessions place → Went d.cutter e.cutter (bytes ++ cut) sessions place run)
     → ((h : History) (from n : ℕ) → EndsWords run from n count → RegistersStandFor part kept d.registers h n → RegistersStandFor part kept e.registers (until (counted_in e.registers.stop (n + (count - left))) (entered_all from (run_steps run) h)) (n + (count - left)))
     → ((h : History) (from n : ℕ) → EndsWords run from n count → RegistersStandFor part kept d.registers h n
-    → read_out part kept (until (counted_in e.registers.stop (n + (count - left))) (entered_all from (run_steps run) h)) ≡ read_out part kept h ++ replicate e.registers.due e.registers.due_word)
+    → read_out part kept (until (counted_in e.registers.stop (n + (count - left))) (entered_all from (run_steps run) h))
+    ≡ read_out part kept h ++ words_left part (until (counted_in e.registers.stop (n + (count - left))) (entered_all from (run_steps run) h)) e.registers.due)
     → count ≡ length cut → cut ≡ more ++ rest → length rest ≡ left → IsRun run → IsLent d.cutter room run
-    → (e.registers.stop ≡ None → left ≡ 0) → ((line : Stop) → e.registers.stop ≡ Some line → e.registers.due ≡ 0) → e.part ≡ d.part → e.wrapped ≡ d.wrapped → e.taken ≡ d.taken + length more
-    → DeviceStandsFor part kept wrapped e (bytes ++ more) × (reads_of part kept (bytes ++ more) ≡ reads_of part kept bytes ++ replicate e.registers.due e.registers.due_word)
+    → (e.registers.stop ≡ None → left ≡ 0) → ((line : Stop) → e.registers.stop ≡ Some line → due_count e.registers.due ≡ 0) → e.part ≡ d.part → e.wrapped ≡ d.wrapped → e.taken ≡ d.taken + length more
+    → DeviceStandsFor part kept wrapped e (bytes ++ more) × (reads_of part kept (bytes ++ more) ≡ reads_of part kept bytes ++ words_left part (history_taken part kept (bytes ++ more)) e.registers.due)
 turned part kept wrapped d e bytes cut more rest run count left room s going went stands reads k j l r i g q p y t =
     let none : stop_in part kept bytes ≡ None = s.stop_is ∙ ap (stopped_at (length bytes)) going in
     let old : history_taken part kept bytes ≡ history_of bytes = going_taken part kept bytes none in
@@ -131,10 +134,14 @@ turned part kept wrapped d e bytes cut more rest run count left room s going wen
     ap (λ (x : History). stop_of part kept x m) front ∙ stop_until part kept e.registers.stop (length (bytes ++ cut)) m all placed after.stop in
     let new : history_taken part kept (bytes ++ more) ≡ counted =
     ap (λ (o : Option Stopped). history_by o (history_of (bytes ++ more))) stops ∙ ap (history_by (stopped_at m e.registers.stop)) front ∙ history_until e.registers.stop m all in
-    let told : reads_of part kept (bytes ++ more) ≡ reads_of part kept bytes ++ replicate e.registers.due e.registers.due_word =
-    ap (read_out part kept) new
-    ∙ ap (λ (x : ℕ). read_out part kept (until (counted_in e.registers.stop x) all)) (sym count_is)
-    ∙ reads (history_of bytes) from (length bytes) ends before ∙ ap (λ (x : History). read_out part kept x ++ replicate e.registers.due e.registers.due_word) (sym old) in (
+    let first : read_out part kept (until (counted_in e.registers.stop (length bytes + (count - left))) all)
+    ≡ reads_of part kept bytes ++ words_left part (until (counted_in e.registers.stop (length bytes + (count - left))) all) e.registers.due =
+    reads (history_of bytes) from (length bytes) ends before
+    ∙ ap (λ (x : History). read_out part kept x ++ words_left part (until (counted_in e.registers.stop (length bytes + (count - left))) all) e.registers.due) (sym old) in
+    let here_read : read_out part kept counted ≡ reads_of part kept bytes ++ words_left part counted e.registers.due =
+    subst (λ (x : ℕ). read_out part kept (until (counted_in e.registers.stop x) all) ≡ reads_of part kept bytes ++ words_left part (until (counted_in e.registers.stop x) all) e.registers.due) count_is first in
+    let told : reads_of part kept (bytes ++ more) ≡ reads_of part kept bytes ++ words_left part (history_taken part kept (bytes ++ more)) e.registers.due =
+    subst (λ (x : History). read_out part kept x ≡ reads_of part kept bytes ++ words_left part x e.registers.due) (sym new) here_read in (
       record {
         fits = here;
         part_is = p ∙ s.part_is;

@@ -1,46 +1,49 @@
 -- Lemmas on a feed: words given to a buffer, and the bytes taken of a piece.
-use Rattle.std.proofs.Common.{◌≡◌, ◌+◌, ◌-◌, ◌≤◌, ℕ, Option, None, Some, List, [], ◌++◌, length, take, drop, replicate, refl, ap, sym, subst, ◌∙◌, append_assoc, append-nil, arith, Bool}
+use Rattle.std.proofs.Common.{◌≡◌, ◌+◌, ◌-◌, ◌≤◌, ◌<◌, ℕ, suc, Option, None, Some, List, [], ◌∷◌, ◌++◌, length, take, drop, replicate, refl, ap, sym, subst, ◌∙◌, append_assoc, append-nil, arith, Bool}
 use Rattle.std.proofs.Math.Seq.{take-length}
 use Rattle.std.proofs.lemmas.List.{drop-take, length-take, replicate-append-replicate, take-append-drop, take-take}
+use Rattle.std.proofs.lemmas.Option.{none-some}
 use Rattle.x7_packets.specs.Cutting.{between}
+use Rattle.x7_packets.specs.History.{History}
 use Rattle.x7_part.specs.Part.{PartData}
+use Rattle.x7_flow.specs.Standing.{FramesStandFor, FramesState, words_due}
+use Rattle.x7_engine.specs.declared.due.Due.{Due}
+use Rattle.x7_engine.specs.declared.due.Due.TheVariants as due
 use Rattle.x7_engine.specs.declared.kept.Kept.{Kept}
 use Rattle.x7_engine.specs.declared.stop.Stop.{Stop}
 use Rattle.x7_engine.specs.declared.stop.Stop.TheVariants as stop
 use Rattle.x7_engine.specs.ReadBuffer.{ReadBufState, gathered, with_words}
-use Rattle.x7_engine.specs.Standing.{Answers, DeviceStandsFor, DeviceState, NoWordDue, RegistersState, fed_by, taken_in, told_of, with_due}
-use Rattle.x7_engine.specs.State.{reads_of}
+use Rattle.x7_engine.specs.Readout.{Gave, GaveFrames, Gives}
+use Rattle.x7_engine.specs.Standing.{Answers, DeviceStandsFor, DeviceState, FramesAre, NoWordDue, RegistersStandFor, RegistersState, due_count, fed_by, frames_due, taken_in, told_of, words_left}
+use Rattle.x7_engine.specs.State.{history_taken, reads_of}
 use Rattle.x7_engine.specs.Stops.{stopped_at}
 use Rattle.x7_engine.proofs.DeviceLemmas.{told_by}
-
--- words due, in those given and those left
-due_parts : (due left w : ℕ) → left ≤ due → replicate due w ≡ replicate (due - left) w ++ replicate left w
-due_parts due left w l =
-    let sum : due - left + left ≡ due = omega arith in
-    sym (replicate-append-replicate (due - left) left w ∙ ap (λ (k : ℕ). replicate k w) sum)
+use Rattle.x7_engine.proofs.FrameLemmas.{frames_at, frames_of, goes_on}
 
 -- the device gave words that were due
-pub given : (part : PartData) (kept : Kept) (wrapped : Bool) (d : DeviceState) (bytes : List ℕ) (left : ℕ) → left ≤ d.registers.due → DeviceStandsFor part kept wrapped d bytes
-    → DeviceStandsFor part kept wrapped (with_due d left) bytes × (told_of part kept (with_due d left) bytes ≡ told_of part kept d bytes ++ replicate (d.registers.due - left) d.registers.due_word)
-given part kept wrapped d bytes left l s =
+pub given : (part : PartData) (kept : Kept) (wrapped : Bool) (d : DeviceState) (r : RegistersState) (bytes : List ℕ) (old new : ReadBufState) → d.registers.stop ≡ None → r.stop ≡ None → DeviceStandsFor part kept wrapped d bytes
+    → Gave part kept d.registers r (history_taken part kept bytes) (length bytes) old new → Gives part kept wrapped d (record d { registers = r }) bytes old new
+given part kept wrapped d r bytes old new going on s g =
     let told : List ℕ = s.due_are.told in
-    let r : RegistersState = d.registers in
-    let all : reads_of part kept bytes ≡ (told ++ replicate (r.due - left) r.due_word) ++ replicate left r.due_word =
-    s.due_are.all ∙ ap (λ t. told ++ t) (due_parts r.due left r.due_word l) ∙ sym (append_assoc told (replicate (r.due - left) r.due_word) (replicate left r.due_word)) in (
-      record {
+    let h : History = history_taken part kept bytes in
+    let e : DeviceState = record d { registers = r } in
+    let all : reads_of part kept bytes ≡ (told ++ g.more) ++ words_left part h r.due = s.due_are.all ∙ ap (λ t. told ++ t) g.words_are ∙ sym (append_assoc told g.more (words_left part h r.due)) in
+    record {
+      more = g.more;
+      read_is = g.read_is;
+      told_are = told_by part kept e bytes (told ++ g.more) h all ∙ ap (λ t. t ++ g.more) (sym (told_by part kept d bytes told h s.due_are.all));
+      stands = record {
         fits = s.fits;
         part_is = s.part_is;
         wrapped_is = s.wrapped_is;
         taken_is = s.taken_is;
-        stop_is = s.stop_is;
-        registers_are = record { places = s.registers_are.places; clock = s.registers_are.clock; words = s.registers_are.words; controls = s.registers_are.controls; progress = s.registers_are.progress; kind = s.registers_are.kind; before = s.registers_are.before; stop = s.registers_are.stop };
-        cutter_is = s.cutter_is;
-        due_are = record { told = told ++ replicate (r.due - left) r.due_word; all = all };
-        at_rest = λ line q. omega (arith, l, s.at_rest line q);
-      },
-      told_by part kept (with_due d left) bytes (told ++ replicate (r.due - left) r.due_word) all
-          ∙ ap (λ t. t ++ replicate (r.due - left) r.due_word) (sym (told_by part kept d bytes told s.due_are.all)),
-    )
+        stop_is = s.stop_is ∙ ap (stopped_at (length bytes)) (going ∙ sym on);
+        registers_are = g.stands;
+        cutter_is = λ o. s.cutter_is going;
+        due_are = record { told = told ++ g.more; all = all };
+        at_rest = λ line q. absurd (none-some _ (sym on ∙ q));
+      };
+    }
 
 -- words more behind words more
 pub words_append : (b : ReadBufState) (first more : List ℕ) → with_words (with_words b first) more ≡ with_words b (first ++ more)
@@ -101,4 +104,88 @@ told_all part kept d bytes e = ap (λ (n : ℕ). take (length (reads_of part kep
 
 -- no more was told than was read out
 pub told_within : (part : PartData) (kept : Kept) (d : DeviceState) (bytes : List ℕ) → length (told_of part kept d bytes) ≤ length (reads_of part kept bytes)
-told_within part kept d bytes = omega (arith, length-take (length (reads_of part kept bytes) - d.registers.due) (reads_of part kept bytes))
+told_within part kept d bytes = omega (arith, length-take (length (reads_of part kept bytes) - due_count d.registers.due) (reads_of part kept bytes))
+
+-- ---- words of frame data given to a buffer
+
+-- no word yet
+pub gave_none : (part : PartData) (f : FramesState) (h : History) (count i : ℕ) (read : ReadBufState) → i ≡ 0 → FramesStandFor part f h count → GaveFrames part f h count (count - i) read read
+gave_none part f h count i read z s =
+    let all : count - i ≡ count = omega (arith, z) in
+    record {
+      more = [];
+      read_is = words_none read;
+      words_are = ap (words_due part h) (sym all);
+      stands = subst (FramesStandFor part f h) (sym all) s;
+    }
+
+-- a word more
+pub gave_more : (part : PartData) (f g : FramesState) (h : History) (count i w : ℕ) (first read new : ReadBufState) → i < count → GaveFrames part f h count (count - i) first read
+    → ((due : ℕ) → FramesStandFor part f h (due + 1) → FramesStandFor part g h due) → ((due : ℕ) → FramesStandFor part f h (due + 1) → words_due part h (suc due) ≡ w ∷ words_due part h due)
+    → new ≡ with_words read (w ∷ []) → GaveFrames part g h count (count - (i + 1)) first new
+gave_more part f g h count i w first read new l s stands word e =
+    let due : ℕ = count - (i + 1) in
+    let next : count - i ≡ due + 1 = omega (arith, l) in
+    let later : count - i ≡ suc due = omega (arith, l) in
+    let now : FramesStandFor part f h (due + 1) = subst (FramesStandFor part f h) next s.stands in
+    record {
+      more = s.more ++ w ∷ [];
+      read_is = e ∙ ap (λ (b : ReadBufState). with_words b (w ∷ [])) s.read_is ∙ words_append first s.more (w ∷ []);
+      words_are = s.words_are ∙ ap (λ (k : ℕ). s.more ++ words_due part h k) later ∙ ap (λ t. s.more ++ t) (word due now) ∙ sym (append_assoc s.more (w ∷ []) (words_due part h due));
+      stands = stands due now;
+    }
+
+-- all words
+pub gave_all : (part : PartData) (f : FramesState) (h : History) (count i : ℕ) (first read : ReadBufState) → count ≤ i → GaveFrames part f h count (count - i) first read → GaveFrames part f h count 0 first read
+gave_all part f h count i first read l s =
+    let none : count - i ≡ 0 = omega (arith, l) in
+    subst (λ (k : ℕ). GaveFrames part f h count k first read) none s
+
+-- a dropping buffer takes them all
+pub gave_dropped : (part : PartData) (f g : FramesState) (h : History) (count : ℕ) (read : ReadBufState) → read.most ≡ None → FramesStandFor part f h count → ((due : ℕ) → FramesStandFor part f h (due + count) → FramesStandFor part g h due)
+    → GaveFrames part g h count 0 read read
+gave_dropped part f g h count read e s stands =
+    let all : 0 + count ≡ count = omega arith in
+    record {
+      more = words_due part h count;
+      read_is = ap (λ ws. record { most = read.most; words = ws }) (sym (ap (λ (most : Option ℕ). gathered most read.words (words_due part h count)) e));
+      words_are = sym (append-nil (words_due part h count));
+      stands = stands 0 (subst (FramesStandFor part f h) (sym all) s);
+    }
+
+-- ---- and words that are all the same
+
+due_parts : (due left w : ℕ) → left ≤ due → replicate due w ≡ replicate (due - left) w ++ replicate left w
+due_parts due left w l =
+    let sum : due - left + left ≡ due = omega arith in
+    sym (replicate-append-replicate (due - left) left w ∙ ap (λ (k : ℕ). replicate k w) sum)
+
+-- with other words due and other frames
+redue : (part : PartData) (kept : Kept) (d : RegistersState) (h : History) (n : ℕ) (f : FramesState) (now : Due) → RegistersStandFor part kept d h n → FramesAre part f d.stop h (frames_due now)
+    → RegistersStandFor part kept (record d { due = now; frames = f }) h n
+redue part kept d h n f now s are = record { places = s.places; words = s.words; controls = s.controls; progress = s.progress; kind = s.kind; before = s.before; clock = s.clock; stop = s.stop; frames = are }
+
+pub gave_nothing : (part : PartData) (kept : Kept) (d : RegistersState) (h : History) (n : ℕ) (read : ReadBufState) → RegistersStandFor part kept d h n → Gave part kept d d h n read read
+gave_nothing part kept d h n read s = record { more = []; read_is = words_none read; words_are = refl; stands = s }
+
+pub gave_same : (part : PartData) (kept : Kept) (d : RegistersState) (h : History) (n word count left : ℕ) (read new : ReadBufState) → d.due ≡ due.Same word count → left ≤ count → new ≡ with_words read (replicate (count - left) word) → RegistersStandFor part kept d h n
+    → Gave part kept d (record d { due = due.Same word left }) h n read new
+gave_same part kept d h n word count left read new e l w s = record {
+  more = replicate (count - left) word;
+  read_is = w;
+  words_are = ap (words_left part h) e ∙ due_parts count left word l;
+  stands = redue part kept d h n d.frames (due.Same word left) s (subst (λ (k : ℕ). FramesAre part d.frames d.stop h k) (ap frames_due e) s.frames);
+}
+
+pub gave_frames : (part : PartData) (kept : Kept) (d : RegistersState) (f : FramesState) (h : History) (n count left : ℕ) (read new : ReadBufState) → d.stop ≡ None → d.due ≡ due.Frames count
+    → (FramesStandFor part d.frames h count → GaveFrames part f h count left read new) → RegistersStandFor part kept d h n
+    → Gave part kept d (record d { due = due.Frames left; frames = f }) h n read new
+gave_frames part kept d f h n count left read new going e gave s =
+    let before : FramesStandFor part d.frames h count = frames_of part d.frames d.stop h count (goes_on d.stop going) (subst (λ (k : ℕ). FramesAre part d.frames d.stop h k) (ap frames_due e) s.frames) in
+    let g = gave before in
+    record {
+      more = g.more;
+      read_is = g.read_is;
+      words_are = ap (words_left part h) e ∙ g.words_are;
+      stands = redue part kept d h n f (due.Frames left) s (frames_at part f d.stop h left (goes_on d.stop going) g.stands);
+    }

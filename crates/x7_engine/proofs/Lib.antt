@@ -6,6 +6,7 @@ pub mod ClockLemmas
 pub mod DeviceLemmas
 pub mod FeedLemmas
 pub mod FirstStopLemmas
+pub mod FrameLemmas
 pub mod MaskLemmas
 pub mod PassLemmas
 pub mod PlainLemmas

@@ -6,7 +6,8 @@ use Rattle.std.proofs.lemmas.Nat.{or_lt}
 use Rattle.std.specs.Int.Bits.{and_lt}
 use Rattle.std.specs.Int.{bit_at}
 use Rattle.x7_packets.specs.History.{Access, AllFit, Bad, FitsAccess, History, Read, Write, last_word, written}
-use Rattle.x7_engine.specs.Registers.{HasMaskedBits, bit_written, mask_held, masked, masked_word}
+use Rattle.x7_flow.specs.Controls.{mask_held, masked, masked_word}
+use Rattle.x7_engine.specs.Registers.{HasMaskedBits, bit_written}
 
 true_or_false : (b : Bool) → (b ≡ true) ⊎ (b ≡ false)
 true_or_false true = inl refl

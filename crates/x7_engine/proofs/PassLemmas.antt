@@ -1,5 +1,5 @@
 -- Lemmas on specs/Standing: a device takes no-ops in a row.
-use Rattle.std.proofs.Common.{◌≡◌, ◌+◌, ◌-◌, ◌<◌, ◌≤◌, ℕ, Bool, None, Some, List, ◌++◌, length, take, drop, ap, sym, subst, ◌∙◌, append_assoc, arith, length-append}
+use Rattle.std.proofs.Common.{◌≡◌, ◌+◌, ◌-◌, ◌<◌, ◌≤◌, ℕ, Bool, None, Some, List, [], ◌++◌, length, take, drop, ap, sym, subst, ◌∙◌, append_assoc, arith, length-append}
 use Rattle.std.proofs.Math.Seq.{take-add}
 use Rattle.std.proofs.lemmas.List.{drop-drop}
 use Rattle.x7_words.specs.Word.{AreBytes}
@@ -15,12 +15,13 @@ use Rattle.x7_engine.specs.declared.fault.Fault.TheVariants as fault
 use Rattle.x7_engine.specs.declared.kept.Kept.{Kept}
 use Rattle.x7_engine.specs.declared.stop.Stop.{Stop}
 use Rattle.x7_engine.specs.declared.stop.Stop.TheVariants as stop
-use Rattle.x7_engine.specs.Standing.{DeviceStandsFor, DeviceState, IsCutterOf, RegistersStandFor, counted_in, told_of}
+use Rattle.x7_engine.specs.Standing.{DeviceStandsFor, DeviceState, IsCutterOf, RegistersStandFor, counted_in, due_count, told_of}
 use Rattle.x7_engine.specs.State.{history_by, history_taken, reads_of, stop_in}
 use Rattle.x7_engine.specs.Stops.{stop_of, stopped_at}
 use Rattle.x7_engine.specs.Values.{read_out}
 use Rattle.x7_engine.proofs.DeviceLemmas.{going_taken, told_by}
-use Rattle.x7_engine.proofs.TurnLemmas.{history_until, no_rest, none_due, quiet_until}
+use Rattle.x7_engine.proofs.FrameLemmas.{none_due}
+use Rattle.x7_engine.proofs.TurnLemmas.{history_until, no_rest, quiet_until}
 
 -- one stretch of a piece and the next
 pub between_join : (piece : List ℕ) (from at to : ℕ) → from ≤ at → at ≤ to → between piece from at ++ between piece at to ≡ between piece from to
@@ -32,12 +33,12 @@ between_join piece from at to l m =
     ∙ sym (take-add (at - from) (to - at) (drop from piece))
     ∙ ap (λ (k : ℕ). take k (drop from piece)) sum
 
-pub passed : (part : PartData) (kept : Kept) (wrapped : Bool) (d e : DeviceState) (bytes cut more rest : List ℕ) (count left : ℕ) → DeviceStandsFor part kept wrapped d bytes → d.registers.stop ≡ None → d.registers.due ≡ 0
+pub passed : (part : PartData) (kept : Kept) (wrapped : Bool) (d e : DeviceState) (bytes cut more rest : List ℕ) (count left : ℕ) → DeviceStandsFor part kept wrapped d bytes → d.registers.stop ≡ None → due_count d.registers.due ≡ 0
     → ((sessions : List Session) (place : Place) → CutterStandsFor d.cutter bytes sessions place → Idles d.cutter (bytes ++ cut) sessions place)
     → ((h : History) (n : ℕ) → RegistersStandFor part kept d.registers h n → RegistersStandFor part kept e.registers h (n + (count - left)))
     → count ≡ length cut → cut ≡ more ++ rest → length rest ≡ left → (e.registers.stop ≡ None → left ≡ 0)
     → ((line : Stop) → e.registers.stop ≡ Some line → (line ≡ stop.Fault fault.Watchdog) × (left < count))
-    → e.cutter ≡ d.cutter → e.part ≡ d.part → e.wrapped ≡ d.wrapped → e.taken ≡ d.taken + length more → e.registers.due ≡ 0
+    → e.cutter ≡ d.cutter → e.part ≡ d.part → e.wrapped ≡ d.wrapped → e.taken ≡ d.taken + length more → due_count e.registers.due ≡ 0
     → DeviceStandsFor part kept wrapped e (bytes ++ more) × (reads_of part kept (bytes ++ more) ≡ reads_of part kept bytes)
 passed part kept wrapped d e bytes cut more rest count left s going quiet idles stands k j l g f c p y t due =
     let none : stop_in part kept bytes ≡ None = s.stop_is ∙ ap (stopped_at (length bytes)) going in
@@ -78,14 +79,14 @@ passed part kept wrapped d e bytes cut more rest count left s going quiet idles 
           stands = subst (λ (x : CutterState). CutterStandsFor x (bytes ++ more) cutter.sessions i.new_place) (sym c)
               (subst (λ (x : List ℕ). CutterStandsFor d.cutter (bytes ++ x) cutter.sessions i.new_place) (sym (no_rest cut more rest j (l ∙ g o))) i.stands);
         };
-        due_are = record { told = reads_of part kept bytes; all = told ∙ none_due (reads_of part kept bytes) e.registers.due e.registers.due_word due };
+        due_are = record { told = reads_of part kept bytes; all = told ∙ none_due (reads_of part kept bytes) part (history_taken part kept (bytes ++ more)) e.registers.due due };
         at_rest = λ line o. due;
       },
       told,
     )
 
 -- the words told stay where none is due before or after
-pub told_same : (part : PartData) (kept : Kept) (d e : DeviceState) (bytes more : List ℕ) → d.registers.due ≡ 0 → e.registers.due ≡ 0 → reads_of part kept more ≡ reads_of part kept bytes → told_of part kept e more ≡ told_of part kept d bytes
+pub told_same : (part : PartData) (kept : Kept) (d e : DeviceState) (bytes more : List ℕ) → due_count d.registers.due ≡ 0 → due_count e.registers.due ≡ 0 → reads_of part kept more ≡ reads_of part kept bytes → told_of part kept e more ≡ told_of part kept d bytes
 told_same part kept d e bytes more i j r =
-    told_by part kept e more (reads_of part kept bytes) (r ∙ none_due (reads_of part kept bytes) e.registers.due e.registers.due_word j)
-    ∙ sym (told_by part kept d bytes (reads_of part kept bytes) (none_due (reads_of part kept bytes) d.registers.due d.registers.due_word i))
+    told_by part kept e more (reads_of part kept bytes) [] (r ∙ none_due (reads_of part kept bytes) part [] e.registers.due j)
+    ∙ sym (told_by part kept d bytes (reads_of part kept bytes) [] (none_due (reads_of part kept bytes) part [] d.registers.due i))

@@ -14,17 +14,21 @@ use Rattle.x7_part.specs.Part.{PartData}
 use Rattle.x7_startup.specs.Calls.{StandsFor, progress_of}
 use Rattle.x7_startup.specs.Calls as call
 use Rattle.x7_startup.specs.Count.{Watched, WatchesFor, count_of, is_on, timer_value_of}
+use Rattle.x7_flow.specs.declared.asked.Asked.{Asked}
+use Rattle.x7_flow.specs.declared.asked.Asked.TheVariants.{Other}
+use Rattle.x7_flow.specs.Flow.{asks, fault_by, flow_of, frame_fault}
 use Rattle.x7_engine.specs.declared.fault.Fault.TheVariants as fault
 use Rattle.x7_engine.specs.declared.kept.Kept.{Kept}
 use Rattle.x7_engine.specs.declared.stop.Stop.{Stop}
 use Rattle.x7_engine.specs.declared.stop.Stop.TheVariants as stop
 use Rattle.x7_engine.specs.Clock.{ClockState, IsClock, newest_place}
 use Rattle.x7_engine.specs.Kept.{is_fallback}
-use Rattle.x7_engine.specs.Registers.{ghigh_after, has_effect, has_ghigh, is_clearance, is_matched, is_pending, pending_after, same_idcode, takes_shutdown, word_held, wrote_iprog}
+use Rattle.x7_flow.specs.Controls.{is_matched, same_idcode}
+use Rattle.x7_engine.specs.Registers.{ghigh_after, has_effect, has_ghigh, is_clearance, is_pending, pending_after, takes_shutdown, word_held, wrote_iprog}
 use Rattle.x7_engine.specs.Standing.{AreControls, ControlsState, counted_in}
 use Rattle.x7_engine.specs.Startup.{has_ended, phase_by, startup_call, startup_calls}
 use Rattle.x7_engine.specs.State.{last_counted}
-use Rattle.x7_engine.specs.Stops.{line_at, or_else, stop_of, stopped_at, stopped_by_watchdog}
+use Rattle.x7_engine.specs.Stops.{access_line, frame_line, line_at, or_else, stop_of, stopped_at, stopped_by_watchdog}
 use Rattle.x7_engine.specs.Watching.{fired_or, fires, first_firing, timer_held, watch_call, watch_calls, watched_bytes}
 use Rattle.x7_engine.proofs.ClockLemmas.{startup_entered, startup_more, stop_more_bytes, watch_entered, watch_more}
 use Rattle.x7_engine.proofs.TurnLemmas.{front_until, newest_within}
@@ -74,8 +78,17 @@ executes_none held register w p = rw (p.cmd, p.far) refl
 pub clears_none : (h : History) (register w : ℕ) → IsPlain register → clears h (Write register w) ≡ false
 clears_none h register w p = rw (executes_none (command_held h) register w p, p.crc) refl
 
+-- they ask nothing of the frames
+pub plain_asks : (idcode : ℕ) (h : History) (register w : ℕ) → IsPlain register → asks idcode h (Write register w) ≡ Other
+plain_asks idcode h register w p = rw (p.far, p.cmd, p.fdri, p.mfwr) refl
+
+own_none : (part : PartData) (kept : Kept) (h : History) (register w : ℕ) → IsPlain register → access_line part kept h (Write register w) ≡ None
+own_none part kept h register w p = rw (executes_none (command_held h) register w p, p.crc, p.fdri, p.cmd, p.ctl0, p.mfwr, p.cbc, p.idcode) refl
+
 pub line_none : (part : PartData) (kept : Kept) (h : History) (register w : ℕ) → IsPlain register → None ≡ line_at part kept h (Write register w)
-line_none part kept h register w p = rw (executes_none (command_held h) register w p, p.crc, p.fdri, p.cmd, p.ctl0, p.mfwr, p.cbc, p.idcode) refl
+line_none part kept h register w p =
+    sym (ap (λ (o : Option Stop). or_else o (frame_line (frame_fault part h (Write register w)))) (own_none part kept h register w p)
+    ∙ ap (λ (a : Asked). frame_line (fault_by part a (flow_of part h))) (plain_asks part.idcode h register w p))
 
 -- the flags stay
 pub record AreFlags (idcode : ℕ) (matched pending ghigh iprog : Bool) (h : History) : Type 0 where

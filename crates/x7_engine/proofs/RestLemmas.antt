@@ -16,10 +16,12 @@ use Rattle.x7_startup.proofs.CallLemmas.{further, progress_bytes}
 use Rattle.x7_engine.specs.declared.kept.Kept.{Kept}
 use Rattle.x7_engine.specs.Clock.{newest_place}
 use Rattle.x7_engine.specs.Kept.{is_fallback, on_the_bench}
-use Rattle.x7_engine.specs.Registers.{ctl0_held, is_pending}
+use Rattle.x7_flow.specs.Controls.{ctl0_held}
+use Rattle.x7_engine.specs.Registers.{is_pending}
 use Rattle.x7_engine.specs.Rest.{AtRest, GoesOn}
 use Rattle.x7_engine.specs.Startup.{has_ended, phase_of, startup_calls, startup_progress}
-use Rattle.x7_engine.specs.Stops.{Stopped, forbids_reading, or_else, stop_of, stopped_by_watchdog}
+use Rattle.x7_flow.specs.Controls.{forbids_reading}
+use Rattle.x7_engine.specs.Stops.{Stopped, or_else, stop_of, stopped_by_watchdog}
 use Rattle.x7_engine.specs.Watching.{first_firing, timer_held, turns_on}
 use Rattle.x7_engine.proofs.ClockLemmas.{last_of, none_fires, phase_rises, startup_more, stop_more_bytes}
 use Rattle.x7_engine.proofs.FirstStopLemmas.{newest_within}
@@ -59,7 +61,7 @@ never_fires : (on full : Bool) → on ≡ false → (on && full) ≡ false
 never_fires true full e = absurd (cc)
 never_fires false full e = refl
 
-stop_on : (part : PartData) (kept : Kept) (h : History) (n k : ℕ) → newest_place h ≤ n → (turns_on (timer_held kept h) && not (is_fallback kept.kind)) ≡ false → stop_of part kept h n ≡ None → stop_of part kept h (n + k) ≡ None
+pub stop_on : (part : PartData) (kept : Kept) (h : History) (n k : ℕ) → newest_place h ≤ n → (turns_on (timer_held kept h) && not (is_fallback kept.kind)) ≡ false → stop_of part kept h n ≡ None → stop_of part kept h (n + k) ≡ None
 stop_on part kept h n k l off none =
     stop_more_bytes part kept h n k l
     ∙ ap (λ (o : Option Stopped). or_else o (stopped_by_watchdog (first_firing part kept h n k))) none

@@ -13,7 +13,10 @@ use Rattle.x7_engine.specs.declared.fault.Fault.TheVariants as fault
 use Rattle.x7_engine.specs.declared.stop.Stop.{Stop}
 use Rattle.x7_engine.specs.declared.stop.Stop.TheVariants as stop
 use Rattle.x7_engine.specs.Standing.{DeviceStandsFor, DeviceState}
-use Rattle.x7_engine.specs.State.{history_by, history_taken, last_counted, line_by, reads_of, state_by, state_of, stop_in, taken_by, taken_of}
+use Rattle.x7_flow.specs.Flow.{Flow, far_in, flow_of}
+use Rattle.x7_flow.specs.FrameMemory.{memory_of}
+use Rattle.x7_flow.proofs.StandingLemmas.{no_less}
+use Rattle.x7_engine.specs.State.{history_by, history_taken, last_counted, line_by, reads_of, state_by, state_of, stop_in, taken_by, taken_of, memory_in, state_owing}
 use Rattle.x7_engine.specs.Stops.{Stopped, line_at, or_else, stop_of, stopped_at, stopped_by_watchdog}
 use Rattle.x7_engine.specs.Watching.{fired_or, fires, first_firing}
 use Rattle.x7_engine.specs.Values.{read_out}
@@ -37,6 +40,11 @@ taken_is part kept wrapped d bytes s = ap (λ (o : Option Stopped). taken_by o (
 -- a device that goes on is in a session where its bytes end in one
 pub synced_is : (c : Bool) (place : Place) (bytes : List ℕ) → c ≡ is_synced place → place ≡ (reading_of bytes).place → c ≡ is_synced (reading_of bytes).place
 synced_is c place bytes e f = e ∙ ap is_synced f
+
+-- where no word of frame data is due, FAR is that of all words
+pub state_now : (part : PartData) (kept : Kept) (wrapped : Bool) (bytes : List ℕ) → state_owing part kept wrapped bytes 0 ≡ state_of part kept wrapped bytes
+state_now part kept wrapped bytes =
+    ap (λ (f : Flow). record (state_of part kept wrapped bytes) { far = far_in part f }) (sym (no_less (flow_of part (history_taken part kept bytes))))
 
 -- ---- a stop is final
 
@@ -137,7 +145,6 @@ counted_least (stop.Fault fault.Overrun) place = omega arith
 counted_least (stop.Fault fault.Multi) place = omega arith
 counted_least (stop.Fault fault.Encrypted) place = omega arith
 counted_least (stop.Fault fault.Watchdog) place = omega arith
-counted_least (stop.Fault fault.Unbuilt) place = omega arith
 counted_least stop.Iprog place = omega arith
 
 -- accesses past a place don't count up to it
@@ -157,6 +164,9 @@ history_final part kept bytes more s f e =
 
 pub stop_is_final-reads : (part : PartData) (kept : Kept) (bytes more : List ℕ) (s : Stopped) → AreBytes (bytes ++ more) → stop_in part kept bytes ≡ Some s → reads_of part kept (bytes ++ more) ≡ reads_of part kept bytes
 stop_is_final-reads part kept bytes more s f e = ap (read_out part kept) (history_final part kept bytes more s f e)
+
+pub stop_is_final-memory : (part : PartData) (kept : Kept) (bytes more : List ℕ) (s : Stopped) → AreBytes (bytes ++ more) → stop_in part kept bytes ≡ Some s → memory_in part kept (bytes ++ more) ≡ memory_in part kept bytes
+stop_is_final-memory part kept bytes more s f e = ap (memory_of part) (history_final part kept bytes more s f e)
 
 -- behind a stop it doesn't matter whether the bytes end in a session
 stopped_state : (part : PartData) (kept : Kept) (wrapped : Bool) (line : Stop) (h : History) (n : ℕ) (a b : Bool) → state_by part kept wrapped (Some line) h n a ≡ state_by part kept wrapped (Some line) h n b

@@ -17,7 +17,7 @@ use Rattle.x7_engine.specs.declared.kept.Kept.{Kept}
 use Rattle.x7_engine.specs.declared.stop.Stop.{Stop}
 use Rattle.x7_engine.specs.declared.stop.Stop.TheVariants as stop
 use Rattle.x7_engine.specs.Clock.{ClockState, Ticks, newest_place}
-use Rattle.x7_engine.specs.Standing.{IsNext, RegistersStandFor, RegistersState, counted_in}
+use Rattle.x7_engine.specs.Standing.{FramesAre, IsNext, RegistersStandFor, RegistersState, counted_in, frames_due}
 use Rattle.x7_engine.specs.State.{history_by, last_counted}
 use Rattle.x7_engine.specs.Stops.{Stopped, line_at, or_else, stop_of, stopped_at, stopped_by_watchdog}
 use Rattle.x7_engine.specs.Values.{read_out}
@@ -73,7 +73,6 @@ counted_least (stop.Fault fault.Overrun) place = omega arith
 counted_least (stop.Fault fault.Multi) place = omega arith
 counted_least (stop.Fault fault.Encrypted) place = omega arith
 counted_least (stop.Fault fault.Watchdog) place = omega arith
-counted_least (stop.Fault fault.Unbuilt) place = omega arith
 counted_least stop.Iprog place = omega arith
 
 pub counted_within : (d : Option Stop) (n : ℕ) → counted_in d n ≤ n
@@ -112,7 +111,6 @@ stop_until part kept (Some (stop.Fault fault.Overrun)) k m h p e = e
 stop_until part kept (Some (stop.Fault fault.Multi)) k m h p e = e
 stop_until part kept (Some (stop.Fault fault.Encrypted)) k m h p e = e
 stop_until part kept (Some (stop.Fault fault.Watchdog)) k m h p e = stop_at_last part kept k m h (record { place = m; line = stop.Fault fault.Watchdog }) p e
-stop_until part kept (Some (stop.Fault fault.Unbuilt)) k m h p e = e
 stop_until part kept (Some stop.Iprog) k m h p e = e
 
 -- ---- registers, bytes more
@@ -137,6 +135,7 @@ ticked part kept d clock h n count m i e s t = subst (λ (x : ℕ). RegistersSta
       ∙ ap (λ (o : Option Stopped). or_else o (stopped_by_watchdog (first_firing part kept h n count))) (s.stop ∙ ap (stopped_at n) e)
       ∙ ap stopped_by_watchdog t.1
       ∙ sym (ap (stopped_at (n + count)) e);
+  frames = s.frames;
 }
 
 -- the firing is that of the bytes up to it
@@ -151,6 +150,12 @@ fires_last part kept h n count k a b e =
       | inl f ↦ f
       | inr f ↦ absurd (omega (arith, (firing_within part kept h (n + k) (count - k) (n + k) f.1).0))
     ]
+
+-- the frames stay where it fires
+frames_fired : (part : PartData) (d : RegistersState) (h : History) (due : ℕ) → d.stop ≡ None → FramesAre part d.frames d.stop h due → FramesAre part d.frames (Some (stop.Fault fault.Watchdog)) h due
+frames_fired part d h due e s =
+    let now : FramesAre part d.frames None h due = subst (λ (o : Option Stop). FramesAre part d.frames o h due) e s in
+    record { stands = now.stands; memory_same = now.memory_same; far_same = now.far_same }
 
 -- bytes up to the one at which it fires
 pub fired : (part : PartData) (kept : Kept) (d : RegistersState) (clock : ClockState) (h : History) (n count k m : ℕ) → m ≡ n + k → d.stop ≡ None → RegistersStandFor part kept d h n → Ticks part kept clock h n count (Some k)
@@ -170,6 +175,7 @@ fired part kept d clock h n count k m i e s t =
           stop_more_bytes part kept h n k (newest_within n h s.places)
           ∙ ap (λ (o : Option Stopped). or_else o (stopped_by_watchdog (first_firing part kept h n k))) (s.stop ∙ ap (stopped_at n) e)
           ∙ ap stopped_by_watchdog first;
+      frames = frames_fired part d h (frames_due d.due) e s.frames;
     }
 
 -- the registers are those of all accesses up to the last byte that counts
@@ -220,10 +226,6 @@ none_there (Some x) e = absurd cc
 pub next_at : (n count : ℕ) (h : History) → 0 < count → Placed n h → IsNext (n + count) h
 next_at n count h l p = (omega (arith, l), placed_within n (n + count - 1) h (omega (arith, l)) p)
 
--- no words are due
-pub none_due : (reads : List ℕ) (due w : ℕ) → due ≡ 0 → reads ≡ reads ++ replicate due w
-none_due reads due w e = sym (ap (λ (k : ℕ). reads ++ replicate k w) e ∙ append-nil reads)
-
 pub until_all : (part : PartData) (kept : Kept) (d : RegistersState) (h : History) (m : ℕ) → counted_in d.stop m ≡ m → RegistersStandFor part kept d h m → until (counted_in d.stop m) h ≡ h
 until_all part kept d h m e s = ap (λ (k : ℕ). until k h) e ∙ until_placed m h s.places
 
@@ -238,7 +240,6 @@ counted_more (Some (stop.Fault fault.Overrun)) n k l = omega arith
 counted_more (Some (stop.Fault fault.Multi)) n k l = omega arith
 counted_more (Some (stop.Fault fault.Encrypted)) n k l = omega arith
 counted_more (Some (stop.Fault fault.Watchdog)) n k l = omega (arith, l)
-counted_more (Some (stop.Fault fault.Unbuilt)) n k l = omega arith
 counted_more (Some stop.Iprog) n k l = omega arith
 
 -- bytes without a word leave all accesses

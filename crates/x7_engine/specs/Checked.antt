@@ -3,7 +3,7 @@ use Rattle.std.specs.Prelude.{◌≡◌, ℕ, ◌<◌, ◌≤◌, ◌∷◌, ◌
 use Rattle.x7_packets.specs.History.{Access, Entry, History, entry}
 use Rattle.x7_regs.specs.declared.command.Command.TheVariants.{Desync, Start}
 use Rattle.x7_regs.specs.Command.{code_of}
-use Rattle.x7_engine.specs.Registers.{is_matched}
+use Rattle.x7_flow.specs.Controls.{is_matched}
 use Rattle.x7_engine.specs.Sequence.{Executes}
 
 -- the access stands in the history at this place, after these older ones

@@ -3,6 +3,7 @@ pub mod Clock
 pub mod FirstStop
 pub mod Kept
 pub mod ReadBuffer
+pub mod Readout
 pub mod Registers
 pub mod Rest
 pub mod Sequence

@@ -1,17 +1,16 @@
 -- What a history leaves in the registers and flags of a device (UG470, configuration registers and command register).
 -- A history stands with its newest access first.
-use Rattle.std.specs.Prelude.{◌≡◌, ◌<◌, ℕ, ◌-◌, ◌%◌, ◌^◌, ◌==◌, ◌&&◌, ◌||◌, Bool, true, false, if◌then◌else◌, List, [], ◌∷◌, Option, bit_and, bit_or}
+use Rattle.std.specs.Prelude.{◌≡◌, ◌<◌, ℕ, ◌%◌, ◌^◌, ◌==◌, ◌&&◌, ◌||◌, Bool, true, false, if◌then◌else◌, List, [], ◌∷◌, Option}
 use Rattle.std.specs.Int.{bit_at}
 use Rattle.std.specs.List.{list_any}
 use Rattle.x7_packets.specs.History.{Access, Write, History, last_word, command_held, executed_by, is_command}
 use Rattle.x7_crc.specs.OpenWrites.{running_check}
-use Rattle.x7_part.specs.Part.{PartData}
-use Rattle.x7_part.specs.FrameAddress.{far_width}
 use Rattle.x7_regs.specs.declared.command.Command.TheVariants.{Aghigh, Iprog, Lfrm, Rcrc, Shutdown}
 use Rattle.x7_regs.specs.declared.register.Reg.{Reg}
 use Rattle.x7_regs.specs.declared.register.Reg.TheVariants.{Cbc, Cmd, Crc, Ctl0, Ctl1, Far, Fdri, Idcode, Lout, Mask, Mfwr, Timer}
 use Rattle.x7_regs.specs.Command.{code_of}
 use Rattle.x7_regs.specs.Register.{number_of}
+use Rattle.x7_flow.specs.Controls.{mask_held}
 use Rattle.x7_engine.specs.declared.kept.Kept.{Kept}
 use Rattle.x7_engine.specs.Kept.{kept_word}
 
@@ -19,21 +18,7 @@ use Rattle.x7_engine.specs.Kept.{kept_word}
 abbrev pub word_held : Kept → ℕ → History → ℕ
 word_held kept register h = last_word register (kept_word kept register) h
 
--- the word of MASK, which stays until it is written again (this project's choice)
-abbrev pub mask_held : History → ℕ
-mask_held h = last_word (number_of Mask) 0 h
-
--- a register under MASK after an access: the written bits where MASK has them, and the old ones elsewhere
-abbrev pub masked_word : ℕ → ℕ → Access → ℕ → ℕ
-masked_word register mask (Write r w) old = if r == register then bit_or (bit_and old (2 ^ 32 - 1 - mask)) (bit_and w mask) else old
-masked_word register mask _ old = old
-
--- CTL0 or CTL1 by its number
-abbrev pub masked : ℕ → History → ℕ
-masked register [] = 0
-masked register (e ∷ h) = masked_word register (mask_held h) e.access (masked register h)
-
--- the same bit by bit: each is that of the last word written there while MASK had it, and 0 where none was
+-- CTL0 or CTL1 bit by bit: each is that of the last word written there while MASK had it, and 0 where none was
 abbrev pub bit_written : ℕ → ℕ → ℕ → Access → ℕ → ℕ
 bit_written register i mask (Write r w) old = if r == register && bit_at mask i == 1 then bit_at w i else old
 bit_written register i mask _ old = old
@@ -46,26 +31,6 @@ masked_bit register i (e ∷ h) = bit_written register i (mask_held h) e.access 
 pub record HasMaskedBits (register n : ℕ) (h : History) : Type 0 where
   pub fits : n < 2 ^ 32
   pub bits : (i : ℕ) → i < 32 → bit_at n i ≡ masked_bit register i h
-
-abbrev pub ctl0_held : History → ℕ
-ctl0_held h = masked (number_of Ctl0) h
-
--- the frame address that FAR was last loaded with: its word's bits within the part's width of an address
-abbrev pub far_loaded : PartData → History → ℕ
-far_loaded part h = last_word (number_of Far) 0 h % 2 ^ far_width part
-
--- a written IDCODE is the part's where the low 28 bits agree (that bits 31:28 aren't compared is this project's choice)
-abbrev pub same_idcode : ℕ → ℕ → Bool
-same_idcode idcode w = w % 2 ^ 28 == idcode % 2 ^ 28
-
-abbrev pub names_part : ℕ → Access → Bool
-names_part idcode (Write register w) = register == number_of Idcode && same_idcode idcode w
-names_part idcode _ = false
-
--- the device is matched: a written IDCODE was the part's
-abbrev pub is_matched : ℕ → History → Bool
-is_matched idcode [] = false
-is_matched idcode (e ∷ h) = names_part idcode e.access || is_matched idcode h
 
 -- the access writes this word to CRC
 abbrev pub writes_check : ℕ → Access → Bool

@@ -8,10 +8,11 @@ use Rattle.x7_part.specs.Part.{PartData}
 use Rattle.x7_startup.specs.Calls.{NotBegun}
 use Rattle.x7_engine.specs.declared.kept.Kept.{Kept}
 use Rattle.x7_engine.specs.Kept.{is_fallback}
-use Rattle.x7_engine.specs.Registers.{ctl0_held, is_pending}
+use Rattle.x7_flow.specs.Controls.{ctl0_held}
+use Rattle.x7_engine.specs.Registers.{is_pending}
 use Rattle.x7_engine.specs.Startup.{phase_of, startup_progress}
 use Rattle.x7_engine.specs.State.{stop_in}
-use Rattle.x7_engine.specs.Stops.{forbids_reading}
+use Rattle.x7_flow.specs.Controls.{forbids_reading}
 use Rattle.x7_engine.specs.Watching.{timer_held, turns_on}
 
 -- After these bytes there is no stop, and the sync word is searched. Startup hasn't begun or has ended, SBITS are 00, no shutdown is pending and no watchdog runs.

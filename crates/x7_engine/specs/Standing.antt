@@ -1,5 +1,5 @@
 -- What a device stands for: all bytes that it took since its reset. Each stored value is that of the bytes.
-use Rattle.std.specs.Prelude.{◌≡◌, ℕ, ◌<◌, ◌≤◌, ◌==◌, ◌+◌, ◌++◌, ◌-◌, Bool, true, false, take, List, length, slice_index, Option, None, Some, replicate}
+use Rattle.std.specs.Prelude.{◌≡◌, ℕ, ◌<◌, ◌≤◌, ◌==◌, ◌+◌, ◌++◌, ◌-◌, Bool, true, false, if◌then◌else◌, take, List, [], ◌∷◌, length, slice_index, Option, None, Some, replicate}
 use Rattle.x7_words.specs.Word.{AreBytes}
 use Rattle.x7_packets.specs.Cutting.{CutterState, CutterStandsFor}
 use Rattle.x7_packets.specs.declared.cutter.Cut.{Cut}
@@ -16,7 +16,14 @@ use Rattle.x7_regs.specs.declared.boot_status.Kind.TheVariants.{Bench}
 use Rattle.x7_regs.specs.declared.register.Reg.TheVariants.{Ctl0, Ctl1}
 use Rattle.x7_regs.specs.Register.{number_of}
 use Rattle.x7_engine.specs.declared.controls.Controls.{Controls}
+use Rattle.x7_memory.specs.FrameMap.{AreSame}
+use Rattle.x7_flow.specs.Flow.{far_in, flow_of}
+use Rattle.x7_flow.specs.FrameMemory.{memory_of}
+use Rattle.x7_flow.specs.Standing.{FramesStandFor, FramesState, less, words_due}
+use Rattle.x7_engine.specs.declared.due.Due.{Due}
+use Rattle.x7_engine.specs.declared.due.Due.TheVariants as due
 use Rattle.x7_engine.specs.declared.fault.Fault.{Fault}
+use Rattle.x7_engine.specs.declared.fault.Fault.TheVariants as fault
 use Rattle.x7_engine.specs.declared.fed.Fed.{Fed}
 use Rattle.x7_engine.specs.declared.fed.Fed.TheVariants as fed
 use Rattle.x7_engine.specs.declared.kept.Kept.{Kept}
@@ -26,7 +33,8 @@ use Rattle.x7_engine.specs.declared.stop.Stop.{Stop}
 use Rattle.x7_engine.specs.declared.stop.Stop.TheVariants as stop
 use Rattle.x7_engine.specs.Clock.{ClockState, IsClock, clock_in}
 use Rattle.x7_engine.specs.ReadBuffer.{IsFull, ReadBufState}
-use Rattle.x7_engine.specs.Registers.{has_ghigh, is_matched, is_pending, masked, word_held, wrote_iprog}
+use Rattle.x7_flow.specs.Controls.{is_matched, masked}
+use Rattle.x7_engine.specs.Registers.{has_ghigh, is_pending, word_held, wrote_iprog}
 use Rattle.x7_engine.specs.State.{reads_of, history_taken, last_counted, stop_in}
 use Rattle.x7_engine.specs.Stops.{fault_of, stop_of, stopped_at}
 use Rattle.x7_engine.specs.Values.{cause_of}
@@ -44,7 +52,7 @@ pub record ProgressState : Type 0 where
   pub ghigh : Bool
   pub iprog : Bool
 
--- the stored values of a device's registers: the last words written by register number, those under MASK, the check and the flags, what the boot history says of the attempt, the stop, and how many words are due, all this one
+-- the stored values of a device's registers: the last words written by register number, those under MASK, the check and the flags, what the boot history says of the attempt, the stop, the words that are due, and the frames
 pub record RegistersState : Type 0 where
   pub words : List ℕ
   pub controls : ControlsState
@@ -53,8 +61,52 @@ pub record RegistersState : Type 0 where
   pub before : Option Attempt
   pub clock : ClockState
   pub stop : Option Stop
-  pub due : ℕ
-  pub due_word : ℕ
+  pub due : Due
+  pub frames : FramesState
+
+-- ---- words due
+
+-- how many words are due, and how many of them are frame data
+abbrev pub due_count : Due → ℕ
+due_count due.Nothing = 0
+due_count (due.Same word count) = count
+due_count (due.Frames count) = count
+
+abbrev pub frames_due : Due → ℕ
+frames_due due.Nothing = 0
+frames_due (due.Same word count) = 0
+frames_due (due.Frames count) = count
+
+-- the words that are due after this history
+abbrev pub words_left : PartData → History → Due → List ℕ
+words_left part h due.Nothing = []
+words_left part h (due.Same word count) = replicate count word
+words_left part h (due.Frames count) = words_due part h count
+
+-- ---- the frames
+
+-- the stop is that of a refused word, copy or read of frame data
+abbrev pub is_refusal : Option Stop → Bool
+is_refusal (Some (stop.Fault (fault.Address far))) = true
+is_refusal (Some (stop.Fault fault.Overrun)) = true
+is_refusal (Some (stop.Fault fault.Multi)) = true
+is_refusal _ = false
+
+abbrev pub older : History → History
+older [] = []
+older (e ∷ h) = h
+
+-- what the frames stand for: a refused access changes nothing of them
+abbrev pub frames_history : Option Stop → History → History
+frames_history line h = if is_refusal line then older h else h
+
+-- The frames are those of a history, of whose last read so many words are due. Where the last access was refused, they stand for the history before it; memory and FAR are the same with and without it.
+pub record FramesAre (part : PartData) (f : FramesState) (line : Option Stop) (h : History) (due : ℕ) : Type 0 where
+  pub stands : FramesStandFor part f (frames_history line h) due
+  pub memory_same : AreSame (memory_of part (frames_history line h)) (memory_of part h)
+  pub far_same : far_in part (less due (flow_of part (frames_history line h))) ≡ far_in part (less due (flow_of part h))
+
+-- ---- registers
 
 -- how the registers keep them
 abbrev pub controls_in : Controls → ControlsState
@@ -73,7 +125,7 @@ registers_in d = record {
   clock = clock_in d.clock;
   stop = d.stop;
   due = d.due;
-  due_word = d.due_word;
+  frames = d.frames;
 }
 
 -- the last words written
@@ -107,6 +159,7 @@ pub record RegistersStandFor (part : PartData) (kept : Kept) (d : RegistersState
   pub before : d.before ≡ kept.before
   pub clock : IsClock part kept d.clock h n
   pub stop : stop_of part kept h n ≡ stopped_at n d.stop
+  pub frames : FramesAre part d.frames d.stop h (frames_due d.due)
 
 -- the last byte whose access counts, where n bytes are taken and this is the stop
 abbrev pub counted_in : Option Stop → ℕ → ℕ
@@ -145,13 +198,9 @@ pub record DeviceState : Type 0 where
   pub wrapped : Bool
   pub taken : ℕ
 
--- a device of which this many words are still due
-abbrev pub with_due : DeviceState → ℕ → DeviceState
-with_due d due = record d { registers = record d.registers { due = due } }
-
 -- no word that was read out is still to be given
 abbrev pub NoWordDue : DeviceState → Type 0
-NoWordDue d = d.registers.due ≡ 0
+NoWordDue d = due_count d.registers.due ≡ 0
 
 -- a device in whose attempt the flash has ended
 abbrev pub with_wrap : DeviceState → DeviceState
@@ -163,7 +212,7 @@ pub record MayWrapWith (d : RegistersState) : Type 0 where
   pub not_started : (d.clock.startup.phase == 7) ≡ false
   pub not_failed : cause_of (fault_of d.stop) false ≡ None
   pub not_left : d.stop ≡ Some stop.Iprog → ⊥
-  pub none_due : d.due ≡ 0
+  pub none_due : due_count d.due ≡ 0
 
 abbrev pub MayWrap : DeviceState → Type 0
 MayWrap d = MayWrapWith d.registers
@@ -174,10 +223,10 @@ pub record IsCutterOf (c : CutterState) (bytes : List ℕ) : Type 0 where
   pub place : Place
   pub stands : CutterStandsFor c bytes sessions place
 
--- the words read out: those that were told already, and then those that are still due, all the same
-pub record AreDue (d : RegistersState) (reads : List ℕ) : Type 0 where
+-- the words read out: those that were told already, and then those that are still due
+pub record AreDue (part : PartData) (d : RegistersState) (h : History) (reads : List ℕ) : Type 0 where
   pub told : List ℕ
-  pub all : reads ≡ told ++ replicate d.due d.due_word
+  pub all : reads ≡ told ++ words_left part h d.due
 
 -- A device took these bytes since a reset that kept this, all of them: it has no stop, or its stop came at the last one. Where it stopped, its cutter may be past that byte.
 pub record DeviceStandsFor (part : PartData) (kept : Kept) (wrapped : Bool) (d : DeviceState) (bytes : List ℕ) : Type 0 where
@@ -188,12 +237,12 @@ pub record DeviceStandsFor (part : PartData) (kept : Kept) (wrapped : Bool) (d :
   pub stop_is : stop_in part kept bytes ≡ stopped_at (length bytes) d.registers.stop
   pub registers_are : RegistersStandFor part kept d.registers (history_taken part kept bytes) (length bytes)
   pub cutter_is : d.registers.stop ≡ None → IsCutterOf d.cutter bytes
-  pub due_are : AreDue d.registers (reads_of part kept bytes)
-  pub at_rest : (line : Stop) → d.registers.stop ≡ Some line → d.registers.due ≡ 0
+  pub due_are : AreDue part d.registers (history_taken part kept bytes) (reads_of part kept bytes)
+  pub at_rest : (line : Stop) → d.registers.stop ≡ Some line → due_count d.registers.due ≡ 0
 
 -- the words read out so far, without those that are still due
 abbrev pub told_of : PartData → Kept → DeviceState → List ℕ → List ℕ
-told_of part kept d bytes = take (length (reads_of part kept bytes) - d.registers.due) (reads_of part kept bytes)
+told_of part kept d bytes = take (length (reads_of part kept bytes) - due_count d.registers.due) (reads_of part kept bytes)
 
 -- what a feed answers: that all bytes were taken and no word is due, the stop, at which no word is due either, or that a word is due and the buffer full
 abbrev pub taken_in : ℕ → Fed → ℕ
@@ -211,4 +260,4 @@ abbrev pub Answers : PartData → Kept → DeviceState → List ℕ → ReadBufS
 Answers part kept d bytes read fed.All = (stop_in part kept bytes ≡ None) × NoWordDue d
 Answers part kept d bytes read (fed.Stopped n) = (f : Fault) × (stop_in part kept bytes ≡ Some (record { place = length bytes; line = stop.Fault f })) × NoWordDue d
 Answers part kept d bytes read (fed.Iprog n) = (stop_in part kept bytes ≡ Some (record { place = length bytes; line = stop.Iprog })) × NoWordDue d
-Answers part kept d bytes read (fed.ReadFull n) = (stop_in part kept bytes ≡ None) × (0 < d.registers.due) × IsFull read
+Answers part kept d bytes read (fed.ReadFull n) = (stop_in part kept bytes ≡ None) × (0 < due_count d.registers.due) × IsFull read

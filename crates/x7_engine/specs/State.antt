@@ -8,6 +8,10 @@ use Rattle.x7_regs.specs.Register.{number_of}
 use Rattle.x7_regs.specs.declared.boot_status.Attempt.{Attempt}
 use Rattle.x7_regs.specs.declared.boot_status.Kind.{Kind}
 use Rattle.x7_regs.specs.declared.register.Reg.TheVariants.{Crc, Far, Cmd, Ctl0, Mask, Stat, Cor0, Idcode, Axss, Cor1, Wbstar, Timer, Bootsts, Ctl1, Bspi}
+use Rattle.x7_memory.specs.FrameMap.{FrameMap}
+use Rattle.x7_flow.specs.Flow.{far_in, flow_of}
+use Rattle.x7_flow.specs.FrameMemory.{memory_of}
+use Rattle.x7_flow.specs.Standing.{less}
 use Rattle.x7_engine.specs.declared.fault.Fault.TheVariants as fault
 use Rattle.x7_engine.specs.declared.kept.Kept.{Kept}
 use Rattle.x7_engine.specs.declared.regs.End.{End}
@@ -102,3 +106,11 @@ kept_after part kept wrapped bytes kind = record {
 -- the words read out by then
 abbrev pub reads_of : PartData → Kept → List ℕ → List ℕ
 reads_of part kept bytes = read_out part kept (history_taken part kept bytes)
+
+-- the memory by then: zero frames, and over them all that the history put there
+abbrev pub memory_in : PartData → Kept → List ℕ → FrameMap
+memory_in part kept bytes = memory_of part (history_taken part kept bytes)
+
+-- the state while so many words of frame data of the last read are still to be given: FAR is that of the words given so far
+abbrev pub state_owing : PartData → Kept → Bool → List ℕ → ℕ → Regs
+state_owing part kept wrapped bytes due = record (state_of part kept wrapped bytes) { far = far_in part (less due (flow_of part (history_taken part kept bytes))) }

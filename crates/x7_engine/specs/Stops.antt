@@ -8,26 +8,22 @@ use Rattle.x7_regs.specs.declared.command.Command.TheVariants as command
 use Rattle.x7_regs.specs.declared.register.Reg.TheVariants as reg
 use Rattle.x7_regs.specs.Command.{code_of}
 use Rattle.x7_regs.specs.Register.{number_of}
+use Rattle.x7_pipeline.specs.declared.fault.RunFault.{RunFault}
+use Rattle.x7_pipeline.specs.declared.fault.RunFault.TheVariants as run
+use Rattle.x7_flow.specs.Flow.{frame_fault}
 use Rattle.x7_engine.specs.declared.fault.Fault.{Fault}
 use Rattle.x7_engine.specs.declared.fault.Fault.TheVariants as fault
 use Rattle.x7_engine.specs.declared.kept.Kept.{Kept}
 use Rattle.x7_engine.specs.declared.stop.Stop.{Stop}
 use Rattle.x7_engine.specs.declared.stop.Stop.TheVariants as stop
 use Rattle.x7_engine.specs.Kept.{is_fallback}
-use Rattle.x7_engine.specs.Registers.{ctl0_held, is_matched, mask_held, masked_word, same_idcode}
+use Rattle.x7_flow.specs.Controls.{ctl0_held, is_matched, mask_held, masked_word, same_idcode}
 use Rattle.x7_engine.specs.Watching.{first_firing}
 
 -- the first of two, where there is one
 abbrev pub or_else : {A : Type 0} → Option A → Option A → Option A
 or_else None second = second
 or_else (Some first) second = Some first
-
--- SBITS of CTL0, bits 5:4: 00 allows reading and writing, 01 forbids reading, 1x forbids both
-abbrev pub forbids_writing : ℕ → Bool
-forbids_writing ctl0 = field_of 5 1 ctl0 == 1
-
-abbrev pub forbids_reading : ℕ → Bool
-forbids_reading ctl0 = not (field_of 4 2 ctl0 == 0)
 
 -- DEC of CTL0, bit 6: a stream would be encrypted
 abbrev pub has_dec : ℕ → Bool
@@ -57,30 +53,19 @@ access_line part kept h (Write register w) = write_line part kept h register w
 access_line part kept h (Read register count) = None
 access_line part kept h (Bad w) = Some (stop.Fault (fault.Packet w))
 
--- What isn't built yet: one definition a line, each to go with its own step.
+-- the line of a refused word, copy or read of frame data
+abbrev pub stop_by : RunFault → Stop
+stop_by (run.Address far) = stop.Fault (fault.Address far)
+stop_by run.Overrun = stop.Fault fault.Overrun
+stop_by run.Multi = stop.Fault fault.Multi
 
--- a word of frame data for the memory
-abbrev pub writes_frame_data : ℕ → History → Access → Bool
-writes_frame_data idcode h access = writes (number_of reg.Fdri) access && (is_matched idcode h && (command_held h == code_of command.Wcfg && not (forbids_writing (ctl0_held h))))
-
--- a read of frame data from the memory
-abbrev pub reads_frame_data : History → Access → Bool
-reads_frame_data h (Read register count) = register == number_of reg.Fdro && (not (count == 0) && (command_held h == code_of command.Rcfg && not (forbids_reading (ctl0_held h))))
-reads_frame_data h _ = false
-
--- a copy of a frame
-abbrev pub copies_frame : ℕ → History → Access → Bool
-copies_frame idcode h access = writes (number_of reg.Mfwr) access && (is_matched idcode h && not (forbids_writing (ctl0_held h)))
-
-abbrev pub is_unbuilt : ℕ → History → Access → Bool
-is_unbuilt idcode h access = writes_frame_data idcode h access || (reads_frame_data h access || copies_frame idcode h access)
-
-abbrev pub unbuilt_line : ℕ → History → Access → Option Stop
-unbuilt_line idcode h access = if is_unbuilt idcode h access then Some (stop.Fault fault.Unbuilt) else None
+abbrev pub frame_line : Option RunFault → Option Stop
+frame_line None = None
+frame_line (Some fault) = Some (stop_by fault)
 
 -- the line that holds at an access after this history
 abbrev pub line_at : PartData → Kept → History → Access → Option Stop
-line_at part kept h access = or_else (access_line part kept h access) (unbuilt_line part.idcode h access)
+line_at part kept h access = or_else (access_line part kept h access) (frame_line (frame_fault part h access))
 
 -- the fault of a stop
 abbrev pub fault_in : Stop → Option Fault

@@ -21,7 +21,6 @@ fault_text fault.Overrun = codes "Overrun"
 fault_text fault.Multi = codes "Multi"
 fault_text fault.Encrypted = codes "Encrypted"
 fault_text fault.Watchdog = codes "Watchdog"
-fault_text fault.Unbuilt = codes "Unbuilt"
 
 -- where the bytes taken end
 unfoldable pub end_text : End → List ℕ
@@ -70,3 +69,7 @@ reg_line row = codes "reg " ++ reg_name (number_of row.0) ++ 32 ∷ hex_word row
 -- the lines of the registers
 unfoldable pub reg_text : Regs → List ℕ
 reg_text r = flat_map reg_line (reg_words r)
+
+-- the line of a frame: its address and the digits of its words (this project's choice)
+unfoldable pub frame_text : ℕ → List ℕ → List ℕ
+frame_text far words = codes "frame " ++ hex_word far ++ 32 ∷ flat_map hex_word words ++ codes "\n"

@@ -15,11 +15,15 @@ use Rattle.x7_regs.specs.declared.status.StatParts.{StatParts}
 use Rattle.x7_startup.specs.Calls.{Progress, cor0_of, ticks_of}
 use Rattle.x7_startup.specs.Lines.{done_line, gts_line, gwe_line}
 use Rattle.x7_startup.specs.declared.lines.Lines.{Lines}
+use Rattle.x7_flow.specs.FrameAccess.{reads_frame_data}
+use Rattle.x7_flow.specs.Flow.{far_in, far_read, flow_of}
+use Rattle.x7_flow.specs.Standing.{frames_read, less}
 use Rattle.x7_engine.specs.declared.fault.Fault.{Fault}
 use Rattle.x7_engine.specs.declared.fault.Fault.TheVariants as fault
 use Rattle.x7_engine.specs.declared.kept.Kept.{Kept}
 use Rattle.x7_engine.specs.Kept.{is_fallback}
-use Rattle.x7_engine.specs.Registers.{ctl0_held, far_loaded, has_ghigh, mask_held, masked, word_held, wrote_iprog}
+use Rattle.x7_flow.specs.Controls.{ctl0_held, mask_held, masked}
+use Rattle.x7_engine.specs.Registers.{has_ghigh, word_held, wrote_iprog}
 use Rattle.x7_engine.specs.Startup.{phase_by, startup_progress}
 use Rattle.x7_engine.specs.Stops.{line_at}
 
@@ -80,7 +84,7 @@ attempt_of kept wrapped fault h = record { kind = kept.kind; cause = cause_of fa
 -- the value of a register after a history with n bytes taken, and 0 for one that is only written
 abbrev pub value_of : PartData → Kept → Bool → Option Fault → History → ℕ → Reg → ℕ
 value_of part kept wrapped fault h n Crc = check_shown fault h
-value_of part kept wrapped fault h n Far = far_loaded part h
+value_of part kept wrapped fault h n Far = far_read part h
 value_of part kept wrapped fault h n Fdri = 0
 value_of part kept wrapped fault h n Fdro = 0
 value_of part kept wrapped fault h n Cmd = command_held h
@@ -108,10 +112,20 @@ value_or_zero part kept h n (Some reg) = value_of part kept false None h n reg
 abbrev pub read_value : PartData → Kept → History → ℕ → ℕ → ℕ
 read_value part kept h n register = value_or_zero part kept h n (reg_with register)
 
--- the words that an access after this history reads out: a read's value as often as it asks, taken where its header ends
+-- the value of a register while so many words of frame data of the last read are still to be given: FAR is that of the words given so far
+abbrev pub value_owing : PartData → Kept → Option Fault → History → ℕ → ℕ → Reg → ℕ
+value_owing part kept fault h n due Far = far_in part (less due (flow_of part h))
+value_owing part kept fault h n due reg = value_of part kept false fault h n reg
+
+-- the words of a read that isn't refused: words of frame data, or the register's value as often as it asks, taken where its header ends
+abbrev pub words_read : PartData → Kept → History → ℕ → ℕ → ℕ → List ℕ
+words_read part kept h n register count =
+    if reads_frame_data h (Read register count) then frames_read part h count else replicate count (read_value part kept h n register)
+
+-- the words that an access after this history reads out
 abbrev pub answer_of : PartData → Kept → History → Access → ℕ → List ℕ
 answer_of part kept h (Write register w) n = []
-answer_of part kept h (Read register count) n = if is_some (line_at part kept h (Read register count)) then [] else replicate count (read_value part kept h n register)
+answer_of part kept h (Read register count) n = if is_some (line_at part kept h (Read register count)) then [] else words_read part kept h n register count
 answer_of part kept h (Bad w) n = []
 
 -- all words that a history reads out, in order

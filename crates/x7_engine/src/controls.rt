@@ -3,8 +3,8 @@ ghost use Rattle.std.specs.Prelude.{◌≡◌, ℕ, ◌∷◌, [], ◌==◌};
 ghost use Rattle.x7_words.specs.Word.{field_of};
 ghost use Rattle.x7_packets.specs.History.{entry, History, Write};
 ghost use Rattle.x7_regs.specs.Register.{number_of};
-ghost use Rattle.x7_engine.specs.Registers.{ctl0_held, mask_held, masked_word};
-ghost use Rattle.x7_engine.specs.Stops.{forbids_reading, forbids_writing, has_dec};
+ghost use Rattle.x7_flow.specs.Controls.{mask_held, masked_word};
+ghost use Rattle.x7_engine.specs.Stops.{has_dec};
 
 use x7_regs::Reg;
 
@@ -48,19 +48,5 @@ impl Controls {
             Reg::Ctl1 => self.ctl1 = masked(self.ctl1, mask, word),
             _ => (),
         }
-    }
-
-    /// Whether SBITS of CTL0 forbid the writing of frames (UG470, control register 0).
-    pub(crate) fn forbid_writing(&self) -> bool
-        ensures { (h : History) → AreControls (controls_in self.now) h → result ≡ forbids_writing (ctl0_held h) }
-    {
-        self.ctl0 >> 5 & 1 == 1
-    }
-
-    /// Whether SBITS of CTL0 forbid the reading of frames.
-    pub(crate) fn forbid_reading(&self) -> bool
-        ensures { (h : History) → AreControls (controls_in self.now) h → result ≡ forbids_reading (ctl0_held h) }
-    {
-        self.ctl0 >> 4 & 3 != 0
     }
 }

@@ -1,19 +1,20 @@
 //! A device.
-ghost use Rattle.std.specs.Prelude.{◌≡◌, ◌≤◌, ◌<◌, ◌+◌, ◌-◌, ◌^◌, ◌++◌, ℕ, Bool, List, [], false, true, length, replicate, take, IfOk, IsSome, IsTrue, is_some, ◌↔◌, ◌==◌, Option, None, Some};
+ghost use Rattle.std.specs.Prelude.{◌≡◌, ◌≤◌, ◌<◌, ◌+◌, ◌-◌, ◌^◌, ◌++◌, ℕ, Bool, List, [], false, true, length, take, IfOk, IsSome, IsTrue, is_some, ◌↔◌, ◌==◌, Option, None, Some};
 ghost use Rattle.x7_packets.specs.Cutting.{between, calls_left, IsNeed};
 ghost use Rattle.x7_part.specs.Part.{PartData};
+ghost use Rattle.x7_memory.specs.FrameMap.{AreSame};
+ghost use Rattle.x7_memory.specs.Frames.{AreFramesOf, frame_at};
 ghost use Rattle.x7_engine.specs.Kept.{on_the_bench};
+ghost use Rattle.x7_engine.specs.Readout.{Gives};
 ghost use Rattle.x7_engine.specs.ReadBuffer.{IsFull, with_words};
-ghost use Rattle.x7_engine.specs.Standing.{Answers, DeviceStandsFor, MayWrap, fed_by, taken_in, told_of, with_due, with_wrap};
-ghost use Rattle.x7_engine.specs.State.{attempt_in, end_by, kept_after, line_by, state_of, stop_in};
+ghost use Rattle.x7_engine.specs.Standing.{Answers, DeviceStandsFor, MayWrap, NoWordDue, due_count, fed_by, frames_due, taken_in, told_of, with_wrap};
+ghost use Rattle.x7_engine.specs.State.{attempt_in, end_by, kept_after, line_by, memory_in, state_of, state_owing, stop_in};
 ghost use Rattle.x7_engine.specs.Stops.{fault_of};
 ghost use Rattle.x7_engine.specs.Values.{cause_of};
 ghost use Rattle.x7_engine.specs.declared.fault.Fault.{Fault as FaultData};
 ghost use Rattle.x7_engine.specs.declared.kept.Kept.{Kept as KeptData};
 
 mod boot;
-
-pub use boot::flash_may_end;
 
 use crate::fault::Fault;
 use crate::fed::Fed;
@@ -22,8 +23,11 @@ use crate::read_buffer::ReadBuf;
 use crate::registers::Registers;
 use crate::regs::{End, Regs};
 use crate::stop::Stop;
+pub use boot::flash_may_end;
 use std::alloc::Global;
 use std::marker::Model;
+use x7_flow::Frames;
+use x7_memory::Memory;
 use x7_packets::{Cut, Cutter};
 use x7_part::Part;
 use x7_regs::{Attempt, Cause, Kind, Reg, boot_word};
@@ -46,6 +50,10 @@ impl Model for Device {
     ghost Value = { DeviceState };
 
     ghost view = { λ d. record { part = d.part; cutter = d.cutter; registers = registers_in d.registers; wrapped = d.wrapped; taken = d.taken } };
+
+    ghost use Rattle.x7_flow.specs.Standing.{FramesFit};
+
+    ghost invariant = { λ d. FramesFit d.part d.registers.frames };
 }
 
 /// What a feed answers for a stop at this place of a piece.
@@ -112,15 +120,19 @@ const ON_THE_BENCH: Kept = Kept {
 };
 
 impl Device {
-    /// A device of this part as after a reset on the bench.
+    /// A device of this part as after a reset on the bench. It takes room for all frames, and no other call takes memory.
     pub fn new(alloc: Global, part: &Part) -> Result<Device, NoMemory>
         ensures { IfOk result (λ d. DeviceStandsFor part.now on_the_bench false d []) }
     {
+        let frames = match Frames::new(alloc, part) {
+            Ok(frames) => frames,
+            Err(NoMemory) => return Err(NoMemory),
+        };
         match part.copy(alloc) {
             Ok(part) => Ok(Device {
                 part,
                 cutter: Cutter::new(),
-                registers: Registers::new(&ON_THE_BENCH),
+                registers: Registers::new(&ON_THE_BENCH, frames),
                 wrapped: false,
                 taken: 0,
             }),
@@ -128,13 +140,13 @@ impl Device {
         }
     }
 
-    /// Resets the device, which keeps this.
+    /// Resets the device, which keeps this. All frames are zeros again.
     pub fn reset(&mut self, keep: Kept)
         ensures part { self.new.part ≡ self.old.part }
         ensures stands { DeviceStandsFor self.old.part keep false self.new [] }
     {
         self.cutter = Cutter::new();
-        self.registers = Registers::new(&keep);
+        self.registers.reset(&keep);
         self.wrapped = false;
         self.taken = 0;
     }
@@ -204,25 +216,28 @@ impl Device {
 
     /// Gives the words due to a buffer, as many as it has room for, and says whether none is left.
     fn give(&mut self, read: &mut ReadBuf) -> bool
-        ensures none_left { IsTrue result ↔ (self.new.registers.due ≡ 0) }
-        ensures fewer { self.new.registers.due ≤ self.old.registers.due }
-        ensures same { self.new ≡ with_due self.old self.new.registers.due }
-        ensures words { read.new ≡ with_words read.old (replicate (self.old.registers.due - self.new.registers.due) self.old.registers.due_word) }
-        ensures full { 0 < self.new.registers.due → IsFull read.new }
+        requires going { self.old.registers.stop ≡ None }
+        ensures none_left { IsTrue result ↔ NoWordDue self.new }
+        ensures full { 0 < due_count self.new.registers.due → IsFull read.new }
+        ensures going { self.new.registers.stop ≡ None }
+        ensures taken { self.new.taken ≡ self.old.taken }
+        ensures cutter { self.new.cutter ≡ self.old.cutter }
+        ensures given { (part : PartData) (kept : KeptData) (wrapped : Bool) (bytes : List ℕ) → DeviceStandsFor part kept wrapped self.old bytes
+            → Gives part kept wrapped self.old self.new bytes read.old read.new }
     {
-        self.registers.give(read)
+        self.registers.give(&self.part, read)
     }
 
     /// Takes the no-ops that come next in a session, all at once, up to a byte at which the watchdog fires.
     fn pass_nops(&mut self, piece: &[u8], at: &mut usize)
         requires within { at.old ≤ length piece.now }
         requires going { self.old.registers.stop ≡ None }
-        requires none_due { self.old.registers.due ≡ 0 }
+        requires none_due { NoWordDue self.old }
         requires fits { self.old.taken + (length piece.now - at.old) ≤ 2 ^ 63 }
         ensures forward { at.old ≤ at.new }
         ensures within { at.new ≤ length piece.now }
         ensures taken { self.new.taken ≡ self.old.taken + (at.new - at.old) }
-        ensures due { self.new.registers.due ≡ 0 }
+        ensures due { NoWordDue self.new }
         ensures cutter { self.new.cutter ≡ self.old.cutter }
         ensures stands { (part : PartData) (kept : KeptData) (wrapped : Bool) (bytes : List ℕ) → DeviceStandsFor part kept wrapped self.old bytes
             → DeviceStandsFor part kept wrapped self.new (bytes ++ between piece.now at.old at.new) }
@@ -240,7 +255,7 @@ impl Device {
     fn take_run(&mut self, piece: &[u8], at: &mut usize) -> bool
         requires within { at.old ≤ length piece.now }
         requires going { self.old.registers.stop ≡ None }
-        requires none_due { self.old.registers.due ≡ 0 }
+        requires none_due { NoWordDue self.old }
         requires fits { self.old.taken + (length piece.now - at.old) ≤ 2 ^ 63 }
         ensures forward { at.old ≤ at.new }
         ensures within { at.new ≤ length piece.now }
@@ -249,7 +264,7 @@ impl Device {
             → DeviceStandsFor part kept wrapped self.new (bytes ++ between piece.now at.old at.new) }
         ensures told { (part : PartData) (kept : KeptData) (wrapped : Bool) (bytes : List ℕ) → DeviceStandsFor part kept wrapped self.old bytes
             → told_of part kept self.new (bytes ++ between piece.now at.old at.new) ≡ told_of part kept self.old bytes }
-        ensures used_up { IsTrue result → (at.new ≡ length piece.now) × (self.new.registers.stop ≡ None) × (self.new.registers.due ≡ 0) }
+        ensures used_up { IsTrue result → (at.new ≡ length piece.now) × (self.new.registers.stop ≡ None) × NoWordDue self.new }
         ensures goes { result ≡ false → self.new.registers.stop ≡ None
             → calls_left self.new.cutter (length piece.now - at.new) < calls_left self.old.cutter (length piece.now - at.old) }
     {
@@ -267,7 +282,7 @@ impl Device {
     fn turn(&mut self, piece: &[u8], at: &mut usize) -> bool
         requires within { at.old ≤ length piece.now }
         requires going { self.old.registers.stop ≡ None }
-        requires none_due { self.old.registers.due ≡ 0 }
+        requires none_due { NoWordDue self.old }
         requires fits { self.old.taken + (length piece.now - at.old) ≤ 2 ^ 63 }
         ensures forward { at.old ≤ at.new }
         ensures within { at.new ≤ length piece.now }
@@ -276,7 +291,7 @@ impl Device {
             → DeviceStandsFor part kept wrapped self.new (bytes ++ between piece.now at.old at.new) }
         ensures told { (part : PartData) (kept : KeptData) (wrapped : Bool) (bytes : List ℕ) → DeviceStandsFor part kept wrapped self.old bytes
             → told_of part kept self.new (bytes ++ between piece.now at.old at.new) ≡ told_of part kept self.old bytes }
-        ensures used_up { IsTrue result → (at.new ≡ length piece.now) × (self.new.registers.stop ≡ None) × (self.new.registers.due ≡ 0) }
+        ensures used_up { IsTrue result → (at.new ≡ length piece.now) × (self.new.registers.stop ≡ None) × NoWordDue self.new }
         ensures goes { result ≡ false → self.new.registers.stop ≡ None
             → calls_left self.new.cutter (length piece.now - at.new) < calls_left self.old.cutter (length piece.now - at.old) }
     {
@@ -316,9 +331,21 @@ impl Device {
         }
     }
 
-    /// The registers and all else that a report shows but the memory.
+    /// The frames: those of the part, as the bytes taken have left them.
+    pub fn memory(&self) -> &Memory
+        ensures frames { AreFramesOf self.now.part result.now }
+        ensures shows { (part : PartData) (kept : KeptData) (wrapped : Bool) (bytes : List ℕ) → DeviceStandsFor part kept wrapped self.now bytes
+            → AreSame (frame_at part result.now) (memory_in part kept bytes) }
+    {
+        self.registers.frames.memory()
+    }
+
+    /// The registers and all else that a report shows but the memory. While words of frame data are still due, FAR is that of
+    /// the words given so far.
     pub fn state(&self) -> Regs
-        ensures { (part : PartData) (kept : KeptData) (wrapped : Bool) (bytes : List ℕ) → DeviceStandsFor part kept wrapped self.now bytes → result ≡ state_of part kept wrapped bytes }
+        ensures owing { (part : PartData) (kept : KeptData) (wrapped : Bool) (bytes : List ℕ) → DeviceStandsFor part kept wrapped self.now bytes
+            → result ≡ state_owing part kept wrapped bytes (frames_due self.now.registers.due) }
+        ensures value { (part : PartData) (kept : KeptData) (wrapped : Bool) (bytes : List ℕ) → DeviceStandsFor part kept wrapped self.now bytes → NoWordDue self.now → result ≡ state_of part kept wrapped bytes }
     {
         Regs {
             taken: self.taken,

@@ -29,6 +29,4 @@ pub enum Fault {
     Encrypted,
     /// The configuration watchdog fired.
     Watchdog,
-    /// The stream asks for what isn't built yet.
-    Unbuilt,
 }

@@ -10,11 +10,12 @@ ghost use Rattle.x7_crc.specs.OpenWrites.{running_check};
 ghost use Rattle.x7_engine.specs.Checked.{HasStarted, StandsIn};
 ghost use Rattle.x7_engine.specs.Kept.{on_the_bench};
 ghost use Rattle.x7_engine.specs.FirstStop.{IsFirstStop, line_at_byte};
-ghost use Rattle.x7_engine.specs.Registers.{HasMaskedBits, has_ghigh, is_clearance, is_pending, masked, same_idcode, takes_shutdown};
+ghost use Rattle.x7_flow.specs.Controls.{masked, same_idcode};
+ghost use Rattle.x7_engine.specs.Registers.{HasMaskedBits, has_ghigh, is_clearance, is_pending, takes_shutdown};
 ghost use Rattle.x7_engine.specs.Rest.{AtRest, GoesOn};
 ghost use Rattle.x7_engine.specs.Sequence.{Begins, HasGhigh, IsPending};
 ghost use Rattle.x7_engine.specs.Startup.{phase_of, startup_progress};
-ghost use Rattle.x7_engine.specs.State.{history_taken, reads_of, state_of, stop_in, taken_of};
+ghost use Rattle.x7_engine.specs.State.{history_taken, memory_in, reads_of, state_of, stop_in, taken_of};
 ghost use Rattle.x7_engine.specs.Stops.{Stopped, line_at};
 ghost use Rattle.x7_engine.specs.Timeout.{before_byte, fires_at};
 ghost use Rattle.x7_engine.specs.Watching.{fires};
@@ -31,6 +32,8 @@ pub fn stops_are_final()
         → state_of part kept wrapped (bytes ++ more) ≡ state_of part kept wrapped bytes }
     ensures reads { (part : PartData) (kept : Kept) (bytes more : List ℕ) (s : Stopped) → AreBytes (bytes ++ more) → stop_in part kept bytes ≡ Some s
         → reads_of part kept (bytes ++ more) ≡ reads_of part kept bytes }
+    ensures memory { (part : PartData) (kept : Kept) (bytes more : List ℕ) (s : Stopped) → AreBytes (bytes ++ more) → stop_in part kept bytes ≡ Some s
+        → memory_in part kept (bytes ++ more) ≡ memory_in part kept bytes }
 {}
 
 /// Each bit of a register under MASK is that of the last word written to it while MASK had that bit.

@@ -4,12 +4,14 @@
 mod clock;
 mod controls;
 mod device;
+mod due;
 mod fault;
 mod fed;
 mod kept;
 mod law;
 mod progress;
 mod read_buffer;
+mod readout;
 mod registers;
 mod regs;
 mod stop;
@@ -30,4 +32,4 @@ pub use law::{
 };
 pub use read_buffer::ReadBuf;
 pub use regs::{End, Regs};
-pub use text::{end_words, phase_line, reg_lines};
+pub use text::{end_words, frame_line, phase_line, reg_lines};

@@ -6,7 +6,8 @@ ghost use Rattle.x7_words.specs.Word.{words_of_bytes};
 ghost use Rattle.x7_crc.specs.OpenWrites.{running_check};
 ghost use Rattle.x7_regs.specs.Command.{code_of};
 ghost use Rattle.x7_regs.specs.Register.{number_of};
-ghost use Rattle.x7_engine.specs.Registers.{clears_by, ghigh_after, has_effect, names_part, pending_after, same_idcode, takes_shutdown, writes_command};
+ghost use Rattle.x7_flow.specs.Controls.{names_part, same_idcode};
+ghost use Rattle.x7_engine.specs.Registers.{clears_by, ghigh_after, has_effect, pending_after, takes_shutdown, writes_command};
 
 use x7_crc::{fold, fold_slice};
 use x7_regs::{Command, Reg};

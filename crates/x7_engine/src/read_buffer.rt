@@ -1,5 +1,5 @@
 //! Words read out of a device.
-ghost use Rattle.std.specs.Prelude.{◌≡◌, ◌≤◌, ◌<◌, ◌-◌, [], length, replicate, IfOk, Some, None};
+ghost use Rattle.std.specs.Prelude.{◌≡◌, ◌≤◌, ◌<◌, ◌-◌, ◌∷◌, [], false, length, replicate, IfOk, IsTrue, Some, None};
 ghost use Rattle.x7_engine.specs.ReadBuffer.{IsFull, with_words};
 
 use std::alloc::Global;
@@ -83,5 +83,37 @@ impl ReadBuf {
             Err(_) => (),
         }
         count - some as u32
+    }
+
+    /// Whether it drops each word.
+    pub(crate) fn drops(&self) -> bool
+        ensures { IsTrue result → self.now.most ≡ None }
+    {
+        self.held.is_none()
+    }
+
+    /// Whether a word more has no room.
+    pub(crate) fn is_full(&self) -> bool
+        ensures yes { IsTrue result → IsFull self.now }
+        ensures no { result ≡ false → IsFull self.now → ⊥ }
+    {
+        match &self.held {
+            Some(words) => words.len() == self.most,
+            None => false,
+        }
+    }
+
+    /// Takes a word, for which there is room.
+    pub(crate) fn push(&mut self, word: u32)
+        requires room { IsFull self.old → ⊥ }
+        ensures { self.new ≡ with_words self.old (word ∷ []) }
+    {
+        let Some(words) = &mut self.held else {
+            return;
+        };
+        match words.push(word) {
+            Ok(()) => (),
+            Err(_) => (),
+        }
     }
 }

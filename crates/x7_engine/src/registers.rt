@@ -1,29 +1,34 @@
 //! The registers of a device, and what an access does to them.
-ghost use Rattle.std.specs.Prelude.{◌≡◌, ◌≤◌, ◌<◌, ◌+◌, ◌*◌, ◌/◌, ◌%◌, ◌==◌, ◌&&◌, not, ℕ, ◌∷◌, [], List, Bool, true, false, Option, None, Some, IfSome, IfNone, IsTrue, ◌↔◌, ◌-◌, ◌++◌, length, replicate};
+ghost use Rattle.std.specs.Prelude.{◌≡◌, ◌≤◌, ◌<◌, ◌+◌, ◌*◌, ◌/◌, ◌%◌, ◌==◌, ◌&&◌, not, ℕ, ◌∷◌, [], List, Bool, true, false, Option, None, Some, IfSome, IfNone, IsTrue, ◌↔◌, ◌-◌, ◌++◌, length};
 ghost use Rattle.x7_words.specs.Word.{words_of_bytes};
 ghost use Rattle.x7_packets.specs.Cutting.{IsRun, run_steps};
-ghost use Rattle.x7_packets.specs.History.{command_held, entered, entered_all, entry, executed_by, History, Read, until, Write};
+ghost use Rattle.x7_packets.specs.History.{command_held, entered, entered_all, entry, executed_by, History, until, Write};
 ghost use Rattle.x7_packets.specs.Packet.{payload_steps};
 ghost use Rattle.x7_part.specs.Part.{PartData};
 ghost use Rattle.x7_regs.specs.Register.{number_of};
+ghost use Rattle.x7_flow.specs.Settings.{AreSettingsAfter};
+ghost use Rattle.x7_flow.specs.Standing.{FramesFit, FramesStandFor};
 ghost use Rattle.x7_engine.specs.Kept.{is_fallback};
-ghost use Rattle.x7_engine.specs.Registers.{ctl0_held, has_effect};
-ghost use Rattle.x7_engine.specs.ReadBuffer.{IsFull, with_words};
-ghost use Rattle.x7_engine.specs.Standing.{counted_in};
-ghost use Rattle.x7_engine.specs.Stops.{fault_of, forbids_writing, line_at, reads_frame_data};
-ghost use Rattle.x7_engine.specs.Values.{answer_of, cause_of, read_out};
+ghost use Rattle.x7_engine.specs.Registers.{has_effect};
+ghost use Rattle.x7_engine.specs.Standing.{counted_in, due_count};
+ghost use Rattle.x7_engine.specs.State.{last_counted};
+ghost use Rattle.x7_engine.specs.Stops.{access_line, fault_of, frame_line, or_else, stop_by};
+ghost use Rattle.x7_engine.specs.Values.{cause_of, read_out};
 ghost use Rattle.x7_engine.specs.declared.kept.Kept.{Kept as KeptData};
 
 use crate::clock::Clock;
 use crate::controls::{Controls, is_dec, masked};
+use crate::due::Due;
 use crate::fault::Fault;
 use crate::kept::Kept;
 use crate::progress::{Progress, is, is_same_idcode};
-use crate::read_buffer::ReadBuf;
+use crate::readout::count_of;
 use crate::stop::Stop;
 use crate::words::Words;
+use x7_flow::{FrameSettings, Frames};
 use x7_packets::{Cut, Step};
 use x7_part::Part;
+use x7_pipeline::RunFault;
 use x7_regs::{Attempt, Command, Kind, Reg, reg_of};
 use x7_words::word_of;
 
@@ -106,8 +111,32 @@ fn has_left(stop: Option<Stop>) -> bool
     }
 }
 
-/// The registers of a device, its clock, what stopped it, and the words of a read that are still to be read out.
-#[derive(Clone, Copy, Debug)]
+/// The line of a refused word, copy or read of frame data.
+pub(crate) fn stop_of_refused(fault: RunFault) -> Stop
+    ensures value { result ≡ stop_by fault }
+    ensures counts { (n : ℕ) → last_counted result n ≡ n }
+{
+    match fault {
+        RunFault::Address(far) => Stop::Fault(Fault::Address(far)),
+        RunFault::Overrun => Stop::Fault(Fault::Overrun),
+        RunFault::Multi => Stop::Fault(Fault::Multi),
+    }
+}
+
+/// The line that a written word comes to, by that of its register and by why the frames refuse it.
+fn first_line(line: Option<Stop>, refused: Option<RunFault>) -> Option<Stop>
+    ensures value { result ≡ or_else line (frame_line refused) }
+    ensures counts { (n : ℕ) → counted_in line n ≡ n → counted_in result n ≡ n }
+{
+    match (line, refused) {
+        (Some(line), _) => Some(line),
+        (None, Some(fault)) => Some(stop_of_refused(fault)),
+        (None, None) => None,
+    }
+}
+
+/// The registers of a device, its clock, what stopped it, its frames, and the words of a read that are still to be read out.
+#[derive(Drop)]
 pub(crate) struct Registers {
     pub(crate) words: Words,
     pub(crate) controls: Controls,
@@ -116,18 +145,19 @@ pub(crate) struct Registers {
     pub(crate) before: Option<Attempt>,
     pub(crate) clock: Clock,
     pub(crate) stop: Option<Stop>,
-    due: u32,
-    due_word: u32,
+    pub(crate) due: Due,
+    pub(crate) frames: Frames,
 }
 
 impl Registers {
-    ghost use Rattle.x7_engine.specs.Standing.{EndsWords, HoldsRun, IsHeaderStep, IsNext, MayWrapWith, RegistersStandFor, registers_in, TellsNothing};
+    ghost use Rattle.x7_engine.specs.Standing.{EndsWords, HoldsRun, IsHeaderStep, IsNext, MayWrapWith, RegistersStandFor, registers_in, TellsNothing, words_left};
 
-    /// Those of a device that took nothing, with what the reset kept.
-    pub(crate) fn new(kept: &Kept) -> Registers
-        ensures stands { (part : PartData) → RegistersStandFor part kept.now (registers_in result) [] 0 }
+    /// Those of a device that took nothing, with what the reset kept and frames after a reset.
+    pub(crate) fn new(kept: &Kept, frames: Frames) -> Registers
+        ensures stands { (part : PartData) → FramesStandFor part frames [] 0 → RegistersStandFor part kept.now (registers_in result) [] 0 }
         ensures going { result.stop ≡ None }
-        ensures none_due { result.due ≡ 0 }
+        ensures none_due { result.due ≡ Due.Nothing }
+        ensures frames { result.frames ≡ frames }
     {
         Registers {
             words: Words::new(kept),
@@ -137,9 +167,27 @@ impl Registers {
             before: kept.before,
             clock: Clock::new(kept.timer, is_a_fallback(kept.kind)),
             stop: None,
-            due: 0,
-            due_word: 0,
+            due: Due::Nothing,
+            frames,
         }
+    }
+
+    /// Makes them those after a reset that kept this.
+    pub(crate) fn reset(&mut self, kept: &Kept)
+        ensures stands { (part : PartData) → FramesFit part self.old.frames → RegistersStandFor part kept.now (registers_in self.new) [] 0 }
+        ensures going { self.new.stop ≡ None }
+        ensures none_due { self.new.due ≡ Due.Nothing }
+        ensures frames { (part : PartData) → FramesFit part self.old.frames → FramesFit part self.new.frames }
+    {
+        self.words = Words::new(kept);
+        self.controls = Controls::new();
+        self.progress = Progress::new();
+        self.kind = kept.kind;
+        self.before = kept.before;
+        self.clock = Clock::new(kept.timer, is_a_fallback(kept.kind));
+        self.stop = None;
+        self.due = Due::Nothing;
+        self.frames.reset();
     }
 
     /// What stopped the device.
@@ -163,7 +211,7 @@ impl Registers {
         if has_left(self.stop) {
             return false;
         }
-        self.due == 0
+        count_of(self.due) == 0
     }
 
     /// The command that CMD holds, five bits.
@@ -173,17 +221,22 @@ impl Registers {
         (self.words.held(Reg::Cmd) & 31) as u8
     }
 
-    /// Whether frames may be written: CMD holds WCFG, and SBITS allow it.
-    fn takes_frames(&self) -> bool
-        ensures { (part : PartData) (kept : KeptData) (h : History) (n : ℕ) → RegistersStandFor part kept (registers_in self.now) h n → result ≡ (command_held h == 1 && not (forbids_writing (ctl0_held h))) }
+    /// What decides whether an access concerns frames.
+    pub(crate) fn settings(&self) -> FrameSettings
+        ensures after { (part : PartData) (kept : KeptData) (h : History) (n : ℕ) → RegistersStandFor part kept (registers_in self.now) h n → AreSettingsAfter part.idcode result h }
+        ensures held { (part : PartData) (kept : KeptData) (h : History) (n : ℕ) → RegistersStandFor part kept (registers_in self.now) h n → result.held ≡ command_held h }
     {
-        u32::from(self.command()) == Command::Wcfg.code() && !self.controls.forbid_writing()
+        FrameSettings {
+            matched: self.progress.matched,
+            ctl0: self.controls.ctl0,
+            held: self.command(),
+        }
     }
 
-    /// The line that a written word comes to, which executes a command or none.
+    /// The line that a written word comes to by its register alone, which executes a command or none.
     fn line_of(&self, idcode: u32, reg: Reg, word: u32, executed: Option<u8>) -> Option<Stop>
         ensures value { (part : PartData) (kept : KeptData) (h : History) (n : ℕ) → idcode ≡ part.idcode → RegistersStandFor part kept (registers_in self.now) h n → executed ≡ executed_by (command_held h) (Write (number_of reg) word)
-            → result ≡ line_at part kept h (Write (number_of reg) word) }
+            → result ≡ access_line part kept h (Write (number_of reg) word) }
         ensures counts { (n : ℕ) → counted_in result n ≡ n }
     {
         let Progress { check, matched, .. } = self.progress;
@@ -191,21 +244,19 @@ impl Registers {
             want: idcode,
             got: 0,
         }));
-        let unbuilt = Some(Stop::Fault(Fault::Unbuilt));
         match reg {
             Reg::Crc if word != check => Some(Stop::Fault(Fault::Crc {
                 want: check,
                 got: word,
             })),
             Reg::Far | Reg::Cmd if is(Command::Start, executed) && !matched => unmatched,
-            Reg::Fdri | Reg::Mfwr if !matched => unmatched,
-            Reg::Fdri if self.takes_frames() => unbuilt,
+            Reg::Fdri if !matched => unmatched,
+            Reg::Mfwr if !matched => unmatched,
             Reg::Cmd if is(Command::Iprog, executed) && !is_a_fallback(self.kind) => Some(
                 Stop::Iprog,
             ),
             Reg::Ctl0 if is_dec(masked(self.controls.ctl0, self.words.held(Reg::Mask), word)) =>
                 Some(Stop::Fault(Fault::Encrypted)),
-            Reg::Mfwr if !self.controls.forbid_writing() => unbuilt,
             Reg::Cbc => Some(Stop::Fault(Fault::Encrypted)),
             Reg::Idcode if !is_same_idcode(idcode, word) => Some(Stop::Fault(Fault::Id {
                 want: idcode,
@@ -216,15 +267,20 @@ impl Registers {
     }
 
     /// Takes a written word: it is folded, then stored, and then come its faults and effects.
-    fn write(&mut self, idcode: u32, reg: Reg, word: u32)
-        requires { self.old.stop ≡ None }
-        ensures stands { (part : PartData) (kept : KeptData) (h : History) (place : ℕ) → idcode ≡ part.idcode → IsNext place h → RegistersStandFor part kept (registers_in self.old) h place
-            → RegistersStandFor part kept (registers_in self.new) (entry (Write (number_of reg) word) place ∷ h) place }
+    fn write(&mut self, part: &Part, reg: Reg, word: u32)
+        requires going { self.old.stop ≡ None }
+        requires none_due { due_count self.old.due ≡ 0 }
+        requires frames { FramesFit part.now self.old.frames }
+        ensures stands { (kept : KeptData) (h : History) (place : ℕ) → IsNext place h → RegistersStandFor part.now kept (registers_in self.old) h place
+            → RegistersStandFor part.now kept (registers_in self.new) (entry (Write (number_of reg) word) place ∷ h) place }
         ensures counts { (n : ℕ) → counted_in self.new.stop n ≡ n }
         ensures due { self.new.due ≡ self.old.due }
+        ensures frames { FramesFit part.now self.new.frames }
     {
-        let executed = executed(self.command(), reg, word);
-        let stop = self.line_of(idcode, reg, word, executed);
+        let idcode = part.idcode();
+        let settings = self.settings();
+        let executed = executed(settings.held, reg, word);
+        let line = self.line_of(idcode, reg, word, executed);
         let taken = self.progress.takes(reg, word, executed);
         let mask = self.words.held(Reg::Mask);
         let cor0 = self.words.held(Reg::Cor0);
@@ -232,7 +288,8 @@ impl Registers {
         self.controls.write(reg, word, mask);
         self.words.write(reg.number(), word);
         self.clock.write(executed, taken, cor0, reg, word);
-        self.stop = stop;
+        let refused = self.frames.write(settings, reg, word, part);
+        self.stop = first_line(line, refused);
     }
 
     /// Takes a word written to a register without an effect beside the check.
@@ -240,29 +297,34 @@ impl Registers {
         requires register { register < 32 }
         requires plain { has_effect register ≡ false }
         requires going { self.old.stop ≡ None }
+        requires none_due { due_count self.old.due ≡ 0 }
         ensures stands { (part : PartData) (kept : KeptData) (h : History) (place : ℕ) → IsNext place h → RegistersStandFor part kept (registers_in self.old) h place
             → RegistersStandFor part kept (registers_in self.new) (entry (Write register word) place ∷ h) place }
         ensures stop { self.new.stop ≡ self.old.stop }
         ensures due { self.new.due ≡ self.old.due }
+        ensures frames { self.new.frames ≡ self.old.frames }
     {
         self.progress.pass(register, word);
         self.words.write(register, word);
     }
 
     /// Takes a word written to a register by its number.
-    fn write_to(&mut self, idcode: u32, register: u8, word: u32)
+    fn write_to(&mut self, part: &Part, register: u8, word: u32)
         requires register { register < 32 }
         requires going { self.old.stop ≡ None }
-        ensures stands { (part : PartData) (kept : KeptData) (h : History) (place : ℕ) → idcode ≡ part.idcode → IsNext place h → RegistersStandFor part kept (registers_in self.old) h place
-            → RegistersStandFor part kept (registers_in self.new) (entry (Write register word) place ∷ h) place }
+        requires none_due { due_count self.old.due ≡ 0 }
+        requires frames { FramesFit part.now self.old.frames }
+        ensures stands { (kept : KeptData) (h : History) (place : ℕ) → IsNext place h → RegistersStandFor part.now kept (registers_in self.old) h place
+            → RegistersStandFor part.now kept (registers_in self.new) (entry (Write register word) place ∷ h) place }
         ensures counts { (n : ℕ) → counted_in self.new.stop n ≡ n }
         ensures due { self.new.due ≡ self.old.due }
+        ensures frames { FramesFit part.now self.new.frames }
     {
         let Some(reg) = effective(register) else {
             self.pass(register, word);
             return;
         };
-        self.write(idcode, reg, word);
+        self.write(part, reg, word);
     }
 
     /// Takes bytes before the word that they complete, up to the one at which the watchdog fires. Says how many are left.
@@ -274,6 +336,7 @@ impl Registers {
         ensures some { 0 < count → result < count }
         ensures fired { (line : Stop) → self.new.stop ≡ Some line → (line ≡ Stop.Fault Fault.Watchdog) × (result < count) }
         ensures due { self.new.due ≡ self.old.due }
+        ensures frames { self.new.frames ≡ self.old.frames }
         ensures stands { (kept : KeptData) (h : History) (n : ℕ) → RegistersStandFor part.now kept (registers_in self.old) h n → RegistersStandFor part.now kept (registers_in self.new) h (n + (count - result)) }
     {
         let Some(taken) = self.clock.bytes(part, count) else {
@@ -287,10 +350,13 @@ impl Registers {
     fn word(&mut self, part: &Part, register: u8, word: u32, count: usize) -> usize
         requires register { register < 32 }
         requires going { self.old.stop ≡ None }
+        requires none_due { due_count self.old.due ≡ 0 }
+        requires frames { FramesFit part.now self.old.frames }
         ensures within { result ≤ count }
         ensures some { 0 < count → result < count }
         ensures goes_on { self.new.stop ≡ None → result ≡ 0 }
         ensures due { self.new.due ≡ self.old.due }
+        ensures frames { FramesFit part.now self.new.frames }
         ensures stands { (kept : KeptData) (h : History) (n : ℕ) → 0 < count → RegistersStandFor part.now kept (registers_in self.old) h n
             → RegistersStandFor part.now kept (registers_in self.new) (until (counted_in self.new.stop (n + (count - result))) (entry (Write register word) (n + count) ∷ h)) (n + (count - result)) }
     {
@@ -298,7 +364,7 @@ impl Registers {
         if self.stop.is_some() {
             return left;
         }
-        self.write_to(part.idcode(), register, word);
+        self.write_to(part, register, word);
         0
     }
 
@@ -306,12 +372,14 @@ impl Registers {
     /// says how many bytes these are.
     fn pass_all(&mut self, part: &Part, register: u8, bytes: &[u8]) -> usize
         requires going { self.old.stop ≡ None }
+        requires none_due { due_count self.old.due ≡ 0 }
         requires register { register < 32 }
         requires plain { has_effect register ≡ false }
         ensures within { result ≤ length bytes.now }
         ensures some { 0 < length bytes.now → 0 < result }
         ensures goes_on { self.new.stop ≡ None → result ≡ length bytes.now }
         ensures due { self.new.due ≡ self.old.due }
+        ensures frames { self.new.frames ≡ self.old.frames }
         ensures stands { (kept : KeptData) (h : History) (n : ℕ) → length bytes.now % 4 ≡ 0 → RegistersStandFor part.now kept (registers_in self.old) h n
             → RegistersStandFor part.now kept (registers_in self.new) (until (counted_in self.new.stop (n + result)) (entered_all n (payload_steps register (words_of_bytes bytes.now)) h)) (n + result) }
     {
@@ -328,12 +396,15 @@ impl Registers {
     #[inline(always)]
     fn body(&mut self, part: &Part, register: u8, bytes: &[u8]) -> usize
         requires going { self.old.stop ≡ None }
+        requires none_due { due_count self.old.due ≡ 0 }
+        requires frames { FramesFit part.now self.old.frames }
         requires register { register < 32 }
         requires whole { length bytes.now % 4 ≡ 0 }
         ensures within { result ≤ length bytes.now }
         ensures some { 0 < length bytes.now → 0 < result }
         ensures goes_on { self.new.stop ≡ None → result ≡ length bytes.now }
         ensures due { self.new.due ≡ self.old.due }
+        ensures frames { FramesFit part.now self.new.frames }
         ensures stands { (kept : KeptData) (h : History) (n : ℕ) → RegistersStandFor part.now kept (registers_in self.old) h n
             → RegistersStandFor part.now kept (registers_in self.new) (until (counted_in self.new.stop (n + result)) (entered_all n (payload_steps register (words_of_bytes bytes.now)) h)) (n + result) }
     {
@@ -352,44 +423,18 @@ impl Registers {
         taken
     }
 
-    /// Whether a read of this register asks for frame data: CMD holds RCFG, and SBITS allow it.
-    fn reads_frames(&self, register: u8) -> bool
-        ensures { (part : PartData) (kept : KeptData) (h : History) (n count : ℕ) → 0 < count → RegistersStandFor part kept (registers_in self.now) h n → result ≡ reads_frame_data h (Read register count) }
-    {
-        register == Reg::Fdro.number()
-            && u32::from(self.command()) == Command::Rcfg.code()
-            && !self.controls.forbid_reading()
-    }
-
-    /// A read of some words: they are due from now on, all the value at this place.
-    fn read(&mut self, part: &Part, register: u8, count: u32)
-        requires going { self.old.stop ≡ None }
-        requires none_due { self.old.due ≡ 0 }
-        requires some { 0 < count }
-        ensures at_rest { (line : Stop) → self.new.stop ≡ Some line → self.new.due ≡ 0 }
-        ensures counts { (n : ℕ) → counted_in self.new.stop n ≡ n }
-        ensures stands { (kept : KeptData) (h : History) (place : ℕ) → IsNext place h → RegistersStandFor part.now kept (registers_in self.old) h place → RegistersStandFor part.now kept (registers_in self.new) (entry (Read register count) place ∷ h) place }
-        ensures reads { (kept : KeptData) (h : History) (place : ℕ) → RegistersStandFor part.now kept (registers_in self.old) h place
-            → answer_of part.now kept h (Read register count) place ≡ replicate self.new.due self.new.due_word }
-    {
-        if self.reads_frames(register) {
-            self.stop = Some(Stop::Fault(Fault::Unbuilt));
-            return;
-        }
-        self.due_word = self.read_value(part, register);
-        self.due = count;
-    }
-
     /// Takes a word in a header's place.
     fn head(&mut self, part: &Part, step: Step)
         requires going { self.old.stop ≡ None }
-        requires none_due { self.old.due ≡ 0 }
+        requires none_due { due_count self.old.due ≡ 0 }
+        requires frames { FramesFit part.now self.old.frames }
         requires header { IsHeaderStep step }
-        ensures at_rest { (line : Stop) → self.new.stop ≡ Some line → self.new.due ≡ 0 }
+        ensures at_rest { (line : Stop) → self.new.stop ≡ Some line → due_count self.new.due ≡ 0 }
         ensures counts { (n : ℕ) → counted_in self.new.stop n ≡ n }
+        ensures frames { FramesFit part.now self.new.frames }
         ensures stands { (kept : KeptData) (h : History) (place : ℕ) → IsNext place h → RegistersStandFor part.now kept (registers_in self.old) h place → RegistersStandFor part.now kept (registers_in self.new) (entered place step h) place }
         ensures reads { (kept : KeptData) (h : History) (place : ℕ) → RegistersStandFor part.now kept (registers_in self.old) h place
-            → read_out part.now kept (entered place step h) ≡ read_out part.now kept h ++ replicate self.new.due self.new.due_word }
+            → read_out part.now kept (entered place step h) ≡ read_out part.now kept h ++ words_left part.now (entered place step h) self.new.due }
     {
         match step {
             Step::Read(register, count) if count > 0 => self.read(part, register, count),
@@ -402,15 +447,18 @@ impl Registers {
     #[inline(always)]
     fn header(&mut self, part: &Part, step: Step, count: usize) -> usize
         requires going { self.old.stop ≡ None }
-        requires none_due { self.old.due ≡ 0 }
+        requires none_due { due_count self.old.due ≡ 0 }
+        requires frames { FramesFit part.now self.old.frames }
         requires header { IsHeaderStep step }
         ensures within { result ≤ count }
         ensures goes_on { self.new.stop ≡ None → result ≡ 0 }
-        ensures at_rest { (line : Stop) → self.new.stop ≡ Some line → self.new.due ≡ 0 }
+        ensures at_rest { (line : Stop) → self.new.stop ≡ Some line → due_count self.new.due ≡ 0 }
+        ensures frames { FramesFit part.now self.new.frames }
         ensures stands { (kept : KeptData) (h : History) (n : ℕ) → 0 < count → RegistersStandFor part.now kept (registers_in self.old) h n
             → RegistersStandFor part.now kept (registers_in self.new) (until (counted_in self.new.stop (n + (count - result))) (entered (n + count) step h)) (n + (count - result)) }
         ensures reads { (kept : KeptData) (h : History) (n : ℕ) → 0 < count → RegistersStandFor part.now kept (registers_in self.old) h n
-            → read_out part.now kept (until (counted_in self.new.stop (n + (count - result))) (entered (n + count) step h)) ≡ read_out part.now kept h ++ replicate self.new.due self.new.due_word }
+            → read_out part.now kept (until (counted_in self.new.stop (n + (count - result))) (entered (n + count) step h))
+            ≡ read_out part.now kept h ++ words_left part.now (until (counted_in self.new.stop (n + (count - result))) (entered (n + count) step h)) self.new.due }
     {
         let left = self.tick(part, count);
         if self.stop.is_some() {
@@ -425,17 +473,20 @@ impl Registers {
     #[inline(always)]
     pub(crate) fn run(&mut self, part: &Part, run: Cut<'_>, count: usize) -> usize
         requires going { self.old.stop ≡ None }
-        requires none_due { self.old.due ≡ 0 }
+        requires none_due { due_count self.old.due ≡ 0 }
+        requires frames { FramesFit part.now self.old.frames }
         requires run { IsRun run }
         requires holds { HoldsRun run count }
         ensures within { result ≤ count }
         ensures goes_on { self.new.stop ≡ None → result ≡ 0 }
-        ensures quiet { TellsNothing run.entry → self.new.due ≡ 0 }
-        ensures at_rest { (line : Stop) → self.new.stop ≡ Some line → self.new.due ≡ 0 }
+        ensures quiet { TellsNothing run.entry → due_count self.new.due ≡ 0 }
+        ensures at_rest { (line : Stop) → self.new.stop ≡ Some line → due_count self.new.due ≡ 0 }
+        ensures frames { FramesFit part.now self.new.frames }
         ensures stands { (kept : KeptData) (h : History) (from n : ℕ) → EndsWords run.entry from n count → RegistersStandFor part.now kept (registers_in self.old) h n
             → RegistersStandFor part.now kept (registers_in self.new) (until (counted_in self.new.stop (n + (count - result))) (entered_all from (run_steps run.entry) h)) (n + (count - result)) }
         ensures reads { (kept : KeptData) (h : History) (from n : ℕ) → EndsWords run.entry from n count → RegistersStandFor part.now kept (registers_in self.old) h n
-            → read_out part.now kept (until (counted_in self.new.stop (n + (count - result))) (entered_all from (run_steps run.entry) h)) ≡ read_out part.now kept h ++ replicate self.new.due self.new.due_word }
+            → read_out part.now kept (until (counted_in self.new.stop (n + (count - result))) (entered_all from (run_steps run.entry) h))
+            ≡ read_out part.now kept h ++ words_left part.now (until (counted_in self.new.stop (n + (count - result))) (entered_all from (run_steps run.entry) h)) self.new.due }
     {
         match run {
             Cut::Need => self.tick(part, count),
@@ -445,17 +496,5 @@ impl Registers {
             Cut::Word(register, word) => self.word(part, register, word, count),
             Cut::Body(register, bytes) => bytes.len() - self.body(part, register, bytes),
         }
-    }
-
-    /// Gives the words due to a buffer, as many as it has room for, and says whether none is left.
-    pub(crate) fn give(&mut self, read: &mut ReadBuf) -> bool
-        ensures none_left { IsTrue result ↔ (self.new.due ≡ 0) }
-        ensures fewer { self.new.due ≤ self.old.due }
-        ensures same { self.new ≡ record self.old { due = self.new.due } }
-        ensures words { read.new ≡ with_words read.old (replicate (self.old.due - self.new.due) self.old.due_word) }
-        ensures full { 0 < self.new.due → IsFull read.new }
-    {
-        self.due = read.take(self.due_word, self.due);
-        self.due == 0
     }
 }

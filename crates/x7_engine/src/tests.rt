@@ -64,7 +64,7 @@ struct Case {
 #[rattlefmt::skip]
 fn worked_streams() -> [Case; 27] {
     let synced = fresh(End::Synced);
-    let unbuilt = fresh(End::Fault(Fault::Unbuilt));
+    let multi = fresh(End::Fault(Fault::Multi));
     let fired = fresh(End::Fault(Fault::Watchdog));
     [
         // the sync word inside a match that failed
@@ -100,9 +100,9 @@ fn worked_streams() -> [Case; 27] {
         // DESYNC, and an IPROG with its address
         Case { stream: b"\xAA\x99\x55\x66\x30\0\x80\x01\0\0\0\x0D\xFF", reads: &[], want: Regs { taken: 13, crc: 0xC923_5AB6, cmd: 13, ..fresh(End::Searching) } },
         Case { stream: b"\xAA\x99\x55\x66\x30\x02\0\x01\0\x02\0\0\x30\0\x80\x01\0\0\0\x0F", reads: &[], want: Regs { taken: 20, crc: 0x9245_13B1, cmd: 15, wbstar: 0x2_0000, ..fresh(End::Iprog(0x2_0000)) } },
-        // what isn't built: a read of frame data, a copy
-        Case { stream: b"\xAA\x99\x55\x66\x30\0\x80\x01\0\0\0\x04\x28\0\x60\x01", reads: &[], want: Regs { taken: 16, crc: 0x3B15_3B89, cmd: 4, ..unbuilt } },
-        Case { stream: b"\xAA\x99\x55\x66\x30\x01\x80\x01\x03\x62\xD0\x93\x30\x01\x40\x01\0\0\0\0", reads: &[], want: Regs { taken: 20, crc: 0xAB1B_2743, ..unbuilt } },
+        // a read of frame data, and a copy without a source
+        Case { stream: b"\xAA\x99\x55\x66\x30\0\x80\x01\0\0\0\x04\x28\0\x60\x01", reads: &[0], want: Regs { taken: 16, crc: 0x3B15_3B89, cmd: 4, ..synced } },
+        Case { stream: b"\xAA\x99\x55\x66\x30\x01\x80\x01\x03\x62\xD0\x93\x30\x01\x40\x01\0\0\0\0", reads: &[], want: Regs { taken: 20, crc: 0xAB1B_2743, ..multi } },
         // START arms, and DESYNC begins startup, which ends seven ticks later
         Case { stream: b"\xAA\x99\x55\x66\x30\x01\x80\x01\x03\x62\xD0\x93\x30\0\x80\x01\0\0\0\x05", reads: &[], want: Regs { taken: 20, crc: 0x044C_CD88, cmd: 5, ..synced } },
         Case { stream: b"\xAA\x99\x55\x66\x30\x01\x80\x01\x03\x62\xD0\x93\x30\0\x80\x01\0\0\0\x05\x30\0\x80\x01\0\0\0\x0D0123456789012345678901234567", reads: &[],
@@ -216,12 +216,12 @@ fn answers_of_feeds(rt: HostRuntime) -> Result<(), Fail> {
     );
     assert_eq!(rt; fed(&rt, &mut device, b"\xFF", &mut read), Fed::Iprog(0));
     assert_eq!(rt; device.fault(), None);
-    // frame data that isn't built, in the middle of a payload that lies in the piece; the words before it are no frame data
+    // frame data for no address, at the first word of a payload that lies in the piece; the words before the command are none
     let mut device = tiny(rt.alloc())?;
     let stream =
-        b"\xAA\x99\x55\x66\x30\x01\x80\x01\x03\x62\xD0\x93\x30\0\x40\x02\0\0\0\x11\0\0\0\x12\x30\0\x80\x01\0\0\0\x01\x30\0\x40\x02\0\0\0\x13\0\0\0\x14";
-    assert_eq!(rt; fed(&rt, &mut device, stream, &mut read), Fed::Stopped(40));
-    assert_eq!(rt; device.fault(), Some(Fault::Unbuilt));
+        b"\xAA\x99\x55\x66\x30\x01\x80\x01\x03\x62\xD0\x93\x30\0\x40\x02\0\0\0\x11\0\0\0\x12\x30\0\x80\x01\0\0\0\x01\x30\0\x20\x01\0\0\0\x02\x30\0\x40\x02\0\0\0\x13\0\0\0\x14";
+    assert_eq!(rt; fed(&rt, &mut device, stream, &mut read), Fed::Stopped(48));
+    assert_eq!(rt; device.fault(), Some(Fault::Address(2)));
     Ok(())
 }
 

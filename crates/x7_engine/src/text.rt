@@ -3,7 +3,7 @@ ghost use Rattle.std.specs.Prelude.{◌≡◌, ◌∷◌, ◌++◌, ◌≤◌, �
 ghost use Rattle.std.specs.List.{flat_map};
 ghost use Rattle.x7_text.specs.Appends.{Appends};
 ghost use Rattle.x7_text.specs.Digits.{hex_word};
-ghost use Rattle.x7_engine.specs.Text.{bit_text, end_text, fault_text, phase_text, reg_line, reg_text, reg_words};
+ghost use Rattle.x7_engine.specs.Text.{bit_text, end_text, fault_text, frame_text, phase_text, reg_line, reg_text, reg_words};
 
 use crate::fault::Fault;
 use crate::regs::{End, Regs};
@@ -45,7 +45,6 @@ fn put_fault(out: &mut Vec<u8>, fault: Fault)
         Fault::Multi => put(out, b"Multi"),
         Fault::Encrypted => put(out, b"Encrypted"),
         Fault::Watchdog => put(out, b"Watchdog"),
-        Fault::Unbuilt => put(out, b"Unbuilt"),
     }
 }
 
@@ -168,6 +167,54 @@ pub fn reg_lines(out: &mut Vec<u8>, r: &Regs) -> Result<(), NoMemory>
 {
     make_room(out, 315)?;
     put_rows(out, &rows_of(r));
+    Ok(())
+}
+
+/// Appends the digits of a word.
+fn put_word(out: &mut Vec<u8>, word: u32)
+    requires { vec_len out.old + 8 ≤ vec_capacity out.old }
+    ensures appends { Appends out.old out.new (hex_word word) 8 }
+{
+    put(out, &hex_of_word(word));
+}
+
+/// Appends the digits of words.
+fn put_digits(out: &mut Vec<u8>, words: &[u32])
+    requires { vec_len out.old + 8 * length words.now ≤ vec_capacity out.old }
+    ensures appends { Appends out.old out.new (flat_map hex_word words.now) (8 * length words.now) }
+{
+    for word in words {
+        put_word(out, *word);
+    }
+}
+
+/// Appends the line of a frame.
+#[tactic(auto, unfolding(crate::specs::Text::frame_text))]
+fn put_frame(out: &mut Vec<u8>, far: u32, words: &[u32])
+    requires { vec_len out.old + (16 + 8 * length words.now) ≤ vec_capacity out.old }
+    ensures { out.new.items ≡ out.old.items ++ frame_text far words.now }
+{
+    put(out, b"frame ");
+    put_word(out, far);
+    put(out, b" ");
+    put_digits(out, words);
+    put(out, b"\n");
+}
+
+/// Appends to `out` the line `frame FAR WORDS` of a frame (this project's choice): its address, and its words one after the
+/// other. Each has eight upper-case hexadecimal digits. `NoMemory` leaves the items as they were.
+pub fn frame_line(out: &mut Vec<u8>, far: u32, words: &[u32]) -> Result<(), NoMemory>
+    ensures ok { OnOk result (out.new.items ≡ out.old.items ++ frame_text far words.now) }
+    ensures err { OnErr result (out.new.items ≡ out.old.items) }
+{
+    let Some(digits) = words.len().checked_mul(8) else {
+        return Err(NoMemory);
+    };
+    let Some(room) = digits.checked_add(16) else {
+        return Err(NoMemory);
+    };
+    make_room(out, room)?;
+    put_frame(out, far, words);
     Ok(())
 }
 

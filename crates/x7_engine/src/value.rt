@@ -1,13 +1,16 @@
 //! The values of the registers as they are read (UG470, configuration registers).
-ghost use Rattle.std.specs.Prelude.{◌≡◌, ◌≤◌, ◌%◌, ◌^◌, ◌&&◌, ℕ, None, false};
+ghost use Rattle.std.specs.Prelude.{◌≡◌, ◌&&◌, ℕ, None, false};
 ghost use Rattle.x7_packets.specs.History.{History};
 ghost use Rattle.x7_part.specs.Part.{PartData};
 ghost use Rattle.x7_regs.specs.Status.{status_of};
+ghost use Rattle.x7_flow.specs.Flow.{far_in, flow_of};
+ghost use Rattle.x7_flow.specs.Standing.{less};
 ghost use Rattle.x7_engine.specs.Kept.{is_fallback};
 ghost use Rattle.x7_engine.specs.Registers.{has_ghigh};
+ghost use Rattle.x7_engine.specs.Standing.{due_count, frames_due};
 ghost use Rattle.x7_engine.specs.Startup.{startup_progress};
 ghost use Rattle.x7_engine.specs.Stops.{fault_of};
-ghost use Rattle.x7_engine.specs.Values.{attempt_of, cause_of, check_shown, is_crc_fault, is_id_fault, read_value, stat_parts, value_of};
+ghost use Rattle.x7_engine.specs.Values.{attempt_of, cause_of, check_shown, is_crc_fault, is_id_fault, read_value, stat_parts, value_owing};
 ghost use Rattle.x7_engine.specs.declared.kept.Kept.{Kept};
 
 use crate::fault::Fault;
@@ -15,14 +18,6 @@ use crate::registers::Registers;
 use crate::stop::Stop;
 use x7_part::Part;
 use x7_regs::{Attempt, Cause, Kind, Reg, StatParts, boot_word, reg_of, stat_word};
-
-/// The lowest bits of a word.
-fn low_bits(word: u32, width: u32) -> u32
-    requires { width ≤ 32 }
-    ensures { result ≡ word % 2 ^ width }
-{
-    (u64::from(word) % (1 << width)) as u32
-}
 
 /// Whether the stop is the fault `Crc`.
 fn is_crc(stop: Option<Stop>) -> bool
@@ -113,14 +108,21 @@ impl Registers {
         }
     }
 
-    /// The value of a register as it is read, and 0 for one that is only written. Frame data isn't built yet.
+    /// FAR as it is read.
+    fn far(&self, part: &Part) -> u32
+        ensures { (kept : Kept) (h : History) (n : ℕ) → RegistersStandFor part.now kept (registers_in self.now) h n → result ≡ far_in part.now (less (frames_due self.now.due) (flow_of part.now h)) }
+    {
+        self.frames.far(part)
+    }
+
+    /// The value of a register as it is read, and 0 for one that is only written and for frame data.
     #[rattlefmt::skip]
     pub(crate) fn value(&self, part: &Part, reg: Reg) -> u32
-        ensures { (kept : Kept) (h : History) (n : ℕ) → RegistersStandFor part.now kept (registers_in self.now) h n → result ≡ value_of part.now kept false (fault_of self.now.stop) h n reg }
+        ensures { (kept : Kept) (h : History) (n : ℕ) → RegistersStandFor part.now kept (registers_in self.now) h n → result ≡ value_owing part.now kept (fault_of self.now.stop) h n (frames_due self.now.due) reg }
     {
         match reg {
             Reg::Crc     => self.check(),
-            Reg::Far     => low_bits(self.words.held(Reg::Far), part.far_width()),
+            Reg::Far     => self.far(part),
             Reg::Fdri    => 0,
             Reg::Fdro    => 0,
             Reg::Cmd     => self.words.held(Reg::Cmd) & 31,
@@ -144,7 +146,7 @@ impl Registers {
 
     /// What a read of a register number gives: its value, and 0 for a number without a register.
     pub(crate) fn read_value(&self, part: &Part, register: u8) -> u32
-        ensures { (kept : Kept) (h : History) (n : ℕ) → self.now.stop ≡ None → RegistersStandFor part.now kept (registers_in self.now) h n → result ≡ read_value part.now kept h n register }
+        ensures { (kept : Kept) (h : History) (n : ℕ) → self.now.stop ≡ None → due_count self.now.due ≡ 0 → RegistersStandFor part.now kept (registers_in self.now) h n → result ≡ read_value part.now kept h n register }
     {
         match reg_of(register) {
             Some(reg) => self.value(part, reg),

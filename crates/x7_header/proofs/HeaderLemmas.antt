@@ -451,3 +451,12 @@ is_other {X = X} view (Err d) bytes f g place = (
   λ i. field_at_place bytes place (starts_with nat_eq bytes fixed_bytes) f refl (g ∙ ap (failed (Contents × ℕ)) (err_is X d (fault.Field place) i)),
   λ w. ap (failed X) (err_is (Contents × ℕ) d (fault.Field place) (sym g ∙ header_refused bytes place w)),
 )
+
+-- a header is what follows the fixed bytes
+pub header_after : (bytes after : List ℕ) → fixed_at bytes ≡ Ok after → header_at bytes ≡ layout_at (length bytes) after
+unfolding header_at
+header_after bytes after e = rw e refl
+
+pub header_none : (bytes : List ℕ) (d : HeaderFault) → fixed_at bytes ≡ Err d → header_at bytes ≡ Err d
+unfolding header_at
+header_none bytes d e = rw e refl

@@ -29,14 +29,6 @@ fn fields(bytes: &[u8], total: usize) -> Result<Head<'_>, HeaderFault>
     })
 }
 
-/// The fixed bytes and the fields after them.
-#[tactic(auto, unfolding(crate::specs::Reading::header_at))]
-fn head_of(bytes: &[u8]) -> Result<Head<'_>, HeaderFault>
-    ensures { Gives (λ head. (contents_of head, head.size)) result (header_at bytes.now) }
-{
-    fields(behind_fixed_bytes(bytes)?, bytes.len())
-}
-
 /// The header at the beginning of the bytes. What follows it is not looked at.
 pub fn header_of(bytes: &[u8]) -> Result<Head<'_>, HeaderFault>
     // What is read is the header that stands at the beginning, with its size.
@@ -56,5 +48,5 @@ pub fn header_of(bytes: &[u8]) -> Result<Head<'_>, HeaderFault>
     // Which fault it is, field by field.
     ensures exact { Gives (λ head. (contents_of head, head.size)) result (header_at bytes.now) }
 {
-    head_of(bytes)
+    fields(behind_fixed_bytes(bytes)?, bytes.len())
 }

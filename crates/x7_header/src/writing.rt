@@ -38,22 +38,8 @@ fn put_number(out: &mut Vec<u8>, letter: u8, number: u32) -> Result<(), NoMemory
     put(out, &bytes_of(number))
 }
 
-/// The fixed bytes and the fields behind them.
-fn written(alloc: Global, head: &Head<'_>) -> Result<Vec<u8>, NoMemory>
-    requires { HaveHeader (contents_of head.now) }
-    ensures { IfOk result (λ out. out.items ≡ header_bytes (contents_of head.now)) }
-{
-    let mut out = Vec::new(alloc);
-    put(&mut out, &FIXED_BYTES)?;
-    put_text(&mut out, b'a', head.a)?;
-    put_text(&mut out, b'b', head.b)?;
-    put_text(&mut out, b'c', head.c)?;
-    put_text(&mut out, b'd', head.d)?;
-    put_number(&mut out, b'e', head.length)?;
-    Ok(out)
-}
-
 /// The header's bytes. The size is not looked at.
+#[tactic(auto, using(crate::proofs::HeaderLemmas::header_same))]
 pub fn write_header(alloc: Global, head: &Head<'_>) -> Result<Vec<u8>, NoMemory>
     requires { HaveHeader (contents_of head.now) }
     ensures bytes { IfOk result (λ out. out.items ≡ header_bytes (contents_of head.now)) }
@@ -64,5 +50,12 @@ pub fn write_header(alloc: Global, head: &Head<'_>) -> Result<Vec<u8>, NoMemory>
     ensures alone { (x : Contents) → HaveHeader x →
         header_bytes x ≡ header_bytes (contents_of head.now) → x ≡ contents_of head.now }
 {
-    written(alloc, head)
+    let mut out = Vec::new(alloc);
+    put(&mut out, &FIXED_BYTES)?;
+    put_text(&mut out, b'a', head.a)?;
+    put_text(&mut out, b'b', head.b)?;
+    put_text(&mut out, b'c', head.c)?;
+    put_text(&mut out, b'd', head.d)?;
+    put_number(&mut out, b'e', head.length)?;
+    Ok(out)
 }

@@ -122,7 +122,7 @@ words_over : (packets : List Packet) → EachPacket None packets → Front (W pa
 words_over packets each = (close (words_place 0 (flat_map stepped packets)), sym (session_closed None 0 packets each))
 
 -- a session's words told are a front of its lines
-session_over : (gap : List ℕ) (packets : List Packet) → EachPacket None packets → Front (sure_session gap packets) (packets_text gap packets)
+pub session_over : (gap : List ℕ) (packets : List Packet) → EachPacket None packets → Front (sure_session gap packets) (packets_text gap packets)
 session_over gap packets each = front_behind (bytes_text gap ++ codes "sync\n") (W packets) (flat_map packet_text packets) (words_over packets each)
 
 -- the text of a session whose packets' words go on
@@ -250,3 +250,21 @@ told_front l given bytes rest s f =
     let sure : List ℕ = sure_text bytes in
     let all : Front sure (listing_of (bytes ++ rest)) = front_then sure (sure_text (bytes ++ rest)) (listing_of (bytes ++ rest)) (sure_goes_on bytes rest f) (sure_over (bytes ++ rest) f) in
     subst (λ t. Front t (listing_of (bytes ++ rest))) (sym (told_sure l given bytes s)) all
+
+-- what a lister has told behind other listings is the sure text of its bytes
+pub told_behind : (l : ListerState) (given before bytes : List ℕ) (s : ListerStandsFor l given before bytes) → given ++ l.text ≡ (before ++ flat_map session_text s.tells.sessions) ++ sure_place s.tells.at
+told_behind l given before bytes s = place_sure l.synced l.line l.held (given ++ l.text) (before ++ flat_map session_text s.tells.sessions) s.tells.at l.cutter.mode s.ready s.tells.told
+
+pub sure_behind : (l : ListerState) (given before bytes : List ℕ) → ListerStandsFor l given before bytes → given ++ l.text ≡ before ++ sure_text bytes
+sure_behind l given before bytes s =
+    let t = s.tells in
+    let e : (t.sessions ≡ (reading_of bytes).sessions) × (t.at ≡ (reading_of bytes).place) = reading_is bytes t.sessions t.at t.cut.reading in
+    told_behind l given before bytes s ∙ append_assoc before (flat_map session_text t.sessions) (sure_place t.at)
+    ∙ ap (λ x. before ++ (flat_map session_text x ++ sure_place t.at)) e.0 ∙ ap (λ x. before ++ (flat_map session_text (reading_of bytes).sessions ++ sure_place x)) e.1
+
+-- the listings before and what is told of bytes are a front of those and the listing of the bytes with any further ones
+pub front_behind_others : (l : ListerState) (given before bytes rest : List ℕ) → ListerStandsFor l given before bytes → AreBytes (bytes ++ rest) → (more : List ℕ) × (before ++ listing_of (bytes ++ rest) ≡ (given ++ l.text) ++ more)
+front_behind_others l given before bytes rest s f =
+    let sure : List ℕ = sure_text bytes in
+    let all : Front sure (listing_of (bytes ++ rest)) = front_then sure (sure_text (bytes ++ rest)) (listing_of (bytes ++ rest)) (sure_goes_on bytes rest f) (sure_over (bytes ++ rest) f) in
+    (all.0, ap (λ t. before ++ t) all.1 ∙ sym (append_assoc before sure all.0) ∙ ap (λ t. t ++ all.0) (sym (sure_behind l given before bytes s)))

@@ -14,6 +14,7 @@ use Rattle.x7_regs.specs.Command.{command_name_of, command_with}
 use Rattle.x7_regs.specs.declared.command.Command.{Command}
 use Rattle.x7_regs.specs.declared.command.Command.TheVariants as command
 use Rattle.x7_text.specs.Row.{spaced}
+use Rattle.x7_listing.specs.BitLine.{has_no_space}
 use Rattle.x7_listing.specs.Line.{Line, Empty, Comment, Bytes, Sync, Nop, Write, Read, Write2, Read2, Word, Data, Cmd, Check, FitsLine, IsLine, text_of}
 use Rattle.x7_text.specs.DigitValue.{bytes_value, word_value}
 use Rattle.x7_text.proofs.ValueLemmas.{bytes-back, word-back}
@@ -88,10 +89,6 @@ decimal-back n h = digits_value-decimal own n h
 pub words-back : (ws : List ℕ) → AreWords ws → words_value (flat_map spaced ws) ≡ ws
 words-back [] h = refl
 words-back (w ∷ ws) h = ap₂ (λ (x : ℕ) (t : List ℕ). x ∷ t) (word-back w h.0) (words-back ws h.1)
-
-abbrev pub has_no_space : List ℕ → Bool
-has_no_space [] = true
-has_no_space (c ∷ cs) = if c == 32 then false else has_no_space cs
 
 before_by : (b : Bool) (c : ℕ) (cs ds : List ℕ) → (if b then false else has_no_space cs) ≡ true → (has_no_space cs ≡ true → before_space (cs ++ 32 ∷ ds) ≡ cs)
     → (if b then [] else c ∷ before_space (cs ++ 32 ∷ ds)) ≡ c ∷ cs

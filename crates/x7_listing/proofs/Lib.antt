@@ -1,4 +1,6 @@
 pub mod AssemblyLemmas
+pub mod BitLemmas
+pub mod BoundLemmas
 pub mod FrontLemmas
 pub mod GapLemmas
 pub mod GuessLemmas
@@ -6,9 +8,12 @@ pub mod LineLemmas
 pub mod ListedLemmas
 pub mod NameLemmas
 pub mod OutcomeLemmas
+pub mod PairLemmas
 pub mod PlaceLemmas
 pub mod RoundLemmas
 pub mod RunLemmas
 pub mod SessionLemmas
 pub mod StandLemmas
+pub mod StreamLemmas
 pub mod TakeLemmas
+pub mod NearLemmas

@@ -28,11 +28,11 @@ free-by : (b : Bool) (xs ys : List ℕ) → (if b then false else has_no_end xs)
 free-by true xs ys h f = absurd cc
 free-by false xs ys h f = f h
 
-free-both : (xs ys : List ℕ) → has_no_end xs ≡ true → has_no_end ys ≡ true → has_no_end (xs ++ ys) ≡ true
+pub free-both : (xs ys : List ℕ) → has_no_end xs ≡ true → has_no_end ys ≡ true → has_no_end (xs ++ ys) ≡ true
 free-both [] ys h k = k
 free-both (x ∷ xs) ys h k = free-by (x == 10) xs ys h (λ g. free-both xs ys g k)
 
-free-more : (x : ℕ) (xs : List ℕ) → (x == 10) ≡ false → has_no_end xs ≡ true → has_no_end (x ∷ xs) ≡ true
+pub free-more : (x : ℕ) (xs : List ℕ) → (x == 10) ≡ false → has_no_end xs ≡ true → has_no_end (x ∷ xs) ≡ true
 free-more x xs e h = rw e h
 
 digit-free : (n : ℕ) → (hex_digit n == 10) ≡ false
@@ -42,7 +42,7 @@ digits-free-more : (ns xs : List ℕ) → has_no_end xs ≡ true → has_no_end 
 digits-free-more [] xs h = h
 digits-free-more (n ∷ ns) xs h = free-more (hex_digit n) (map hex_digit ns ++ xs) (digit-free n) (digits-free-more ns xs h)
 
-hex-free : (bs : List ℕ) → has_no_end (flat_map hex_byte bs) ≡ true
+pub hex-free : (bs : List ℕ) → has_no_end (flat_map hex_byte bs) ≡ true
 hex-free [] = refl
 hex-free (b ∷ bs) = digits-free-more (b / 2 ^ 4 % 16 ∷ b % 16 ∷ []) (flat_map hex_byte bs) (hex-free bs)
 
@@ -60,7 +60,7 @@ digits-free : (ds : List ℕ) → all_ascii_digits ds ≡ true → has_no_end ds
 digits-free [] h = refl
 digits-free (c ∷ cs) h = let p = plain-digit c cs h in free-more c cs p.0 (digits-free cs p.1)
 
-decimal-free : (n : ℕ) → n < 2 ^ 64 → has_no_end (decimal n) ≡ true
+pub decimal-free : (n : ℕ) → n < 2 ^ 64 → has_no_end (decimal n) ≡ true
 decimal-free n h = digits-free (decimal n) (digits_decimal own n h)
 
 no_end : List ℕ → ℕ → Bool
@@ -119,7 +119,7 @@ split-by : (b : Bool) (c : ℕ) (cs rest : List ℕ) → (if b then false else h
 split-by true c cs rest h f = absurd cc
 split-by false c cs rest h f = ap (on_first c) (f h)
 
-split-line : (t rest : List ℕ) → has_no_end t ≡ true → split (t ++ 10 ∷ rest) ≡ t ∷ split rest
+pub split-line : (t rest : List ℕ) → has_no_end t ≡ true → split (t ++ 10 ∷ rest) ≡ t ∷ split rest
 split-line [] rest h = refl
 split-line (c ∷ cs) rest h = split-by (c == 10) c cs rest h (split-line cs rest)
 
@@ -153,7 +153,7 @@ fit-all : (ls : List Line) → AllByRecursion Listed ls → AllByRecursion FitsL
 fit-all [] a = tt
 fit-all (l ∷ ls) a = (a.0.0, fit-all ls a.1)
 
-pub round-trip : (limit : ℕ) (bytes : List ℕ) → AreBytes bytes → length bytes ≤ limit → Assembles limit (listing_of bytes) bytes
+pub round-trip : (limit : ℕ) (bytes : List ℕ) → AreBytes bytes → length bytes ≤ limit → Assembles limit (split (listing_of bytes)) bytes
 round-trip limit bytes a h =
     let ls : List Line = listing_lines bytes in
     let s : Stands (listing_lines bytes) bytes = listing-stands bytes a in

@@ -1,10 +1,12 @@
 -- What a text assembles to: the bytes of its lines, or its first bad line, or the first at which they pass a limit (this project's choice).
-use Rattle.std.specs.Prelude.{◌≡◌, ℕ, ◌+◌, ◌<◌, ◌≤◌, List, [], ◌∷◌, ◌++◌, length, map, fold, Result, Ok, Err}
+use Rattle.std.specs.Prelude.{◌≡◌, ◌≢◌, ◌⊎◌, ℕ, ◌+◌, ◌-◌, ◌<◌, ◌≤◌, List, [], ◌∷◌, ◌++◌, length, map, fold, Result, Ok, Err}
 use Rattle.std.specs.List.{AllByRecursion}
 use Rattle.x7_text.specs.Lines.{split}
 use Rattle.x7_crc.specs.Checking.{check_of_bytes}
 use Rattle.x7_listing.specs.declared.assembler.AsmFault.{AsmFault}
 use Rattle.x7_listing.specs.declared.assembler.AsmFault.TheVariants as fault
+use Rattle.x7_header.specs.Header.{Contents, header_bytes}
+use Rattle.x7_listing.specs.BitLine.{bit_text, IsHeld}
 use Rattle.x7_listing.specs.Line.{Line, bytes_of, FitsLine, IsLine, text_of}
 
 -- bytes with those of one line more
@@ -15,51 +17,86 @@ with_line bytes l = bytes ++ bytes_of (check_of_bytes bytes) l
 abbrev pub assembled : List Line → List ℕ
 assembled ls = fold with_line [] ls
 
--- the text's first lines are these, their bytes are within the limit, and these texts are left
-pub record Begins (limit : ℕ) (text : List ℕ) (lines : List Line) (left : List (List ℕ)) : Type 0 where
-  pub texts : split text ≡ map text_of lines ++ left
+-- the first texts are those of these lines, whose bytes are within the limit, and these texts are left
+pub record Begins (limit : ℕ) (all : List (List ℕ)) (lines : List Line) (left : List (List ℕ)) : Type 0 where
+  pub texts : all ≡ map text_of lines ++ left
   pub fits : AllByRecursion FitsLine lines
   pub within : length (assembled lines) ≤ limit
 
--- the text is that of lines, and these are their bytes
-pub record Assembles (limit : ℕ) (text bytes : List ℕ) : Type 0 where
+-- the texts are those of lines, and these are their bytes
+pub record Assembles (limit : ℕ) (all : List (List ℕ)) (bytes : List ℕ) : Type 0 where
   pub lines : List Line
-  pub begins : Begins limit text lines []
+  pub begins : Begins limit all lines []
   pub is : bytes ≡ assembled lines
 
--- line n is the first that is no line, and the bytes before it are within the limit
-pub record IsBad (limit : ℕ) (text : List ℕ) (n : ℕ) : Type 0 where
+-- text n is the first that is of no line, and the bytes before it are within the limit
+pub record IsBad (limit : ℕ) (all : List (List ℕ)) (n : ℕ) : Type 0 where
   pub lines : List Line
   pub bad : List ℕ
   pub left : List (List ℕ)
-  pub begins : Begins limit text lines (bad ∷ left)
+  pub begins : Begins limit all lines (bad ∷ left)
   pub count : n ≡ length lines + 1
   pub no_line : (l : Line) → IsLine bad l → ⊥
 
--- line n is the first at which the bytes pass the limit, and a line each up to it
-pub record IsTooLong (limit : ℕ) (text : List ℕ) (n : ℕ) : Type 0 where
+-- text n is the first at which the bytes pass the limit, and a line each up to it
+pub record IsTooLong (limit : ℕ) (all : List (List ℕ)) (n : ℕ) : Type 0 where
   pub lines : List Line
   pub last : Line
   pub left : List (List ℕ)
-  pub begins : Begins limit text lines (text_of last ∷ left)
+  pub begins : Begins limit all lines (text_of last ∷ left)
   pub fits : FitsLine last
   pub count : n ≡ length lines + 1
   pub passes : limit < length (assembled (lines ++ last ∷ []))
+
+-- what texts of lines assemble to: their bytes, or their first fault; want of memory is never theirs
+abbrev pub AreAsm : ℕ → List (List ℕ) → Result (List ℕ) AsmFault → Type 0
+AreAsm limit all (Ok bytes) = Assembles limit all bytes
+AreAsm limit all (Err (fault.Line n)) = IsBad limit all n
+AreAsm limit all (Err (fault.TooLong n)) = IsTooLong limit all n
+AreAsm limit all (Err fault.NoMemory) = ⊥
 
 -- how many bytes a text may stand for
 abbrev pub asm_limit : ℕ
 asm_limit = 67108864
 
--- what a text assembles to: its bytes, or its first fault; want of memory is never the text's
-abbrev pub IsAsm : List ℕ → Result (List ℕ) AsmFault → Type 0
-IsAsm text (Ok bytes) = Assembles asm_limit text bytes
-IsAsm text (Err (fault.Line n)) = IsBad asm_limit text n
-IsAsm text (Err (fault.TooLong n)) = IsTooLong asm_limit text n
-IsAsm text (Err fault.NoMemory) = ⊥
+-- an outcome with one line more before it, which stands for these bytes
+abbrev pub behind : List ℕ → Result (List ℕ) AsmFault → Result (List ℕ) AsmFault
+behind front (Ok bytes) = Ok (front ++ bytes)
+behind front (Err (fault.Line n)) = Err (fault.Line (n + 1))
+behind front (Err (fault.TooLong n)) = Err (fault.TooLong (n + 1))
+behind front (Err fault.NoMemory) = Err fault.NoMemory
 
--- the first n lines of the text are read, this text is left, and these are their bytes
-pub record Goes (limit : ℕ) (text rest bytes : List ℕ) (n : ℕ) : Type 0 where
+-- the outcome of texts of lines behind a line that stands for these bytes
+pub record Follows (front : List ℕ) (others : List (List ℕ)) (outcome : Result (List ℕ) AsmFault) : Type 0 where
+  pub rest : Result (List ℕ) AsmFault
+  pub lines : AreAsm (asm_limit - length front) others rest
+  pub is : outcome ≡ behind front rest
+
+-- the first text is a header's line, and the others follow it; the check leaves the header out
+pub record IsHeaded (all : List (List ℕ)) (outcome : Result (List ℕ) AsmFault) : Type 0 where
+  pub header : Contents
+  pub held : IsHeld header
+  pub others : List (List ℕ)
+  pub texts : all ≡ bit_text header ∷ others
+  pub follows : Follows (header_bytes header) others outcome
+
+-- the first text is no header's line
+abbrev pub HasNoHead : List (List ℕ) → Type 0
+HasNoHead all = (x : Contents) (others : List (List ℕ)) → IsHeld x → all ≢ bit_text x ∷ others
+
+-- what a text assembles to: a header's line first or none, and lines
+abbrev pub IsAsm : List ℕ → Result (List ℕ) AsmFault → Type 0
+IsAsm text outcome = IsHeaded (split text) outcome ⊎ (HasNoHead (split text) × AreAsm asm_limit (split text) outcome)
+
+-- the first n texts are read, this text is left, and these are their bytes
+pub record Goes (limit : ℕ) (all : List (List ℕ)) (rest bytes : List ℕ) (n : ℕ) : Type 0 where
   pub lines : List Line
-  pub begins : Begins limit text lines (split rest)
+  pub begins : Begins limit all lines (split rest)
   pub is : bytes ≡ assembled lines
   pub count : n ≡ length lines
+
+-- the fault's line is no later than this one
+abbrev pub IsEarly : AsmFault → ℕ → Type 0
+IsEarly (fault.Line n) last = n ≤ last
+IsEarly (fault.TooLong n) last = n ≤ last
+IsEarly fault.NoMemory last = Unit {0}

@@ -1,12 +1,15 @@
 //! Laws of the definitions.
-ghost use Rattle.std.specs.Prelude.{◌≡◌, ◌≤◌, ℕ, List, [], ◌++◌, length, true, Result, Ok};
+ghost use Rattle.std.specs.Prelude.{◌≡◌, ◌+◌, ◌≤◌, ℕ, List, [], ◌++◌, length, true, Result, Ok};
 ghost use Rattle.x7_words.specs.Word.{AreBytes};
 ghost use Rattle.x7_text.specs.Lines.{has_no_end};
 ghost use Rattle.x7_listing.specs.Assembly.{asm_limit, IsAsm};
 ghost use Rattle.x7_listing.specs.declared.assembler.AsmFault.{AsmFault};
 ghost use Rattle.x7_listing.specs.Line.{FitsLine, IsLine, IsListed, Line, text_of};
 ghost use Rattle.x7_listing.specs.Listed.{listing_lines, texts_of};
+ghost use Rattle.x7_listing.specs.BitLine.{bit_text, IsHeld};
 ghost use Rattle.x7_listing.specs.Listing.{IsListing, listing_of};
+ghost use Rattle.x7_listing.specs.StreamListing.{stream_listing};
+ghost use Rattle.x7_header.specs.Header.{Contents};
 ghost use Rattle.x7_listing.specs.Telling.{ListerStandsFor, ListerState};
 
 /// A list of bytes has at most one listing.
@@ -14,10 +17,16 @@ pub fn one_listing()
     ensures { (bytes text other : List ℕ) → IsListing bytes text → IsListing bytes other → text ≡ other }
 {}
 
-/// What a lister has told of bytes is a front of the listing of those bytes with any further ones.
+/// What a lister has told, behind the listings before, is a front of the listing of its bytes with any further ones.
 pub fn told_is_a_front()
-    ensures { (l : ListerState) (given bytes rest : List ℕ) → ListerStandsFor l given [] bytes → AreBytes (bytes ++ rest)
-        → (more : List ℕ) × (listing_of (bytes ++ rest) ≡ given ++ l.text ++ more) }
+    ensures { (l : ListerState) (given before bytes rest : List ℕ) → ListerStandsFor l given before bytes → AreBytes (bytes ++ rest)
+        → (more : List ℕ) × (before ++ listing_of (bytes ++ rest) ≡ given ++ l.text ++ more) }
+{}
+
+/// A lister's text is never more than four bytes behind the bytes that it took.
+pub fn few_bytes_are_held()
+    ensures { (l : ListerState) (given before bytes : List ℕ) → ListerStandsFor l given before bytes
+        → length before + length bytes ≤ length (given ++ l.text) + 4 }
 {}
 
 /// A text is that of at most one line.
@@ -35,9 +44,15 @@ pub fn lines_hold_no_end()
     ensures { (line : Line) → FitsLine line → IsListed line → has_no_end (text_of line) ≡ true }
 {}
 
-/// A listing assembles back to the bytes that it is of.
+/// The listing of a stream assembles back to the stream, its header included.
 pub fn listing_assembles_back()
-    ensures { (bytes : List ℕ) → AreBytes bytes → length bytes ≤ asm_limit → IsAsm (listing_of bytes) (Ok bytes) }
+    ensures { (bytes text : List ℕ) → AreBytes bytes → length bytes ≤ asm_limit → stream_listing bytes ≡ Ok text → IsAsm text (Ok bytes) }
+{}
+
+/// A header's line is that of no other header, and no other line.
+pub fn header_line_is_its_own()
+    ensures one { (x y : Contents) → IsHeld x → IsHeld y → bit_text x ≡ bit_text y → x ≡ y }
+    ensures no_line { (x : Contents) (line : Line) → IsLine (bit_text x) line → ⊥ }
 {}
 
 /// A text assembles to one outcome.

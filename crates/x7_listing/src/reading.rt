@@ -14,7 +14,7 @@ use x7_text::{decimal_below, put, put_byte_row, put_word_row, word_of_hex};
 use x7_words::{bytes_of, is_same};
 
 /// What stands after a word that the text begins with.
-fn after<'t>(text: &'t [u8], word: &[u8]) -> Option<&'t [u8]>
+pub(crate) fn after<'t>(text: &'t [u8], word: &[u8]) -> Option<&'t [u8]>
     ensures { MatchOption result ((rest : List ℕ) → text.now ≢ word.now ++ rest) (λ rest. text.now ≡ word.now ++ rest.now) }
 {
     text.strip_prefix(word)
@@ -173,6 +173,10 @@ pub(crate) fn put_line(out: &mut Vec<u8>, check: u32, line: &[u8]) -> bool
     ensures reads { Reads FitsLine text_of (bytes_of check) result line.now out.old.items out.new.items }
     ensures room { StaysWithin out.old out.new 32 }
 {
+    if is_same(line, b"nop") {
+        put_word(out, 0x2000_0000);
+        return true;
+    }
     if let Some(words) = after(line, b"data") {
         return put_word_row(out, words);
     }
@@ -181,10 +185,6 @@ pub(crate) fn put_line(out: &mut Vec<u8>, check: u32, line: &[u8]) -> bool
     }
     if let Some(name) = after(line, b"cmd ") {
         return put_command(out, name);
-    }
-    if is_same(line, b"nop") {
-        put_word(out, 0x2000_0000);
-        return true;
     }
     if let Some(digits) = after(line, b"bytes ") {
         return put_byte_row(out, digits);

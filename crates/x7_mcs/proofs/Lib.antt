@@ -11,3 +11,4 @@ pub mod RecordLemmas
 pub mod RoundLemmas
 pub mod RowLemmas
 pub mod RowsLemmas
+pub mod BlockLemmas

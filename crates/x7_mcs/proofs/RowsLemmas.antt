@@ -1,5 +1,5 @@
 -- The first row of elements.
-use Rattle.std.proofs.Common.{◌≡◌, ℕ, suc, zero, ◌+◌, ◌%◌, min, ◌<◌, ◌≤◌, ◌==◌, Bool, true, false, if◌then◌else◌, List, [], ◌∷◌, ◌++◌, length, take, drop, refl, ap, ap₂, sym, ◌∙◌, ◌⊎◌, inl, inr, append_assoc, arith, length-append}
+use Rattle.std.proofs.Common.{◌≡◌, ℕ, suc, zero, ◌+◌, ◌*◌, ◌%◌, min, ◌<◌, ◌≤◌, ◌==◌, Bool, true, false, if◌then◌else◌, List, [], ◌∷◌, ◌++◌, length, take, drop, refl, ap, ap₂, sym, ◌∙◌, ◌⊎◌, inl, inr, append_assoc, arith, length-append}
 use Rattle.std.proofs.lemmas.Grind.{common_steps}
 use Rattle.std.proofs.lemmas.List.{take_all, drop_all}
 use Rattle.x7_text.specs.Row.{rows, rows_behind}
@@ -61,3 +61,11 @@ row-more whole out next place k rest row more e h n f g i =
 
 pub all-rows : (whole out : List ℕ) (place : ℕ) (rest : List ℕ) → whole ≡ out ++ row_lines place (rows 16 rest) → length rest ≡ 0 → whole ≡ out
 all-rows whole out place rest e h = e ∙ ap (λ t. out ++ row_lines place t) (none_of_16 rest h) ∙ sym (nil_after out)
+
+-- the room that is left for the rows after one
+pub room-more : (n k m len next cap more : ℕ) → k ≡ min n 16 → m + k ≡ n → 0 < n → (0 < n → len + (4 * n + 60) ≤ cap) → next ≤ len + 60 → cap ≤ more → 0 < m → next + (4 * m + 60) ≤ more
+room-more n k m len next cap more e f h room l c g =
+    elim (by_min n k e) [
+      | inl s ↦ omega (arith, s, f, room h, l, c)
+      | inr s ↦ absurd (omega (arith, s.0, f, g))
+    ]

@@ -1,15 +1,6 @@
 -- The lines of a text (this project's choice).
 use Rattle.std.specs.Prelude.{ℕ, ◌-◌, ◌==◌, if◌then◌else◌, List, [], ◌∷◌, length, take, get_or}
-
--- a character at the beginning of the first line
-abbrev pub on_first : ℕ → List (List ℕ) → List (List ℕ)
-on_first c [] = (c ∷ []) ∷ []
-on_first c (t ∷ ts) = (c ∷ t) ∷ ts
-
--- what stands between the line ends 0A
-abbrev pub split : List ℕ → List (List ℕ)
-split [] = [] ∷ []
-split (c ∷ cs) = if c == 10 then [] ∷ split cs else on_first c (split cs)
+pub use Rattle.x7_text.specs.Lines.{on_first, split}
 
 -- a line without a 0D at its end
 abbrev pub without_return : List ℕ → List ℕ

@@ -1,34 +1,11 @@
 -- What a record says: count, address, type, data and sum byte (Intel HEX).
 use Rattle.std.specs.Prelude.{ℕ, ◌+◌, ◌*◌, ◌-◌, ◌%◌, ◌==◌, ◌&&◌, ◌||◌, nat_le, not, Bool, if◌then◌else◌, List, [], ◌∷◌, length, take, drop, get_or, Option, None, Some, Result, Ok, Err}
 use Rattle.std.specs.List.{sum}
+pub use Rattle.x7_text.specs.EitherCase.{byte_of, digit_of, led, pairs}
 use Rattle.x7_mcs.specs.declared.record.Meaning.{Meaning}
 use Rattle.x7_mcs.specs.declared.record.Meaning.TheVariants as meaning
 use Rattle.x7_mcs.specs.declared.fault.McsFault.{McsFault}
 use Rattle.x7_mcs.specs.declared.fault.McsFault.TheVariants as fault
-
--- the number of a digit of either case
-abbrev pub digit_of : ℕ → Option ℕ
-digit_of c =
-    if nat_le 48 c && nat_le c 57 then Some (c - 48)
-    else if nat_le 65 c && nat_le c 70 then Some (c - 55)
-    else if nat_le 97 c && nat_le c 102 then Some (c - 87)
-    else None
-
--- the byte of two digits
-abbrev pub byte_of : Option ℕ → Option ℕ → Option ℕ
-byte_of (Some high) (Some low) = Some (16 * high + low)
-byte_of _ _ = None
-
--- a byte and then bytes
-abbrev pub led : Option ℕ → Option (List ℕ) → Option (List ℕ)
-led (Some b) (Some bs) = Some (b ∷ bs)
-led _ _ = None
-
--- the bytes of pairs of digits
-abbrev pub pairs : List ℕ → Option (List ℕ)
-pairs [] = Some []
-pairs (a ∷ []) = None
-pairs (a ∷ b ∷ cs) = led (byte_of (digit_of a) (digit_of b)) (pairs cs)
 
 -- the fields of a record's bytes
 abbrev pub count_of : List ℕ → ℕ

@@ -1,6 +1,7 @@
 //! Intel HEX flash files: the bytes that a text gives, and the text of bytes.
 #![tactic(auto)]
 
+mod blocks;
 mod digits;
 mod fault;
 mod flash;
@@ -14,6 +15,7 @@ mod step;
 mod tests;
 mod text;
 
+pub use blocks::McsText;
 pub use fault::McsFault;
 pub use flash::flash_of;
 pub use image::FLASH_LIMIT;

@@ -1,18 +1,8 @@
 //! The lines of a text, which end with 0A or 0D 0A; the last may lack its end.
-ghost use Rattle.std.specs.Prelude.{◌≡◌, ℕ, ◌<◌, List, [], ◌∷◌, length, if◌then◌else◌, MatchOption};
-ghost use Rattle.x7_mcs.specs.Lines.{lines_of, split, without_return};
+ghost use Rattle.std.specs.Prelude.{◌≡◌, ◌<◌, [], ◌∷◌, length, if◌then◌else◌, MatchOption};
+ghost use Rattle.x7_mcs.specs.Lines.{lines_of, without_return};
 
-use memchr::memchr;
-
-/// The text up to the first line end, and the text after it.
-fn first_line(text: &[u8]) -> (&[u8], Option<&[u8]>)
-    ensures { MatchOption result.1 (split text.now ≡ result.0.now ∷ []) (λ more. (split text.now ≡ result.0.now ∷ split more.now) × (length more.now < length text.now)) }
-{
-    match memchr(b'\n', text) {
-        Some(at) => (&text[..at], Some(&text[at + 1..])),
-        None => (text, None),
-    }
-}
+use x7_text::first_line;
 
 /// A line without a 0D at its end.
 fn without_return(line: &[u8]) -> &[u8]

@@ -13,6 +13,9 @@ use std::alloc::Global;
 use x7_text::{hex_of_byte, put};
 use x7_words::NoMemory;
 
+/// The record 01, which ends a text.
+pub(crate) const END_LINE: &[u8] = b":00000001FF\n";
+
 /// Appends the digits of bytes.
 fn put_digits(out: &mut Vec<u8>, bytes: &[u8])
     requires { vec_len out.old + 2 * length bytes.now ≤ vec_capacity out.old }
@@ -88,28 +91,29 @@ fn put_row(out: &mut Vec<u8>, place: u32, row: &[u8])
     requires within { place < 2 ^ 27 }
     requires row { length row.now ≤ 16 }
     ensures items { out.new.items ≡ out.old.items ++ (block_start place ++ data_line (place % 65536) row.now) }
+    ensures length { vec_len out.new ≤ vec_len out.old + 60 }
+    ensures room { vec_capacity out.old ≤ vec_capacity out.new }
 {
     put_block_start(out, place);
     put_data(out, place % 65536, row);
 }
 
-/// Appends the lines of rows of 16 bytes, the first of which stands at a place. After `NoMemory` some of them stand there.
-pub fn put_rows(text: &mut Vec<u8>, place: u32, bytes: &[u8]) -> Result<(), NoMemory>
-    requires { place + length bytes.now ≤ 2 ^ 27 }
-    ensures { IfOk result (λ _. text.new.items ≡ text.old.items ++ row_lines place (rows 16 bytes.now)) }
+/// Appends the lines of rows of 16 bytes, the first of which stands at a place where a row begins. It takes no memory.
+pub fn put_rows(text: &mut Vec<u8>, place: u32, bytes: &[u8])
+    requires begins { place % 16 ≡ 0 }
+    requires within { place + length bytes.now ≤ 2 ^ 27 }
+    requires room { vec_len text.old + (4 * length bytes.now + 60) ≤ vec_capacity text.old }
+    ensures items { text.new.items ≡ text.old.items ++ row_lines place (rows 16 bytes.now) }
+    ensures room { vec_capacity text.old ≤ vec_capacity text.new }
 {
     let mut at = place;
     let mut rest = bytes;
     while rest.len() > 0 {
-        let Ok(()) = text.reserve(60) else {
-            return Err(NoMemory);
-        };
         let (row, more) = rest.split_at(rest.len().min(16));
         put_row(text, at, row);
         at += row.len() as u32;
         rest = more;
     }
-    Ok(())
 }
 
 /// The text of a flash's bytes: a record 04 for each 65,536 begun, data records of 16 bytes, and a record 01.
@@ -118,11 +122,11 @@ pub fn mcs_text(alloc: Global, flash: &[u8]) -> Result<Vec<u8>, NoMemory>
     ensures text { IfOk result (λ text. text.items ≡ mcs_text flash.now) }
     ensures back { AreBytes flash.now → IfOk result (λ text. mcs_of text.items ≡ Ok flash.now) }
 {
-    let Ok(mut text) = Vec::with_capacity(alloc, 3 * flash.len() + 64) else {
+    let Ok(mut text) = Vec::with_capacity(alloc, 4 * flash.len() + 72) else {
         return Err(NoMemory);
     };
-    put_rows(&mut text, 0, flash)?;
-    let Ok(()) = text.extend_from_slice(b":00000001FF\n") else {
+    put_rows(&mut text, 0, flash);
+    let Ok(()) = text.extend_from_slice(END_LINE) else {
         return Err(NoMemory);
     };
     Ok(text)

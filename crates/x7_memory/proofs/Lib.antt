@@ -4,3 +4,4 @@ pub mod StoredLemmas
 pub mod ZeroLemmas
 pub mod PlanLemmas
 pub mod MapLemmas
+pub mod DraftLemmas

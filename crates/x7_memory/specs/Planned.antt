@@ -37,6 +37,11 @@ pub record IsPlanRow (row : PlanRow) : Type 0 where
 abbrev pub AreApart : List PlanRow → Type 0
 AreApart rows = (i j : ℕ) (d : PlanRow) → i < j → j < length rows → (slice_index_or rows i d).far ≡ (slice_index_or rows j d).far → ⊥
 
+-- rows of one width and of 32 bits, in the order in which they came
+pub record IsDraft (draft : PlanData) : Type 0 where
+  pub width : All (λ row. length row.words ≡ draft.width) draft.rows
+  pub each : All IsPlanRow draft.rows
+
 -- a plan's rows stand in order, have its width and 32 bits
 pub record IsPlan (plan : PlanData) : Type 0 where
   pub order : AreInOrder plan.rows

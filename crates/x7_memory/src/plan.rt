@@ -10,9 +10,9 @@ use x7_words::NoMemory;
 
 /// A frame and its address.
 #[derive(Drop)]
-struct Row {
-    far: u32,
-    words: Vec<u32>,
+pub(crate) struct Row {
+    pub(crate) far: u32,
+    pub(crate) words: Vec<u32>,
 }
 
 impl Model for Row {
@@ -49,6 +49,14 @@ impl Plan {
             width: words,
             rows: Vec::new(alloc),
         }
+    }
+
+    /// The plan of these rows.
+    pub(crate) fn of_rows(alloc: Global, width: u32, rows: Vec<Row>) -> Plan
+        requires { IsPlan record { width = width; rows = rows.items } }
+        ensures { result ≡ record { width = width; rows = rows.items } }
+    {
+        Plan { alloc, width, rows }
     }
 
     /// Plans a frame. It is false, and changes nothing, where the address has one.

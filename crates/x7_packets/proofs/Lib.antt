@@ -10,3 +10,6 @@ pub mod SearchLemmas
 pub mod SyncLemmas
 pub mod TakeLemmas
 pub mod UniqueLemmas
+pub mod SeamLemmas
+pub mod AppendedLemmas
+pub mod EndedLemmas

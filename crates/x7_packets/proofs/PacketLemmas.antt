@@ -1,12 +1,12 @@
 -- Lemmas on specs/Packet: lists of packets with one word more, and that words have one list of packets.
-use Rattle.std.proofs.Common.{◌≡◌, ℕ, List, [], ◌∷◌, ◌++◌, Option, false, length, map, refl, ap, sym, ◌∙◌, subst, arith, length-append}
+use Rattle.std.proofs.Common.{◌≡◌, ℕ, List, [], ◌∷◌, ◌++◌, Option, None, false, length, map, refl, ap, sym, ◌∙◌, subst, arith, length-append}
 use Rattle.std.proofs.lemmas.List.{append_cancel_left}
 use Rattle.std.proofs.lemmas.Grind.{common_steps}
 use Rattle.std.specs.List.{flat_map}
-use Rattle.x7_words.proofs.ListLemmas.{same_front, map-append}
+use Rattle.x7_words.proofs.ListLemmas.{flat_map-last, same_front, map-append}
 use Rattle.x7_packets.specs.declared.header.Step.{Step}
 use Rattle.x7_packets.specs.declared.header.Step.TheVariants.{Payload}
-use Rattle.x7_packets.specs.Packet.{Packet, EachPacket, IsPacket, IsWhole, OnlyLastEnds, NoneEnds, latest_of, latest_after, count_of, named_by, words, payload_steps, stepped, meaning, ends_session, ended, last_ends}
+use Rattle.x7_packets.specs.Packet.{Packet, Packets, EachPacket, IsPacket, IsWhole, OnlyLastEnds, NoneEnds, latest_of, latest_after, count_of, named_by, words, payload_steps, stepped, meaning, ends_session, ended, last_ends}
 use Rattle.x7_packets.specs.Taking.{AllWhole, is_end}
 
 pub whole_more : (l : Option ℕ) (ps : List Packet) (p : Packet) → AllWhole l ps → IsPacket (latest_of l ps) p → IsWhole p → AllWhole l (ps ++ p ∷ [])
@@ -17,6 +17,13 @@ pub each_more : (l : Option ℕ) (ps : List Packet) (p : Packet) → AllWhole l 
 each_more l [] p a i = i
 each_more l (q ∷ []) p a i = (a.0, a.1, i)
 each_more l (q ∷ r ∷ ps) p a i = (a.0, a.1, each_more (latest_after l q.step) (r ∷ ps) p a.2 i)
+
+-- a packet more at the end of packets that are all whole
+pub packet_more : (ws : List ℕ) (ps : List Packet) (p : Packet) → Packets ws ps → AllWhole None ps → IsPacket (latest_of None ps) p → Packets (ws ++ words p) (ps ++ p ∷ [])
+packet_more ws ps p a w i = record { joined = ap (λ t. t ++ words p) a.joined ∙ sym (flat_map-last words ps p); each = each_more None ps p w i }
+
+pub whole_after : (ps : List Packet) (p : Packet) → AllWhole None ps → IsPacket (latest_of None ps) p → IsWhole p → AllWhole None (ps ++ p ∷ [])
+whole_after = whole_more None
 
 pub latest_more : (l : Option ℕ) (ps : List Packet) (p : Packet) → latest_of l (ps ++ p ∷ []) ≡ latest_after (latest_of l ps) p.step
 latest_more l [] p = refl

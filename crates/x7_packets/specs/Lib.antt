@@ -9,3 +9,5 @@ pub mod RunningCheck
 pub mod SyncWord
 pub mod Taking
 pub mod Nops
+pub mod Appended
+pub mod Ended

@@ -1,6 +1,7 @@
 //! Packets of a configuration stream: the search for the sync word, the words of a session, and a stream cut into its parts.
 #![tactic(auto)]
 
+mod appended;
 mod cutter;
 mod examples;
 mod header;
@@ -11,6 +12,7 @@ mod sync;
 #[cfg(test)]
 mod tests;
 
+pub use appended::{gaps_ask_nothing, packets_append, streams_append};
 pub use cutter::{Cut, Cutter};
 pub use examples::{
     examples_of_ends, examples_of_headers, examples_of_the_history, examples_of_the_search,
@@ -18,7 +20,7 @@ pub use examples::{
 pub use header::Step;
 pub use laws::{
     accesses_fit, histories_grow, nothing_enters, one_list_of_packets, one_reading,
-    packets_are_found, reading_is_found, words_after, words_enter,
+    packets_are_found, reading_is_found, searching_after_desync, words_after, words_enter,
 };
 pub use machine::Machine;
 pub use sync::Matcher;

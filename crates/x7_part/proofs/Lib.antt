@@ -10,3 +10,4 @@ pub mod RangeLemmas
 pub mod OrderLemmas
 pub mod SortLemmas
 pub mod PassLemmas
+pub mod FileRowLemmas

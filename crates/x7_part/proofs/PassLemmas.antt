@@ -33,7 +33,7 @@ use Rattle.x7_part.proofs.SortLemmas.{sorted_is}
 use Rattle.x7_part.proofs.RangeLemmas.{in_range, long_in, row_is, widths_are}
 
 -- where no check finds a fault, none of them does
-nones : (checks : List (Option PartFault)) → first_of checks ≡ None → AllByRecursion (λ o. o ≡ None) checks
+pub nones : (checks : List (Option PartFault)) → first_of checks ≡ None → AllByRecursion (λ o. o ≡ None) checks
 nones [] e = tt
 nones (o ∷ checks) e = let p = first_none o checks e in (p.0, nones checks p.1)
 

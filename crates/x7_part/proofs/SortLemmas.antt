@@ -25,7 +25,7 @@ many far a [] = 0
 many far a (r ∷ rows) = at far a r + many far a rows
 
 -- no row has a smaller address than one before it
-Rising : FieldWidths → List RowData → Type 0
+unfoldable pub Rising : FieldWidths → List RowData → Type 0
 Rising far [] = Unit {0}
 Rising far (r ∷ rows) = AllByRecursion (λ s. row_address far r ≤ row_address far s) rows × Rising far rows
 
@@ -73,7 +73,7 @@ unfolding in_order many
 ordered_many far a [] = refl
 ordered_many far a (r ∷ rows) = put_many far a r (in_order far rows) ∙ ap (λ n. at far a r + n) (ordered_many far a rows)
 
-ordered_rises : (far : FieldWidths) (rows : List RowData) → Rising far (in_order far rows)
+pub ordered_rises : (far : FieldWidths) (rows : List RowData) → Rising far (in_order far rows)
 unfolding in_order Rising
 ordered_rises far [] = tt
 ordered_rises far (r ∷ rows) = put_rising far r (in_order far rows) (ordered_rises far rows)
@@ -92,7 +92,7 @@ none_at far a [] h = refl
 none_at far a (r ∷ rows) h = omega (arith, at_other far a r h.0, none_at far a rows h.1)
 
 -- rows in number order have addresses from the least on
-from_least : (far : FieldWidths) (least : ℕ) (rows : List RowData) → AreRows far least rows → AllByRecursion (λ s. least ≤ row_address far s) rows
+pub from_least : (far : FieldWidths) (least : ℕ) (rows : List RowData) → AreRows far least rows → AllByRecursion (λ s. least ≤ row_address far s) rows
 from_least far least [] h = tt
 from_least far least (r ∷ rows) (row f l s more k in_range rest) =
     (k, each (λ t. row_address far r + 2 ^ row_low far ≤ row_address far t) (λ t. least ≤ row_address far t) (λ t j. omega (arith, j, k)) rows (from_least far (row_address far r + 2 ^ row_low far) rows rest))

@@ -1,9 +1,10 @@
 -- Fields of an address: their weights, and that no row reaches into the next.
-use Rattle.std.proofs.Common.{◌≡◌, ℕ, ◌+◌, ◌*◌, ◌^◌, ◌<◌, ◌≤◌, sym, ap, ◌∙◌, arith, List, length, inl, inr}
+use Rattle.std.proofs.Common.{◌≡◌, ℕ, ◌+◌, ◌*◌, ◌^◌, ◌<◌, ◌≤◌, sym, ap, ◌∙◌, arith, List, length, inl, inr, ◌⊎◌}
 use Rattle.std.proofs.lemmas.Nat.{pow-add, pow_pos}
 use Rattle.std.proofs.lemmas.Bool.{cases_order}
 use Rattle.std.proofs.Math.Nat.{pow-le-pow_right, add-mul, mul-le-mul_right, mul-le-mul_left}
 use Rattle.x7_part.specs.Part.{FieldWidths, RowData}
+use Rattle.x7_part.specs.PartRows.{IsBefore}
 use Rattle.x7_part.specs.FrameAddress.{row_address, column_low, row_low, half_low, block_low, address_width, AreWidths, IsRow}
 
 two_to : (i j : ℕ) → i ≤ j → 2 ^ i ≤ 2 ^ j
@@ -49,14 +50,20 @@ half_end far r w is =
     let block = block_half far w in
     omega arith
 
--- a row's addresses stay below the end
-pub row_top : (far : FieldWidths) (r : RowData) → AreWidths far → IsRow r → row_address far r + 2 ^ row_low far ≤ 2 ^ 32
-row_top far r w is =
+-- a row's addresses have the width of an address
+pub row_within : (far : FieldWidths) (r : RowData) → AreWidths far → IsRow r → row_address far r + 2 ^ row_low far ≤ 2 ^ address_width far
+row_within far r w is =
     let inner = half_end far r w is in
     let block : r.block * 2 ^ block_low far ≤ 2 * 2 ^ block_low far = mul-le-mul_right (2 ^ block_low far) is.block in
     let four : 2 ^ 2 ≤ 2 ^ far.block = two_to 2 far.block w.block.0 in
     let times : 2 ^ block_low far * 4 ≤ 2 ^ block_low far * 2 ^ far.block = mul-le-mul_left (2 ^ block_low far) four in
     let split : 2 ^ address_width far ≡ 2 ^ block_low far * 2 ^ far.block = pow-add 2 (block_low far) far.block in
+    omega arith
+
+-- and stay below the end
+pub row_top : (far : FieldWidths) (r : RowData) → AreWidths far → IsRow r → row_address far r + 2 ^ row_low far ≤ 2 ^ 32
+row_top far r w is =
+    let within : row_address far r + 2 ^ row_low far ≤ 2 ^ address_width far = row_within far r w is in
     let all : 2 ^ address_width far ≤ 2 ^ 32 = two_to (address_width far) 32 w.sum in
     omega arith
 
@@ -131,6 +138,34 @@ gap far r s w a c h = by (order_of far r s w a c)
     by (rows_same b e n) = absurd (omega (arith, h, ap (λ n. n * 2 ^ block_low far) b, ap (λ n. n * 2 ^ half_low far) e, ap (λ n. n * 2 ^ row_low far) n))
     by (row_before k) = k
     by (row_after k) = absurd (omega (arith, h, k))
+
+rows_before : (far : FieldWidths) (r s : RowData) → AreWidths far → IsRow s → r.block ≡ s.block → r.half ≡ s.half → row_address far r < row_address far s → r.row < s.row
+rows_before far r s w c b e h =
+    let block : r.block * 2 ^ block_low far ≡ s.block * 2 ^ block_low far = ap (λ n. n * 2 ^ block_low far) b in
+    let half : r.half * 2 ^ half_low far ≡ s.half * 2 ^ half_low far = ap (λ n. n * 2 ^ half_low far) e in
+    elim (cases_order r.row s.row) [
+      | inl equal ↦ absurd (omega (arith, h, block, half, ap (λ n. n * 2 ^ row_low far) equal))
+      | inr (inl less) ↦ less
+      | inr (inr more) ↦ absurd (omega (arith, h, by_row far s r (sym b) (sym e) more))
+    ]
+
+halves_before : (far : FieldWidths) (r s : RowData) → AreWidths far → IsRow s → r.block ≡ s.block → row_address far r < row_address far s →
+    (r.half < s.half) ⊎ ((r.half ≡ s.half) × (r.row < s.row))
+halves_before far r s w c b h =
+    elim (cases_order r.half s.half) [
+      | inl equal ↦ inr (equal, rows_before far r s w c b equal h)
+      | inr (inl less) ↦ inl less
+      | inr (inr more) ↦ absurd (omega (arith, h, by_half far s r w c (sym b) more))
+    ]
+
+-- a smaller address is that of a row before
+pub before_of : (far : FieldWidths) (r s : RowData) → AreWidths far → IsRow s → row_address far r < row_address far s → IsBefore r s
+before_of far r s w c h =
+    elim (cases_order r.block s.block) [
+      | inl equal ↦ inr (equal, halves_before far r s w c equal h)
+      | inr (inl less) ↦ inl less
+      | inr (inr more) ↦ absurd (omega (arith, h, by_block far s r w c more))
+    ]
 
 -- the weights of a row's numbers fit 32 bits, one by one and added up
 pub record Fits (far : FieldWidths) (r : RowData) : Type 0 where

@@ -1,5 +1,5 @@
 -- The checks of a part file's rows together: none the same as another, and not too many frames (this project's choice).
-use Rattle.std.specs.Prelude.{ℕ, ◌+◌, ◌*◌, List, [], ◌∷◌, ◌++◌, length, Bool, false, not, ◌&&◌, ◌||◌, ◌==◌, nat_le, nat_lt, if◌then◌else◌, Option, None}
+use Rattle.std.specs.Prelude.{◌≡◌, ◌⊎◌, ◌<◌, ℕ, ◌+◌, ◌*◌, List, [], ◌∷◌, ◌++◌, length, Bool, false, not, ◌&&◌, ◌||◌, ◌==◌, nat_le, nat_lt, if◌then◌else◌, Option, None}
 use Rattle.x7_part.specs.declared.fault.PartFault.{PartFault}
 use Rattle.x7_part.specs.declared.fault.PartFault.TheVariants.{SameRow, TooMany}
 use Rattle.x7_part.specs.Part.{FieldWidths, RowData, PartData, frame_words}
@@ -38,3 +38,11 @@ put_in far r (s ∷ rows) = if nat_lt (row_address far s) (row_address far r) th
 unfoldable pub in_order : FieldWidths → List RowData → List RowData
 in_order far [] = []
 in_order far (r ∷ rows) = put_in far r (in_order far rows)
+
+-- one row stands before another in a part: by the block type, then by the half, then by the row
+abbrev pub IsBefore : RowData → RowData → Type 0
+IsBefore r s = (r.block < s.block) ⊎ ((r.block ≡ s.block) × ((r.half < s.half) ⊎ ((r.half ≡ s.half) × (r.row < s.row))))
+
+-- each row stands before every later one
+abbrev pub RowsRise : List RowData → Type 0
+RowsRise rows = (before between after : List RowData) (r s : RowData) → rows ≡ before ++ r ∷ (between ++ s ∷ after) → IsBefore r s

@@ -1,9 +1,14 @@
 //! Laws of addresses, of slots and of part files. The functions do nothing: their contracts are the laws.
-ghost use Rattle.std.specs.Prelude.{◌≡◌, ◌+◌, ◌*◌, ◌<◌, ◌↔◌, ℕ, List, [], ◌∷◌, ◌++◌, Ok, length, map, slice_index, slice_index_or, Contains, IsPermutation};
+ghost use Rattle.std.specs.Prelude.{◌≡◌, ◌+◌, ◌*◌, ◌↔◌, ℕ, List, ◌∷◌, ◌++◌, Some, Ok, length, map, slice_index, slice_index_or, Contains, IsPermutation};
+ghost use Rattle.std.specs.List.Sorted.{IsNonDecreasingBy};
 ghost use Rattle.toml.specs.Data.{Members};
-ghost use Rattle.x7_part.specs.Part.{PartData, RowData};
+ghost use Rattle.toml.specs.Parse.{parse_document};
+ghost use Rattle.x7_part.specs.FrameAddress.{row_address};
+ghost use Rattle.x7_part.specs.Part.{FieldWidths, PartData, RowData};
+ghost use Rattle.x7_part.specs.PartFile.{part_in};
 ghost use Rattle.x7_part.specs.PartRange.{IsPart};
-ghost use Rattle.x7_part.specs.FrameAddress.{AreRows};
+ghost use Rattle.x7_part.specs.PartRows.{in_order, RowsRise};
+ghost use Rattle.x7_part.specs.PartValues.{rows_of};
 ghost use Rattle.x7_part.specs.AddressOrder.{addresses_in, addresses_of, Follows};
 ghost use Rattle.x7_part.specs.Slots.{slots, slots_in, from, addresses_among, AreInOneRow};
 ghost use Rattle.x7_part.specs.declared.slot.Slot.{Slot};
@@ -21,4 +26,13 @@ pub fn slot_laws()
     ensures frames { (part : PartData) → addresses_among (slots_in part) ≡ addresses_in part }
     ensures next { (part : PartData) (far next : ℕ) → IsPart part → Contains (addresses_in part) far →
         (slice_index_or (from far (slots_in part)) 1 End ≡ Frame next) ↔ (Follows (addresses_in part) far next × AreInOneRow part far next) }
+{}
+
+/// The rows of a part in words: they are the rows of its file, put in rising order of block type, half and row, no two the same.
+pub fn row_laws()
+    ensures file { (text : List ℕ) (table : Members) (part : PartData) → parse_document text ≡ Some table → part_in text ≡ Ok part → IsPermutation (rows_of table) part.rows }
+    ensures part { (text : List ℕ) (part : PartData) → part_in text ≡ Ok part → IsPart part }
+    ensures rise { (part : PartData) → IsPart part → RowsRise part.rows }
+    ensures same { (far : FieldWidths) (rows : List RowData) → IsPermutation rows (in_order far rows) }
+    ensures sorted { (far : FieldWidths) (rows : List RowData) → IsNonDecreasingBy (row_address far) (in_order far rows) }
 {}

@@ -19,7 +19,7 @@ mod tests;
 mod values;
 
 pub use fault::{PartFault, PartKey, Which};
-pub use law::slot_laws;
+pub use law::{row_laws, slot_laws};
 pub use parse::part_of;
 pub use part::Part;
 pub use slot::Slot;

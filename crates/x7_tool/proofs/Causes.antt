@@ -11,13 +11,19 @@ use Rattle.x7_words.specs.Input.{AtEnd, Lacks, Selects, preceded}
 use Rattle.x7_words.specs.Sink.{appended, PutsFront}
 use Rattle.x7_words.specs.Word.{AreBytes}
 use Rattle.x7_words.proofs.SinkLemmas.{appended-nil}
+use Rattle.x7_words.proofs.CountLemmas.{risen_from}
 use Rattle.x7_header.specs.Header.{fixed_bytes}
+use Rattle.x7_header.specs.Reading.{header_at}
+use Rattle.x7_header.specs.declared.fault.HeaderFault.TheVariants as header
+use Rattle.x7_header.proofs.HeaderLemmas.{raw_at}
 use Rattle.x7_listing.specs.Listing.{listing_of}
+use Rattle.x7_listing.specs.StreamListing.{listing_by, stream_listing}
+use Rattle.x7_tool.specs.declared.bad_input.InputFault.TheVariants as input
 use Rattle.x7_tool.specs.Form.{Asked, Listing}
-use Rattle.x7_tool.specs.Event.{Event, missing, no_memory, read_fault, too_large, unbuilt, write_fault}
-use Rattle.x7_tool.specs.Outcome.{Answer, Known, and_so, has_header, judged, listed, stream_limit, with_inputs}
-use Rattle.x7_tool.specs.Turn.{Unopened}
-use Rattle.x7_tool.specs.Run.{Ends, IsCaused, IsPrefixOf, RisesFor}
+use Rattle.x7_tool.specs.Event.{Event, bad_input, missing, no_memory, read_fault, too_large, write_fault}
+use Rattle.x7_tool.specs.Outcome.{Answer, Known, and_so, listed, listed_bytes, stream_limit, with_inputs}
+use Rattle.x7_tool.specs.Turn.{IsBadFront, IsRefused, MayFollow, Unfronted, Unopened}
+use Rattle.x7_tool.specs.Run.{Ends, IsCaused, IsPrefixOf, PutsListing, RisesFor}
 
 -- a name that isn't there
 pub absent : (contents : Option (List ℕ → Option (List ℕ))) (flash : Option (List ℕ)) (name : List ℕ) (a b : ℕ) (F : List ℕ → Type 0) → Lacks contents name ⊎ HasRisen a b
@@ -38,10 +44,17 @@ pub not_there : (contents : Option (List ℕ → Option (List ℕ))) (flash : Op
     → Ends (with_inputs contents flash) F (RisesFor (stream ∷ []) a b) (Some (Listing stream)) Full old old (Err (missing stream))
 not_there contents flash F stream a b Full old h = (absent contents flash stream a b F h, refl)
 
+-- a stream that begins as no header does
+pub raw_listed : (bytes : List ℕ) → header_at bytes ≡ Err header.Raw → stream_listing bytes ≡ Ok (listing_of bytes)
+raw_listed bytes e = ap (listing_by bytes) e
+
+nothing_listed : stream_listing [] ≡ Ok (listing_of [])
+nothing_listed = raw_listed [] ((raw_at [] (starts_with nat_eq [] fixed_bytes) refl).1 (λ rest. λ e. absurd cc))
+
 -- a stream that could not be selected
 pub not_selected : (contents : Option (List ℕ → Option (List ℕ))) (flash : Option (List ℕ)) (L : List ℕ → Type 0) (stream : List ℕ) (a b : ℕ) (Full : Type 0) (old : Option (List ℕ)) → HasRisen a b
     → Ends (with_inputs contents flash) (RisesFor (stream ∷ []) a b) L (Some (Listing stream)) Full old old (Err (read_fault stream))
-not_selected contents flash L stream a b Full old h = (inl (inl refl, h), ([], (front_none contents flash stream, none_put old (listing_of []))))
+not_selected contents flash L stream a b Full old h = (inl (inl refl, h), ([], (front_none contents flash stream, (listing_of [], (nothing_listed, none_put old (listing_of []))))))
 
 -- the bytes that were taken are a front of the input
 front_taken : (contents : Option (List ℕ → Option (List ℕ))) (flash : Option (List ℕ)) (name taken : List ℕ) (rest : Option (List ℕ)) → Selects contents name (preceded taken rest) → IsPrefixOf (with_inputs contents flash) name taken
@@ -54,12 +67,12 @@ front_taken (Some inputs) flash name taken (Some rest) s =
 
 -- a stream whose reading failed after these bytes
 pub broken : (contents : Option (List ℕ → Option (List ℕ))) (flash : Option (List ℕ)) (L : List ℕ → Type 0) (stream taken : List ℕ) (rest : Option (List ℕ)) (a b : ℕ) (Full : Type 0) (old now : Option (List ℕ))
-    → Selects contents stream (preceded taken rest) → HasRisen a b → PutsFront old (listing_of taken) now → Ends (with_inputs contents flash) (RisesFor (stream ∷ []) a b) L (Some (Listing stream)) Full old now (Err (read_fault stream))
+    → Selects contents stream (preceded taken rest) → HasRisen a b → PutsListing taken old now → Ends (with_inputs contents flash) (RisesFor (stream ∷ []) a b) L (Some (Listing stream)) Full old now (Err (read_fault stream))
 broken contents flash L stream taken rest a b Full old now s h p = (inl (inl refl, h), (taken, (front_taken contents flash stream taken rest s, p)))
 
 -- memory that ended after these bytes
 pub out_of_memory : (contents : Option (List ℕ → Option (List ℕ))) (flash : Option (List ℕ)) (F L : List ℕ → Type 0) (stream taken : List ℕ) (rest : Option (List ℕ)) (Full : Type 0) (old now : Option (List ℕ))
-    → Selects contents stream (preceded taken rest) → PutsFront old (listing_of taken) now → Ends (with_inputs contents flash) F L (Some (Listing stream)) Full old now (Err no_memory)
+    → Selects contents stream (preceded taken rest) → PutsListing taken old now → Ends (with_inputs contents flash) F L (Some (Listing stream)) Full old now (Err no_memory)
 out_of_memory contents flash F L stream taken rest Full old now s p = (inl refl, (taken, (front_taken contents flash stream taken rest s, p)))
 
 -- what is known of a stream of which these bytes were taken
@@ -70,61 +83,60 @@ known_all inputs stream taken (Some left) s =
     let same : taken ++ left ≡ s.0 = cc in
     (left, (refl, s.1 ∙ ap Some (sym same)))
 
+-- what may follow the bytes that were taken
+pub may_follow : (last : Bool) (rest : Option (List ℕ)) (left : List ℕ) → rest ≡ Some left → (last ≡ true → AtEnd rest) → MayFollow last left
+may_follow last rest left e end = λ l. let none = rw e at (end l) in none
+
 -- a sink that failed after a front of the listing of these bytes and any that may follow
-pub unwritten : (contents : Option (List ℕ → Option (List ℕ))) (flash : Option (List ℕ)) (F L : List ℕ → Type 0) (stream taken : List ℕ) (rest : Option (List ℕ)) (Full : Type 0) (old now : Option (List ℕ))
-    → Selects contents stream (preceded taken rest) → Full → PutsFront old (listing_of taken) now → ((left : List ℕ) → AreBytes (taken ++ left) → PutsFront old (listing_of (taken ++ left)) now)
+pub unwritten : (contents : Option (List ℕ → Option (List ℕ))) (flash : Option (List ℕ)) (F L : List ℕ → Type 0) (stream taken : List ℕ) (rest : Option (List ℕ)) (last : Bool) (Full : Type 0) (old now : Option (List ℕ))
+    → Selects contents stream (preceded taken rest) → (last ≡ true → AtEnd rest) → Full → PutsListing taken old now → ((left : List ℕ) → MayFollow last left → AreBytes (taken ++ left) → PutsListing (taken ++ left) old now)
     → Ends (with_inputs contents flash) F L (Some (Listing stream)) Full old now (Err write_fault)
-unwritten None flash F L stream taken rest Full old now s f here p = (refl, f, (listing_of taken, here))
-unwritten (Some inputs) flash F L stream taken rest Full old now s f here p =
+unwritten None flash F L stream taken rest last Full old now s e f here p = (refl, f, (here.0, here.1.1))
+unwritten (Some inputs) flash F L stream taken rest last Full old now s e f here p =
     let all = known_all inputs stream taken rest s in
-    (refl, f, (taken ++ all.0, (all.1.1, λ fits. p all.0 fits)))
+    (refl, f, (taken ++ all.0, (all.1.1, λ fits. p all.0 (may_follow last rest all.0 all.1.0 e) fits)))
 
--- bytes that begin with a header, whatever follows
-header_stays : (xs ys p : List ℕ) → starts_with nat_eq xs p ≡ true → starts_with nat_eq (xs ++ ys) p ≡ true
-header_stays xs ys p h =
-    let split = (starts_is Decides-eqb xs p (starts_with nat_eq xs p) refl).0 h in
-    let long : length p ≤ length xs = omega (arith, ap length split, length-append p (drop (length p) xs)) in
-    ap (λ t. pointwise nat_eq p t) (take-append-le (length p) xs ys long) ∙ h
+-- what is due for a stream of these bytes, by its listing and its length
+due_over : (stream bytes text : List ℕ) (b : Bool) → stream_listing bytes ≡ Ok text → nat_lt stream_limit (length bytes) ≡ b → listed_bytes stream bytes ≡ (if b then Err (too_large stream) else Ok (record { stopped = false; text = text }))
+due_over stream bytes text true h l = rw (h, l) refl
+due_over stream bytes text false h l = rw (h, l) refl
 
--- bytes that are long enough and do not begin with a header, whatever follows
-pub no_header_stays : (xs ys p : List ℕ) → length p ≤ length xs → starts_with nat_eq xs p ≡ false → starts_with nat_eq (xs ++ ys) p ≡ false
-no_header_stays xs ys p long h = ap (λ t. pointwise nat_eq p t) (take-append-le (length p) xs ys long) ∙ h
+due_refused : (stream bytes : List ℕ) (place : ℕ) → stream_listing bytes ≡ Err place → listed_bytes stream bytes ≡ Err (bad_input stream (input.Byte place))
+due_refused stream bytes place h = rw h refl
 
--- what is due for a stream of these bytes
-abbrev due_of : List ℕ → List ℕ → Result Answer Event
-due_of stream bytes = and_so (judged stream bytes) (λ bytes. Ok (record { stopped = false; text = listing_of bytes }))
-
-due_over : (stream bytes : List ℕ) (b : Bool) → has_header bytes ≡ false → nat_lt stream_limit (length bytes) ≡ b → due_of stream bytes ≡ (if b then Err (too_large stream) else Ok (record { stopped = false; text = listing_of bytes }))
-due_over stream bytes true h l = rw (h, l) refl
-due_over stream bytes false h l = rw (h, l) refl
-
-due_header : (stream bytes : List ℕ) → has_header bytes ≡ true → due_of stream bytes ≡ Err (unbuilt stream)
-due_header stream bytes h = rw h refl
-
-listed_is : (inputs : List ℕ → Option (List ℕ)) (flash : Option (List ℕ)) (stream bytes : List ℕ) → inputs stream ≡ Some bytes → listed (record { inputs = inputs; flash = flash }) stream ≡ due_of stream bytes
+listed_is : (inputs : List ℕ → Option (List ℕ)) (flash : Option (List ℕ)) (stream bytes : List ℕ) → inputs stream ≡ Some bytes → listed (record { inputs = inputs; flash = flash }) stream ≡ listed_bytes stream bytes
 listed_is inputs flash stream bytes e = rw e refl
 
 -- a stream of which more than the limit was taken
-pub oversized : (contents : Option (List ℕ → Option (List ℕ))) (flash : Option (List ℕ)) (F L : List ℕ → Type 0) (stream taken listed_bytes : List ℕ) (rest more : Option (List ℕ)) (Full : Type 0) (old now : Option (List ℕ))
-    → Selects contents stream (preceded taken rest) → Selects contents stream (preceded listed_bytes more) → 13 ≤ length taken → has_header taken ≡ false → stream_limit < length taken → PutsFront old (listing_of listed_bytes) now
+pub oversized : (contents : Option (List ℕ → Option (List ℕ))) (flash : Option (List ℕ)) (F L : List ℕ → Type 0) (stream taken listed_front : List ℕ) (rest more : Option (List ℕ)) (Full : Type 0) (old now : Option (List ℕ))
+    → Selects contents stream (preceded taken rest) → Selects contents stream (preceded listed_front more) → ((left : List ℕ) → (text : List ℕ) × (stream_listing (taken ++ left) ≡ Ok text)) → stream_limit < length taken → PutsListing listed_front old now
     → Ends (with_inputs contents flash) F L (Some (Listing stream)) Full old now (Err (too_large stream))
-oversized None flash F L stream taken listed_bytes rest more Full old now s t k h l p = (inr tt, (listed_bytes, (tt, p)))
-oversized (Some inputs) flash F L stream taken listed_bytes rest more Full old now s t k h l p =
+oversized None flash F L stream taken listed_front rest more Full old now s t h l p = (inr tt, (listed_front, (tt, p)))
+oversized (Some inputs) flash F L stream taken listed_front rest more Full old now s t h l p =
     let all = known_all inputs stream taken rest s in
+    let text = h all.0 in
     let long : nat_lt stream_limit (length (taken ++ all.0)) ≡ true = grind (arith, length-append taken all.0, l, nat_tests) in
-    (inr (tt, listed_is inputs flash stream (taken ++ all.0) all.1.1 ∙ due_over stream (taken ++ all.0) true (no_header_stays taken all.0 fixed_bytes k h) long), (listed_bytes, (front_taken (Some inputs) flash stream listed_bytes more t, p)))
+    (inr (tt, listed_is inputs flash stream (taken ++ all.0) all.1.1 ∙ due_over stream (taken ++ all.0) text.0 true text.1 long), (listed_front, (front_taken (Some inputs) flash stream listed_front more t, p)))
+
+-- a stream whose header is refused
+pub refused : (contents : Option (List ℕ → Option (List ℕ))) (flash : Option (List ℕ)) (F L : List ℕ → Type 0) (stream taken : List ℕ) (rest : Option (List ℕ)) (last : Bool) (place : ℕ) (Full : Type 0) (old : Option (List ℕ))
+    → Selects contents stream (preceded taken rest) → (last ≡ true → AtEnd rest) → IsRefused taken last place → Ends (with_inputs contents flash) F L (Some (Listing stream)) Full old old (Err (bad_input stream (input.Byte place)))
+refused None flash F L stream taken rest last place Full old s e r = (inr tt, refl)
+refused (Some inputs) flash F L stream taken rest last place Full old s e r =
+    let all = known_all inputs stream taken rest s in
+    (inr (tt, listed_is inputs flash stream (taken ++ all.0) all.1.1 ∙ due_refused stream (taken ++ all.0) place (r all.0 (may_follow last rest all.0 all.1.0 e))), refl)
 
 -- a stream whose listing was written
-pub listed_whole : (contents : Option (List ℕ → Option (List ℕ))) (flash : Option (List ℕ)) (F L : List ℕ → Type 0) (stream taken : List ℕ) (rest : Option (List ℕ)) (Full : Type 0) (old now : Option (List ℕ))
-    → Selects contents stream (preceded taken rest) → AtEnd rest → has_header taken ≡ false → length taken ≤ stream_limit → now ≡ appended old (listing_of taken)
-    → Ends (with_inputs contents flash) F L (Some (Listing stream)) Full old now (Ok (record { stopped = false; text = listing_of taken }))
-listed_whole None flash F L stream taken rest Full old now s e h l p = (inr tt, p)
-listed_whole (Some inputs) flash F L stream taken rest Full old now s e h l p =
+pub listed_whole : (contents : Option (List ℕ → Option (List ℕ))) (flash : Option (List ℕ)) (F L : List ℕ → Type 0) (stream taken text : List ℕ) (rest : Option (List ℕ)) (Full : Type 0) (old now : Option (List ℕ))
+    → Selects contents stream (preceded taken rest) → AtEnd rest → stream_listing taken ≡ Ok text → length taken ≤ stream_limit → now ≡ appended old text
+    → Ends (with_inputs contents flash) F L (Some (Listing stream)) Full old now (Ok (record { stopped = false; text = text }))
+listed_whole None flash F L stream taken text rest Full old now s e h l p = (inr tt, p)
+listed_whole (Some inputs) flash F L stream taken text rest Full old now s e h l p =
     let all = known_all inputs stream taken rest s in
     let none : all.0 ≡ [] = let end = rw all.1.0 at e in end in
     let whole : inputs stream ≡ Some taken = all.1.1 ∙ ap (λ t. Some (taken ++ t)) none ∙ ap Some (append-nil taken) in
     let short : nat_lt stream_limit (length taken) ≡ false = grind (arith, l, nat_tests) in
-    (inr (tt, listed_is inputs flash stream taken whole ∙ due_over stream taken false h short), p)
+    (inr (tt, listed_is inputs flash stream taken whole ∙ due_over stream taken text false h short), p)
 
 -- the same event
 pub ends_same : (known : Option Known) (F L : List ℕ → Type 0) (form : Option Asked) (Full : Type 0) (old now : Option (List ℕ)) (x y : Event) → x ≡ y → Ends known F L form Full old now (Err y) → Ends known F L form Full old now (Err x)
@@ -152,3 +164,22 @@ err_weaker (Err e) f p = f e p
 pub ok_weaker : {A B : Type 0} {P Q : A → Type 0} (r : Result A B) → ((a : A) → P a → Q a) → IfOk r P → IfOk r Q
 ok_weaker (Ok a) f p = f a p
 ok_weaker (Err e) f p = tt
+
+-- nothing was taken of a selected stream
+nothing_taken : (contents : Option (List ℕ → Option (List ℕ))) (stream : List ℕ) (rest : Option (List ℕ)) → Selects contents stream rest → Selects contents stream (preceded [] rest)
+nothing_taken contents stream None s = s
+nothing_taken contents stream (Some rest) s = s
+
+-- a stream whose front was not read
+pub unfronted : (contents : Option (List ℕ → Option (List ℕ))) (flash : Option (List ℕ)) (stream : List ℕ) (rest rest_now : Option (List ℕ)) (f0 f1 f2 a0 a2 : ℕ) (Full : Type 0) (old : Option (List ℕ)) (event : Event)
+    → f0 ≤ f1 → Selects contents stream rest → Unfronted rest rest_now stream f1 f2 event
+    → Ends (with_inputs contents flash) (RisesFor (stream ∷ []) f0 f2) (RisesFor (stream ∷ []) a0 a2) (Some (Listing stream)) Full old old (Err event)
+unfronted contents flash stream rest rest_now f0 f1 f2 a0 a2 Full old event f s (inl h) =
+    ends_same (with_inputs contents flash) (RisesFor (stream ∷ []) f0 f2) (RisesFor (stream ∷ []) a0 a2) (Some (Listing stream)) Full old old event no_memory h
+    (out_of_memory contents flash (RisesFor (stream ∷ []) f0 f2) (RisesFor (stream ∷ []) a0 a2) stream [] rest Full old old (nothing_taken contents stream rest s) (listing_of [], (nothing_listed, none_put old (listing_of []))))
+unfronted contents flash stream rest rest_now f0 f1 f2 a0 a2 Full old event f s (inr (inl h)) =
+    ends_same (with_inputs contents flash) (RisesFor (stream ∷ []) f0 f2) (RisesFor (stream ∷ []) a0 a2) (Some (Listing stream)) Full old old event (read_fault stream) h.0
+    (broken contents flash (RisesFor (stream ∷ []) a0 a2) stream [] rest f0 f2 Full old old (nothing_taken contents stream rest s) (risen_from f0 f1 f2 f h.1) (listing_of [], (nothing_listed, none_put old (listing_of []))))
+unfronted contents flash stream rest rest_now f0 f1 f2 a0 a2 Full old event f s (inr (inr h)) =
+    ends_same (with_inputs contents flash) (RisesFor (stream ∷ []) f0 f2) (RisesFor (stream ∷ []) a0 a2) (Some (Listing stream)) Full old old event (bad_input stream (input.Byte h.place)) h.is
+    (refused contents flash (RisesFor (stream ∷ []) f0 f2) (RisesFor (stream ∷ []) a0 a2) stream h.bytes rest_now h.last h.place Full old (subst (λ r. Selects contents stream r) h.taken s) h.end h.refused)

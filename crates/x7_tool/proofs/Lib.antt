@@ -1,6 +1,11 @@
 pub mod AsmLemmas
 pub mod Causes
+pub mod HeadLemmas
+pub mod FrontLemmas
 pub mod PlayLemmas
+pub mod PlayerLemmas
 pub mod ReadLemmas
+pub mod ReportLemmas
 pub mod RunLemmas
 pub mod TurnLemmas
+pub mod FormLemmas

@@ -1,9 +1,7 @@
 -- What is known where a play ends.
-use Rattle.std.proofs.Common.{◌≡◌, ℕ, zero, suc, ◌+◌, ◌-◌, ◌≤◌, ◌<◌, List, [], ◌∷◌, ◌++◌, length, length-append, take, drop, Bool, true, false, Option, None, Some, Ok, Err, refl, ap, subst, sym, ◌∙◌, append_assoc, append-nil, arith, inl, inr, ◌⊎◌}
+use Rattle.std.proofs.Common.{◌≡◌, ℕ, zero, suc, ◌+◌, ◌≤◌, ◌<◌, List, [], ◌∷◌, ◌++◌, length, length-append, take, Bool, true, false, Option, Some, Ok, Err, refl, ap, subst, sym, ◌∙◌, arith, inl, inr, ◌⊎◌}
 use Rattle.std.specs.Prelude.{is_some, nat_lt}
 use Rattle.std.proofs.lemmas.Bool.Decides.{nat_tests}
-use Rattle.std.proofs.Math.Seq.{take-add, take-length}
-use Rattle.std.proofs.lemmas.List.{length-take, take-append-drop}
 use Rattle.x7_words.specs.Word.{AreBytes}
 use Rattle.x7_part.specs.declared.fault.PartFault.{PartFault}
 use Rattle.x7_part.specs.declared.fault.PartFault.TheVariants as part
@@ -14,19 +12,19 @@ use Rattle.x7_engine.specs.declared.fed.Fed.TheVariants as fed
 use Rattle.x7_engine.specs.Kept.{on_the_bench}
 use Rattle.x7_engine.specs.ReadBuffer.{IsFull, IsFullBy, ReadBufState, gathered, with_words}
 use Rattle.x7_engine.proofs.FeedLemmas.{told_all, told_within}
-use Rattle.x7_engine.specs.Standing.{NoWordDue, Answers, DeviceState, DeviceStandsFor, taken_in, told_of}
-use Rattle.x7_engine.specs.State.{line_by, reads_of, state_of, stop_in}
+use Rattle.x7_engine.specs.Standing.{NoWordDue, DeviceState, DeviceStandsFor, told_of}
+use Rattle.x7_engine.specs.State.{line_by, memory_in, reads_of, state_of, stop_in}
 use Rattle.x7_engine.specs.Stops.{Stopped, fault_of}
+use Rattle.x7_memory.specs.FrameMap.{FrameMap}
 use Rattle.x7_tool.specs.Event.{too_many_reads}
 use Rattle.x7_tool.specs.Outcome.{Known, part_by, reads_limit, report_of, reported}
 use Rattle.x7_part.specs.PartFile.{part_in}
-use Rattle.x7_tool.specs.Play.{IsPlayed, part_event}
+use Rattle.x7_tool.specs.Play.{IsPlayed, emptied, part_event}
 use Rattle.x7_tool.specs.Report.{report_text}
 use Rattle.x7_tool.specs.Run.{IsCaused}
 use Rattle.x7_tool.proofs.ReadLemmas.{works}
-use Rattle.x7_words.proofs.ListLemmas.{all_front}
 use Rattle.x7_engine.proofs.ReadsLemmas.{reads_grow}
-use Rattle.x7_engine.proofs.StateLemmas.{stop_is_final-reads, stop_is_final-state, stop_is_final-stop}
+use Rattle.x7_engine.proofs.StateLemmas.{stop_is_final-memory, stop_is_final-reads, stop_is_final-state, stop_is_final-stop}
 
 -- a part file that gave no part
 pub refused : (told : Option Known) (F L : List ℕ → Type 0) (name text : List ℕ) (fault : PartFault) → (fault ≡ part.NoMemory) ⊎ (part_in text ≡ Err fault) → IsCaused told F L (λ t. part_by name (part_in text)) (Err (part_event name fault))
@@ -38,13 +36,7 @@ refused told F L name text (part.Range which) (inr h) = works told F L (part_by 
 refused told F L name text (part.SameRow n) (inr h) = works told F L (part_by name (part_in text)) (Err (part_event name (part.SameRow n))) tt tt (ap (part_by name) h)
 refused told F L name text (part.TooMany n) (inr h) = works told F L (part_by name (part_in text)) (Err (part_event name (part.TooMany n))) tt tt (ap (part_by name) h)
 
--- ---- words read out
-
 -- ---- one turn of a play
-
--- an empty buffer of so many words
-abbrev pub emptied : ReadBufState
-emptied = record { most = Some 4096; words = [] }
 
 pub words_are : (old new : ReadBufState) (more : List ℕ) → new ≡ with_words old more → old ≡ emptied → new.words ≡ more
 words_are old new more e o = ap (λ (b : ReadBufState). b.words) e ∙ ap (λ (b : ReadBufState). gathered b.most b.words more) o
@@ -58,15 +50,7 @@ emptied_again full empty e m = e ∙ ap (λ (most : Option ℕ). record { most =
 pub full_words : (b : ReadBufState) → b.most ≡ Some 4096 → IsFull b → length b.words ≡ 4096
 full_words b m f = subst (λ (most : Option ℕ). IsFullBy most (length b.words)) m f
 
-pub taken_more : (bytes : List ℕ) (at n : ℕ) → take (at + n) bytes ≡ take at bytes ++ take n (drop at bytes)
-taken_more bytes at n = take-add at n bytes
-
 -- ---- the ends of a play
-
--- what was taken, and what is left of the bytes
-pub bytes_split : (bytes : List ℕ) (at n : ℕ) → bytes ≡ (take at bytes ++ take n (drop at bytes)) ++ drop n (drop at bytes)
-bytes_split bytes at n =
-    sym (append_assoc (take at bytes) (take n (drop at bytes)) (drop n (drop at bytes)) ∙ ap (λ x. take at bytes ++ x) (take-append-drop n (drop at bytes)) ∙ take-append-drop at bytes)
 
 -- more words than the limit were told
 pub over_limit : (part : PartData) (d : DeviceState) (bytes reads words prefix rest : List ℕ) → AreBytes bytes → bytes ≡ prefix ++ rest → told_of part on_the_bench d prefix ≡ reads ++ words → 16777216 < length reads + length words
@@ -88,7 +72,7 @@ is_end fed.All h = tt
 is_end (fed.Stopped n) h = tt
 is_end (fed.Iprog n) h = tt
 
-stopped_end : (part : PartData) (bytes prefix rest : List ℕ) (d : DeviceState) (reads : List ℕ) (s : Stopped) → AreBytes bytes → bytes ≡ prefix ++ rest → DeviceStandsFor part on_the_bench false d prefix → reads ≡ told_of part on_the_bench d prefix → length reads ≤ reads_limit
+pub stopped_end : (part : PartData) (bytes prefix rest : List ℕ) (d : DeviceState) (reads : List ℕ) (s : Stopped) → AreBytes bytes → bytes ≡ prefix ++ rest → DeviceStandsFor part on_the_bench false d prefix → reads ≡ told_of part on_the_bench d prefix → length reads ≤ reads_limit
     → stop_in part on_the_bench prefix ≡ Some s → NoWordDue d → IsPlayed part bytes d reads
 stopped_end part bytes prefix rest d reads s fits split stands told few stop due =
     let all : AreBytes (prefix ++ rest) = subst (λ x. AreBytes x) split fits in
@@ -97,28 +81,9 @@ stopped_end part bytes prefix rest d reads s fits split stands told few stop due
       stands = stands;
       stop = ap (stop_in part on_the_bench) split ∙ stop_is_final-stop part on_the_bench prefix rest s all stop ∙ sym stop;
       state = ap (state_of part on_the_bench false) split ∙ stop_is_final-state part on_the_bench false prefix rest s all stop;
+      memory = ap (memory_in part on_the_bench) split ∙ stop_is_final-memory part on_the_bench prefix rest s all stop;
+      none_due = due;
       reads_are = told ∙ told_all part on_the_bench d prefix due ∙ sym (ap (reads_of part on_the_bench) split ∙ stop_is_final-reads part on_the_bench prefix rest s all stop);
-      few = few;
-    }
-
--- where a feed doesn't wait for room, the play has ended
-pub play_end : (part : PartData) (bytes : List ℕ) (at : ℕ) (d : DeviceState) (read : ReadBufState) (reads : List ℕ) (f : Fed) → AreBytes bytes → IsEnd f
-    → DeviceStandsFor part on_the_bench false d (take at bytes ++ take (taken_in (length (drop at bytes)) f) (drop at bytes))
-    → Answers part on_the_bench d (take at bytes ++ take (taken_in (length (drop at bytes)) f) (drop at bytes)) read f
-    → reads ≡ told_of part on_the_bench d (take at bytes ++ take (taken_in (length (drop at bytes)) f) (drop at bytes)) → length reads ≤ reads_limit → IsPlayed part bytes d reads
-play_end part bytes at d read reads (fed.ReadFull n) fits e stands answer told few = absurd e
-play_end part bytes at d read reads (fed.Stopped n) fits e stands answer told few =
-    stopped_end part bytes (take at bytes ++ take n (drop at bytes)) (drop n (drop at bytes)) d reads _ fits (bytes_split bytes at n) stands told few answer.1 answer.2
-play_end part bytes at d read reads (fed.Iprog n) fits e stands answer told few =
-    stopped_end part bytes (take at bytes ++ take n (drop at bytes)) (drop n (drop at bytes)) d reads _ fits (bytes_split bytes at n) stands told few answer.0 answer.1
-play_end part bytes at d read reads fed.All fits e stands answer told few =
-    let whole : take at bytes ++ take (length (drop at bytes)) (drop at bytes) ≡ bytes = ap (λ x. take at bytes ++ x) (take-length (drop at bytes)) ∙ take-append-drop at bytes in
-    record {
-      prefix = take at bytes ++ take (length (drop at bytes)) (drop at bytes);
-      stands = stands;
-      stop = ap (stop_in part on_the_bench) (sym whole);
-      state = ap (state_of part on_the_bench false) (sym whole);
-      reads_are = told ∙ told_all part on_the_bench d (take at bytes ++ take (length (drop at bytes)) (drop at bytes)) answer.1 ∙ ap (reads_of part on_the_bench) whole;
       few = few;
     }
 
@@ -131,15 +96,17 @@ reported_over part bytes k =
     rw long refl
 
 pub reported_is : (part : PartData) (bytes : List ℕ) (d : DeviceState) (reads text : List ℕ) (fault : Option Fault) (stopped : Bool) → (p : IsPlayed part bytes d reads) → fault ≡ fault_of (line_by (stop_in part on_the_bench p.prefix)) → stopped ≡ is_some fault
-    → text ≡ report_text part.name (state_of part on_the_bench false p.prefix) reads → reported part bytes ≡ Ok (record { stopped = stopped; text = text })
+    → text ≡ report_text part (state_of part on_the_bench false p.prefix) reads (memory_in part on_the_bench p.prefix) → reported part bytes ≡ Ok (record { stopped = stopped; text = text })
 unfolding reported
 reported_is part bytes d reads text fault stopped p f s t =
     let few : length (reads_of part on_the_bench bytes) ≤ reads_limit = subst (λ x. length x ≤ reads_limit) p.reads_are p.few in
     let short : nat_lt reads_limit (length (reads_of part on_the_bench bytes)) ≡ false = grind (arith, few, nat_tests) in
     let stop : is_some (fault_of (line_by (stop_in part on_the_bench bytes))) ≡ stopped = ap (λ x. is_some (fault_of (line_by x))) p.stop ∙ sym (ap is_some f) ∙ sym s in
-    let whole : report_text part.name (state_of part on_the_bench false bytes) (reads_of part on_the_bench bytes) ≡ text
-    = ap (λ x. report_text part.name x (reads_of part on_the_bench bytes)) p.state ∙ ap (report_text part.name (state_of part on_the_bench false p.prefix)) (sym p.reads_are) ∙ sym t in
-    let answer : report_of part bytes ≡ record { stopped = stopped; text = text } = ap (λ x. record { stopped = x; text = report_text part.name (state_of part on_the_bench false bytes) (reads_of part on_the_bench bytes) }) stop ∙ ap (λ x. record { stopped = stopped; text = x }) whole in
+    let memory : FrameMap = memory_in part on_the_bench bytes in
+    let whole : report_text part (state_of part on_the_bench false bytes) (reads_of part on_the_bench bytes) memory ≡ text
+    = ap (λ x. report_text part x (reads_of part on_the_bench bytes) memory) p.state ∙ ap (λ x. report_text part (state_of part on_the_bench false p.prefix) x memory) (sym p.reads_are)
+    ∙ ap (report_text part (state_of part on_the_bench false p.prefix) reads) p.memory ∙ sym t in
+    let answer : report_of part bytes ≡ record { stopped = stopped; text = text } = ap (λ x. record { stopped = x; text = report_text part (state_of part on_the_bench false bytes) (reads_of part on_the_bench bytes) memory }) stop ∙ ap (λ x. record { stopped = stopped; text = x }) whole in
     rw short (ap Ok answer)
 
 -- ---- lists

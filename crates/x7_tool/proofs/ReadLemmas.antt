@@ -1,10 +1,22 @@
 -- Inputs that are read whole, one after the other, and what that comes to.
-use Rattle.std.proofs.Common.{◌≡◌, ◌⊎◌, ℕ, zero, suc, List, [], ◌∷◌, ◌++◌, ◌+◌, ◌-◌, ◌≤◌, ◌<◌, drop, drop-cons, get_or, add-one, length, length-append, map, Option, None, Some, Result, Ok, Err, refl, ap, append_assoc, subst, sym, ◌∙◌, arith, inl, inr}
+use Rattle.std.proofs.Common.{◌≡◌, ◌⊎◌, ℕ, zero, suc, List, [], Bool, true, false, append-nil, ◌∷◌, ◌++◌, ◌+◌, ◌-◌, ◌≤◌, ◌<◌, drop, drop-cons, get_or, take, add-one, length, length-append, map, Option, None, Some, Result, Ok, Err, refl, ap, append_assoc, subst, sym, ◌∙◌, arith, inl, inr}
+use Rattle.std.specs.Prelude.{nat_lt}
+use Rattle.std.proofs.lemmas.Bool.Decides.{nat_tests}
+use Rattle.std.proofs.lemmas.List.{drop-take}
+use Rattle.x7_words.specs.Input.{AtEnd, Selects, preceded}
+use Rattle.x7_words.specs.Word.{AreBytes}
 use Rattle.x7_words.proofs.CountLemmas.{risen_from}
-use Rattle.x7_part.specs.Part.{PartData}
-use Rattle.x7_tool.specs.Event.{Event, Cause, Want, Fault, Absence, cause_of}
-use Rattle.x7_tool.specs.Outcome.{Known, and_so, put_before, data_of, part_by, raw, whole_in, with_inputs}
-use Rattle.x7_part.specs.PartFile.{part_in}
+use Rattle.x7_words.proofs.InputLemmas.{preceded-preceded}
+use Rattle.x7_header.specs.Header.{Contents}
+use Rattle.x7_header.specs.Reading.{header_at}
+use Rattle.x7_header.specs.declared.fault.HeaderFault.{HeaderFault}
+use Rattle.x7_header.specs.declared.fault.HeaderFault.TheVariants as header
+use Rattle.x7_tool.specs.declared.bad_input.InputFault.TheVariants as input
+use Rattle.x7_tool.specs.Event.{Event, Cause, Want, Fault, Absence, bad_input, cause_of}
+use Rattle.x7_tool.specs.Outcome.{Known, StreamRead, and_so, data_by, data_in, data_of, put_before, read_of, whole_in, with_inputs}
+use Rattle.x7_tool.specs.Turn.{Unread, UnreadRest}
+use Rattle.x7_tool.proofs.Causes.{known_all}
+use Rattle.x7_tool.proofs.HeadLemmas.{data_more}
 use Rattle.x7_tool.specs.Run.{Among, FreeBy, IsCaused, IsCausedBy, IsDecided, IsFree, IsOpen, RisesFor}
 
 -- ---- one input
@@ -62,41 +74,35 @@ before_before : (front bytes : List ℕ) (more : Result (List ℕ) Event) → pu
 before_before front bytes (Ok more) = ap Ok (sym (append_assoc front bytes more))
 before_before front bytes (Err event) = refl
 
--- what is due for the streams that are left, after what was read
-abbrev pub Rests : Option (List ℕ → Option (List ℕ)) → List (List ℕ) → ℕ → List (List ℕ) → List ℕ → Type 0
-Rests None names limit left whole = Unit {0}
-Rests (Some inputs) names limit left whole = (flash : Option (List ℕ)) → data_of (record { inputs = inputs; flash = flash }) limit names ≡ put_before whole (data_of (record { inputs = inputs; flash = flash }) (limit - length whole) left)
+-- what is due for the streams that are left, after what was read, with so much room left
+abbrev pub Rests : Option (List ℕ → Option (List ℕ)) → List (List ℕ) → ℕ → List (List ℕ) → ℕ → List ℕ → Type 0
+Rests None names limit left room whole = Unit {0}
+Rests (Some inputs) names limit left room whole = (flash : Option (List ℕ)) → data_of (record { inputs = inputs; flash = flash }) limit names ≡ put_before whole (data_of (record { inputs = inputs; flash = flash }) room left)
 
-one_more : (r : Result (List ℕ) Event) (rest : ℕ → Result (List ℕ) Event) (limit : ℕ) (whole new : List ℕ) → put_before whole r ≡ Ok new
-    → put_before whole (and_so r (λ bytes. put_before bytes (rest (limit - length whole - length bytes)))) ≡ put_before new (rest (limit - length new))
-one_more (Err event) rest limit whole new e = absurd (cc)
-one_more (Ok bytes) rest limit whole new e =
-    let same : whole ++ bytes ≡ new = cc in
-    let size : limit - length whole - length bytes ≡ limit - length new = let long : length new ≡ length whole + length bytes = ap length (sym same) ∙ length-append whole bytes in omega arith in
-    rw (size, ← same) (before_before whole bytes (rest (limit - length (whole ++ bytes))))
+-- a stream more was read
+one_more : (read : Result StreamRead Event) (rest : ℕ → Result (List ℕ) Event) (whole : List ℕ) (s : StreamRead) → read ≡ Ok s → put_before whole (and_so read (λ stream. put_before stream.bytes (rest stream.room))) ≡ put_before (whole ++ s.bytes) (rest s.room)
+one_more read rest whole s e = rw e (before_before whole s.bytes (rest s.room))
 
-pub rests_next : (contents : Option (List ℕ → Option (List ℕ))) (F L : List ℕ → Type 0) (names : List (List ℕ)) (limit : ℕ) (name : List ℕ) (left : List (List ℕ)) (whole new : List ℕ) → Rests contents names limit (name ∷ left) whole
-    → ((flash : Option (List ℕ)) → IsCaused (with_inputs contents flash) F L (λ t. put_before whole (and_so (whole_in t (limit - length whole) name) (raw name))) (Ok new)) → Rests contents names limit left new
-rests_next None F L names limit name left whole new r h = tt
-rests_next (Some inputs) F L names limit name left whole new r h = λ flash. at flash (h flash)
+-- a stream was refused
+one_less : (read : Result StreamRead Event) (rest : ℕ → Result (List ℕ) Event) (whole : List ℕ) (event : Event) → read ≡ Err event → put_before whole (and_so read (λ stream. put_before stream.bytes (rest stream.room))) ≡ Err event
+one_less read rest whole event e = rw e refl
+
+rests_next : (contents : Option (List ℕ → Option (List ℕ))) (F L : List ℕ → Type 0) (names : List (List ℕ)) (limit : ℕ) (name : List ℕ) (left : List (List ℕ)) (room : ℕ) (whole : List ℕ) (s : StreamRead) → Rests contents names limit (name ∷ left) room whole
+    → ((flash : Option (List ℕ)) → IsCaused (with_inputs contents flash) F L (λ t. read_of t room name) (Ok s)) → Rests contents names limit left s.room (whole ++ s.bytes)
+rests_next None F L names limit name left room whole s r h = tt
+rests_next (Some inputs) F L names limit name left room whole s r h = λ flash. at flash (h flash)
   where
-    at : (flash : Option (List ℕ)) → IsCaused (Some (record { inputs = inputs; flash = flash })) F L (λ t. put_before whole (and_so (whole_in t (limit - length whole) name) (raw name))) (Ok new)
-        → data_of (record { inputs = inputs; flash = flash }) limit names ≡ put_before new (data_of (record { inputs = inputs; flash = flash }) (limit - length new) left)
+    at : (flash : Option (List ℕ)) → IsCaused (Some (record { inputs = inputs; flash = flash })) F L (λ t. read_of t room name) (Ok s)
+        → data_of (record { inputs = inputs; flash = flash }) limit names ≡ put_before (whole ++ s.bytes) (data_of (record { inputs = inputs; flash = flash }) s.room left)
     at flash (inl q) = absurd q
-    at flash (inr q) =
-        r flash ∙ one_more (and_so (whole_in (record { inputs = inputs; flash = flash }) (limit - length whole) name) (raw name)) (λ room. data_of (record { inputs = inputs; flash = flash }) room left) limit whole new q.1
+    at flash (inr q) = r flash ∙ one_more (read_of (record { inputs = inputs; flash = flash }) room name) (λ room. data_of (record { inputs = inputs; flash = flash }) room left) whole s q.1
 
-pub rests_stop : (contents : Option (List ℕ → Option (List ℕ))) (flash : Option (List ℕ)) (F L : List ℕ → Type 0) (names : List (List ℕ)) (limit : ℕ) (name : List ℕ) (left : List (List ℕ)) (whole : List ℕ) (event : Event) → Rests contents names limit (name ∷ left) whole
-    → IsCaused (with_inputs contents flash) F L (λ t. put_before whole (and_so (whole_in t (limit - length whole) name) (raw name))) (Err event)
-    → IsCaused (with_inputs contents flash) F L (λ t. data_of t limit names) (Err event)
-rests_stop contents flash F L names limit name left whole event r (inl q) = inl q
-rests_stop None flash F L names limit name left whole event r (inr q) = inr q
-rests_stop (Some inputs) flash F L names limit name left whole event r (inr q) =
-    inr (q.0, r flash ∙ at (and_so (whole_in (record { inputs = inputs; flash = flash }) (limit - length whole) name) (raw name)) q.1)
-  where
-    at : (x : Result (List ℕ) Event) → put_before whole x ≡ Err event → put_before whole (and_so x (λ bytes. put_before bytes (data_of (record { inputs = inputs; flash = flash }) (limit - length whole - length bytes) left))) ≡ Err event
-    at (Err other) p = p
-    at (Ok bytes) p = absurd (cc)
+rests_stop : (contents : Option (List ℕ → Option (List ℕ))) (flash : Option (List ℕ)) (F L : List ℕ → Type 0) (names : List (List ℕ)) (limit : ℕ) (name : List ℕ) (left : List (List ℕ)) (room : ℕ) (whole : List ℕ) (event : Event) → Rests contents names limit (name ∷ left) room whole
+    → IsCaused (with_inputs contents flash) F L (λ t. read_of t room name) (Err event) → IsCaused (with_inputs contents flash) F L (λ t. data_of t limit names) (Err event)
+rests_stop contents flash F L names limit name left room whole event r (inl q) = inl q
+rests_stop None flash F L names limit name left room whole event r (inr q) = inr q
+rests_stop (Some inputs) flash F L names limit name left room whole event r (inr q) =
+    inr (q.0, r flash ∙ one_less (read_of (record { inputs = inputs; flash = flash }) room name) (λ room. data_of (record { inputs = inputs; flash = flash }) room left) whole event q.1)
 
 among_at : {X : Type 0} (f : X → List ℕ) (ss : List X) (k : ℕ) (s : X) → k < length ss → s ≡ get_or ss k s → Among (map f ss) (f s)
 among_at f [] k s h e = absurd (omega arith)
@@ -114,28 +120,48 @@ left_at f ss k s h e =
 
 -- a stream that ended the command
 pub stream_err : {X : Type 0} (f : X → List ℕ) (contents now : Option (List ℕ → Option (List ℕ))) (flash : Option (List ℕ)) (ss : List X) (k limit room : ℕ) (s : X) (name whole : List ℕ) (f0 f1 f2 a0 a1 a2 : ℕ) (event : Event)
-    → now ≡ contents → k < length ss → s ≡ get_or ss k s → name ≡ f s → room ≡ limit - length whole → f0 ≤ f1 → a0 ≤ a1 → Rests contents (map f ss) limit (map f (drop k ss)) whole
-    → IsCaused (with_inputs now flash) (RisesFor (name ∷ []) f1 f2) (RisesFor (name ∷ []) a1 a2) (λ t. put_before whole (and_so (whole_in t room name) (raw name))) (Err event)
+    → now ≡ contents → k < length ss → s ≡ get_or ss k s → name ≡ f s → f0 ≤ f1 → a0 ≤ a1 → Rests contents (map f ss) limit (map f (drop k ss)) room whole
+    → IsCaused (with_inputs now flash) (RisesFor (name ∷ []) f1 f2) (RisesFor (name ∷ []) a1 a2) (λ t. read_of t room name) (Err event)
     → IsCaused (with_inputs contents flash) (RisesFor (map f ss) f0 f2) (RisesFor (map f ss) a0 a2) (λ t. data_of t limit (map f ss)) (Err event)
-stream_err f contents now flash ss k limit room s name whole f0 f1 f2 a0 a1 a2 event same h e nm rm fl al due got =
-    let got1 = rw (same, rm) at got in
+stream_err f contents now flash ss k limit room s name whole f0 f1 f2 a0 a1 a2 event same h e nm fl al due got =
+    let got1 = rw same at got in
     let eq : map f (drop k ss) ≡ name ∷ map f (drop (suc k) ss) = rw nm (left_at f ss k s h e) in
     let due1 = rw eq at due in
     let among : Among (map f ss) name = rw nm (among_at f ss k s h e) in
     caused_on (with_inputs contents flash) (RisesFor (name ∷ []) f1 f2) (RisesFor (name ∷ []) a1 a2) (RisesFor (map f ss) f0 f2) (RisesFor (map f ss) a0 a2) (λ t. data_of t limit (map f ss)) (Err event)
     (λ n r. (among_one (map f ss) name among n r.0, risen_from f0 f1 f2 fl r.1)) (λ n r. (among_one (map f ss) name among n r.0, risen_from a0 a1 a2 al r.1))
-    (rests_stop contents flash (RisesFor (name ∷ []) f1 f2) (RisesFor (name ∷ []) a1 a2) (map f ss) limit name (map f (drop (suc k) ss)) whole event due1 got1)
+    (rests_stop contents flash (RisesFor (name ∷ []) f1 f2) (RisesFor (name ∷ []) a1 a2) (map f ss) limit name (map f (drop (suc k) ss)) room whole event due1 got1)
 
 -- a stream whose data were read
-pub stream_next : {X : Type 0} (f : X → List ℕ) (contents now : Option (List ℕ → Option (List ℕ))) (F L : List ℕ → Type 0) (ss : List X) (k limit room : ℕ) (s : X) (name whole new : List ℕ)
-    → now ≡ contents → k < length ss → s ≡ get_or ss k s → name ≡ f s → room ≡ limit - length whole → Rests contents (map f ss) limit (map f (drop k ss)) whole
-    → ((flash : Option (List ℕ)) → IsCaused (with_inputs now flash) F L (λ t. put_before whole (and_so (whole_in t room name) (raw name))) (Ok new))
-    → Rests contents (map f ss) limit (map f (drop (k + 1) ss)) new
-stream_next f contents now F L ss k limit room s name whole new same h e nm rm due got =
-    let got1 = rw (same, rm) at got in
+pub stream_next : {X : Type 0} (f : X → List ℕ) (contents now : Option (List ℕ → Option (List ℕ))) (F L : List ℕ → Type 0) (ss : List X) (k limit room : ℕ) (s : X) (name whole : List ℕ) (read : StreamRead)
+    → now ≡ contents → k < length ss → s ≡ get_or ss k s → name ≡ f s → Rests contents (map f ss) limit (map f (drop k ss)) room whole
+    → ((flash : Option (List ℕ)) → IsCaused (with_inputs now flash) F L (λ t. read_of t room name) (Ok read))
+    → Rests contents (map f ss) limit (map f (drop (k + 1) ss)) read.room (whole ++ read.bytes)
+stream_next f contents now F L ss k limit room s name whole read same h e nm due got =
+    let got1 = rw same at got in
     let eq : map f (drop k ss) ≡ name ∷ map f (drop (suc k) ss) = rw nm (left_at f ss k s h e) in
     let due1 = rw eq at due in
-    rw add-one (rests_next contents F L (map f ss) limit name (map f (drop (suc k) ss)) whole new due1 got1)
+    rw add-one (rests_next contents F L (map f ss) limit name (map f (drop (suc k) ss)) room whole read due1 got1)
+
+-- nothing was read
+pub rests_none : (contents : Option (List ℕ → Option (List ℕ))) (names : List (List ℕ)) (limit : ℕ) → Rests contents names limit names limit []
+rests_none None names limit = tt
+rests_none (Some inputs) names limit = λ flash. sym (before_none (data_of (record { inputs = inputs; flash = flash }) limit names))
+
+none_left : {X : Type 0} (k : ℕ) (ss : List X) → length ss ≤ k → drop k ss ≡ []
+none_left zero [] h = refl
+none_left zero (x ∷ xs) h = absurd (omega (arith, h))
+none_left (suc k) [] h = refl
+none_left (suc k) (x ∷ xs) h = none_left k xs (omega (arith, h))
+
+-- all streams were read
+pub rests_all : {X : Type 0} (f : X → List ℕ) (contents : Option (List ℕ → Option (List ℕ))) (flash : Option (List ℕ)) (F L : List ℕ → Type 0) (ss : List X) (k limit room : ℕ) (whole : List ℕ) → length ss ≤ k → Rests contents (map f ss) limit (map f (drop k ss)) room whole
+    → IsCaused (with_inputs contents flash) F L (λ t. data_of t limit (map f ss)) (Ok whole)
+rests_all f None flash F L ss k limit room whole h due = inr tt
+rests_all f (Some inputs) flash F L ss k limit room whole h due =
+    let left : map f (drop k ss) ≡ [] = ap (map f) (none_left k ss h) in
+    let is = due flash ∙ ap (λ names. put_before whole (data_of (record { inputs = inputs; flash = flash }) room names)) left ∙ ap Ok (append-nil whole) in
+    inr (tt, is)
 
 -- an input that was read behind nothing
 pub read_alone : (known : Option Known) (F L : List ℕ → Type 0) (limit : ℕ) (name : List ℕ) (got : Result (List ℕ) Event) → IsCaused known F L (due_after [] limit name) got → IsCaused known F L (λ t. whole_in t limit name) got
@@ -160,3 +186,97 @@ pub unread_by : {A : Type 0} (known : Option Known) (F L : List ℕ → Type 0) 
 unread_by known F L due event Next keeps (inl h) = inl h
 unread_by None F L due event Next keeps (inr h) = inr h
 unread_by (Some t) F L due event Next keeps (inr h) = inr (h.0, subst (λ (r : Result (List ℕ) Event). Next r (Err event)) (sym h.1) (keeps event))
+
+-- ---- the header of a stream
+
+-- a header that is refused is a matter of the contents
+head_by : (A : Type 0) (name bytes : List ℕ) (read : Result (Contents × ℕ) HeaderFault) (event : Event) → data_by name bytes read ≡ Err event → IsOpen {A = A} (Err event) × IsDecided {A = A} (Err event)
+head_by A name bytes (Ok head) event e = absurd (cc)
+head_by A name bytes (Err header.Raw) event e = absurd (cc)
+head_by A name bytes (Err (header.Cut place)) event e =
+    let same : bad_input name (input.Byte place) ≡ event = cc in
+    subst (λ (x : Event). IsOpen {A = A} (Err x) × IsDecided {A = A} (Err x)) same (tt, tt)
+head_by A name bytes (Err (header.Field place)) event e =
+    let same : bad_input name (input.Byte place) ≡ event = cc in
+    subst (λ (x : Event). IsOpen {A = A} (Err x) × IsDecided {A = A} (Err x)) same (tt, tt)
+
+judged_by : (name bytes : List ℕ) (got : Result (List ℕ) Event) (made : List ℕ → StreamRead) → got ≡ data_in name bytes → let end : Result StreamRead Event = and_so got (λ x. Ok (made x)) in IsOpen end × IsDecided end
+judged_by name bytes (Ok after) made e = (tt, tt)
+judged_by name bytes (Err event) made e = head_by StreamRead name bytes (header_at bytes) event (sym e)
+
+-- a stream that was read whole, and its header judged
+pub stream_judged : (known : Option Known) (F L : List ℕ → Type 0) (limit : ℕ) (name whole : List ℕ) (got : Result (List ℕ) Event) → IsCaused known F L (λ t. whole_in t limit name) (Ok whole) → got ≡ data_in name whole
+    → IsCaused known F L (λ t. read_of t limit name) (and_so got (λ bytes. Ok (record { bytes = bytes; room = limit - length whole })))
+stream_judged known F L limit name whole got read e =
+    let made : List ℕ → StreamRead = λ bytes. record { bytes = bytes; room = limit - length whole } in
+    let judged = judged_by name whole got made e in
+    after_text known F L limit name whole (λ text. and_so (data_in name text) (λ bytes. Ok (record { bytes = bytes; room = limit - length text }))) (and_so got (λ bytes. Ok (made bytes))) read
+    (works known F L (and_so (data_in name whole) (λ bytes. Ok (made bytes))) (and_so got (λ bytes. Ok (made bytes))) judged.0 judged.1 (ap (λ d. and_so d (λ bytes. Ok (made bytes))) (sym e)))
+
+-- ---- an input that is read turn by turn
+
+pub rest_more : (old mid new : Option (List ℕ)) (taken piece : List ℕ) → old ≡ preceded taken mid → mid ≡ preceded piece new → old ≡ preceded (taken ++ piece) new
+rest_more old mid new taken piece e f = e ∙ ap (preceded taken) f ∙ preceded-preceded taken piece new
+
+pub rest_unread : (old mid new : Option (List ℕ)) (name taken : List ℕ) (limit left f0 f1 f2 : ℕ) (event : Event) → old ≡ preceded taken mid → length taken + left ≡ limit → f0 ≤ f1 → Unread mid new name left f1 f2 event → UnreadRest old name limit f0 f2 event
+rest_unread old mid new name taken limit left f0 f1 f2 event e n fl (inl h) = inl (h.0, risen_from f0 f1 f2 fl h.1)
+rest_unread old mid new name taken limit left f0 f1 f2 event e n fl (inr h) =
+    let piece = h.1.0 in
+    inr (h.0, (taken ++ piece, (new, (rest_more old mid new taken piece e h.1.1.0, omega (arith, n, h.1.1.1, length-append taken piece)))))
+
+-- an input that was read to its end
+whole_read : (contents : Option (List ℕ → Option (List ℕ))) (flash : Option (List ℕ)) (F L : List ℕ → Type 0) (name whole : List ℕ) (rest : Option (List ℕ)) (limit : ℕ) → Selects contents name (preceded whole rest) → AtEnd rest → length whole ≤ limit
+    → IsCaused (with_inputs contents flash) F L (λ t. whole_in t limit name) (Ok whole)
+whole_read None flash F L name whole rest limit s e h = inr tt
+whole_read (Some inputs) flash F L name whole rest limit s e h =
+    let all = known_all inputs name whole rest s in
+    let none : all.0 ≡ [] = let end = rw all.1.0 at e in end in
+    let is : inputs name ≡ Some whole = all.1.1 ∙ ap (λ t. Some (whole ++ t)) none ∙ ap Some (append-nil whole) in
+    let short : nat_lt limit (length whole) ≡ false = grind (arith, h, nat_tests) in
+    inr (tt, rw (is, short) refl)
+
+-- where the first turn was the last one, nothing more was read
+none_more : (inputs : List ℕ → Option (List ℕ)) (name first more : List ℕ) (mid rest : Option (List ℕ)) → Selects (Some inputs) name (preceded first mid) → mid ≡ preceded more rest → AtEnd mid → more ≡ []
+none_more inputs name first more mid None s e h = let t = known_all inputs name first mid s in let same = t.1.0 in absurd (cc)
+none_more inputs name first [] mid (Some rest) s e h = refl
+none_more inputs name first (x ∷ more) mid (Some rest) s e h = let none = rw e at h in absurd (cc)
+
+-- the first turn is the whole stream, or has as many bytes as the longest header
+enough : (inputs : List ℕ → Option (List ℕ)) (name first more : List ℕ) (mid rest : Option (List ℕ)) (last : Bool) → Selects (Some inputs) name (preceded first mid) → mid ≡ preceded more rest → (last ≡ true → AtEnd mid) → (last ≡ false → 262170 ≤ length first)
+    → (more ≡ []) ⊎ (262170 ≤ length first)
+enough inputs name first more mid rest true s e end long = inl (none_more inputs name first more mid rest s e (end refl))
+enough inputs name first more mid rest false s e end long = inr (long refl)
+
+sum_more : (first more : List ℕ) (left limit : ℕ) → length more + left ≡ limit - length first → length first ≤ limit → (left ≡ limit - length (first ++ more)) × (length (first ++ more) ≤ limit)
+sum_more first more left limit n l = (omega (arith, n, l, length-append first more), omega (arith, n, l, length-append first more))
+
+-- a stream whose data were read turn by turn
+pub stream_read : (contents : Option (List ℕ → Option (List ℕ))) (flash : Option (List ℕ)) (F L : List ℕ → Type 0) (name first more after : List ℕ) (mid rest : Option (List ℕ)) (limit left : ℕ) (last : Bool) → Selects contents name (preceded first mid) → mid ≡ preceded more rest → AtEnd rest
+    → (last ≡ true → AtEnd mid) → (last ≡ false → 262170 ≤ length first) → AreBytes first → length more + left ≡ limit - length first → length first ≤ limit → Ok after ≡ data_in name first
+    → IsCaused (with_inputs contents flash) F L (λ t. read_of t limit name) (Ok (record { bytes = after ++ more; room = left }))
+stream_read None flash F L name first more after mid rest limit left last s e end ends long fits n l head = inr tt
+stream_read (Some inputs) flash F L name first more after mid rest limit left last s e end ends long fits n l head =
+    let whole = first ++ more in
+    let sizes = sum_more first more left limit n l in
+    let taken : Selects (Some inputs) name (preceded whole rest) = subst (λ (r : Option (List ℕ)). Selects (Some inputs) name r) (ap (preceded first) e ∙ preceded-preceded first more rest) s in
+    let judged : data_in name whole ≡ Ok (after ++ more) = data_more name first more fits (enough inputs name first more mid rest last s e ends long) ∙ ap (λ d. and_so d (λ bytes. Ok (bytes ++ more))) (sym head) in
+    let read = stream_judged (with_inputs (Some inputs) flash) F L limit name whole (Ok (after ++ more)) (whole_read (Some inputs) flash F L name whole rest limit taken end sizes.1) (sym judged) in
+    subst (λ (room : ℕ). IsCaused (with_inputs (Some inputs) flash) F L (λ t. read_of t limit name) (Ok (record { bytes = after ++ more; room = room }))) (sym sizes.0) read
+
+-- a stream whose header is refused, after it was read to its end
+pub stream_refused : (contents : Option (List ℕ → Option (List ℕ))) (flash : Option (List ℕ)) (F L : List ℕ → Type 0) (name first more : List ℕ) (mid rest : Option (List ℕ)) (limit : ℕ) (last : Bool) (event : Event) → Selects contents name (preceded first mid) → mid ≡ preceded more rest → AtEnd rest
+    → (last ≡ true → AtEnd mid) → (last ≡ false → 262170 ≤ length first) → AreBytes first → length more ≤ limit - length first → length first ≤ limit → Err event ≡ data_in name first
+    → IsCaused (with_inputs contents flash) F L (λ t. read_of t limit name) (Err event)
+stream_refused None flash F L name first more mid rest limit last event s e end ends long fits n l head = inr (head_by StreamRead name first (header_at first) event (sym head)).0
+stream_refused (Some inputs) flash F L name first more mid rest limit last event s e end ends long fits n l head =
+    let whole = first ++ more in
+    let size : length whole ≤ limit = omega (arith, n, l, length-append first more) in
+    let taken : Selects (Some inputs) name (preceded whole rest) = subst (λ (r : Option (List ℕ)). Selects (Some inputs) name r) (ap (preceded first) e ∙ preceded-preceded first more rest) s in
+    let judged : data_in name whole ≡ Err event = data_more name first more fits (enough inputs name first more mid rest last s e ends long) ∙ ap (λ d. and_so d (λ bytes. Ok (bytes ++ more))) (sym head) in
+    stream_judged (with_inputs (Some inputs) flash) F L limit name whole (Err event) (whole_read (Some inputs) flash F L name whole rest limit taken end size) (sym judged)
+
+-- a slice of a buffer's first bytes
+pub slice_of : (start count : ℕ) (buf : List ℕ) → start ≤ count → drop start (take count buf) ≡ take (count - start) (drop start buf)
+slice_of start count buf h =
+    let sum : start + (count - start) ≡ count = omega (arith, h) in
+    sym (ap (λ k. drop start (take k buf)) sum) ∙ drop-take start (count - start) buf

@@ -1,25 +1,25 @@
 -- What the end of a command says of its status.
-use Rattle.std.proofs.Common.{◌≡◌, ◌≤◌, arith, length, ℕ, List, [], Bool, true, false, Option, None, Some, Result, Ok, Err, refl, ap, subst, sym, ◌∙◌, inl, inr, ◌⊎◌}
+use Rattle.std.proofs.Common.{◌≡◌, ◌≤◌, arith, length, ℕ, List, Bool, true, false, Option, None, Some, Result, Ok, Err, refl, ap, subst, sym, ◌∙◌, inl, inr, ◌⊎◌}
 use Rattle.std.specs.Prelude.{nat_lt}
 use Rattle.std.proofs.lemmas.Bool.Decides.{nat_tests}
 use Rattle.x7_words.specs.Count.{HasRisen}
-use Rattle.x7_listing.specs.Assembly.{IsAsm, asm_limit}
-use Rattle.x7_listing.specs.Listing.{listing_of}
+use Rattle.x7_listing.specs.Assembly.{IsAsm}
+use Rattle.x7_listing.specs.StreamListing.{stream_listing}
 use Rattle.x7_listing.proofs.OutcomeLemmas.{one-outcome}
-use Rattle.x7_listing.proofs.RoundLemmas.{round-trip}
+use Rattle.x7_listing.proofs.StreamLemmas.{stream-back}
 use Rattle.x7_mcs.specs.Flash.{mcs_of}
 use Rattle.x7_mcs.specs.Text.{mcs_text}
 use Rattle.x7_mcs.proofs.BackLemmas.{text-gives}
-use Rattle.x7_words.specs.Sink.{PutsFront, appended}
+use Rattle.x7_words.specs.Sink.{PutsFront}
 use Rattle.x7_tool.specs.declared.refusal.Why.{Why}
 use Rattle.x7_tool.specs.declared.refusal.Why.TheVariants as why
 use Rattle.x7_tool.specs.declared.status.Status.{Status}
 use Rattle.x7_tool.specs.declared.status.Status.TheVariants as status
-use Rattle.x7_tool.specs.Event.{Event, Cause, Wording, Want, Fault, Absence, Break, Contents, cause_of, no_memory, row_of, status_of, usage, write_fault}
-use Rattle.x7_tool.specs.Form.{Asked, Assembling, FromMcs, Listing, Playing, ToMcs, names_flash}
+use Rattle.x7_tool.specs.Event.{Event, Cause, Wording, Want, Fault, Absence, Break, Contents, cause_of, row_of, status_of, usage}
+use Rattle.x7_tool.specs.Form.{Asked, Assembling, FromMcs, Listing, Playing, ToMcs, names_flash, names_of, PlanningFull, PlanningRead}
 use Rattle.x7_tool.specs.Message.{final_status}
-use Rattle.x7_tool.specs.Outcome.{Answer, AssembledAs, Known, Gives, IsOutcome, and_so, mcs_image, present, text_limit, whole_in, with_inputs, within}
-use Rattle.x7_tool.specs.Run.{Agrees, Comes, DecidedBy, OpenBy, Ends, EndsAs, EndsBy, FreeBy, GetsPrefix, IsCausedBy, Leaves, Puts, Says, Shows}
+use Rattle.x7_tool.specs.Outcome.{Answer, AssembledAs, Known, Gives, IsOutcome, and_so, mcs_image, present, text_limit, whole_in, with_inputs, within, known_of}
+use Rattle.x7_tool.specs.Run.{Agrees, Comes, DecidedBy, OpenBy, Ends, EndsAs, EndsBy, FreeBy, GetsPrefix, IsCausedBy, Leaves, Puts, Says, RisesFor}
 use Rattle.x7_tool.specs.Runs.{Back, CausedBy, Fails, FlashState, HasCause, IsQuiet, KeepsFlash, Lacks, LeftBy, Outside, Runs, Wrote, known_in}
 
 -- ---- which status an event has
@@ -179,12 +179,12 @@ leads_back s form known end goal_end (inl n) back = inl n
 leads_back s form known end goal_end (inr h) back = inr (back h)
 
 back_is : (form : Option Asked) (old new : Outside) (s : Status) (end : Result Answer Event) → ((known : Known) → known_in form old ≡ Some known → IsQuiet old new → (s ≡ status.NoMemory) ⊎ IsOutcome known form end) → Back form old new s end
-back_is (Some (Assembling name)) old new s end outcome = λ bytes fits short has quiet.
+back_is (Some (Assembling name)) old new s end outcome = λ bytes text fits short listed has quiet.
     let known : Known = record { inputs = has.0; flash = old.flash.bytes } in
     let is : known_in (Some (Assembling name)) old ≡ Some known = ap (λ (i : Option (List ℕ → Option (List ℕ))). with_inputs i old.flash.bytes) has.1.0 in
-    let whole : whole_in known text_limit name ≡ Ok (listing_of bytes) = ap (λ (i : Option (List ℕ)). and_so (present name i) (within name text_limit)) has.1.1 ∙ within_limit name (listing_of bytes) text_limit has.1.2 in
+    let whole : whole_in known text_limit name ≡ Ok text = ap (λ (i : Option (List ℕ)). and_so (present name i) (within name text_limit)) has.1.1 ∙ within_limit name text text_limit has.1.2 in
     leads_back s (Assembling name) known end (Ok (record { stopped = false; text = bytes })) (outcome known is quiet)
-    (λ h. asm_back name (listing_of bytes) bytes end (round-trip asm_limit bytes fits short) (subst (λ (r : Result (List ℕ) Event). AssembledAs name r end) whole h))
+    (λ h. asm_back name text bytes end (stream-back bytes text fits short listed) (subst (λ (r : Result (List ℕ) Event). AssembledAs name r end) whole h))
 back_is (Some (FromMcs name)) old new s end outcome = λ bytes fits short has quiet.
     let known : Known = record { inputs = has.0; flash = old.flash.bytes } in
     let is : known_in (Some (FromMcs name)) old ≡ Some known = ap (λ (i : Option (List ℕ → Option (List ℕ))). with_inputs i old.flash.bytes) has.1.0 in
@@ -195,6 +195,8 @@ back_is None old new s end outcome = tt
 back_is (Some (Listing stream)) old new s end outcome = tt
 back_is (Some (Playing part streams)) old new s end outcome = tt
 back_is (Some (ToMcs image)) old new s end outcome = tt
+back_is (Some (PlanningFull part frames)) old new s end outcome = tt
+back_is (Some (PlanningRead part far n)) old new s end outcome = tt
 
 -- how a command ended is what its run comes to
 pub runs : (form : Option Asked) (old new : Outside) (s : Status) (end : Result Answer Event) → s ≡ final_status end
@@ -258,3 +260,50 @@ puts_end known F L form Full old new (Err event) (Ok stopped) gets leaves c p = 
 puts_end known F L form Full old new (Err event) (Err other) gets leaves c p =
     let same : other ≡ event = ap event_in p.0 in
     subst (λ (e : Event). Ends known F L (Some form) Full old new (Err e)) (sym same) (ends_by (cause_of event) known F L (Some form) Full old new event (caused_can known F L (λ t end. Gives t form end) event c) c (leaves event p.1))
+
+-- ---- forms whose text is ready before any of it is written
+
+-- such a form: every one but `list`
+abbrev pub IsReady : Asked → Type 0
+IsReady (Listing stream) = ⊥
+IsReady form = Unit {0}
+
+ready_knows : (form : Asked) (inputs : Option (List ℕ → Option (List ℕ))) (flash : Option (List ℕ)) → IsReady form → known_of (Some form) inputs flash ≡ with_inputs inputs flash
+ready_knows (Listing stream) inputs flash r = absurd r
+ready_knows (Playing part streams) inputs flash r = refl
+ready_knows (Assembling text) inputs flash r = refl
+ready_knows (ToMcs image) inputs flash r = refl
+ready_knows (FromMcs text) inputs flash r = refl
+ready_knows (PlanningFull part frames) inputs flash r = refl
+ready_knows (PlanningRead part far n) inputs flash r = refl
+
+ready_gets : (t : Known) (form : Asked) (old new : Option (List ℕ)) (answer : Answer) → IsReady form → Gives t form (Ok answer) → PutsFront old answer.text new → GetsPrefix (Some t) (Some form) old new
+ready_gets t (Listing stream) old new answer r g p = absurd r
+ready_gets t (Playing part streams) old new answer r g p = (answer, (g, p))
+ready_gets t (Assembling text) old new answer r g p = (answer, (g, p))
+ready_gets t (ToMcs image) old new answer r g p = (answer, (g, p))
+ready_gets t (FromMcs text) old new answer r g p = (answer, (g, p))
+ready_gets t (PlanningFull part frames) old new answer r g p = (answer, (g, p))
+ready_gets t (PlanningRead part far n) old new answer r g p = (answer, (g, p))
+
+ready_leaves : (known : Option Known) (form : Asked) (old new : Option (List ℕ)) (event : Event) → IsReady form → new ≡ old → Leaves known (Some form) event old new
+ready_leaves known (Listing stream) old new event r e = absurd r
+ready_leaves known (Playing part streams) old new event r e = e
+ready_leaves known (Assembling text) old new event r e = e
+ready_leaves known (ToMcs image) old new event r e = e
+ready_leaves known (FromMcs text) old new event r e = e
+ready_leaves known (PlanningFull part frames) old new event r e = e
+ready_leaves known (PlanningRead part far n) old new event r e = e
+
+-- such a form ends as it should where its text has its cause and was put
+pub ready_ends : (form : Option Asked) (asks : Asked) (inputs : Option (List ℕ → Option (List ℕ))) (flash : Option (List ℕ)) (faults faults_now absences absences_now : ℕ) (Full : Type 0) (old new : Option (List ℕ)) (whole : Result Answer Event) (got : Result Bool Event)
+    → form ≡ Some asks → IsReady asks → IsCausedBy (with_inputs inputs flash) (RisesFor (names_of (Some asks)) faults faults_now) (RisesFor (names_of (Some asks)) absences absences_now) (λ t end. Gives t asks end) whole → Puts whole Full old new got
+    → EndsAs (known_of form inputs flash) (RisesFor (names_of form) faults faults_now) (RisesFor (names_of form) absences absences_now) form Full old new got
+ready_ends form asks inputs flash faults faults_now absences absences_now Full old new whole got e r c p =
+    let F : List ℕ → Type 0 = RisesFor (names_of (Some asks)) faults faults_now in
+    let L : List ℕ → Type 0 = RisesFor (names_of (Some asks)) absences absences_now in
+    rw e (
+    subst (λ (known : Option Known). EndsAs known F L (Some asks) Full old new got) (sym (ready_knows asks inputs flash r)) (
+    puts_end (with_inputs inputs flash) F L asks Full old new whole got (λ t answer g q. ready_gets t asks old new answer r g q) (λ event q. ready_leaves (with_inputs inputs flash) asks old new event r q) c p
+    )
+    )

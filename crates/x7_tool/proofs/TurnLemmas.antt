@@ -5,24 +5,24 @@ use Rattle.std.proofs.Math.Seq.{take-append-add}
 use Rattle.std.proofs.lemmas.List.{length-take-le, take-take}
 use Rattle.x7_words.specs.Sink.{appended, PutsFront}
 use Rattle.x7_words.specs.Word.{AreBytes}
-use Rattle.x7_words.proofs.SinkLemmas.{appended-appended, front_more}
+use Rattle.x7_words.proofs.SinkLemmas.{appended-appended, appended-nil, front_more}
 use Rattle.x7_packets.specs.ByHand.{reading_of}
 use Rattle.x7_packets.proofs.ByHandLemmas.{reading_is}
-use Rattle.x7_header.specs.Header.{fixed_bytes}
 use Rattle.x7_listing.specs.Listing.{IsListing, listing_of, reading_text}
+use Rattle.x7_listing.specs.StreamListing.{stream_listing}
 use Rattle.x7_listing.specs.Telling.{Finished, ListerStandsFor, ListerState}
 use Rattle.x7_listing.proofs.FrontLemmas.{told_front}
 use Rattle.x7_words.specs.Input.{AtEnd, Selects, preceded}
-use Rattle.x7_words.proofs.ListLemmas.{all-append}
+use Rattle.x7_words.proofs.ListLemmas.{all-append, all_back}
 use Rattle.x7_tool.specs.Form.{Listing}
-use Rattle.x7_tool.specs.Run.{Ends, RisesFor}
+use Rattle.x7_tool.specs.Run.{Ends, PutsListing, RisesFor}
 use Rattle.x7_words.proofs.InputLemmas.{preceded-preceded}
 use Rattle.std.proofs.lemmas.Bool.Decides.{nat_tests}
 use Rattle.x7_words.proofs.CountLemmas.{risen_from}
 use Rattle.x7_tool.specs.Event.{Event, read_fault, too_large, write_fault}
-use Rattle.x7_tool.specs.Outcome.{has_header, stream_limit, with_inputs}
-use Rattle.x7_tool.specs.Turn.{Lists, Unread}
-use Rattle.x7_tool.proofs.Causes.{broken, ends_same, known_all, no_header_stays, oversized, unwritten}
+use Rattle.x7_tool.specs.Outcome.{stream_limit, with_inputs}
+use Rattle.x7_tool.specs.Turn.{Lists, ListsStream, MayFollow, Unread}
+use Rattle.x7_tool.proofs.Causes.{broken, ends_same, known_all, oversized, unwritten}
 
 pub from_ok : {A B P : Type 0} (r : Result A B) → is_err r ≡ false → OnOk r P → P
 from_ok (Ok a) e h = h
@@ -102,41 +102,69 @@ taken_more contents name taken piece old new s e =
     let whole : preceded taken old ≡ preceded (taken ++ piece) new = ap (preceded taken) e ∙ preceded-preceded taken piece new in
     subst (λ r. Selects contents name r) whole s
 
-first_none : (taken : List ℕ) (left : ℕ) → length taken + left ≡ stream_limit → left ≡ stream_limit → taken ≡ []
-first_none [] left k e = refl
-first_none (x ∷ xs) left k e = absurd (omega (arith, k, e))
+-- what was put is a front of the listing of the stream's bytes
+pub line_front : (first now : Option (List ℕ)) (line text : List ℕ) → PutsFront (appended first line) text now → PutsFront first (line ++ text) now
+line_front first now line text p = subst (λ t. PutsFront first (line ++ t) now) (append-nil text) (front_more first (appended first line) now line text [] refl p)
 
-judged_by : (taken piece : List ℕ) (left : ℕ) (b : Bool) → (left == stream_limit) ≡ b → length taken + left ≡ stream_limit → left ≤ stream_limit → (left < stream_limit → (13 ≤ length taken) × (has_header taken ≡ false)) → (b && has_header piece) ≡ false
-    → has_header (taken ++ piece) ≡ false
-judged_by taken piece left true t k m j h =
-    let none : taken ≡ [] = first_none taken left k (grind (arith, nat_tests, t)) in
-    ap (λ x. has_header (x ++ piece)) none ∙ h
-judged_by taken piece left false t k m j h =
-    let less : left < stream_limit = grind (arith, nat_tests, t, m) in
-    let both = j less in
-    no_header_stays taken piece fixed_bytes both.0 both.1
+-- the listing of a whole stream
+pub stream_whole : (bytes line sent : List ℕ) → stream_listing (bytes ++ []) ≡ Ok (line ++ listing_of (sent ++ [])) → stream_listing bytes ≡ Ok (line ++ listing_of sent)
+stream_whole bytes line sent e = ap stream_listing (sym (append-nil bytes)) ∙ e ∙ ap (λ s. Ok (line ++ listing_of s)) (append-nil sent)
 
--- no header stands before the bytes that were taken
-pub judged_more : (taken piece : List ℕ) (left : ℕ) → length taken + left ≡ stream_limit → left ≤ stream_limit → (left < stream_limit → (13 ≤ length taken) × (has_header taken ≡ false)) → (left == stream_limit && has_header piece) ≡ false
-    → has_header (taken ++ piece) ≡ false
-judged_more taken piece left k m j h = judged_by taken piece left (left == stream_limit) refl k m j h
+-- a line that was written in part, and what would follow it
+pub line_part : (first now : Option (List ℕ)) (line more : List ℕ) → PutsFront first line now → PutsFront first (line ++ more) now
+line_part first now line more p = (p.0, (p.1.0 ++ more, ap (λ t. t ++ more) p.1.1 ∙ append_assoc p.0 p.1.0 more, p.1.2))
+
+-- a lister that begins behind a line
+pub begins_behind : (l : ListerState) (old mid : Option (List ℕ)) (line : List ℕ) → ListerStandsFor l [] [] [] → l.text ≡ [] → mid ≡ appended old line → Lists l (appended old line) mid []
+begins_behind l old mid line stands clear e = record { given = []; stands = stands; put = e ∙ sym (appended-nil (appended old line)); clear = clear }
+
+-- a front and then its listing
+pub line_then : (first now : Option (List ℕ)) (line text : List ℕ) → now ≡ appended (appended first line) text → now ≡ appended first (line ++ text)
+line_then first now line text e = e ∙ appended-appended first line text
+
+pub stream_here : (l : ListerState) (first now : Option (List ℕ)) (bytes : List ℕ) → ListsStream l first now bytes → PutsListing bytes first now
+stream_here l first now bytes t =
+    let here = lists_here l (appended first t.line) now t.sent t.lists in
+    (t.line ++ listing_of t.sent, (stream_whole bytes t.line t.sent (t.goes []), line_front first now t.line (listing_of t.sent) here))
+
+-- a stream that goes on
+pub goes_on : (bytes piece line sent : List ℕ) → ((rest : List ℕ) → stream_listing (bytes ++ rest) ≡ Ok (line ++ listing_of (sent ++ rest))) → (rest : List ℕ) → stream_listing ((bytes ++ piece) ++ rest) ≡ Ok (line ++ listing_of ((sent ++ piece) ++ rest))
+goes_on bytes piece line sent g rest = ap stream_listing (append_assoc bytes piece rest) ∙ g (piece ++ rest) ∙ ap (λ s. Ok (line ++ listing_of s)) (sym (append_assoc sent piece rest))
 
 -- a sink that failed in a turn
 pub write_failed : (contents : Option (List ℕ → Option (List ℕ))) (flash : Option (List ℕ)) (F L : List ℕ → Type 0) (stream taken piece same : List ℕ) (l : ListerState) (rest : Option (List ℕ)) (Full : Type 0) (old mid now : Option (List ℕ))
-    → same ≡ piece → Selects contents stream (preceded (taken ++ piece) rest) → Full → Lists l old mid taken → AreBytes same → ((left : List ℕ) → AreBytes (taken ++ (same ++ left)) → PutsFront old (listing_of (taken ++ (same ++ left))) now)
+    → same ≡ piece → Selects contents stream (preceded (taken ++ piece) rest) → Full → (t : ListsStream l old mid taken) → AreBytes same → ((left : List ℕ) → AreBytes (t.sent ++ (same ++ left)) → PutsFront (appended old t.line) (listing_of (t.sent ++ (same ++ left))) now)
     → Ends (with_inputs contents flash) F L (Some (Listing stream)) Full old now (Err write_fault)
 write_failed contents flash F L stream taken piece same l rest Full old mid now e s f t fits p =
-    let joined : (left : List ℕ) → taken ++ (same ++ left) ≡ (taken ++ piece) ++ left = λ left. ap (λ x. taken ++ (x ++ left)) e ∙ sym (append_assoc taken piece left) in
-    let q : (left : List ℕ) → AreBytes ((taken ++ piece) ++ left) → PutsFront old (listing_of ((taken ++ piece) ++ left)) now
-    = λ left fit. subst (λ x. PutsFront old (listing_of x) now) (joined left) (p left (subst (λ x. AreBytes x) (sym (joined left)) fit)) in
-    let all : AreBytes ((taken ++ piece) ++ []) = subst (λ x. AreBytes x) (joined []) (all-append (λ b. b < 256) taken (same ++ []) (stands_fit l t.given taken t.stands) (subst (λ x. AreBytes x) (sym (append-nil same)) fits)) in
-    let here : PutsFront old (listing_of (taken ++ piece)) now = subst (λ x. PutsFront old (listing_of x) now) (append-nil (taken ++ piece)) (q [] all) in
-    unwritten contents flash F L stream (taken ++ piece) rest Full old now s f here q
+    let sent : AreBytes t.sent = stands_fit l t.lists.given t.sent t.lists.stands in
+    let q : (left : List ℕ) → AreBytes left → PutsListing ((taken ++ piece) ++ left) old now
+    = λ left fit.
+    let front : PutsFront (appended old t.line) (listing_of (t.sent ++ (piece ++ left))) now = subst (λ x. PutsFront (appended old t.line) (listing_of (t.sent ++ (x ++ left))) now) e (p left (all-append (λ b. b < 256) t.sent (same ++ left) sent (all-append (λ b. b < 256) same left fits fit))) in
+    (t.line ++ listing_of (t.sent ++ (piece ++ left)), (ap stream_listing (append_assoc taken piece left) ∙ t.goes (piece ++ left), line_front old now t.line (listing_of (t.sent ++ (piece ++ left))) front)) in
+    let here : PutsListing (taken ++ piece) old now = subst (λ x. PutsListing x old now) (append-nil (taken ++ piece)) (q [] tt) in
+    unwritten contents flash F L stream (taken ++ piece) rest false Full old now s (λ l. absurd cc) f here (λ left m fit. q left (all_back (λ b. b < 256) (taken ++ piece) left fit))
+
+-- what was put at the front of a stream
+pub front_here : (taken line sent : List ℕ) (last : Bool) (old now : Option (List ℕ)) → AreBytes sent → ((left : List ℕ) → MayFollow last left → stream_listing (taken ++ left) ≡ Ok (line ++ listing_of (sent ++ left)))
+    → ((left : List ℕ) → AreBytes (sent ++ left) → PutsFront old (line ++ listing_of (sent ++ left)) now) → PutsListing taken old now
+front_here taken line sent last old now fits g p =
+    let put : PutsFront old (line ++ listing_of sent) now = subst (λ s. PutsFront old (line ++ listing_of s) now) (append-nil sent) (p [] (subst AreBytes (sym (append-nil sent)) fits)) in
+    (line ++ listing_of sent, (stream_whole taken line sent (g [] (λ l. refl)), put))
+
+-- a sink that failed at the front of a stream
+pub front_failed : (contents : Option (List ℕ → Option (List ℕ))) (flash : Option (List ℕ)) (F L : List ℕ → Type 0) (stream taken line sent : List ℕ) (rest : Option (List ℕ)) (last : Bool) (Full : Type 0) (old now : Option (List ℕ))
+    → Selects contents stream (preceded taken rest) → (last ≡ true → AtEnd rest) → Full → AreBytes sent → ((left : List ℕ) → MayFollow last left → stream_listing (taken ++ left) ≡ Ok (line ++ listing_of (sent ++ left)))
+    → ((left : List ℕ) → AreBytes (sent ++ left) → PutsFront old (line ++ listing_of (sent ++ left)) now) → Ends (with_inputs contents flash) F L (Some (Listing stream)) Full old now (Err write_fault)
+front_failed contents flash F L stream taken line sent rest last Full old now s e f fits g p =
+    let q : (left : List ℕ) → MayFollow last left → AreBytes left → PutsListing (taken ++ left) old now
+    = λ left m fit. (line ++ listing_of (sent ++ left), (g left m, p left (all-append (λ b. b < 256) sent left fits fit))) in
+    let here : PutsListing taken old now = front_here taken line sent last old now fits g p in
+    unwritten contents flash F L stream taken rest last Full old now s e f here (λ left m fit. q left m (all_back (λ b. b < 256) taken left fit))
 
 -- a sink that failed at the end
 pub end_failed : (contents : Option (List ℕ → Option (List ℕ))) (flash : Option (List ℕ)) (F L : List ℕ → Type 0) (stream taken : List ℕ) (rest : Option (List ℕ)) (Full : Type 0) (old now : Option (List ℕ))
-    → Selects contents stream (preceded taken rest) → AtEnd rest → Full → PutsFront old (listing_of taken) now → Ends (with_inputs contents flash) F L (Some (Listing stream)) Full old now (Err write_fault)
-end_failed None flash F L stream taken rest Full old now s e f p = (refl, f, (listing_of taken, p))
+    → Selects contents stream (preceded taken rest) → AtEnd rest → Full → PutsListing taken old now → Ends (with_inputs contents flash) F L (Some (Listing stream)) Full old now (Err write_fault)
+end_failed None flash F L stream taken rest Full old now s e f p = (refl, f, (p.0, p.1.1))
 end_failed (Some inputs) flash F L stream taken rest Full old now s e f p =
     let all = known_all inputs stream taken rest s in
     let none : all.0 ≡ [] = let end = rw all.1.0 at e in end in
@@ -144,18 +172,14 @@ end_failed (Some inputs) flash F L stream taken rest Full old now s e f p =
 
 -- a turn that could not be read
 pub unread_end : (contents : Option (List ℕ → Option (List ℕ))) (flash : Option (List ℕ)) (stream taken : List ℕ) (rest rest_now : Option (List ℕ)) (l : ListerState) (left f0 f1 f2 a0 a2 : ℕ) (Full : Type 0) (old now : Option (List ℕ)) (event : Event)
-    → f0 ≤ f1 → Selects contents stream (preceded taken rest) → Lists l old now taken → length taken + left ≡ stream_limit → (left < stream_limit → (13 ≤ length taken) × (has_header taken ≡ false)) → Unread rest rest_now stream left f1 f2 event
+    → f0 ≤ f1 → Selects contents stream (preceded taken rest) → ListsStream l old now taken → length taken + left ≡ stream_limit → Unread rest rest_now stream left f1 f2 event
     → Ends (with_inputs contents flash) (RisesFor (stream ∷ []) f0 f2) (RisesFor (stream ∷ []) a0 a2) (Some (Listing stream)) Full old now (Err event)
-unread_end contents flash stream taken rest rest_now l left f0 f1 f2 a0 a2 Full old now event f s t k j (inl h) =
+unread_end contents flash stream taken rest rest_now l left f0 f1 f2 a0 a2 Full old now event f s t k (inl h) =
     ends_same (with_inputs contents flash) (RisesFor (stream ∷ []) f0 f2) (RisesFor (stream ∷ []) a0 a2) (Some (Listing stream)) Full old now event (read_fault stream) h.0
-    (broken contents flash (RisesFor (stream ∷ []) a0 a2) stream taken rest f0 f2 Full old now s (risen_from f0 f1 f2 f h.1) (lists_here l old now taken t))
-unread_end contents flash stream taken rest rest_now l left f0 f1 f2 a0 a2 Full old now event f s t k j (inr h) =
+    (broken contents flash (RisesFor (stream ∷ []) a0 a2) stream taken rest f0 f2 Full old now s (risen_from f0 f1 f2 f h.1) (stream_here l old now taken t))
+unread_end contents flash stream taken rest rest_now l left f0 f1 f2 a0 a2 Full old now event f s t k (inr h) =
     let piece = h.1.0 in
-    let less : left < stream_limit = omega (arith, h.1.1.1, h.1.1.2) in
-    let before = j less in
-    let none = no_header_stays taken piece fixed_bytes before.0 before.1 in
-    let size = length-append taken piece in
-    let long : 13 ≤ length (taken ++ piece) = omega (arith, size, before.0) in
-    let over : stream_limit < length (taken ++ piece) = omega (arith, size, h.1.1.1, k) in
+    let over : stream_limit < length (taken ++ piece) = omega (arith, length-append taken piece, h.1.1.1, k) in
     ends_same (with_inputs contents flash) (RisesFor (stream ∷ []) f0 f2) (RisesFor (stream ∷ []) a0 a2) (Some (Listing stream)) Full old now event (too_large stream) h.0
-    (oversized contents flash (RisesFor (stream ∷ []) f0 f2) (RisesFor (stream ∷ []) a0 a2) stream (taken ++ piece) taken rest_now rest Full old now (taken_more contents stream taken piece rest rest_now s h.1.1.0) s long none over (lists_here l old now taken t))
+    (oversized contents flash (RisesFor (stream ∷ []) f0 f2) (RisesFor (stream ∷ []) a0 a2) stream (taken ++ piece) taken rest_now rest Full old now (taken_more contents stream taken piece rest rest_now s h.1.1.0) s
+    (λ more. (t.line ++ listing_of ((t.sent ++ piece) ++ more), goes_on taken piece t.line t.sent t.goes more)) over (stream_here l old now taken t))

@@ -51,12 +51,17 @@ part_text part.NoMemory = codes "no memory"
 
 -- why an input has no reading
 abbrev pub input_text : InputFault → List ℕ
+input_text (input.Byte place) = codes "byte " ++ decimal place
 input_text (input.Line line) = codes "line " ++ decimal line
 input_text (input.LongLine line) = codes "long line " ++ decimal line
 input_text (input.Sum line want got) = codes "sum line " ++ (decimal line ++ (codes " want " ++ (hex_byte want ++ (codes " got " ++ hex_byte got))))
 input_text (input.LargeLine line) = codes "large line " ++ decimal line
 input_text (input.Overlap place) = codes "overlap " ++ hex_word place
 input_text input.NoEnd = codes "no end"
+input_text (input.AddressLine line) = codes "address line " ++ decimal line
+input_text (input.TwiceLine line) = codes "twice line " ++ decimal line
+input_text input.Foreign = codes "foreign"
+input_text input.Range = codes "range"
 
 -- a row of the table of reasons: the words stand before the name, the detail after it
 pub record Row : Type 0 where
@@ -75,7 +80,6 @@ row_of why.ReadFault = record { ends_as = status.ReadFault; cause = Fault; words
 row_of why.WriteFault = record { ends_as = status.WriteFault; cause = Break; words = codes "write fault"; detail = [] }
 row_of why.NoMemory = record { ends_as = status.NoMemory; cause = Want; words = codes "no memory"; detail = [] }
 row_of why.TooLarge = record { ends_as = status.TooLarge; cause = Contents; words = codes "too large "; detail = [] }
-row_of why.Unbuilt = record { ends_as = status.Unbuilt; cause = Contents; words = codes "not built "; detail = [] }
 
 abbrev pub cause_of : Event → Cause
 cause_of e = (row_of e.reason).cause
@@ -116,6 +120,3 @@ too_large name = record { reason = why.TooLarge; concerned = name }
 -- too many words were read out
 abbrev pub too_many_reads : Event
 too_many_reads = too_large (codes "reads")
-
-abbrev pub unbuilt : List ℕ → Event
-unbuilt name = record { reason = why.Unbuilt; concerned = name }

@@ -1,5 +1,8 @@
 -- The forms of the command line (this project's choice).
-use Rattle.std.specs.Prelude.{ℕ, List, [], ◌∷◌, Option, None, Some, Bool, false, ◌&&◌, if◌then◌else◌, codes, length, nat_le}
+use Rattle.std.specs.Prelude.{ℕ, List, [], ◌∷◌, Option, None, Some, Bool, false, ◌&&◌, if◌then◌else◌, codes, length, nat_le, nat_lt, decimal}
+use Rattle.std.specs.Str.Parse.{digits_value}
+use Rattle.x7_text.specs.Digits.{hex_word}
+use Rattle.x7_text.specs.DigitValue.{word_value}
 use Rattle.std.specs.Str.{bytes_eq}
 
 -- what the words ask for
@@ -9,12 +12,49 @@ pub data Asked : Type 0 where
   Assembling : (text : List ℕ) → Asked
   ToMcs : (image : List ℕ) → Asked
   FromMcs : (text : List ℕ) → Asked
+  PlanningFull : (part frames : List ℕ) → Asked
+  PlanningRead : (part : List ℕ) (far n : ℕ) → Asked
 
 -- a form of one name
 abbrev pub one_name : (List ℕ → Asked) → List (List ℕ) → Option Asked
 one_name form [] = None
 one_name form (name ∷ []) = Some (form name)
 one_name form (name ∷ next ∷ more) = None
+
+-- a form of two names
+abbrev pub two_names : (List ℕ → List ℕ → Asked) → List (List ℕ) → Option Asked
+two_names form [] = None
+two_names form (first ∷ []) = None
+two_names form (first ∷ second ∷ []) = Some (form first second)
+two_names form (first ∷ second ∷ third ∷ more) = None
+
+-- the word of eight upper-case digits: written again it has these digits
+abbrev pub word_in : List ℕ → Option ℕ
+word_in digits = if bytes_eq (hex_word (word_value digits)) digits && nat_lt (word_value digits) 4294967296 then Some (word_value digits) else None
+
+-- the number below 2^32 of decimal digits without a leading zero: written again it has these digits
+abbrev pub number_in : List ℕ → Option ℕ
+number_in digits = if bytes_eq (decimal (digits_value 10 digits)) digits && nat_lt (digits_value 10 digits) 4294967296 then Some (digits_value 10 digits) else None
+
+-- `plan read PART FAR N`
+abbrev pub read_asked : List ℕ → Option ℕ → Option ℕ → Option Asked
+read_asked part (Some far) (Some n) = Some (PlanningRead part far n)
+read_asked part _ _ = None
+
+abbrev pub plan_read_form : List (List ℕ) → Option Asked
+plan_read_form [] = None
+plan_read_form (part ∷ []) = None
+plan_read_form (part ∷ far ∷ []) = None
+plan_read_form (part ∷ far ∷ n ∷ []) = read_asked part (word_in far) (number_in n)
+plan_read_form (part ∷ far ∷ n ∷ more ∷ others) = None
+
+-- `plan ..`, by the second word
+abbrev pub plan_form : List (List ℕ) → Option Asked
+plan_form [] = None
+plan_form (kind ∷ names) =
+    if bytes_eq kind (codes "full") then two_names PlanningFull names
+    else if bytes_eq kind (codes "read") then plan_read_form names
+    else None
 
 -- `play PART STREAM..`, one to eight streams
 abbrev pub play_form : List (List ℕ) → Option Asked
@@ -30,6 +70,7 @@ form_of (command ∷ names) =
     else if bytes_eq command (codes "play") then play_form names
     else if bytes_eq command (codes "mcs") then one_name ToMcs names
     else if bytes_eq command (codes "unmcs") then one_name FromMcs names
+    else if bytes_eq command (codes "plan") then plan_form names
     else None
 
 -- the names of the inputs that a form reads
@@ -40,6 +81,8 @@ names_of (Some (Playing part streams)) = part ∷ streams
 names_of (Some (Assembling text)) = text ∷ []
 names_of (Some (ToMcs image)) = image ∷ []
 names_of (Some (FromMcs text)) = text ∷ []
+names_of (Some (PlanningFull part frames)) = part ∷ frames ∷ []
+names_of (Some (PlanningRead part far n)) = part ∷ []
 
 -- whether a form names the flash
 abbrev pub names_flash : Option Asked → Bool
@@ -49,3 +92,5 @@ names_flash (Some (Playing part streams)) = false
 names_flash (Some (Assembling text)) = false
 names_flash (Some (ToMcs image)) = false
 names_flash (Some (FromMcs text)) = false
+names_flash (Some (PlanningFull part frames)) = false
+names_flash (Some (PlanningRead part far n)) = false

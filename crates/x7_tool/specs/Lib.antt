@@ -7,3 +7,4 @@ pub mod Report
 pub mod Run
 pub mod Runs
 pub mod Turn
+pub mod Planned

@@ -1,23 +1,34 @@
 -- What a command comes to, over known inputs and a known flash: the first event in the order of the work decides (this project's choice).
-use Rattle.std.specs.Prelude.{◌≡◌, ℕ, List, [], ◌∷◌, ◌++◌, ◌-◌, Option, None, Some, is_some, Result, Ok, Err, Bool, false, if◌then◌else◌, length, nat_eq, nat_lt}
-use Rattle.std.specs.List.{starts_with}
-use Rattle.x7_header.specs.Header.{fixed_bytes}
+use Rattle.std.specs.Prelude.{◌≡◌, ℕ, List, [], ◌∷◌, ◌++◌, ◌-◌, Option, None, Some, is_some, Result, Ok, Err, Bool, false, if◌then◌else◌, drop, length, nat_lt}
+use Rattle.x7_header.specs.Header.{Contents}
+use Rattle.x7_header.specs.Reading.{header_at}
+use Rattle.x7_header.specs.declared.fault.HeaderFault.{HeaderFault}
+use Rattle.x7_header.specs.declared.fault.HeaderFault.TheVariants as header
 use Rattle.x7_listing.specs.Assembly.{IsAsm}
-use Rattle.x7_listing.specs.Listing.{listing_of}
+use Rattle.x7_listing.specs.StreamListing.{stream_listing}
 use Rattle.x7_listing.specs.declared.assembler.AsmFault.{AsmFault}
 use Rattle.x7_listing.specs.declared.assembler.AsmFault.TheVariants as asm
 use Rattle.x7_part.specs.declared.fault.PartFault.{PartFault}
 use Rattle.x7_part.specs.Part.{PartData}
 use Rattle.x7_engine.specs.Kept.{on_the_bench}
-use Rattle.x7_engine.specs.State.{line_by, reads_of, state_of, stop_in}
+use Rattle.x7_engine.specs.State.{line_by, memory_in, reads_of, state_of, stop_in}
 use Rattle.x7_engine.specs.Stops.{fault_of}
 use Rattle.x7_mcs.specs.declared.fault.McsFault.{McsFault}
 use Rattle.x7_mcs.specs.declared.fault.McsFault.TheVariants as mcs
 use Rattle.x7_mcs.specs.Flash.{mcs_of}
+use Rattle.x7_memory.specs.Planned.{PlanData}
+use Rattle.x7_frames.specs.FramesText.{IsPlanOf}
+use Rattle.x7_frames.specs.declared.fault.FramesFault.{FramesFault}
+use Rattle.x7_frames.specs.declared.fault.FramesFault.TheVariants as frames
+use Rattle.x7_planner.specs.Full.{full_stream}
+use Rattle.x7_planner.specs.Readback.{read_stream}
+use Rattle.x7_planner.specs.Refusals.{CanRead, IsReadFault}
+use Rattle.x7_planner.specs.declared.fault.PlanFault.{PlanFault}
+use Rattle.x7_planner.specs.declared.fault.PlanFault.TheVariants as planner
 use Rattle.x7_mcs.specs.Text.{mcs_text}
 use Rattle.x7_tool.specs.declared.bad_input.InputFault.TheVariants as input
-use Rattle.x7_tool.specs.Event.{Event, bad_input, bad_part, missing, no_memory, too_large, too_many_reads, unbuilt, usage}
-use Rattle.x7_tool.specs.Form.{Asked, Assembling, FromMcs, Listing, Playing, ToMcs, names_flash}
+use Rattle.x7_tool.specs.Event.{Event, bad_input, bad_part, missing, no_memory, too_large, too_many_reads, usage}
+use Rattle.x7_tool.specs.Form.{Asked, Assembling, FromMcs, Listing, PlanningFull, PlanningRead, Playing, ToMcs, names_flash}
 use Rattle.x7_part.specs.PartFile.{part_in}
 use Rattle.x7_tool.specs.Report.{report_text}
 
@@ -41,13 +52,16 @@ abbrev pub present : List ℕ → Option (List ℕ) → Result (List ℕ) Event
 present name None = Err (missing name)
 present name (Some bytes) = Ok bytes
 
--- whether a stream begins with a .bit header
-abbrev pub has_header : List ℕ → Bool
-has_header bytes = starts_with nat_eq bytes fixed_bytes
+-- the data of a stream by what stands at its beginning: a header and its size, or why there is none
+abbrev pub data_by : List ℕ → List ℕ → Result (Contents × ℕ) HeaderFault → Result (List ℕ) Event
+data_by name bytes (Ok head) = Ok (drop head.1 bytes)
+data_by name bytes (Err header.Raw) = Ok bytes
+data_by name bytes (Err (header.Cut place)) = Err (bad_input name (input.Byte place))
+data_by name bytes (Err (header.Field place)) = Err (bad_input name (input.Byte place))
 
--- a stream is taken that has no .bit header
-abbrev pub raw : List ℕ → List ℕ → Result (List ℕ) Event
-raw name bytes = if has_header bytes then Err (unbuilt name) else Ok bytes
+-- the data of a stream: the bytes after its header where it has one; a header that is cut, or that has another byte in a letter's place, is a bad input
+abbrev pub data_in : List ℕ → List ℕ → Result (List ℕ) Event
+data_in name bytes = data_by name bytes (header_at bytes)
 
 -- an input is taken that has no more than so many bytes
 abbrev pub within : List ℕ → ℕ → List ℕ → Result (List ℕ) Event
@@ -57,17 +71,18 @@ within name limit bytes = if nat_lt limit (length bytes) then Err (too_large nam
 abbrev pub stream_limit : ℕ
 stream_limit = 67108864
 
--- the bytes of a stream: its header is judged as soon as its bytes are read, and its length after it
-abbrev pub judged : List ℕ → List ℕ → Result (List ℕ) Event
-judged stream bytes = and_so (raw stream bytes) (within stream stream_limit)
+-- a listing, or the event of a header that is refused
+abbrev pub text_by : List ℕ → Result (List ℕ) ℕ → Result (List ℕ) Event
+text_by name (Ok text) = Ok text
+text_by name (Err place) = Err (bad_input name (input.Byte place))
 
--- the stream that a name stands for
-abbrev pub stream_of : Known → List ℕ → Result (List ℕ) Event
-stream_of known name = and_so (present name (known.inputs name)) (judged name)
+-- the listing of a stream's bytes: its header is judged as soon as its bytes are read, and its length after it
+abbrev pub listed_bytes : List ℕ → List ℕ → Result Answer Event
+listed_bytes stream bytes = and_so (text_by stream (stream_listing bytes)) (λ text. and_so (within stream stream_limit bytes) (λ _. Ok (record { stopped = false; text = text })))
 
--- `list STREAM`: the listing of the stream
+-- `list STREAM`: the listing of the stream, its header's line first
 abbrev pub listed : Known → List ℕ → Result Answer Event
-listed known stream = and_so (stream_of known stream) (λ bytes. Ok (record { stopped = false; text = listing_of bytes }))
+listed known stream = and_so (present stream (known.inputs stream)) (listed_bytes stream)
 
 -- ---- play
 
@@ -91,10 +106,19 @@ part_of known name = and_so (whole_in known part_limit name) (λ text. part_by n
 abbrev pub put_before : List ℕ → Result (List ℕ) Event → Result (List ℕ) Event
 put_before prefix more = and_so more (λ bytes. Ok (prefix ++ bytes))
 
--- the data of streams, one after the other, within a limit together; a stream's limit is judged before its header
+-- a stream that was read: its data, and how many bytes of later streams are still within the limit
+pub record StreamRead : Type 0 where
+  pub bytes : List ℕ
+  pub room : ℕ
+
+-- the stream of this name, whose limit is judged before its header
+abbrev pub read_of : Known → ℕ → List ℕ → Result StreamRead Event
+read_of known limit name = and_so (whole_in known limit name) (λ whole. and_so (data_in name whole) (λ bytes. Ok (record { bytes = bytes; room = limit - length whole })))
+
+-- the data of streams, one after the other; the streams are within a limit together, headers included
 abbrev pub data_of : Known → ℕ → List (List ℕ) → Result (List ℕ) Event
 data_of known limit [] = Ok []
-data_of known limit (name ∷ names) = and_so (and_so (whole_in known limit name) (raw name)) (λ bytes. put_before bytes (data_of known (limit - length bytes) names))
+data_of known limit (name ∷ names) = and_so (read_of known limit name) (λ stream. put_before stream.bytes (data_of known stream.room names))
 
 -- the most words that a play reads out
 abbrev pub reads_limit : ℕ
@@ -104,7 +128,7 @@ reads_limit = 16777216
 abbrev pub report_of : PartData → List ℕ → Answer
 report_of part bytes = record {
   stopped = is_some (fault_of (line_by (stop_in part on_the_bench bytes)));
-  text = report_text part.name (state_of part on_the_bench false bytes) (reads_of part on_the_bench bytes);
+  text = report_text part (state_of part on_the_bench false bytes) (reads_of part on_the_bench bytes) (memory_in part on_the_bench bytes);
 }
 
 unfoldable pub reported : PartData → List ℕ → Result Answer Event
@@ -158,6 +182,42 @@ mcs_image name (Err fault) = Err (mcs_event name fault)
 abbrev pub mcs_read : Known → List ℕ → Result Answer Event
 mcs_read known text = and_so (whole_in known text_limit text) (λ bytes. mcs_image text (mcs_of bytes))
 
+-- ---- plans
+
+-- a part, and a frames text
+pub record PlanTexts : Type 0 where
+  pub part : PartData
+  pub text : List ℕ
+
+-- the part of a part file and then the text of a frames text
+abbrev pub plan_texts : Known → List ℕ → List ℕ → Result PlanTexts Event
+plan_texts known part frames = and_so (part_of known part) (λ p. and_so (whole_in known text_limit frames) (λ text. Ok (record { part = p; text = text })))
+
+-- the event of a frames text that gives no plan
+abbrev pub frames_event : List ℕ → FramesFault → Event
+frames_event name (frames.Line line) = bad_input name (input.Line line)
+frames_event name (frames.Address line) = bad_input name (input.AddressLine line)
+frames_event name (frames.Twice line) = bad_input name (input.TwiceLine line)
+frames_event name frames.NoMemory = no_memory
+
+-- `plan full PART FRAMES`: the full stream of the plan, or the frames text's first line at fault
+abbrev pub PlannedFull : List ℕ → Result PlanTexts Event → Result Answer Event → Type 0
+PlannedFull name (Err event) end = Err event ≡ end
+PlannedFull name (Ok texts) (Ok answer) = (answer.stopped ≡ false) × (plan : PlanData) × IsPlanOf texts.part texts.text (Ok plan) × (answer.text ≡ full_stream texts.part plan)
+PlannedFull name (Ok texts) (Err event) = (fault : FramesFault) × IsPlanOf texts.part texts.text (Err fault) × (frames_event name fault ≡ event)
+
+-- the event of a readback that isn't planned
+abbrev pub planner_event : List ℕ → PlanFault → Event
+planner_event name (planner.Foreign far) = bad_input name input.Foreign
+planner_event name (planner.Range n) = bad_input name input.Range
+planner_event name _ = no_memory
+
+-- `plan read PART FAR N`: the read stream, or why there is none
+abbrev pub PlannedRead : List ℕ → ℕ → ℕ → Result PartData Event → Result Answer Event → Type 0
+PlannedRead name far n (Err event) end = Err event ≡ end
+PlannedRead name far n (Ok part) (Ok answer) = (answer.stopped ≡ false) × CanRead part far n × (answer.text ≡ read_stream part far n)
+PlannedRead name far n (Ok part) (Err event) = (fault : PlanFault) × IsReadFault part far n fault × (planner_event name fault ≡ event)
+
 -- a form comes to this end, each form one case
 abbrev pub Gives : Known → Asked → Result Answer Event → Type 0
 Gives known (Listing stream) end = listed known stream ≡ end
@@ -165,6 +225,8 @@ Gives known (Playing part streams) end = played known part streams ≡ end
 Gives known (Assembling text) end = AssembledAs text (whole_in known text_limit text) end
 Gives known (ToMcs image) end = mcs_written known image ≡ end
 Gives known (FromMcs text) end = mcs_read known text ≡ end
+Gives known (PlanningFull part frames) end = PlannedFull frames (plan_texts known part frames) end
+Gives known (PlanningRead part far n) end = PlannedRead part far n (part_of known part) end
 
 -- the words come to this end: words without a form are a wrong usage
 abbrev pub IsOutcome : Known → Option Asked → Result Answer Event → Type 0

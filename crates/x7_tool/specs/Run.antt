@@ -3,14 +3,14 @@ use Rattle.std.specs.Prelude.{◌≡◌, ℕ, List, [], ◌∷◌, ◌++◌, Opt
 use Rattle.x7_words.specs.Word.{AreBytes}
 use Rattle.x7_words.specs.Count.{HasRisen}
 use Rattle.x7_words.specs.Sink.{appended, PutsFront, Tells}
-use Rattle.x7_listing.specs.Listing.{listing_of}
+use Rattle.x7_listing.specs.StreamListing.{stream_listing}
 use Rattle.x7_tool.specs.declared.form.Form.{Form}
 use Rattle.x7_tool.specs.declared.form.Form.TheVariants as form
 use Rattle.x7_tool.specs.declared.refusal.Refusal.{Refusal}
 use Rattle.x7_tool.specs.declared.refusal.Why.{Why}
 use Rattle.x7_tool.specs.declared.refusal.Why.TheVariants as why
-use Rattle.x7_tool.specs.Event.{Event, Cause, Wording, Want, Fault, Absence, Break, Contents, cause_of, line_of, usage, write_fault}
-use Rattle.x7_tool.specs.Form.{Asked, Assembling, FromMcs, Listing, Playing, ToMcs}
+use Rattle.x7_tool.specs.Event.{Event, Cause, Want, Fault, Absence, Break, Contents, cause_of, line_of, usage, write_fault}
+use Rattle.x7_tool.specs.Form.{Asked, Assembling, FromMcs, Listing, PlanningFull, PlanningRead, Playing, ToMcs}
 use Rattle.x7_tool.specs.Outcome.{Answer, Known, Gives, IsOutcome}
 use Rattle.x7_tool.specs.Message.{event_of}
 
@@ -21,6 +21,8 @@ asked_by (form.Play part streams) = Playing part.now (map string_bytes streams.n
 asked_by (form.Asm text) = Assembling text.now
 asked_by (form.Mcs image) = ToMcs image.now
 asked_by (form.Unmcs text) = FromMcs text.now
+asked_by (form.PlanFull part frames) = PlanningFull part.now frames.now
+asked_by (form.PlanRead part far n) = PlanningRead part.now far n
 
 abbrev pub asked : Option Form → Option Asked
 asked None = None
@@ -97,9 +99,13 @@ abbrev pub IsPrefixOf : Option Known → List ℕ → List ℕ → Type 0
 IsPrefixOf None name bytes = Unit {0}
 IsPrefixOf (Some known) name bytes = (rest : List ℕ) × (unwrap_or (known.inputs name) [] ≡ bytes ++ rest)
 
+-- the sink got a prefix of the listing of a stream of these bytes
+abbrev pub PutsListing : List ℕ → Option (List ℕ) → Option (List ℕ) → Type 0
+PutsListing bytes old new = (text : List ℕ) × ((stream_listing bytes ≡ Ok text) × PutsFront old text new)
+
 -- the sink got a prefix of the listing of bytes that are a prefix of the stream
 abbrev pub ListsPrefix : Option Known → List ℕ → Option (List ℕ) → Option (List ℕ) → Type 0
-ListsPrefix known stream old new = (bytes : List ℕ) × (IsPrefixOf known stream bytes × PutsFront old (listing_of bytes) new)
+ListsPrefix known stream old new = (bytes : List ℕ) × (IsPrefixOf known stream bytes × PutsListing bytes old new)
 
 -- what `list` wrote where a reason ended it: what it had listed as it read, or nothing where the reason comes before the listing
 abbrev pub ListLeaves : Why → Option Known → List ℕ → Option (List ℕ) → Option (List ℕ) → Type 0
@@ -117,7 +123,7 @@ Leaves known form event old new = new ≡ old
 abbrev pub GetsPrefix : Option Known → Option Asked → Option (List ℕ) → Option (List ℕ) → Type 0
 GetsPrefix known None old new = ⊥
 GetsPrefix None (Some form) old new = (text : List ℕ) × PutsFront old text new
-GetsPrefix (Some known) (Some (Listing stream)) old new = (bytes : List ℕ) × ((known.inputs stream ≡ Some bytes) × (AreBytes bytes → PutsFront old (listing_of bytes) new))
+GetsPrefix (Some known) (Some (Listing stream)) old new = (bytes : List ℕ) × ((known.inputs stream ≡ Some bytes) × (AreBytes bytes → PutsListing bytes old new))
 GetsPrefix (Some known) (Some form) old new = (answer : Answer) × (Gives known form (Ok answer) × PutsFront old answer.text new)
 
 -- how an event ended the command, and what the sink got: a prefix of the text where the sink failed, or what the event leaves

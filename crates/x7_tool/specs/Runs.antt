@@ -6,7 +6,7 @@ use Rattle.x7_tool.specs.declared.status.Status.{Status}
 use Rattle.x7_tool.specs.declared.status.Status.TheVariants as status
 use Rattle.x7_tool.specs.Event.{Event, Cause, Wording, Want, Fault, Absence, Break, Contents, cause_of}
 use Rattle.x7_words.specs.Word.{AreBytes}
-use Rattle.x7_listing.specs.Listing.{listing_of}
+use Rattle.x7_listing.specs.StreamListing.{stream_listing}
 use Rattle.x7_mcs.specs.Text.{mcs_text}
 use Rattle.x7_tool.specs.Form.{Asked, Assembling, FromMcs, names_of, names_flash}
 use Rattle.x7_tool.specs.Message.{final_status}
@@ -84,9 +84,9 @@ HasText o name text = (contents : List ℕ → Option (List ℕ)) × ((o.inputs 
 abbrev pub LeadsBack : Status → Result Answer Event → List ℕ → Type 0
 LeadsBack s end bytes = (s ≡ status.NoMemory) ⊎ (end ≡ Ok (record { stopped = false; text = bytes }))
 
--- texts lead back, where no count rose: the listing of a stream assembles to the stream, and the flash text of an image gives the image
+-- texts lead back, where no count rose: the listing of a stream assembles to the stream, its header included, and the flash text of an image gives the image
 abbrev pub Back : Option Asked → Outside → Outside → Status → Result Answer Event → Type 0
-Back (Some (Assembling name)) old new s end = (bytes : List ℕ) → AreBytes bytes → length bytes ≤ stream_limit → HasText old name (listing_of bytes) → IsQuiet old new → LeadsBack s end bytes
+Back (Some (Assembling name)) old new s end = (bytes text : List ℕ) → AreBytes bytes → length bytes ≤ stream_limit → stream_listing bytes ≡ Ok text → HasText old name text → IsQuiet old new → LeadsBack s end bytes
 Back (Some (FromMcs name)) old new s end = (bytes : List ℕ) → AreBytes bytes → length bytes ≤ flash_limit → HasText old name (mcs_text bytes) → IsQuiet old new → LeadsBack s end bytes
 Back form old new s end = Unit {0}
 

@@ -1,9 +1,12 @@
 -- Inputs that are read, and a listing that is written, turn by turn.
-use Rattle.std.specs.Prelude.{◌≡◌, ◌<◌, ◌≤◌, ◌⊎◌, ℕ, List, [], Option, length}
+use Rattle.std.specs.Prelude.{◌≡◌, ◌<◌, ◌≤◌, ◌⊎◌, ◌++◌, ℕ, Bool, true, List, [], Option, Result, Ok, Err, drop, length}
 use Rattle.x7_words.specs.Count.{HasRisen}
-use Rattle.x7_words.specs.Input.{Lacks, preceded}
+use Rattle.x7_words.specs.Input.{AtEnd, Lacks, preceded}
 use Rattle.x7_words.specs.Sink.{appended}
-use Rattle.x7_tool.specs.Event.{Event, missing, read_fault, too_large}
+use Rattle.x7_tool.specs.Event.{Event, bad_input, missing, no_memory, read_fault, too_large}
+use Rattle.x7_tool.specs.declared.bad_input.InputFault.TheVariants as input
+use Rattle.x7_listing.specs.Listing.{listing_of}
+use Rattle.x7_listing.specs.StreamListing.{stream_listing}
 use Rattle.x7_listing.specs.Telling.{ListerState, ListerStandsFor}
 
 -- What was put after the first bytes is the listing so far of these bytes, and the lister keeps no text of it.
@@ -18,8 +21,60 @@ abbrev pub Unopened : Option (List ℕ → Option (List ℕ)) → List ℕ → �
 Unopened contents name faults faults_now absences absences_now event =
     ((event ≡ missing name) × (Lacks contents name ⊎ HasRisen absences absences_now)) ⊎ ((event ≡ read_fault name) × HasRisen faults faults_now)
 
--- a turn of at most 65,536 bytes was not read: the inputs failed, or it went over the limit
+-- a turn of no more bytes than a stream has was not read: the inputs failed, or it went over the limit
 abbrev pub Unread : Option (List ℕ) → Option (List ℕ) → List ℕ → ℕ → ℕ → ℕ → Event → Type 0
 Unread rest rest_now name left faults faults_now event =
     ((event ≡ read_fault name) × HasRisen faults faults_now)
-    ⊎ ((event ≡ too_large name) × ((piece : List ℕ) × ((rest ≡ preceded piece rest_now) × (left < length piece) × (length piece ≤ 65536))))
+    ⊎ ((event ≡ too_large name) × ((piece : List ℕ) × ((rest ≡ preceded piece rest_now) × (left < length piece) × (length piece ≤ 67108864))))
+
+-- what was left of an open input was read to its end: these bytes
+abbrev pub ReadsRest : Option (List ℕ) → Option (List ℕ) → List ℕ → Type 0
+ReadsRest rest rest_now more = (rest ≡ preceded more rest_now) × AtEnd rest_now
+
+-- what was left of an open input, with so many bytes within the limit, was not read to its end: the inputs failed, or it went over the limit
+abbrev pub UnreadRest : Option (List ℕ) → List ℕ → ℕ → ℕ → ℕ → Event → Type 0
+UnreadRest rest name limit faults faults_now event =
+    ((event ≡ read_fault name) × HasRisen faults faults_now)
+    ⊎ ((event ≡ too_large name) × ((more : List ℕ) × ((rest_now : Option (List ℕ)) × ((rest ≡ preceded more rest_now) × (limit < length more)))))
+
+-- What was put after the first bytes is so far the listing of each stream that begins with these bytes: a header's line or nothing, and the listing of the data.
+pub record ListsStream (l : ListerState) (first now : Option (List ℕ)) (bytes : List ℕ) : Type 0 where
+  pub line : List ℕ
+  pub sent : List ℕ
+  pub lists : Lists l (appended first line) now sent
+  pub goes : (rest : List ℕ) → stream_listing (bytes ++ rest) ≡ Ok (line ++ listing_of (sent ++ rest))
+
+-- nothing follows the last bytes
+abbrev pub MayFollow : Bool → List ℕ → Type 0
+MayFollow last rest = last ≡ true → rest ≡ []
+
+-- the first bytes of a stream, where its header is judged: its line or nothing, and where the data begin
+abbrev pub IsFront : List ℕ → Bool → List ℕ → ℕ → Type 0
+IsFront bytes last line start = (rest : List ℕ) → MayFollow last rest → stream_listing (bytes ++ rest) ≡ Ok (line ++ listing_of (drop start bytes ++ rest))
+
+-- what was read of a stream when its header is judged
+pub record FrontRead (bytes line : List ℕ) (start : ℕ) (last : Bool) (rest rest_now : Option (List ℕ)) : Type 0 where
+  pub taken : rest ≡ preceded bytes rest_now
+  pub end : last ≡ true → AtEnd rest_now
+  pub within : start ≤ length bytes
+  pub few : length bytes ≤ 327706
+  pub front : IsFront bytes last line start
+
+-- the first bytes of a stream whose header is refused at this byte
+abbrev pub IsRefused : List ℕ → Bool → ℕ → Type 0
+IsRefused bytes last place = (rest : List ℕ) → MayFollow last rest → stream_listing (bytes ++ rest) ≡ Err place
+
+-- bytes of a header that were not judged well
+pub record IsBadFront (rest rest_now : Option (List ℕ)) (name : List ℕ) (event : Event) : Type 0 where
+  pub place : ℕ
+  pub bytes : List ℕ
+  pub last : Bool
+  pub is : event ≡ bad_input name (input.Byte place)
+  pub taken : rest ≡ preceded bytes rest_now
+  pub end : last ≡ true → AtEnd rest_now
+  pub refused : IsRefused bytes last place
+
+-- a stream's front was not read: want of memory, the inputs failed, or the header is refused
+abbrev pub Unfronted : Option (List ℕ) → Option (List ℕ) → List ℕ → ℕ → ℕ → Event → Type 0
+Unfronted rest rest_now name faults faults_now event =
+    (event ≡ no_memory) ⊎ (((event ≡ read_fault name) × HasRisen faults faults_now) ⊎ IsBadFront rest rest_now name event)

@@ -9,9 +9,11 @@ use itoa::Buffer;
 use x7_text::{hex_of_byte, hex_of_word};
 use x7_words::{Failed, Sink, write_pieces};
 
-/// Why an input has no reading. Lines count from 1.
+/// Why an input has no reading. Lines count from 1, bytes from 0.
 #[derive(Clone, Copy, Debug, Drop, PartialEq, Eq)]
 pub enum InputFault {
+    /// The byte of a stream's header that should be a field's letter and is not, or the stream's length where it ends inside the header.
+    Byte(u64),
     /// The first line outside the grammar.
     Line(u64),
     /// The first line at which the result passes its limit.
@@ -31,6 +33,14 @@ pub enum InputFault {
     Overlap(u32),
     /// The line that ends the text is missing.
     NoEnd,
+    /// The first line with an address that the part lacks.
+    AddressLine(u64),
+    /// The first line with an address that an earlier line has.
+    TwiceLine(u64),
+    /// The part has no frame at the address.
+    Foreign,
+    /// So many slots can't be read: none, or more than there are.
+    Range,
 }
 
 /// The start of the line, before the name of the input.
@@ -48,12 +58,12 @@ fn say_at<'x, E: Sink>(
     write_pieces(err, &[START, name.as_bytes(), kind, place, b"\n"])
 }
 
-/// Writes the line of a fault that names a line of the input.
-fn say_line<E: Sink>(err: &mut E, name: &str, kind: &[u8], line: u64) -> Result<(), Failed>
-    ensures { Tells (HasRisen (E.faults err.old) (E.faults err.new)) (E.written err.old) (E.written err.new) (codes "x7: bad input " ++ (name.now ++ (kind.now ++ (decimal line ++ codes "\n")))) }
+/// Writes the line of a fault that a number tells: a line or a byte of the input.
+fn say_number<E: Sink>(err: &mut E, name: &str, kind: &[u8], number: u64) -> Result<(), Failed>
+    ensures { Tells (HasRisen (E.faults err.old) (E.faults err.new)) (E.written err.old) (E.written err.new) (codes "x7: bad input " ++ (name.now ++ (kind.now ++ (decimal number ++ codes "\n")))) }
 {
     let mut buffer = Buffer::new();
-    say_at(err, name, kind, buffer.format(line).as_bytes())
+    say_at(err, name, kind, buffer.format(number).as_bytes())
 }
 
 /// Writes the line of a sum byte that is another.
@@ -91,11 +101,16 @@ pub(crate) fn say_bad_input<E: Sink>(
     ensures { Tells (HasRisen (E.faults err.old) (E.faults err.new)) (E.written err.old) (E.written err.new) (line_of (bad_input name.now fault)) }
 {
     match fault {
-        InputFault::Line(line) => say_line(err, name, b": line ", line),
-        InputFault::LongLine(line) => say_line(err, name, b": long line ", line),
-        InputFault::LargeLine(line) => say_line(err, name, b": large line ", line),
+        InputFault::Byte(place) => say_number(err, name, b": byte ", place),
+        InputFault::Line(line) => say_number(err, name, b": line ", line),
+        InputFault::LongLine(line) => say_number(err, name, b": long line ", line),
+        InputFault::LargeLine(line) => say_number(err, name, b": large line ", line),
         InputFault::Overlap(place) => say_at(err, name, b": overlap ", &hex_of_word(place)),
         InputFault::NoEnd => say_at(err, name, b": no end", b""),
+        InputFault::AddressLine(line) => say_number(err, name, b": address line ", line),
+        InputFault::TwiceLine(line) => say_number(err, name, b": twice line ", line),
+        InputFault::Foreign => say_at(err, name, b": foreign", b""),
+        InputFault::Range => say_at(err, name, b": range", b""),
         InputFault::Sum { line, want, got } => {
             let mut buffer = Buffer::new();
             say_sum(

@@ -1,7 +1,9 @@
 //! The forms of the command line.
 ghost use Rattle.std.specs.Prelude.{◌≡◌, map, string_bytes};
-ghost use Rattle.x7_tool.specs.Form.{Assembling, FromMcs, Listing, ToMcs, form_of, one_name, play_form};
+ghost use Rattle.x7_tool.specs.Form.{Assembling, FromMcs, Listing, PlanningFull, ToMcs, form_of, number_in, one_name, plan_form, plan_read_form, play_form, two_names, word_in};
 ghost use Rattle.x7_tool.specs.Run.{asked};
+
+use x7_text::{decimal_below, word_of_hex};
 
 /// What the words ask for, with the names as they were given.
 #[derive(Clone, Copy, Drop)]
@@ -25,6 +27,22 @@ pub enum Form<'w> {
     Unmcs {
         /// The text's name.
         text: &'w str,
+    },
+    /// `plan full PART FRAMES`: the stream of a whole configuration.
+    PlanFull {
+        /// The part file's name.
+        part: &'w str,
+        /// The frames text's name.
+        frames: &'w str,
+    },
+    /// `plan read PART FAR N`: the stream that reads frames back.
+    PlanRead {
+        /// The part file's name.
+        part: &'w str,
+        /// The first address.
+        far: u32,
+        /// The number of slots.
+        n: u32,
     },
     /// `play PART STREAM..`: the report of what one to eight streams do.
     Play {
@@ -96,6 +114,70 @@ fn unmcs_form(names: &[String]) -> Option<Form<'_>>
     }
 }
 
+/// The word of eight upper-case digits.
+fn word_in(digits: &str) -> Option<u32>
+    ensures { result ≡ word_in digits.now }
+{
+    match word_of_hex(digits.as_bytes()) {
+        Some(word) => Some(word),
+        None => None,
+    }
+}
+
+/// The number below 2^32 of decimal digits without a leading zero.
+fn number_in(digits: &str) -> Option<u32>
+    ensures { result ≡ number_in digits.now }
+{
+    match decimal_below(digits.as_bytes(), 4_294_967_296) {
+        Some(number) => Some(number as u32),
+        None => None,
+    }
+}
+
+/// `plan full PART FRAMES`.
+fn plan_full_form(names: &[String]) -> Option<Form<'_>>
+    ensures { asked result ≡ two_names PlanningFull (map string_bytes names.now) }
+{
+    match names {
+        [part, frames] => Some(Form::PlanFull {
+            part: part.as_str(),
+            frames: frames.as_str(),
+        }),
+        _ => None,
+    }
+}
+
+/// `plan read PART FAR N`.
+fn plan_read_form(names: &[String]) -> Option<Form<'_>>
+    ensures { asked result ≡ plan_read_form (map string_bytes names.now) }
+{
+    let [part, far, n] = names else {
+        return None;
+    };
+    match (word_in(far.as_str()), number_in(n.as_str())) {
+        (Some(far), Some(n)) => Some(Form::PlanRead {
+            part: part.as_str(),
+            far,
+            n,
+        }),
+        _ => None,
+    }
+}
+
+/// `plan ..`, by the second word.
+fn plan_form(names: &[String]) -> Option<Form<'_>>
+    ensures { asked result ≡ plan_form (map string_bytes names.now) }
+{
+    let Some((kind, names)) = names.split_first() else {
+        return None;
+    };
+    match kind.as_str() {
+        "full" => plan_full_form(names),
+        "read" => plan_read_form(names),
+        _ => None,
+    }
+}
+
 /// The form of the words, where they have one.
 pub fn words_of(words: &Vec<String>) -> Option<Form<'_>>
     ensures { asked result ≡ form_of (map string_bytes words.now.items) }
@@ -109,6 +191,7 @@ pub fn words_of(words: &Vec<String>) -> Option<Form<'_>>
         "play" => play_form(names),
         "mcs" => mcs_form(names),
         "unmcs" => unmcs_form(names),
+        "plan" => plan_form(names),
         _ => None,
     }
 }

@@ -1,5 +1,5 @@
 //! The command `list`.
-ghost use Rattle.std.specs.Prelude.{◌≡◌, ℕ, List, [], ◌∷◌, ◌++◌, ◌+◌, ◌<◌, ◌≤◌, ◌==◌, ◌&&◌, ◌⊎◌, false, Option, Some, Ok, Err, OnOk, IfErr};
+ghost use Rattle.std.specs.Prelude.{◌≡◌, ℕ, List, [], ◌∷◌, ◌++◌, ◌≤◌, ◌⊎◌, false, drop, length, Option, Some, Ok, Err, OnOk, IfErr};
 ghost use Rattle.x7_words.specs.Count.{HasRisen};
 ghost use Rattle.x7_words.specs.Sink.{appended, PutsFront};
 ghost use Rattle.x7_words.specs.Word.{AreBytes};
@@ -7,23 +7,17 @@ ghost use Rattle.x7_listing.specs.Listing.{listing_of};
 ghost use Rattle.x7_tool.specs.Form.{Listing};
 ghost use Rattle.x7_tool.specs.Message.{event_of};
 ghost use Rattle.x7_tool.specs.Event.{no_memory, write_fault};
-ghost use Rattle.x7_tool.specs.Outcome.{has_header, with_inputs};
+ghost use Rattle.x7_listing.specs.Telling.{ListerStandsFor};
+ghost use Rattle.x7_tool.specs.Outcome.{with_inputs};
 ghost use Rattle.x7_tool.specs.Run.{Ends, RisesFor};
 ghost use Rattle.x7_tool.specs.Turn.{Lists};
 
+use crate::front::read_front;
 use crate::read::{STREAM_LIMIT, TURN, next_turn, open};
 use crate::refusal::{Refusal, Why};
 use std::alloc::Global;
-use x7_header::behind_fixed_bytes;
 use x7_listing::Lister;
 use x7_words::{Inputs, Sink, write_all};
-
-/// Whether the stream's first piece begins with a .bit header.
-fn has_bit_header(left: usize, piece: &[u8]) -> bool
-    ensures { result ≡ (left == 67108864 && has_header piece.now) }
-{
-    left == STREAM_LIMIT && behind_fixed_bytes(piece).is_ok()
-}
 
 /// Lists a piece, and writes what that adds to the listing.
 fn put_turn<'w, O: Sink>(lister: &mut Lister, out: &mut O, piece: &[u8]) -> Result<(), Refusal<'w>>
@@ -43,6 +37,27 @@ fn put_turn<'w, O: Sink>(lister: &mut Lister, out: &mut O, piece: &[u8]) -> Resu
     Ok(())
 }
 
+/// Writes the line of a stream's header, lists the first data, and writes what that adds.
+fn put_front<'w, O: Sink>(
+    lister: &mut Lister,
+    out: &mut O,
+    line: &[u8],
+    sent: &[u8],
+) -> Result<(), Refusal<'w>>
+    requires new { ListerStandsFor lister.old [] [] [] }
+    requires clear { lister.old.text ≡ [] }
+    ensures ok { OnOk result (Lists lister.new (appended (O.written out.old) line.now) (O.written out.new) sent.now) }
+    ensures err { IfErr result (λ r. (rest : List ℕ) → AreBytes (sent.now ++ rest) → PutsFront (O.written out.old) (line.now ++ listing_of (sent.now ++ rest)) (O.written out.new)) }
+    ensures why { IfErr result (λ r. (event_of r ≡ no_memory) ⊎ ((event_of r ≡ write_fault) × HasRisen (O.faults out.old) (O.faults out.new))) }
+    ensures fits { AreBytes sent.now }
+    ensures faults { O.faults out.old ≤ O.faults out.new }
+{
+    if write_all(out, line).is_err() {
+        return Err(Refusal::unnamed(Why::WriteFault));
+    }
+    put_turn(lister, out, sent)
+}
+
 /// Ends the listing, and writes what that adds.
 fn put_end<'w, O: Sink>(lister: &mut Lister, out: &mut O) -> Result<(), Refusal<'w>>
     ensures ok { OnOk result ((first : Option (List ℕ)) (bytes : List ℕ) → Lists lister.old first (O.written out.old) bytes → O.written out.new ≡ appended first (listing_of bytes)) }
@@ -58,7 +73,7 @@ fn put_end<'w, O: Sink>(lister: &mut Lister, out: &mut O) -> Result<(), Refusal<
     }
 }
 
-/// `list STREAM`: the stream is read in turns, and what each tells is written.
+/// `list STREAM`: the stream is read up to where its header is judged and then in turns, and what each tells is written.
 pub(crate) fn list<'w, I: Inputs, O: Sink>(
     alloc: Global,
     inputs: &mut I,
@@ -72,21 +87,26 @@ pub(crate) fn list<'w, I: Inputs, O: Sink>(
         Ok(()) => (),
         Err(refusal) => return Err(refusal),
     }
+    let front = match read_front(alloc, inputs, stream) {
+        Ok(front) => front,
+        Err(refusal) => return Err(refusal),
+    };
     let mut lister = Lister::new(alloc);
+    match put_front(&mut lister, out, &front.line, &front.bytes[front.start..]) {
+        Ok(()) => (),
+        Err(refusal) => return Err(refusal),
+    }
+    if front.last {
+        return put_end(&mut lister, out);
+    }
     let mut piece = [0u8; TURN];
-    let mut left = STREAM_LIMIT;
+    let mut left = STREAM_LIMIT - front.bytes.len();
     loop {
         let turn = match next_turn(inputs, stream, left, &mut piece) {
             Ok(turn) => turn,
             Err(refusal) => return Err(refusal),
         };
         let bytes = &piece[..turn.count];
-        if has_bit_header(left, bytes) {
-            return Err(Refusal {
-                reason: Why::Unbuilt,
-                name: stream,
-            });
-        }
         match put_turn(&mut lister, out, bytes) {
             Ok(()) => (),
             Err(refusal) => return Err(refusal),

@@ -2,7 +2,7 @@
 ghost use Rattle.std.specs.Prelude.{◌≡◌, ℕ, List, [], ◌∷◌, Option};
 ghost use Rattle.x7_tool.specs.Message.{event_of};
 ghost use Rattle.x7_tool.specs.Outcome.{mcs_event, mcs_read, mcs_written, with_inputs};
-ghost use Rattle.x7_tool.specs.Play.{whole_of};
+ghost use Rattle.x7_tool.specs.Play.{text_of_image, whole_of};
 ghost use Rattle.x7_tool.specs.Run.{IsCaused, RisesFor, seen};
 
 use crate::bad_input::InputFault;
@@ -10,11 +10,8 @@ use crate::read::{TEXT_LIMIT, read_whole};
 use crate::refusal::{Refusal, Why};
 use crate::text::Text;
 use std::alloc::Global;
-use x7_mcs::{McsFault, flash_of, mcs_text};
+use x7_mcs::{FLASH_LIMIT, McsFault, McsText, flash_of};
 use x7_words::Inputs;
-
-/// The most bytes of a flash image.
-const FLASH_LIMIT: usize = 134_217_728;
 
 /// Why a text gives no flash.
 fn refusal_of<'w>(name: &'w str, fault: McsFault) -> Refusal<'w>
@@ -34,24 +31,21 @@ fn refusal_of<'w>(name: &'w str, fault: McsFault) -> Refusal<'w>
     }
 }
 
-/// The text of `mcs IMAGE`.
+/// The text of `mcs IMAGE`, ready to be written block by block.
 pub(crate) fn mcs<'w, I: Inputs>(
     alloc: Global,
     inputs: &mut I,
     image: &'w str,
-) -> Result<Text, Refusal<'w>>
+) -> Result<McsText, Refusal<'w>>
     ensures { (flash : Option (List ℕ)) → IsCaused (with_inputs (I.contents inputs.old) flash) (RisesFor (image.now ∷ []) (I.faults inputs.old) (I.faults inputs.new)) (RisesFor (image.now ∷ []) (I.absences inputs.old) (I.absences inputs.new))
-        (λ known. mcs_written known image.now) (seen whole_of result) }
+        (λ known. mcs_written known image.now) (seen text_of_image result) }
 {
     let bytes = match read_whole(alloc, inputs, image, FLASH_LIMIT) {
         Ok(bytes) => bytes,
         Err(refusal) => return Err(refusal),
     };
-    match mcs_text(alloc, &bytes) {
-        Ok(text) => Ok(Text {
-            stopped: false,
-            text,
-        }),
+    match McsText::new(alloc, bytes) {
+        Ok(text) => Ok(text),
         Err(_) => Err(Refusal::unnamed(Why::NoMemory)),
     }
 }

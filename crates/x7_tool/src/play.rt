@@ -1,30 +1,26 @@
 //! The command `play`.
-ghost use Rattle.std.specs.Prelude.{◌≡◌, ℕ, List, [], ◌∷◌, ◌++◌, ◌+◌, ◌<◌, ◌≤◌, ◌⊎◌, false, length, map, string_bytes, vec_len, Option, Some, Ok, Err, IfErr, IfOk, OnOk};
-ghost use Rattle.x7_engine.specs.Kept.{on_the_bench};
-ghost use Rattle.x7_engine.specs.State.{reads_of};
+ghost use Rattle.std.specs.Prelude.{◌≡◌, ℕ, List, [], ◌∷◌, ◌++◌, ◌+◌, ◌<◌, ◌≤◌, ◌⊎◌, true, length, map, string_bytes, Option, Ok, Err, IfErr, IfOk};
+ghost use Rattle.x7_words.specs.Input.{AtEnd};
 ghost use Rattle.x7_tool.specs.Message.{event_of};
-ghost use Rattle.x7_tool.specs.Event.{no_memory, too_many_reads};
-ghost use Rattle.x7_tool.specs.Outcome.{part_of as part_due, played, reported, with_inputs};
-ghost use Rattle.x7_tool.specs.Play.{IsPlayed, part_event, whole_of};
+ghost use Rattle.x7_tool.specs.Event.{no_memory};
+ghost use Rattle.x7_tool.specs.Outcome.{data_of, part_of as part_due, played, read_of, stream_limit, with_inputs};
+ghost use Rattle.x7_tool.specs.Play.{HasPlayed, MayPlay, PlaysOn, part_event, whole_of};
+ghost use Rattle.x7_tool.specs.Turn.{ReadsRest, UnreadRest};
 ghost use Rattle.x7_tool.specs.Run.{IsCaused, RisesFor, seen};
 
-use crate::read::{read_streams, read_whole};
+use crate::player::Player;
+use crate::read::{STREAM_LIMIT, data_start, next_turn, open, read_whole, skip_rest};
 use crate::refusal::{Refusal, Why};
-use crate::reports::report;
 use crate::text::Text;
 use std::alloc::Global;
-use x7_engine::{Device, Fed, ReadBuf};
 use x7_part::{Part, PartFault, part_of};
 use x7_words::Inputs;
 
 /// The most bytes of a part file.
 const PART_LIMIT: usize = 1_048_576;
 
-/// The most words that a play reads out.
-const READS_LIMIT: usize = 16_777_216;
-
-/// How many words a device reads out before they are moved.
-const READS_ROOM: u32 = 4_096;
+/// How many bytes one turn of a stream reads: no fewer than the longest header has, so that the first turn judges it.
+const TURN: usize = 266_240;
 
 /// Why there is no part of the part file of this name.
 fn refusal_of<'w>(name: &'w str, fault: PartFault) -> Refusal<'w>
@@ -40,7 +36,7 @@ fn refusal_of<'w>(name: &'w str, fault: PartFault) -> Refusal<'w>
 }
 
 /// The part of a part file.
-fn read_part<'w, I: Inputs>(
+pub(crate) fn read_part<'w, I: Inputs>(
     alloc: Global,
     inputs: &mut I,
     name: &'w str,
@@ -61,85 +57,125 @@ fn read_part<'w, I: Inputs>(
     }
 }
 
-/// Moves the words of a buffer after those that were read out before, where they are within the limit together.
-fn gather<'w>(buffer: &mut ReadBuf, reads: &mut Vec<u32>) -> Result<(), Refusal<'w>>
-    requires { vec_len reads.old ≤ 16777216 }
-    ensures words { OnOk result (reads.new.items ≡ reads.old.items ++ buffer.old.words) }
-    ensures within { OnOk result (vec_len reads.new ≤ 16777216) }
-    ensures cleared { OnOk result (buffer.new ≡ record buffer.old { words = [] }) }
-    ensures err { IfErr result (λ r. (event_of r ≡ no_memory) ⊎ ((event_of r ≡ too_many_reads) × (16777216 < vec_len reads.old + length buffer.old.words))) }
+/// Plays what is left of the open stream, of which this many bytes are within the limit, and none is left behind the last
+/// turn. It answers how many are left of the limit.
+fn play_rest<'w, I: Inputs>(
+    player: &mut Player,
+    inputs: &mut I,
+    name: &'w str,
+    limit: usize,
+    last: bool,
+    piece: &mut [u8],
+) -> Result<usize, Refusal<'w>>
+    requires selected { I.selected inputs.old ≡ true }
+    requires buffer { length piece.old ≡ 266240 }
+    requires end { last ≡ true → AtEnd (I.rest inputs.old) }
+    requires may { MayPlay player.old limit }
+    ensures ok { IfOk result (λ left. (more : List ℕ) × (length more + left ≡ limit) × PlaysOn player.old player.new more × ReadsRest (I.rest inputs.old) (I.rest inputs.new) more) }
+    ensures err { IfErr result (λ r. (event_of r ≡ no_memory) ⊎ UnreadRest (I.rest inputs.old) name.now limit (I.faults inputs.old) (I.faults inputs.new) (event_of r)) }
+    ensures length { length piece.new ≡ length piece.old }
+    ensures map { I.contents inputs.new ≡ I.contents inputs.old }
+    ensures faults { I.faults inputs.old ≤ I.faults inputs.new }
+    ensures absences { I.absences inputs.old ≤ I.absences inputs.new }
 {
-    if buffer.words().len() > READS_LIMIT - reads.len() {
-        return Err(Refusal {
-            reason: Why::TooLarge,
-            name: "reads",
-        });
+    if last {
+        return Ok(limit);
     }
-    match reads.extend_from_slice(buffer.words()) {
-        Ok(()) => (),
-        Err(_) => return Err(Refusal::unnamed(Why::NoMemory)),
-    }
-    buffer.clear();
-    Ok(())
-}
-
-/// A device at the end of a play, and the words that it read out.
-#[derive(Drop)]
-struct Played {
-    device: Device,
-    reads: Vec<u32>,
-}
-
-/// Plays bytes on a new device of the part, up to what stops it.
-fn play_data<'w>(alloc: Global, part: &Part, bytes: &[u8]) -> Result<Played, Refusal<'w>>
-    requires { length bytes.now ≤ 67108864 }
-    ensures ok { IfOk result (λ p. IsPlayed part.now bytes.now p.device p.reads.items) }
-    ensures err { IfErr result (λ r. (event_of r ≡ no_memory) ⊎ ((event_of r ≡ too_many_reads) × (16777216 < length (reads_of part.now on_the_bench bytes.now)))) }
-{
-    let Ok(mut device) = Device::new(alloc, part) else {
-        return Err(Refusal::unnamed(Why::NoMemory));
-    };
-    let Ok(mut buffer) = ReadBuf::new(alloc, READS_ROOM) else {
-        return Err(Refusal::unnamed(Why::NoMemory));
-    };
-    let mut reads = Vec::new(alloc);
-    let mut at = 0;
+    let mut left = limit;
     loop {
-        let fed = device.feed(&bytes[at..], &mut buffer);
-        match gather(&mut buffer, &mut reads) {
-            Ok(()) => (),
+        let turn = match next_turn(inputs, name, left, piece) {
+            Ok(turn) => turn,
             Err(refusal) => return Err(refusal),
+        };
+        if player.play(&piece[..turn.count]).is_err() {
+            return Err(Refusal::unnamed(Why::NoMemory));
         }
-        match fed {
-            Fed::ReadFull(count) => at += count,
-            _ => {
-                return Ok(Played { device, reads });
-            }
+        left -= turn.count;
+        if turn.last {
+            return Ok(left);
         }
     }
 }
 
-/// The whole text of a play of these bytes.
-fn text_of<'w>(alloc: Global, part: &Part, bytes: &[u8]) -> Result<Text, Refusal<'w>>
-    requires { length bytes.now ≤ 67108864 }
-    ensures ok { IfOk result (λ text. reported part.now bytes.now ≡ Ok (whole_of text)) }
-    ensures err { IfErr result (λ r. (event_of r ≡ no_memory) ⊎ ((event_of r ≡ too_many_reads) × (reported part.now bytes.now ≡ Err too_many_reads))) }
+/// Plays the data of a stream of at most so many bytes, and answers how many are left of the limit. The limit comes before the
+/// header, so a stream with a bad one is read to its end too.
+fn play_stream<'w, I: Inputs>(
+    player: &mut Player,
+    inputs: &mut I,
+    name: &'w str,
+    limit: usize,
+    piece: &mut [u8],
+) -> Result<usize, Refusal<'w>>
+    requires buffer { length piece.old ≡ 266240 }
+    requires may { MayPlay player.old limit }
+    ensures ok { IfOk result (λ left. (bytes : List ℕ) × (length bytes + left ≤ limit) × PlaysOn player.old player.new bytes
+        × ((flash : Option (List ℕ)) → IsCaused (with_inputs (I.contents inputs.old) flash) (RisesFor (name.now ∷ []) (I.faults inputs.old) (I.faults inputs.new)) (RisesFor (name.now ∷ []) (I.absences inputs.old) (I.absences inputs.new))
+        (λ known. read_of known limit name.now) (Ok (record { bytes = bytes; room = left })))) }
+    ensures err { IfErr result (λ r. (flash : Option (List ℕ)) → IsCaused (with_inputs (I.contents inputs.old) flash) (RisesFor (name.now ∷ []) (I.faults inputs.old) (I.faults inputs.new)) (RisesFor (name.now ∷ []) (I.absences inputs.old) (I.absences inputs.new))
+        (λ known. read_of known limit name.now) (Err (event_of r))) }
+    ensures length { length piece.new ≡ length piece.old }
+    ensures map { I.contents inputs.new ≡ I.contents inputs.old }
+    ensures faults { I.faults inputs.old ≤ I.faults inputs.new }
+    ensures absences { I.absences inputs.old ≤ I.absences inputs.new }
 {
-    let played = match play_data(alloc, part, bytes) {
-        Ok(played) => played,
+    match open(inputs, name) {
+        Ok(()) => (),
+        Err(refusal) => return Err(refusal),
+    }
+    let first = match next_turn(inputs, name, limit, piece) {
+        Ok(turn) => turn,
         Err(refusal) => return Err(refusal),
     };
-    match report(alloc, &played.device, &played.reads) {
-        Ok(text) => Ok(Text {
-            stopped: played.device.fault().is_some(),
-            text,
-        }),
-        Err(_) => Err(Refusal::unnamed(Why::NoMemory)),
+    let left = limit - first.count;
+    match data_start(name, &piece[..first.count]) {
+        Ok(start) => {
+            if player.play(&piece[start..first.count]).is_err() {
+                return Err(Refusal::unnamed(Why::NoMemory));
+            }
+            play_rest(player, inputs, name, left, first.last, piece)
+        }
+        Err(refusal) => match skip_rest(inputs, name, left, first.last, piece) {
+            Ok(()) => Err(refusal),
+            Err(earlier) => Err(earlier),
+        },
     }
+}
+
+/// Plays the data of streams on a new device of the part, one after the other. The streams are within the limit together,
+/// headers included.
+fn play_streams<'w, I: Inputs>(
+    alloc: Global,
+    part: &Part,
+    inputs: &mut I,
+    streams: &'w [String],
+) -> Result<Player, Refusal<'w>>
+    ensures ok { IfOk result (λ player. (bytes : List ℕ) × HasPlayed part.now bytes player
+        × ((flash : Option (List ℕ)) → IsCaused (with_inputs (I.contents inputs.old) flash) (RisesFor (map string_bytes streams.now) (I.faults inputs.old) (I.faults inputs.new)) (RisesFor (map string_bytes streams.now) (I.absences inputs.old) (I.absences inputs.new))
+        (λ known. data_of known stream_limit (map string_bytes streams.now)) (Ok bytes))) }
+    ensures err { IfErr result (λ r. (flash : Option (List ℕ)) → IsCaused (with_inputs (I.contents inputs.old) flash) (RisesFor (map string_bytes streams.now) (I.faults inputs.old) (I.faults inputs.new)) (RisesFor (map string_bytes streams.now) (I.absences inputs.old) (I.absences inputs.new))
+        (λ known. data_of known stream_limit (map string_bytes streams.now)) (Err (event_of r))) }
+    ensures map { I.contents inputs.new ≡ I.contents inputs.old }
+    ensures faults { I.faults inputs.old ≤ I.faults inputs.new }
+    ensures absences { I.absences inputs.old ≤ I.absences inputs.new }
+{
+    let Ok(mut player) = Player::new(alloc, part) else {
+        return Err(Refusal::unnamed(Why::NoMemory));
+    };
+    let Ok(mut piece) = vec![in alloc; 0u8; TURN] else {
+        return Err(Refusal::unnamed(Why::NoMemory));
+    };
+    let mut left = STREAM_LIMIT;
+    for name in streams {
+        left = match play_stream(&mut player, inputs, name.as_str(), left, &mut piece) {
+            Ok(left) => left,
+            Err(refusal) => return Err(refusal),
+        };
+    }
+    Ok(player)
 }
 
 /// The text of `play PART STREAM..`: the inputs are read in the order of the words, and the streams' data are played as
-/// one stream.
+/// one stream while they are read.
 pub(crate) fn play<'w, I: Inputs>(
     alloc: Global,
     inputs: &mut I,
@@ -153,9 +189,8 @@ pub(crate) fn play<'w, I: Inputs>(
         Ok(part) => part,
         Err(refusal) => return Err(refusal),
     };
-    let bytes = match read_streams(alloc, inputs, streams) {
-        Ok(bytes) => bytes,
-        Err(refusal) => return Err(refusal),
-    };
-    text_of(alloc, &part, &bytes)
+    match play_streams(alloc, &part, inputs, streams) {
+        Ok(player) => player.text(alloc),
+        Err(refusal) => Err(refusal),
+    }
 }

@@ -1,37 +1,39 @@
 //! Reading an input in turns.
-ghost use Rattle.std.specs.Prelude.{◌≡◌, ◌+◌, ◌<◌, ◌≤◌, ◌∷◌, [], ℕ, List, Option, length, map, string_bytes, take, true, false, vec_len, IfErr, IfOk, OnOk};
+ghost use Rattle.std.specs.Prelude.{◌≡◌, ◌+◌, ◌-◌, ◌<◌, ◌≤◌, ◌∷◌, [], ℕ, List, Option, drop, length, map, string_bytes, take, true, false, vec_len, IfErr, IfOk, OnOk};
 ghost use Rattle.x7_words.specs.Count.{HasRisen};
 ghost use Rattle.x7_words.specs.Input.{AtEnd, Selects, preceded};
+ghost use Rattle.x7_words.specs.Word.{AreBytes};
 ghost use Rattle.x7_tool.specs.Message.{event_of};
 ghost use Rattle.x7_tool.specs.Event.{read_fault};
-ghost use Rattle.x7_tool.specs.Outcome.{and_so, put_before, data_of, raw, stream_limit, whole_in, with_inputs};
-ghost use Rattle.x7_tool.specs.Turn.{Unopened, Unread};
+ghost use Rattle.x7_tool.specs.Outcome.{data_in, put_before, whole_in, with_inputs};
+ghost use Rattle.x7_tool.specs.Turn.{ReadsRest, Unopened, Unread, UnreadRest};
 ghost use Rattle.x7_tool.specs.Run.{IsCaused, RisesFor, seen};
 
+use crate::bad_input::InputFault;
 use crate::refusal::{Refusal, Why};
 use std::alloc::Global;
-use x7_header::behind_fixed_bytes;
+use x7_header::{HeaderFault, header_of};
 use x7_words::{Inputs, SelectFault};
 
-/// The most bytes of a stream, and of all streams of one command.
+/// The most bytes of a stream, and of all streams of one command together.
 pub(crate) const STREAM_LIMIT: usize = 67_108_864;
 
 /// The most bytes of a text that stands for bytes.
 pub(crate) const TEXT_LIMIT: usize = 536_870_912;
 
-/// The most bytes that one turn reads.
+/// How many bytes one turn of a whole input or of a listing reads.
 pub(crate) const TURN: usize = 65_536;
 
-/// How many bytes a turn asks for, where this many are still within the limit: one more than they at
-/// most.
-fn turn_len(left: usize) -> usize
-    ensures some { 0 < result }
-    ensures within { result ≤ 65536 }
+/// How many bytes a turn asks for, where this many are still within the limit and the buffer holds so many: one more than
+/// within the limit at most.
+fn turn_len(left: usize, room: usize) -> usize
+    ensures some { 0 < room → 0 < result }
+    ensures within { result ≤ room }
     ensures over { result ≤ left + 1 }
-    ensures full { 65536 ≤ left → result ≡ 65536 }
-    ensures short { left < 65536 → result ≡ left + 1 }
+    ensures full { room ≤ left → result ≡ room }
+    ensures short { left < room → result ≡ left + 1 }
 {
-    if left < TURN { left + 1 } else { TURN }
+    if left < room { left + 1 } else { room }
 }
 
 /// Fills the buffer with the next bytes of the selected input, and answers how many there were:
@@ -102,10 +104,11 @@ pub(crate) fn next_turn<'w, I: Inputs>(
     buf: &mut [u8],
 ) -> Result<Turn, Refusal<'w>>
     requires selected { I.selected inputs.old ≡ true }
-    requires buffer { length buf.old ≡ 65536 }
+    requires some { 0 < length buf.old }
+    requires few { length buf.old ≤ 67108864 }
     ensures selected { OnOk result (I.selected inputs.new ≡ true) }
-    ensures within { IfOk result (λ turn. (turn.count ≤ left) × (turn.count ≤ 65536)) }
-    ensures goes { IfOk result (λ turn. turn.last ≡ false → turn.count ≡ 65536) }
+    ensures within { IfOk result (λ turn. (turn.count ≤ left) × (turn.count ≤ length buf.old)) }
+    ensures goes { IfOk result (λ turn. turn.last ≡ false → turn.count ≡ length buf.old) }
     ensures taken { IfOk result (λ turn. I.rest inputs.old ≡ preceded (take turn.count buf.new) (I.rest inputs.new)) }
     ensures end { IfOk result (λ turn. turn.last ≡ true → AtEnd (I.rest inputs.new)) }
     ensures length { length buf.new ≡ length buf.old }
@@ -114,7 +117,7 @@ pub(crate) fn next_turn<'w, I: Inputs>(
     ensures faults { I.faults inputs.old ≤ I.faults inputs.new }
     ensures absences { I.absences inputs.old ≤ I.absences inputs.new }
 {
-    let most = turn_len(left);
+    let most = turn_len(left, buf.len());
     let count = match fill(inputs, name, &mut buf[..most]) {
         Ok(count) => count,
         Err(refusal) => return Err(refusal),
@@ -189,54 +192,56 @@ pub(crate) fn read_whole<'w, I: Inputs>(
     }
 }
 
-/// Appends the data of a stream of at most so many bytes. A .bit header isn't built yet.
-fn read_stream<'w, I: Inputs>(
+/// Reads to its end what is left of the open input, of which this many bytes are within the limit, and none is left behind
+/// the last turn.
+pub(crate) fn skip_rest<'w, I: Inputs>(
     inputs: &mut I,
     name: &'w str,
     limit: usize,
-    onto: &mut Vec<u8>,
+    last: bool,
+    buf: &mut [u8],
 ) -> Result<(), Refusal<'w>>
-    ensures due { (flash : Option (List ℕ)) → IsCaused (with_inputs (I.contents inputs.old) flash) (RisesFor (name.now ∷ []) (I.faults inputs.old) (I.faults inputs.new)) (RisesFor (name.now ∷ []) (I.absences inputs.old) (I.absences inputs.new))
-        (λ known. put_before onto.old.items (and_so (whole_in known limit name.now) (raw name.now))) (seen (λ _. onto.new.items) result) }
-    ensures within { OnOk result (vec_len onto.new ≤ vec_len onto.old + limit) }
+    requires selected { I.selected inputs.old ≡ true }
+    requires some { 0 < length buf.old }
+    requires few { length buf.old ≤ 67108864 }
+    requires end { last ≡ true → AtEnd (I.rest inputs.old) }
+    ensures ok { OnOk result ((more : List ℕ) × (length more ≤ limit) × ReadsRest (I.rest inputs.old) (I.rest inputs.new) more) }
+    ensures err { IfErr result (λ r. UnreadRest (I.rest inputs.old) name.now limit (I.faults inputs.old) (I.faults inputs.new) (event_of r)) }
+    ensures length { length buf.new ≡ length buf.old }
     ensures map { I.contents inputs.new ≡ I.contents inputs.old }
     ensures faults { I.faults inputs.old ≤ I.faults inputs.new }
     ensures absences { I.absences inputs.old ≤ I.absences inputs.new }
 {
-    let start = onto.len();
-    match read_onto(inputs, name, limit, onto) {
-        Ok(()) => (),
-        Err(refusal) => return Err(refusal),
+    if last {
+        return Ok(());
     }
-    match behind_fixed_bytes(&onto[start..]) {
-        Ok(_) => Err(Refusal {
-            reason: Why::Unbuilt,
-            name,
-        }),
-        Err(_) => Ok(()),
+    let mut left = limit;
+    loop {
+        let turn = match next_turn(inputs, name, left, buf) {
+            Ok(turn) => turn,
+            Err(refusal) => return Err(refusal),
+        };
+        left -= turn.count;
+        if turn.last {
+            return Ok(());
+        }
     }
 }
 
-/// The data of streams, one after the other, within the limit together.
-pub(crate) fn read_streams<'w, I: Inputs>(
-    alloc: Global,
-    inputs: &mut I,
-    streams: &'w [String],
-) -> Result<Vec<u8>, Refusal<'w>>
-    ensures due { (flash : Option (List ℕ)) → IsCaused (with_inputs (I.contents inputs.old) flash) (RisesFor (map string_bytes streams.now) (I.faults inputs.old) (I.faults inputs.new)) (RisesFor (map string_bytes streams.now) (I.absences inputs.old) (I.absences inputs.new))
-        (λ known. data_of known stream_limit (map string_bytes streams.now)) (seen (λ whole. whole.items) result) }
-    ensures within { IfOk result (λ whole. vec_len whole ≤ 67108864) }
-    ensures map { I.contents inputs.new ≡ I.contents inputs.old }
-    ensures faults { I.faults inputs.old ≤ I.faults inputs.new }
-    ensures absences { I.absences inputs.old ≤ I.absences inputs.new }
+/// Where the data of a stream begin: after its header, or at its first byte where it has none.
+pub(crate) fn data_start<'w>(name: &'w str, bytes: &[u8]) -> Result<usize, Refusal<'w>>
+    ensures data { seen (λ start. drop start bytes.now) result ≡ data_in name.now bytes.now }
+    ensures within { IfOk result (λ start. start ≤ length bytes.now) }
+    ensures fits { AreBytes bytes.now }
 {
-    let mut whole = Vec::new(alloc);
-    for name in streams {
-        let left = STREAM_LIMIT - whole.len();
-        match read_stream(inputs, name.as_str(), left, &mut whole) {
-            Ok(()) => (),
-            Err(refusal) => return Err(refusal),
-        }
-    }
-    Ok(whole)
+    let place = match header_of(bytes) {
+        Ok(head) => return Ok(head.size),
+        Err(HeaderFault::Raw) => return Ok(0),
+        Err(HeaderFault::Cut(place)) => place,
+        Err(HeaderFault::Field(place)) => place,
+    };
+    Err(Refusal {
+        reason: Why::BadInput(InputFault::Byte(place as u64)),
+        name,
+    })
 }

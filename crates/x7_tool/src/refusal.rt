@@ -28,8 +28,6 @@ pub enum Why {
     NoMemory,
     /// An input has more bytes than its limit; of the name `reads`, too many words were read out.
     TooLarge,
-    /// A stream begins with a .bit header, which isn't built yet.
-    Unbuilt,
 }
 
 impl Why {
@@ -48,7 +46,6 @@ impl Why {
             Why::WriteFault => Status::WriteFault,
             Why::NoMemory => Status::NoMemory,
             Why::TooLarge => Status::TooLarge,
-            Why::Unbuilt => Status::Unbuilt,
         }
     }
 
@@ -65,7 +62,6 @@ impl Why {
             Why::WriteFault => b"x7: write fault",
             Why::NoMemory => b"x7: no memory",
             Why::TooLarge => b"x7: too large ",
-            Why::Unbuilt => b"x7: not built ",
         }
     }
 }

@@ -1,14 +1,19 @@
 //! The report of a device.
 ghost use Rattle.std.specs.Prelude.{◌≡◌, ◌++◌, ◌+◌, ◌≤◌, ℕ, List, codes, decimal, Bool, length, vec_len, vec_capacity, IfOk, OnOk};
+ghost use Rattle.std.specs.List.{flat_map};
+ghost use Rattle.x7_part.specs.AddressOrder.{addresses_in};
 ghost use Rattle.x7_part.specs.Part.{PartData};
+ghost use Rattle.x7_memory.specs.Frames.{AreFramesOf, frame_at};
 ghost use Rattle.x7_text.specs.Row.{data_text};
 ghost use Rattle.x7_engine.specs.declared.kept.Kept.{Kept};
-ghost use Rattle.x7_engine.specs.Standing.{DeviceStandsFor};
-ghost use Rattle.x7_engine.specs.State.{state_of};
-ghost use Rattle.x7_tool.specs.Report.{reads_text, report_text, state_text};
+ghost use Rattle.x7_engine.specs.Standing.{DeviceStandsFor, NoWordDue};
+ghost use Rattle.x7_engine.specs.State.{memory_in, state_of};
+ghost use Rattle.x7_tool.specs.Report.{frames_text, is_blank, is_shown, line_of, reads_text, report_text, shown, state_text};
 
 use std::alloc::Global;
-use x7_engine::{Device, Regs, end_words, phase_line, reg_lines};
+use x7_engine::{Device, Regs, end_words, frame_line, phase_line, reg_lines};
+use x7_memory::Memory;
+use x7_part::Part;
 use x7_text::{make_room, put, put_close, put_decimal, put_word};
 use x7_words::NoMemory;
 
@@ -70,17 +75,101 @@ fn put_reads(text: &mut Vec<u8>, reads: &[u32]) -> Result<(), NoMemory>
     put_data(text, reads)
 }
 
+/// Whether all words of a frame are 0.
+fn is_blank_frame(words: &[u32]) -> bool
+    ensures { result ≡ is_blank words.now }
+{
+    for word in words {
+        if *word != 0 {
+            return false;
+        }
+    }
+    true
+}
+
+/// Whether the frame at an address has a word other than 0.
+fn is_shown_at(part: &Part, memory: &Memory, far: u32) -> bool
+    requires { AreFramesOf part.now memory.now }
+    ensures { result ≡ is_shown (frame_at part.now memory.now far) }
+{
+    match memory.frame(part, far) {
+        Some(words) => !is_blank_frame(words),
+        None => false,
+    }
+}
+
+/// The addresses of the frames that have a word other than 0, in number order.
+fn shown_frames(alloc: Global, part: &Part, memory: &Memory) -> Result<Vec<u32>, NoMemory>
+    requires { AreFramesOf part.now memory.now }
+    ensures { IfOk result (λ fars. fars.items ≡ shown (frame_at part.now memory.now) (addresses_in part.now)) }
+{
+    let mut fars = Vec::new(alloc);
+    for rank in 0..part.frames() {
+        let Some(far) = part.address(rank) else {
+            return Ok(fars);
+        };
+        if is_shown_at(part, memory, far) {
+            fars.push(far)?;
+        }
+    }
+    Ok(fars)
+}
+
+/// Appends the line of the frame at an address.
+fn put_frame_at(text: &mut Vec<u8>, part: &Part, memory: &Memory, far: u32) -> Result<(), NoMemory>
+    requires { AreFramesOf part.now memory.now }
+    ensures { OnOk result (text.new.items ≡ text.old.items ++ line_of far (frame_at part.now memory.now far)) }
+{
+    match memory.frame(part, far) {
+        Some(words) => frame_line(text, far, words),
+        None => Ok(()),
+    }
+}
+
+/// Appends the lines of the frames at these addresses.
+fn put_frame_lines(
+    text: &mut Vec<u8>,
+    part: &Part,
+    memory: &Memory,
+    fars: &[u32],
+) -> Result<(), NoMemory>
+    requires { AreFramesOf part.now memory.now }
+    ensures { OnOk result (text.new.items ≡ text.old.items ++ flat_map (λ far. line_of far (frame_at part.now memory.now far)) fars.now) }
+{
+    for far in fars {
+        put_frame_at(text, part, memory, *far)?;
+    }
+    Ok(())
+}
+
+/// Appends the lines of the frames that have a word other than 0.
+#[tactic(auto, unfolding(crate::specs::Report::frames_text))]
+fn put_frames(
+    alloc: Global,
+    text: &mut Vec<u8>,
+    part: &Part,
+    memory: &Memory,
+) -> Result<(), NoMemory>
+    requires { AreFramesOf part.now memory.now }
+    ensures { OnOk result (text.new.items ≡ text.old.items ++ frames_text (frame_at part.now memory.now) (addresses_in part.now)) }
+{
+    let fars = shown_frames(alloc, part, memory)?;
+    put_text(text, b"frames ")?;
+    put_number(text, fars.len() as u64)?;
+    put_frame_lines(text, part, memory, &fars)
+}
+
 /// The report of a device and of the words that it read out (this project's choice): `part NAME`; `taken N`, the bytes
 /// that it took; `end` and where they end; `phase P done D gts G gwe E`; fifteen lines `reg NAME WORD`; `reads N` and the
-/// words in `data` lines of eight; `frames 0`, while a device has no memory.
+/// words in `data` lines of eight; `frames N` and the `frame` lines of all frames that have a word other than 0.
 #[tactic(auto, unfolding(crate::specs::Report::report_text))]
 pub fn report(alloc: Global, device: &Device, reads: &[u32]) -> Result<Vec<u8>, NoMemory>
-    ensures { IfOk result (λ text. (part : PartData) (kept : Kept) (wrapped : Bool) (bytes : List ℕ) → DeviceStandsFor part kept wrapped device.now bytes
-        → text.items ≡ report_text part.name (state_of part kept wrapped bytes) reads.now) }
+    ensures { IfOk result (λ text. (part : PartData) (kept : Kept) (wrapped : Bool) (bytes : List ℕ) → DeviceStandsFor part kept wrapped device.now bytes → NoWordDue device.now
+        → text.items ≡ report_text part (state_of part kept wrapped bytes) reads.now (memory_in part kept bytes)) }
 {
     let mut text = Vec::new(alloc);
     put_state(&mut text, device.part().name(), &device.state())?;
     put_reads(&mut text, reads)?;
-    put_text(&mut text, b"frames 0\n")?;
+    put_frames(alloc, &mut text, device.part(), device.memory())?;
     Ok(text)
 }

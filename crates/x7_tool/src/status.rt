@@ -24,8 +24,6 @@ pub enum Status {
     NoMemory,
     /// An input has more bytes than its limit, or too many words were read out.
     TooLarge,
-    /// A stream begins with a .bit header, which isn't built yet.
-    Unbuilt,
 }
 
 impl Status {
@@ -57,7 +55,6 @@ impl Status {
             Status::WriteFault => 7,
             Status::NoMemory => 8,
             Status::TooLarge => 9,
-            Status::Unbuilt => 10,
         }
     }
 }

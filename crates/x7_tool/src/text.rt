@@ -1,46 +1,77 @@
-//! A text that is whole before it is written.
-ghost use Rattle.std.specs.Prelude.{◌≡◌, IfErr, IfOk};
+//! Texts that are ready before any of them is written.
+ghost use Rattle.std.specs.Prelude.{◌≡◌, OnErr, OnOk};
 ghost use Rattle.x7_words.specs.Count.{HasRisen};
 ghost use Rattle.x7_words.specs.Sink.{appended, PutsFront};
-ghost use Rattle.x7_tool.specs.Message.{event_of};
-ghost use Rattle.x7_tool.specs.Event.{write_fault};
-ghost use Rattle.x7_tool.specs.Play.{whole_of};
+ghost use Rattle.x7_tool.specs.Outcome.{Answer};
+ghost use Rattle.x7_tool.specs.Play.{text_of_image, whole_of};
 ghost use Rattle.x7_tool.specs.Run.{Puts, seen};
 
 use crate::refusal::{Refusal, Why};
-use x7_words::{Sink, write_all};
+use x7_mcs::McsText;
+use x7_words::{Failed, Sink, write_all};
 
-/// A whole text, and whether what it reports stopped at a fault.
+/// A text that is ready: what it is made of was read and judged, and writing it takes no memory.
+pub(crate) trait Ready {
+    /// The text, and whether what it reports stopped at a fault.
+    ghost answer: { Self → Answer };
+
+    /// Whether what it reports stopped at a fault.
+    fn is_stopped(&self) -> bool
+        ensures { result ≡ (answer self.now).stopped };
+
+    /// Writes the text. After an error a prefix of it was written.
+    fn write<O: Sink>(&mut self, out: &mut O) -> Result<(), Failed>
+        ensures whole { OnOk result (O.written out.new ≡ appended (O.written out.old) (answer self.old).text) }
+        ensures prefix { PutsFront (O.written out.old) (answer self.old).text (O.written out.new) }
+        ensures failed { OnErr result (HasRisen (O.faults out.old) (O.faults out.new)) };
+}
+
+/// A text that was made whole, and whether what it reports stopped at a fault.
 #[derive(Drop)]
 pub(crate) struct Text {
     pub(crate) stopped: bool,
     pub(crate) text: Vec<u8>,
 }
 
-impl Text {
-    /// Writes the text, and says whether what it reports stopped at a fault.
-    fn put<'w, O: Sink>(&self, out: &mut O) -> Result<bool, Refusal<'w>>
-        ensures stopped { IfOk result (λ stopped. stopped ≡ self.now.stopped) }
-        ensures whole { IfOk result (λ _. O.written out.new ≡ appended (O.written out.old) self.now.text.items) }
-        ensures fault { IfErr result (λ r. (event_of r ≡ write_fault) × HasRisen (O.faults out.old) (O.faults out.new)) }
-        ensures prefix { PutsFront (O.written out.old) self.now.text.items (O.written out.new) }
-    {
-        match write_all(out, &self.text) {
-            Ok(()) => Ok(self.stopped),
-            Err(_) => Err(Refusal::unnamed(Why::WriteFault)),
-        }
+impl Ready for Text {
+    ghost answer = { whole_of };
+
+    fn is_stopped(&self) -> bool {
+        self.stopped
+    }
+
+    fn write<O: Sink>(&mut self, out: &mut O) -> Result<(), Failed> {
+        write_all(out, &self.text)
     }
 }
 
-/// Writes a text that was made whole, and nothing where none was.
-pub(crate) fn put_whole<'w, O: Sink>(
-    whole: Result<Text, Refusal<'w>>,
+/// The text of a flash image, which is made as it is written.
+impl Ready for McsText {
+    ghost answer = { text_of_image };
+
+    fn is_stopped(&self) -> bool {
+        false
+    }
+
+    fn write<O: Sink>(&mut self, out: &mut O) -> Result<(), Failed> {
+        McsText::write(self, out)
+    }
+}
+
+/// Writes a text that is ready, and nothing where none is.
+pub(crate) fn put_whole<'w, T: Ready + Drop, O: Sink>(
+    whole: Result<T, Refusal<'w>>,
     out: &mut O,
 ) -> Result<bool, Refusal<'w>>
-    ensures { Puts (seen whole_of whole.entry) (HasRisen (O.faults out.old) (O.faults out.new)) (O.written out.old) (O.written out.new) (seen (λ stopped. stopped) result) }
+    ensures { Puts (seen T.answer whole.entry) (HasRisen (O.faults out.old) (O.faults out.new)) (O.written out.old) (O.written out.new) (seen (λ stopped. stopped) result) }
 {
-    match whole {
-        Ok(text) => text.put(out),
-        Err(refusal) => Err(refusal),
+    let mut text = match whole {
+        Ok(text) => text,
+        Err(refusal) => return Err(refusal),
+    };
+    let stopped = text.is_stopped();
+    match text.write(out) {
+        Ok(()) => Ok(stopped),
+        Err(_) => Err(Refusal::unnamed(Why::WriteFault)),
     }
 }

@@ -12,6 +12,7 @@ use crate::asm::asm;
 use crate::form::{Form, words_of};
 use crate::list::list;
 use crate::mcs::{mcs, unmcs};
+use crate::plan::{plan_full, plan_read};
 use crate::play::play;
 use crate::refusal::{Refusal, Why};
 use crate::status::Status;
@@ -40,6 +41,12 @@ fn answer<'w, I: Inputs, O: Sink, F: Flash>(
         Some(Form::Play { part, streams }) => put_whole(play(alloc, inputs, part, streams), out),
         Some(Form::Asm { text }) => put_whole(asm(alloc, inputs, text), out),
         Some(Form::Mcs { image }) => put_whole(mcs(alloc, inputs, image), out),
+        Some(Form::PlanFull { part, frames }) => {
+            put_whole(plan_full(alloc, inputs, part, frames), out)
+        }
+        Some(Form::PlanRead { part, far, n }) => {
+            put_whole(plan_read(alloc, inputs, part, far, n), out)
+        }
         Some(Form::Unmcs { text }) => put_whole(unmcs(alloc, inputs, text), out),
     }
 }

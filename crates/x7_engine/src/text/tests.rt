@@ -56,7 +56,6 @@ fn words_of_each_end(rt: HostRuntime) -> Result<(), Fail> {
         (End::Fault(Fault::Multi), "fault Multi"),
         (End::Fault(Fault::Encrypted), "fault Encrypted"),
         (End::Fault(Fault::Watchdog), "fault Watchdog"),
-        (End::Fault(Fault::Unbuilt), "fault Unbuilt"),
     ];
     for (end, want) in cases {
         let mut out = Vec::new(rt.alloc());

@@ -1,7 +1,8 @@
-use crate::{AsmFault, Lister, assemble};
+use crate::{AsmFault, Lister, assemble, header_line};
 use std::alloc::Global;
 use std::process::Abort;
 use std::test::Fail;
+use x7_header::header_of;
 
 /// The text assembles to these bytes.
 fn assert_bytes(rt: &impl Abort, alloc: Global, text: &[u8], want: &[u8]) {
@@ -94,4 +95,52 @@ fn a_listing_assembles_back(rt: HostRuntime) -> Result<(), Fail> {
     lister.finish()?;
     assert_bytes(&rt, rt.alloc(), lister.text(), stream);
     Ok(())
+}
+
+/// The header of a stream for a small part, and the first line of its listing.
+const HEADER: &[u8; 60] =
+    b"\0\x09\x0F\xF0\x0F\xF0\x0F\xF0\x0F\xF0\0\0\x01a\0\x04top\0b\0\x067tiny\0c\0\x0B2024/01/01\0d\0\x0912:00:00\0e\0\0\0\x0F";
+
+const LINE: &[u8; 71] = b"bit 746F7000 3774696E7900 323032342F30312F303100 31323A30303A303000 15\n";
+
+#[test]
+fn the_line_of_a_header(rt: HostRuntime) -> Result<(), Fail> {
+    match header_of(HEADER) {
+        Ok(head) => assert_eq!(rt; header_line(rt.alloc(), &head)?.as_slice(), LINE.as_slice()),
+        Err(_) => assert!(rt; false, "no header"),
+    }
+    assert_bytes(&rt, rt.alloc(), LINE, HEADER);
+    Ok(())
+}
+
+#[test]
+fn headers_and_lines(rt: HostRuntime) {
+    let cases: [(&[u8], &[u8]); 2] = [
+        (
+            b"bit - - - - 4294967295",
+            b"\0\x09\x0F\xF0\x0F\xF0\x0F\xF0\x0F\xF0\0\0\x01a\0\0b\0\0c\0\0d\0\0e\xFF\xFF\xFF\xFF",
+        ),
+        // the check leaves the header out, which holds a sync word and a write
+        (
+            b"bit AA995566300180010362D093 - - - 0\ncrc",
+            b"\0\x09\x0F\xF0\x0F\xF0\x0F\xF0\x0F\xF0\0\0\x01a\0\x0C\xAA\x99\x55\x66\x30\x01\x80\x01\x03\x62\xD0\x93b\0\0c\0\0d\0\0e\0\0\0\0\x30\0\0\x01\0\0\0\0",
+        ),
+    ];
+    for (text, want) in cases {
+        assert_bytes(&rt, rt.alloc(), text, want);
+    }
+    let faults: [(&[u8], u64); 9] = [
+        (b"bit - - - - 4294967296", 1),
+        (b"bit - - - 0", 1),
+        (b"bit - - - - - 0", 1),
+        (b"bit  - - - 0", 1),
+        (b"bit 0a - - - 0", 1),
+        (b"bit 0 - - - 0", 1),
+        (b"# a comment\nbit - - - - 0", 2),
+        (b"bit - - - - 0\nbit - - - - 0", 2),
+        (b"bit - - - - 0\nnop\nnop \n", 3),
+    ];
+    for (text, line) in faults {
+        assert_fault(&rt, rt.alloc(), text, AsmFault::Line(line));
+    }
 }

@@ -1,4 +1,4 @@
-use Rattle.x7_engine.proofs.StateLemmas.{no_stop_before, stop_is_final-reads, stop_is_final-state, stop_is_final-stop, stop_place}
+use Rattle.x7_engine.proofs.StateLemmas.{no_stop_before, stop_is_final-memory, stop_is_final-reads, stop_is_final-state, stop_is_final-stop, stop_place}
 use Rattle.x7_engine.proofs.law.stops_are_final.Goals as goal
 
 pub returns-clause-place : goal.returns-clause-place
@@ -15,3 +15,6 @@ returns-clause-state c = stop_is_final-state
 
 pub returns-clause-reads : goal.returns-clause-reads
 returns-clause-reads c = stop_is_final-reads
+
+pub returns-clause-memory : goal.returns-clause-memory
+returns-clause-memory c = stop_is_final-memory

@@ -1,5 +1,6 @@
-use Rattle.x7_listing.proofs.FrontLemmas.{told_front}
+use Rattle.std.proofs.Common.{◌∙◌, append_assoc}
+use Rattle.x7_listing.proofs.FrontLemmas.{front_behind_others}
 use Rattle.x7_listing.proofs.laws.told_is_a_front.Goals as goal
 
 pub returns : goal.returns
-returns c = told_front
+returns c = λ l given before bytes rest s f. front_behind_others l given before bytes rest s f

@@ -1,12 +1,16 @@
-use Rattle.std.proofs.Common.{◌%◌, ◌++◌, ◌∙◌, ap, arith, List, ℕ}
-use Rattle.x7_mcs.specs.Text.{block_start, data_line}
-use Rattle.x7_mcs.proofs.RowsLemmas.{row-more}
+use Rattle.std.proofs.Common.{arith, length}
+use Rattle.x7_mcs.proofs.RowsLemmas.{room-more, row-more}
 use Rattle.x7_mcs.proofs.text.put_rows.Goals as goal
+
+pub put_row-requires-clause-room : goal.put_row-requires-clause-room
+put_row-requires-clause-room c = omega (arith, c.loop-rest.invariant.room (omega arith))
 
 pub loop-rest-preserved : goal.loop-rest-preserved
 loop-rest-preserved c = record {
   lines =
       row-more _ c.loop-rest.text.items c.put_row.new.out.items c.loop-rest.at c.min.result c.loop-rest.rest.now c.split_at.result.0.now c.split_at.result.1.now
-      c.loop-rest.invariant.lines (omega arith) c.min.ensures c.split_at.ensures.front c.split_at.ensures.back (c.put_row.ensures.items ∙ ap (λ (t : List ℕ). t ++ (block_start c.loop-rest.at ++ data_line (c.loop-rest.at % 65536) c.split_at.result.0.now)) c.reserve.ensures.items);
+      c.loop-rest.invariant.lines (omega arith) c.min.ensures c.split_at.ensures.front c.split_at.ensures.back c.put_row.ensures.items;
   left = omega arith;
+  room = room-more (length c.loop-rest.rest.now) c.min.result (length c.split_at.result.1.now) _ _ _ _ c.min.ensures (omega arith) (omega arith) c.loop-rest.invariant.room c.put_row.ensures.length c.put_row.ensures.room;
+  capacity = omega (arith, c.put_row.ensures.room, c.loop-rest.invariant.capacity);
 }

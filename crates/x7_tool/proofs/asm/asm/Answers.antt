@@ -1,11 +1,10 @@
-use Rattle.std.proofs.Common.{◌≡◌, ℕ, List, [], ◌∷◌, Result, Ok, Err, false, refl, ◌⊎◌, inl, inr, subst, sym, ap}
+use Rattle.std.proofs.Common.{◌≡◌, ℕ, List, [], ◌∷◌, Result, Ok, Err, false, refl, ◌⊎◌, inr, subst, sym}
 use Rattle.x7_listing.specs.Assembly.{IsAsm}
-use Rattle.x7_listing.specs.declared.assembler.AsmFault.{AsmFault}
 use Rattle.x7_listing.specs.declared.assembler.AsmFault.TheVariants as fault
 use Rattle.x7_tool.specs.Event.{Event}
 use Rattle.x7_tool.specs.Message.{event_of}
-use Rattle.x7_tool.specs.Outcome.{Answer, AssembledAs, asm_event, text_limit, whole_in, with_inputs}
-use Rattle.x7_tool.specs.Run.{IsCausedBy, RisesFor}
+use Rattle.x7_tool.specs.Outcome.{Answer, AssembledAs, text_limit, whole_in, with_inputs}
+use Rattle.x7_tool.specs.Run.{RisesFor}
 use Rattle.x7_tool.proofs.AsmLemmas.{asm_faulted}
 use Rattle.x7_tool.proofs.ReadLemmas.{after_text_by, unread_by}
 use Rattle.x7_tool.proofs.asm.asm.Goals as goal

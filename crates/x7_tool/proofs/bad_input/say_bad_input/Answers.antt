@@ -1,11 +1,14 @@
 use Rattle.std.proofs.Common.{append_assoc}
 use Rattle.x7_tool.proofs.bad_input.say_bad_input.Goals as goal
 
+pub returns-in-Line : goal.returns-in-Line
+returns-in-Line g c = rw c.in-Line.is c.say_number-in-Line.ensures
+
 pub returns-in-LongLine : goal.returns-in-LongLine
-returns-in-LongLine g c = rw c.in-LongLine.is c.say_line-in-LongLine.ensures
+returns-in-LongLine g c = rw c.in-LongLine.is c.say_number-in-LongLine.ensures
 
 pub returns-in-LargeLine : goal.returns-in-LargeLine
-returns-in-LargeLine g c = rw c.in-LargeLine.is c.say_line-in-LargeLine.ensures
+returns-in-LargeLine g c = rw c.in-LargeLine.is c.say_number-in-LargeLine.ensures
 
 pub returns-in-Overlap : goal.returns-in-Overlap
 returns-in-Overlap g c =
@@ -19,3 +22,15 @@ pub returns-in-Sum : goal.returns-in-Sum
 returns-in-Sum g c =
     let said = rw (c.hex_of_byte.ensures, c.hex_of_byte-in-Sum.ensures, c.as_bytes.ensures.value, c.format.ensures.text) at c.say_sum.ensures in
     rw c.in-Sum.is (simp append_assoc said)
+
+pub returns-in-AddressLine : goal.returns-in-AddressLine
+returns-in-AddressLine g c = rw c.in-AddressLine.is c.say_number-in-AddressLine.ensures
+
+pub returns-in-TwiceLine : goal.returns-in-TwiceLine
+returns-in-TwiceLine g c = rw c.in-TwiceLine.is c.say_number-in-TwiceLine.ensures
+
+pub returns-in-Foreign : goal.returns-in-Foreign
+returns-in-Foreign g c = rw c.in-Foreign.is c.say_at-in-Foreign.ensures
+
+pub returns-in-Range : goal.returns-in-Range
+returns-in-Range g c = rw c.in-Range.is c.say_at-in-Range.ensures

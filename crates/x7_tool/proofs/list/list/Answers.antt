@@ -1,18 +1,20 @@
-use Rattle.std.proofs.Common.{◌≡◌, ℕ, ◌+◌, ◌<◌, ◌≤◌, ◌==◌, ◌&&◌, ◌⊎◌, false, List, [], ◌∷◌, ◌++◌, Option, Some, Err, take, length, length-append, length-take-le, refl, sym, ap, ◌∙◌, inl, inr, arith}
+use Rattle.std.proofs.Common.{◌≡◌, ℕ, ◌+◌, ◌-◌, ◌≤◌, ◌⊎◌, List, [], ◌∷◌, ◌++◌, Option, Some, Ok, Err, drop, subst, take, length, length-append, length-drop, length-take-le, take_all, refl, sym, ap, ◌∙◌, inl, inr, arith}
 use Rattle.std.proofs.lemmas.Result.{on_ok_weaker}
 use Rattle.x7_words.specs.Count.{HasRisen}
-use Rattle.x7_words.specs.Sink.{PutsFront}
+use Rattle.x7_words.specs.Sink.{appended, PutsFront}
+use Rattle.x7_words.specs.Input.{preceded, Selects}
 use Rattle.x7_words.specs.Word.{AreBytes}
 use Rattle.x7_words.proofs.CountLemmas.{risen_from}
 use Rattle.x7_listing.specs.Listing.{listing_of}
+use Rattle.x7_listing.specs.StreamListing.{stream_listing}
 use Rattle.x7_tool.specs.Event.{no_memory, write_fault}
 use Rattle.x7_tool.specs.Form.{Listing}
 use Rattle.x7_tool.specs.Message.{event_of}
-use Rattle.x7_tool.specs.Outcome.{has_header, stream_limit, with_inputs}
-use Rattle.x7_tool.specs.Run.{Ends, RisesFor}
-use Rattle.x7_tool.specs.Turn.{Lists}
-use Rattle.x7_tool.proofs.Causes.{both_err, ends_same, listed_whole, out_of_memory, unopened}
-use Rattle.x7_tool.proofs.TurnLemmas.{end_failed, judged_more, lists_here, taken_more, unread_end, write_failed}
+use Rattle.x7_tool.specs.Outcome.{stream_limit, with_inputs}
+use Rattle.x7_tool.specs.Run.{Ends, PutsListing, RisesFor}
+use Rattle.x7_tool.specs.Turn.{Lists, ListsStream, MayFollow}
+use Rattle.x7_tool.proofs.Causes.{both_err, ends_same, listed_whole, out_of_memory, unfronted, unopened}
+use Rattle.x7_tool.proofs.TurnLemmas.{end_failed, front_failed, front_here, goes_on, line_front, line_then, stream_here, stream_whole, taken_more, unread_end, write_failed}
 use Rattle.x7_tool.proofs.list.list.Goals as goal
 
 pub returns-in-Err-clause-err : goal.returns-in-Err-clause-err
@@ -22,6 +24,109 @@ returns-in-Err-clause-err g c =
     λ flash. unopened (i.contents c.args.inputs.now) flash c.args.stream.now (i.faults c.args.inputs.now) (i.faults c.open.new.inputs) (i.absences c.args.inputs.now) (i.absences c.open.new.inputs) (HasRisen (o.faults c.args.out.now) (o.faults c.args.out.now))
     (o.written c.args.out.now) (event_of c.in-Err.refusal) c.in-Err.ensures.err
 
+pub returns-in-Err-read_front-clause-err : goal.returns-in-Err-read_front-clause-err
+returns-in-Err-read_front-clause-err g c =
+    let i = g.I.Inputs in
+    let o = g.O.Sink in
+    λ flash. unfronted (i.contents c.args.inputs.now) flash c.args.stream.now (i.rest c.open.new.inputs) (i.rest c.read_front.new.inputs) (i.faults c.args.inputs.now) (i.faults c.open.new.inputs) (i.faults c.read_front.new.inputs) (i.absences c.args.inputs.now) (i.absences c.read_front.new.inputs)
+    (HasRisen (o.faults c.args.out.now) (o.faults c.args.out.now)) (o.written c.args.out.now) (event_of c.in-Err-read_front.refusal) c.open.ensures.faults c.in-Ok.ensures.found c.in-Err-read_front.ensures.err
+
+pub returns-in-Err-put_front-clause-err : goal.returns-in-Err-put_front-clause-err
+returns-in-Err-put_front-clause-err g c =
+    let i = g.I.Inputs in
+    let o = g.O.Sink in
+    let contents = i.contents c.args.inputs.now in
+    let old = o.written c.args.out.now in
+    let stream = c.args.stream.now in
+    let F : List ℕ → Type 0 = RisesFor (stream ∷ []) (i.faults c.args.inputs.now) (i.faults c.read_front.new.inputs) in
+    let L : List ℕ → Type 0 = RisesFor (stream ∷ []) (i.absences c.args.inputs.now) (i.absences c.read_front.new.inputs) in
+    let f = c.in-Ok-read_front.ensures.front in
+    let taken = c.in-Ok-read_front.front.bytes.items in
+    let last = c.in-Ok-read_front.front.last in
+    let line = c.deref.result.now in
+    let start = c.in-Ok-read_front.front.start in
+    let bytes = c.deref-2.result.now in
+    let sent = take (length bytes - start) (drop start bytes) in
+    let cut : sent ≡ drop start taken = take_all (length bytes - start) (drop start bytes) (omega (arith, length-drop start bytes)) ∙ ap (drop start) c.deref-2.ensures.value in
+    let rest = i.rest c.read_front.new.inputs in
+    let sel : Selects contents stream (preceded taken rest) = subst (λ r. Selects contents stream r) f.taken c.in-Ok.ensures.found in
+    let goes : (left : List ℕ) → MayFollow last left → stream_listing (taken ++ left) ≡ Ok (line ++ listing_of (sent ++ left)) = λ left m. f.front left m ∙ ap (λ (l : List ℕ). Ok (l ++ listing_of (drop start taken ++ left))) (sym c.deref.ensures.value) ∙ ap (λ (s : List ℕ). Ok (line ++ listing_of (s ++ left))) (sym cut) in
+    let now = o.written c.put_front.new.out in
+    let Full : Type 0 = HasRisen (o.faults c.args.out.now) (o.faults c.put_front.new.out) in
+    let r = event_of c.in-Err-put_front.refusal in
+    λ flash.
+    let end : (r ≡ no_memory) ⊎ ((r ≡ write_fault) × HasRisen (o.faults c.args.out.now) (o.faults c.put_front.new.out)) → Ends (with_inputs contents flash) F L (Some (Listing stream)) Full old now (Err r)
+    = elim [
+      | inl h ↦ ends_same (with_inputs contents flash) F L (Some (Listing stream)) Full old now r no_memory h (out_of_memory contents flash F L stream taken rest Full old now sel (front_here taken line sent last old now c.put_front.ensures.fits goes c.in-Err-put_front.ensures.err))
+      | inr h ↦ ends_same (with_inputs contents flash) F L (Some (Listing stream)) Full old now r write_fault h.0 (front_failed contents flash F L stream taken line sent rest last Full old now sel f.end h.1 c.put_front.ensures.fits goes c.in-Err-put_front.ensures.err)
+    ] in
+    end c.in-Err-put_front.ensures.why
+
+pub returns-then-front-clause-ok : goal.returns-then-front-clause-ok
+returns-then-front-clause-ok g c =
+    let i = g.I.Inputs in
+    let o = g.O.Sink in
+    let contents = i.contents c.args.inputs.now in
+    let old = o.written c.args.out.now in
+    let stream = c.args.stream.now in
+    let F : List ℕ → Type 0 = RisesFor (stream ∷ []) (i.faults c.args.inputs.now) (i.faults c.read_front.new.inputs) in
+    let L : List ℕ → Type 0 = RisesFor (stream ∷ []) (i.absences c.args.inputs.now) (i.absences c.read_front.new.inputs) in
+    let f = c.in-Ok-read_front.ensures.front in
+    let taken = c.in-Ok-read_front.front.bytes.items in
+    let last = c.in-Ok-read_front.front.last in
+    let line = c.deref.result.now in
+    let start = c.in-Ok-read_front.front.start in
+    let bytes = c.deref-2.result.now in
+    let sent = take (length bytes - start) (drop start bytes) in
+    let cut : sent ≡ drop start taken = take_all (length bytes - start) (drop start bytes) (omega (arith, length-drop start bytes)) ∙ ap (drop start) c.deref-2.ensures.value in
+    let rest = i.rest c.read_front.new.inputs in
+    let sel : Selects contents stream (preceded taken rest) = subst (λ r. Selects contents stream r) f.taken c.in-Ok.ensures.found in
+    let goes : (left : List ℕ) → MayFollow last left → stream_listing (taken ++ left) ≡ Ok (line ++ listing_of (sent ++ left)) = λ left m. f.front left m ∙ ap (λ (l : List ℕ). Ok (l ++ listing_of (drop start taken ++ left))) (sym c.deref.ensures.value) ∙ ap (λ (s : List ℕ). Ok (line ++ listing_of (s ++ left))) (sym cut) in
+    let now = o.written c.put_end.new.out in
+    let Full : Type 0 = HasRisen (o.faults c.args.out.now) (o.faults c.put_end.new.out) in
+    let lists : Lists c.put_front.new.lister (appended old line) (o.written c.put_front.new.out) sent = c.in-Ok-put_front.ensures.ok in
+    let same = stream_whole taken line sent (goes [] (λ l. refl)) in
+    on_ok_weaker c.put_end.result (λ h flash. (line ++ listing_of sent, listed_whole contents flash F L stream taken (line ++ listing_of sent) rest Full old now sel (f.end c.if-front.true) same (omega (arith, f.few)) (line_then old now line (listing_of sent) (h (appended old line) sent lists)))) c.put_end.ensures.ok
+
+pub returns-then-front-clause-err : goal.returns-then-front-clause-err
+returns-then-front-clause-err g c =
+    let i = g.I.Inputs in
+    let o = g.O.Sink in
+    let contents = i.contents c.args.inputs.now in
+    let old = o.written c.args.out.now in
+    let stream = c.args.stream.now in
+    let F : List ℕ → Type 0 = RisesFor (stream ∷ []) (i.faults c.args.inputs.now) (i.faults c.read_front.new.inputs) in
+    let L : List ℕ → Type 0 = RisesFor (stream ∷ []) (i.absences c.args.inputs.now) (i.absences c.read_front.new.inputs) in
+    let f = c.in-Ok-read_front.ensures.front in
+    let taken = c.in-Ok-read_front.front.bytes.items in
+    let last = c.in-Ok-read_front.front.last in
+    let line = c.deref.result.now in
+    let start = c.in-Ok-read_front.front.start in
+    let bytes = c.deref-2.result.now in
+    let sent = take (length bytes - start) (drop start bytes) in
+    let cut : sent ≡ drop start taken = take_all (length bytes - start) (drop start bytes) (omega (arith, length-drop start bytes)) ∙ ap (drop start) c.deref-2.ensures.value in
+    let rest = i.rest c.read_front.new.inputs in
+    let sel : Selects contents stream (preceded taken rest) = subst (λ r. Selects contents stream r) f.taken c.in-Ok.ensures.found in
+    let goes : (left : List ℕ) → MayFollow last left → stream_listing (taken ++ left) ≡ Ok (line ++ listing_of (sent ++ left)) = λ left m. f.front left m ∙ ap (λ (l : List ℕ). Ok (l ++ listing_of (drop start taken ++ left))) (sym c.deref.ensures.value) ∙ ap (λ (s : List ℕ). Ok (line ++ listing_of (s ++ left))) (sym cut) in
+    let now = o.written c.put_end.new.out in
+    let Full : Type 0 = HasRisen (o.faults c.args.out.now) (o.faults c.put_end.new.out) in
+    let lists : Lists c.put_front.new.lister (appended old line) (o.written c.put_front.new.out) sent = c.in-Ok-put_front.ensures.ok in
+    let same = stream_whole taken line sent (goes [] (λ l. refl)) in
+    both_err c.put_end.result (λ r. (first : Option (List ℕ)) (bytes : List ℕ) → Lists c.put_front.new.lister first (o.written c.put_front.new.out) bytes → PutsFront first (listing_of bytes) now)
+    (λ r. (event_of r ≡ no_memory) ⊎ ((event_of r ≡ write_fault) × HasRisen (o.faults c.put_front.new.out) (o.faults c.put_end.new.out)))
+    (λ r. (flash : Option (List ℕ)) → Ends (with_inputs contents flash) F L (Some (Listing stream)) Full old now (Err (event_of r)))
+    (λ r p w flash.
+    let front : PutsListing taken old now = (line ++ listing_of sent, (same, line_front old now line (listing_of sent) (p (appended old line) sent lists))) in
+    let end : (event_of r ≡ no_memory) ⊎ ((event_of r ≡ write_fault) × HasRisen (o.faults c.put_front.new.out) (o.faults c.put_end.new.out)) → Ends (with_inputs contents flash) F L (Some (Listing stream)) Full old now (Err (event_of r))
+    = elim [
+      | inl h ↦ ends_same (with_inputs contents flash) F L (Some (Listing stream)) Full old now (event_of r) no_memory h (out_of_memory contents flash F L stream taken rest Full old now sel front)
+      | inr h ↦
+          let risen = risen_from (o.faults c.args.out.now) (o.faults c.put_front.new.out) (o.faults c.put_end.new.out) c.put_front.ensures.faults h.1 in
+          ends_same (with_inputs contents flash) F L (Some (Listing stream)) Full old now (event_of r) write_fault h.0 (end_failed contents flash F L stream taken rest Full old now sel (f.end c.if-front.true) risen front)
+    ] in
+    end w)
+    c.put_end.ensures.err c.put_end.ensures.why
+
 pub returns-in-Err-next_turn-clause-err : goal.returns-in-Err-next_turn-clause-err
 returns-in-Err-next_turn-clause-err g c =
     let i = g.I.Inputs in
@@ -29,7 +134,7 @@ returns-in-Err-next_turn-clause-err g c =
     let v = c.loop-turn.invariant in
     λ flash. unread_end (i.contents c.args.inputs.now) flash c.args.stream.now v.told.0 (i.rest c.loop-turn.inputs) (i.rest c.next_turn.new.inputs) c.loop-turn.lister c.loop-turn.left
     (i.faults c.args.inputs.now) (i.faults c.loop-turn.inputs) (i.faults c.next_turn.new.inputs) (i.absences c.args.inputs.now) (i.absences c.next_turn.new.inputs) (HasRisen (o.faults c.args.out.now) (o.faults c.loop-turn.out))
-    (o.written c.args.out.now) (o.written c.loop-turn.out) (event_of c.in-Err-next_turn.refusal) v.faults v.told.1.0 v.told.1.1 v.told.1.2 v.told.1.3 c.in-Err-next_turn.ensures.err
+    (o.written c.args.out.now) (o.written c.loop-turn.out) (event_of c.in-Err-next_turn.refusal) v.faults v.told.1.0 v.told.1.1 v.told.1.2 c.in-Err-next_turn.ensures.err
 
 pub returns-in-Err-put_turn-clause-err : goal.returns-in-Err-put_turn-clause-err
 returns-in-Err-put_turn-clause-err g c =
@@ -42,6 +147,7 @@ returns-in-Err-put_turn-clause-err g c =
     let L : List ℕ → Type 0 = RisesFor (stream ∷ []) (i.absences c.args.inputs.now) (i.absences c.next_turn.new.inputs) in
     let v = c.loop-turn.invariant in
     let taken = v.told.0 in
+    let t = v.told.1.1 in
     let piece = take c.in-Ok-next_turn.turn.count c.next_turn.new.buf in
     let sel = taken_more contents stream taken piece (i.rest c.loop-turn.inputs) (i.rest c.next_turn.new.inputs) v.told.1.0 c.in-Ok-next_turn.ensures.taken in
     let now = o.written c.put_turn.new.out in
@@ -51,15 +157,14 @@ returns-in-Err-put_turn-clause-err g c =
     let end : ((r ≡ no_memory) × (now ≡ o.written c.loop-turn.out)) ⊎ ((r ≡ write_fault) × HasRisen (o.faults c.loop-turn.out) (o.faults c.put_turn.new.out)) → Ends (with_inputs contents flash) F L (Some (Listing stream)) Full old now (Err r)
     = elim [
       | inl h ↦
-          let front = lists_here c.loop-turn.lister old (o.written c.loop-turn.out) taken v.told.1.1 in
-          let front2 : PutsFront old (listing_of taken) now = rw h.1 front in
+          let front2 : PutsListing taken old now = subst (λ w. PutsListing taken old w) (sym h.1) (stream_here c.loop-turn.lister old (o.written c.loop-turn.out) taken t) in
           ends_same (with_inputs contents flash) F L (Some (Listing stream)) Full old now r no_memory h.0 (out_of_memory contents flash F L stream taken (i.rest c.loop-turn.inputs) Full old now v.told.1.0 front2)
       | inr h ↦
           let risen = risen_from (o.faults c.args.out.now) (o.faults c.loop-turn.out) (o.faults c.put_turn.new.out) v.written h.1 in
-          let err : (left : List ℕ) → AreBytes (taken ++ (piece ++ left)) → PutsFront old (listing_of (taken ++ (piece ++ left))) now
-          = λ left fits. c.in-Err-put_turn.ensures.err old taken left v.told.1.1 fits in
+          let err : (left : List ℕ) → AreBytes (t.sent ++ (piece ++ left)) → PutsFront (appended old t.line) (listing_of (t.sent ++ (piece ++ left))) now
+          = λ left fits. c.in-Err-put_turn.ensures.err (appended old t.line) t.sent left t.lists fits in
           ends_same (with_inputs contents flash) F L (Some (Listing stream)) Full old now r write_fault h.0
-          (write_failed contents flash F L stream taken piece piece c.loop-turn.lister (i.rest c.next_turn.new.inputs) Full old (o.written c.loop-turn.out) now refl sel risen v.told.1.1 c.put_turn.ensures.fits err)
+          (write_failed contents flash F L stream taken piece piece c.loop-turn.lister (i.rest c.next_turn.new.inputs) Full old (o.written c.loop-turn.out) now refl sel risen t c.put_turn.ensures.fits err)
     ] in
     end c.in-Err-put_turn.ensures.why
 
@@ -74,17 +179,20 @@ returns-then-turn-clause-ok g c =
     let L : List ℕ → Type 0 = RisesFor (stream ∷ []) (i.absences c.args.inputs.now) (i.absences c.next_turn.new.inputs) in
     let v = c.loop-turn.invariant in
     let taken = v.told.0 in
+    let t = v.told.1.1 in
     let n = c.in-Ok-next_turn.turn.count in
     let piece = take n c.next_turn.new.buf in
     let sel = taken_more contents stream taken piece (i.rest c.loop-turn.inputs) (i.rest c.next_turn.new.inputs) v.told.1.0 c.in-Ok-next_turn.ensures.taken in
-    let raw = judged_more taken piece c.loop-turn.left v.told.1.2 v.left v.told.1.3 (sym c.has_bit_header.ensures ∙ c.if-has_bit_header.false) in
-    let lists : Lists c.put_turn.new.lister old (o.written c.put_turn.new.out) (taken ++ piece) = c.in-Ok-put_turn.ensures.ok old taken v.told.1.1 in
-    let now = o.written c.put_end.new.out in
-    let Full : Type 0 = HasRisen (o.faults c.args.out.now) (o.faults c.put_end.new.out) in
+    let lists : Lists c.put_turn.new.lister (appended old t.line) (o.written c.put_turn.new.out) (t.sent ++ piece) = c.in-Ok-put_turn.ensures.ok (appended old t.line) t.sent t.lists in
+    let goes = goes_on taken piece t.line t.sent t.goes in
+    let now = o.written c.put_end-then-turn.new.out in
+    let Full : Type 0 = HasRisen (o.faults c.args.out.now) (o.faults c.put_end-then-turn.new.out) in
     let size : length (taken ++ piece) ≡ length taken + n = length-append taken piece ∙ ap (λ k. length taken + k) (length-take-le n c.next_turn.new.buf (omega (arith, c.in-Ok-next_turn.ensures.within.1, c.next_turn.ensures.length, v.piece))) in
     let short : length (taken ++ piece) ≤ stream_limit = omega (arith, size, c.in-Ok-next_turn.ensures.within.0, v.told.1.2) in
     let end = c.in-Ok-next_turn.ensures.end c.if-turn.true in
-    on_ok_weaker c.put_end.result (λ h flash. (listing_of (taken ++ piece), listed_whole contents flash F L stream (taken ++ piece) (i.rest c.next_turn.new.inputs) Full old now sel end raw short (h old (taken ++ piece) lists))) c.put_end.ensures.ok
+    let text = t.line ++ listing_of (t.sent ++ piece) in
+    let same = stream_whole (taken ++ piece) t.line (t.sent ++ piece) (goes []) in
+    on_ok_weaker c.put_end-then-turn.result (λ h flash. (text, listed_whole contents flash F L stream (taken ++ piece) text (i.rest c.next_turn.new.inputs) Full old now sel end same short (line_then old now t.line (listing_of (t.sent ++ piece)) (h (appended old t.line) (t.sent ++ piece) lists)))) c.put_end-then-turn.ensures.ok
 
 pub returns-then-turn-clause-err : goal.returns-then-turn-clause-err
 returns-then-turn-clause-err g c =
@@ -97,25 +205,28 @@ returns-then-turn-clause-err g c =
     let L : List ℕ → Type 0 = RisesFor (stream ∷ []) (i.absences c.args.inputs.now) (i.absences c.next_turn.new.inputs) in
     let v = c.loop-turn.invariant in
     let taken = v.told.0 in
+    let t = v.told.1.1 in
     let piece = take c.in-Ok-next_turn.turn.count c.next_turn.new.buf in
     let sel = taken_more contents stream taken piece (i.rest c.loop-turn.inputs) (i.rest c.next_turn.new.inputs) v.told.1.0 c.in-Ok-next_turn.ensures.taken in
-    let lists : Lists c.put_turn.new.lister old (o.written c.put_turn.new.out) (taken ++ piece) = c.in-Ok-put_turn.ensures.ok old taken v.told.1.1 in
-    let now = o.written c.put_end.new.out in
-    let Full : Type 0 = HasRisen (o.faults c.args.out.now) (o.faults c.put_end.new.out) in
-    both_err c.put_end.result (λ r. (first : Option (List ℕ)) (bytes : List ℕ) → Lists c.put_turn.new.lister first (o.written c.put_turn.new.out) bytes → PutsFront first (listing_of bytes) now)
-    (λ r. (event_of r ≡ no_memory) ⊎ ((event_of r ≡ write_fault) × HasRisen (o.faults c.put_turn.new.out) (o.faults c.put_end.new.out)))
+    let lists : Lists c.put_turn.new.lister (appended old t.line) (o.written c.put_turn.new.out) (t.sent ++ piece) = c.in-Ok-put_turn.ensures.ok (appended old t.line) t.sent t.lists in
+    let goes = goes_on taken piece t.line t.sent t.goes in
+    let now = o.written c.put_end-then-turn.new.out in
+    let Full : Type 0 = HasRisen (o.faults c.args.out.now) (o.faults c.put_end-then-turn.new.out) in
+    both_err c.put_end-then-turn.result (λ r. (first : Option (List ℕ)) (bytes : List ℕ) → Lists c.put_turn.new.lister first (o.written c.put_turn.new.out) bytes → PutsFront first (listing_of bytes) now)
+    (λ r. (event_of r ≡ no_memory) ⊎ ((event_of r ≡ write_fault) × HasRisen (o.faults c.put_turn.new.out) (o.faults c.put_end-then-turn.new.out)))
     (λ r. (flash : Option (List ℕ)) → Ends (with_inputs contents flash) F L (Some (Listing stream)) Full old now (Err (event_of r)))
     (λ r p w flash.
-    let front = p old (taken ++ piece) lists in
-    let end : (event_of r ≡ no_memory) ⊎ ((event_of r ≡ write_fault) × HasRisen (o.faults c.put_turn.new.out) (o.faults c.put_end.new.out)) → Ends (with_inputs contents flash) F L (Some (Listing stream)) Full old now (Err (event_of r))
+    let same = stream_whole (taken ++ piece) t.line (t.sent ++ piece) (goes []) in
+    let front : PutsListing (taken ++ piece) old now = (t.line ++ listing_of (t.sent ++ piece), (same, line_front old now t.line (listing_of (t.sent ++ piece)) (p (appended old t.line) (t.sent ++ piece) lists))) in
+    let end : (event_of r ≡ no_memory) ⊎ ((event_of r ≡ write_fault) × HasRisen (o.faults c.put_turn.new.out) (o.faults c.put_end-then-turn.new.out)) → Ends (with_inputs contents flash) F L (Some (Listing stream)) Full old now (Err (event_of r))
     = elim [
       | inl h ↦ ends_same (with_inputs contents flash) F L (Some (Listing stream)) Full old now (event_of r) no_memory h (out_of_memory contents flash F L stream (taken ++ piece) (i.rest c.next_turn.new.inputs) Full old now sel front)
       | inr h ↦
-          let risen = risen_from (o.faults c.args.out.now) (o.faults c.put_turn.new.out) (o.faults c.put_end.new.out) (omega (arith, v.written, c.put_turn.ensures.faults)) h.1 in
+          let risen = risen_from (o.faults c.args.out.now) (o.faults c.put_turn.new.out) (o.faults c.put_end-then-turn.new.out) (omega (arith, v.written, c.put_turn.ensures.faults)) h.1 in
           ends_same (with_inputs contents flash) F L (Some (Listing stream)) Full old now (event_of r) write_fault h.0 (end_failed contents flash F L stream (taken ++ piece) (i.rest c.next_turn.new.inputs) Full old now sel (c.in-Ok-next_turn.ensures.end c.if-turn.true) risen front)
     ] in
     end w)
-    c.put_end.ensures.err c.put_end.ensures.why
+    c.put_end-then-turn.ensures.err c.put_end-then-turn.ensures.why
 
 pub loop-turn-preserved : goal.loop-turn-preserved
 loop-turn-preserved g c =
@@ -126,13 +237,14 @@ loop-turn-preserved g c =
     let stream = c.args.stream.now in
     let v = c.loop-turn.invariant in
     let taken = v.told.0 in
+    let t = v.told.1.1 in
     let n = c.in-Ok-next_turn.turn.count in
     let piece = take n c.next_turn.new.buf in
     let sel = taken_more contents stream taken piece (i.rest c.loop-turn.inputs) (i.rest c.next_turn.new.inputs) v.told.1.0 c.in-Ok-next_turn.ensures.taken in
-    let raw = judged_more taken piece c.loop-turn.left v.told.1.2 v.left v.told.1.3 (sym c.has_bit_header.ensures ∙ c.if-has_bit_header.false) in
-    let lists : Lists c.put_turn.new.lister old (o.written c.put_turn.new.out) (taken ++ piece) = c.in-Ok-put_turn.ensures.ok old taken v.told.1.1 in
+    let lists : Lists c.put_turn.new.lister (appended old t.line) (o.written c.put_turn.new.out) (t.sent ++ piece) = c.in-Ok-put_turn.ensures.ok (appended old t.line) t.sent t.lists in
+    let goes = goes_on taken piece t.line t.sent t.goes in
     let size : length (taken ++ piece) ≡ length taken + n = length-append taken piece ∙ ap (λ k. length taken + k) (length-take-le n c.next_turn.new.buf (omega (arith, c.in-Ok-next_turn.ensures.within.1, c.next_turn.ensures.length, v.piece))) in
-    let full : n ≡ 65536 = c.in-Ok-next_turn.ensures.goes c.if-turn.false in
+    let full : n ≡ 65536 = c.in-Ok-next_turn.ensures.goes c.if-turn.false ∙ v.piece in
     record {
       selected = c.in-Ok-next_turn.ensures.selected;
       map = c.next_turn.ensures.map ∙ v.map;
@@ -141,6 +253,5 @@ loop-turn-preserved g c =
       written = omega (arith, v.written, c.put_turn.ensures.faults);
       left = omega (arith, v.left);
       piece = omega (arith, c.next_turn.ensures.length, v.piece);
-      first = λ e. absurd (omega (arith, e, full, v.left, c.in-Ok-next_turn.ensures.within.0));
-      told = (taken ++ piece, (sel, lists, omega (arith, size, v.told.1.2, c.in-Ok-next_turn.ensures.within.0), λ less. (omega (arith, size, full), raw)));
+      told = (taken ++ piece, (sel, record { line = t.line; sent = t.sent ++ piece; lists = lists; goes = goes }, omega (arith, size, v.told.1.2, c.in-Ok-next_turn.ensures.within.0)));
     }

@@ -1,7 +1,7 @@
-use Rattle.std.proofs.Common.{◌≡◌, ℕ, List, ◌+◌, ◌<◌, ◌≤◌, length, true, false}
+use Rattle.std.proofs.Common.{◌≡◌, ℕ, List, ◌+◌, ◌≤◌, length, true}
 use Rattle.x7_words.specs.Input.{Selects, preceded}
-use Rattle.x7_tool.specs.Outcome.{has_header, stream_limit}
-use Rattle.x7_tool.specs.Turn.{Lists}
+use Rattle.x7_tool.specs.Outcome.{stream_limit}
+use Rattle.x7_tool.specs.Turn.{ListsStream}
 use Rattle.x7_tool.proofs.list.list.Given as goal
 
 abbrev pub invariant-loop-turn : goal.invariant-loop-turn
@@ -16,9 +16,7 @@ invariant-loop-turn g l =
       written : o.faults l.fn.out ≤ o.faults l.out;
       left : l.left ≤ stream_limit;
       piece : length l.piece ≡ 65536;
-      first : l.left ≡ stream_limit → o.written l.out ≡ o.written l.fn.out;
-      told : (taken : List ℕ) × (Selects (i.contents l.fn.inputs) l.stream (preceded taken (i.rest l.inputs)) × Lists l.lister (o.written l.fn.out) (o.written l.out) taken × (length taken + l.left ≡ stream_limit)
-          × (l.left < stream_limit → (13 ≤ length taken) × (has_header taken ≡ false)));
+      told : (taken : List ℕ) × (Selects (i.contents l.fn.inputs) l.stream (preceded taken (i.rest l.inputs)) × ListsStream l.lister (o.written l.fn.out) (o.written l.out) taken × (length taken + l.left ≡ stream_limit));
     }
 
 abbrev pub decreases-loop-turn : goal.decreases-loop-turn

@@ -5,8 +5,8 @@ use Rattle.x7_tool.specs.Run.{RisesFor}
 use Rattle.x7_tool.proofs.ReadLemmas.{after_text, works}
 use Rattle.x7_tool.proofs.mcs.mcs.Goals as goal
 
-pub returns-in-Ok-mcs_text : goal.returns-in-Ok-mcs_text
-returns-in-Ok-mcs_text g c = λ flash.
+pub returns-in-Ok-new : goal.returns-in-Ok-new
+returns-in-Ok-new g c = λ flash.
     let i = g.I.Inputs in
     let known = with_inputs (i.contents c.args.inputs.now) flash in
     let name = c.args.image.now in
@@ -14,6 +14,5 @@ returns-in-Ok-mcs_text g c = λ flash.
     let L : List ℕ → Type 0 = RisesFor (name ∷ []) (i.absences c.args.inputs.now) (i.absences c.read_whole.new.inputs) in
     let bytes = c.in-Ok.bytes.items in
     let whole : List ℕ → Answer = λ text. record { stopped = false; text = text } in
-    let text = rw c.deref.ensures.value at c.in-Ok-mcs_text.ensures.text in
-    after_text known F L flash_limit name bytes (λ xs. Ok (whole (mcs_text xs))) (Ok (whole c.in-Ok-mcs_text.text.items)) (c.in-Ok.ensures.due flash)
-    (works known F L (Ok (whole (mcs_text bytes))) (Ok (whole c.in-Ok-mcs_text.text.items)) tt tt (ap (λ t. Ok (whole t)) (sym text)))
+    after_text known F L flash_limit name bytes (λ xs. Ok (whole (mcs_text xs))) (Ok (whole (mcs_text c.in-Ok-new.text))) (c.in-Ok.ensures.due flash)
+    (works known F L (Ok (whole (mcs_text bytes))) (Ok (whole (mcs_text c.in-Ok-new.text))) tt tt (ap (λ t. Ok (whole (mcs_text t))) (sym c.in-Ok-new.ensures)))

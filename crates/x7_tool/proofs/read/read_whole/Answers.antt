@@ -1,4 +1,4 @@
-use Rattle.std.proofs.Common.{ℕ, List, [], ◌∷◌, Ok, Err}
+use Rattle.std.proofs.Common.{[], ◌∷◌, Ok, Err}
 use Rattle.x7_tool.specs.Message.{event_of}
 use Rattle.x7_tool.specs.Outcome.{with_inputs}
 use Rattle.x7_tool.specs.Run.{RisesFor}

@@ -1,11 +1,11 @@
-use Rattle.std.proofs.Common.{◌≡◌, ℕ, List, Option, Some, Ok, Err, map, string_bytes, sym, ap, subst, ◌∙◌}
+use Rattle.std.proofs.Common.{◌≡◌, Option, Some, Err, map, string_bytes, sym, ap, subst, ◌∙◌}
 use Rattle.x7_words.specs.Count.{HasRisen}
-use Rattle.x7_tool.specs.Form.{Asked, Assembling, FromMcs, Listing, Playing, ToMcs, form_of, names_of}
+use Rattle.x7_tool.specs.Form.{Asked, Assembling, FromMcs, Listing, PlanningFull, PlanningRead, Playing, ToMcs, form_of, names_of}
 use Rattle.x7_tool.specs.Message.{event_of}
-use Rattle.x7_tool.specs.Outcome.{known_of, with_inputs}
-use Rattle.x7_tool.specs.Play.{whole_of}
-use Rattle.x7_tool.specs.Run.{Ends, EndsAs, RisesFor, asked, asked_by, seen}
-use Rattle.x7_tool.proofs.RunLemmas.{puts_end}
+use Rattle.x7_tool.specs.Outcome.{known_of}
+use Rattle.x7_tool.specs.Play.{whole_of, text_of_image}
+use Rattle.x7_tool.specs.Run.{Ends, RisesFor, asked, asked_by, seen}
+use Rattle.x7_tool.proofs.RunLemmas.{ready_ends}
 use Rattle.x7_tool.proofs.top.answer.Goals as goal
 
 pub returns-in-Ok-clause-ends : goal.returns-in-Ok-clause-ends
@@ -22,44 +22,36 @@ returns-in-Err-clause-ends g c =
 
 pub returns-in-Some-Play-clause-ends : goal.returns-in-Some-Play-clause-ends
 returns-in-Some-Play-clause-ends g c =
-    let i = g.I.Inputs in
-    let o = g.O.Sink in
-    let asks : Asked = Playing c.in-Some-Play.part.now (map string_bytes c.in-Some-Play.streams.now) in
-    let form : form_of (map string_bytes c.args.words.now.items) ≡ Some asks = sym c.words_of.ensures ∙ ap asked c.in-Some-Play.is ∙ ap (λ f. Some (asked_by f)) c.in-Some-Play.field-0-is in
     let flash = g.F.Flash.bytes c.args.flash.now in
-    rw form (puts_end (with_inputs (i.contents c.args.inputs.now) flash) (RisesFor (names_of (Some asks)) (i.faults c.args.inputs.now) (i.faults c.play.new.inputs)) (RisesFor (names_of (Some asks)) (i.absences c.args.inputs.now) (i.absences c.play.new.inputs))
-    asks (HasRisen (o.faults c.args.out.now) (o.faults c.put_whole.new.out)) (o.written c.args.out.now) (o.written c.put_whole.new.out) (seen whole_of c.play.result) (seen (λ stopped. stopped) c.put_whole.result)
-    (λ t a e p. (a, (e, p))) (λ event e. e) (c.play.ensures flash) c.put_whole.ensures)
-
-pub returns-in-Some-Mcs-clause-ends : goal.returns-in-Some-Mcs-clause-ends
-returns-in-Some-Mcs-clause-ends g c =
-    let i = g.I.Inputs in
-    let o = g.O.Sink in
-    let asks : Asked = ToMcs c.in-Some-Mcs.image.now in
-    let form : form_of (map string_bytes c.args.words.now.items) ≡ Some asks = sym c.words_of.ensures ∙ ap asked c.in-Some-Mcs.is ∙ ap (λ f. Some (asked_by f)) c.in-Some-Mcs.field-0-is in
-    let flash = g.F.Flash.bytes c.args.flash.now in
-    rw form (puts_end (with_inputs (i.contents c.args.inputs.now) flash) (RisesFor (names_of (Some asks)) (i.faults c.args.inputs.now) (i.faults c.mcs.new.inputs)) (RisesFor (names_of (Some asks)) (i.absences c.args.inputs.now) (i.absences c.mcs.new.inputs))
-    asks (HasRisen (o.faults c.args.out.now) (o.faults c.put_whole-in-Some-Mcs.new.out)) (o.written c.args.out.now) (o.written c.put_whole-in-Some-Mcs.new.out) (seen whole_of c.mcs.result) (seen (λ stopped. stopped) c.put_whole-in-Some-Mcs.result)
-    (λ t a e p. (a, (e, p))) (λ event e. e) (c.mcs.ensures flash) c.put_whole-in-Some-Mcs.ensures)
-
-pub returns-in-Some-Unmcs-clause-ends : goal.returns-in-Some-Unmcs-clause-ends
-returns-in-Some-Unmcs-clause-ends g c =
-    let i = g.I.Inputs in
-    let o = g.O.Sink in
-    let asks : Asked = FromMcs c.in-Some-Unmcs.text.now in
-    let form : form_of (map string_bytes c.args.words.now.items) ≡ Some asks = sym c.words_of.ensures ∙ ap asked c.in-Some-Unmcs.is ∙ ap (λ f. Some (asked_by f)) c.in-Some-Unmcs.field-0-is in
-    let flash = g.F.Flash.bytes c.args.flash.now in
-    rw form (puts_end (with_inputs (i.contents c.args.inputs.now) flash) (RisesFor (names_of (Some asks)) (i.faults c.args.inputs.now) (i.faults c.unmcs.new.inputs)) (RisesFor (names_of (Some asks)) (i.absences c.args.inputs.now) (i.absences c.unmcs.new.inputs))
-    asks (HasRisen (o.faults c.args.out.now) (o.faults c.put_whole-in-Some-Unmcs.new.out)) (o.written c.args.out.now) (o.written c.put_whole-in-Some-Unmcs.new.out) (seen whole_of c.unmcs.result) (seen (λ stopped. stopped) c.put_whole-in-Some-Unmcs.result)
-    (λ t a e p. (a, (e, p))) (λ event e. e) (c.unmcs.ensures flash) c.put_whole-in-Some-Unmcs.ensures)
+    ready_ends _ (Playing c.in-Some-Play.part.now (map string_bytes c.in-Some-Play.streams.now)) _ flash _ _ _ _ _ _ _ (seen whole_of c.play.result) _
+    (sym c.words_of.ensures ∙ ap asked c.in-Some-Play.is ∙ ap (λ f. Some (asked_by f)) c.in-Some-Play.field-0-is) tt (c.play.ensures flash) c.put_whole.ensures
 
 pub returns-in-Some-Asm-clause-ends : goal.returns-in-Some-Asm-clause-ends
 returns-in-Some-Asm-clause-ends g c =
-    let i = g.I.Inputs in
-    let o = g.O.Sink in
-    let asks : Asked = Assembling c.in-Some-Asm.text.now in
-    let form : form_of (map string_bytes c.args.words.now.items) ≡ Some asks = sym c.words_of.ensures ∙ ap asked c.in-Some-Asm.is ∙ ap (λ f. Some (asked_by f)) c.in-Some-Asm.field-0-is in
     let flash = g.F.Flash.bytes c.args.flash.now in
-    rw form (puts_end (with_inputs (i.contents c.args.inputs.now) flash) (RisesFor (names_of (Some asks)) (i.faults c.args.inputs.now) (i.faults c.asm.new.inputs)) (RisesFor (names_of (Some asks)) (i.absences c.args.inputs.now) (i.absences c.asm.new.inputs))
-    asks (HasRisen (o.faults c.args.out.now) (o.faults c.put_whole-in-Some-Asm.new.out)) (o.written c.args.out.now) (o.written c.put_whole-in-Some-Asm.new.out) (seen whole_of c.asm.result) (seen (λ stopped. stopped) c.put_whole-in-Some-Asm.result)
-    (λ t a e p. (a, (e, p))) (λ event e. e) (c.asm.ensures flash) c.put_whole-in-Some-Asm.ensures)
+    ready_ends _ (Assembling c.in-Some-Asm.text.now) _ flash _ _ _ _ _ _ _ (seen whole_of c.asm.result) _
+    (sym c.words_of.ensures ∙ ap asked c.in-Some-Asm.is ∙ ap (λ f. Some (asked_by f)) c.in-Some-Asm.field-0-is) tt (c.asm.ensures flash) c.put_whole-in-Some-Asm.ensures
+
+pub returns-in-Some-Mcs-clause-ends : goal.returns-in-Some-Mcs-clause-ends
+returns-in-Some-Mcs-clause-ends g c =
+    let flash = g.F.Flash.bytes c.args.flash.now in
+    ready_ends _ (ToMcs c.in-Some-Mcs.image.now) _ flash _ _ _ _ _ _ _ (seen text_of_image c.mcs.result) _
+    (sym c.words_of.ensures ∙ ap asked c.in-Some-Mcs.is ∙ ap (λ f. Some (asked_by f)) c.in-Some-Mcs.field-0-is) tt (c.mcs.ensures flash) c.put_whole-in-Some-Mcs.ensures
+
+pub returns-in-Some-Unmcs-clause-ends : goal.returns-in-Some-Unmcs-clause-ends
+returns-in-Some-Unmcs-clause-ends g c =
+    let flash = g.F.Flash.bytes c.args.flash.now in
+    ready_ends _ (FromMcs c.in-Some-Unmcs.text.now) _ flash _ _ _ _ _ _ _ (seen whole_of c.unmcs.result) _
+    (sym c.words_of.ensures ∙ ap asked c.in-Some-Unmcs.is ∙ ap (λ f. Some (asked_by f)) c.in-Some-Unmcs.field-0-is) tt (c.unmcs.ensures flash) c.put_whole-in-Some-Unmcs.ensures
+
+pub returns-in-Some-PlanFull-clause-ends : goal.returns-in-Some-PlanFull-clause-ends
+returns-in-Some-PlanFull-clause-ends g c =
+    let flash = g.F.Flash.bytes c.args.flash.now in
+    ready_ends _ (PlanningFull c.in-Some-PlanFull.part.now c.in-Some-PlanFull.frames.now) _ flash _ _ _ _ _ _ _ (seen whole_of c.plan_full.result) _
+    (sym c.words_of.ensures ∙ ap asked c.in-Some-PlanFull.is ∙ ap (λ f. Some (asked_by f)) c.in-Some-PlanFull.field-0-is) tt (c.plan_full.ensures flash) c.put_whole-in-Some-PlanFull.ensures
+
+pub returns-in-Some-PlanRead-clause-ends : goal.returns-in-Some-PlanRead-clause-ends
+returns-in-Some-PlanRead-clause-ends g c =
+    let flash = g.F.Flash.bytes c.args.flash.now in
+    ready_ends _ (PlanningRead c.in-Some-PlanRead.part.now c.in-Some-PlanRead.far c.in-Some-PlanRead.n) _ flash _ _ _ _ _ _ _ (seen whole_of c.plan_read.result) _
+    (sym c.words_of.ensures ∙ ap asked c.in-Some-PlanRead.is ∙ ap (λ f. Some (asked_by f)) c.in-Some-PlanRead.field-0-is) tt (c.plan_read.ensures flash) c.put_whole-in-Some-PlanRead.ensures

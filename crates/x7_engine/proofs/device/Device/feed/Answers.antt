@@ -1,15 +1,25 @@
-use Rattle.std.proofs.Common.{◌≡◌, ◌-◌, ◌≤◌, ◌++◌, ℕ, true, false, Option, List, length, take, replicate, sym, ap, subst, ◌∙◌, append_assoc, arith, Bool}
+use Rattle.std.proofs.Common.{◌≡◌, ◌-◌, ◌≤◌, ◌++◌, ℕ, true, false, Option, List, length, take, sym, ap, subst, ◌∙◌, append_assoc, append-nil, refl, [], arith, Bool}
 use Rattle.std.specs.Option.{is_some}
 use Rattle.x7_packets.specs.Cutting.{between}
 use Rattle.x7_part.specs.Part.{PartData}
 use Rattle.x7_engine.specs.declared.fed.Fed.{Fed}
 use Rattle.x7_engine.specs.declared.stop.Stop.{Stop}
 use Rattle.x7_engine.specs.declared.kept.Kept.{Kept}
+use Rattle.x7_engine.specs.Readout.{Gives}
 use Rattle.x7_engine.specs.ReadBuffer.{ReadBufState, with_words}
-use Rattle.x7_engine.specs.Standing.{Answers, DeviceStandsFor, DeviceState, fed_by, taken_in, told_of, with_due}
+use Rattle.x7_engine.specs.Standing.{Answers, DeviceStandsFor, DeviceState, fed_by, taken_in, told_of}
 use Rattle.x7_engine.specs.Stops.{stopped_at}
-use Rattle.x7_engine.proofs.FeedLemmas.{answers_stop, given, stands_on, taken_by_stop, told_on, words_append}
+use Rattle.x7_engine.proofs.FeedLemmas.{answers_stop, stands_on, taken_by_stop, told_on, words_append, words_none}
 use Rattle.x7_engine.proofs.device.Device.feed.Goals as goal
+
+pub runs-init : goal.runs-init
+runs-init c = record {
+  within = omega arith;
+  fits = omega (arith, c.requires);
+  stands = λ part kept wrapped bytes s. subst (λ (b : List ℕ). DeviceStandsFor part kept wrapped c.args.self.now b) (sym (append-nil bytes)) s;
+  reads = λ part kept wrapped bytes s. ([], words_none c.args.read.now, ap (told_of part kept c.args.self.now) (append-nil bytes) ∙ sym (append-nil (told_of part kept c.args.self.now bytes)));
+  stopped = λ e. (refl, refl, refl);
+}
 
 pub returns-in-Some-clause-answer : goal.returns-in-Some-clause-answer
 returns-in-Some-clause-answer c = λ part kept wrapped bytes s.
@@ -32,49 +42,33 @@ returns-in-Some-clause-reads c = λ part kept wrapped bytes s.
     (told.0, told.1, ap (λ (k : ℕ). told_of part kept c.runs.self (bytes ++ take k piece)) count ∙ told.2)
 
 -- the words told so far, and those that were given now
-now_told : (part : PartData) (kept : Kept) (wrapped : Bool) (d : DeviceState) (first read next : ReadBufState) (bytes taken told : List ℕ) (left : ℕ) → next ≡ with_words read (replicate (d.registers.due - left) d.registers.due_word) → left ≤ d.registers.due → DeviceStandsFor part kept wrapped d taken
+now_told : (part : PartData) (kept : Kept) (wrapped : Bool) (d e : DeviceState) (first read next : ReadBufState) (taken told : List ℕ) → Gives part kept wrapped d e taken read next
     → ((more : List ℕ) × (read ≡ with_words first more) × (told_of part kept d taken ≡ told ++ more))
-    → (more : List ℕ) × (next ≡ with_words first more) × (told_of part kept (with_due d left) taken ≡ told ++ more)
-now_told part kept wrapped d first read next bytes taken told left e l s m =
-    let words : List ℕ = replicate (d.registers.due - left) d.registers.due_word in (
-      m.0 ++ words,
-      e ∙ ap (λ (b : ReadBufState). with_words b words) m.1 ∙ words_append first m.0 words,
-      (given part kept wrapped d taken left l s).1 ∙ ap (λ t. t ++ words) m.2 ∙ append_assoc told m.0 words,
-    )
+    → (more : List ℕ) × (next ≡ with_words first more) × (told_of part kept e taken ≡ told ++ more)
+now_told part kept wrapped d e first read next taken told g m = (
+  m.0 ++ g.more,
+  g.read_is ∙ ap (λ (b : ReadBufState). with_words b g.more) m.1 ∙ words_append first m.0 g.more,
+  g.told_are ∙ ap (λ t. t ++ g.more) m.2 ∙ append_assoc told m.0 g.more,
+)
 
 pub returns-then-not-give-clause-stands : goal.returns-then-not-give-clause-stands
 returns-then-not-give-clause-stands c = λ part kept wrapped bytes s.
-    let taken : List ℕ = bytes ++ take c.runs.at c.args.piece.now in
-    subst (λ (d : DeviceState). DeviceStandsFor part kept wrapped d taken) (sym c.give.ensures.same)
-    (given part kept wrapped c.runs.self taken c.give.new.self.registers.due c.give.ensures.fewer (c.runs.invariant.stands part kept wrapped bytes s)).0
+    (c.give.ensures.given part kept wrapped (bytes ++ take c.runs.at c.args.piece.now) (c.runs.invariant.stands part kept wrapped bytes s)).stands
 
 pub returns-then-not-give-clause-reads : goal.returns-then-not-give-clause-reads
 returns-then-not-give-clause-reads c = λ part kept wrapped bytes s.
     let taken : List ℕ = bytes ++ take c.runs.at c.args.piece.now in
-    let told : (more : List ℕ) × (c.give.new.read ≡ with_words c.args.read.now more) × (told_of part kept (with_due c.runs.self c.give.new.self.registers.due) taken ≡ told_of part kept c.args.self.now bytes ++ more) =
-    now_told part kept wrapped c.runs.self c.args.read.now c.runs.read c.give.new.read bytes taken (told_of part kept c.args.self.now bytes) c.give.new.self.registers.due c.give.ensures.words c.give.ensures.fewer
-    (c.runs.invariant.stands part kept wrapped bytes s) (c.runs.invariant.reads part kept wrapped bytes s) in
-    (told.0, told.1, ap (λ (d : DeviceState). told_of part kept d taken) c.give.ensures.same ∙ told.2)
-
--- the device once the words due are given
-given_here : (part : PartData) (kept : Kept) (wrapped : Bool) (old new : DeviceState) (taken : List ℕ) → new ≡ with_due old new.registers.due → new.registers.due ≤ old.registers.due → DeviceStandsFor part kept wrapped old taken → DeviceStandsFor part kept wrapped new taken
-given_here part kept wrapped old new taken e l s = subst (λ (d : DeviceState). DeviceStandsFor part kept wrapped d taken) (sym e) (given part kept wrapped old taken new.registers.due l s).0
+    now_told part kept wrapped c.runs.self c.give.new.self c.args.read.now c.runs.read c.give.new.read taken (told_of part kept c.args.self.now bytes)
+    (c.give.ensures.given part kept wrapped taken (c.runs.invariant.stands part kept wrapped bytes s)) (c.runs.invariant.reads part kept wrapped bytes s)
 
 -- and then a run more is taken
-read_here : (part : PartData) (kept : Kept) (wrapped : Bool) (old new next : DeviceState) (first read last : ReadBufState) (bytes piece told : List ℕ) (from to : ℕ) → new ≡ with_due old new.registers.due → new.registers.due ≤ old.registers.due
-    → last ≡ with_words read (replicate (old.registers.due - new.registers.due) old.registers.due_word) → from ≤ to
+read_here : (part : PartData) (kept : Kept) (wrapped : Bool) (old new next : DeviceState) (first read last : ReadBufState) (bytes piece told : List ℕ) (from to : ℕ) → Gives part kept wrapped old new (bytes ++ take from piece) read last → from ≤ to
     → ((b : List ℕ) → DeviceStandsFor part kept wrapped new b → told_of part kept next (b ++ between piece from to) ≡ told_of part kept new b)
-    → DeviceStandsFor part kept wrapped old (bytes ++ take from piece)
     → ((more : List ℕ) × (read ≡ with_words first more) × (told_of part kept old (bytes ++ take from piece) ≡ told ++ more))
     → (more : List ℕ) × (last ≡ with_words first more) × (told_of part kept next (bytes ++ take to piece) ≡ told ++ more)
-read_here part kept wrapped old new next first read last bytes piece told from to e l w f t s m =
-    let taken : List ℕ = bytes ++ take from piece in
-    let now : (more : List ℕ) × (last ≡ with_words first more) × (told_of part kept (with_due old new.registers.due) taken ≡ told ++ more) = now_told part kept wrapped old first read last bytes taken told new.registers.due w l s m in (
-      now.0,
-      now.1,
-      told_on part kept wrapped new next bytes piece from to f t (given_here part kept wrapped old new taken e l s)
-          ∙ ap (λ (d : DeviceState). told_of part kept d taken) e ∙ now.2,
-    )
+read_here part kept wrapped old new next first read last bytes piece told from to g f t m =
+    let now : (more : List ℕ) × (last ≡ with_words first more) × (told_of part kept new (bytes ++ take from piece) ≡ told ++ more) = now_told part kept wrapped old new first read last (bytes ++ take from piece) told g m in
+    (now.0, now.1, told_on part kept wrapped new next bytes piece from to f t g.stands ∙ now.2)
 
 pub returns-then-turn-clause-stands : goal.returns-then-turn-clause-stands
 returns-then-turn-clause-stands c = λ part kept wrapped bytes s.
@@ -82,7 +76,7 @@ returns-then-turn-clause-stands c = λ part kept wrapped bytes s.
     let used = c.turn.ensures.used_up c.if-turn.true in
     subst (λ (k : ℕ). DeviceStandsFor part kept wrapped c.turn.new.self (bytes ++ take k piece)) used.0
     (stands_on part kept wrapped c.give.new.self c.turn.new.self bytes piece c.runs.at c.turn.new.at c.turn.ensures.forward (c.turn.ensures.stands part kept wrapped)
-    (given_here part kept wrapped c.runs.self c.give.new.self (bytes ++ take c.runs.at piece) c.give.ensures.same c.give.ensures.fewer (c.runs.invariant.stands part kept wrapped bytes s)))
+    (c.give.ensures.given part kept wrapped (bytes ++ take c.runs.at piece) (c.runs.invariant.stands part kept wrapped bytes s)).stands)
 
 pub returns-then-turn-clause-answer : goal.returns-then-turn-clause-answer
 returns-then-turn-clause-answer c = λ part kept wrapped bytes s.
@@ -97,21 +91,21 @@ returns-then-turn-clause-reads c = λ part kept wrapped bytes s.
     let used = c.turn.ensures.used_up c.if-turn.true in
     let told : (more : List ℕ) × (c.give.new.read ≡ with_words c.args.read.now more) × (told_of part kept c.turn.new.self (bytes ++ take c.turn.new.at piece) ≡ told_of part kept c.args.self.now bytes ++ more) =
     read_here part kept wrapped c.runs.self c.give.new.self c.turn.new.self c.args.read.now c.runs.read c.give.new.read bytes piece (told_of part kept c.args.self.now bytes) c.runs.at c.turn.new.at
-    c.give.ensures.same c.give.ensures.fewer c.give.ensures.words c.turn.ensures.forward (c.turn.ensures.told part kept wrapped) (c.runs.invariant.stands part kept wrapped bytes s) (c.runs.invariant.reads part kept wrapped bytes s) in
+    (c.give.ensures.given part kept wrapped (bytes ++ take c.runs.at piece) (c.runs.invariant.stands part kept wrapped bytes s)) c.turn.ensures.forward (c.turn.ensures.told part kept wrapped) (c.runs.invariant.reads part kept wrapped bytes s) in
     (told.0, told.1, ap (λ (k : ℕ). told_of part kept c.turn.new.self (bytes ++ take k piece)) (sym used.0) ∙ told.2)
 
 pub runs-preserved : goal.runs-preserved
 runs-preserved c =
     let piece : List ℕ = c.args.piece.now in
-    let taken : c.give.new.self.taken ≡ c.runs.self.taken = ap (λ (d : DeviceState). d.taken) c.give.ensures.same in
+    let taken : c.give.new.self.taken ≡ c.runs.self.taken = c.give.ensures.taken in
     record {
       within = c.turn.ensures.within;
       fits = omega (arith, taken, c.turn.ensures.taken, c.turn.ensures.forward, c.turn.ensures.within, c.runs.invariant.fits);
       stands = λ part kept wrapped bytes s.
           stands_on part kept wrapped c.give.new.self c.turn.new.self bytes piece c.runs.at c.turn.new.at c.turn.ensures.forward (c.turn.ensures.stands part kept wrapped)
-          (given_here part kept wrapped c.runs.self c.give.new.self (bytes ++ take c.runs.at piece) c.give.ensures.same c.give.ensures.fewer (c.runs.invariant.stands part kept wrapped bytes s));
+          (c.give.ensures.given part kept wrapped (bytes ++ take c.runs.at piece) (c.runs.invariant.stands part kept wrapped bytes s)).stands;
       reads = λ part kept wrapped bytes s.
           read_here part kept wrapped c.runs.self c.give.new.self c.turn.new.self c.args.read.now c.runs.read c.give.new.read bytes piece (told_of part kept c.args.self.now bytes) c.runs.at c.turn.new.at
-          c.give.ensures.same c.give.ensures.fewer c.give.ensures.words c.turn.ensures.forward (c.turn.ensures.told part kept wrapped) (c.runs.invariant.stands part kept wrapped bytes s) (c.runs.invariant.reads part kept wrapped bytes s);
+          (c.give.ensures.given part kept wrapped (bytes ++ take c.runs.at piece) (c.runs.invariant.stands part kept wrapped bytes s)) c.turn.ensures.forward (c.turn.ensures.told part kept wrapped) (c.runs.invariant.reads part kept wrapped bytes s);
       stopped = λ e. absurd (let none : true ≡ false = sym e ∙ ap (λ (d : DeviceState). is_some d.registers.stop) (sym (c.runs.invariant.stopped e).0) ∙ sym (ap (λ (o : Option Stop). is_some o) c.in_default.ensures) in cc);
     }

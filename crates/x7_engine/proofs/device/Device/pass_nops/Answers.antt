@@ -4,7 +4,7 @@ use Rattle.x7_packets.specs.Cutting.{between}
 use Rattle.x7_packets.specs.Nops.{Idles}
 use Rattle.x7_part.specs.Part.{PartData}
 use Rattle.x7_engine.specs.declared.kept.Kept.{Kept}
-use Rattle.x7_engine.specs.Standing.{DeviceStandsFor, DeviceState, registers_in}
+use Rattle.x7_engine.specs.Standing.{DeviceStandsFor, DeviceState, due_count, registers_in}
 use Rattle.x7_engine.specs.State.{reads_of}
 use Rattle.x7_engine.proofs.DeviceLemmas.{between_front, length_between}
 use Rattle.x7_engine.proofs.PassLemmas.{passed, told_same}
@@ -47,11 +47,11 @@ passed_here c kept wrapped bytes s =
     let inside : DeviceStandsFor c.self.inside.part kept wrapped (device_before c) bytes = subst (λ (d : DeviceState). DeviceStandsFor c.self.inside.part kept wrapped d bytes) (sym c.self.view_is) s in
     passed c.self.inside.part kept wrapped (device_before c) (device_after c) bytes cut more rest count left inside
     (ap (λ (d : DeviceState). d.registers.stop) c.self.view_is ∙ c.requires.going)
-    (ap (λ (d : DeviceState). d.registers.due) c.self.view_is ∙ c.requires.none_due)
+    (ap (λ (d : DeviceState). due_count d.registers.due) c.self.view_is ∙ c.requires.none_due)
     (λ sessions place i. subst (λ (b : List ℕ). Idles c.self.inside.cutter (bytes ++ b) sessions place) front (c.nops-count.ensures.idles bytes sessions place i))
     (c.tick-left.ensures.stands kept) (sym all) split (length-drop (from + count - left - from) cut ∙ omega (arith, all, few))
     c.tick-left.ensures.goes_on c.tick-left.ensures.fired refl refl refl (omega (arith, taken))
-    (c.tick-left.ensures.due ∙ ap (λ (d : DeviceState). d.registers.due) c.self.view_is ∙ c.requires.none_due)
+    (ap due_count c.tick-left.ensures.due ∙ ap (λ (d : DeviceState). due_count d.registers.due) c.self.view_is ∙ c.requires.none_due)
 
 pub returns-clause-stands : goal.returns-clause-stands
 returns-clause-stands c = λ part kept wrapped bytes s.
@@ -65,6 +65,6 @@ returns-clause-told c = λ part kept wrapped bytes s.
     let here : c.self.inside.part ≡ part = ap (λ (d : DeviceState). d.part) c.self.view_is ∙ s.part_is in
     let more : List ℕ = between c.args.piece.now c.args.at.now (c.args.at.now + (c.nops-count.result - c.tick-left.result)) in
     told_same part kept c.args.self.now (device_after c) bytes (bytes ++ more) c.requires.none_due
-    (c.tick-left.ensures.due ∙ ap (λ (d : DeviceState). d.registers.due) c.self.view_is ∙ c.requires.none_due)
+    (ap due_count c.tick-left.ensures.due ∙ ap (λ (d : DeviceState). due_count d.registers.due) c.self.view_is ∙ c.requires.none_due)
     (subst (λ (p : PartData). reads_of p kept (bytes ++ more) ≡ reads_of p kept bytes) here
     (passed_here c kept wrapped bytes (subst (λ (p : PartData). DeviceStandsFor p kept wrapped c.args.self.now bytes) (sym here) s)).1)

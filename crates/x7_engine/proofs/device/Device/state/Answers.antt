@@ -4,20 +4,23 @@ use Rattle.x7_part.specs.Part.{PartData}
 use Rattle.x7_regs.specs.declared.register.Reg.{Reg}
 use Rattle.x7_regs.specs.declared.register.Reg.TheVariants as reg
 use Rattle.x7_engine.specs.declared.stop.Stop.{Stop}
-use Rattle.x7_engine.specs.Standing.{DeviceStandsFor, DeviceState, RegistersStandFor, registers_in}
+use Rattle.x7_flow.specs.Flow.{far_in, flow_of}
+use Rattle.x7_flow.specs.Standing.{less}
+use Rattle.x7_engine.specs.Standing.{DeviceStandsFor, DeviceState, RegistersStandFor, frames_due, registers_in}
 use Rattle.x7_engine.specs.Startup.{phase_by, startup_progress}
-use Rattle.x7_engine.specs.State.{history_taken, line_by, state_of, stop_in, taken_of}
+use Rattle.x7_engine.specs.State.{history_taken, line_by, state_of, state_owing, stop_in, taken_of}
 use Rattle.x7_engine.specs.Stops.{fault_of}
 use Rattle.x7_engine.specs.Values.{lines_by, value_of}
-use Rattle.x7_engine.proofs.StateLemmas.{line_is, taken_is}
+use Rattle.x7_engine.proofs.FrameLemmas.{none_frames}
+use Rattle.x7_engine.proofs.StateLemmas.{line_is, state_now, taken_is}
 use Rattle.x7_engine.proofs.device.Device.state.Goals as goal
 
 -- the device as its fields
 abbrev fields_of : goal.After-value-14 → DeviceState
 fields_of c = record { part = c.self.inside.part; cutter = c.self.inside.cutter; registers = registers_in c.self.inside.registers; wrapped = c.self.inside.wrapped; taken = c.self.inside.taken }
 
-pub returns : goal.returns
-returns c = λ given kept wrapped bytes s.
+pub returns-clause-owing : goal.returns-clause-owing
+returns-clause-owing c = λ given kept wrapped bytes s.
     let part : PartData = c.self.inside.part in
     let here : part ≡ given = ap (λ (d : DeviceState). d.part) c.self.view_is ∙ s.part_is in
     let now : DeviceStandsFor part kept wrapped c.args.self.now bytes = subst (λ (p : PartData). DeviceStandsFor p kept wrapped c.args.self.now bytes) (sym here) s in
@@ -33,7 +36,8 @@ returns c = λ given kept wrapped bytes s.
     let lines : c.lines.result ≡ lines_by part (startup_progress h n) = c.lines.ensures part h n regs.clock.startup in
     let end : c.end.result ≡ (state_of part kept wrapped bytes).end = c.end.ensures part kept wrapped bytes now in
     let crc : c.value.result ≡ value_of part kept wrapped (fault_of (line_by (stop_in part kept bytes))) h n reg.Crc = c.value.ensures kept h n regs ∙ shown reg.Crc in
-    let far : c.value-2.result ≡ value_of part kept wrapped (fault_of (line_by (stop_in part kept bytes))) h n reg.Far = c.value-2.ensures kept h n regs ∙ shown reg.Far in
+    let due : ℕ = frames_due c.self.inside.registers.due in
+    let far : c.value-2.result ≡ far_in part (less due (flow_of part h)) = c.value-2.ensures kept h n regs in
     let cmd : c.value-3.result ≡ value_of part kept wrapped (fault_of (line_by (stop_in part kept bytes))) h n reg.Cmd = c.value-3.ensures kept h n regs ∙ shown reg.Cmd in
     let ctl0 : c.value-4.result ≡ value_of part kept wrapped (fault_of (line_by (stop_in part kept bytes))) h n reg.Ctl0 = c.value-4.ensures kept h n regs ∙ shown reg.Ctl0 in
     let mask : c.value-5.result ≡ value_of part kept wrapped (fault_of (line_by (stop_in part kept bytes))) h n reg.Mask = c.value-5.ensures kept h n regs ∙ shown reg.Mask in
@@ -47,5 +51,12 @@ returns c = λ given kept wrapped bytes s.
     let bootsts : c.boot_status.result ≡ value_of part kept wrapped (fault_of (line_by (stop_in part kept bytes))) h n reg.Bootsts = c.boot_status.ensures part kept wrapped bytes now in
     let ctl1 : c.value-13.result ≡ value_of part kept wrapped (fault_of (line_by (stop_in part kept bytes))) h n reg.Ctl1 = c.value-13.ensures kept h n regs ∙ shown reg.Ctl1 in
     let bspi : c.value-14.result ≡ value_of part kept wrapped (fault_of (line_by (stop_in part kept bytes))) h n reg.Bspi = c.value-14.ensures kept h n regs ∙ shown reg.Bspi in
-    let all : _ ≡ state_of part kept wrapped bytes = λ i. record { taken = taken i; end = end i; phase = phase i; lines = lines i; crc = crc i; far = far i; cmd = cmd i; ctl0 = ctl0 i; mask = mask i; stat = stat i; cor0 = cor0 i; idcode = idcode i; axss = axss i; cor1 = cor1 i; wbstar = wbstar i; timer = timer i; bootsts = bootsts i; ctl1 = ctl1 i; bspi = bspi i } in
-    all ∙ ap (λ (p : PartData). state_of p kept wrapped bytes) here
+    let all : _ ≡ state_owing part kept wrapped bytes due = λ i. record { taken = taken i; end = end i; phase = phase i; lines = lines i; crc = crc i; far = far i; cmd = cmd i; ctl0 = ctl0 i; mask = mask i; stat = stat i; cor0 = cor0 i; idcode = idcode i; axss = axss i; cor1 = cor1 i; wbstar = wbstar i; timer = timer i; bootsts = bootsts i; ctl1 = ctl1 i; bspi = bspi i } in
+    all ∙ ap (λ (p : PartData). state_owing p kept wrapped bytes due) here
+    ∙ ap (λ (d : DeviceState). state_owing given kept wrapped bytes (frames_due d.registers.due)) c.self.view_is
+
+pub returns-clause-value : goal.returns-clause-value
+returns-clause-value c = λ given kept wrapped bytes s none.
+    returns-clause-owing c given kept wrapped bytes s
+    ∙ ap (state_owing given kept wrapped bytes) (none_frames c.args.self.now.registers.due none)
+    ∙ state_now given kept wrapped bytes

@@ -1,10 +1,11 @@
-use Rattle.std.proofs.Common.{◌≡◌, ◌+◌, ◌-◌, ◌≤◌, ◌++◌, ℕ, List, length, drop, replicate, append-nil, refl, sym, ap, subst, ◌∙◌, arith, length-drop, Bool}
+use Rattle.std.proofs.Common.{◌≡◌, ◌+◌, ◌-◌, ◌≤◌, ◌++◌, ℕ, List, [], length, drop, refl, sym, ap, subst, ◌∙◌, arith, length-drop, Bool}
 use Rattle.x7_packets.specs.Cutting.{between}
 use Rattle.x7_part.specs.Part.{PartData}
 use Rattle.x7_engine.specs.declared.kept.Kept.{Kept}
-use Rattle.x7_engine.specs.Standing.{DeviceStandsFor, DeviceState, registers_in}
-use Rattle.x7_engine.specs.State.{reads_of}
+use Rattle.x7_engine.specs.Standing.{DeviceStandsFor, DeviceState, registers_in, words_left}
+use Rattle.x7_engine.specs.State.{history_taken, reads_of}
 use Rattle.x7_engine.proofs.DeviceLemmas.{between_front, holds_run, length_between, told_by, turned}
+use Rattle.x7_engine.proofs.FrameLemmas.{none_due}
 use Rattle.x7_engine.proofs.device.Device.take_run.Goals as goal
 
 pub run-left-requires-clause-holds : goal.run-left-requires-clause-holds
@@ -29,7 +30,7 @@ device_after c = record {
 turned_here : (c : goal.After-is_done) (kept : Kept) (wrapped : Bool) (bytes : List ℕ) → (let part : PartData = c.self.inside.part in DeviceStandsFor part kept wrapped c.args.self.now bytes
     → (let more : List ℕ = between c.args.piece.now c.args.at.now (c.cut-run.new.at - c.run-left.result) in
     DeviceStandsFor part kept wrapped (device_after c) (bytes ++ more)
-    × (reads_of part kept (bytes ++ more) ≡ reads_of part kept bytes ++ replicate c.run-left.new.self.due c.run-left.new.self.due_word)))
+    × (reads_of part kept (bytes ++ more) ≡ reads_of part kept bytes ++ words_left part (history_taken part kept (bytes ++ more)) c.run-left.new.self.due)))
 turned_here c kept wrapped bytes s =
     let piece : List ℕ = c.args.piece.now in
     let from : ℕ = c.args.at.now in
@@ -60,10 +61,8 @@ pub returns-clause-told : goal.returns-clause-told
 returns-clause-told c = λ part kept wrapped bytes s.
     let here : c.self.inside.part ≡ part = ap (λ (d : DeviceState). d.part) c.self.view_is ∙ s.part_is in
     let more : List ℕ = between c.args.piece.now c.args.at.now (c.cut-run.new.at - c.run-left.result) in
-    let reads : reads_of part kept (bytes ++ more) ≡ reads_of part kept bytes ++ replicate c.run-left.new.self.due c.run-left.new.self.due_word =
-    subst (λ (p : PartData). reads_of p kept (bytes ++ more) ≡ reads_of p kept bytes ++ replicate c.run-left.new.self.due c.run-left.new.self.due_word) here
+    let reads : reads_of part kept (bytes ++ more) ≡ reads_of part kept bytes ++ words_left part (history_taken part kept (bytes ++ more)) c.run-left.new.self.due =
+    subst (λ (p : PartData). reads_of p kept (bytes ++ more) ≡ reads_of p kept bytes ++ words_left p (history_taken p kept (bytes ++ more)) c.run-left.new.self.due) here
     (turned_here c kept wrapped bytes (subst (λ (p : PartData). DeviceStandsFor p kept wrapped c.args.self.now bytes) (sym here) s)).1 in
-    let none : reads_of part kept bytes ≡ reads_of part kept bytes ++ replicate c.args.self.now.registers.due c.args.self.now.registers.due_word =
-    sym (ap (λ (k : ℕ). reads_of part kept bytes ++ replicate k c.args.self.now.registers.due_word) c.requires.none_due ∙ append-nil (reads_of part kept bytes)) in
-    told_by part kept (device_after c) (bytes ++ more) (reads_of part kept bytes) reads
-    ∙ sym (told_by part kept c.args.self.now bytes (reads_of part kept bytes) none)
+    told_by part kept (device_after c) (bytes ++ more) (reads_of part kept bytes) (history_taken part kept (bytes ++ more)) reads
+    ∙ sym (told_by part kept c.args.self.now bytes (reads_of part kept bytes) [] (none_due (reads_of part kept bytes) part [] c.args.self.now.registers.due c.requires.none_due))

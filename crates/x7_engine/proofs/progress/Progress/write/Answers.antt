@@ -2,7 +2,8 @@ use Rattle.std.proofs.Common.{ℕ, ◌≡◌, ◌&&◌, ◌||◌, Option, ap, �
 use Rattle.x7_packets.specs.History.{Access, Write, command_held, executed_by, is_command}
 use Rattle.x7_regs.specs.Register.{number_of}
 use Rattle.x7_crc.specs.OpenWrites.{running_check}
-use Rattle.x7_engine.specs.Registers.{clears_by, ghigh_after, has_ghigh, is_clearance, is_pending, names_part, pending_after, takes_shutdown, writes_command}
+use Rattle.x7_flow.specs.Controls.{names_part}
+use Rattle.x7_engine.specs.Registers.{clears_by, ghigh_after, has_ghigh, is_clearance, is_pending, pending_after, takes_shutdown, writes_command}
 use Rattle.x7_engine.proofs.progress.Progress.write.Goals as goal
 
 pub returns : goal.returns

@@ -10,6 +10,7 @@ loop-word-init c = record {
   going = c.requires.going;
   count = refl;
   due = refl;
+  frames = c.requires.frames;
   stands = λ kept h n s. let none : n ≡ n + 0 = omega arith in subst (λ (m : ℕ). RegistersStandFor c.args.part.now kept (registers_in c.args.self.now) h m) none s;
 }
 
@@ -34,6 +35,7 @@ loop-word-preserved c =
       going = going;
       count = omega (arith, c.loop-word.invariant.count, none);
       due = c.word-left.ensures.due ∙ c.loop-word.invariant.due;
+      frames = c.word-left.ensures.frames;
       stands = λ kept h n s.
           word_on c.args.part.now kept (registers_in c.loop-word.self) (registers_in c.word-left.new.self) c.args.register n c.loop-word.word-index c.word_of.result c.word-left.result c.loop-word.taken (n + (c.loop-word.taken + (4 - c.word-left.result))) ws h
           word few c.loop-word.invariant.count none refl going (c.word-left.ensures.stands kept) (c.loop-word.invariant.stands kept h n s);

@@ -2,6 +2,7 @@ use Rattle.std.proofs.Common.{◌≡◌, ◌*◌, ◌+◌, ℕ, take, None}
 use Rattle.x7_words.specs.Word.{words_of_bytes}
 use Rattle.x7_packets.specs.History.{History, entered_all}
 use Rattle.x7_packets.specs.Packet.{payload_steps}
+use Rattle.x7_flow.specs.Standing.{FramesFit}
 use Rattle.x7_engine.specs.declared.kept.Kept.{Kept}
 use Rattle.x7_engine.specs.Standing.{RegistersStandFor, registers_in}
 use Rattle.x7_engine.proofs.registers.Registers.body.Given as goal
@@ -11,6 +12,7 @@ invariant-loop-word l = record {
   going : l.self.stop ≡ None;
   count : l.taken ≡ 4 * l.word-index;
   due : l.self.due ≡ l.initial.self.due;
+  frames : FramesFit l.part l.self.frames;
   stands : (kept : Kept) (h : History) (n : ℕ) → RegistersStandFor l.part kept (registers_in l.initial.self) h n
       → RegistersStandFor l.part kept (registers_in l.self) (entered_all n (payload_steps l.register (take l.word-index (words_of_bytes l.bytes))) h) (n + l.taken);
 }

@@ -1,9 +1,12 @@
-use Rattle.std.proofs.Common.{◌≡◌, ◌==◌, None, false, refl, ap, ◌∙◌, arith}
+use Rattle.std.proofs.Common.{◌≡◌, ◌==◌, ◌∷◌, Some, None, false, refl, ap, ◌∙◌, arith}
 use Rattle.std.proofs.lemmas.Bool.Decides.{nat_tests}
-use Rattle.x7_packets.specs.History.{Bad}
+use Rattle.x7_packets.specs.History.{Bad, entry}
+use Rattle.x7_engine.specs.declared.fault.Fault.TheVariants as fault
+use Rattle.x7_engine.specs.declared.stop.Stop.TheVariants as stop
 use Rattle.x7_engine.specs.Standing.{registers_in}
 use Rattle.x7_engine.specs.Stops.{stop_of, stopped_at}
 use Rattle.x7_engine.proofs.ClockLemmas.{stop_of-access}
+use Rattle.x7_engine.proofs.FrameLemmas.{frames_none_at, other_access, standing_frames}
 use Rattle.x7_engine.proofs.PlainLemmas.{clock_other}
 use Rattle.x7_engine.proofs.registers.Registers.head.Goals as goal
 
@@ -24,4 +27,6 @@ returns-in-Bad-clause-stands c = λ kept h place next s.
       before = s.before;
       clock = clock_other c.args.part.now kept (registers_in c.args.self.now).clock h (Bad c.in-Bad.word) place refl refl s.clock;
       stop = stop_of-access c.args.part.now kept h (Bad c.in-Bad.word) place going;
+      frames = frames_none_at c.args.part.now c.args.self.now.frames (Some (stop.Fault (fault.Packet c.in-Bad.word))) (entry (Bad c.in-Bad.word) place ∷ h) c.args.self.now.due refl c.requires.none_due
+          (other_access c.args.part.now c.args.self.now.frames h (entry (Bad c.in-Bad.word) place) refl (standing_frames c.args.part.now c.args.self.now.frames c.args.self.now.stop h c.args.self.now.due c.requires.going c.requires.none_due s.frames));
     }

@@ -1,8 +1,9 @@
-use Rattle.std.proofs.Common.{◌≡◌, ◌+◌, ◌-◌, ℕ, sym, ap, subst, ◌∙◌, arith}
+use Rattle.std.proofs.Common.{◌≡◌, ◌+◌, ◌-◌, ◌++◌, ℕ, sym, ap, subst, ◌∙◌, arith}
 use Rattle.x7_packets.specs.History.{History, entered, until}
-use Rattle.x7_engine.specs.Standing.{RegistersStandFor, counted_in, registers_in}
+use Rattle.x7_engine.specs.Standing.{RegistersStandFor, counted_in, due_count, registers_in, words_left}
 use Rattle.x7_engine.specs.Values.{read_out}
-use Rattle.x7_engine.proofs.TurnLemmas.{all_counted, fired_until, next_at, none_due, none_there, until_all}
+use Rattle.x7_engine.proofs.TurnLemmas.{all_counted, fired_until, next_at, none_there, until_all}
+use Rattle.x7_engine.proofs.FrameLemmas.{none_due}
 use Rattle.x7_engine.proofs.registers.Registers.header.Goals as goal
 
 pub returns-then-is_some-clause-stands : goal.returns-then-is_some-clause-stands
@@ -16,7 +17,7 @@ returns-then-is_some-clause-stands c = λ kept h n some s.
 pub returns-then-is_some-clause-reads : goal.returns-then-is_some-clause-reads
 returns-then-is_some-clause-reads c = λ kept h n some s.
     ap (read_out c.args.part.now kept) (fired_until c.tick-left.new.self.stop n c.args.count c.tick-left.result c.args.step h (sym c.is_some.ensures ∙ c.if-is_some.true) c.tick-left.ensures.fired s.places)
-    ∙ none_due (read_out c.args.part.now kept h) c.tick-left.new.self.due c.tick-left.new.self.due_word (c.tick-left.ensures.due ∙ c.requires.none_due)
+    ∙ none_due (read_out c.args.part.now kept h) c.args.part.now _ c.tick-left.new.self.due (ap due_count c.tick-left.ensures.due ∙ c.requires.none_due)
 
 before : (c : goal.After-head) (n : ℕ) → n + (c.args.count - c.tick-left.result) ≡ n + c.args.count
 before c n =
@@ -39,6 +40,8 @@ returns-clause-reads c = λ kept h n some s.
     subst (λ (m : ℕ). RegistersStandFor c.args.part.now kept (registers_in c.tick-left.new.self) h m) (before c n) (c.tick-left.ensures.stands kept h n s) in
     let after : RegistersStandFor c.args.part.now kept (registers_in c.head.new.self) (entered (n + c.args.count) c.args.step h) (n + c.args.count) =
     c.head.ensures.stands kept h (n + c.args.count) (next_at n c.args.count h some s.places) now in
-    ap (λ (m : ℕ). read_out c.args.part.now kept (until (counted_in c.head.new.self.stop m) (entered (n + c.args.count) c.args.step h))) (sym same)
-    ∙ ap (read_out c.args.part.now kept) (until_all c.args.part.now kept (registers_in c.head.new.self) (entered (n + c.args.count) c.args.step h) (n + c.args.count) (c.head.ensures.counts (n + c.args.count)) after)
-    ∙ c.head.ensures.reads kept h (n + c.args.count) now
+    let all : until (counted_in c.head.new.self.stop (n + c.args.count)) (entered (n + c.args.count) c.args.step h) ≡ entered (n + c.args.count) c.args.step h =
+    until_all c.args.part.now kept (registers_in c.head.new.self) (entered (n + c.args.count) c.args.step h) (n + c.args.count) (c.head.ensures.counts (n + c.args.count)) after in
+    subst (λ (m : ℕ). read_out c.args.part.now kept (until (counted_in c.head.new.self.stop m) (entered (n + c.args.count) c.args.step h))
+    ≡ read_out c.args.part.now kept h ++ words_left c.args.part.now (until (counted_in c.head.new.self.stop m) (entered (n + c.args.count) c.args.step h)) c.head.new.self.due) same
+    (subst (λ (t : History). read_out c.args.part.now kept t ≡ read_out c.args.part.now kept h ++ words_left c.args.part.now t c.head.new.self.due) (sym all) (c.head.ensures.reads kept h (n + c.args.count) now))

@@ -1,5 +1,16 @@
-use Rattle.std.proofs.Common.{refl}
+use Rattle.std.proofs.Common.{None, [], refl}
+use Rattle.x7_engine.proofs.FrameLemmas.{frames_at}
 use Rattle.x7_engine.proofs.registers.Registers.new.Goals as goal
 
 pub returns-clause-stands : goal.returns-clause-stands
-returns-clause-stands c = λ part. record { places = tt; words = c.new.ensures; controls = c.new-2.ensures; progress = c.new-3.ensures part.idcode; kind = refl; before = refl; clock = c.new-4.ensures part c.args.kept.now refl c.is_a_fallback.ensures; stop = refl }
+returns-clause-stands c = λ part are. record {
+  places = tt;
+  words = c.new.ensures;
+  controls = c.new-2.ensures;
+  progress = c.new-3.ensures part.idcode;
+  kind = refl;
+  before = refl;
+  clock = c.new-4.ensures part c.args.kept.now refl c.is_a_fallback.ensures;
+  stop = refl;
+  frames = frames_at part c.args.frames None [] 0 refl are;
+}

@@ -1,9 +1,10 @@
-use Rattle.std.proofs.Common.{◌≡◌, None, sym, ap, ◌∙◌, arith}
-use Rattle.x7_packets.specs.History.{Write}
+use Rattle.std.proofs.Common.{◌≡◌, ◌∷◌, None, sym, ap, ◌∙◌, arith}
+use Rattle.x7_packets.specs.History.{Write, entry}
 use Rattle.x7_engine.specs.Standing.{registers_in}
 use Rattle.x7_engine.specs.Stops.{stop_of, stopped_at}
 use Rattle.x7_engine.proofs.ClockLemmas.{stop_of-access}
-use Rattle.x7_engine.proofs.PlainLemmas.{IsPlain, clock_plain, line_none, plain_is}
+use Rattle.x7_engine.proofs.FrameLemmas.{frames_none, other_access, standing_frames}
+use Rattle.x7_engine.proofs.PlainLemmas.{IsPlain, clock_plain, line_none, plain_asks, plain_is}
 use Rattle.x7_engine.proofs.registers.Registers.pass.Goals as goal
 
 pub returns-clause-stands : goal.returns-clause-stands
@@ -19,4 +20,6 @@ returns-clause-stands c = λ part kept h place next s.
       before = s.before;
       clock = clock_plain part kept (registers_in c.args.self.now).clock h c.args.register c.args.word place p s.clock;
       stop = stop_of-access part kept h (Write c.args.register c.args.word) place going ∙ ap (stopped_at place) (sym (line_none part kept h c.args.register c.args.word p)) ∙ sym (ap (stopped_at place) c.requires.going);
+      frames = frames_none part c.args.self.now.frames c.args.self.now.stop (entry (Write c.args.register c.args.word) place ∷ h) c.args.self.now.due c.requires.going c.requires.none_due
+          (other_access part c.args.self.now.frames h (entry (Write c.args.register c.args.word) place) (plain_asks part.idcode h c.args.register c.args.word p) (standing_frames part c.args.self.now.frames c.args.self.now.stop h c.args.self.now.due c.requires.going c.requires.none_due s.frames));
     }

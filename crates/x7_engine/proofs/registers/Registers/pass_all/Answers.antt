@@ -6,8 +6,9 @@ use Rattle.x7_packets.specs.Packet.{payload_steps}
 use Rattle.x7_packets.proofs.GrowthLemmas.{placed_within}
 use Rattle.x7_part.specs.Part.{PartData}
 use Rattle.x7_engine.specs.declared.kept.Kept.{Kept}
-use Rattle.x7_engine.specs.Standing.{AreLastWords, IsProgress, RegistersStandFor, RegistersState, controls_in, counted_in, progress_in, registers_in}
+use Rattle.x7_engine.specs.Standing.{AreLastWords, IsProgress, RegistersStandFor, RegistersState, controls_in, counted_in, due_count, progress_in, registers_in}
 use Rattle.x7_engine.proofs.BodyLemmas.{length_of_words}
+use Rattle.x7_engine.proofs.FrameLemmas.{plain_are, ticks_on}
 use Rattle.x7_engine.proofs.PlainLemmas.{Clocked, IsPlain, clocked_all, controls_stay, counted_behind, front_all, plain_is, words_front}
 use Rattle.x7_engine.proofs.registers.Registers.pass_all.Goals as goal
 
@@ -46,4 +47,5 @@ returns-clause-stands c = λ kept h n four s.
       before = t.before;
       clock = clocked.clock;
       stop = clocked.stop;
+      frames = plain_are part c.tick-left.new.self.frames c.tick-left.new.self.stop c.args.register n front h c.tick-left.new.self.due p (ticks_on c.tick-left.new.self.stop _ c.tick-left.ensures.fired) (ap due_count c.tick-left.ensures.due ∙ c.requires.none_due) t.frames;
     }

@@ -1,27 +1,35 @@
-use Rattle.std.proofs.Common.{◌≡◌, ℕ, false, true, None, Some, refl, sym, ap, ◌∙◌, arith}
-use Rattle.x7_packets.specs.History.{History, Read}
+use Rattle.std.proofs.Common.{◌≡◌, ◌∷◌, ℕ, None, Option, Some, true, false, if◌then◌else◌, [], List, replicate, refl, sym, ap, subst, ◌∙◌, arith}
+use Rattle.std.specs.Option.{is_some}
+use Rattle.x7_packets.specs.History.{History, Read, entry}
 use Rattle.x7_part.specs.Part.{PartData}
+use Rattle.x7_pipeline.specs.declared.fault.RunFault.{RunFault}
+use Rattle.x7_flow.specs.FrameAccess.{reads_frame_data}
+use Rattle.x7_flow.specs.Flow.{frame_fault}
+use Rattle.x7_flow.specs.Standing.{FramesStandFor, frames_read}
+use Rattle.x7_flow.proofs.StandingLemmas.{other_read}
 use Rattle.x7_engine.specs.declared.kept.Kept.{Kept}
-use Rattle.x7_engine.specs.declared.stop.Stop.TheVariants as stop
-use Rattle.x7_engine.specs.declared.fault.Fault.TheVariants as fault
-use Rattle.x7_engine.specs.Standing.{registers_in}
-use Rattle.x7_engine.specs.Stops.{line_at, reads_frame_data, stop_of, stopped_at}
+use Rattle.x7_engine.specs.declared.stop.Stop.{Stop}
+use Rattle.x7_engine.specs.Standing.{FramesAre, frames_due, registers_in}
+use Rattle.x7_engine.specs.Stops.{frame_line, line_at, stop_by, stop_of, stopped_at}
+use Rattle.x7_engine.specs.Values.{answer_of, read_value, words_read}
 use Rattle.x7_engine.proofs.ClockLemmas.{stop_of-access}
+use Rattle.x7_engine.proofs.FrameLemmas.{frames_at, frames_none, goes_on, none_frames, none_left, refused, standing_frames}
 use Rattle.x7_engine.proofs.PlainLemmas.{clock_other}
 use Rattle.x7_engine.proofs.registers.Registers.read.Goals as goal
 
--- a read of something else than frame data comes to no line
-no_line : (part : PartData) (kept : Kept) (h : History) (register count : ℕ) → reads_frame_data h (Read register count) ≡ false → line_at part kept h (Read register count) ≡ None
-no_line part kept h register count e = rw e refl
+read_line : (part : PartData) (kept : Kept) (h : History) (register count : ℕ) (result : Option RunFault) → frame_fault part h (Read register count) ≡ result → line_at part kept h (Read register count) ≡ frame_line result
+read_line part kept h register count result e = ap frame_line e
 
-unbuilt : (part : PartData) (kept : Kept) (h : History) (register count : ℕ) → reads_frame_data h (Read register count) ≡ true → line_at part kept h (Read register count) ≡ Some (stop.Fault fault.Unbuilt)
-unbuilt part kept h register count e = rw e refl
+answered : (part : PartData) (kept : Kept) (h : History) (register count place : ℕ) (line : Option Stop) → line_at part kept h (Read register count) ≡ line → answer_of part kept h (Read register count) place ≡ (if is_some line then [] else words_read part kept h place register count)
+answered part kept h register count place line e = ap (λ (o : Option Stop). if is_some o then [] else words_read part kept h place register count) e
 
-pub returns-then-reads_frames-clause-stands : goal.returns-then-reads_frames-clause-stands
-returns-then-reads_frames-clause-stands c = λ kept h place next s.
+pub returns-then-not-reads_frames-clause-stands : goal.returns-then-not-reads_frames-clause-stands
+returns-then-not-reads_frames-clause-stands c = λ kept h place next s.
     let part : PartData = c.args.part.now in
     let going : stop_of part kept h place ≡ None = s.stop ∙ ap (stopped_at place) c.requires.going in
-    let frames : reads_frame_data h (Read c.args.register c.args.count) ≡ true = sym (c.reads_frames.ensures part kept h place c.args.count c.requires.some s) ∙ c.if-reads_frames.true in
+    let other : reads_frame_data h (Read c.args.register c.args.count) ≡ false = sym (c.reads_frames.ensures part.idcode h (c.settings.ensures.after part kept h place s)) ∙ c.if-not-reads_frames.true in
+    let are : FramesStandFor part c.args.self.now.frames h 0 = standing_frames part c.args.self.now.frames c.args.self.now.stop h c.args.self.now.due c.requires.going c.requires.none_due s.frames in
+    let read = other_read part c.args.self.now.frames.pipeline c.args.self.now.frames.memory h c.args.register c.args.count place other are in
     record {
       places = (next.0, omega arith, next.1);
       words = record { each = s.words.each };
@@ -30,14 +38,28 @@ returns-then-reads_frames-clause-stands c = λ kept h place next s.
       kind = s.kind;
       before = s.before;
       clock = clock_other part kept (registers_in c.args.self.now).clock h (Read c.args.register c.args.count) place refl refl s.clock;
-      stop = stop_of-access part kept h (Read c.args.register c.args.count) place going ∙ ap (stopped_at place) (unbuilt part kept h c.args.register c.args.count frames);
+      stop = stop_of-access part kept h (Read c.args.register c.args.count) place going ∙ ap (stopped_at place) (read_line part kept h c.args.register c.args.count None read.0) ∙ sym (ap (stopped_at place) c.requires.going);
+      frames = frames_at part c.args.self.now.frames c.args.self.now.stop (entry (Read c.args.register c.args.count) place ∷ h) 0 (goes_on c.args.self.now.stop c.requires.going) read.1;
     }
 
-pub returns-clause-stands : goal.returns-clause-stands
-returns-clause-stands c = λ kept h place next s.
+pub returns-then-not-reads_frames-clause-reads : goal.returns-then-not-reads_frames-clause-reads
+returns-then-not-reads_frames-clause-reads c = λ kept h place s.
+    let part : PartData = c.args.part.now in
+    let other : reads_frame_data h (Read c.args.register c.args.count) ≡ false = sym (c.reads_frames.ensures part.idcode h (c.settings.ensures.after part kept h place s)) ∙ c.if-not-reads_frames.true in
+    let are : FramesStandFor part c.args.self.now.frames h 0 = standing_frames part c.args.self.now.frames c.args.self.now.stop h c.args.self.now.due c.requires.going c.requires.none_due s.frames in
+    let read = other_read part c.args.self.now.frames.pipeline c.args.self.now.frames.memory h c.args.register c.args.count place other are in
+    answered part kept h c.args.register c.args.count place None (read_line part kept h c.args.register c.args.count None read.0)
+    ∙ ap (λ b. if b then frames_read part h c.args.count else replicate c.args.count (read_value part kept h place c.args.register)) other
+    ∙ ap (replicate c.args.count) (sym (c.read_value.ensures kept h place c.requires.going c.requires.none_due s))
+
+pub returns-in-Some-clause-stands : goal.returns-in-Some-clause-stands
+returns-in-Some-clause-stands c = λ kept h place next s.
     let part : PartData = c.args.part.now in
     let going : stop_of part kept h place ≡ None = s.stop ∙ ap (stopped_at place) c.requires.going in
-    let frames : reads_frame_data h (Read c.args.register c.args.count) ≡ false = sym (c.reads_frames.ensures part kept h place c.args.count c.requires.some s) ∙ c.if-reads_frames.false in
+    let frames : reads_frame_data h (Read c.args.register c.args.count) ≡ true = sym (c.reads_frames.ensures part.idcode h (c.settings.ensures.after part kept h place s)) ∙ c.if-not-reads_frames.false in
+    let are : FramesStandFor part c.args.self.now.frames h 0 = standing_frames part c.args.self.now.frames c.args.self.now.stop h c.args.self.now.due c.requires.going c.requires.none_due s.frames in
+    let why : frame_fault part h (Read c.args.register c.args.count) ≡ Some c.in-Some.fault = c.in-Some.ensures h c.args.register place frames are in
+    let line : c.stop_of_refused.result ≡ stop_by c.in-Some.fault = c.stop_of_refused.ensures.value in
     record {
       places = (next.0, omega arith, next.1);
       words = record { each = s.words.each };
@@ -46,5 +68,46 @@ returns-clause-stands c = λ kept h place next s.
       kind = s.kind;
       before = s.before;
       clock = clock_other part kept (registers_in c.args.self.now).clock h (Read c.args.register c.args.count) place refl refl s.clock;
-      stop = stop_of-access part kept h (Read c.args.register c.args.count) place going ∙ ap (stopped_at place) (no_line part kept h c.args.register c.args.count frames) ∙ sym (ap (stopped_at place) c.requires.going);
+      stop = stop_of-access part kept h (Read c.args.register c.args.count) place going ∙ ap (stopped_at place) (read_line part kept h c.args.register c.args.count (Some c.in-Some.fault) why ∙ ap Some (sym line));
+      frames = subst (λ (l : Stop). FramesAre part c.args.self.now.frames (Some l) (entry (Read c.args.register c.args.count) place ∷ h) (frames_due c.args.self.now.due)) (sym line)
+          (subst (λ (n : ℕ). FramesAre part c.args.self.now.frames (Some (stop_by c.in-Some.fault)) (entry (Read c.args.register c.args.count) place ∷ h) n) (sym (none_frames c.args.self.now.due c.requires.none_due))
+          (refused part c.args.self.now.frames h (entry (Read c.args.register c.args.count) place) c.in-Some.fault why are));
     }
+
+pub returns-in-Some-clause-reads : goal.returns-in-Some-clause-reads
+returns-in-Some-clause-reads c = λ kept h place s.
+    let part : PartData = c.args.part.now in
+    let frames : reads_frame_data h (Read c.args.register c.args.count) ≡ true = sym (c.reads_frames.ensures part.idcode h (c.settings.ensures.after part kept h place s)) ∙ c.if-not-reads_frames.false in
+    let are : FramesStandFor part c.args.self.now.frames h 0 = standing_frames part c.args.self.now.frames c.args.self.now.stop h c.args.self.now.due c.requires.going c.requires.none_due s.frames in
+    let why : frame_fault part h (Read c.args.register c.args.count) ≡ Some c.in-Some.fault = c.in-Some.ensures h c.args.register place frames are in
+    answered part kept h c.args.register c.args.count place (Some (stop_by c.in-Some.fault)) (read_line part kept h c.args.register c.args.count (Some c.in-Some.fault) why)
+    ∙ sym (none_left part (entry (Read c.args.register c.args.count) place ∷ h) c.args.self.now.due c.requires.none_due)
+
+pub returns-in-None-clause-stands : goal.returns-in-None-clause-stands
+returns-in-None-clause-stands c = λ kept h place next s.
+    let part : PartData = c.args.part.now in
+    let going : stop_of part kept h place ≡ None = s.stop ∙ ap (stopped_at place) c.requires.going in
+    let frames : reads_frame_data h (Read c.args.register c.args.count) ≡ true = sym (c.reads_frames.ensures part.idcode h (c.settings.ensures.after part kept h place s)) ∙ c.if-not-reads_frames.false in
+    let are : FramesStandFor part c.args.self.now.frames h 0 = standing_frames part c.args.self.now.frames c.args.self.now.stop h c.args.self.now.due c.requires.going c.requires.none_due s.frames in
+    let read = c.in-None.ensures h c.args.register place frames are in
+    record {
+      places = (next.0, omega arith, next.1);
+      words = record { each = s.words.each };
+      controls = record { ctl0 = s.controls.ctl0; ctl1 = s.controls.ctl1 };
+      progress = record { check = s.progress.check; matched = s.progress.matched; pending = s.progress.pending; ghigh = s.progress.ghigh; iprog = s.progress.iprog };
+      kind = s.kind;
+      before = s.before;
+      clock = clock_other part kept (registers_in c.args.self.now).clock h (Read c.args.register c.args.count) place refl refl s.clock;
+      stop = stop_of-access part kept h (Read c.args.register c.args.count) place going ∙ ap (stopped_at place) (read_line part kept h c.args.register c.args.count None read.0) ∙ sym (ap (stopped_at place) c.requires.going);
+      frames = frames_at part c.args.self.now.frames c.args.self.now.stop (entry (Read c.args.register c.args.count) place ∷ h) c.args.count (goes_on c.args.self.now.stop c.requires.going) read.1;
+    }
+
+pub returns-in-None-clause-reads : goal.returns-in-None-clause-reads
+returns-in-None-clause-reads c = λ kept h place s.
+    let part : PartData = c.args.part.now in
+    let frames : reads_frame_data h (Read c.args.register c.args.count) ≡ true = sym (c.reads_frames.ensures part.idcode h (c.settings.ensures.after part kept h place s)) ∙ c.if-not-reads_frames.false in
+    let are : FramesStandFor part c.args.self.now.frames h 0 = standing_frames part c.args.self.now.frames c.args.self.now.stop h c.args.self.now.due c.requires.going c.requires.none_due s.frames in
+    let read = c.in-None.ensures h c.args.register place frames are in
+    answered part kept h c.args.register c.args.count place None (read_line part kept h c.args.register c.args.count None read.0)
+    ∙ ap (λ b. if b then frames_read part h c.args.count else replicate c.args.count (read_value part kept h place c.args.register)) frames
+    ∙ sym read.2

@@ -25,4 +25,4 @@ returns-clause-stands c = λ kept h n some s.
     subst (λ (m : ℕ). RegistersStandFor c.args.part.now kept (registers_in c.tick-left.new.self) h m) all (c.tick-left.ensures.stands kept h n s) in
     subst (λ (m : ℕ). RegistersStandFor c.args.part.now kept (registers_in c.write_to.new.self) (until (counted_in c.write_to.new.self.stop m) (entry (Write c.args.register c.args.word) (n + c.args.count) ∷ h)) m) same
     (all_counted c.args.part.now kept (registers_in c.write_to.new.self) (entry (Write c.args.register c.args.word) (n + c.args.count) ∷ h) (n + c.args.count) (c.write_to.ensures.counts (n + c.args.count))
-    (c.write_to.ensures.stands c.args.part.now kept h (n + c.args.count) c.idcode.ensures.value (next_at n c.args.count h some s.places) before))
+    (c.write_to.ensures.stands kept h (n + c.args.count) (next_at n c.args.count h some s.places) before))

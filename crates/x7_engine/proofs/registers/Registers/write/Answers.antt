@@ -2,19 +2,28 @@ use Rattle.std.proofs.Common.{◌≡◌, ℕ, ◌∷◌, None, sym, ap, subst, �
 use Rattle.x7_packets.specs.History.{Access, Write, command_held, entry, executed_by, last_word}
 use Rattle.x7_regs.specs.Register.{number_of}
 use Rattle.x7_engine.specs.Registers.{takes_shutdown}
-use Rattle.x7_engine.specs.Standing.{AreLastWords, IsProgress, progress_in}
+use Rattle.x7_part.specs.Part.{PartData}
+use Rattle.x7_flow.specs.Standing.{FramesStandFor}
+use Rattle.x7_engine.specs.Standing.{AreLastWords, FramesAre, IsProgress, progress_in}
 use Rattle.x7_engine.specs.Stops.{stop_of, stopped_at}
 use Rattle.x7_engine.proofs.ClockLemmas.{stop_of-access}
+use Rattle.x7_engine.proofs.FrameLemmas.{access_frames, line_is, none_frames, standing_frames}
 use Rattle.x7_engine.proofs.registers.Registers.write.Goals as goal
 
 pub returns-clause-stands : goal.returns-clause-stands
-returns-clause-stands c = λ part kept h place e next s.
+returns-clause-stands c = λ kept h place next s.
+    let part : PartData = c.args.part.now in
+    let e : c.idcode-idcode.result ≡ part.idcode = c.idcode-idcode.ensures.value in
     let access : Access = Write (number_of c.args.reg) c.args.word in
-    let command : c.executed-executed.result ≡ executed_by (command_held h) access = c.executed-executed.ensures ∙ ap (λ (k : ℕ). executed_by k access) (c.command.ensures part kept h place s) in
-    let progress : IsProgress c.args.idcode (progress_in c.args.self.now.progress) h = subst (λ (i : ℕ). IsProgress i (progress_in c.args.self.now.progress) h) (sym e) s.progress in
-    let taken : c.takes-taken.result ≡ takes_shutdown h access = c.takes-taken.ensures c.args.idcode h command progress in
+    let command : c.executed-executed.result ≡ executed_by (command_held h) access = c.executed-executed.ensures ∙ ap (λ (k : ℕ). executed_by k access) (c.settings-settings.ensures.held part kept h place s) in
+    let progress : IsProgress c.idcode-idcode.result (progress_in c.args.self.now.progress) h = subst (λ (i : ℕ). IsProgress i (progress_in c.args.self.now.progress) h) (sym e) s.progress in
+    let taken : c.takes-taken.result ≡ takes_shutdown h access = c.takes-taken.ensures c.idcode-idcode.result h command progress in
     let cor0 : c.held-cor0.result ≡ last_word 9 0 h = c.held-cor0.ensures kept h s.words in
-    let going : stop_of part kept h place ≡ None = s.stop ∙ ap (stopped_at place) c.requires in
+    let going : stop_of part kept h place ≡ None = s.stop ∙ ap (stopped_at place) c.requires.going in
+    let are : FramesStandFor part c.args.self.now.frames h 0 = standing_frames part c.args.self.now.frames c.args.self.now.stop h c.args.self.now.due c.requires.going c.requires.none_due s.frames in
+    let refused = c.write-refused.ensures.fault h (c.settings-settings.ensures.after part kept h place s) are in
+    let line = c.line_of-line.ensures.value part kept h place e s command in
+    let after = c.write-refused.ensures.stands h place (c.settings-settings.ensures.after part kept h place s) are in
     record {
       places = (next.0, omega arith, next.1);
       words = subst (λ (r : ℕ). AreLastWords kept c.write-3.new.self.last (entry (Write r c.args.word) place ∷ h)) c.number.ensures.value (c.write-3.ensures kept h place s.words);
@@ -23,5 +32,7 @@ returns-clause-stands c = λ part kept h place e next s.
       kind = s.kind;
       before = s.before;
       clock = c.write-4.ensures part kept h place command taken cor0 s.clock;
-      stop = stop_of-access part kept h access place going ∙ ap (stopped_at place) (sym (c.line_of-stop.ensures.value part kept h place e s command));
+      stop = stop_of-access part kept h access place going ∙ ap (stopped_at place) (sym (line_is part kept h access c.line_of-line.result c.first_line-self.result c.write-refused.result refused line c.first_line-self.ensures.value));
+      frames = subst (λ (n : ℕ). FramesAre part c.write-refused.new.self c.first_line-self.result (entry access place ∷ h) n) (sym (none_frames c.args.self.now.due c.requires.none_due))
+          (access_frames part kept c.args.self.now.frames c.write-refused.new.self h (entry access place) c.line_of-line.result c.first_line-self.result c.write-refused.result are after refused line c.first_line-self.ensures.value);
     }

@@ -1,0 +1,210 @@
+-- Lemmas on the frames of a device: accesses that they take, and those that they refuse.
+use Rattle.std.proofs.Common.{◌≡◌, ◌==◌, ◌&&◌, not, ◌+◌, ◌%◌, ◌^◌, ℕ, zero, suc, Bool, true, false, if◌then◌else◌, Option, None, Some, List, [], ◌∷◌, ◌++◌, length, replicate, refl, sym, ap, subst, ◌∙◌, append-nil, arith}
+use Rattle.std.specs.Option.{is_some}
+use Rattle.std.proofs.lemmas.Bool.{and_parts, eqb-true}
+use Rattle.std.proofs.lemmas.List.{length-replicate}
+use Rattle.std.proofs.lemmas.Option.{none-some}
+use Rattle.x7_packets.specs.History.{Access, Bad, Entry, History, Read, Write, command_held, entered_all, entry, executes}
+use Rattle.x7_packets.specs.Packet.{payload_steps}
+use Rattle.x7_packets.proofs.HistoryLemmas.{kept_all}
+use Rattle.x7_crc.specs.OpenWrites.{running_check}
+use Rattle.x7_part.specs.Part.{PartData}
+use Rattle.x7_regs.specs.declared.register.Reg.{Reg}
+use Rattle.x7_regs.specs.declared.register.Reg.TheVariants as reg
+use Rattle.x7_regs.specs.Command.{command_by}
+use Rattle.x7_pipeline.specs.declared.fault.RunFault.{RunFault}
+use Rattle.x7_pipeline.specs.declared.fault.RunFault.TheVariants.{Address, Multi, Overrun}
+use Rattle.x7_flow.specs.declared.asked.Asked.{Asked}
+use Rattle.x7_flow.specs.declared.asked.Asked.TheVariants.{Copies, Load, Order, Other, Word}
+use Rattle.x7_flow.specs.Controls.{is_matched, same_idcode}
+use Rattle.x7_flow.specs.Settings.{settings_of, takes_copies, takes_frames}
+use Rattle.x7_flow.specs.Flow.{Flow, asks, far_in, far_read, fault_by, flow_of, frame_fault}
+use Rattle.x7_flow.specs.FrameMemory.{memory_of}
+use Rattle.x7_flow.specs.Standing.{AfterAccess, Did, FramesStandFor, FramesState, less, words_due, words_from}
+use Rattle.x7_flow.proofs.FaultLemmas.{refused_far_read, refused_memory}
+use Rattle.x7_flow.proofs.StandingLemmas.{did_other, no_less, one_more}
+use Rattle.x7_engine.specs.declared.due.Due.{Due}
+use Rattle.x7_engine.specs.declared.due.Due.TheVariants as due
+use Rattle.x7_engine.specs.declared.fault.Fault.{Fault}
+use Rattle.x7_engine.specs.declared.fault.Fault.TheVariants as fault
+use Rattle.x7_engine.specs.declared.kept.Kept.{Kept}
+use Rattle.x7_engine.specs.declared.stop.Stop.{Stop}
+use Rattle.x7_engine.specs.declared.stop.Stop.TheVariants as stop
+use Rattle.x7_engine.specs.Kept.{is_fallback}
+use Rattle.x7_engine.specs.Standing.{FramesAre, due_count, frames_due, frames_history, is_refusal, older, words_left}
+use Rattle.x7_engine.specs.Stops.{access_line, asks_decryption, frame_line, line_at, needs_match, or_else, stop_by, write_line}
+use Rattle.x7_engine.specs.Values.{value_of, value_owing}
+use Rattle.x7_engine.proofs.PlainLemmas.{IsPlain, plain_asks}
+
+-- ---- the history that the frames stand for
+
+-- frames that stand for a history are its frames, where no access was refused
+pub frames_at : (part : PartData) (f : FramesState) (line : Option Stop) (h : History) (due : ℕ) → is_refusal line ≡ false → FramesStandFor part f h due → FramesAre part f line h due
+frames_at part f line h due e s =
+    let same : frames_history line h ≡ h = ap (λ (b : Bool). if b then older h else h) e in
+    record {
+      stands = subst (λ (x : History). FramesStandFor part f x due) (sym same) s;
+      memory_same = λ far. ap (λ (x : History). memory_of part x far) same;
+      far_same = ap (λ (x : History). far_in part (less due (flow_of part x))) same;
+    }
+
+pub frames_of : (part : PartData) (f : FramesState) (line : Option Stop) (h : History) (due : ℕ) → is_refusal line ≡ false → FramesAre part f line h due → FramesStandFor part f h due
+frames_of part f line h due e s =
+    let same : frames_history line h ≡ h = ap (λ (b : Bool). if b then older h else h) e in
+    subst (λ (x : History). FramesStandFor part f x due) same s.stands
+
+-- a device that goes on has refused nothing
+pub goes_on : (line : Option Stop) → line ≡ None → is_refusal line ≡ false
+goes_on line e = ap is_refusal e
+
+-- nor has one that the watchdog stopped
+pub ticks_on : (line : Option Stop) (P : Type 0) → ((l : Stop) → line ≡ Some l → (l ≡ stop.Fault fault.Watchdog) × P) → is_refusal line ≡ false
+ticks_on None P f = refl
+ticks_on (Some l) P f = ap (λ (x : Stop). is_refusal (Some x)) (f l refl).0
+
+-- frames of another stop
+pub frames_still : (part : PartData) (f : FramesState) (old new : Option Stop) (h : History) (due : ℕ) → is_refusal old ≡ false → is_refusal new ≡ false → FramesAre part f old h due → FramesAre part f new h due
+frames_still part f old new h due a b s = frames_at part f new h due b (frames_of part f old h due a s)
+
+-- ---- what is due
+
+pub none_frames : (d : Due) → due_count d ≡ 0 → frames_due d ≡ 0
+none_frames due.Nothing e = refl
+none_frames (due.Same word count) e = refl
+none_frames (due.Frames count) e = e
+
+pub none_left : (part : PartData) (h : History) (d : Due) → due_count d ≡ 0 → words_left part h d ≡ []
+none_left part h due.Nothing e = refl
+none_left part h (due.Same word count) e = ap (λ (n : ℕ). replicate n word) e
+none_left part h (due.Frames count) e = ap (λ (n : ℕ). words_due part h n) e
+
+-- no words are due
+pub none_due : (reads : List ℕ) (part : PartData) (h : History) (d : Due) → due_count d ≡ 0 → reads ≡ reads ++ words_left part h d
+none_due reads part h d e = sym (ap (λ (ws : List ℕ). reads ++ ws) (none_left part h d e) ∙ append-nil reads)
+
+length_from : (part : PartData) (base : ℕ) (memory : ℕ → Option (List ℕ)) (place count : ℕ) → length (words_from part base memory place count) ≡ count
+length_from part base memory place zero = refl
+length_from part base memory place (suc count) = ap suc (length_from part base memory (place + 1) count)
+
+pub length_left : (part : PartData) (h : History) (d : Due) → length (words_left part h d) ≡ due_count d
+length_left part h due.Nothing = refl
+length_left part h (due.Same word count) = length-replicate count word
+length_left part h (due.Frames count) = length_from part _ _ _ count
+
+-- where none is due, a value is that of the history
+pub value_now : (part : PartData) (kept : Kept) (f : Option Fault) (h : History) (n : ℕ) (r : Reg) → value_owing part kept f h n 0 r ≡ value_of part kept false f h n r
+value_now part kept f h n reg.Far = ap (far_in part) (sym (no_less (flow_of part h)))
+value_now part kept f h n r = refl
+
+-- where no word is due and no access was refused
+pub standing_frames : (part : PartData) (f : FramesState) (line : Option Stop) (h : History) (d : Due) → line ≡ None → due_count d ≡ 0 → FramesAre part f line h (frames_due d) → FramesStandFor part f h 0
+standing_frames part f line h d e z s = frames_of part f line h 0 (goes_on line e) (subst (λ (n : ℕ). FramesAre part f line h n) (none_frames d z) s)
+
+pub frames_none_at : (part : PartData) (f : FramesState) (line : Option Stop) (h : History) (d : Due) → is_refusal line ≡ false → due_count d ≡ 0 → FramesStandFor part f h 0 → FramesAre part f line h (frames_due d)
+frames_none_at part f line h d e z s = subst (λ (n : ℕ). FramesAre part f line h n) (sym (none_frames d z)) (frames_at part f line h 0 e s)
+
+pub frames_none : (part : PartData) (f : FramesState) (line : Option Stop) (h : History) (d : Due) → line ≡ None → due_count d ≡ 0 → FramesStandFor part f h 0 → FramesAre part f line h (frames_due d)
+frames_none part f line h d e z s = subst (λ (n : ℕ). FramesAre part f line h n) (sym (none_frames d z)) (frames_at part f line h 0 (goes_on line e) s)
+
+-- ---- the line of an access is one alone
+
+line_fdri : (part : PartData) (kept : Kept) (h : History) (w : ℕ) → is_matched part.idcode h ≡ true → write_line part kept h 2 w ≡ None
+line_fdri part kept h w t = rw t refl
+
+line_mfwr : (part : PartData) (kept : Kept) (h : History) (w : ℕ) → is_matched part.idcode h ≡ true → write_line part kept h 10 w ≡ None
+line_mfwr part kept h w t = rw t refl
+
+-- an access that the frames refuse comes to no other line
+pub one_line : (part : PartData) (kept : Kept) (h : History) (access : Access) (fault : RunFault) → frame_fault part h access ≡ Some fault → access_line part kept h access ≡ None
+one_line part kept h (Read r count) fault e = refl
+one_line part kept h (Bad w) fault e = absurd (none-some _ e)
+one_line part kept h (Write r w) fault e = by (r == 1) (r == 4) (r == 2 && takes_frames (settings_of part.idcode h)) (r == 10 && takes_copies (settings_of part.idcode h)) e at_fdri at_mfwr
+  where
+    at_fdri : (r == 2 && takes_frames (settings_of part.idcode h)) ≡ true → write_line part kept h r w ≡ None
+    at_fdri t =
+        let p = and_parts (r == 2) (takes_frames (settings_of part.idcode h)) t in
+        let m = and_parts (is_matched part.idcode h) _ p.1 in
+        subst (λ (n : ℕ). write_line part kept h n w ≡ None) (sym (eqb-true r 2 p.0)) (line_fdri part kept h w m.0)
+
+    at_mfwr : (r == 10 && takes_copies (settings_of part.idcode h)) ≡ true → write_line part kept h r w ≡ None
+    at_mfwr t =
+        let p = and_parts (r == 10) (takes_copies (settings_of part.idcode h)) t in
+        let m = and_parts (is_matched part.idcode h) _ p.1 in
+        subst (λ (n : ℕ). write_line part kept h n w ≡ None) (sym (eqb-true r 10 p.0)) (line_mfwr part kept h w m.0)
+
+    by : (far cmd fdri mfwr : Bool) → fault_by part (if far then Load w else if cmd then Order (command_by w) else if fdri then Word w else if mfwr then Copies else Other) (flow_of part h) ≡ Some fault →
+        (fdri ≡ true → write_line part kept h r w ≡ None) → (mfwr ≡ true → write_line part kept h r w ≡ None) → write_line part kept h r w ≡ None
+    by true cmd fdri mfwr e p q = absurd (none-some _ e)
+    by false true fdri mfwr e p q = absurd (none-some _ e)
+    by false false true mfwr e p q = p refl
+    by false false false true e p q = q refl
+    by false false false false e p q = absurd (none-some _ e)
+
+-- and by its register alone it comes to no line of the frames
+no_refusal : (part : PartData) (kept : Kept) (h : History) (access : Access) → is_refusal (access_line part kept h access) ≡ false
+no_refusal part kept h (Read r count) = refl
+no_refusal part kept h (Bad w) = refl
+no_refusal part kept h (Write r w) =
+    by (r == 0 && not (w == running_check h)) (asks_decryption h r w) (r == 12 && not (same_idcode part.idcode w)) (needs_match h r w && not (is_matched part.idcode h)) (r == 4 && (w % 2 ^ 5 == 15 && not (is_fallback kept.kind)))
+  where
+    by : (crc dec id match iprog : Bool) → is_refusal (
+        if crc then Some (stop.Fault (fault.Crc (running_check h) w)) else
+        if dec then Some (stop.Fault fault.Encrypted) else
+        if id then Some (stop.Fault (fault.Id part.idcode w)) else
+        if match then Some (stop.Fault (fault.Id part.idcode 0)) else
+        if iprog then Some stop.Iprog else None) ≡ false
+    by true dec id match iprog = refl
+    by false true id match iprog = refl
+    by false false true match iprog = refl
+    by false false false true iprog = refl
+    by false false false false true = refl
+    by false false false false false = refl
+
+-- ---- one access more
+
+-- a refused one leaves the frames as they are
+pub refused : (part : PartData) (f : FramesState) (h : History) (e : Entry) (why : RunFault) → frame_fault part h e.access ≡ Some why → FramesStandFor part f h 0 → FramesAre part f (Some (stop_by why)) (e ∷ h) 0
+refused part f h e why r s = by why r
+  where
+    far : (fault : RunFault) → frame_fault part h e.access ≡ Some fault → far_in part (less 0 (flow_of part h)) ≡ far_in part (less 0 (flow_of part (e ∷ h)))
+    far fault r = sym (ap (far_in part) (no_less (flow_of part h))) ∙ sym (refused_far_read part e h fault r) ∙ ap (far_in part) (no_less (flow_of part (e ∷ h)))
+
+    by : (fault : RunFault) → frame_fault part h e.access ≡ Some fault → FramesAre part f (Some (stop_by fault)) (e ∷ h) 0
+    by (Address a) r = record { stands = s; memory_same = λ x. sym (refused_memory part e h (Address a) r x); far_same = far (Address a) r }
+    by Overrun r = record { stands = s; memory_same = λ x. sym (refused_memory part e h Overrun r x); far_same = far Overrun r }
+    by Multi r = record { stands = s; memory_same = λ x. sym (refused_memory part e h Multi r x); far_same = far Multi r }
+
+-- after an access, by the line that it comes to
+pub access_frames : (part : PartData) (kept : Kept) (f g : FramesState) (h : History) (e : Entry) (line now : Option Stop) (result : Option RunFault) → FramesStandFor part f h 0
+    → AfterAccess part g.pipeline g.memory h e result → result ≡ frame_fault part h e.access → line ≡ access_line part kept h e.access → now ≡ or_else line (frame_line result) → FramesAre part g now (e ∷ h) 0
+access_frames part kept f g h e line now None s after r l n =
+    let same : now ≡ line = n ∙ alone line in
+    frames_at part g now (e ∷ h) 0 (ap is_refusal (same ∙ l) ∙ no_refusal part kept h e.access) after
+  where
+    alone : (o : Option Stop) → or_else o None ≡ o
+    alone None = refl
+    alone (Some x) = refl
+access_frames part kept f g h e line now (Some why) s after r l n =
+    let none : line ≡ None = l ∙ one_line part kept h e.access why (sym r) in
+    let same : now ≡ Some (stop_by why) = n ∙ ap (λ (o : Option Stop). or_else o (Some (stop_by why))) none in
+    subst (λ (o : Option Stop). FramesAre part g o (e ∷ h) 0) (sym same) (refused part g h e why (sym r) after)
+
+-- the line of an access
+pub line_is : (part : PartData) (kept : Kept) (h : History) (access : Access) (line now : Option Stop) (result : Option RunFault) → result ≡ frame_fault part h access → line ≡ access_line part kept h access → now ≡ or_else line (frame_line result)
+    → now ≡ line_at part kept h access
+line_is part kept h access line now result r l n = n ∙ ap (λ (o : Option Stop). or_else o (frame_line result)) l ∙ ap (λ (o : Option RunFault). or_else (access_line part kept h access) (frame_line o)) r
+
+-- one that asks nothing of the frames
+pub other_access : (part : PartData) (f : FramesState) (h : History) (e : Entry) → asks part.idcode h e.access ≡ Other → FramesStandFor part f h 0 → FramesStandFor part f (e ∷ h) 0
+other_access part f h e a s = one_more part f.pipeline f.pipeline f.memory f.memory e h (subst (λ (x : Asked). Did part x f.pipeline f.pipeline f.memory f.memory) (sym a) (did_other part f.pipeline f.memory)) s
+
+-- so do words of a register without an effect
+pub plain_frames : (part : PartData) (f : FramesState) (register n : ℕ) (ws : List ℕ) (h : History) → IsPlain register → FramesStandFor part f h 0 → FramesStandFor part f (entered_all n (payload_steps register ws) h) 0
+plain_frames part f register n ws h p s =
+    kept_all (λ (x : History). FramesStandFor part f x 0) register (λ (x : History) (w place : ℕ) (t : FramesStandFor part f x 0). other_access part f x (entry (Write register w) place) (plain_asks part.idcode x register w p) t) n ws h s
+
+pub plain_are : (part : PartData) (f : FramesState) (line : Option Stop) (register n : ℕ) (ws : List ℕ) (h : History) (d : Due) → IsPlain register → is_refusal line ≡ false → due_count d ≡ 0 → FramesAre part f line h (frames_due d)
+    → FramesAre part f line (entered_all n (payload_steps register ws) h) (frames_due d)
+plain_are part f line register n ws h d p e z s =
+    let now : FramesStandFor part f h 0 = frames_of part f line h 0 e (subst (λ (k : ℕ). FramesAre part f line h k) (none_frames d z) s) in
+    subst (λ (k : ℕ). FramesAre part f line (entered_all n (payload_steps register ws) h) k) (sym (none_frames d z)) (frames_at part f line (entered_all n (payload_steps register ws) h) 0 e (plain_frames part f register n ws h p now))

@@ -1,0 +1,21 @@
+use Rattle.std.proofs.Common.{◌≡◌, None, sym, subst, ap, ◌∙◌, length}
+use Rattle.x7_packets.specs.History.{History}
+use Rattle.x7_part.specs.Part.{PartData}
+use Rattle.x7_engine.specs.Readout.{Gives}
+use Rattle.x7_engine.specs.Standing.{DeviceStandsFor, DeviceState, registers_in}
+use Rattle.x7_engine.specs.State.{history_taken}
+use Rattle.x7_engine.proofs.FeedLemmas.{given}
+use Rattle.x7_engine.proofs.device.Device.give.Goals as goal
+
+pub returns-clause-given : goal.returns-clause-given
+returns-clause-given c = λ wanted kept wrapped bytes s.
+    let part : PartData = c.self.inside.part in
+    let fields : DeviceState = record { part = part; cutter = c.self.inside.cutter; registers = registers_in c.self.inside.registers; wrapped = c.self.inside.wrapped; taken = c.self.inside.taken } in
+    let here : part ≡ wanted = ap (λ (d : DeviceState). d.part) c.self.view_is ∙ s.part_is in
+    let stands : DeviceStandsFor part kept wrapped fields bytes = subst (λ (d : DeviceState). DeviceStandsFor part kept wrapped d bytes) (sym c.self.view_is) (subst (λ (p : PartData). DeviceStandsFor p kept wrapped c.args.self.now bytes) (sym here) s) in
+    let after : DeviceState = record fields { registers = registers_in c.give.new.self } in
+    let h : History = history_taken part kept bytes in
+    let going : c.self.inside.registers.stop ≡ None = ap (λ (d : DeviceState). d.registers.stop) c.self.view_is ∙ c.requires.going in
+    subst (λ (d : DeviceState). Gives wanted kept wrapped d after bytes c.args.read.now c.give.new.read) c.self.view_is
+    (subst (λ (p : PartData). Gives p kept wrapped fields after bytes c.args.read.now c.give.new.read) here
+    (given part kept wrapped fields (registers_in c.give.new.self) bytes c.args.read.now c.give.new.read going c.give.ensures.going stands (c.give.ensures.given kept h (length bytes) stands.registers_are)))

@@ -1,0 +1,114 @@
+//! The words that a device reads out: a read makes them due, and a buffer takes them.
+ghost use Rattle.std.specs.Prelude.{◌≡◌, ◌≤◌, ◌<◌, ◌+◌, ℕ, ◌∷◌, ◌++◌, List, IsTrue, ◌↔◌, None, Some};
+ghost use Rattle.x7_packets.specs.History.{entry, History, Read};
+ghost use Rattle.x7_flow.specs.Standing.{FramesFit, FramesStandFor};
+ghost use Rattle.x7_engine.specs.Readout.{GaveFrames};
+ghost use Rattle.x7_engine.specs.ReadBuffer.{IsFull};
+ghost use Rattle.x7_engine.specs.Standing.{due_count};
+ghost use Rattle.x7_engine.specs.Values.{answer_of};
+ghost use Rattle.x7_engine.specs.declared.kept.Kept.{Kept as KeptData};
+ghost use Rattle.x7_engine.specs.declared.stop.Stop.{Stop};
+
+use crate::due::Due;
+use crate::read_buffer::ReadBuf;
+use crate::registers::{Registers, stop_of_refused};
+use x7_flow::{Frames, reads_frames};
+use x7_part::Part;
+
+/// How many words are due.
+pub(crate) fn count_of(due: Due) -> u32
+    ensures { result ≡ due_count due }
+{
+    match due {
+        Due::Nothing => 0,
+        Due::Same(_, count) => count,
+        Due::Frames(count) => count,
+    }
+}
+
+/// Gives so many words of frame data to a buffer, as many as it has room for. Says how many not.
+fn give_frames(frames: &mut Frames, part: &Part, count: u32, read: &mut ReadBuf) -> u32
+    requires frames { FramesFit part.now frames.old }
+    ensures fewer { result ≤ count }
+    ensures full { 0 < result → IsFull read.new }
+    ensures given { (h : History) → FramesStandFor part.now frames.old h count → GaveFrames part.now frames.new h count result read.old read.new }
+    ensures frames { FramesFit part.now frames.new }
+{
+    if read.drops() {
+        frames.pass(count, part);
+        return 0;
+    }
+    for i in 0..count {
+        if read.is_full() {
+            return count - i;
+        }
+        read.push(frames.next(part));
+    }
+    0
+}
+
+impl Registers {
+    ghost use Rattle.x7_engine.specs.Standing.{IsNext, RegistersStandFor, counted_in, registers_in, words_left};
+    ghost use Rattle.x7_engine.specs.Readout.{Gave};
+
+    /// A read of some words: they are due from now on.
+    pub(crate) fn read(&mut self, part: &Part, register: u8, count: u32)
+        requires going { self.old.stop ≡ None }
+        requires none_due { due_count self.old.due ≡ 0 }
+        requires frames { FramesFit part.now self.old.frames }
+        requires some { 0 < count }
+        ensures at_rest { (line : Stop) → self.new.stop ≡ Some line → due_count self.new.due ≡ 0 }
+        ensures counts { (n : ℕ) → counted_in self.new.stop n ≡ n }
+        ensures frames { self.new.frames ≡ self.old.frames }
+        ensures stands { (kept : KeptData) (h : History) (place : ℕ) → IsNext place h → RegistersStandFor part.now kept (registers_in self.old) h place → RegistersStandFor part.now kept (registers_in self.new) (entry (Read register count) place ∷ h) place }
+        ensures reads { (kept : KeptData) (h : History) (place : ℕ) → RegistersStandFor part.now kept (registers_in self.old) h place
+            → answer_of part.now kept h (Read register count) place ≡ words_left part.now (entry (Read register count) place ∷ h) self.new.due }
+    {
+        if !reads_frames(self.settings(), register, count) {
+            self.due = Due::Same(self.read_value(part, register), count);
+            return;
+        }
+        match self.frames.begin_read(count, part) {
+            Some(fault) => self.stop = Some(stop_of_refused(fault)),
+            None => self.due = Due::Frames(count),
+        }
+    }
+
+    /// Gives the words due to a buffer, as many as it has room for.
+    fn give_due(&mut self, part: &Part, read: &mut ReadBuf)
+        requires going { self.old.stop ≡ None }
+        requires frames { FramesFit part.now self.old.frames }
+        ensures full { 0 < due_count self.new.due → IsFull read.new }
+        ensures going { self.new.stop ≡ None }
+        ensures frames { FramesFit part.now self.new.frames }
+        ensures given { (kept : KeptData) (h : History) (n : ℕ) → RegistersStandFor part.now kept (registers_in self.old) h n
+            → Gave part.now kept (registers_in self.old) (registers_in self.new) h n read.old read.new }
+    {
+        match self.due {
+            Due::Nothing => (),
+            Due::Same(word, count) => {
+                let left = read.take(word, count);
+                self.due = Due::Same(word, left);
+            }
+            Due::Frames(count) => {
+                let left = give_frames(&mut self.frames, part, count, read);
+                self.due = Due::Frames(left);
+            }
+        }
+    }
+
+    /// Gives the words due to a buffer, as many as it has room for, and says whether none is left.
+    pub(crate) fn give(&mut self, part: &Part, read: &mut ReadBuf) -> bool
+        requires going { self.old.stop ≡ None }
+        requires frames { FramesFit part.now self.old.frames }
+        ensures none_left { IsTrue result ↔ (due_count self.new.due ≡ 0) }
+        ensures full { 0 < due_count self.new.due → IsFull read.new }
+        ensures going { self.new.stop ≡ None }
+        ensures frames { FramesFit part.now self.new.frames }
+        ensures given { (kept : KeptData) (h : History) (n : ℕ) → RegistersStandFor part.now kept (registers_in self.old) h n
+            → Gave part.now kept (registers_in self.old) (registers_in self.new) h n read.old read.new }
+    {
+        self.give_due(part, read);
+        count_of(self.due) == 0
+    }
+}

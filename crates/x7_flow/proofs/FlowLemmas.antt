@@ -1,0 +1,124 @@
+-- The flow and the memory of a history: what they always have, and a later history behind an earlier one.
+use Rattle.std.proofs.Common.{◌≡◌, ℕ, ◌+◌, Bool, true, false, if◌then◌else◌, List, [], ◌∷◌, ◌++◌, length, get_or, refl, sym, ap, ◌∙◌, inl, inr, eq-eqb, ne_eqb}
+use Rattle.std.proofs.lemmas.Bool.{cases_eq}
+use Rattle.x7_packets.specs.History.{Access, Write, Entry, History, entry}
+use Rattle.x7_part.specs.Part.{PartData, frame_words}
+use Rattle.x7_part.specs.declared.slot.Slot.{Slot}
+use Rattle.x7_part.specs.declared.slot.Slot.TheVariants.{Frame, Pad, End}
+use Rattle.x7_memory.specs.FrameMap.{FrameMap, AreSame}
+use Rattle.x7_memory.specs.Planned.{PlanRow, planned}
+use Rattle.x7_regs.specs.Command.{command_with}
+use Rattle.x7_regs.specs.declared.command.Command.{Command}
+use Rattle.x7_pipeline.specs.Runs.{rest_of, frames_of, slots_from, at_slot, in_slots, but_newest, landed, put_over}
+use Rattle.x7_pipeline.specs.FarAsRead.{has_frame_at}
+use Rattle.x7_pipeline.specs.Copies.{is_wcfg}
+use Rattle.x7_pipeline.proofs.LawLemmas.{put_twice, no_source}
+use Rattle.x7_pipeline.proofs.RunLemmas.{frames-completes, frames-goes_on}
+use Rattle.x7_flow.specs.declared.asked.Asked.{Asked}
+use Rattle.x7_flow.specs.declared.asked.Asked.TheVariants.{Load, Order, Word, Copies, Reads, Other}
+use Rattle.x7_flow.specs.Settings.{Settings, settings_of, settings_after, settings_from}
+use Rattle.x7_flow.specs.Flow.{Flow, asked, asks, flow_by, flow_of, source_of}
+use Rattle.x7_flow.specs.FrameMemory.{landed_more, memory_of, newest_put, puts}
+use Rattle.x7_flow.specs.Sound.{IsSound}
+use Rattle.x7_flow.specs.Later.{flow_from, pairs_from, flow_loaded, pairs_loaded}
+use Rattle.x7_flow.proofs.SettingsLemmas.{Means, asked_means, settings_joined, settings_more}
+
+-- ---- landed frames and one word more
+
+at_slot_front : (slot : Slot) (words : List ℕ) (pairs : List PlanRow) → at_slot slot words pairs ≡ at_slot slot words [] ++ pairs
+at_slot_front (Frame far) words pairs = refl
+at_slot_front Pad words pairs = refl
+at_slot_front End words pairs = refl
+
+landed_step : (part : PartData) (base : ℕ) (frames : List (List ℕ)) → in_slots (slots_from part base) frames ≡ newest_put part base frames ++ in_slots (slots_from part base) (but_newest frames)
+unfolding in_slots
+landed_step part base [] = refl
+landed_step part base (frame ∷ older) = at_slot_front (get_or (slots_from part base) (length older) End) frame (in_slots (slots_from part base) older)
+
+pub landed_grows : (part : PartData) (base w : ℕ) (run : List ℕ) → landed part base (w ∷ run) ≡ landed_more part base run ++ landed part base run
+unfolding landed landed_more
+landed_grows part base w run =
+    elim (cases_eq (length (rest_of (frame_words part) run) + 1) (frame_words part)) [
+      | inl e ↦ rw (frames-completes (frame_words part) w run e, eq-eqb (length (rest_of (frame_words part) run) + 1) (frame_words part) e) (landed_step part base (frames_of (frame_words part) run))
+      | inr n ↦ rw (frames-goes_on (frame_words part) w run n, ne_eqb (length (rest_of (frame_words part) run) + 1) (frame_words part) n) refl
+    ]
+
+pub put_none : (pairs : List PlanRow) (m : FrameMap) → pairs ≡ [] → AreSame (put_over pairs m) m
+unfolding planned
+put_none pairs m e far = ap (λ (ps : List PlanRow). put_over ps m far) e
+
+-- ---- what a flow always has
+
+pub given_nowhere : (b : Bool) (given count : ℕ) → (b ≡ false → given ≡ 0) → b ≡ false → (if b then given + count else given) ≡ 0
+given_nowhere true given count p e = absurd cc
+given_nowhere false given count p e = p e
+
+sound_by : (part : PartData) (s t : Settings) (a : Asked) (f : Flow) → Means s a t.held → IsSound part s f → IsSound part t (flow_by part a f)
+sound_by part s t (Load w) f m i = record { command_is = i.command_is ∙ ap command_with (sym m); idle = λ e. refl; sourceless = i.sourceless; nowhere = λ e. refl }
+sound_by part s t (Order c) f m i = record { command_is = m; idle = λ e. refl; sourceless = no_source part f.command c f.run; nowhere = λ e. refl }
+sound_by part s t (Word w) f m i =
+    let wcfg : is_wcfg f.command ≡ true = ap is_wcfg (i.command_is ∙ ap command_with m.1) in
+    record { command_is = i.command_is ∙ ap command_with (sym m.0); idle = λ e. absurd cc; sourceless = i.sourceless; nowhere = i.nowhere }
+sound_by part s t Copies f m i = record { command_is = i.command_is ∙ ap command_with (sym m); idle = i.idle; sourceless = i.sourceless; nowhere = i.nowhere }
+sound_by part s t (Reads count) f m i =
+    record { command_is = i.command_is ∙ ap command_with (sym m); idle = i.idle; sourceless = i.sourceless; nowhere = given_nowhere (has_frame_at part f.base) f.given count i.nowhere }
+sound_by part s t Other f m i = record { command_is = i.command_is ∙ ap command_with (sym m); idle = i.idle; sourceless = i.sourceless; nowhere = i.nowhere }
+
+pub flow_sound : (part : PartData) (h : History) → IsSound part (settings_of part.idcode h) (flow_of part h)
+unfolding flow_of
+flow_sound part [] = record { command_is = refl; idle = λ e. refl; sourceless = λ e. refl; nowhere = λ e. refl }
+flow_sound part (e ∷ h) =
+    let s : Settings = settings_of part.idcode h in
+    let now : IsSound part (settings_after part.idcode e.access s) (flow_by part (asks part.idcode h e.access) (flow_of part h)) =
+    sound_by part s (settings_after part.idcode e.access s) (asks part.idcode h e.access) (flow_of part h) (asked_means s e.access) (flow_sound part h) in
+    rw (settings_more part.idcode e h) now
+
+-- ---- one access more
+
+pub flow_more : (part : PartData) (e : Entry) (h : History) → flow_of part (e ∷ h) ≡ flow_by part (asks part.idcode h e.access) (flow_of part h)
+unfolding flow_of
+flow_more part e h = refl
+
+pub memory_more : (part : PartData) (e : Entry) (h : History) → AreSame (memory_of part (e ∷ h)) (put_over (puts part (asks part.idcode h e.access) (flow_of part h)) (memory_of part h))
+unfolding memory_of
+memory_more part e h far = refl
+
+-- ---- a later history behind an earlier one
+
+pub flow_joined : (part : PartData) (later earlier : History) → flow_of part (later ++ earlier) ≡ flow_from part (settings_of part.idcode earlier) (flow_of part earlier) later
+unfolding flow_of flow_from
+flow_joined part [] earlier = refl
+flow_joined part (e ∷ later) earlier =
+    let s : Settings = settings_from part.idcode (settings_of part.idcode earlier) later in
+    ap (λ (x : Settings). flow_by part (asked x e.access) (flow_of part (later ++ earlier))) (settings_joined part.idcode later earlier)
+    ∙ ap (flow_by part (asked s e.access)) (flow_joined part later earlier)
+
+pairs_same : (part : PartData) (access : Access) (s t : Settings) (f g : Flow) → s ≡ t → f ≡ g → puts part (asked s access) f ≡ puts part (asked t access) g
+pairs_same part access s t f g e d = ap (λ (x : Settings). puts part (asked x access) f) e ∙ ap (puts part (asked t access)) d
+
+pub memory_joined : (part : PartData) (later earlier : History) →
+    AreSame (memory_of part (later ++ earlier)) (put_over (pairs_from part (settings_of part.idcode earlier) (flow_of part earlier) later) (memory_of part earlier))
+unfolding memory_of pairs_from planned
+memory_joined part [] earlier = λ far. refl
+memory_joined part (e ∷ later) earlier =
+    let s : Settings = settings_of part.idcode earlier in
+    let f : Flow = flow_of part earlier in
+    let second : List PlanRow = puts part (asked (settings_from part.idcode s later) e.access) (flow_from part s f later) in
+    let same : puts part (asks part.idcode (later ++ earlier) e.access) (flow_of part (later ++ earlier)) ≡ second =
+    pairs_same part e.access _ _ _ _ (settings_joined part.idcode later earlier) (flow_joined part later earlier) in
+    put_twice (pairs_from part s f later) second (memory_of part earlier) (memory_of part (later ++ earlier)) (memory_of part (e ∷ later ++ earlier))
+    (memory_joined part later earlier) (λ far. ap (λ (ps : List PlanRow). put_over ps (memory_of part (later ++ earlier)) far) same)
+
+load_flow : (part : PartData) (w place : ℕ) (earlier : History) →
+    flow_of part (entry (Write 1 w) place ∷ earlier) ≡ flow_loaded part (settings_of part.idcode earlier) (source_of part earlier) w
+unfolding flow_of
+load_flow part w place earlier =
+    let i = flow_sound part earlier in
+    ap (λ (c : Command). record (flow_loaded part (settings_of part.idcode earlier) (source_of part earlier) w) { command = c }) i.command_is
+
+pub memory_behind_load : (part : PartData) (later earlier : History) (w place : ℕ) →
+    AreSame (memory_of part (later ++ entry (Write 1 w) place ∷ earlier)) (put_over (pairs_loaded part (settings_of part.idcode earlier) (source_of part earlier) w later) (memory_of part earlier))
+unfolding memory_of planned
+memory_behind_load part later earlier w place far =
+    memory_joined part later (entry (Write 1 w) place ∷ earlier) far
+    ∙ ap (λ (f : Flow). put_over (pairs_from part (settings_of part.idcode earlier) f later) (memory_of part earlier) far) (load_flow part w place earlier)

@@ -1,0 +1,351 @@
+-- A pipeline and a memory that stand for a history, and one access more.
+use Rattle.std.proofs.Common.{◌≡◌, ℕ, zero, suc, ◌+◌, ◌-◌, ◌%◌, ◌==◌, ◌&&◌, Bool, true, false, if◌then◌else◌, List, [], ◌∷◌, Option, None, Some, is_some, IfNone, OnSome, not, refl, sym, ap, subst, ◌∙◌, arith, ne_eqb}
+use Rattle.std.proofs.lemmas.Bool.Decides.{nat_tests}
+use Rattle.std.proofs.lemmas.Option.{none-some}
+use Rattle.std.proofs.lemmas.List.{append_cancel_right}
+use Rattle.x7_packets.specs.History.{Access, Read, Entry, History, command_held, entry}
+use Rattle.x7_flow.specs.Controls.{ctl0_held}
+use Rattle.x7_flow.specs.Controls.{forbids_reading}
+use Rattle.x7_part.specs.Part.{PartData, frame_words}
+use Rattle.x7_part.specs.declared.slot.Slot.{Slot}
+use Rattle.x7_part.specs.declared.slot.Slot.TheVariants.{Frame, Pad, End}
+use Rattle.x7_memory.specs.FrameMap.{FrameMap, AreSame}
+use Rattle.x7_memory.specs.Frames.{frame_at, zero_frames}
+use Rattle.x7_memory.specs.Planned.{PlanRow, planned}
+use Rattle.x7_memory.proofs.MapLemmas.{override_same, same_memory}
+use Rattle.x7_pipeline.proofs.LawLemmas.{one_state}
+use Rattle.x7_regs.specs.declared.command.Command.{Command}
+use Rattle.x7_regs.specs.declared.command.Command.TheVariants as command
+use Rattle.x7_flow.specs.Settings.{Settings, gives_frames, settings_of}
+use Rattle.x7_pipeline.specs.declared.fault.RunFault.{RunFault}
+use Rattle.x7_pipeline.specs.declared.fault.RunFault.TheVariants.{Address, Multi}
+use Rattle.x7_pipeline.specs.Runs.{landed, put_over, Lands}
+use Rattle.x7_pipeline.specs.FarAsRead.{far_of, has_frame_at, loaded_base}
+use Rattle.x7_pipeline.specs.Copies.{copied, is_mfw, source_after}
+use Rattle.x7_pipeline.specs.Faults.{address_fault, copy_fault, drop_fault, read_fault}
+use Rattle.x7_pipeline.specs.Pipeline.{PipelineData, StandsFor}
+use Rattle.x7_pipeline.specs.Readback.{read_at, read_slot, word_at, word_of}
+use Rattle.x7_flow.specs.declared.asked.Asked.{Asked}
+use Rattle.x7_flow.specs.declared.asked.Asked.TheVariants.{Load, Order, Word, Copies, Reads, Other}
+use Rattle.x7_flow.specs.Flow.{Flow, asked, asks, base_of, fault_by, flow_by, flow_of, frame_fault, given_of}
+use Rattle.x7_flow.specs.FrameMemory.{copy_pairs, landed_more, memory_of, puts}
+use Rattle.x7_flow.specs.FrameAccess.{reads_frame_data}
+use Rattle.x7_flow.specs.Standing.{AfterAccess, AfterRead, AreFramesAfter, FramesStandFor, FramesState, AreOf, Did, HasFlow, less, words_from, words_due, frames_read}
+use Rattle.x7_flow.proofs.FlowLemmas.{flow_more, flow_sound, given_nowhere, landed_grows, memory_more, put_none}
+
+-- ---- each call of a pipeline does what is asked
+
+pub did_load : (part : PartData) (p q : PipelineData) (frames : List (List ℕ)) (w : ℕ) →
+    ((part : PartData) (command : Command) (base : ℕ) (run : List ℕ) (source : Option (List ℕ)) (given : ℕ) → StandsFor part p command base run source given → StandsFor part q command (loaded_base part w) [] source 0) →
+    Did part (Load w) p q frames frames
+did_load part p q frames w stands = record {
+  flow = λ f h. record { stands = stands part f.command f.base f.run f.source f.given h.stands; nowhere = λ e. refl };
+  memory = λ f h far. sym (put_none [] (frame_at part frames) refl far);
+}
+
+pub did_order : (part : PartData) (p q : PipelineData) (frames : List (List ℕ)) (c : Command) →
+    ((old : Command) (base : ℕ) (run : List ℕ) (source : Option (List ℕ)) (given : ℕ) → StandsFor part p old base run source given →
+    StandsFor part q c (far_of part base run given) [] (source_after part old c run) 0) →
+    Did part (Order c) p q frames frames
+did_order part p q frames c stands = record {
+  flow = λ f h. record { stands = stands f.command f.base f.run f.source f.given h.stands; nowhere = λ e. refl };
+  memory = λ f h far. sym (put_none [] (frame_at part frames) refl far);
+}
+
+word_memory : (part : PartData) (base w : ℕ) (run : List ℕ) (old new : FrameMap) → Lands part base run (w ∷ run) old new → AreSame new (put_over (landed_more part base run) old)
+word_memory part base w run old new l =
+    let same : l.added ≡ landed_more part base run = append_cancel_right l.added (landed_more part base run) (landed part base run) (sym l.grows ∙ landed_grows part base w run) in
+    rw (← same) l.memory
+
+pub did_word : (part : PartData) (p q : PipelineData) (old new : List (List ℕ)) (w : ℕ) →
+    ((command : Command) (base : ℕ) (run : List ℕ) (source : Option (List ℕ)) (given : ℕ) → StandsFor part p command base run source given → StandsFor part q command base (w ∷ run) source given) →
+    ((command : Command) (base : ℕ) (run : List ℕ) (source : Option (List ℕ)) (given : ℕ) → StandsFor part p command base run source given → Lands part base run (w ∷ run) (frame_at part old) (frame_at part new)) →
+    Did part (Word w) p q old new
+did_word part p q old new w stands lands = record {
+  flow = λ f h. record { stands = stands f.command f.base f.run f.source f.given h.stands; nowhere = h.nowhere };
+  memory = λ f h. word_memory part f.base w f.run (frame_at part old) (frame_at part new) (lands f.command f.base f.run f.source f.given h.stands);
+}
+
+copy_allowed : (part : PartData) (f : Flow) → None ≡ copy_fault part f.command f.base f.source → copied f.base f.source ≡ copy_pairs part f
+unfolding copy_fault address_fault
+copy_allowed part f e = by (is_mfw f.command) (is_some f.source) (has_frame_at part f.base) e
+  where
+    by : (m s b : Bool) → None ≡ (if m && s then (if b then None else Some (Address f.base)) else Some Multi) → copied f.base f.source ≡ (if m && b then copied f.base f.source else [])
+    by true true true e = refl
+    by true true false e = absurd (none-some _ e)
+    by true false b e = absurd (none-some _ e)
+    by false s b e = absurd (none-some _ e)
+
+pub did_copy : (part : PartData) (p q : PipelineData) (old new : List (List ℕ)) → q ≡ p →
+    ((command : Command) (base : ℕ) (run : List ℕ) (source : Option (List ℕ)) (given : ℕ) → StandsFor part p command base run source given → AreSame (frame_at part new) (put_over (copied base source) (frame_at part old))) →
+    ((command : Command) (base : ℕ) (run : List ℕ) (source : Option (List ℕ)) (given : ℕ) → StandsFor part p command base run source given → None ≡ copy_fault part command base source) →
+    Did part Copies p q old new
+did_copy part p q old new same put allowed = record {
+  flow = λ f h. rw same h;
+  memory = λ f h. rw (← copy_allowed part f (allowed f.command f.base f.run f.source f.given h.stands)) (put f.command f.base f.run f.source f.given h.stands);
+}
+
+-- a read is refused at its first word, where the base is no address
+read_is : (part : PartData) (base given : ℕ) → (has_frame_at part base ≡ false → given ≡ 0) → read_fault part base given ≡ address_fault part base
+unfolding read_fault address_fault
+read_is part base given nowhere = by (given == 0) (has_frame_at part base) (λ e. ap (λ (n : ℕ). n == 0) (nowhere e))
+  where
+    by : (z b : Bool) → (b ≡ false → z ≡ true) → (if z then (if b then None else Some (Address base)) else None) ≡ (if b then None else Some (Address base))
+    by true b p = refl
+    by false true p = refl
+    by false false p = let e = p refl in absurd cc
+
+pub drop_is : (part : PartData) (p : PipelineData) (f : Flow) (count : ℕ) → HasFlow part p f → drop_fault part f.base f.given count ≡ fault_by part (Reads count) f
+unfolding drop_fault
+drop_is part p f count h = ap (λ (o : Option RunFault). if count == 0 then None else o) (read_is part f.base f.given h.nowhere)
+
+count_so : (part : PartData) (f : Flow) (count : ℕ) → None ≡ fault_by part (Reads count) f → f.given + count ≡ (if has_frame_at part f.base then f.given + count else f.given)
+unfolding address_fault
+count_so part f count e = by (count == 0) (has_frame_at part f.base) e (λ z. grind (arith, nat_tests))
+  where
+    by : (z b : Bool) → None ≡ (if z then None else if b then None else Some (Address f.base)) → (z ≡ true → f.given + count ≡ f.given) → f.given + count ≡ (if b then f.given + count else f.given)
+    by z true e p = refl
+    by true false e p = p refl
+    by false false e p = absurd (none-some _ e)
+
+pub did_reads : (part : PartData) (p q : PipelineData) (frames : List (List ℕ)) (count : ℕ) →
+    ((command : Command) (base : ℕ) (run : List ℕ) (source : Option (List ℕ)) (given : ℕ) → StandsFor part p command base run source given → StandsFor part q command base run source (given + count)) →
+    ((command : Command) (base : ℕ) (run : List ℕ) (source : Option (List ℕ)) (given : ℕ) → StandsFor part p command base run source given → None ≡ drop_fault part base given count) →
+    Did part (Reads count) p q frames frames
+did_reads part p q frames count stands allowed = record {
+  flow = λ f h.
+      let none : None ≡ fault_by part (Reads count) f = allowed f.command f.base f.run f.source f.given h.stands ∙ drop_is part p f count h in
+      record {
+        stands = subst (λ (n : ℕ). StandsFor part q f.command f.base f.run f.source n) (count_so part f count none) (stands f.command f.base f.run f.source f.given h.stands);
+        nowhere = given_nowhere (has_frame_at part f.base) f.given count h.nowhere;
+      };
+  memory = λ f h far. sym (put_none [] (frame_at part frames) refl far);
+}
+
+pub did_other : (part : PartData) (p : PipelineData) (frames : List (List ℕ)) → Did part Other p p frames frames
+did_other part p frames = record { flow = λ f h. h; memory = λ f h far. sym (put_none [] (frame_at part frames) refl far) }
+
+-- ---- one access more
+
+pub same_flow : (part : PartData) (p : PipelineData) (f g : Flow) → f ≡ g → HasFlow part p f → HasFlow part p g
+same_flow part p f g e h = rw (← e) h
+
+pub no_less : (f : Flow) → f ≡ less 0 f
+no_less f = ap (λ (n : ℕ). record f { given = n }) (omega arith)
+
+pub one_more : (part : PartData) (p q : PipelineData) (old new : List (List ℕ)) (e : Entry) (h : History) →
+    Did part (asks part.idcode h e.access) p q old new → AreFramesAfter part p old h 0 → AreFramesAfter part q new (e ∷ h) 0
+one_more part p q old new e h did are =
+    let f : Flow = flow_of part h in
+    let has : HasFlow part p f = same_flow part p (less 0 f) f (sym (no_less f)) are.flow in
+    let pairs : List PlanRow = puts part (asks part.idcode h e.access) f in
+    record {
+      flow = same_flow part q (flow_by part (asks part.idcode h e.access) f) (less 0 (flow_of part (e ∷ h))) (sym (flow_more part e h) ∙ no_less (flow_of part (e ∷ h))) (did.flow f has);
+      memory = λ far. did.memory f has far ∙ override_same (frame_at part old) (memory_of part h) (planned pairs) (planned pairs) are.memory (λ a. refl) far ∙ sym (memory_more part e h far);
+      due_given = omega arith;
+    }
+
+-- ---- words of frame data that are due
+
+no_word : (part : PartData) (memory other : FrameMap) → AreSame memory other → (slot : Slot) (i : ℕ) → word_at slot memory i ≡ word_at slot other i
+no_word part memory other same (Frame far) i = ap (λ (o : Option (List ℕ)). word_of o i) (same far)
+no_word part memory other same Pad i = refl
+no_word part memory other same End i = refl
+
+read_same : (part : PartData) (base place : ℕ) (memory other : FrameMap) → AreSame memory other → read_at part base memory place ≡ read_at part base other place
+unfolding read_at
+read_same part base place memory other same = no_word part memory other same (read_slot part base place) (place % frame_words part)
+
+words_same : (part : PartData) (base place count : ℕ) (memory other : FrameMap) → AreSame memory other → words_from part base memory place count ≡ words_from part base other place count
+words_same part base place zero memory other same = refl
+words_same part base place (suc count) memory other same =
+    ap (λ (w : ℕ). w ∷ words_from part base memory (place + 1) count) (read_same part base place memory other same)
+    ∙ ap (λ ws. read_at part base other place ∷ ws) (words_same part base (place + 1) count memory other same)
+
+-- a read that begins, whose words are all due
+read_flow : (part : PartData) (f : Flow) (count : ℕ) → has_frame_at part f.base ≡ true → flow_by part (Reads count) f ≡ record f { given = f.given + count }
+read_flow part f count t = ap (λ (b : Bool). record f { given = if b then f.given + count else f.given }) t
+
+pub read_begins : (part : PartData) (p : PipelineData) (frames : List (List ℕ)) (e : Entry) (h : History) (count : ℕ) →
+    asks part.idcode h e.access ≡ Reads count → has_frame_at part (base_of part h) ≡ true → AreFramesAfter part p frames h 0 →
+    AreFramesAfter part p frames (e ∷ h) count × (words_due part (e ∷ h) count ≡ frames_read part h count)
+read_begins part p frames e h count a t are =
+    let f : Flow = flow_of part h in
+    let now : flow_of part (e ∷ h) ≡ record f { given = f.given + count } = flow_more part e h ∙ ap (λ (x : Asked). flow_by part x f) a ∙ read_flow part f count t in
+    let back : less 0 f ≡ less count (flow_of part (e ∷ h)) =
+    ap (λ (n : ℕ). record f { given = n }) (omega arith) ∙ ap (less count) (sym now) in
+    let same : AreSame (memory_of part (e ∷ h)) (memory_of part h) = λ far.
+    memory_more part e h far ∙ ap (λ (x : Asked). put_over (puts part x f) (memory_of part h) far) a ∙ put_none [] (memory_of part h) refl far in
+    let sum : given_of part (e ∷ h) ≡ f.given + count = ap (λ (g : Flow). g.given) now in
+    let place : given_of part (e ∷ h) - count ≡ f.given = omega arith in (
+      record {
+        flow = same_flow part p (less 0 f) (less count (flow_of part (e ∷ h))) back are.flow;
+        memory = λ far. are.memory far ∙ sym (same far);
+        due_given = omega arith;
+      },
+      words_same part (base_of part (e ∷ h)) (given_of part (e ∷ h) - count) count (memory_of part (e ∷ h)) (memory_of part h) same
+          ∙ ap (λ (n : ℕ). words_from part (base_of part (e ∷ h)) (memory_of part h) n count) place
+          ∙ ap (λ (n : ℕ). words_from part n (memory_of part h) f.given count) (ap (λ (g : Flow). g.base) now),
+    )
+
+-- the next of the words due
+pub read_next : (part : PartData) (p q : PipelineData) (frames : List (List ℕ)) (h : History) (due word : ℕ) → AreFramesAfter part p frames h (due + 1) →
+    ((command : Command) (base : ℕ) (run : List ℕ) (source : Option (List ℕ)) (given : ℕ) → StandsFor part p command base run source given → word ≡ read_at part base (frame_at part frames) given) →
+    ((command : Command) (base : ℕ) (run : List ℕ) (source : Option (List ℕ)) (given : ℕ) → StandsFor part p command base run source given → StandsFor part q command base run source (given + 1)) →
+    AreFramesAfter part q frames h due × (words_due part h (suc due) ≡ word ∷ words_due part h due)
+read_next part p q frames h due word are is stands =
+    let f : Flow = flow_of part h in
+    let has = are.flow in
+    let some = are.due_given in
+    let next : f.given - (due + 1) + 1 ≡ f.given - due = omega arith in
+    let after : f.given - suc due + 1 ≡ f.given - due = omega arith in
+    let first : f.given - (due + 1) ≡ f.given - suc due = omega arith in
+    let from : StandsFor part q f.command f.base f.run f.source (f.given - (due + 1) + 1) = stands f.command f.base f.run f.source (f.given - (due + 1)) has.stands in (
+      record {
+        flow = record { stands = subst (λ (n : ℕ). StandsFor part q f.command f.base f.run f.source n) next from; nowhere = λ e. let none = (flow_sound part h).nowhere e in omega arith };
+        memory = are.memory;
+        due_given = omega arith;
+      },
+      ap (λ (w : ℕ). w ∷ words_from part f.base (memory_of part h) (f.given - suc due + 1) due)
+          (sym (is f.command f.base f.run f.source (f.given - (due + 1)) has.stands ∙ read_same part f.base (f.given - (due + 1)) (frame_at part frames) (memory_of part h) are.memory
+          ∙ ap (read_at part f.base (memory_of part h)) first))
+          ∙ ap (λ (n : ℕ). word ∷ words_from part f.base (memory_of part h) n due) after,
+    )
+
+no_both : {b : Bool} → b ≡ true → b ≡ false → ⊥
+no_both t f = cc
+
+-- words are due at an address alone
+pub due_somewhere : (part : PartData) (p : PipelineData) (frames : List (List ℕ)) (h : History) (due : ℕ) → AreFramesAfter part p frames h (due + 1) → None ≡ read_fault part (base_of part h) (given_of part h - (due + 1))
+unfolding address_fault
+due_somewhere part p frames h due are = by (has_frame_at part (base_of part h)) refl
+  where
+    by : (b : Bool) → has_frame_at part (base_of part h) ≡ b → None ≡ read_fault part (base_of part h) (given_of part h - (due + 1))
+    by true t = sym (read_is part (base_of part h) (given_of part h - (due + 1)) (λ f. absurd (no_both t f)) ∙ rw t refl)
+    by false f = let none = (flow_sound part h).nowhere f in let some = are.due_given in absurd (omega arith)
+
+-- so many of the words due are passed over
+pub read_past : (part : PartData) (p q : PipelineData) (frames : List (List ℕ)) (h : History) (due count : ℕ) → AreFramesAfter part p frames h (due + count) →
+    ((command : Command) (base : ℕ) (run : List ℕ) (source : Option (List ℕ)) (given : ℕ) → StandsFor part p command base run source given → StandsFor part q command base run source (given + count)) →
+    AreFramesAfter part q frames h due
+read_past part p q frames h due count are stands =
+    let f : Flow = flow_of part h in
+    let has = are.flow in
+    let some = are.due_given in
+    let next : f.given - (due + count) + count ≡ f.given - due = omega arith in
+    record {
+      flow = record {
+        stands = subst (λ (n : ℕ). StandsFor part q f.command f.base f.run f.source n) next (stands f.command f.base f.run f.source (f.given - (due + count)) has.stands);
+        nowhere = λ e. let none = (flow_sound part h).nowhere e in omega arith;
+      };
+      memory = are.memory;
+      due_given = omega arith;
+    }
+
+-- where words are due, passing over them isn't refused
+pub all_due : (part : PartData) (p : PipelineData) (frames : List (List ℕ)) (h : History) (due count : ℕ) → AreFramesAfter part p frames h (due + count) →
+    None ≡ drop_fault part (base_of part h) (given_of part h - (due + count)) count
+unfolding drop_fault read_fault address_fault
+all_due part p frames h due count are = by (has_frame_at part (base_of part h)) refl
+  where
+    free : (z g : Bool) → None ≡ (if z then None else if g then (if true then None else Some (Address (base_of part h))) else None)
+    free true g = refl
+    free false true = refl
+    free false false = refl
+
+    by : (b : Bool) → has_frame_at part (base_of part h) ≡ b → None ≡ drop_fault part (base_of part h) (given_of part h - (due + count)) count
+    by true t = rw t (free (count == 0) (given_of part h - (due + count) == 0))
+    by false f =
+        let none = (flow_sound part h).nowhere f in
+        let some = are.due_given in
+        let zero_count : count ≡ 0 = omega arith in
+        rw zero_count refl
+
+pub refused_read : (part : PartData) (p : PipelineData) (f : Flow) (count : ℕ) → HasFlow part p f → (count ≡ 0 → ⊥) → read_fault part f.base f.given ≡ fault_by part (Reads count) f
+refused_read part p f count h n = read_is part f.base f.given h.nowhere ∙ sym (ap (λ (b : Bool). if b then None else address_fault part f.base) (ne_eqb count 0 n))
+
+-- ---- a read
+
+read_asked : (s : Settings) (r count : ℕ) (b : Bool) → (r == 3 && (not (count == 0) && gives_frames s)) ≡ b → asked s (Read r count) ≡ (if b then Reads count else Other)
+read_asked s r count b e = ap (λ (x : Bool). if x then Reads count else Other) e
+
+-- a read of other words is none of the pipeline's
+pub other_read : (part : PartData) (p : PipelineData) (frames : List (List ℕ)) (h : History) (r count place : ℕ) → (r == 3 && (not (count == 0) && gives_frames (settings_of part.idcode h))) ≡ false →
+    AreFramesAfter part p frames h 0 →
+    (frame_fault part h (Read r count) ≡ None) × AreFramesAfter part p frames (entry (Read r count) place ∷ h) 0 × (words_due part (entry (Read r count) place ∷ h) 0 ≡ frames_read part h 0)
+other_read part p frames h r count place b are =
+    let a : asks part.idcode h (Read r count) ≡ Other = read_asked (settings_of part.idcode h) r count false b in (
+      ap (λ (x : Asked). fault_by part x (flow_of part h)) a,
+      one_more part p p frames frames (entry (Read r count) place) h (subst (λ (x : Asked). Did part x p p frames frames) (sym a) (did_other part p frames)) are,
+      refl,
+    )
+
+some_read : (r count : ℕ) (x : Bool) → (r == 3 && (not (count == 0) && x)) ≡ true → (count == 0) ≡ false
+some_read r count x t = grind (arith, nat_tests)
+
+from_address : (part : PartData) (base count : ℕ) → (count == 0) ≡ false → None ≡ (if count == 0 then None else address_fault part base) → has_frame_at part base ≡ true
+unfolding address_fault
+from_address part base count some none = by (count == 0) (has_frame_at part base) some none
+  where
+    by : (z b : Bool) → z ≡ false → None ≡ (if z then None else if b then None else Some (Address base)) → b ≡ true
+    by true b e f = absurd cc
+    by false true e f = refl
+    by false false e f = absurd (none-some _ f)
+
+-- a read of frame data begins, or is refused
+pub frame_read : (part : PartData) (p : PipelineData) (frames : List (List ℕ)) (h : History) (r count place : ℕ) → (r == 3 && (not (count == 0) && gives_frames (settings_of part.idcode h))) ≡ true →
+    ((f : Flow) → HasFlow part p f → None ≡ fault_by part (Reads count) f) → AreFramesAfter part p frames h 0 →
+    (frame_fault part h (Read r count) ≡ None) × AreFramesAfter part p frames (entry (Read r count) place ∷ h) count × (words_due part (entry (Read r count) place ∷ h) count ≡ frames_read part h count)
+frame_read part p frames h r count place b allowed are =
+    let f : Flow = flow_of part h in
+    let a : asks part.idcode h (Read r count) ≡ Reads count = read_asked (settings_of part.idcode h) r count true b in
+    let none : None ≡ fault_by part (Reads count) f = allowed f (same_flow part p (less 0 f) f (sym (no_less f)) are.flow) in
+    let t : has_frame_at part f.base ≡ true = from_address part f.base count (some_read r count (gives_frames (settings_of part.idcode h)) b) none in
+    let begun = read_begins part p frames (entry (Read r count) place) h count a t are in
+    (ap (λ (x : Asked). fault_by part x f) a ∙ sym none, begun.0, begun.1)
+
+pub frame_read_refused : (part : PartData) (p : PipelineData) (frames : List (List ℕ)) (h : History) (r count : ℕ) (fault : RunFault) → (r == 3 && (not (count == 0) && gives_frames (settings_of part.idcode h))) ≡ true →
+    ((f : Flow) → HasFlow part p f → Some fault ≡ fault_by part (Reads count) f) → AreFramesAfter part p frames h 0 → frame_fault part h (Read r count) ≡ Some fault
+frame_read_refused part p frames h r count fault b refused are =
+    let f : Flow = flow_of part h in
+    ap (λ (x : Asked). fault_by part x f) (read_asked (settings_of part.idcode h) r count true b) ∙ sym (refused f (same_flow part p (less 0 f) f (sym (no_less f)) are.flow))
+
+pub read_answered : (part : PartData) (f : FramesState) (h : History) (r count place : ℕ) (result : Option RunFault) → reads_frame_data h (Read r count) ≡ true →
+    ((g : Flow) → HasFlow part f.pipeline g → result ≡ fault_by part (Reads count) g) → FramesStandFor part f h 0 → AfterRead part f h r count place result
+read_answered part f h r count place None b none are = frame_read part f.pipeline f.memory h r count place b none are
+read_answered part f h r count place (Some fault) b refused are = frame_read_refused part f.pipeline f.memory h r count fault b refused are
+
+-- ---- a written word
+
+pub word_fault_is : (part : PartData) (p : PipelineData) (frames : List (List ℕ)) (h : History) (access : Access) (a : Asked) (result : Option RunFault) → a ≡ asks part.idcode h access →
+    ((f : Flow) → HasFlow part p f → result ≡ fault_by part a f) → AreFramesAfter part p frames h 0 → result ≡ frame_fault part h access
+word_fault_is part p frames h access a result e fault are =
+    let f : Flow = flow_of part h in
+    fault f (same_flow part p (less 0 f) f (sym (no_less f)) are.flow) ∙ ap (λ (x : Asked). fault_by part x f) e
+
+pub access_taken : (part : PartData) (p q : PipelineData) (old new : List (List ℕ)) (h : History) (e : Entry) (a : Asked) (result : Option RunFault) → a ≡ asks part.idcode h e.access →
+    IfNone result (Did part a p q old new) → OnSome result (q ≡ p) → OnSome result (new ≡ old) → AreFramesAfter part p old h 0 → AfterAccess part q new h e result
+access_taken part p q old new h e a None same did refused unchanged are = one_more part p q old new e h (subst (λ (x : Asked). Did part x p q old new) same did) are
+access_taken part p q old new h e a (Some fault) same did refused unchanged are = rw (refused, unchanged) are
+
+-- ---- after a reset
+
+pub begins_so : (part : PartData) (p : PipelineData) (frames : List (List ℕ)) → StandsFor part p command.Null 0 [] None 0 → frames ≡ zero_frames part → AreFramesAfter part p frames [] 0
+unfolding flow_of memory_of
+begins_so part p frames stands none = record {
+  flow = record { stands = stands; nowhere = λ e. refl };
+  memory = λ far. ap (λ (fs : List (List ℕ)). frame_at part fs far) none;
+  due_given = omega arith;
+}
+
+-- ---- two that stand for the same
+
+pub one_standing : (part : PartData) (p q : PipelineData) (old new : List (List ℕ)) (h : History) (due : ℕ) → AreOf part p old → AreOf part q new →
+    AreFramesAfter part p old h due → AreFramesAfter part q new h due → (p ≡ q) × (old ≡ new)
+one_standing part p q old new h due first second are also_are =
+    let f : Flow = less due (flow_of part h) in
+    let has = are.flow in
+    let also_has = also_are.flow in (
+      one_state part p q f.command f.base f.run f.source f.given has.stands also_has.stands,
+      same_memory part old new first.frames_fit second.frames_fit (λ far. are.memory far ∙ sym (also_are.memory far)),
+    )

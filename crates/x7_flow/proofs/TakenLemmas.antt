@@ -1,0 +1,111 @@
+-- Words of frame data taken at once.
+use Rattle.std.proofs.Common.{◌≡◌, ℕ, ◌+◌, true, List, [], ◌∷◌, ◌++◌, length, Option, None, Some, refl, sym, ap, subst, ◌∙◌, arith}
+use Rattle.std.proofs.lemmas.List.{append_cancel_right}
+use Rattle.x7_packets.specs.History.{Write, History, entry}
+use Rattle.x7_part.specs.Part.{PartData}
+use Rattle.x7_memory.specs.FrameMap.{FrameMap, AreSame}
+use Rattle.x7_memory.specs.Frames.{frame_at}
+use Rattle.x7_memory.specs.Planned.{PlanRow, planned}
+use Rattle.x7_memory.proofs.MapLemmas.{override_same}
+use Rattle.x7_regs.specs.declared.command.Command.{Command}
+use Rattle.x7_pipeline.specs.declared.fault.RunFault.{RunFault}
+use Rattle.x7_pipeline.specs.Runs.{landed, onto, put_over, Lands}
+use Rattle.x7_pipeline.specs.Faults.{write_fault}
+use Rattle.x7_pipeline.specs.Pipeline.{PipelineData, StandsFor}
+use Rattle.x7_pipeline.specs.Words.{Written, one_written, written}
+use Rattle.x7_flow.specs.declared.asked.Asked.{Asked}
+use Rattle.x7_flow.specs.Settings.{settings_of, takes_frames}
+use Rattle.x7_flow.specs.Flow.{Flow, base_of, fault_by, flow_of, frame_fault, run_of}
+use Rattle.x7_flow.specs.FrameMemory.{memory_of}
+use Rattle.x7_flow.specs.Standing.{AreFramesAfter, HasFlow, less}
+use Rattle.x7_flow.specs.Words.{EndsBy, NoneRefused, WordsTaken, with_words}
+use Rattle.x7_flow.proofs.StandingLemmas.{no_less, same_flow}
+use Rattle.x7_flow.proofs.ManyLemmas.{word_asked, word_flow, words_flow, words_land}
+
+word_fault : (part : PartData) (h : History) (w : ℕ) → takes_frames (settings_of part.idcode h) ≡ true → frame_fault part h (Write 2 w) ≡ write_fault part (base_of part h) (run_of part h)
+word_fault part h w t = ap (λ (a : Asked). fault_by part a (flow_of part h)) (word_asked (settings_of part.idcode h) w t)
+
+-- ---- the words before the first refused one
+
+-- how words written in order part
+record Parted (part : PartData) (n : ℕ) (h : History) (words : List ℕ) (w : Written) : Type 0 where
+  front : List ℕ
+  rest : List ℕ
+  words_are : words ≡ front ++ rest
+  none_refused : NoneRefused part n front h
+  run_is : w.run ≡ onto front (run_of part h)
+  end : EndsBy part (with_words n front h) rest (length front) w.count w.fault
+
+one_counted : (part : PartData) (h : History) (rest front : List ℕ) (w count : ℕ) (fault : Option RunFault) → EndsBy part h rest (length front) count fault → EndsBy part h rest (length (w ∷ front)) (1 + count) fault
+one_counted part h rest front w count None e = let same = e.1 in (e.0, omega arith)
+one_counted part h rest front w count (Some fault) e = let same = e.4 in (e.0, e.1, e.2, e.3, omega arith)
+
+parted : (part : PartData) (n : ℕ) (words : List ℕ) (h : History) → takes_frames (settings_of part.idcode h) ≡ true → Parted part n h words (written part (base_of part h) (run_of part h) words)
+unfolding written NoneRefused
+parted part n [] h t = record { front = []; rest = []; words_are = refl; none_refused = tt; run_is = refl; end = (refl, refl) }
+parted part n (w ∷ words) h t =
+    by (write_fault part (base_of part h) (run_of part h)) refl
+    (subst (λ (f : Flow). Parted part (n + 4) (entry (Write 2 w) (n + 4) ∷ h) words (written part f.base f.run words)) (word_flow part w (n + 4) h t) (parted part (n + 4) words (entry (Write 2 w) (n + 4) ∷ h) t))
+  where
+    now : History
+    now = entry (Write 2 w) (n + 4) ∷ h
+
+    later : Written
+    later = written part (base_of part h) (w ∷ run_of part h) words
+
+    by : (o : Option RunFault) → write_fault part (base_of part h) (run_of part h) ≡ o → Parted part (n + 4) now words later → Parted part n h (w ∷ words) (one_written o (run_of part h) later)
+    by (Some fault) e more = record {
+      front = [];
+      rest = w ∷ words;
+      words_are = refl;
+      none_refused = tt;
+      run_is = refl;
+      end = (w, words, refl, word_fault part h w t ∙ e, refl);
+    }
+    by None e more = record {
+      front = w ∷ more.front;
+      rest = more.rest;
+      words_are = ap (λ ws. w ∷ ws) more.words_are;
+      none_refused = (word_fault part h w t ∙ e, more.none_refused);
+      run_is = more.run_is ∙ ap (λ (f : Flow). onto more.front f.run) (word_flow part w (n + 4) h t);
+      end = one_counted part (with_words (n + 4) more.front now) more.rest more.front w later.count later.fault more.end;
+    }
+
+-- ---- the pipeline and the memory
+
+lands_alike : (part : PartData) (base : ℕ) (run longer : List ℕ) (old new under over : FrameMap) → Lands part base run longer old new → Lands part base run longer under over → AreSame old under → AreSame new over
+lands_alike part base run longer old new under over first second same far =
+    let added : first.added ≡ second.added = append_cancel_right first.added second.added (landed part base run) (sym first.grows ∙ second.grows) in
+    first.memory far ∙ ap (λ (ps : List PlanRow). put_over ps old far) added
+    ∙ override_same old under (planned second.added) (planned second.added) same (λ a. refl) far ∙ sym (second.memory far)
+
+pub words_taken : (part : PartData) (p q : PipelineData) (old new : List (List ℕ)) (words : List ℕ) (count n : ℕ) (fault : Option RunFault) (h : History) →
+    ((command : Command) (base : ℕ) (run : List ℕ) (source : Option (List ℕ)) (given : ℕ) → StandsFor part p command base run source given → StandsFor part q command base (written part base run words).run source given) →
+    ((command : Command) (base : ℕ) (run : List ℕ) (source : Option (List ℕ)) (given : ℕ) → StandsFor part p command base run source given →
+    Lands part base run (written part base run words).run (frame_at part old) (frame_at part new)) →
+    ((command : Command) (base : ℕ) (run : List ℕ) (source : Option (List ℕ)) (given : ℕ) → StandsFor part p command base run source given → count ≡ (written part base run words).count) →
+    ((command : Command) (base : ℕ) (run : List ℕ) (source : Option (List ℕ)) (given : ℕ) → StandsFor part p command base run source given → fault ≡ (written part base run words).fault) →
+    takes_frames (settings_of part.idcode h) ≡ true → AreFramesAfter part p old h 0 → WordsTaken part q new n h words count fault
+words_taken part p q old new words count n fault h stands lands counted faulty t are =
+    let f : Flow = flow_of part h in
+    let has : HasFlow part p f = same_flow part p (less 0 f) f (sym (no_less f)) are.flow in
+    let w : Written = written part f.base f.run words in
+    let parts : Parted part n h words w = parted part n words h t in
+    let end : History = with_words n parts.front h in
+    let flow : flow_of part end ≡ record f { run = onto parts.front f.run } = words_flow part n parts.front h t in
+    let reached : StandsFor part q f.command f.base (onto parts.front f.run) f.source f.given =
+    subst (λ (run : List ℕ). StandsFor part q f.command f.base run f.source f.given) parts.run_is (stands f.command f.base f.run f.source f.given has.stands) in
+    let grown : Lands part f.base f.run (onto parts.front f.run) (frame_at part old) (frame_at part new) =
+    subst (λ (run : List ℕ). Lands part f.base f.run run (frame_at part old) (frame_at part new)) parts.run_is (lands f.command f.base f.run f.source f.given has.stands) in
+    record {
+      front = parts.front;
+      rest = parts.rest;
+      words_are = parts.words_are;
+      none_refused = parts.none_refused;
+      end = rw (counted f.command f.base f.run f.source f.given has.stands, faulty f.command f.base f.run f.source f.given has.stands) parts.end;
+      stands = record {
+        flow = same_flow part q (record f { run = onto parts.front f.run }) (less 0 (flow_of part end)) (sym flow ∙ no_less (flow_of part end)) (record { stands = reached; nowhere = has.nowhere });
+        memory = lands_alike part f.base f.run (onto parts.front f.run) (frame_at part old) (frame_at part new) (memory_of part h) (memory_of part end) grown (words_land part n parts.front h t) are.memory;
+        due_given = omega arith;
+      };
+    }

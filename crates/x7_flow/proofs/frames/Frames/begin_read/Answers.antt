@@ -1,0 +1,13 @@
+use Rattle.std.proofs.Common.{ℕ, Option, sym, subst}
+use Rattle.x7_part.specs.Part.{PartData}
+use Rattle.x7_packets.specs.History.{History}
+use Rattle.x7_pipeline.specs.declared.fault.RunFault.{RunFault}
+use Rattle.x7_flow.specs.Standing.{AfterRead, FramesState, FramesStandFor}
+use Rattle.x7_flow.proofs.StandingLemmas.{read_answered}
+use Rattle.x7_flow.proofs.frames.Frames.begin_read.Goals as goal
+
+pub returns : goal.returns
+returns c = λ h register place reads are.
+    subst (λ (f : FramesState). AfterRead c.args.part.now f h register c.args.count place c.refuses_read.result) c.self.view_is
+    (read_answered c.args.part.now (record { pipeline = c.self.inside.pipeline; memory = c.self.inside.memory }) h register c.args.count place c.refuses_read.result reads c.refuses_read.ensures
+    (subst (λ (f : FramesState). FramesStandFor c.args.part.now f h 0) (sym c.self.view_is) are))

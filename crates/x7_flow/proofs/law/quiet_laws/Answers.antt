@@ -1,0 +1,11 @@
+use Rattle.x7_flow.proofs.QuietLemmas.{due_is, quiet_memory, quiet_pairs}
+use Rattle.x7_flow.proofs.law.quiet_laws.Goals as goal
+
+pub returns-clause-pairs : goal.returns-clause-pairs
+returns-clause-pairs c = quiet_pairs
+
+pub returns-clause-memory : goal.returns-clause-memory
+returns-clause-memory c = quiet_memory
+
+pub returns-clause-due : goal.returns-clause-due
+returns-clause-due c = due_is

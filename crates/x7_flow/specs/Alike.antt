@@ -1,0 +1,21 @@
+-- What an earlier history leaves for the frames of a later one.
+use Rattle.std.specs.Prelude.{◌≡◌, ◌||◌, Bool, true, false, [], ◌∷◌}
+use Rattle.x7_packets.specs.History.{History, writes}
+use Rattle.x7_regs.specs.declared.register.Reg.TheVariants as reg
+use Rattle.x7_regs.specs.Register.{number_of}
+use Rattle.x7_flow.specs.Settings.{Settings}
+
+-- the same but for MASK
+pub record AreAlike (s t : Settings) : Type 0 where
+  pub matched_same : s.matched ≡ t.matched
+  pub ctl0_same : s.ctl0 ≡ t.ctl0
+  pub held_same : s.held ≡ t.held
+
+abbrev pub sets_mask : History → Bool
+sets_mask [] = false
+sets_mask (e ∷ h) = writes (number_of reg.Mask) e.access || sets_mask h
+
+-- MASK is written before each word of CTL0
+abbrev pub MasksFirst : History → Type 0
+MasksFirst [] = Unit {0}
+MasksFirst (e ∷ h) = (writes (number_of reg.Ctl0) e.access ≡ true → sets_mask h ≡ true) × MasksFirst h

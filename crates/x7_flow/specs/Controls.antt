@@ -1,0 +1,44 @@
+-- The registers that decide what a word of frame data does: MASK and the registers under it, and IDCODE (UG470, configuration registers).
+-- A history stands with its newest access first.
+use Rattle.std.specs.Prelude.{ℕ, ◌-◌, ◌%◌, ◌^◌, ◌==◌, ◌&&◌, ◌||◌, Bool, false, not, if◌then◌else◌, [], ◌∷◌, bit_and, bit_or}
+use Rattle.x7_words.specs.Word.{field_of}
+use Rattle.x7_packets.specs.History.{Access, Write, History, last_word}
+use Rattle.x7_regs.specs.declared.register.Reg.TheVariants.{Ctl0, Idcode, Mask}
+use Rattle.x7_regs.specs.Register.{number_of}
+
+-- the word of MASK, which stays until it is written again (this project's choice)
+abbrev pub mask_held : History → ℕ
+mask_held h = last_word (number_of Mask) 0 h
+
+-- a register under MASK after an access: the written bits where MASK has them, and the old ones elsewhere
+abbrev pub masked_word : ℕ → ℕ → Access → ℕ → ℕ
+masked_word register mask (Write r w) old = if r == register then bit_or (bit_and old (2 ^ 32 - 1 - mask)) (bit_and w mask) else old
+masked_word register mask _ old = old
+
+-- CTL0 or CTL1 by its number
+abbrev pub masked : ℕ → History → ℕ
+masked register [] = 0
+masked register (e ∷ h) = masked_word register (mask_held h) e.access (masked register h)
+
+abbrev pub ctl0_held : History → ℕ
+ctl0_held h = masked (number_of Ctl0) h
+
+-- SBITS of CTL0, bits 5:4: 00 allows reading and writing, 01 forbids reading, 1x forbids both
+abbrev pub forbids_writing : ℕ → Bool
+forbids_writing ctl0 = field_of 5 1 ctl0 == 1
+
+abbrev pub forbids_reading : ℕ → Bool
+forbids_reading ctl0 = not (field_of 4 2 ctl0 == 0)
+
+-- a written IDCODE is the part's where the low 28 bits agree (that bits 31:28 aren't compared is this project's choice)
+abbrev pub same_idcode : ℕ → ℕ → Bool
+same_idcode idcode w = w % 2 ^ 28 == idcode % 2 ^ 28
+
+abbrev pub names_part : ℕ → Access → Bool
+names_part idcode (Write register w) = register == number_of Idcode && same_idcode idcode w
+names_part idcode _ = false
+
+-- the device is matched: a written IDCODE was the part's
+abbrev pub is_matched : ℕ → History → Bool
+is_matched idcode [] = false
+is_matched idcode (e ∷ h) = names_part idcode e.access || is_matched idcode h

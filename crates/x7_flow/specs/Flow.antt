@@ -1,0 +1,134 @@
+-- The flow of frames of a history: what a frame pipeline stands for (UG470, frame address register and frame data registers).
+use Rattle.std.specs.Prelude.{ℕ, ◌+◌, ◌==◌, ◌&&◌, not, Bool, true, false, if◌then◌else◌, List, [], ◌∷◌, Option, None}
+use Rattle.x7_packets.specs.History.{Access, Write, Read, Bad, History}
+use Rattle.x7_part.specs.Part.{PartData}
+use Rattle.x7_regs.specs.declared.command.Command.{Command}
+use Rattle.x7_regs.specs.declared.command.Command.TheVariants as command
+use Rattle.x7_regs.specs.declared.register.Reg.TheVariants as reg
+use Rattle.x7_regs.specs.Command.{command_by}
+use Rattle.x7_regs.specs.Register.{number_of}
+use Rattle.x7_pipeline.specs.declared.fault.RunFault.{RunFault}
+use Rattle.x7_pipeline.specs.FarAsRead.{far_of, has_frame_at, loaded_base}
+use Rattle.x7_pipeline.specs.Copies.{source_after}
+use Rattle.x7_pipeline.specs.Faults.{address_fault, copy_fault, write_fault}
+use Rattle.x7_flow.specs.Settings.{Settings, settings_of, takes_frames, takes_copies, gives_frames}
+use Rattle.x7_flow.specs.declared.asked.Asked.{Asked}
+use Rattle.x7_flow.specs.declared.asked.Asked.TheVariants.{Load, Order, Word, Copies, Reads, Other}
+
+-- ---- what an access asks
+
+abbrev pub write_asked : Settings → ℕ → ℕ → Asked
+write_asked s register w =
+    if register == number_of reg.Far then Load w else
+    if register == number_of reg.Cmd then Order (command_by w) else
+    if register == number_of reg.Fdri && takes_frames s then Word w else
+    if register == number_of reg.Mfwr && takes_copies s then Copies else Other
+
+abbrev pub asked : Settings → Access → Asked
+asked s (Write register w) = write_asked s register w
+asked s (Read register count) = if register == number_of reg.Fdro && (not (count == 0) && gives_frames s) then Reads count else Other
+asked s (Bad w) = Other
+
+-- the same after a history
+abbrev pub asks : ℕ → History → Access → Asked
+asks idcode h access = asked (settings_of idcode h) access
+
+-- it begins a stretch, writes frame data, copies or reads frame data
+abbrev pub begins : Asked → Bool
+begins (Load w) = true
+begins (Order c) = true
+begins (Word w) = false
+begins Copies = false
+begins (Reads count) = false
+begins Other = false
+
+abbrev pub is_word : Asked → Bool
+is_word (Word w) = true
+is_word (Load w) = false
+is_word (Order c) = false
+is_word Copies = false
+is_word (Reads count) = false
+is_word Other = false
+
+abbrev pub is_copy : Asked → Bool
+is_copy Copies = true
+is_copy (Load w) = false
+is_copy (Order c) = false
+is_copy (Word w) = false
+is_copy (Reads count) = false
+is_copy Other = false
+
+abbrev pub is_read : Asked → Bool
+is_read (Reads count) = true
+is_read (Load w) = false
+is_read (Order c) = false
+is_read (Word w) = false
+is_read Copies = false
+is_read Other = false
+
+-- ---- the flow
+
+-- the command, the address that the run or readback began at, the words of the run (the newest first), the frame that copies take, and the count of words given
+pub record Flow : Type 0 where
+  pub command : Command
+  pub base : ℕ
+  pub run : List ℕ
+  pub source : Option (List ℕ)
+  pub given : ℕ
+
+-- after a reset
+abbrev pub first_flow : Flow
+first_flow = record { command = command.Null; base = 0; run = []; source = None; given = 0 }
+
+-- after a FAR load
+abbrev pub loaded : PartData → ℕ → Flow → Flow
+loaded part w f = record f { base = loaded_base part w; run = []; given = 0 }
+
+-- FAR as read
+abbrev pub far_in : PartData → Flow → ℕ
+far_in part f = far_of part f.base f.run f.given
+
+-- after what an access asks; words are given only from an address
+abbrev pub flow_by : PartData → Asked → Flow → Flow
+flow_by part (Load w) f = loaded part w f
+flow_by part (Order c) f = record { command = c; base = far_in part f; run = []; source = source_after part f.command c f.run; given = 0 }
+flow_by part (Word w) f = record f { run = w ∷ f.run }
+flow_by part Copies f = f
+flow_by part (Reads count) f = record f { given = if has_frame_at part f.base then f.given + count else f.given }
+flow_by part Other f = f
+
+-- the flow of a history
+unfoldable pub flow_of : PartData → History → Flow
+flow_of part [] = first_flow
+flow_of part (e ∷ h) = flow_by part (asks part.idcode h e.access) (flow_of part h)
+
+abbrev pub base_of : PartData → History → ℕ
+base_of part h = (flow_of part h).base
+
+abbrev pub run_of : PartData → History → List ℕ
+run_of part h = (flow_of part h).run
+
+abbrev pub source_of : PartData → History → Option (List ℕ)
+source_of part h = (flow_of part h).source
+
+abbrev pub given_of : PartData → History → ℕ
+given_of part h = (flow_of part h).given
+
+-- FAR as read after a history
+abbrev pub far_read : PartData → History → ℕ
+far_read part h = far_in part (flow_of part h)
+
+-- ---- faults
+
+-- what is asked is refused; a read of no words never is
+abbrev pub fault_by : PartData → Asked → Flow → Option RunFault
+fault_by part (Load w) f = None
+fault_by part (Order c) f = None
+fault_by part (Word w) f = write_fault part f.base f.run
+fault_by part Copies f = copy_fault part f.command f.base f.source
+fault_by part (Reads count) f = if count == 0 then None else address_fault part f.base
+fault_by part Other f = None
+
+-- the fault of an access after a history
+abbrev pub frame_fault : PartData → History → Access → Option RunFault
+frame_fault part h access = fault_by part (asks part.idcode h access) (flow_of part h)

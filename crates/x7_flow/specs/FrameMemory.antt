@@ -1,0 +1,42 @@
+-- The memory of a history: zero frames, over which each access puts its frames (UG470, frame data input and multi-frame write registers).
+use Rattle.std.specs.Prelude.{ℕ, ◌&&◌, if◌then◌else◌, List, [], ◌∷◌, length, slice_index_or}
+use Rattle.x7_packets.specs.History.{History}
+use Rattle.x7_part.specs.Part.{PartData, frame_words}
+use Rattle.x7_part.specs.declared.slot.Slot.TheVariants.{End}
+use Rattle.x7_memory.specs.FrameMap.{FrameMap}
+use Rattle.x7_memory.specs.Frames.{zeros}
+use Rattle.x7_memory.specs.Planned.{PlanRow}
+use Rattle.x7_pipeline.specs.Runs.{at_slot, frames_of, put_over, slots_from}
+use Rattle.x7_pipeline.specs.FarAsRead.{has_frame_at}
+use Rattle.x7_pipeline.specs.Copies.{copied, is_mfw}
+use Rattle.x7_pipeline.specs.Faults.{completes}
+use Rattle.x7_flow.specs.declared.asked.Asked.{Asked}
+use Rattle.x7_flow.specs.declared.asked.Asked.TheVariants.{Load, Order, Word, Copies, Reads, Other}
+use Rattle.x7_flow.specs.Flow.{Flow, asks, flow_of}
+
+-- the newest of frames at its slot
+abbrev pub newest_put : PartData → ℕ → List (List ℕ) → List PlanRow
+newest_put part base [] = []
+newest_put part base (frame ∷ older) = at_slot (slice_index_or (slots_from part base) (length older) End) frame []
+
+-- the pairs by which the landed frames of a run grow at one word more: where it completes a frame, that of the frame before it
+unfoldable pub landed_more : PartData → ℕ → List ℕ → List PlanRow
+landed_more part base run = if completes part run then newest_put part base (frames_of (frame_words part) run) else []
+
+-- the pair of a copy, under MFW and at an address
+abbrev pub copy_pairs : PartData → Flow → List PlanRow
+copy_pairs part f = if is_mfw f.command && has_frame_at part f.base then copied f.base f.source else []
+
+-- what the memory gets by what is asked
+abbrev pub puts : PartData → Asked → Flow → List PlanRow
+puts part (Load w) f = []
+puts part (Order c) f = []
+puts part (Word w) f = landed_more part f.base f.run
+puts part Copies f = copy_pairs part f
+puts part (Reads count) f = []
+puts part Other f = []
+
+-- the memory of a history
+unfoldable pub memory_of : PartData → History → FrameMap
+memory_of part [] = zeros part
+memory_of part (e ∷ h) = put_over (puts part (asks part.idcode h e.access) (flow_of part h)) (memory_of part h)

@@ -1,0 +1,53 @@
+-- The flow of a history in other words: each of its values by a recursion of its own.
+use Rattle.std.specs.Prelude.{ℕ, ◌+◌, ◌==◌, ◌&&◌, if◌then◌else◌, List, [], ◌∷◌, Option, None}
+use Rattle.x7_packets.specs.History.{Access, Write, Read, Bad, History, command_held, writes}
+use Rattle.x7_part.specs.Part.{PartData, frame_words}
+use Rattle.x7_regs.specs.declared.command.Command.TheVariants as command
+use Rattle.x7_regs.specs.declared.register.Reg.TheVariants as reg
+use Rattle.x7_regs.specs.Command.{code_of}
+use Rattle.x7_regs.specs.Register.{number_of}
+use Rattle.x7_pipeline.specs.Runs.{frames_of}
+use Rattle.x7_pipeline.specs.FarAsRead.{has_frame_at, loaded_base}
+use Rattle.x7_pipeline.specs.Copies.{newest_of}
+use Rattle.x7_flow.specs.FrameAccess.{reads_frame_data, writes_frame_data}
+use Rattle.x7_flow.specs.Stretches.{is_boundary}
+use Rattle.x7_flow.specs.Flow.{base_of}
+
+-- the word of a write, and the count of a read
+abbrev pub with_word : Access → List ℕ → List ℕ
+with_word (Write register w) run = w ∷ run
+with_word (Read register count) run = run
+with_word (Bad w) run = run
+
+abbrev pub count_asked : Access → ℕ
+count_asked (Write register w) = 0
+count_asked (Read register count) = count
+count_asked (Bad w) = 0
+
+-- the words of frame data that were written in the last stretch
+unfoldable pub words_written : ℕ → History → List ℕ
+words_written idcode [] = []
+words_written idcode (e ∷ h) =
+    if is_boundary e.access then [] else
+    if writes_frame_data idcode h e.access then with_word e.access (words_written idcode h) else words_written idcode h
+
+-- where the last stretch began: at the address of a FAR load, or at FAR as read before a command
+abbrev pub base_after : PartData → Access → ℕ → ℕ → ℕ
+base_after part (Write register w) far old = if register == number_of reg.Cmd then far else if register == number_of reg.Far then loaded_base part w else old
+base_after part (Read register count) far old = old
+base_after part (Bad w) far old = old
+
+-- the sum of the counts of the last stretch's reads of frame data
+unfoldable pub words_given : PartData → History → ℕ
+words_given part [] = 0
+words_given part (e ∷ h) =
+    if is_boundary e.access then 0 else
+    if reads_frame_data h e.access && has_frame_at part (base_of part h) then words_given part h + count_asked e.access else words_given part h
+
+-- under MFW the newest whole frame of the run that the latest write to CMD ended, if the command was WCFG before it
+unfoldable pub frame_taken : PartData → History → Option (List ℕ)
+frame_taken part [] = None
+frame_taken part (e ∷ h) =
+    if writes (number_of reg.Cmd) e.access then
+    (if command_held (e ∷ h) == code_of command.Mfw && command_held h == code_of command.Wcfg then newest_of (frames_of (frame_words part) (words_written part.idcode h)) else None)
+    else frame_taken part h

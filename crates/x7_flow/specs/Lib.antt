@@ -1,0 +1,14 @@
+pub mod Controls
+pub mod Settings
+pub mod FrameAccess
+pub mod Flow
+pub mod FrameMemory
+pub mod Sound
+pub mod NeedsAddress
+pub mod Later
+pub mod Stretches
+pub mod InWords
+pub mod Standing
+pub mod Words
+pub mod Alike
+pub mod Quiet

@@ -1,0 +1,59 @@
+-- What decides whether an access concerns frames: whether the device is matched, MASK, CTL0 and CMD (UG470, configuration registers).
+use Rattle.std.specs.Prelude.{◌≡◌, ℕ, ◌%◌, ◌^◌, ◌==◌, ◌||◌, ◌&&◌, not, Bool, if◌then◌else◌, [], ◌∷◌}
+use Rattle.x7_packets.specs.History.{Access, Write, Read, Bad, History, command_held, written}
+use Rattle.x7_regs.specs.declared.command.Command.TheVariants as command
+use Rattle.x7_regs.specs.declared.register.Reg.TheVariants as reg
+use Rattle.x7_regs.specs.Command.{code_of}
+use Rattle.x7_regs.specs.Register.{number_of}
+use Rattle.x7_flow.specs.declared.settings.FrameSettings.{FrameSettings}
+use Rattle.x7_flow.specs.Controls.{ctl0_held, is_matched, mask_held, masked_word, names_part}
+use Rattle.x7_flow.specs.Controls.{forbids_reading, forbids_writing}
+
+-- a matched device or not, the words of MASK and CTL0, and the code of the command that CMD holds
+pub record Settings : Type 0 where
+  pub matched : Bool
+  pub mask : ℕ
+  pub ctl0 : ℕ
+  pub held : ℕ
+
+-- those of a history
+abbrev pub settings_of : ℕ → History → Settings
+settings_of idcode h = record { matched = is_matched idcode h; mask = mask_held h; ctl0 = ctl0_held h; held = command_held h }
+
+-- the three values that a device stores of them are those of a history
+pub record AreSettingsAfter (idcode : ℕ) (s : FrameSettings) (h : History) : Type 0 where
+  pub matched_is : is_matched idcode h ≡ s.matched
+  pub ctl0_is : ctl0_held h ≡ s.ctl0
+  pub held_is : command_held h ≡ s.held
+
+-- the command that CMD holds after an access
+abbrev pub held_after : Access → ℕ → ℕ
+held_after (Write register w) old = if register == number_of reg.Cmd then w % 2 ^ 5 else old
+held_after (Read register count) old = old
+held_after (Bad w) old = old
+
+-- those after one access more
+abbrev pub settings_after : ℕ → Access → Settings → Settings
+settings_after idcode access s = record {
+  matched = names_part idcode access || s.matched;
+  mask = written (number_of reg.Mask) access s.mask;
+  ctl0 = masked_word (number_of reg.Ctl0) s.mask access s.ctl0;
+  held = held_after access s.held;
+}
+
+-- those after a history that goes on from these
+unfoldable pub settings_from : ℕ → Settings → History → Settings
+settings_from idcode s [] = s
+settings_from idcode s (e ∷ h) = settings_after idcode e.access (settings_from idcode s h)
+
+-- words of FDRI go to the memory
+abbrev pub takes_frames : Settings → Bool
+takes_frames s = s.matched && (s.held == code_of command.Wcfg && not (forbids_writing s.ctl0))
+
+-- words of MFWR ask for copies
+abbrev pub takes_copies : Settings → Bool
+takes_copies s = s.matched && not (forbids_writing s.ctl0)
+
+-- reads of FDRO give words of the memory
+abbrev pub gives_frames : Settings → Bool
+gives_frames s = s.held == code_of command.Rcfg && not (forbids_reading s.ctl0)

@@ -1,0 +1,38 @@
+-- The memory of a history by its stretches. A stretch is what follows a write to CMD or FAR (this project's choice of words).
+use Rattle.std.specs.Prelude.{◌||◌, Bool, if◌then◌else◌, List, [], ◌∷◌, ◌++◌}
+use Rattle.x7_packets.specs.History.{Access, History, writes}
+use Rattle.x7_part.specs.Part.{PartData}
+use Rattle.x7_memory.specs.FrameMap.{FrameMap}
+use Rattle.x7_memory.specs.Frames.{zeros}
+use Rattle.x7_memory.specs.Planned.{PlanRow}
+use Rattle.x7_regs.specs.declared.register.Reg.TheVariants as reg
+use Rattle.x7_regs.specs.Register.{number_of}
+use Rattle.x7_pipeline.specs.Runs.{landed, put_over}
+use Rattle.x7_flow.specs.FrameAccess.{copies_frame}
+use Rattle.x7_flow.specs.Flow.{base_of, flow_of, run_of}
+use Rattle.x7_flow.specs.FrameMemory.{copy_pairs}
+
+-- the access begins a stretch
+abbrev pub is_boundary : Access → Bool
+is_boundary access = writes (number_of reg.Cmd) access || writes (number_of reg.Far) access
+
+-- the histories at whose end a stretch ended, the newest first
+unfoldable pub ends_of : History → List History
+ends_of [] = []
+ends_of (e ∷ h) = if is_boundary e.access then h ∷ ends_of h else ends_of h
+
+-- the pairs of the copies of the last stretch
+unfoldable pub copies_of : PartData → History → List PlanRow
+copies_of part [] = []
+copies_of part (e ∷ h) =
+    if is_boundary e.access then [] else
+    if copies_frame part.idcode h e.access then copy_pairs part (flow_of part h) ++ copies_of part h else copies_of part h
+
+-- the pairs of the last stretch: its landed frames and its copies
+abbrev pub stretch_pairs : PartData → History → List PlanRow
+stretch_pairs part h = landed part (base_of part h) (run_of part h) ++ copies_of part h
+
+-- the zero map overridden by the pairs of the stretches that these histories end with, the newest first
+unfoldable pub overridden : PartData → List History → FrameMap
+overridden part [] = zeros part
+overridden part (h ∷ older) = put_over (stretch_pairs part h) (overridden part older)

@@ -1,0 +1,130 @@
+//! The frames of a device: its pipeline and its memory, which stand for a history.
+ghost use Rattle.std.specs.Prelude.{◌≡◌, ◌+◌, ◌%◌, ◌∷◌, [], ℕ, suc, true, length, IfOk};
+ghost use Rattle.x7_words.specs.Word.{words_of_bytes};
+ghost use Rattle.x7_part.specs.Part.{PartData};
+ghost use Rattle.x7_packets.specs.History.{History, Read, Write, entry};
+ghost use Rattle.x7_regs.specs.Register.{number_of};
+ghost use Rattle.x7_flow.specs.FrameAccess.{reads_frame_data};
+ghost use Rattle.x7_flow.specs.Settings.{AreSettingsAfter, settings_of, takes_frames};
+ghost use Rattle.x7_flow.specs.Flow.{far_in, flow_of, frame_fault};
+ghost use Rattle.x7_flow.specs.Standing.{AfterAccess, AfterRead, FramesFit, FramesStandFor, less, words_due};
+ghost use Rattle.x7_flow.specs.Words.{WordsTaken};
+
+use crate::asking::asked_write;
+use crate::settings::FrameSettings;
+use crate::taking::{next_word, pass_words, refuses_read, take, take_words};
+use std::alloc::Global;
+use std::marker::Model;
+use x7_memory::Memory;
+use x7_part::Part;
+use x7_pipeline::{Pipeline, RunFault};
+use x7_regs::Reg;
+use x7_words::NoMemory;
+
+/// A pipeline and a memory of one part. They stand for a history of accesses.
+#[derive(Drop)]
+pub struct Frames {
+    pipeline: Pipeline,
+    memory: Memory,
+}
+
+impl Model for Frames {
+    ghost use Rattle.x7_flow.specs.Standing.{FramesState};
+
+    ghost Value = { FramesState };
+
+    ghost view = { λ f. record { pipeline = f.pipeline; memory = f.memory } };
+}
+
+impl Frames {
+    /// Those of a device after a reset: zero frames. It takes room for all frames of the part, and no other call takes memory.
+    pub fn new(alloc: Global, part: &Part) -> Result<Frames, NoMemory>
+        ensures stands { IfOk result (λ frames. FramesStandFor part.now frames [] 0) }
+        ensures part { IfOk result (FramesFit part.now) }
+    {
+        let pipeline = Pipeline::new(alloc, part)?;
+        let memory = Memory::new(alloc, part)?;
+        Ok(Frames { pipeline, memory })
+    }
+
+    /// Makes them those after a reset again.
+    pub fn reset(&mut self)
+        ensures stands { (part : PartData) → FramesFit part self.old → FramesStandFor part self.new [] 0 }
+        ensures part { (part : PartData) → FramesFit part self.old → FramesFit part self.new }
+    {
+        self.pipeline.reset();
+        self.memory.clear();
+    }
+
+    /// The memory.
+    pub fn memory(&self) -> &Memory
+        ensures { result.now ≡ self.now.memory }
+    {
+        &self.memory
+    }
+
+    /// Takes a word written to a register, and says why it can't. A refused word changes nothing.
+    pub fn write(
+        &mut self,
+        settings: FrameSettings,
+        reg: Reg,
+        word: u32,
+        part: &Part,
+    ) -> Option<RunFault>
+        requires part { FramesFit part.now self.old }
+        ensures stands { (h : History) (place : ℕ) → AreSettingsAfter part.now.idcode settings h → FramesStandFor part.now self.old h 0 →
+            AfterAccess part.now self.new.pipeline self.new.memory h (entry (Write (number_of reg) word) place) result }
+        ensures fault { (h : History) → AreSettingsAfter part.now.idcode settings h → FramesStandFor part.now self.old h 0 → result ≡ frame_fault part.now h (Write (number_of reg) word) }
+        ensures part { FramesFit part.now self.new }
+    {
+        let asked = asked_write(settings, reg, word);
+        take(asked, part, &mut self.pipeline, &mut self.memory)
+    }
+
+    /// Takes words of frame data, four bytes each, up to the first that is refused. It gives the number of words looked at,
+    /// a refused one included, and the fault.
+    pub fn write_words(&mut self, bytes: &[u8], part: &Part) -> (usize, Option<RunFault>)
+        requires whole { length bytes.now % 4 ≡ 0 }
+        requires part { FramesFit part.now self.old }
+        ensures taken { (n : ℕ) (h : History) → takes_frames (settings_of part.now.idcode h) ≡ true → FramesStandFor part.now self.old h 0 →
+            WordsTaken part.now self.new.pipeline self.new.memory n h (words_of_bytes bytes.now) result.0 result.1 }
+        ensures part { FramesFit part.now self.new }
+    {
+        take_words(bytes, part, &mut self.pipeline, &mut self.memory)
+    }
+
+    /// A read of so many words of frame data begins: from now on they are due, and `next` gives them. Or it is refused, and this
+    /// says why.
+    pub fn begin_read(&self, count: u32, part: &Part) -> Option<RunFault>
+        ensures { (h : History) (register place : ℕ) → reads_frame_data h (Read register count) ≡ true → FramesStandFor part.now self.now h 0 →
+            AfterRead part.now self.now h register count place result }
+    {
+        refuses_read(count, part, &self.pipeline)
+    }
+
+    /// The next of the words of frame data that are due.
+    pub fn next(&mut self, part: &Part) -> u32
+        requires part { FramesFit part.now self.old }
+        ensures stands { (h : History) (due : ℕ) → FramesStandFor part.now self.old h (due + 1) → FramesStandFor part.now self.new h due }
+        ensures word { (h : History) (due : ℕ) → FramesStandFor part.now self.old h (due + 1) → words_due part.now h (suc due) ≡ result ∷ words_due part.now h due }
+        ensures part { FramesFit part.now self.new }
+    {
+        next_word(part, &mut self.pipeline, &self.memory)
+    }
+
+    /// Passes over so many of the words of frame data that are due.
+    pub fn pass(&mut self, count: u32, part: &Part)
+        requires part { FramesFit part.now self.old }
+        ensures stands { (h : History) (due : ℕ) → FramesStandFor part.now self.old h (due + count) → FramesStandFor part.now self.new h due }
+        ensures part { FramesFit part.now self.new }
+    {
+        pass_words(count, part, &mut self.pipeline);
+    }
+
+    /// FAR as read, where so many words of the last read are still due.
+    pub fn far(&self, part: &Part) -> u32
+        ensures { (h : History) (due : ℕ) → FramesStandFor part.now self.now h due → result ≡ far_in part.now (less due (flow_of part.now h)) }
+    {
+        self.pipeline.far(part)
+    }
+}

@@ -1,0 +1,12 @@
+//! What decides whether an access concerns frames.
+
+/// What decides what an access asks of frames (UG470, configuration registers).
+#[derive(Clone, Copy, Debug, Drop, PartialEq, Eq)]
+pub struct FrameSettings {
+    /// Whether an IDCODE that was written is the part's.
+    pub matched: bool,
+    /// The word of CTL0.
+    pub ctl0: u32,
+    /// The command that CMD holds, five bits.
+    pub held: u8,
+}

@@ -1,0 +1,116 @@
+//! A pipeline and a memory do what an access asks.
+ghost use Rattle.std.specs.Prelude.{◌≡◌, ◌+◌, ◌%◌, ◌∷◌, suc, ℕ, List, true, length, IfNone, OnSome};
+ghost use Rattle.x7_words.specs.Word.{words_of_bytes};
+ghost use Rattle.x7_flow.specs.Settings.{settings_of, takes_frames};
+ghost use Rattle.x7_flow.specs.Words.{WordsTaken};
+ghost use Rattle.x7_packets.specs.History.{History};
+ghost use Rattle.x7_memory.specs.Frames.{AreFramesOf};
+ghost use Rattle.x7_pipeline.specs.Pipeline.{IsPipelineOf};
+ghost use Rattle.x7_flow.specs.Flow.{Flow, fault_by};
+ghost use Rattle.x7_flow.specs.Standing.{AreFramesAfter, Did, HasFlow, words_due};
+ghost use Rattle.x7_flow.specs.declared.asked.Asked.{Asked};
+
+use crate::asked::Asked;
+use x7_memory::Memory;
+use x7_part::Part;
+use x7_pipeline::{Pipeline, RunFault};
+
+/// Does what an access asks, where a read passes over its words, and says why it can't.
+pub fn take(
+    asked: Asked,
+    part: &Part,
+    pipeline: &mut Pipeline,
+    memory: &mut Memory,
+) -> Option<RunFault>
+    requires pipeline { IsPipelineOf part.now pipeline.old }
+    requires memory { AreFramesOf part.now memory.old }
+    ensures did { IfNone result (Did part.now asked pipeline.old pipeline.new memory.old memory.new) }
+    ensures fault { (f : Flow) → HasFlow part.now pipeline.old f → result ≡ fault_by part.now asked f }
+
+    // Whatever the answer.
+    ensures pipeline { IsPipelineOf part.now pipeline.new }
+    ensures memory { AreFramesOf part.now memory.new }
+
+    // After a fault.
+    ensures refused { OnSome result (pipeline.new ≡ pipeline.old) }
+    ensures unchanged { OnSome result (memory.new ≡ memory.old) }
+{
+    match asked {
+        Asked::Load(word) => {
+            pipeline.load(word);
+            None
+        }
+        Asked::Order(command) => {
+            pipeline.command(command, part);
+            None
+        }
+        Asked::Word(word) => match pipeline.write(word, part, memory) {
+            Ok(()) => None,
+            Err(fault) => Some(fault),
+        },
+        Asked::Copies => match pipeline.copy(part, memory) {
+            Ok(()) => None,
+            Err(fault) => Some(fault),
+        },
+        Asked::Reads(count) => match pipeline.drop_words(count, part) {
+            Ok(()) => None,
+            Err(fault) => Some(fault),
+        },
+        Asked::Other => None,
+    }
+}
+
+/// Whether a read of frame data is refused, before a word of it is given.
+pub fn refuses_read(count: u32, part: &Part, pipeline: &Pipeline) -> Option<RunFault>
+    ensures { (f : Flow) → HasFlow part.now pipeline.now f → result ≡ fault_by part.now (Asked.Reads count) f }
+{
+    if count == 0 {
+        return None;
+    }
+    pipeline.fault_of_read(part)
+}
+
+/// The next of the words of frame data that are due.
+pub fn next_word(part: &Part, pipeline: &mut Pipeline, memory: &Memory) -> u32
+    requires pipeline { IsPipelineOf part.now pipeline.old }
+    requires memory { AreFramesOf part.now memory.now }
+    ensures stands { (h : History) (due : ℕ) → AreFramesAfter part.now pipeline.old memory.now h (due + 1) → AreFramesAfter part.now pipeline.new memory.now h due }
+    ensures word { (h : History) (due : ℕ) → AreFramesAfter part.now pipeline.old memory.now h (due + 1) → words_due part.now h (suc due) ≡ result ∷ words_due part.now h due }
+    ensures pipeline { IsPipelineOf part.now pipeline.new }
+{
+    match pipeline.read_word(part, memory) {
+        Ok(word) => word,
+        Err(_) => 0,
+    }
+}
+
+/// Takes words of frame data at once, four bytes each, up to the first that is refused. It gives the number of words looked
+/// at, a refused one included, and the fault.
+pub fn take_words(
+    bytes: &[u8],
+    part: &Part,
+    pipeline: &mut Pipeline,
+    memory: &mut Memory,
+) -> (usize, Option<RunFault>)
+    requires whole { length bytes.now % 4 ≡ 0 }
+    requires pipeline { IsPipelineOf part.now pipeline.old }
+    requires memory { AreFramesOf part.now memory.old }
+    ensures taken { (n : ℕ) (h : History) → takes_frames (settings_of part.now.idcode h) ≡ true → AreFramesAfter part.now pipeline.old memory.old h 0 →
+        WordsTaken part.now pipeline.new memory.new n h (words_of_bytes bytes.now) result.0 result.1 }
+    ensures pipeline { IsPipelineOf part.now pipeline.new }
+    ensures memory { AreFramesOf part.now memory.new }
+{
+    pipeline.write_bytes(bytes, part, memory)
+}
+
+/// Passes over so many of the words of frame data that are due.
+pub fn pass_words(count: u32, part: &Part, pipeline: &mut Pipeline)
+    requires pipeline { IsPipelineOf part.now pipeline.old }
+    ensures stands { (frames : List (List ℕ)) (h : History) (due : ℕ) → AreFramesAfter part.now pipeline.old frames h (due + count) → AreFramesAfter part.now pipeline.new frames h due }
+    ensures pipeline { IsPipelineOf part.now pipeline.new }
+{
+    match pipeline.drop_words(count, part) {
+        Ok(()) => (),
+        Err(_) => (),
+    }
+}

@@ -1,0 +1,136 @@
+-- The text of a plan is read back as the plan.
+use Rattle.std.proofs.Common.{◌≡◌, ◌⊎◌, inl, inr, ℕ, ◌+◌, ◌*◌, ◌/◌, ◌%◌, ◌^◌, ◌<◌, Bool, true, false, List, [], ◌∷◌, ◌++◌, length, map, refl, sym, subst, ap, ap₂, ◌∙◌, arith, append_assoc, codes}
+use Rattle.std.specs.Prelude.{All, Result, Ok, Err, Some, MatchResult, if◌then◌else◌, ◌==◌}
+use Rattle.std.specs.List.{flat_map, AllByRecursion}
+use Rattle.std.proofs.lemmas.Grind.{common_steps}
+use Rattle.std.proofs.lemmas.List.Elements.{All-head, All-tail}
+use Rattle.std.proofs.lemmas.List.Sorted.{IsPermutation-refl}
+use Rattle.x7_words.specs.Word.{AreBytes, AreWords, bytes_of_word, word_of_bytes, words_of_bytes}
+use Rattle.x7_text.specs.Digits.{hex_byte, hex_digit, hex_word}
+use Rattle.x7_text.specs.EitherCase.{pairs}
+use Rattle.x7_text.specs.Lines.{has_no_end, split}
+use Rattle.x7_text.proofs.CaseLemmas.{pairs-back}
+use Rattle.x7_text.proofs.SplitLemmas.{split-ended}
+use Rattle.x7_text.proofs.ValueLemmas.{word-digits, word-bytes}
+use Rattle.x7_part.specs.Part.{PartData, frame_words}
+use Rattle.x7_memory.specs.Planned.{PlanRow, PlanData, IsPlanRow, AreApart, AreInOrder}
+use Rattle.x7_frames.specs.FramesText.{frame_head, frame_line, plan_text, AreLines, no_line, no_frame, frame, FitsPart, IsFrameLine, IsPlanOf, Plans}
+use Rattle.x7_frames.specs.declared.fault.FramesFault.{FramesFault}
+use Rattle.x7_frames.specs.declared.fault.FramesFault.TheVariants as fault
+use Rattle.x7_frames.proofs.OneLemmas.{no-fault, one-plan}
+
+-- ---- texts that hold no line end
+
+free-by : (b : Bool) (xs ys : List ℕ) → (if b then false else has_no_end xs) ≡ true → (has_no_end xs ≡ true → has_no_end (xs ++ ys) ≡ true) → (if b then false else has_no_end (xs ++ ys)) ≡ true
+free-by true xs ys h f = absurd cc
+free-by false xs ys h f = f h
+
+free-both : (xs ys : List ℕ) → has_no_end xs ≡ true → has_no_end ys ≡ true → has_no_end (xs ++ ys) ≡ true
+free-both [] ys h k = k
+free-both (x ∷ xs) ys h k = free-by (x == 10) xs ys h (λ g. free-both xs ys g k)
+
+free-more : (x : ℕ) (xs : List ℕ) → (x == 10) ≡ false → has_no_end xs ≡ true → has_no_end (x ∷ xs) ≡ true
+free-more x xs e h = rw e h
+
+digit-free : (n : ℕ) → (hex_digit n == 10) ≡ false
+digit-free n = grind (arith, common_steps)
+
+digits-free : (ns : List ℕ) → has_no_end (map hex_digit ns) ≡ true
+digits-free [] = refl
+digits-free (n ∷ ns) = free-more (hex_digit n) (map hex_digit ns) (digit-free n) (digits-free ns)
+
+word-free : (w : ℕ) → has_no_end (hex_word w) ≡ true
+word-free w = digits-free (w / 2 ^ 28 % 16 ∷ w / 2 ^ 24 % 16 ∷ w / 2 ^ 20 % 16 ∷ w / 2 ^ 16 % 16 ∷ w / 2 ^ 12 % 16 ∷ w / 2 ^ 8 % 16 ∷ w / 2 ^ 4 % 16 ∷ w % 16 ∷ [])
+
+words-free : (ws : List ℕ) → has_no_end (flat_map hex_word ws) ≡ true
+words-free [] = refl
+words-free (w ∷ ws) = free-both (hex_word w) (flat_map hex_word ws) (word-free w) (words-free ws)
+
+head-free : (far : ℕ) → has_no_end (frame_head far) ≡ true
+head-free far = free-both (codes "frame ") (hex_word far ++ 32 ∷ []) refl (free-both (hex_word far) (32 ∷ []) (word-free far) refl)
+
+-- ---- the digits of words
+
+hexes : (ws : List ℕ) → AreWords ws → flat_map hex_word ws ≡ flat_map hex_byte (flat_map bytes_of_word ws)
+hexes [] h = refl
+hexes (w ∷ ws) h = ap₂ (λ (x t : List ℕ). x ++ t) (word-digits w h.0) (hexes ws h.1)
+
+are-bytes : (ws : List ℕ) → AreBytes (flat_map bytes_of_word ws)
+are-bytes [] = tt
+are-bytes (w ∷ ws) = let b = word-bytes w in (b.0, (b.1.0, (b.1.1.0, (b.1.1.1.0, are-bytes ws))))
+
+whole : (w : ℕ) → w < 2 ^ 32 → word_of_bytes (bytes_of_word w) ≡ w
+whole w h = omega arith
+
+words-back : (ws : List ℕ) → AreWords ws → words_of_bytes (flat_map bytes_of_word ws) ≡ ws
+words-back [] h = refl
+words-back (w ∷ ws) h = ap₂ (λ (x : ℕ) (t : List ℕ). x ∷ t) (whole w h.0) (words-back ws h.1)
+
+bytes-long : (ws : List ℕ) → length (flat_map bytes_of_word ws) ≡ 4 * length ws
+bytes-long [] = refl
+bytes-long (w ∷ ws) = omega (arith, bytes-long ws)
+
+-- ---- lines
+
+-- a line without its end
+bare : PlanRow → List ℕ
+bare row = frame_head row.far ++ flat_map hex_word row.words
+
+bare-free : (row : PlanRow) → has_no_end (bare row) ≡ true
+unfolding bare
+bare-free row = free-both (frame_head row.far) (flat_map hex_word row.words) (head-free row.far) (words-free row.words)
+
+bare-line : (width : ℕ) (row : PlanRow) → IsPlanRow row → length row.words ≡ width → IsFrameLine width (bare row) row
+unfolding bare
+bare-line width row fits long = record {
+  far = fits.far;
+  digits = flat_map hex_word row.words;
+  is = refl;
+  bytes = flat_map bytes_of_word row.words;
+  read = ap pairs (hexes row.words fits.words) ∙ pairs-back (flat_map bytes_of_word row.words) (are-bytes row.words);
+  long = bytes-long row.words ∙ ap (λ (n : ℕ). 4 * n) long;
+  words = sym (words-back row.words fits.words);
+}
+
+all-free : (rows : List PlanRow) → AllByRecursion (λ line. has_no_end line ≡ true) (map bare rows)
+all-free [] = tt
+all-free (r ∷ rows) = (bare-free r, all-free rows)
+
+ended : (rows : List PlanRow) → flat_map frame_line rows ≡ flat_map (λ (line : List ℕ). line ++ 10 ∷ []) (map bare rows)
+unfolding bare
+ended [] = refl
+ended (r ∷ rows) = ap₂ (λ (x y : List ℕ). x ++ y) (sym (append_assoc (frame_head r.far) (flat_map hex_word r.words) (10 ∷ []))) (ended rows)
+
+lines-of : (rows : List PlanRow) → split (flat_map frame_line rows) ≡ map bare rows ++ [] ∷ []
+lines-of rows = ap split (ended rows) ∙ split-ended (map bare rows) (all-free rows)
+
+are-lines : (width : ℕ) (rows : List PlanRow) → All IsPlanRow rows → All (λ r. length r.words ≡ width) rows → AreLines width (map bare rows ++ [] ∷ []) rows
+are-lines width [] each wide = no_frame width [] [] [] refl (no_line width)
+are-lines width (r ∷ rows) each wide =
+    frame width (bare r) (map bare rows ++ [] ∷ []) r rows (bare-line width r (All-head IsPlanRow r rows each) (All-head (λ s. length s.words ≡ width) r rows wide))
+    (are-lines width rows (All-tail IsPlanRow r rows each) (All-tail (λ s. length s.words ≡ width) r rows wide))
+
+in-order-apart : (rows : List PlanRow) → AreInOrder rows → AreApart rows
+in-order-apart rows order i j d lt h e = let low = order i j d lt h in absurd (omega arith)
+
+-- ---- the plan again
+
+pub back : (part : PartData) (plan : PlanData) → FitsPart part plan → Plans part (plan_text plan) plan
+back part plan fits = record {
+  rows = plan.rows;
+  good = record {
+    read = subst (λ t. AreLines (frame_words part) t plan.rows) (sym (lines-of plan.rows)) (are-lines (frame_words part) plan.rows fits.is.each (subst (λ (w : ℕ). All (λ r. length r.words ≡ w) plan.rows) fits.width fits.is.width));
+    addresses = fits.addresses;
+    apart = in-order-apart plan.rows fits.is.order;
+  };
+  same = IsPermutation-refl plan.rows;
+  is = fits.is;
+  width = fits.width;
+}
+
+-- what reading such a text came to
+pub read-back : {P : Type 0} (value : P → PlanData) (part : PartData) (text : List ℕ) (r : Result P FramesFault) → MatchResult r (λ p. Plans part text (value p)) (λ f. (f ≡ fault.NoMemory) ⊎ IsPlanOf part text (Err f))
+    → (plan : PlanData) → FitsPart part plan → text ≡ plan_text plan → MatchResult r (λ p. value p ≡ plan) (λ f. f ≡ fault.NoMemory)
+read-back value part text (Ok p) h plan fits e = one-plan part text (value p) plan h (subst (λ t. Plans part t plan) (sym e) (back part plan fits))
+read-back value part text (Err f) (inl h) plan fits e = h
+read-back value part text (Err f) (inr h) plan fits e = absurd (no-fault part text plan f (subst (λ t. Plans part t plan) (sym e) (back part plan fits)) h)

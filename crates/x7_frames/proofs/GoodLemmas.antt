@@ -1,0 +1,148 @@
+-- Good lines, one more, and the line at fault.
+use Rattle.std.proofs.Common.{◌≡◌, ◌⊎◌, inl, inr, ℕ, zero, suc, ◌+◌, ◌-◌, ◌<◌, ◌≤◌, Bool, true, false, List, [], ◌∷◌, ◌++◌, length, map, get_or, set, refl, sym, subst, ap, ◌∙◌, arith, append_assoc, length-append}
+use Rattle.std.specs.Prelude.{All, Contains, IsPermutation, Result, Ok, Err, ◌↔◌, slice_index, MatchOption, Option, Some, None}
+use Rattle.std.proofs.Common.{Bor}
+use Rattle.std.proofs.lemmas.Bool.{cases_order}
+use Rattle.std.proofs.lemmas.List.{get_or_append_left, get_or_push, get_or-map, length-map, length_push, map_push, get_or-set_same, get_or-set_other, length-set, get_or-replicate, length-replicate}
+use Rattle.std.proofs.lemmas.List.Elements.{All-push, All-nil, Contains-push, Contains-push_cases, Contains-append_left}
+use Rattle.x7_text.specs.Lines.{split}
+use Rattle.x7_part.specs.AddressOrder.{addresses_in, Rises, risen, rise}
+use Rattle.x7_part.specs.Part.{PartData, frame_words}
+use Rattle.x7_memory.specs.Planned.{PlanRow, PlanData, IsPlan, AreApart, planned_addresses}
+use Rattle.x7_frames.specs.FramesText.{means_nothing, AreGood, AreLines, no_line, no_frame, frame, IsFrameLine, IsNoLine, IsForeign, IsRepeated, IsPlanOf, Plans, Reaches}
+use Rattle.x7_frames.specs.Steps.{Goes, HasMarks, IsAdded, IsFaultAt, Takes}
+use Rattle.x7_frames.specs.declared.fault.FramesFault.{FramesFault}
+use Rattle.x7_frames.specs.declared.fault.FramesFault.TheVariants as fault
+
+-- ---- one line more
+
+lines-skip : (width : ℕ) (lines : List (List ℕ)) (rows : List PlanRow) (line : List ℕ) → means_nothing line ≡ true → AreLines width lines rows → AreLines width (lines ++ line ∷ []) rows
+lines-skip width _ _ line e (no_line w) = no_frame width line [] [] e (no_line width)
+lines-skip width _ _ line e (no_frame w t ts rows f more) = no_frame width t (ts ++ line ∷ []) rows f (lines-skip width ts rows line e more)
+lines-skip width _ _ line e (frame w t ts row rows f more) = frame width t (ts ++ line ∷ []) row rows f (lines-skip width ts rows line e more)
+
+lines-frame : (width : ℕ) (lines : List (List ℕ)) (rows : List PlanRow) (line : List ℕ) (last : PlanRow) → IsFrameLine width line last → AreLines width lines rows → AreLines width (lines ++ line ∷ []) (rows ++ last ∷ [])
+lines-frame width _ _ line last e (no_line w) = frame width line [] last [] e (no_line width)
+lines-frame width _ _ line last e (no_frame w t ts rows f more) = no_frame width t (ts ++ line ∷ []) (rows ++ last ∷ []) f (lines-frame width ts rows line last e more)
+lines-frame width _ _ line last e (frame w t ts row rows f more) = frame width t (ts ++ line ∷ []) row (rows ++ last ∷ []) f (lines-frame width ts rows line last e more)
+
+apart-push : (rows : List PlanRow) (row : PlanRow) → AreApart rows → ¬ Contains (planned_addresses rows) row.far → AreApart (rows ++ row ∷ [])
+apart-push rows row apart new i j d lt h e =
+    let long = length_push rows row in
+    elim (cases_order j (length rows)) [
+      | inl last ↦
+          let a : (get_or (rows ++ row ∷ []) i d).far ≡ (get_or rows i d).far = ap (λ r. r.far) (get_or_append_left rows (row ∷ []) d i (omega arith)) in
+          let b : (get_or (rows ++ row ∷ []) j d).far ≡ row.far = ap (λ r. r.far) (get_or_push rows row d j (sym last)) in
+          let count = length-map rows (λ r. r.far) in
+          new (i, (let k : i < length (planned_addresses rows) = omega arith in k), get_or-map (λ r. r.far) rows i d row.far (omega arith) ∙ sym a ∙ e ∙ b)
+      | inr (inl below) ↦
+          let a : (get_or (rows ++ row ∷ []) i d).far ≡ (get_or rows i d).far = ap (λ r. r.far) (get_or_append_left rows (row ∷ []) d i (omega arith)) in
+          let b : (get_or (rows ++ row ∷ []) j d).far ≡ (get_or rows j d).far = ap (λ r. r.far) (get_or_append_left rows (row ∷ []) d j below) in
+          apart i j d lt below (sym a ∙ e ∙ b)
+      | inr (inr above) ↦ absurd (omega arith)
+    ]
+
+good-next : (part : PartData) (lines : List (List ℕ)) (line : List ℕ) (rows new : List PlanRow) → AreGood part lines rows → Takes part line rows new → AreGood part (lines ++ line ∷ []) new
+good-next part lines line rows new good (inl same) =
+    subst (λ r. AreGood part (lines ++ line ∷ []) r) (sym same.1)
+    (record { read = lines-skip (frame_words part) lines rows line same.0 good.read; addresses = good.addresses; apart = good.apart })
+good-next part lines line rows new good (inr a) =
+    subst (λ r. AreGood part (lines ++ line ∷ []) r) (sym a.rows)
+    (record {
+      read = lines-frame (frame_words part) lines rows line a.row a.is good.read;
+      addresses = All-push (λ r. Contains (addresses_in part) r.far) rows a.row good.addresses a.address;
+      apart = apart-push rows a.row good.apart a.apart;
+    })
+
+no-rows-apart : AreApart []
+no-rows-apart i j d lt h e = absurd (omega arith)
+
+pub starts : (part : PartData) (text : List ℕ) (rows : List PlanRow) → rows ≡ [] → Goes part text text rows 0
+starts part text rows e = record {
+  lines = [];
+  texts = refl;
+  good = subst (λ r. AreGood part [] r) (sym e) (record { read = no_line (frame_words part); addresses = All-nil (λ r. Contains (addresses_in part) r.far); apart = no-rows-apart });
+  counted = refl;
+}
+
+abbrev pub FirstLine : List ℕ → List ℕ → Option (Bor (List ℕ)) → Type 0
+FirstLine text t o = MatchOption o (split text ≡ t ∷ []) (λ more. (split text ≡ t ∷ split more.now) × (length more.now < length text))
+
+module _ (part : PartData) (text rest line : List ℕ) (rows : List PlanRow) (n : ℕ) (o : Option (Bor (List ℕ))) (first : FirstLine rest line o) (goes : Goes part text rest rows n) where
+  left : (ls : List (List ℕ)) × (split rest ≡ line ∷ ls)
+  left = by o first
+    where
+      by : (o : Option (Bor (List ℕ))) → FirstLine rest line o → (ls : List (List ℕ)) × (split rest ≡ line ∷ ls)
+      by None e = ([], e)
+      by (Some x) e = (split x.now, e.0)
+
+  reaches : Reaches part text (n + 1) line rows
+  reaches = record { before = goes.lines; after = left.0; texts = goes.texts ∙ ap (λ t. goes.lines ++ t) left.1; good = goes.good; count = ap (λ (k : ℕ). k + 1) goes.counted }
+
+  pub fault-there : (f : FramesFault) → IsFaultAt part rows (n + 1) line f → IsPlanOf part text (Err f)
+  fault-there (fault.Line m) e = (line, rows, subst (λ k. Reaches part text k line rows) (sym e.0) reaches, e.1)
+  fault-there (fault.Address m) e = (line, rows, subst (λ k. Reaches part text k line rows) (sym e.0) reaches, e.1)
+  fault-there (fault.Twice m) e = (line, rows, subst (λ k. Reaches part text k line rows) (sym e.0) reaches, e.1)
+  fault-there fault.NoMemory e = e
+
+  pub next : (new : List PlanRow) (x : Bor (List ℕ)) → o ≡ Some x → Takes part line rows new → Goes part text x.now new (n + 1)
+  next new x e takes =
+      let s : (split rest ≡ line ∷ split x.now) × (length x.now < length rest) = subst (λ p. FirstLine rest line p) e first in
+      record {
+        lines = goes.lines ++ line ∷ [];
+        texts = goes.texts ∙ ap (λ t. goes.lines ++ t) s.0 ∙ sym (append_assoc goes.lines (line ∷ []) (split x.now));
+        good = good-next part goes.lines line rows new goes.good takes;
+        counted = ap (λ (k : ℕ). k + 1) goes.counted ∙ sym (length_push goes.lines line);
+      }
+
+  pub shorter : (x : Bor (List ℕ)) → o ≡ Some x → length x.now < length rest
+  shorter x e = let s : (split rest ≡ line ∷ split x.now) × (length x.now < length rest) = subst (λ p. FirstLine rest line p) e first in s.1
+
+  pub all-good : (new : List PlanRow) → o ≡ None → Takes part line rows new → AreGood part (split text) new
+  all-good new e takes =
+      let s : split rest ≡ line ∷ [] = subst (λ p. FirstLine rest line p) e first in
+      subst (λ t. AreGood part t new) (sym (goes.texts ∙ ap (λ t. goes.lines ++ t) s)) (good-next part goes.lines line rows new goes.good takes)
+
+-- ---- marks
+
+rises-at : (least : ℕ) (xs : List ℕ) (i d : ℕ) → Rises least xs → i < length xs → least ≤ get_or xs i d
+rises-at least _ i d (risen l) h = absurd (omega arith)
+rises-at least _ zero d (rise l x xs le more) h = le
+rises-at least _ (suc i) d (rise l x xs le more) h = let k = rises-at (x + 1) xs i d more (omega arith) in omega arith
+
+rises-apart : (least : ℕ) (xs : List ℕ) (i j d : ℕ) → Rises least xs → i < length xs → j < length xs → get_or xs i d ≡ get_or xs j d → i ≡ j
+rises-apart least _ i j d (risen l) h k e = absurd (omega arith)
+rises-apart least _ zero zero d (rise l x xs le more) h k e = refl
+rises-apart least _ zero (suc j) d (rise l x xs le more) h k e = let low = rises-at (x + 1) xs j d more (omega arith) in absurd (omega arith)
+rises-apart least _ (suc i) zero d (rise l x xs le more) h k e = let low = rises-at (x + 1) xs i d more (omega arith) in absurd (omega arith)
+rises-apart least _ (suc i) (suc j) d (rise l x xs le more) h k e = ap suc (rises-apart (x + 1) xs i j d more (omega arith) (omega arith) e)
+
+pub marks-more : (part : PartData) (rows new : List PlanRow) (marks : List Bool) (r : ℕ) (row : PlanRow) → HasMarks part rows marks
+    → r < length (addresses_in part) → slice_index (addresses_in part) r ≡ row.far → new ≡ rows ++ row ∷ [] → HasMarks part new (set marks r true)
+marks-more part rows new marks r row has inside here e =
+    subst (λ n. HasMarks part n (set marks r true)) (sym e) (record { order = has.order; long = length-set marks r true ∙ has.long; at = at })
+  where
+    more : planned_addresses (rows ++ row ∷ []) ≡ planned_addresses rows ++ row.far ∷ []
+    more = map_push (λ s. s.far) rows row
+
+    at : (q : ℕ) → q < length (set marks r true) → (get_or (set marks r true) q false ≡ true) ↔ Contains (planned_addresses (rows ++ row ∷ [])) (slice_index (addresses_in part) q)
+    at q h =
+        let long = length-set marks r true in
+        let all = has.long in
+        elim (cases_order q r) [
+          | inl same ↦ (
+            λ _. subst (λ a. Contains a (slice_index (addresses_in part) q)) (sym more)
+                (subst (λ a. Contains (planned_addresses rows ++ row.far ∷ []) a) (sym here ∙ ap (λ (k : ℕ). slice_index (addresses_in part) k) (sym same)) (Contains-push (planned_addresses rows) row.far)),
+            λ _. ap (λ (k : ℕ). get_or (set marks r true) k false) same ∙ get_or-set_same marks r true false (omega arith),
+          )
+          | inr other ↦
+              let ne : q ≡ r → ⊥ = λ s. elim other [ inl l ↦ absurd (omega arith) | inr l ↦ absurd (omega arith) ] in
+              let old : get_or (set marks r true) q false ≡ get_or marks q false = get_or-set_other marks r q true false ne in
+              let iff = has.at q (omega arith) in (
+                λ y. subst (λ a. Contains a (slice_index (addresses_in part) q)) (sym more) (Contains-append_left (planned_addresses rows) (row.far ∷ []) (slice_index (addresses_in part) q) (iff.0 (sym old ∙ y))),
+                λ c. elim (Contains-push_cases (planned_addresses rows) row.far (slice_index (addresses_in part) q) (subst (λ a. Contains a (slice_index (addresses_in part) q)) more c)) [
+                  | inl there ↦ old ∙ iff.1 there
+                  | inr last ↦ absurd (ne (rises-apart 0 (addresses_in part) q r 0 has.order (omega arith) inside (sym last ∙ sym here)))
+                ],
+              )
+        ]

@@ -1,0 +1,6 @@
+pub mod DigitLemmas
+pub mod LineLemmas
+pub mod GoodLemmas
+pub mod TextLemmas
+pub mod OneLemmas
+pub mod BackLemmas

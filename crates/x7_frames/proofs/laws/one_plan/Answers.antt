@@ -1,0 +1,8 @@
+use Rattle.x7_frames.proofs.OneLemmas.{no-fault, one-plan}
+use Rattle.x7_frames.proofs.laws.one_plan.Goals as goal
+
+pub returns-clause-plan : goal.returns-clause-plan
+returns-clause-plan c = one-plan
+
+pub returns-clause-fault : goal.returns-clause-fault
+returns-clause-fault c = no-fault

@@ -1,0 +1,99 @@
+-- Frame texts: a line for each planned frame (this project's choice).
+use Rattle.std.specs.Prelude.{◌≡◌, ℕ, ◌+◌, ◌*◌, ◌^◌, ◌<◌, ◌==◌, Bool, true, false, List, [], ◌∷◌, ◌++◌, length, codes, All, Contains, IsPermutation, Some, Result, Ok, Err}
+use Rattle.std.specs.List.{flat_map}
+use Rattle.x7_words.specs.Word.{words_of_bytes}
+use Rattle.x7_text.specs.Digits.{hex_word}
+use Rattle.x7_text.specs.EitherCase.{pairs}
+use Rattle.x7_text.specs.Lines.{split}
+use Rattle.x7_part.specs.AddressOrder.{addresses_in}
+use Rattle.x7_part.specs.Part.{PartData, frame_words}
+use Rattle.x7_memory.specs.Planned.{PlanRow, PlanData, IsPlan, AreApart, planned_addresses}
+use Rattle.x7_frames.specs.declared.fault.FramesFault.{FramesFault}
+use Rattle.x7_frames.specs.declared.fault.FramesFault.TheVariants as fault
+
+-- a line without meaning: an empty one, and a comment, which `#` begins
+abbrev pub means_nothing : List ℕ → Bool
+means_nothing [] = true
+means_nothing (c ∷ cs) = c == 35
+
+-- what a frame's line begins with: `frame`, and the address in eight upper-case digits
+abbrev pub frame_head : ℕ → List ℕ
+frame_head far = codes "frame " ++ (hex_word far ++ 32 ∷ [])
+
+-- the line of a frame: behind its head the bytes of its words, the highest first, in digits of either case
+pub record IsFrameLine (width : ℕ) (line : List ℕ) (row : PlanRow) : Type 0 where
+  pub far : row.far < 2 ^ 32
+  pub digits : List ℕ
+  pub is : line ≡ frame_head row.far ++ digits
+  pub bytes : List ℕ
+  pub read : pairs digits ≡ Some bytes
+  pub long : length bytes ≡ 4 * width
+  pub words : row.words ≡ words_of_bytes bytes
+
+-- lines that mean nothing and, in order, those of the rows
+pub data AreLines : ℕ → List (List ℕ) → List PlanRow → Type 0 where
+  no_line : (width : ℕ) → AreLines width [] []
+  no_frame : (width : ℕ) (line : List ℕ) (lines : List (List ℕ)) (rows : List PlanRow) → means_nothing line ≡ true →
+      AreLines width lines rows → AreLines width (line ∷ lines) rows
+  frame : (width : ℕ) (line : List ℕ) (lines : List (List ℕ)) (row : PlanRow) (rows : List PlanRow) → IsFrameLine width line row →
+      AreLines width lines rows → AreLines width (line ∷ lines) (row ∷ rows)
+
+-- good lines: their frames are the part's, and no two have one address
+pub record AreGood (part : PartData) (lines : List (List ℕ)) (rows : List PlanRow) : Type 0 where
+  pub read : AreLines (frame_words part) lines rows
+  pub addresses : All (λ row. Contains (addresses_in part) row.far) rows
+  pub apart : AreApart rows
+
+-- all lines are good, and the plan has their frames, in number order of the addresses
+pub record Plans (part : PartData) (text : List ℕ) (plan : PlanData) : Type 0 where
+  pub rows : List PlanRow
+  pub good : AreGood part (split text) rows
+  pub same : IsPermutation rows plan.rows
+  pub is : IsPlan plan
+  pub width : plan.width ≡ frame_words part
+
+-- line n is this one, and the lines before it are good and have these rows
+pub record Reaches (part : PartData) (text : List ℕ) (n : ℕ) (line : List ℕ) (rows : List PlanRow) : Type 0 where
+  pub before : List (List ℕ)
+  pub after : List (List ℕ)
+  pub texts : split text ≡ before ++ line ∷ after
+  pub good : AreGood part before rows
+  pub count : n ≡ length before + 1
+
+-- a line is at fault behind good lines of these rows: it is no line, it has an address that the part lacks, or one of the rows
+pub record IsNoLine (width : ℕ) (line : List ℕ) : Type 0 where
+  pub has_meaning : means_nothing line ≡ false
+  pub no_frame : (row : PlanRow) → IsFrameLine width line row → ⊥
+
+pub record IsForeign (part : PartData) (line : List ℕ) : Type 0 where
+  pub row : PlanRow
+  pub is : IsFrameLine (frame_words part) line row
+  pub foreign : ¬ Contains (addresses_in part) row.far
+
+pub record IsRepeated (part : PartData) (rows : List PlanRow) (line : List ℕ) : Type 0 where
+  pub row : PlanRow
+  pub is : IsFrameLine (frame_words part) line row
+  pub address : Contains (addresses_in part) row.far
+  pub repeated : Contains (planned_addresses rows) row.far
+
+-- what a text comes to: its plan, or its first line at fault; want of memory is never the text's
+abbrev pub IsPlanOf : PartData → List ℕ → Result PlanData FramesFault → Type 0
+IsPlanOf part text (Ok plan) = Plans part text plan
+IsPlanOf part text (Err (fault.Line n)) = (line : List ℕ) × (rows : List PlanRow) × Reaches part text n line rows × IsNoLine (frame_words part) line
+IsPlanOf part text (Err (fault.Address n)) = (line : List ℕ) × (rows : List PlanRow) × Reaches part text n line rows × IsForeign part line
+IsPlanOf part text (Err (fault.Twice n)) = (line : List ℕ) × (rows : List PlanRow) × Reaches part text n line rows × IsRepeated part rows line
+IsPlanOf part text (Err fault.NoMemory) = ⊥
+
+-- the line of a row, its end too, in upper case
+abbrev pub frame_line : PlanRow → List ℕ
+frame_line row = frame_head row.far ++ (flat_map hex_word row.words ++ 10 ∷ [])
+
+-- the text of a plan, in number order of the addresses
+abbrev pub plan_text : PlanData → List ℕ
+plan_text plan = flat_map frame_line plan.rows
+
+-- a plan for the part: frames of its width, at its addresses
+pub record FitsPart (part : PartData) (plan : PlanData) : Type 0 where
+  pub is : IsPlan plan
+  pub width : plan.width ≡ frame_words part
+  pub addresses : All (λ row. Contains (addresses_in part) row.far) plan.rows

@@ -1,0 +1,2 @@
+pub mod FramesText
+pub mod Steps

@@ -1,0 +1,41 @@
+-- A text that is being read: one line more, and the marks of addresses.
+use Rattle.std.specs.Prelude.{◌≡◌, ◌↔◌, ℕ, ◌<◌, ◌⊎◌, Bool, true, false, List, [], ◌∷◌, ◌++◌, length, slice_index, slice_index_or, Contains}
+use Rattle.x7_text.specs.Lines.{split}
+use Rattle.x7_part.specs.AddressOrder.{addresses_in, Rises}
+use Rattle.x7_part.specs.Part.{PartData, frame_words}
+use Rattle.x7_memory.specs.Planned.{PlanRow, planned_addresses}
+use Rattle.x7_frames.specs.FramesText.{means_nothing, AreGood, IsFrameLine, IsNoLine, IsForeign, IsRepeated}
+use Rattle.x7_frames.specs.declared.fault.FramesFault.{FramesFault}
+use Rattle.x7_frames.specs.declared.fault.FramesFault.TheVariants as fault
+
+-- of addresses that rise, that of rank r is marked exactly where a row has its address
+pub record HasMarks (part : PartData) (rows : List PlanRow) (marks : List Bool) : Type 0 where
+  pub order : Rises 0 (addresses_in part)
+  pub long : length marks ≡ length (addresses_in part)
+  pub at : (r : ℕ) → r < length marks → (slice_index_or marks r false ≡ true) ↔ Contains (planned_addresses rows) (slice_index (addresses_in part) r)
+
+-- a frame's row is behind the others
+pub record IsAdded (part : PartData) (line : List ℕ) (old new : List PlanRow) : Type 0 where
+  pub row : PlanRow
+  pub is : IsFrameLine (frame_words part) line row
+  pub address : Contains (addresses_in part) row.far
+  pub apart : ¬ Contains (planned_addresses old) row.far
+  pub rows : new ≡ old ++ row ∷ []
+
+-- a line that means nothing was taken, or that of a frame
+abbrev pub Takes : PartData → List ℕ → List PlanRow → List PlanRow → Type 0
+Takes part line old new = ((means_nothing line ≡ true) × (new ≡ old)) ⊎ IsAdded part line old new
+
+-- line n behind these rows is at fault
+abbrev pub IsFaultAt : PartData → List PlanRow → ℕ → List ℕ → FramesFault → Type 0
+IsFaultAt part rows n line (fault.Line m) = (m ≡ n) × IsNoLine (frame_words part) line
+IsFaultAt part rows n line (fault.Address m) = (m ≡ n) × IsForeign part line
+IsFaultAt part rows n line (fault.Twice m) = (m ≡ n) × IsRepeated part rows line
+IsFaultAt part rows n line fault.NoMemory = ⊥
+
+-- the first lines of the text are good and have these rows, and this text is left
+pub record Goes (part : PartData) (text rest : List ℕ) (rows : List PlanRow) (count : ℕ) : Type 0 where
+  pub lines : List (List ℕ)
+  pub texts : split text ≡ lines ++ split rest
+  pub good : AreGood part lines rows
+  pub counted : count ≡ length lines

@@ -1,0 +1,17 @@
+//! Laws of frame texts. The functions do nothing: their contracts are the laws.
+ghost use Rattle.std.specs.Prelude.{◌≡◌, ℕ, List, Ok, Err};
+ghost use Rattle.x7_part.specs.Part.{PartData};
+ghost use Rattle.x7_memory.specs.Planned.{PlanData};
+ghost use Rattle.x7_frames.specs.FramesText.{IsPlanOf, FitsPart, plan_text};
+ghost use Rattle.x7_frames.specs.declared.fault.FramesFault.{FramesFault};
+
+/// A text has at most one plan, and one that has a plan has no fault.
+pub fn one_plan()
+    ensures plan { (part : PartData) (text : List ℕ) (p q : PlanData) → IsPlanOf part text (Ok p) → IsPlanOf part text (Ok q) → p ≡ q }
+    ensures fault { (part : PartData) (text : List ℕ) (p : PlanData) (fault : FramesFault) → IsPlanOf part text (Ok p) → IsPlanOf part text (Err fault) → ⊥ }
+{}
+
+/// The text of a plan for the part is that of the plan.
+pub fn plan_text_leads_back()
+    ensures { (part : PartData) (plan : PlanData) → FitsPart part plan → IsPlanOf part (plan_text plan) (Ok plan) }
+{}

@@ -1,0 +1,15 @@
+//! Frame texts: a plan from a text, and the text of a plan.
+#![tactic(auto)]
+
+mod fault;
+mod laws;
+mod line;
+mod reading;
+#[cfg(test)]
+mod tests;
+mod text;
+
+pub use fault::FramesFault;
+pub use laws::{one_plan, plan_text_leads_back};
+pub use reading::plan_of;
+pub use text::plan_text;

@@ -1,0 +1,94 @@
+//! One line.
+ghost use Rattle.std.specs.Prelude.{◌≡◌, ℕ, ◌+◌, ◌*◌, ◌%◌, ◌^◌, ◌<◌, ◌≤◌, List, [], ◌++◌, length, Some, None, MatchBool, MatchOption, vec_len, vec_capacity};
+ghost use Rattle.x7_text.specs.EitherCase.{pairs};
+ghost use Rattle.x7_words.specs.Word.{words_of_bytes};
+ghost use Rattle.x7_memory.specs.Planned.{PlanRow};
+ghost use Rattle.x7_frames.specs.FramesText.{frame_head, means_nothing, IsFrameLine};
+
+use x7_text::word_of_hex;
+use x7_words::{is_same, word_of};
+
+/// The most bytes of a frame.
+const MOST_BYTES: usize = 1020;
+
+/// The byte that begins a comment.
+const COMMENT: u8 = b'#';
+
+/// Whether a line is empty, or a comment.
+pub(crate) fn means_nothing(line: &[u8]) -> bool
+    ensures { result ≡ means_nothing line.now }
+{
+    line.len() == 0 || line[0] == COMMENT
+}
+
+/// What stands on a frame's line: its address, and the digits of its words.
+#[derive(Clone, Copy)]
+struct Parts<'t> {
+    far: u32,
+    digits: &'t [u8],
+}
+
+/// The parts of the line of a frame with so many digits.
+fn parts_of(line: &[u8], digit_count: usize) -> Option<Parts<'_>>
+    ensures { MatchOption result
+        ((far : ℕ) (digits : List ℕ) → far < 2 ^ 32 → length digits ≡ digit_count → line.now ≡ frame_head far ++ digits → ⊥)
+        (λ parts. (line.now ≡ frame_head parts.far ++ parts.digits.now) × (length parts.digits.now ≡ digit_count)) }
+{
+    if line.len() < 15 || line.len() - 15 != digit_count {
+        return None;
+    }
+    if !is_same(&line[..6], b"frame ") || line[14] != b' ' {
+        return None;
+    }
+    let far = word_of_hex(&line[6..14])?;
+    Some(Parts {
+        far,
+        digits: &line[15..],
+    })
+}
+
+/// Reads the bytes of digits of either case. `false`: one of them is no digit.
+fn read_digits(bytes: &mut [u8], digits: &[u8]) -> bool
+    requires { length digits.now ≡ 2 * length bytes.old }
+    ensures value { MatchBool result (pairs digits.now ≡ Some bytes.new) (pairs digits.now ≡ None) }
+    ensures long { length bytes.new ≡ length bytes.old }
+{
+    hex::decode_to_slice(digits, bytes).is_ok()
+}
+
+/// Puts the words of bytes in the place of others.
+fn replace(words: &mut Vec<u32>, bytes: &[u8])
+    requires whole { length bytes.now % 4 ≡ 0 }
+    requires room { length bytes.now ≤ 4 * vec_capacity words.old }
+    ensures items { words.new.items ≡ words_of_bytes bytes.now }
+    ensures room { vec_capacity words.old ≤ vec_capacity words.new }
+{
+    words.clear();
+    let (groups, _) = bytes.as_chunks::<4>();
+    for group in groups {
+        match words.push(word_of(*group)) {
+            Ok(()) => (),
+            Err(_) => (),
+        }
+    }
+}
+
+/// Reads a frame's line: gives its address and puts its words into `frame`, which has room for them. `None`: it is no
+/// frame's line.
+pub(crate) fn read_frame(frame: &mut Vec<u32>, width: u32, line: &[u8]) -> Option<u32>
+    requires width { width ≤ 255 }
+    requires room { width ≤ vec_capacity frame.old }
+    ensures value { MatchOption result ((row : PlanRow) → IsFrameLine width line.now row → ⊥) (λ far. IsFrameLine width line.now record { far = far; words = frame.new.items }) }
+    ensures room { vec_capacity frame.old ≤ vec_capacity frame.new }
+{
+    let byte_count = 4 * width as usize;
+    let Some(parts) = parts_of(line, 2 * byte_count) else {
+        return None;
+    };
+    let mut bytes = [0; MOST_BYTES];
+    if !read_digits(&mut bytes[..byte_count], parts.digits) {
+        return None;
+    }
+    replace(frame, &bytes[..byte_count]);
+    Some(parts.far)
+}

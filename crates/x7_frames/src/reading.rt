@@ -1,0 +1,104 @@
+//! The plan of a text, line by line.
+ghost use Rattle.std.specs.Prelude.{◌≡◌, ◌≢◌, ℕ, ◌+◌, ◌≤◌, ◌⊎◌, List, [], length, Ok, Err, IfOk, IfErr, OnOk, MatchResult, vec_capacity};
+ghost use Rattle.x7_part.specs.Part.{frame_words};
+ghost use Rattle.x7_memory.specs.Planned.{PlanData};
+ghost use Rattle.x7_frames.specs.FramesText.{IsPlanOf, FitsPart, plan_text};
+ghost use Rattle.x7_frames.specs.Steps.{IsFaultAt, Takes, HasMarks};
+ghost use Rattle.x7_frames.specs.declared.fault.FramesFault.{FramesFault};
+
+use crate::fault::FramesFault;
+use crate::line::{means_nothing, read_frame};
+use std::alloc::{AllocError, Global};
+use x7_memory::{Draft, Plan};
+use x7_part::Part;
+use x7_text::first_line;
+use x7_words::NoMemory;
+
+/// What was read so far.
+#[derive(Drop)]
+struct Reading {
+    draft: Draft,
+    /// Of each frame of the part, by its rank, whether a line has its address.
+    marks: Vec<bool>,
+    /// Room for the words of a line.
+    frame: Vec<u32>,
+}
+
+impl Reading {
+    /// Nothing was read yet.
+    fn new(alloc: Global, part: &Part) -> Result<Reading, AllocError>
+        ensures rows { IfOk result (λ reading. reading.draft.rows ≡ []) }
+        ensures width { IfOk result (λ reading. reading.draft.width ≡ frame_words part.now) }
+        ensures marks { IfOk result (λ reading. HasMarks part.now [] reading.marks.items) }
+        ensures room { IfOk result (λ reading. frame_words part.now ≤ vec_capacity reading.frame) }
+    {
+        let frame = Vec::with_capacity(alloc, part.words() as usize)?;
+        Ok(Reading {
+            draft: Draft::new(alloc, part.words()),
+            marks: vec![in alloc; false; part.frames() as usize]?,
+            frame,
+        })
+    }
+
+    /// Takes line `n`. After an error nothing more may be taken.
+    fn take(&mut self, part: &Part, n: u64, line: &[u8]) -> Result<(), FramesFault>
+        requires width { self.old.draft.width ≡ frame_words part.now }
+        requires marks { HasMarks part.now self.old.draft.rows self.old.marks.items }
+        requires room { frame_words part.now ≤ vec_capacity self.old.frame }
+        ensures taken { OnOk result (Takes part.now line.now self.old.draft.rows self.new.draft.rows) }
+        ensures marks { OnOk result (HasMarks part.now self.new.draft.rows self.new.marks.items) }
+        ensures width { OnOk result (self.new.draft.width ≡ frame_words part.now) }
+        ensures room { OnOk result (frame_words part.now ≤ vec_capacity self.new.frame) }
+        ensures fault { IfErr result (λ fault. (fault ≡ FramesFault.NoMemory) ⊎ IsFaultAt part.now self.old.draft.rows n line.now fault) }
+    {
+        if means_nothing(line) {
+            return Ok(());
+        }
+        let Some(far) = read_frame(&mut self.frame, part.words(), line) else {
+            return Err(FramesFault::Line(n));
+        };
+        let Some(rank) = part.rank(far) else {
+            return Err(FramesFault::Address(n));
+        };
+        if self.marks[rank as usize] {
+            return Err(FramesFault::Twice(n));
+        }
+        self.marks[rank as usize] = true;
+        Ok(self.draft.push(far, &self.frame)?)
+    }
+}
+
+/// The plan of a frames text for a part, or its first line at fault.
+///
+/// A line is empty, a comment that `#` begins, or `frame FAR DIGITS`: the address in eight upper-case digits, and the
+/// words of the frame in eight digits of either case each (this project's choice). The last line may lack its end.
+pub fn plan_of(alloc: Global, text: &[u8], part: &Part) -> Result<Plan, FramesFault>
+    ensures plan { IfOk result (λ plan. IsPlanOf part.now text.now (Ok plan)) }
+    ensures fault { IfErr result (λ fault. (fault ≡ FramesFault.NoMemory) ⊎ IsPlanOf part.now text.now (Err fault)) }
+    ensures back { (plan : PlanData) → FitsPart part.now plan → text.now ≡ plan_text plan
+        → MatchResult result (λ read. read ≡ plan) (λ fault. fault ≡ FramesFault.NoMemory) }
+{
+    read_text(alloc, text, part)
+}
+
+/// The plan of a text, line by line.
+fn read_text(alloc: Global, text: &[u8], part: &Part) -> Result<Plan, FramesFault>
+    ensures { MatchResult result (λ plan. IsPlanOf part.now text.now (Ok plan)) (λ fault. (fault ≡ FramesFault.NoMemory) ⊎ IsPlanOf part.now text.now (Err fault)) }
+{
+    let Ok(mut reading) = Reading::new(alloc, part) else {
+        return Err(FramesFault::NoMemory);
+    };
+    let mut rest = text;
+    let mut count: u64 = 0;
+    loop {
+        let (line, more) = first_line(rest);
+        count += 1;
+        if let Err(fault) = reading.take(part, count, line) {
+            return Err(fault);
+        }
+        match more {
+            Some(after) => rest = after,
+            None => return Ok(reading.draft.finish()),
+        }
+    }
+}

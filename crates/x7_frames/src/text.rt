@@ -1,0 +1,54 @@
+//! The text of a plan.
+ghost use Rattle.std.specs.Prelude.{◌≡◌, ◌+◌, ◌*◌, ◌≤◌, ◌++◌, [], ◌∷◌, length, IfOk, OnOk, vec_len, vec_capacity};
+ghost use Rattle.std.specs.List.{flat_map};
+ghost use Rattle.x7_text.specs.Digits.{hex_word};
+ghost use Rattle.x7_memory.specs.Planned.{PlanRow};
+ghost use Rattle.x7_frames.specs.FramesText.{frame_line, plan_text};
+
+use std::alloc::{AllocError, Global};
+use x7_memory::Plan;
+use x7_text::{hex_of_word, put};
+use x7_words::NoMemory;
+
+/// Appends the digits of words.
+fn put_words(text: &mut Vec<u8>, words: &[u32])
+    requires { vec_len text.old + 8 * length words.now ≤ vec_capacity text.old }
+    ensures items { text.new.items ≡ text.old.items ++ flat_map hex_word words.now }
+    ensures long { vec_len text.new ≡ vec_len text.old + 8 * length words.now }
+    ensures room { vec_capacity text.old ≤ vec_capacity text.new }
+{
+    for word in words {
+        put(text, &hex_of_word(*word));
+    }
+}
+
+/// Appends the line of a frame.
+fn put_line(text: &mut Vec<u8>, far: u32, words: &[u32]) -> Result<(), AllocError>
+    ensures { OnOk result (text.new.items ≡ text.old.items ++ frame_line record { far = far; words = words.now }) }
+{
+    text.reserve(16)?;
+    put(text, b"frame ");
+    put(text, &hex_of_word(far));
+    put(text, b" ");
+    text.reserve(8 * words.len() + 1)?;
+    put_words(text, words);
+    put(text, b"\n");
+    Ok(())
+}
+
+/// The text of a plan: a line for each frame, in number order of the addresses, its digits in upper case.
+pub fn plan_text(alloc: Global, plan: &Plan) -> Result<Vec<u8>, NoMemory>
+    ensures text { IfOk result (λ text. text.items ≡ plan_text plan.now) }
+{
+    let mut text = Vec::new(alloc);
+    for i in 0..plan.len() {
+        let Some((far, words)) = plan.row(i) else {
+            return Ok(text);
+        };
+        match put_line(&mut text, far, words) {
+            Ok(()) => (),
+            Err(_) => return Err(NoMemory),
+        }
+    }
+    Ok(text)
+}

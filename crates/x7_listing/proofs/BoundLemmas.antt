@@ -1,0 +1,113 @@
+-- How far a lister's text is behind the bytes that it took.
+use Rattle.std.proofs.Common.{◌≡◌, ◌==◌, ℕ, suc, ◌+◌, ◌*◌, ◌-◌, ◌<◌, ◌≤◌, Bool, true, false, if◌then◌else◌, List, [], ◌∷◌, ◌++◌, length, map, take, refl, ap, sym, subst, ◌∙◌, append_assoc, arith, length-append, codes, flat_map, decimal}
+use Rattle.std.specs.List.{AllByRecursion}
+use Rattle.std.proofs.lemmas.List.{length-map, length-take-le}
+use Rattle.x7_words.specs.Word.{bytes_of_word}
+use Rattle.x7_packets.specs.SyncWord.{sync_bytes}
+use Rattle.x7_packets.specs.ByHand.{before_last_four, Reading, reading_of}
+use Rattle.x7_packets.specs.Packet.{Packet, named_by, payload_steps, stepped, words}
+use Rattle.x7_packets.specs.Reading.{Place, Searching, Synced, Session, IsPlace, IsReading, IsSession, packet_bytes, place_bytes, session_bytes}
+use Rattle.x7_packets.specs.declared.header.Step.{Step}
+use Rattle.x7_packets.specs.declared.header.Step.TheVariants.{Payload, Filler, Nop, Open, Read, Bad}
+use Rattle.x7_text.specs.Digits.{hex_byte, hex_word}
+use Rattle.x7_text.specs.Row.{bytes_text, close, element_text, in_line_after, line_end, line_start, next_in_line, open_text, spaced}
+use Rattle.x7_regs.specs.Command.{code_of, command_by, command_name_of}
+use Rattle.x7_regs.specs.Register.{reg_name}
+use Rattle.x7_text.proofs.LineLemmas.{bytes_closed}
+use Rattle.x7_listing.specs.HeadLine.{command_line, head_line, head_text, line_text}
+use Rattle.x7_listing.specs.Listing.{packets_text, session_text}
+use Rattle.x7_listing.specs.Telling.{ListerStandsFor, ListerState, payload_told, word_next, word_told, words_told}
+use Rattle.x7_listing.specs.declared.line.HeadLine.{HeadLine}
+use Rattle.x7_listing.specs.declared.line.HeadLine.TheVariants as line
+use Rattle.x7_listing.proofs.FrontLemmas.{Front, session_over, sure_of, sure_place, sure_text, told_behind}
+
+-- the text of bytes has at least a byte for each
+bytes_long : (i : ℕ) (xs : List ℕ) → length xs ≤ length (open_text 32 (codes "bytes ") hex_byte i xs)
+bytes_long i [] = omega arith
+bytes_long i (x ∷ xs) =
+    let more : List ℕ = open_text 32 (codes "bytes ") hex_byte (next_in_line 32 i) xs in
+    let first : List ℕ = line_start (codes "bytes ") i ++ hex_byte x in
+    let all : length (open_text 32 (codes "bytes ") hex_byte i (x ∷ xs)) ≡ length ((first ++ line_end 32 i) ++ more) = refl in
+    omega (arith, all, bytes_long (next_in_line 32 i) xs, length-append (first ++ line_end 32 i) more, length-append first (line_end 32 i), length-append (line_start (codes "bytes ") i) (hex_byte x))
+
+-- the line of a header word has at least four bytes
+line_long : (l : HeadLine) → 4 ≤ length (line_text l)
+line_long line.Nop = omega arith
+line_long line.Sync = omega arith
+line_long (line.Write register count) = omega (arith, length-append (codes "write ") (reg_name register ++ 32 ∷ decimal count ++ 10 ∷ []))
+line_long (line.Read register count) = omega (arith, length-append (codes "read ") (reg_name register ++ 32 ∷ decimal count ++ 10 ∷ []))
+line_long (line.Write2 count) = omega (arith, length-append (codes "write2 ") (decimal count ++ 10 ∷ []))
+line_long (line.Read2 count) = omega (arith, length-append (codes "read2 ") (decimal count ++ 10 ∷ []))
+line_long (line.Word w) = omega arith
+
+command_by_case : (b : Bool) (name digits : List ℕ) → 4 ≤ length (if b then codes "cmd " ++ name ++ 10 ∷ [] else codes "data " ++ digits ++ 10 ∷ [])
+command_by_case true name digits = omega arith
+command_by_case false name digits = omega arith
+
+command_long : (w : ℕ) → 4 ≤ length (command_line w)
+command_long w = command_by_case (code_of (command_by w) == w) (command_name_of (command_by w)) (hex_word w)
+
+payload_by : (b : Bool) (i w : ℕ) → 4 ≤ length (payload_told b i w)
+payload_by true i w = omega (arith, command_long w, length-append (close i) (command_line w))
+payload_by false i w =
+    let first : List ℕ = line_start (codes "data") i ++ spaced w in
+    let all : length (payload_told false i w) ≡ length (first ++ line_end 8 i) = refl in
+    omega (arith, all, length-append first (line_end 8 i), length-append (line_start (codes "data") i) (spaced w))
+
+-- what a word adds has at least its four bytes
+word_long : (i w : ℕ) (step : Step) → 4 ≤ length (word_told i w step)
+word_long i w (Payload register x) = payload_by (register == 4) i w
+word_long i w Filler = omega (arith, line_long (head_line Filler w), length-append (close i) (head_text Filler w))
+word_long i w Nop = omega (arith, line_long (head_line Nop w), length-append (close i) (head_text Nop w))
+word_long i w (Open r n) = omega (arith, line_long (head_line (Open r n) w), length-append (close i) (head_text (Open r n) w))
+word_long i w (Read r n) = omega (arith, line_long (head_line (Read r n) w), length-append (close i) (head_text (Read r n) w))
+word_long i w (Bad x) = omega (arith, line_long (head_line (Bad x) w), length-append (close i) (head_text (Bad x) w))
+
+words_long : (i : ℕ) (ss : List (ℕ × Step)) → 4 * length ss ≤ length (words_told i ss)
+words_long i [] = omega arith
+words_long i (s ∷ ss) = omega (arith, words_long (word_next i s.1) ss, word_long i s.0 s.1, length-append (word_told i s.0 s.1) (words_told (word_next i s.1) ss))
+
+four_each : (ws : List ℕ) → length (flat_map bytes_of_word ws) ≡ 4 * length ws
+four_each [] = refl
+four_each (w ∷ ws) = omega (arith, four_each ws)
+
+as_many : (ps : List Packet) → length (flat_map words ps) ≡ length (flat_map stepped ps)
+as_many [] = refl
+as_many (p ∷ ps) =
+    omega (arith, as_many ps, length-append (words p) (flat_map words ps), length-append (stepped p) (flat_map stepped ps), length-map {B = ℕ × Step} p.payload (λ (w : ℕ). (w, Payload (named_by p.step) w)))
+
+-- a gap, the sync word and packets
+session_long : (gap : List ℕ) (packets : List Packet) → length gap + 4 + length (packet_bytes packets) ≤ length (bytes_text gap ++ codes "sync\n" ++ words_told 0 (flat_map stepped packets))
+session_long gap packets =
+    let ws : List ℕ = words_told 0 (flat_map stepped packets) in
+    let bytes : length (packet_bytes packets) ≡ 4 * length (flat_map words packets) = four_each (flat_map words packets) in
+    omega (arith, gap_long gap, bytes, as_many packets, words_long 0 (flat_map stepped packets), length-append (bytes_text gap ++ codes "sync\n") ws, length-append (bytes_text gap) (codes "sync\n"))
+  where
+    gap_long : (gap : List ℕ) → length gap ≤ length (bytes_text gap)
+    gap_long gap = omega (arith, bytes_long 0 gap, ap length (bytes_closed gap), length-append (open_text 32 (codes "bytes ") hex_byte 0 gap) (close (in_line_after 32 0 gap)))
+
+ended_long : (s : Session) → IsSession s → length (session_bytes s) ≤ length (session_text s)
+ended_long s is =
+    let over = session_over s.gap s.packets is.packets in
+    let sure : List ℕ = bytes_text s.gap ++ codes "sync\n" ++ words_told 0 (flat_map stepped s.packets) in
+    let text : length (session_text s) ≡ length (sure ++ over.0) = ap length over.1 in
+    let bytes : length (session_bytes s) ≡ length ((s.gap ++ sync_bytes) ++ packet_bytes s.packets) = refl in
+    omega (arith, session_long s.gap s.packets, text, bytes, length-append sure over.0, length-append (s.gap ++ sync_bytes) (packet_bytes s.packets), length-append s.gap sync_bytes)
+
+sessions_long : (ss : List Session) → AllByRecursion IsSession ss → length (flat_map session_bytes ss) ≤ length (flat_map session_text ss)
+sessions_long [] all = omega arith
+sessions_long (s ∷ ss) all = omega (arith, ended_long s all.0, sessions_long ss all.1, length-append (session_bytes s) (flat_map session_bytes ss), length-append (session_text s) (flat_map session_text ss))
+
+place_long : (place : Place) → IsPlace place → length (place_bytes place) ≤ length (sure_place place) + 4
+place_long (Searching gap) is = omega (arith, bytes_long 0 (before_last_four gap), length-take-le (length gap - 4) gap (omega arith))
+place_long (Synced gap packets tail) is =
+    let bytes : length (place_bytes (Synced gap packets tail)) ≡ length (((gap ++ sync_bytes) ++ packet_bytes packets) ++ tail) = refl in
+    let text : length (sure_place (Synced gap packets tail)) ≡ length (bytes_text gap ++ codes "sync\n" ++ words_told 0 (flat_map stepped packets)) = refl in
+    omega (arith, session_long gap packets, is.3, bytes, text, length-append ((gap ++ sync_bytes) ++ packet_bytes packets) tail, length-append (gap ++ sync_bytes) (packet_bytes packets), length-append gap sync_bytes)
+
+-- a lister's text is at most four bytes behind
+pub few_held : (l : ListerState) (given before bytes : List ℕ) → ListerStandsFor l given before bytes → length before + length bytes ≤ length (given ++ l.text) + 4
+few_held l given before bytes s =
+    let t = s.tells in
+    let r = t.cut.reading in
+    omega (arith, ap length (told_behind l given before bytes s), length-append (before ++ flat_map session_text t.sessions) (sure_place t.at), length-append before (flat_map session_text t.sessions), ap length r.joined, length-append (flat_map session_bytes t.sessions) (place_bytes t.at), sessions_long t.sessions r.each, place_long t.at r.ends)

@@ -1,0 +1,97 @@
+-- The lines of a flash's rows, block by block.
+use Rattle.std.proofs.Common.{◌≡◌, ℕ, ◌+◌, ◌%◌, min, ◌<◌, ◌≤◌, List, [], ◌∷◌, ◌++◌, length, take, drop, Option, refl, ap, sym, ◌∙◌, ◌⊎◌, inl, inr, append-nil, append_assoc, arith, codes, subst}
+use Rattle.std.specs.Prelude.{OnOk, Result}
+use Rattle.std.proofs.lemmas.Result.{on_ok_weaker}
+use Rattle.std.proofs.lemmas.Grind.{common_steps}
+use Rattle.std.proofs.lemmas.List.{take-append-drop}
+use Rattle.x7_words.specs.Sink.{appended, PutsFront}
+use Rattle.x7_words.proofs.SinkLemmas.{appended-appended, appended-nil, front_more}
+use Rattle.x7_text.specs.Row.{rows}
+use Rattle.x7_mcs.specs.Text.{mcs_text, row_lines}
+use Rattle.x7_mcs.proofs.LawLemmas.{rows-in-parts}
+use Rattle.x7_mcs.proofs.RowsLemmas.{none_of_16}
+
+-- the lines of the rows before this place are written
+pub record Goes (first now : Option (List ℕ)) (flash : List ℕ) (place : ℕ) (rest : List ℕ) : Type 0 where
+  pub done : List ℕ
+  pub put : now ≡ appended first done
+  pub lines : row_lines 0 (rows 16 flash) ≡ done ++ row_lines place (rows 16 rest)
+
+by_min : (n k : ℕ) → k ≡ min n 65536 → (k ≡ 65536) ⊎ ((k ≡ n) × (n ≤ 65536))
+by_min n k e = grind (arith, common_steps)
+
+-- whole rows, or all that is left
+whole : (place n k m : ℕ) → k ≡ min n 65536 → m + k ≡ n → (k % 16 ≡ 0) ⊎ (m ≡ 0)
+whole place n k m e f = elim (by_min n k e) [
+  | inl s ↦ inl (omega (arith, s))
+  | inr s ↦ inr (omega (arith, s.0, f))
+]
+
+pub begins-more : (place n k m : ℕ) → k ≡ min n 65536 → m + k ≡ n → place % 65536 ≡ 0 → 0 < m → (place + k) % 65536 ≡ 0
+begins-more place n k m e f h g = elim (by_min n k e) [
+  | inl s ↦ omega (arith, s, h)
+  | inr s ↦ absurd (omega (arith, s.0, f, g))
+]
+
+nothing : (place : ℕ) (xs : List ℕ) → length xs ≡ 0 → row_lines place (rows 16 xs) ≡ []
+nothing place xs e = ap (row_lines place) (none_of_16 xs e)
+
+none_left : (xs : List ℕ) → length xs ≡ 0 → xs ≡ []
+none_left [] e = refl
+none_left (x ∷ xs) e = absurd (omega arith)
+
+-- the lines of one block and of what is left
+in_two : (place : ℕ) (rest bytes more : List ℕ) → rest ≡ bytes ++ more → (length bytes % 16 ≡ 0) ⊎ (length more ≡ 0) → row_lines place (rows 16 rest) ≡ row_lines place (rows 16 bytes) ++ row_lines (place + length bytes) (rows 16 more)
+in_two place rest bytes more e (inl w) = ap (λ t. row_lines place (rows 16 t)) e ∙ rows-in-parts place bytes more w
+in_two place rest bytes more e (inr z) =
+    ap (λ t. row_lines place (rows 16 t)) (e ∙ ap (λ t. bytes ++ t) (none_left more z) ∙ append-nil bytes)
+    ∙ sym (append-nil (row_lines place (rows 16 bytes)))
+    ∙ ap (λ t. row_lines place (rows 16 bytes) ++ t) (sym (nothing (place + length bytes) more z))
+
+module _ (first now : Option (List ℕ)) (flash : List ℕ) (place : ℕ) (rest bytes more block : List ℕ) (k : ℕ) (g : Goes first now flash place rest) (e : k ≡ min (length rest) 65536) (long : length more + k ≡ length rest)
+    (front : bytes ≡ take k rest) (back : more ≡ drop k rest) (size : length bytes ≡ k) (is : block ≡ row_lines place (rows 16 bytes)) where
+  parts : rest ≡ bytes ++ more
+  parts = sym (take-append-drop k rest) ∙ ap (λ t. t ++ drop k rest) (sym front) ∙ ap (λ t. bytes ++ t) (sym back)
+
+  even : (length bytes % 16 ≡ 0) ⊎ (length more ≡ 0)
+  even = elim (whole place (length rest) k (length more) e long) [
+    | inl w ↦ inl (ap (λ n. n % 16) size ∙ w)
+    | inr z ↦ inr z
+  ]
+
+  lines : row_lines 0 (rows 16 flash) ≡ g.done ++ (block ++ row_lines (place + length bytes) (rows 16 more))
+  lines = g.lines ∙ ap (λ t. g.done ++ t) (in_two place rest bytes more parts even ∙ ap (λ t. t ++ row_lines (place + length bytes) (rows 16 more)) (sym is))
+
+  pub block-put : (next : Option (List ℕ)) → next ≡ appended now block → Goes first next flash (place + length bytes) more
+  block-put next p = record {
+    done = g.done ++ block;
+    put = p ∙ ap (λ t. appended t block) g.put ∙ appended-appended first g.done block;
+    lines = lines ∙ sym (append_assoc g.done block (row_lines (place + length bytes) (rows 16 more)));
+  }
+
+  pub block-failed : (next : Option (List ℕ)) → PutsFront now block next → PutsFront first (row_lines 0 (rows 16 flash)) next
+  block-failed next p = rw lines (front_more first now next g.done block (row_lines (place + length bytes) (rows 16 more)) g.put p)
+
+-- all rows are written
+pub all-put : (first now : Option (List ℕ)) (flash : List ℕ) (place : ℕ) (rest : List ℕ) → Goes first now flash place rest → length rest ≡ 0 → now ≡ appended first (row_lines 0 (rows 16 flash))
+all-put first now flash place rest g z = g.put ∙ ap (appended first) (sym (g.lines ∙ ap (λ t. g.done ++ t) (nothing place rest z) ∙ append-nil g.done))
+
+pub starts : (first : Option (List ℕ)) (flash : List ℕ) → Goes first first flash 0 flash
+starts first flash = record { done = []; put = sym (appended-none first); lines = refl }
+  where
+    appended-none : (told : Option (List ℕ)) → appended told [] ≡ told
+    appended-none told = appended-nil told
+
+-- ---- the whole text
+
+pub text-begun : (first new : Option (List ℕ)) (image flash : List ℕ) → image ≡ flash → PutsFront first (row_lines 0 (rows 16 flash)) new → PutsFront first (mcs_text image) new
+text-begun first new image flash e p = rw e (front_more first first new [] (row_lines 0 (rows 16 flash)) (codes ":00000001FF\n") (sym (appended-nil first)) p)
+
+pub text-failed : (first now new : Option (List ℕ)) (image flash : List ℕ) → image ≡ flash → now ≡ appended first (row_lines 0 (rows 16 flash)) → PutsFront now (codes ":00000001FF\n") new → PutsFront first (mcs_text image) new
+text-failed first now new image flash e p q =
+    rw e (subst (λ t. PutsFront first (row_lines 0 (rows 16 flash) ++ t) new) (append-nil (codes ":00000001FF\n")) (front_more first now new (row_lines 0 (rows 16 flash)) (codes ":00000001FF\n") [] p q))
+
+pub text-put : {T E : Type 0} (r : Result T E) (first now new : Option (List ℕ)) (image flash : List ℕ) → image ≡ flash → now ≡ appended first (row_lines 0 (rows 16 flash)) → OnOk r (new ≡ appended now (codes ":00000001FF\n"))
+    → OnOk r (new ≡ appended first (mcs_text image))
+text-put r first now new image flash e p q =
+    on_ok_weaker r (λ w. w ∙ ap (λ t. appended t (codes ":00000001FF\n")) p ∙ appended-appended first (row_lines 0 (rows 16 flash)) (codes ":00000001FF\n") ∙ ap (λ t. appended first (mcs_text t)) (sym e)) q

@@ -1,0 +1,78 @@
+//! The text of a flash's bytes, written block by block in one buffer.
+ghost use Rattle.std.specs.Prelude.{◌≡◌, ℕ, List, ◌≤◌, ◌^◌, length, vec_len, vec_capacity, IfOk, OnOk, OnErr};
+ghost use Rattle.x7_text.specs.Row.{rows};
+ghost use Rattle.x7_words.specs.Count.{HasRisen};
+ghost use Rattle.x7_words.specs.Sink.{appended, PutsFront};
+ghost use Rattle.x7_mcs.specs.Text.{mcs_text, row_lines};
+
+use crate::text::{END_LINE, put_rows};
+use std::alloc::Global;
+use std::marker::Model;
+use x7_words::{Failed, NoMemory, Sink, write_all};
+
+/// How many bytes of a flash a block is of.
+const BLOCK: usize = 65_536;
+
+/// The room that the lines of a block take at most.
+const BLOCK_ROOM: usize = 4 * BLOCK + 60;
+
+/// Writes the lines of a flash's rows, those of a block at a time. It takes no memory.
+fn write_rows<S: Sink>(out: &mut S, flash: &[u8], block: &mut Vec<u8>) -> Result<(), Failed>
+    requires flash { length flash.now ≤ 2 ^ 27 }
+    requires room { 262204 ≤ vec_capacity block.old }
+    ensures whole { OnOk result (S.written out.new ≡ appended (S.written out.old) (row_lines 0 (rows 16 flash.now))) }
+    ensures prefix { PutsFront (S.written out.old) (row_lines 0 (rows 16 flash.now)) (S.written out.new) }
+    ensures failed { OnErr result (HasRisen (S.faults out.old) (S.faults out.new)) }
+    ensures faults { S.faults out.old ≤ S.faults out.new }
+    ensures room { 262204 ≤ vec_capacity block.new }
+{
+    let mut place = 0u32;
+    let mut rest = flash;
+    while rest.len() > 0 {
+        let (bytes, more) = rest.split_at(rest.len().min(BLOCK));
+        block.clear();
+        put_rows(block, place, bytes);
+        write_all(out, block)?;
+        place += bytes.len() as u32;
+        rest = more;
+    }
+    Ok(())
+}
+
+/// The text of a flash image, ready to be written: the memory that this takes is there.
+#[derive(Drop)]
+pub struct McsText {
+    image: Vec<u8>,
+    block: Vec<u8>,
+}
+
+impl Model for McsText {
+    ghost Value = { List ℕ };
+
+    ghost view = { λ t. t.image.items };
+
+    ghost invariant = { λ t. (length t.image.items ≤ 2 ^ 27) × (262204 ≤ vec_capacity t.block) };
+}
+
+impl McsText {
+    /// The text of an image.
+    pub fn new(alloc: Global, image: Vec<u8>) -> Result<McsText, NoMemory>
+        requires { length image.items ≤ 2 ^ 27 }
+        ensures { IfOk result (λ text. text ≡ image.items) }
+    {
+        let Ok(block) = Vec::with_capacity(alloc, BLOCK_ROOM) else {
+            return Err(NoMemory);
+        };
+        Ok(McsText { image, block })
+    }
+
+    /// Writes the text. After an error a prefix of it was written.
+    pub fn write<S: Sink>(&mut self, out: &mut S) -> Result<(), Failed>
+        ensures whole { OnOk result (S.written out.new ≡ appended (S.written out.old) (mcs_text self.old)) }
+        ensures prefix { PutsFront (S.written out.old) (mcs_text self.old) (S.written out.new) }
+        ensures failed { OnErr result (HasRisen (S.faults out.old) (S.faults out.new)) }
+    {
+        write_rows(out, &self.image, &mut self.block)?;
+        write_all(out, END_LINE)
+    }
+}

@@ -1,0 +1,43 @@
+-- Streams one after another (UG470, packet types; that a dummy word parts them is this project's choice): what is read of both is what is read of each, and so is what they ask.
+use Rattle.std.specs.Prelude.{◌≡◌, ℕ, ◌+◌, ◌==◌, ◌⊎◌, List, [], ◌∷◌, ◌++◌, false}
+use Rattle.std.specs.List.{AllByRecursion}
+use Rattle.x7_packets.specs.Reading.{Place, Searching, Synced, Session, is_synced}
+use Rattle.x7_packets.specs.ByHand.{Reading}
+use Rattle.x7_packets.specs.History.{History, entry}
+
+-- the bytes begin with a dummy word
+abbrev pub BeginsWithDummy : List ℕ → Type 0
+BeginsWithDummy bytes = (rest : List ℕ) × (bytes ≡ 0xFF ∷ 0xFF ∷ 0xFF ∷ 0xFF ∷ rest)
+
+-- the first byte of the sync word is not among these bytes
+abbrev pub LacksFirst : List ℕ → Type 0
+LacksFirst bytes = AllByRecursion (λ b. (b == 0xAA) ≡ false) bytes
+
+-- a history with its places moved on by n bytes
+abbrev pub moved : ℕ → History → History
+moved n [] = []
+moved n (e ∷ h) = entry e.access (n + e.place) ∷ moved n h
+
+-- the bytes of a gap, none of a session that goes on
+abbrev pub gap_of : Place → List ℕ
+gap_of (Searching gap) = gap
+gap_of (Synced gap packets tail) = []
+
+-- more bytes may follow those that end at this place: these end searching, and no sync word begins in them and ends in more, since no gap is open or more begin with a dummy word
+pub record MayFollow (place : Place) (more : List ℕ) : Type 0 where
+  pub searching : is_synced place ≡ false
+  pub apart : (gap_of place ≡ []) ⊎ BeginsWithDummy more
+
+-- a place whose gap has these bytes more before it
+abbrev pub gap_with : List ℕ → Place → Place
+gap_with prefix (Searching gap) = Searching (prefix ++ gap)
+gap_with prefix (Synced gap packets tail) = Synced (prefix ++ gap) packets tail
+
+-- sessions and a place after ended sessions and an open gap, which the first gap goes on
+abbrev pub after_gap : List Session → List ℕ → List Session → Place → Reading
+after_gap before prefix [] place = record { sessions = before; place = gap_with prefix place }
+after_gap before prefix (s ∷ sessions) place = record { sessions = before ++ record { gap = prefix ++ s.gap; packets = s.packets } ∷ sessions; place = place }
+
+-- a reading after one that ends searching
+abbrev pub after : Reading → Reading → Reading
+after first more = after_gap first.sessions (gap_of first.place) more.sessions more.place

@@ -1,0 +1,41 @@
+//! Laws of streams one after another, and of packets one after another.
+ghost use Rattle.std.specs.Prelude.{◌≡◌, ◌==◌, ℕ, List, [], ◌∷◌, ◌++◌, false, length, take, None};
+ghost use Rattle.std.specs.List.{AllByRecursion};
+ghost use Rattle.x7_words.specs.Word.{AreBytes};
+ghost use Rattle.x7_packets.specs.Appended.{MayFollow, after, moved};
+ghost use Rattle.x7_packets.specs.ByHand.{reading_of};
+ghost use Rattle.x7_packets.specs.History.{history_of};
+ghost use Rattle.x7_packets.specs.Packet.{IsPacket, IsWhole, Packet, Packets, latest_of, words};
+ghost use Rattle.x7_packets.specs.Reading.{Searching, is_synced, tail_of};
+ghost use Rattle.x7_packets.specs.SyncWord.{HasNoSync, sync_bytes};
+ghost use Rattle.x7_packets.specs.Taking.{AllWhole};
+
+/// After bytes that end searching, bytes that begin with a dummy word are read as they are alone: the reading of both is
+/// one after the other, and so is their history, whose places are moved. The same holds of each prefix of the later bytes.
+pub fn streams_append()
+    ensures reading { (bytes more : List ℕ) → AreBytes (bytes ++ more) → MayFollow (reading_of bytes).place more
+        → reading_of (bytes ++ more) ≡ after (reading_of bytes) (reading_of more) }
+    ensures history { (bytes more : List ℕ) → AreBytes (bytes ++ more) → MayFollow (reading_of bytes).place more
+        → history_of (bytes ++ more) ≡ moved (length bytes) (history_of more) ++ history_of bytes }
+    ensures synced { (bytes more : List ℕ) → AreBytes (bytes ++ more) → MayFollow (reading_of bytes).place more
+        → is_synced (reading_of (bytes ++ more)).place ≡ is_synced (reading_of more).place }
+    ensures tail { (bytes more : List ℕ) → AreBytes (bytes ++ more) → MayFollow (reading_of bytes).place more
+        → tail_of (reading_of (bytes ++ more)).place ≡ tail_of (reading_of more).place }
+    ensures prefixes { (bytes more : List ℕ) (k : ℕ) → AreBytes (bytes ++ more) → MayFollow (reading_of bytes).place more
+        → history_of (bytes ++ take k more) ≡ moved (length bytes) (history_of (take k more)) ++ history_of bytes }
+{}
+
+/// Bytes without the sync word are a gap, and ask nothing; and bytes that lack a byte of the sync word are without it.
+pub fn gaps_ask_nothing()
+    ensures gap { (bytes : List ℕ) → AreBytes bytes → HasNoSync bytes → reading_of bytes ≡ record { sessions = []; place = Searching bytes } }
+    ensures nothing { (bytes : List ℕ) → AreBytes bytes → HasNoSync bytes → history_of bytes ≡ [] }
+    ensures lacks { (bytes prefix more : List ℕ) (x : ℕ) → sync_bytes ≡ prefix ++ x ∷ more → AllByRecursion (λ b. (b == x) ≡ false) bytes → HasNoSync bytes }
+{}
+
+/// Words that end in no open payload, and then those of a packet: the packets are one more.
+pub fn packets_append()
+    ensures one { (ws : List ℕ) (packets : List Packet) (packet : Packet) → Packets ws packets → AllWhole None packets → IsPacket (latest_of None packets) packet
+        → Packets (ws ++ words packet) (packets ++ packet ∷ []) }
+    ensures whole { (packets : List Packet) (packet : Packet) → AllWhole None packets → IsPacket (latest_of None packets) packet → IsWhole packet
+        → AllWhole None (packets ++ packet ∷ []) }
+{}

@@ -1,0 +1,123 @@
+-- The rows of a part are those of its file, in rising order.
+use Rattle.std.proofs.Common.{◌≡◌, ℕ, zero, suc, ◌+◌, ◌^◌, ◌≤◌, List, [], ◌∷◌, ◌++◌, length, Bool, true, false, Option, Some, None, refl, sym, ap, subst, ◌∙◌, arith}
+use Rattle.std.specs.Prelude.{if◌then◌else◌, nat_lt, Result, Ok, Err, IsPermutation}
+use Rattle.std.specs.Str.{is_utf8}
+use Rattle.std.specs.List.{AllByRecursion}
+use Rattle.std.specs.List.Sorted.{IsNonDecreasingBy}
+use Rattle.std.proofs.lemmas.List.{length-map}
+use Rattle.std.proofs.lemmas.List.Elements.{All-from_recursion}
+use Rattle.std.proofs.lemmas.List.Sorted.{IsPermutation-refl, IsPermutation-sym, IsPermutation-cons, IsPermutation-trans, IsPermutation-middle}
+use Rattle.std.proofs.lemmas.Option.{same_Some}
+use Rattle.toml.specs.Data.{Members}
+use Rattle.toml.specs.Parse.{parse_document}
+use Rattle.x7_part.specs.declared.fault.PartFault.{PartFault}
+use Rattle.x7_part.specs.declared.fault.PartFault.TheVariants.{Toml}
+use Rattle.x7_part.specs.FrameAddress.{AreRows, AreWidths, IsRow, row, row_address, row_low}
+use Rattle.x7_part.specs.Part.{FieldWidths, PartData, RowData}
+use Rattle.x7_part.specs.PartChecks.{value_fault}
+use Rattle.x7_part.specs.PartFile.{fault_of, part_from, part_in, part_of_table, part_unless}
+use Rattle.x7_part.specs.PartRange.{IsPart}
+use Rattle.x7_part.specs.PartRows.{frames_fault, in_order, put_in, same_row_fault, IsBefore, RowsRise}
+use Rattle.x7_part.specs.PartValues.{items, part_with, row_of, rows_of, tables}
+use Rattle.x7_part.specs.declared.fault.PartKey.TheVariants as key
+use Rattle.x7_part.proofs.PassLemmas.{all_pass, all_rows, made, nones}
+use Rattle.x7_part.proofs.SortLemmas.{from_least, ordered_rises, Rising}
+use Rattle.x7_part.proofs.WidthLemmas.{before_of, some_weight}
+
+-- ---- put in order
+
+put_same : (far : FieldWidths) (r : RowData) (rows : List RowData) → IsPermutation (r ∷ rows) (put_in far r rows)
+put_same far r [] = IsPermutation-refl (r ∷ [])
+put_same far r (s ∷ rows) = by (nat_lt (row_address far s) (row_address far r)) (put_same far r rows)
+  where
+    by : (b : Bool) → IsPermutation (r ∷ rows) (put_in far r rows) → IsPermutation (r ∷ s ∷ rows) (if b then s ∷ put_in far r rows else r ∷ s ∷ rows)
+    by true same =
+        IsPermutation-trans (r ∷ s ∷ rows) (s ∷ r ∷ rows) (s ∷ put_in far r rows) (IsPermutation-sym (s ∷ r ∷ rows) (r ∷ s ∷ rows) (IsPermutation-middle (s ∷ []) r rows))
+        (IsPermutation-cons s (r ∷ rows) (put_in far r rows) same)
+    by false same = IsPermutation-refl (r ∷ s ∷ rows)
+
+pub ordered_same : (far : FieldWidths) (rows : List RowData) → IsPermutation rows (in_order far rows)
+unfolding in_order
+ordered_same far [] = IsPermutation-refl []
+ordered_same far (r ∷ rows) =
+    IsPermutation-trans (r ∷ rows) (r ∷ in_order far rows) (put_in far r (in_order far rows)) (IsPermutation-cons r rows (in_order far rows) (ordered_same far rows)) (put_same far r (in_order far rows))
+
+rising_sorted : (far : FieldWidths) (rows : List RowData) → Rising far rows → IsNonDecreasingBy (row_address far) rows
+unfolding Rising
+rising_sorted far [] h i j d k l = absurd (omega (arith, l))
+rising_sorted far (r ∷ rows) h zero zero d k l = omega arith
+rising_sorted far (r ∷ rows) h zero (suc j) d k l = All-from_recursion (λ s. row_address far r ≤ row_address far s) rows h.0 j d (omega (arith, l))
+rising_sorted far (r ∷ rows) h (suc i) zero d k l = absurd (omega (arith, k))
+rising_sorted far (r ∷ rows) h (suc i) (suc j) d k l = rising_sorted far rows h.1 i j d (omega (arith, k)) (omega (arith, l))
+
+pub ordered_sorted : (far : FieldWidths) (rows : List RowData) → IsNonDecreasingBy (row_address far) (in_order far rows)
+ordered_sorted far rows = rising_sorted far (in_order far rows) (ordered_rises far rows)
+
+-- ---- rows of a part rise
+
+all_at : (P : RowData → Type 0) (before after : List RowData) (s : RowData) → AllByRecursion P (before ++ s ∷ after) → P s
+all_at P [] after s h = h.0
+all_at P (r ∷ before) after s h = all_at P before after s h.1
+
+in_range : (far : FieldWidths) (least : ℕ) (rows : List RowData) → AreRows far least rows → AllByRecursion IsRow rows
+in_range far least [] h = tt
+in_range far least (r ∷ rows) (row f l s more k is rest) = (is, in_range far (row_address far r + 2 ^ row_low far) rows rest)
+
+rise_at : (far : FieldWidths) (least : ℕ) (before between after : List RowData) (r s : RowData) → AreWidths far → AreRows far least (before ++ r ∷ (between ++ s ∷ after)) → IsBefore r s
+rise_at far least [] between after r s w (row f l t more k is rest) =
+    let higher = all_at (λ t. row_address far r + 2 ^ row_low far ≤ row_address far t) between after s (from_least far (row_address far r + 2 ^ row_low far) (between ++ s ∷ after) rest) in
+    before_of far r s w (all_at IsRow between after s (in_range far (row_address far r + 2 ^ row_low far) (between ++ s ∷ after) rest)) (omega (arith, higher, some_weight far))
+rise_at far least (b ∷ before) between after r s w (row f l t more k is rest) = rise_at far (row_address far b + 2 ^ row_low far) before between after r s w rest
+
+pub part_rises : (part : PartData) → IsPart part → RowsRise part.rows
+part_rises part is before between after r s e = rise_at part.far 0 before between after r s is.far (rw (← e) is.rows)
+
+-- ---- the part of a text
+
+ok_not_err : (part : PartData) (fault : PartFault) → Ok part ≡ Err fault → ⊥
+ok_not_err part fault e = absurd cc
+
+same_part : (part other : PartData) (r : Result PartData PartFault) → r ≡ Ok part → r ≡ Ok other → part ≡ other
+same_part part other r e f = cc
+
+-- a text that gives a part has a table in which no check finds a fault
+GivesPart : List ℕ → PartData → Type 0
+GivesPart text part = (table : Members) × (parse_document text ≡ Some table) × (fault_of table ≡ None) × (part_from table ≡ part)
+
+by_fault : (text : List ℕ) (part : PartData) (table : Members) (o : Option PartFault) → parse_document text ≡ Some table → fault_of table ≡ o → part_unless table o ≡ Ok part → GivesPart text part
+unfolding GivesPart
+by_fault text part table None p f e = (table, p, f, same_part (part_from table) part (Ok (part_from table)) refl e)
+by_fault text part table (Some fault) p f e = absurd (ok_not_err part fault (sym e))
+
+by_table : (text : List ℕ) (part : PartData) (o : Option Members) → parse_document text ≡ o → part_of_table o ≡ Ok part → GivesPart text part
+by_table text part None p e = absurd (ok_not_err part Toml (sym e))
+by_table text part (Some table) p e = by_fault text part table (fault_of table) p refl e
+
+by_utf8 : (text : List ℕ) (part : PartData) (b : Bool) → (if b then part_of_table (parse_document text) else Err Toml) ≡ Ok part → GivesPart text part
+by_utf8 text part true e = by_table text part (parse_document text) refl e
+by_utf8 text part false e = absurd (ok_not_err part Toml (sym e))
+
+gives : (text : List ℕ) (part : PartData) → part_in text ≡ Ok part → GivesPart text part
+unfolding part_in
+gives text part e = by_utf8 text part (is_utf8 text) e
+
+made_is : (table : Members) → fault_of table ≡ None → IsPart (part_from table)
+unfolding fault_of part_from
+made_is table e =
+    let rows = rows_of table in
+    let far = (part_with table []).far in
+    let none = nones (value_fault table ∷ same_row_fault [] rows ∷ frames_fault (part_with table rows) ∷ []) e in
+    let pass = all_pass table none.0 in
+    let count : length rows ≡ length (tables (items key.Row table)) = length-map (tables (items key.Row table)) row_of in
+    (made table far rows (in_order far rows) refl pass.top (all_rows _ pass.each) none.1.0 (omega (arith, count, pass.some)) (omega (arith, count, pass.few)) none.1.1.0 (ordered_same far rows) (ordered_sorted far rows)).is
+
+pub text_is : (text : List ℕ) (part : PartData) → part_in text ≡ Ok part → IsPart part
+unfolding GivesPart
+text_is text part e = let (table, p, f, same) = gives text part e in subst IsPart same (made_is table f)
+
+pub text_rows : (text : List ℕ) (table : Members) (part : PartData) → parse_document text ≡ Some table → part_in text ≡ Ok part → IsPermutation (rows_of table) part.rows
+unfolding GivesPart part_from
+text_rows text table part p e =
+    let (other, q, f, same) = gives text part e in
+    let one : other ≡ table = same_Some other table (sym q ∙ p) in
+    subst (λ x. IsPermutation (rows_of x) part.rows) one (subst (λ x. IsPermutation (rows_of other) x) (ap (λ x. x.rows) same) (ordered_same (part_with other []).far (rows_of other)))

@@ -1,0 +1,54 @@
+-- The words of slots, one slot more.
+use Rattle.std.proofs.Common.{◌≡◌, ℕ, ◌+◌, ◌*◌, ◌^◌, ◌<◌, ◌≤◌, List, [], ◌∷◌, ◌++◌, length, take, get_or, sym, ap, ◌∙◌, arith, append_assoc, length-append}
+use Rattle.std.proofs.Math.Nat.{mul-le-mul_left}
+use Rattle.std.proofs.lemmas.List.{take_more}
+use Rattle.std.proofs.lemmas.Grind.{flat_map-append}
+use Rattle.x7_words.proofs.ListLemmas.{flat_map-last}
+use Rattle.x7_words.specs.Word.{bytes_of_word}
+use Rattle.x7_part.specs.AddressOrder.{addresses_in}
+use Rattle.x7_part.specs.Part.{PartData, frame_words}
+use Rattle.x7_part.specs.PartRange.{IsPart}
+use Rattle.x7_part.specs.Slots.{slots_in, from}
+use Rattle.x7_part.specs.declared.slot.Slot.{Slot}
+use Rattle.x7_part.specs.declared.slot.Slot.TheVariants.{End}
+use Rattle.std.specs.Prelude.{Contains}
+use Rattle.x7_part.proofs.SlotLemmas.{slots_all, slots_number, slots_split}
+use Rattle.x7_memory.specs.Planned.{PlanData}
+use Rattle.x7_planner.specs.Full.{frame_at_slot, slot_words}
+use Rattle.x7_planner.specs.Stream.{bytes_of_words}
+
+-- words written in two parts
+pub written-on : (old mid new xs ys : List ℕ) → mid ≡ old ++ bytes_of_words xs → new ≡ mid ++ bytes_of_words ys → new ≡ old ++ bytes_of_words (xs ++ ys)
+written-on old mid new xs ys e f = f ∙ ap (λ t. t ++ bytes_of_words ys) e ∙ append_assoc old (bytes_of_words xs) (bytes_of_words ys) ∙ ap (λ t. old ++ t) (sym (flat_map-append bytes_of_word xs ys))
+
+pub all-slots : (part : PartData) (first n : ℕ) → IsPart part → first ≡ get_or (addresses_in part) 0 0 → from first (slots_in part) ≡ slots_in part
+all-slots part first n is e = ap (λ (a : ℕ). from a (slots_in part)) e ∙ slots_all part is
+
+pub slot-more : (part : PartData) (plan : PlanData) (old mid new : List ℕ) (n : ℕ) (s : Slot) → n < length (slots_in part) → s ≡ get_or (slots_in part) n End
+    → mid ≡ old ++ bytes_of_words (slot_words part plan (take n (slots_in part))) → new ≡ mid ++ bytes_of_words (frame_at_slot part plan s)
+    → new ≡ old ++ bytes_of_words (slot_words part plan (take (n + 1) (slots_in part)))
+slot-more part plan old mid new n s h e f g =
+    written-on old mid new (slot_words part plan (take n (slots_in part))) (frame_at_slot part plan s) f g
+    ∙ ap (λ t. old ++ bytes_of_words t) (sym (flat_map-last (frame_at_slot part plan) (take n (slots_in part)) s) ∙ ap (λ (x : Slot). slot_words part plan (take n (slots_in part) ++ x ∷ [])) e ∙ ap (slot_words part plan) (sym (take_more (slots_in part) n End h)))
+
+-- how many words the slots have
+pub record IsFew (part : PartData) (w n : ℕ) : Type 0 where
+  pub words : w * n ≤ 13277056
+  pub count : n ≡ length (slots_in part)
+  pub most : n ≤ 131456
+
+pub few-slots : (part : PartData) (first w n : ℕ) → IsPart part → get_or (addresses_in part) 0 0 ≡ first → w ≡ frame_words part → n ≡ length (from first (slots_in part)) → IsFew part w n
+few-slots part first w n is f e g =
+    let count : n ≡ length (slots_in part) = g ∙ ap length (all-slots part first n is (sym f)) in
+    let same : w * n ≡ frame_words part * (length (addresses_in part) + 2 * length part.rows) = ap (λ (k : ℕ). k * n) e ∙ ap (λ (k : ℕ). frame_words part * k) (count ∙ slots_number part) in
+    record { words = omega (arith, same, is.slots); count = count; most = omega (arith, count, slots_number part, is.frames, is.few) }
+
+-- how many words a readback has
+pub read-fits : (part : PartData) (address w n : ℕ) → IsPart part → Contains (addresses_in part) address → w ≤ 255 → n ≤ length (from address (slots_in part)) → (n < 131457) × (w * (n + 1) < 2 ^ 27)
+read-fits part address w n is has narrow within =
+    let split = slots_split part address has in
+    let long : length (slots_in part) ≡ length split.0 + length (from address (slots_in part)) = ap length split.1 ∙ length-append split.0 (from address (slots_in part)) in
+    let few : n < 131457 = omega (arith, long, slots_number part, is.frames, is.few, within) in
+    let turned : (n + 1) * w ≤ (n + 1) * 255 = mul-le-mul_left (n + 1) narrow in
+    let most : w * (n + 1) ≤ 255 * (n + 1) = omega (arith, turned) in
+    (few, omega (arith, most, few))

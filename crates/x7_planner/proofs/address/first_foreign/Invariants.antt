@@ -1,0 +1,6 @@
+use Rattle.std.proofs.Common.{take}
+use Rattle.x7_planner.specs.Refusals.{AreAddressed}
+use Rattle.x7_planner.proofs.address.first_foreign.Given as goal
+
+abbrev pub invariant-loop-i : goal.invariant-loop-i
+invariant-loop-i l = AreAddressed l.part (take l.i l.plan.rows)

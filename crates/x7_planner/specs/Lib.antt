@@ -1,0 +1,4 @@
+pub mod Stream
+pub mod Full
+pub mod Readback
+pub mod Refusals

@@ -1,0 +1,42 @@
+-- Why a planner refuses.
+use Rattle.std.specs.Prelude.{◌≡◌, ◌⊎◌, ℕ, ◌<◌, ◌≤◌, List, ◌∷◌, ◌++◌, length, All, Contains}
+use Rattle.x7_part.specs.AddressOrder.{addresses_in}
+use Rattle.x7_part.specs.Part.{PartData}
+use Rattle.x7_part.specs.Slots.{slots_in, from}
+use Rattle.x7_memory.specs.Planned.{PlanRow, PlanData}
+use Rattle.x7_planner.specs.declared.fault.PlanFault.{PlanFault}
+use Rattle.x7_planner.specs.declared.fault.PlanFault.TheVariants as fault
+
+-- all rows stand at addresses of the part
+abbrev pub AreAddressed : PartData → List PlanRow → Type 0
+AreAddressed part rows = All (λ row. Contains (addresses_in part) row.far) rows
+
+-- the first row at an address that the part lacks has this one
+pub record IsFirstForeign (part : PartData) (rows : List PlanRow) (address : ℕ) : Type 0 where
+  pub before : List PlanRow
+  pub row : PlanRow
+  pub after : List PlanRow
+  pub split : rows ≡ before ++ row ∷ after
+  pub addressed : AreAddressed part before
+  pub foreign : ¬ Contains (addresses_in part) row.far
+  pub is : address ≡ row.far
+
+-- n slots can be read from an address: at least one, and no more than there are
+pub record CanRead (part : PartData) (address n : ℕ) : Type 0 where
+  pub has : Contains (addresses_in part) address
+  pub some : 0 < n
+  pub within : n ≤ length (from address (slots_in part))
+
+-- n slots can't be read from an address
+abbrev pub IsOutOfRange : PartData → ℕ → ℕ → Type 0
+IsOutOfRange part address n = (n ≡ 0) ⊎ (length (from address (slots_in part)) < n)
+
+-- the faults of a full stream, and of a readback
+abbrev pub IsFullFault : PartData → PlanData → PlanFault → Type 0
+IsFullFault part plan (fault.Foreign address) = IsFirstForeign part plan.rows address
+IsFullFault part plan _ = ⊥
+
+abbrev pub IsReadFault : PartData → ℕ → ℕ → PlanFault → Type 0
+IsReadFault part address n (fault.Foreign a) = (a ≡ address) × (¬ Contains (addresses_in part) address)
+IsReadFault part address n (fault.Range m) = (m ≡ n) × Contains (addresses_in part) address × IsOutOfRange part address n
+IsReadFault part address n _ = ⊥

@@ -1,0 +1,22 @@
+//! Whether a plan is one for a part.
+ghost use Rattle.std.specs.Prelude.{◌≡◌, IfNone, IfSome};
+ghost use Rattle.x7_planner.specs.Refusals.{AreAddressed, IsFirstForeign};
+
+use x7_memory::Plan;
+use x7_part::Part;
+
+/// The first planned address that the part lacks.
+pub(crate) fn first_foreign(part: &Part, plan: &Plan) -> Option<u32>
+    ensures found { IfSome result (IsFirstForeign part.now plan.now.rows) }
+    ensures none { IfNone result (AreAddressed part.now plan.now.rows) }
+{
+    for i in 0..plan.len() {
+        let Some((far, _)) = plan.row(i) else {
+            return None;
+        };
+        if !part.is_address(far) {
+            return Some(far);
+        }
+    }
+    None
+}

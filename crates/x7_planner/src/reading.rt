@@ -1,0 +1,66 @@
+//! The stream of a readback.
+ghost use Rattle.std.specs.Prelude.{◌≡◌, ◌⊎◌, ◌^◌, ◌<◌, IfOk, IfErr};
+ghost use Rattle.x7_planner.specs.Readback.{read_stream, read_of_words};
+ghost use Rattle.x7_planner.specs.Refusals.{CanRead, IsReadFault};
+ghost use Rattle.x7_planner.specs.declared.fault.PlanFault.{PlanFault};
+
+use crate::fault::PlanFault;
+use crate::writer::Writer;
+use std::alloc::Global;
+use x7_part::Part;
+use x7_words::NoMemory;
+
+/// The words of a read stream.
+const READ_WORDS: usize = 25;
+
+/// The stream that reads so many words from an address on.
+fn read_of(alloc: Global, far: u32, words: u32) -> Result<Vec<u8>, NoMemory>
+    requires { words < 2 ^ 27 }
+    ensures { IfOk result (λ bytes. bytes.items ≡ read_of_words far words) }
+{
+    let mut writer = Writer::new(alloc, READ_WORDS)?;
+    writer.words(&[
+        0xFFFF_FFFF,
+        0xFFFF_FFFF,
+        0xFFFF_FFFF,
+        0xFFFF_FFFF,
+        0x0000_00BB,
+        0x1122_0044,
+        0xFFFF_FFFF,
+        0xFFFF_FFFF,
+        0xAA99_5566,
+        0x2000_0000,
+        0x3000_8001,
+        7,
+        0x2000_0000,
+        0x3000_8001,
+        4,
+        0x3000_2001,
+        far,
+        0x2800_6000,
+        0x4800_0000 + words,
+        0x3000_8001,
+        13,
+        0x2000_0000,
+        0x2000_0000,
+        0x2000_0000,
+        0x2000_0000,
+    ])?;
+    Ok(writer.finish())
+}
+
+/// The stream that reads back n slots from an address on, behind a frame of zeros.
+pub fn readback(alloc: Global, part: &Part, far: u32, n: u32) -> Result<Vec<u8>, PlanFault>
+    ensures stream { IfOk result (λ bytes. bytes.items ≡ read_stream part.now far n) }
+    ensures can { IfOk result (λ bytes. CanRead part.now far n) }
+    ensures fault { IfErr result (λ fault. (fault ≡ PlanFault.NoMemory) ⊎ IsReadFault part.now far n fault) }
+{
+    if !part.is_address(far) {
+        return Err(PlanFault::Foreign(far));
+    }
+    if n == 0 || u64::from(n) > part.slots_from(far) {
+        return Err(PlanFault::Range(n));
+    }
+    let _frames = part.frames();
+    Ok(read_of(alloc, far, part.words() * (n + 1))?)
+}

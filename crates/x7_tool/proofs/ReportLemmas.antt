@@ -1,0 +1,76 @@
+-- Lemmas on the frames of a report.
+use Rattle.std.proofs.Common.{◌≡◌, ◌==◌, ◌&&◌, ◌≤◌, ◌<◌, ◌+◌, ℕ, Bool, true, false, if◌then◌else◌, not, Option, codes, decimal, List, [], ◌∷◌, ◌++◌, length, take, drop, slice_index, get_or, refl, ap, sym, ◌∙◌, append_assoc, append-nil}
+use Rattle.std.specs.List.{flat_map}
+use Rattle.std.proofs.lemmas.Grind.{flat_map-append}
+use Rattle.std.proofs.lemmas.List.{take-append-drop, take_more}
+use Rattle.x7_part.specs.AddressOrder.{addresses_in}
+use Rattle.x7_part.specs.Part.{PartData}
+use Rattle.x7_memory.specs.FrameMap.{AreSame, FrameMap}
+use Rattle.x7_memory.specs.Frames.{frame_at}
+use Rattle.x7_engine.specs.declared.regs.Regs.{Regs}
+use Rattle.x7_tool.specs.Report.{frames_text, is_blank, is_shown, line_of, reads_text, report_text, shown, state_text}
+
+blank-append : (xs ys : List ℕ) → is_blank (xs ++ ys) ≡ (is_blank xs && is_blank ys)
+blank-append [] ys = refl
+blank-append (x ∷ xs) ys = by (x == 0) (is_blank xs) (is_blank ys) (is_blank (xs ++ ys)) (blank-append xs ys)
+  where
+    by : (z a b c : Bool) → c ≡ (a && b) → (z && c) ≡ ((z && a) && b)
+    by true a b c e = e
+    by false a b c e = refl
+
+-- a word more of blank ones
+blank_more : (words : List ℕ) (i w : ℕ) → take (i + 1) words ≡ take i words ++ w ∷ [] → is_blank (take i words) ≡ true → is_blank (take (i + 1) words) ≡ (w == 0 && true)
+blank_more words i w e b = ap is_blank e ∙ blank-append (take i words) (w ∷ []) ∙ ap (λ (x : Bool). x && (w == 0 && true)) b
+
+-- the word there, and the words behind it
+pub word_tells : (words : List ℕ) (i : ℕ) (b : Bool) → i < length words → is_blank (take i words) ≡ true → (get_or words i 0 == 0) ≡ b → is_blank (take (i + 1) words) ≡ b
+word_tells words i b l t e = blank_more words i (get_or words i 0) (take_more words i 0 l) t ∙ ap (λ (x : Bool). x && true) e ∙ same b
+  where
+    same : (b : Bool) → (b && true) ≡ b
+    same true = refl
+    same false = refl
+
+-- a word other than 0
+not_blank : (front rest : List ℕ) → is_blank front ≡ false → is_blank (front ++ rest) ≡ false
+not_blank front rest e = blank-append front rest ∙ ap (λ (x : Bool). x && is_blank rest) e
+
+pub front_tells : (words : List ℕ) (i : ℕ) → is_blank (take i words) ≡ false → is_blank words ≡ false
+front_tells words i e = ap is_blank (sym (take-append-drop i words)) ∙ not_blank (take i words) (drop i words) e
+
+pub shown-append : (memory : FrameMap) (xs ys : List ℕ) → shown memory (xs ++ ys) ≡ shown memory xs ++ shown memory ys
+shown-append memory [] ys = refl
+shown-append memory (x ∷ xs) ys = by (is_shown (memory x)) (shown memory xs) (shown memory (xs ++ ys)) (shown-append memory xs ys)
+  where
+    by : (b : Bool) (first all : List ℕ) → all ≡ first ++ shown memory ys → (if b then x ∷ all else all) ≡ (if b then x ∷ first else first) ++ shown memory ys
+    by true first all e = ap (λ t. x ∷ t) e
+    by false first all e = e
+
+pub shown_more : (memory : FrameMap) (fars : List ℕ) (i : ℕ) (b : Bool) → i < length fars → is_shown (memory (get_or fars i 0)) ≡ b → shown memory (take (i + 1) fars) ≡ shown memory (take i fars) ++ (if b then get_or fars i 0 ∷ [] else [])
+shown_more memory fars i b l e =
+    ap (shown memory) (take_more fars i 0 l) ∙ shown-append memory (take i fars) (get_or fars i 0 ∷ [])
+    ∙ ap (λ (x : Bool). shown memory (take i fars) ++ (if x then get_or fars i 0 ∷ [] else [])) e
+
+shown_same : (m n : FrameMap) (fars : List ℕ) → AreSame m n → shown m fars ≡ shown n fars
+shown_same m n [] same = refl
+shown_same m n (x ∷ fars) same = ap (λ (o : Option (List ℕ)). if is_shown o then x ∷ shown m fars else shown m fars) (same x) ∙ ap (λ t. if is_shown (n x) then x ∷ t else t) (shown_same m n fars same)
+
+lines_same : (m n : FrameMap) (fars : List ℕ) → AreSame m n → flat_map (λ far. line_of far (m far)) fars ≡ flat_map (λ far. line_of far (n far)) fars
+lines_same m n [] same = refl
+lines_same m n (x ∷ fars) same = ap (λ (o : Option (List ℕ)). line_of x o ++ flat_map (λ far. line_of far (m far)) fars) (same x) ∙ ap (λ t. line_of x (n x) ++ t) (lines_same m n fars same)
+
+-- maps that have the same frames are shown alike
+frames_same : (m n : FrameMap) (fars : List ℕ) → AreSame m n → frames_text m fars ≡ frames_text n fars
+unfolding frames_text
+frames_same m n fars same =
+    ap (λ (xs : List ℕ). codes "frames " ++ decimal (length xs) ++ codes "\n" ++ flat_map (λ far. line_of far (m far)) xs) (shown_same m n fars same)
+    ∙ ap (λ (t : List ℕ). codes "frames " ++ decimal (length (shown n fars)) ++ codes "\n" ++ t) (lines_same m n (shown n fars) same)
+
+pub report_is : (p q : PartData) (name : List ℕ) (regs state : Regs) (reads : List ℕ) (frames : List (List ℕ)) (n : FrameMap) (none first second third : List ℕ) → name ≡ p.name → regs ≡ state → p ≡ q → AreSame (frame_at q frames) n → none ≡ []
+    → first ≡ none ++ state_text name regs → second ≡ first ++ reads_text reads → third ≡ second ++ frames_text (frame_at p frames) (addresses_in p) → third ≡ report_text q state reads n
+unfolding report_text
+report_is p q name regs state reads frames n none first second third a b d same z e f g =
+    g ∙ ap (λ (x : PartData). second ++ frames_text (frame_at x frames) (addresses_in x)) d
+    ∙ ap (λ (t : List ℕ). second ++ t) (frames_same (frame_at q frames) n (addresses_in q) same)
+    ∙ ap (λ (t : List ℕ). t ++ frames_text n (addresses_in q)) (f ∙ ap (λ (t : List ℕ). t ++ reads_text reads) (e ∙ ap (λ (t : List ℕ). t ++ state_text name regs) z))
+    ∙ ap (λ (x : List ℕ). (state_text x regs ++ reads_text reads) ++ frames_text n (addresses_in q)) (a ∙ ap (λ (x : PartData). x.name) d)
+    ∙ ap (λ (x : Regs). (state_text q.name x ++ reads_text reads) ++ frames_text n (addresses_in q)) b
