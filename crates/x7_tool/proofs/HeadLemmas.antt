@@ -1,9 +1,10 @@
 -- The data of a stream, whose header is judged on its first bytes.
 use Rattle.std.proofs.Common.{◌≡◌, ℕ, ◌≤◌, ◌<◌, List, [], ◌∷◌, ◌++◌, length, length-append, drop, Bool, true, false, Result, Ok, Err, refl, ap, subst, sym, ◌∙◌, append_assoc, append-nil, arith, inl, inr, ◌⊎◌}
 use Rattle.std.specs.Prelude.{nat_eq}
+use Rattle.std.specs.Cmp.Lexicographic.{pointwise}
 use Rattle.std.specs.List.{starts_with}
 use Rattle.std.proofs.lemmas.Bool.Decides.{Decides-eqb}
-use Rattle.std.proofs.lemmas.List.{drop-append-le}
+use Rattle.std.proofs.lemmas.List.{drop-append-le, take-append-le}
 use Rattle.std.proofs.lemmas.Slice.Eq.{starts_is}
 use Rattle.x7_words.specs.Word.{AreBytes}
 use Rattle.x7_words.proofs.ListLemmas.{all-append}
@@ -15,7 +16,6 @@ use Rattle.x7_header.proofs.CutLemmas.{is_cut}
 use Rattle.x7_header.proofs.HeaderLemmas.{field_at_place, header_again, header_refused, header_takes, is_short, raw_at}
 use Rattle.x7_tool.specs.Event.{Event}
 use Rattle.x7_tool.specs.Outcome.{and_so, data_by, data_in}
-use Rattle.x7_tool.proofs.Causes.{no_header_stays}
 
 -- a header that was read, whatever follows
 read_more : (bytes more : List ℕ) (x : Contents × ℕ) → AreBytes bytes → header_at bytes ≡ Ok x → (header_at (bytes ++ more) ≡ Ok x) × (drop x.1 (bytes ++ more) ≡ drop x.1 bytes ++ more)
@@ -30,6 +30,10 @@ read_more bytes more x fits e =
 raw_is : (bytes : List ℕ) → starts_with nat_eq bytes fixed_bytes ≡ false → header_at bytes ≡ Err header.Raw
 unfolding header_at
 raw_is bytes s = rw s refl
+
+-- bytes that are long enough and do not begin with a header, whatever follows
+no_header_stays : (xs ys p : List ℕ) → length p ≤ length xs → starts_with nat_eq xs p ≡ false → starts_with nat_eq (xs ++ ys) p ≡ false
+no_header_stays xs ys p long h = ap (λ t. pointwise nat_eq p t) (take-append-le (length p) xs ys long) ∙ h
 
 -- no header, whatever follows thirteen bytes
 raw_more : (bytes more : List ℕ) → 13 ≤ length bytes → header_at bytes ≡ Err header.Raw → header_at (bytes ++ more) ≡ Err header.Raw

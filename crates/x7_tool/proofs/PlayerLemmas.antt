@@ -10,10 +10,11 @@ use Rattle.x7_engine.specs.declared.fed.Fed.{Fed}
 use Rattle.x7_engine.specs.declared.fed.Fed.TheVariants as fed
 use Rattle.x7_engine.specs.Kept.{on_the_bench}
 use Rattle.x7_engine.specs.ReadBuffer.{ReadBufState}
-use Rattle.x7_engine.specs.Standing.{Answers, DeviceState, DeviceStandsFor, NoWordDue, taken_in, told_of}
-use Rattle.x7_engine.specs.State.{reads_of, stop_in}
+use Rattle.x7_engine.specs.Standing.{Answers, DeviceState, DeviceStandsFor, NoWordDue, taken_in, told_of, words_left}
+use Rattle.x7_engine.specs.State.{history_taken, reads_of, stop_in}
 use Rattle.x7_engine.specs.Stops.{Stopped}
 use Rattle.x7_engine.proofs.FeedLemmas.{told_all}
+use Rattle.x7_engine.proofs.FrameLemmas.{length_left}
 use Rattle.x7_engine.proofs.ReadsLemmas.{reads_grow}
 use Rattle.x7_engine.proofs.StateLemmas.{stop_is_final-stop}
 use Rattle.x7_tool.specs.Outcome.{reads_limit, stream_limit}
@@ -138,6 +139,25 @@ played_all part bytes d reads s due = by s.ends
         stopped_end part bytes s.taken s.left d reads st.0 s.fits s.parts s.stands s.told s.few st.1 due
 
 -- ---- a player
+
+-- a new device took nothing, and no word is due
+pub new_plays : (part : PartData) (d : DeviceState) (reads : List ℕ) → DeviceStandsFor part on_the_bench false d [] → reads ≡ [] → Plays part [] d reads × NoWordDue d
+new_plays part d reads s e =
+    let h = history_taken part on_the_bench [] in
+    let none : length (reads_of part on_the_bench []) ≡ 0 = refl in
+    let due : NoWordDue d = omega (arith, none, ap length s.due_are.all, length-append s.due_are.told (words_left part h d.registers.due), length_left part h d.registers.due) in (
+      record {
+        taken = [];
+        left = [];
+        parts = refl;
+        ends = inl refl;
+        fits = tt;
+        stands = s;
+        told = e ∙ sym (told_all part on_the_bench d [] due);
+        few = omega (arith, ap length e);
+      },
+      due,
+    )
 
 -- a device that was given these bytes may be given more
 pub may_feed : (part : PartData) (bytes : List ℕ) (d : DeviceState) (reads : List ℕ) (count : ℕ) → Plays part bytes d reads → length bytes + count ≤ stream_limit → d.taken + count ≤ 2 ^ 63

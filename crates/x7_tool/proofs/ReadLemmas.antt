@@ -12,7 +12,7 @@ use Rattle.x7_header.specs.Reading.{header_at}
 use Rattle.x7_header.specs.declared.fault.HeaderFault.{HeaderFault}
 use Rattle.x7_header.specs.declared.fault.HeaderFault.TheVariants as header
 use Rattle.x7_tool.specs.declared.bad_input.InputFault.TheVariants as input
-use Rattle.x7_tool.specs.Event.{Event, Cause, Want, Fault, Absence, bad_input, cause_of}
+use Rattle.x7_tool.specs.Event.{Event, Cause, Want, Fault, Absence, bad_input, cause_of, no_memory, read_fault, too_large}
 use Rattle.x7_tool.specs.Outcome.{Known, StreamRead, and_so, data_by, data_in, data_of, put_before, read_of, whole_in, with_inputs}
 use Rattle.x7_tool.specs.Turn.{Unread, UnreadRest}
 use Rattle.x7_tool.proofs.Causes.{known_all}
@@ -218,9 +218,9 @@ stream_judged known F L limit name whole got read e =
 pub rest_more : (old mid new : Option (List ℕ)) (taken piece : List ℕ) → old ≡ preceded taken mid → mid ≡ preceded piece new → old ≡ preceded (taken ++ piece) new
 rest_more old mid new taken piece e f = e ∙ ap (preceded taken) f ∙ preceded-preceded taken piece new
 
-pub rest_unread : (old mid new : Option (List ℕ)) (name taken : List ℕ) (limit left f0 f1 f2 : ℕ) (event : Event) → old ≡ preceded taken mid → length taken + left ≡ limit → f0 ≤ f1 → Unread mid new name left f1 f2 event → UnreadRest old name limit f0 f2 event
-rest_unread old mid new name taken limit left f0 f1 f2 event e n fl (inl h) = inl (h.0, risen_from f0 f1 f2 fl h.1)
-rest_unread old mid new name taken limit left f0 f1 f2 event e n fl (inr h) =
+pub rest_unread : (old mid new : Option (List ℕ)) (name taken : List ℕ) (limit left most f0 f1 f2 : ℕ) (event : Event) → old ≡ preceded taken mid → length taken + left ≡ limit → f0 ≤ f1 → Unread mid new name left most f1 f2 event → UnreadRest old name limit f0 f2 event
+rest_unread old mid new name taken limit left most f0 f1 f2 event e n fl (inl h) = inl (h.0, risen_from f0 f1 f2 fl h.1)
+rest_unread old mid new name taken limit left most f0 f1 f2 event e n fl (inr h) =
     let piece = h.1.0 in
     inr (h.0, (taken ++ piece, (new, (rest_more old mid new taken piece e h.1.1.0, omega (arith, n, h.1.1.1, length-append taken piece)))))
 
@@ -262,6 +262,28 @@ stream_read (Some inputs) flash F L name first more after mid rest limit left la
     let judged : data_in name whole ≡ Ok (after ++ more) = data_more name first more fits (enough inputs name first more mid rest last s e ends long) ∙ ap (λ d. and_so d (λ bytes. Ok (bytes ++ more))) (sym head) in
     let read = stream_judged (with_inputs (Some inputs) flash) F L limit name whole (Ok (after ++ more)) (whole_read (Some inputs) flash F L name whole rest limit taken end sizes.1) (sym judged) in
     subst (λ (room : ℕ). IsCaused (with_inputs (Some inputs) flash) F L (λ t. read_of t limit name) (Ok (record { bytes = after ++ more; room = room }))) (sym sizes.0) read
+
+-- a stream that is too long
+too_long : (contents : Option (List ℕ → Option (List ℕ))) (flash : Option (List ℕ)) (F L : List ℕ → Type 0) (name whole : List ℕ) (rest : Option (List ℕ)) (limit : ℕ) → Selects contents name (preceded whole rest) → limit < length whole
+    → IsCaused (with_inputs contents flash) F L (λ t. read_of t limit name) (Err (too_large name))
+too_long None flash F L name whole rest limit s h = inr tt
+too_long (Some inputs) flash F L name whole rest limit s h =
+    let all = known_all inputs name whole rest s in
+    let long : nat_lt limit (length (whole ++ all.0)) ≡ true = grind (arith, h, length-append whole all.0, nat_tests) in
+    inr (tt, rw (all.1.1, long) refl)
+
+-- a stream whose first bytes were read and the others not
+pub rest_refused : (contents : Option (List ℕ → Option (List ℕ))) (flash : Option (List ℕ)) (name first : List ℕ) (mid : Option (List ℕ)) (limit left f0 f1 f2 a0 a2 : ℕ) (event : Event) → f0 ≤ f1 → length first + left ≡ limit → Selects contents name (preceded first mid)
+    → (event ≡ no_memory) ⊎ UnreadRest mid name left f1 f2 event → IsCaused (with_inputs contents flash) (RisesFor (name ∷ []) f0 f2) (RisesFor (name ∷ []) a0 a2) (λ t. read_of t limit name) (Err event)
+rest_refused contents flash name first mid limit left f0 f1 f2 a0 a2 event fl n s (inl e) =
+    caused_event (with_inputs contents flash) (RisesFor (name ∷ []) f0 f2) (RisesFor (name ∷ []) a0 a2) (λ t. read_of t limit name) event no_memory e (inl refl)
+rest_refused contents flash name first mid limit left f0 f1 f2 a0 a2 event fl n s (inr (inl h)) =
+    caused_event (with_inputs contents flash) (RisesFor (name ∷ []) f0 f2) (RisesFor (name ∷ []) a0 a2) (λ t. read_of t limit name) event (read_fault name) h.0 (inl (inl refl, risen_from f0 f1 f2 fl h.1))
+rest_refused contents flash name first mid limit left f0 f1 f2 a0 a2 event fl n s (inr (inr h)) =
+    let more = h.1.0 in
+    let taken : Selects contents name (preceded (first ++ more) h.1.1.0) = subst (λ (r : Option (List ℕ)). Selects contents name r) (ap (preceded first) h.1.1.1.0 ∙ preceded-preceded first more h.1.1.0) s in
+    caused_event (with_inputs contents flash) (RisesFor (name ∷ []) f0 f2) (RisesFor (name ∷ []) a0 a2) (λ t. read_of t limit name) event (too_large name) h.0
+    (too_long contents flash (RisesFor (name ∷ []) f0 f2) (RisesFor (name ∷ []) a0 a2) name (first ++ more) h.1.1.0 limit taken (omega (arith, n, h.1.1.1.1, length-append first more)))
 
 -- a stream whose header is refused, after it was read to its end
 pub stream_refused : (contents : Option (List ℕ → Option (List ℕ))) (flash : Option (List ℕ)) (F L : List ℕ → Type 0) (name first more : List ℕ) (mid rest : Option (List ℕ)) (limit : ℕ) (last : Bool) (event : Event) → Selects contents name (preceded first mid) → mid ≡ preceded more rest → AtEnd rest

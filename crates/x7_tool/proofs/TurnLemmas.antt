@@ -171,13 +171,13 @@ end_failed (Some inputs) flash F L stream taken rest Full old now s e f p =
     (refl, f, (taken, (all.1.1 ∙ ap (λ t. Some (taken ++ t)) none ∙ ap Some (append-nil taken), λ fits. p)))
 
 -- a turn that could not be read
-pub unread_end : (contents : Option (List ℕ → Option (List ℕ))) (flash : Option (List ℕ)) (stream taken : List ℕ) (rest rest_now : Option (List ℕ)) (l : ListerState) (left f0 f1 f2 a0 a2 : ℕ) (Full : Type 0) (old now : Option (List ℕ)) (event : Event)
-    → f0 ≤ f1 → Selects contents stream (preceded taken rest) → ListsStream l old now taken → length taken + left ≡ stream_limit → Unread rest rest_now stream left f1 f2 event
+pub unread_end : (contents : Option (List ℕ → Option (List ℕ))) (flash : Option (List ℕ)) (stream taken : List ℕ) (rest rest_now : Option (List ℕ)) (l : ListerState) (left most f0 f1 f2 a0 a2 : ℕ) (Full : Type 0) (old now : Option (List ℕ)) (event : Event)
+    → f0 ≤ f1 → Selects contents stream (preceded taken rest) → ListsStream l old now taken → length taken + left ≡ stream_limit → Unread rest rest_now stream left most f1 f2 event
     → Ends (with_inputs contents flash) (RisesFor (stream ∷ []) f0 f2) (RisesFor (stream ∷ []) a0 a2) (Some (Listing stream)) Full old now (Err event)
-unread_end contents flash stream taken rest rest_now l left f0 f1 f2 a0 a2 Full old now event f s t k (inl h) =
+unread_end contents flash stream taken rest rest_now l left most f0 f1 f2 a0 a2 Full old now event f s t k (inl h) =
     ends_same (with_inputs contents flash) (RisesFor (stream ∷ []) f0 f2) (RisesFor (stream ∷ []) a0 a2) (Some (Listing stream)) Full old now event (read_fault stream) h.0
     (broken contents flash (RisesFor (stream ∷ []) a0 a2) stream taken rest f0 f2 Full old now s (risen_from f0 f1 f2 f h.1) (stream_here l old now taken t))
-unread_end contents flash stream taken rest rest_now l left f0 f1 f2 a0 a2 Full old now event f s t k (inr h) =
+unread_end contents flash stream taken rest rest_now l left most f0 f1 f2 a0 a2 Full old now event f s t k (inr h) =
     let piece = h.1.0 in
     let over : stream_limit < length (taken ++ piece) = omega (arith, length-append taken piece, h.1.1.1, k) in
     ends_same (with_inputs contents flash) (RisesFor (stream ∷ []) f0 f2) (RisesFor (stream ∷ []) a0 a2) (Some (Listing stream)) Full old now event (too_large stream) h.0

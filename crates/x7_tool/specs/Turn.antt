@@ -21,11 +21,11 @@ abbrev pub Unopened : Option (List ℕ → Option (List ℕ)) → List ℕ → �
 Unopened contents name faults faults_now absences absences_now event =
     ((event ≡ missing name) × (Lacks contents name ⊎ HasRisen absences absences_now)) ⊎ ((event ≡ read_fault name) × HasRisen faults faults_now)
 
--- a turn of no more bytes than a stream has was not read: the inputs failed, or it went over the limit
-abbrev pub Unread : Option (List ℕ) → Option (List ℕ) → List ℕ → ℕ → ℕ → ℕ → Event → Type 0
-Unread rest rest_now name left faults faults_now event =
+-- a turn of so many bytes at most, of which so many are within the limit, was not read: the inputs failed, or it went over the limit
+abbrev pub Unread : Option (List ℕ) → Option (List ℕ) → List ℕ → ℕ → ℕ → ℕ → ℕ → Event → Type 0
+Unread rest rest_now name left most faults faults_now event =
     ((event ≡ read_fault name) × HasRisen faults faults_now)
-    ⊎ ((event ≡ too_large name) × ((piece : List ℕ) × ((rest ≡ preceded piece rest_now) × (left < length piece) × (length piece ≤ 67108864))))
+    ⊎ ((event ≡ too_large name) × ((piece : List ℕ) × ((rest ≡ preceded piece rest_now) × (left < length piece) × (length piece ≤ most))))
 
 -- what was left of an open input was read to its end: these bytes
 abbrev pub ReadsRest : Option (List ℕ) → Option (List ℕ) → List ℕ → Type 0

@@ -105,14 +105,13 @@ pub(crate) fn next_turn<'w, I: Inputs>(
 ) -> Result<Turn, Refusal<'w>>
     requires selected { I.selected inputs.old ≡ true }
     requires some { 0 < length buf.old }
-    requires few { length buf.old ≤ 67108864 }
     ensures selected { OnOk result (I.selected inputs.new ≡ true) }
     ensures within { IfOk result (λ turn. (turn.count ≤ left) × (turn.count ≤ length buf.old)) }
     ensures goes { IfOk result (λ turn. turn.last ≡ false → turn.count ≡ length buf.old) }
     ensures taken { IfOk result (λ turn. I.rest inputs.old ≡ preceded (take turn.count buf.new) (I.rest inputs.new)) }
     ensures end { IfOk result (λ turn. turn.last ≡ true → AtEnd (I.rest inputs.new)) }
     ensures length { length buf.new ≡ length buf.old }
-    ensures err { IfErr result (λ r. Unread (I.rest inputs.old) (I.rest inputs.new) name.now left (I.faults inputs.old) (I.faults inputs.new) (event_of r)) }
+    ensures err { IfErr result (λ r. Unread (I.rest inputs.old) (I.rest inputs.new) name.now left (length buf.old) (I.faults inputs.old) (I.faults inputs.new) (event_of r)) }
     ensures map { I.contents inputs.new ≡ I.contents inputs.old }
     ensures faults { I.faults inputs.old ≤ I.faults inputs.new }
     ensures absences { I.absences inputs.old ≤ I.absences inputs.new }
@@ -203,7 +202,6 @@ pub(crate) fn skip_rest<'w, I: Inputs>(
 ) -> Result<(), Refusal<'w>>
     requires selected { I.selected inputs.old ≡ true }
     requires some { 0 < length buf.old }
-    requires few { length buf.old ≤ 67108864 }
     requires end { last ≡ true → AtEnd (I.rest inputs.old) }
     ensures ok { OnOk result ((more : List ℕ) × (length more ≤ limit) × ReadsRest (I.rest inputs.old) (I.rest inputs.new) more) }
     ensures err { IfErr result (λ r. UnreadRest (I.rest inputs.old) name.now limit (I.faults inputs.old) (I.faults inputs.new) (event_of r)) }

@@ -132,7 +132,7 @@ returns-in-Err-next_turn-clause-err g c =
     let i = g.I.Inputs in
     let o = g.O.Sink in
     let v = c.loop-turn.invariant in
-    λ flash. unread_end (i.contents c.args.inputs.now) flash c.args.stream.now v.told.0 (i.rest c.loop-turn.inputs) (i.rest c.next_turn.new.inputs) c.loop-turn.lister c.loop-turn.left
+    λ flash. unread_end (i.contents c.args.inputs.now) flash c.args.stream.now v.told.0 (i.rest c.loop-turn.inputs) (i.rest c.next_turn.new.inputs) c.loop-turn.lister c.loop-turn.left _
     (i.faults c.args.inputs.now) (i.faults c.loop-turn.inputs) (i.faults c.next_turn.new.inputs) (i.absences c.args.inputs.now) (i.absences c.next_turn.new.inputs) (HasRisen (o.faults c.args.out.now) (o.faults c.loop-turn.out))
     (o.written c.args.out.now) (o.written c.loop-turn.out) (event_of c.in-Err-next_turn.refusal) v.faults v.told.1.0 v.told.1.1 v.told.1.2 c.in-Err-next_turn.ensures.err
 

@@ -6,11 +6,18 @@ use Rattle.x7_tool.specs.Message.{event_of}
 use Rattle.x7_tool.specs.Outcome.{read_of, with_inputs}
 use Rattle.x7_tool.specs.Play.{PlaysOn}
 use Rattle.x7_tool.specs.Run.{IsCaused, RisesFor}
-use Rattle.x7_tool.proofs.Causes.{ok_weaker}
-use Rattle.x7_tool.proofs.PlayerLemmas.{may_on, on_on}
-use Rattle.x7_tool.proofs.ReadLemmas.{slice_of, stream_read, stream_refused}
+use Rattle.x7_tool.proofs.Causes.{err_weaker, ok_weaker}
+use Rattle.x7_tool.proofs.PlayerLemmas.{may_less, may_on, on_on}
+use Rattle.x7_tool.proofs.ReadLemmas.{rest_refused, slice_of, stream_read, stream_refused}
 use Rattle.x7_tool.proofs.TurnLemmas.{from_ok}
 use Rattle.x7_tool.proofs.play.play_stream.Goals as goal
+
+pub play-requires : goal.play-requires
+play-requires g c =
+    let count = c.in-Ok-next_turn.turn.count in
+    let start = c.in-Ok-data_start.start in
+    let slice = take (count - start) (drop start c.next_turn.new.buf) in
+    may_less c.args.player.now c.args.limit (length slice) (omega (arith, c.in-Ok-next_turn.ensures.within.0, length-take (count - start) (drop start c.next_turn.new.buf))) c.requires.may
 
 pub play_rest-requires-clause-may : goal.play_rest-requires-clause-may
 play_rest-requires-clause-may g c =
@@ -48,6 +55,19 @@ returns-else-is_err-clause-ok g c =
       λ flash. subst (λ (bytes : List ℕ). IsCaused (with_inputs contents flash) F L (λ t. read_of t c.args.limit name) (Ok (record { bytes = bytes; room = left }))) bytes
           (stream_read contents flash F L name first more (drop start first) (i.rest c.next_turn.new.inputs) (i.rest c.play_rest.new.inputs) c.args.limit left c.in-Ok-next_turn.turn.last select p.3.0 p.3.1 c.in-Ok-next_turn.ensures.end long fits (omega (arith, p.1, size)) within c.in-Ok-data_start.ensures.data),
     )) c.play_rest.ensures.ok
+
+pub returns-else-is_err-clause-err : goal.returns-else-is_err-clause-err
+returns-else-is_err-clause-err g c =
+    let i = g.I.Inputs in
+    let contents = i.contents c.args.inputs.now in
+    let name = c.args.name.now in
+    let count = c.in-Ok-next_turn.turn.count in
+    let first = take count c.next_turn.new.buf in
+    let size : length first ≡ count = length-take-le count c.next_turn.new.buf (omega (arith, c.in-Ok-next_turn.ensures.within.1, c.next_turn.ensures.length)) in
+    let select : Selects contents name (preceded first (i.rest c.next_turn.new.inputs)) = subst (λ r. Selects contents name r) c.in-Ok-next_turn.ensures.taken c.in-Ok.ensures.found in
+    err_weaker c.play_rest.result (λ r h. λ flash.
+    rest_refused contents flash name first (i.rest c.next_turn.new.inputs) c.args.limit (c.args.limit - count) (i.faults c.args.inputs.now) (i.faults c.next_turn.new.inputs) (i.faults c.play_rest.new.inputs) (i.absences c.args.inputs.now) (i.absences c.play_rest.new.inputs)
+    (event_of r) (omega (arith, c.open.ensures.faults, c.next_turn.ensures.faults)) (omega (arith, size, c.in-Ok-next_turn.ensures.within.0)) select h) c.play_rest.ensures.err
 
 pub returns-in-Ok-skip_rest-clause-err : goal.returns-in-Ok-skip_rest-clause-err
 returns-in-Ok-skip_rest-clause-err g c = λ flash.

@@ -7,7 +7,7 @@ pub returns-in-Err-clause-err : goal.returns-in-Err-clause-err
 returns-in-Err-clause-err g c =
     let i = g.I.Inputs in
     let v = c.loop-turn.invariant in
-    rest_unread (i.rest c.args.inputs.now) (i.rest c.loop-turn.inputs) (i.rest c.next_turn.new.inputs) c.args.name.now v.told.0 c.args.limit c.loop-turn.left (i.faults c.args.inputs.now) (i.faults c.loop-turn.inputs) (i.faults c.next_turn.new.inputs) (event_of c.in-Err.refusal)
+    rest_unread (i.rest c.args.inputs.now) (i.rest c.loop-turn.inputs) (i.rest c.next_turn.new.inputs) c.args.name.now v.told.0 c.args.limit c.loop-turn.left _ (i.faults c.args.inputs.now) (i.faults c.loop-turn.inputs) (i.faults c.next_turn.new.inputs) (event_of c.in-Err.refusal)
     v.told.1.1 v.told.1.0 v.faults c.in-Err.ensures.err
 
 pub returns-then-turn-clause-ok : goal.returns-then-turn-clause-ok
