@@ -20,8 +20,8 @@ use std::alloc::Global;
 use std::{fs, io};
 
 /// The files of cases, each with the end `.txt`.
-const SUBJECTS: [&str; 10] = [
-    "list", "asm", "play", "frames", "startup", "mcs", "plan", "parts", "faults", "limits",
+const SUBJECTS: [&str; 11] = [
+    "list", "asm", "play", "frames", "startup", "mcs", "plan", "image", "parts", "faults", "limits",
 ];
 
 /// The report of one file of cases.

@@ -14,6 +14,7 @@ pub data Asked : Type 0 where
   FromMcs : (text : List ℕ) → Asked
   PlanningFull : (part frames : List ℕ) → Asked
   PlanningRead : (part : List ℕ) (far n : ℕ) → Asked
+  Imaging : (part golden update : List ℕ) → Asked
 
 -- a form of one name
 abbrev pub one_name : (List ℕ → Asked) → List (List ℕ) → Option Asked
@@ -27,6 +28,14 @@ two_names form [] = None
 two_names form (first ∷ []) = None
 two_names form (first ∷ second ∷ []) = Some (form first second)
 two_names form (first ∷ second ∷ third ∷ more) = None
+
+-- a form of three names
+abbrev pub three_names : (List ℕ → List ℕ → List ℕ → Asked) → List (List ℕ) → Option Asked
+three_names form [] = None
+three_names form (first ∷ []) = None
+three_names form (first ∷ second ∷ []) = None
+three_names form (first ∷ second ∷ third ∷ []) = Some (form first second third)
+three_names form (first ∷ second ∷ third ∷ fourth ∷ more) = None
 
 -- the word of eight upper-case digits: written again it has these digits
 abbrev pub word_in : List ℕ → Option ℕ
@@ -71,6 +80,7 @@ form_of (command ∷ names) =
     else if bytes_eq command (codes "mcs") then one_name ToMcs names
     else if bytes_eq command (codes "unmcs") then one_name FromMcs names
     else if bytes_eq command (codes "plan") then plan_form names
+    else if bytes_eq command (codes "image") then three_names Imaging names
     else None
 
 -- the names of the inputs that a form reads
@@ -83,6 +93,7 @@ names_of (Some (ToMcs image)) = image ∷ []
 names_of (Some (FromMcs text)) = text ∷ []
 names_of (Some (PlanningFull part frames)) = part ∷ frames ∷ []
 names_of (Some (PlanningRead part far n)) = part ∷ []
+names_of (Some (Imaging part golden update)) = part ∷ golden ∷ update ∷ []
 
 -- whether a form names the flash
 abbrev pub names_flash : Option Asked → Bool
@@ -94,3 +105,4 @@ names_flash (Some (ToMcs image)) = false
 names_flash (Some (FromMcs text)) = false
 names_flash (Some (PlanningFull part frames)) = false
 names_flash (Some (PlanningRead part far n)) = false
+names_flash (Some (Imaging part golden update)) = false

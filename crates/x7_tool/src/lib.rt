@@ -6,6 +6,7 @@ mod bad_input;
 mod bad_part;
 mod form;
 mod front;
+mod image;
 mod list;
 mod mcs;
 mod plan;
