@@ -1,5 +1,6 @@
 pub mod BeginsLemmas
 pub mod BodyLemmas
+pub mod BootLemmas
 pub mod CheckedLemmas
 pub mod ClockLemmas
 pub mod DataLemmas

@@ -14,6 +14,8 @@ ghost use Rattle.x7_engine.specs.Values.{cause_of};
 ghost use Rattle.x7_engine.specs.declared.fault.Fault.{Fault as FaultData};
 ghost use Rattle.x7_engine.specs.declared.kept.Kept.{Kept as KeptData};
 
+mod boot;
+
 use crate::fault::Fault;
 use crate::fed::Fed;
 use crate::kept::Kept;
@@ -21,6 +23,7 @@ use crate::read_buffer::ReadBuf;
 use crate::registers::Registers;
 use crate::regs::{End, Regs};
 use crate::stop::Stop;
+pub use boot::flash_may_end;
 use std::alloc::Global;
 use std::marker::Model;
 use x7_flow::Frames;

@@ -21,7 +21,7 @@ mod text;
 mod value;
 mod words;
 
-pub use device::Device;
+pub use device::{Device, flash_may_end};
 pub use fault::Fault;
 pub use fed::Fed;
 pub use kept::Kept;

@@ -62,6 +62,7 @@ input_text (input.AddressLine line) = codes "address line " ++ decimal line
 input_text (input.TwiceLine line) = codes "twice line " ++ decimal line
 input_text input.Foreign = codes "foreign"
 input_text input.Range = codes "range"
+input_text input.Image = codes "image"
 
 -- a row of the table of reasons: the words stand before the name, the detail after it
 pub record Row : Type 0 where

@@ -14,6 +14,7 @@ pub data Asked : Type 0 where
   FromMcs : (text : List ℕ) → Asked
   PlanningFull : (part frames : List ℕ) → Asked
   PlanningRead : (part : List ℕ) (far n : ℕ) → Asked
+  Imaging : (part golden update : List ℕ) → Asked
   Debugging : (part stream script : List ℕ) → Asked
 
 -- a form of one name
@@ -28,6 +29,14 @@ two_names form [] = None
 two_names form (first ∷ []) = None
 two_names form (first ∷ second ∷ []) = Some (form first second)
 two_names form (first ∷ second ∷ third ∷ more) = None
+
+-- a form of three names
+abbrev pub three_names : (List ℕ → List ℕ → List ℕ → Asked) → List (List ℕ) → Option Asked
+three_names form [] = None
+three_names form (first ∷ []) = None
+three_names form (first ∷ second ∷ []) = None
+three_names form (first ∷ second ∷ third ∷ []) = Some (form first second third)
+three_names form (first ∷ second ∷ third ∷ fourth ∷ more) = None
 
 -- the word of eight upper-case digits: written again it has these digits
 abbrev pub word_in : List ℕ → Option ℕ
@@ -72,6 +81,7 @@ abbrev pub form_of : List (List ℕ) → Option Asked
 form_of [] = None
 form_of (command ∷ names) =
     if bytes_eq command (codes "list") then one_name Listing names
+    else if bytes_eq command (codes "image") then three_names Imaging names
     else if bytes_eq command (codes "asm") then one_name Assembling names
     else if bytes_eq command (codes "play") then play_form names
     else if bytes_eq command (codes "mcs") then one_name ToMcs names
@@ -84,6 +94,7 @@ form_of (command ∷ names) =
 abbrev pub names_of : Option Asked → List (List ℕ)
 names_of None = []
 names_of (Some (Listing stream)) = stream ∷ []
+names_of (Some (Imaging part golden update)) = part ∷ golden ∷ update ∷ []
 names_of (Some (Playing part streams)) = part ∷ streams
 names_of (Some (Assembling text)) = text ∷ []
 names_of (Some (ToMcs image)) = image ∷ []
@@ -95,6 +106,7 @@ names_of (Some (Debugging part stream script)) = part ∷ stream ∷ script ∷ 
 -- whether a form names the flash
 abbrev pub names_flash : Option Asked → Bool
 names_flash None = false
+names_flash (Some (Imaging part golden update)) = false
 names_flash (Some (Listing stream)) = false
 names_flash (Some (Playing part streams)) = false
 names_flash (Some (Assembling text)) = false

@@ -9,3 +9,4 @@ pub mod Run
 pub mod Runs
 pub mod Turn
 pub mod Planned
+pub mod Streamed

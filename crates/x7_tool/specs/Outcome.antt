@@ -10,6 +10,7 @@ use Rattle.x7_listing.specs.declared.assembler.AsmFault.{AsmFault}
 use Rattle.x7_listing.specs.declared.assembler.AsmFault.TheVariants as asm
 use Rattle.x7_part.specs.declared.fault.PartFault.{PartFault}
 use Rattle.x7_part.specs.Part.{PartData}
+use Rattle.x7_boot.specs.Image.{image_of, image_size}
 use Rattle.x7_engine.specs.Kept.{on_the_bench}
 use Rattle.x7_engine.specs.State.{line_by, memory_in, reads_of, state_of, stop_in}
 use Rattle.x7_engine.specs.Stops.{fault_of}
@@ -33,7 +34,7 @@ use Rattle.x7_debug.specs.Script.{IsScriptOf}
 use Rattle.x7_debug.specs.Transcript.{final_position, transcript_of}
 use Rattle.x7_tool.specs.declared.bad_input.InputFault.TheVariants as input
 use Rattle.x7_tool.specs.Event.{Event, bad_input, bad_part, missing, no_memory, too_large, too_many_reads, usage}
-use Rattle.x7_tool.specs.Form.{Asked, Assembling, Debugging, FromMcs, Listing, PlanningFull, PlanningRead, Playing, ToMcs, names_flash}
+use Rattle.x7_tool.specs.Form.{Asked, Assembling, Debugging, FromMcs, Imaging, Listing, PlanningFull, PlanningRead, Playing, ToMcs, names_flash}
 use Rattle.x7_part.specs.PartFile.{part_in}
 use Rattle.x7_tool.specs.Report.{report_text}
 
@@ -261,6 +262,22 @@ DebuggedAs name (Err event) end = Err event ≡ end
 DebuggedAs name (Ok d) (Ok answer) = (orders : List Order) × (IsScriptOf d.script (Ok orders) × (shown_of d.part d.stream orders ≡ answer))
 DebuggedAs name (Ok d) (Err event) = (fault : ScriptFault) × (IsScriptOf d.script (Err fault) × (script_event name fault ≡ event))
 
+-- ---- images
+
+-- the data of a stream that has a limit of its own, which comes before its header
+abbrev pub stream_of : Known → List ℕ → Result (List ℕ) Event
+stream_of known name = and_so (whole_in known stream_limit name) (data_in name)
+
+-- the image of two streams for a part, where it is no larger than a flash may be
+abbrev pub image_for : List ℕ → PartData → List ℕ → List ℕ → Result Answer Event
+image_for name part golden update =
+    if nat_lt flash_limit (image_size (length golden) (length update)) then Err (bad_input name input.Image)
+    else Ok (record { stopped = false; text = image_of part.start_unit golden update })
+
+-- `image PART GOLDEN UPDATE`: the flash image of both streams' data
+abbrev pub imaged : Known → List ℕ → List ℕ → List ℕ → Result Answer Event
+imaged known part golden update = and_so (part_of known part) (λ p. and_so (stream_of known golden) (λ g. and_so (stream_of known update) (λ u. image_for update p g u)))
+
 -- a form comes to this end, each form one case
 abbrev pub Gives : Known → Asked → Result Answer Event → Type 0
 Gives known (Listing stream) end = listed known stream ≡ end
@@ -270,6 +287,7 @@ Gives known (ToMcs image) end = mcs_written known image ≡ end
 Gives known (FromMcs text) end = mcs_read known text ≡ end
 Gives known (PlanningFull part frames) end = PlannedFull frames (plan_texts known part frames) end
 Gives known (PlanningRead part far n) end = PlannedRead part far n (part_of known part) end
+Gives known (Imaging part golden update) end = imaged known part golden update ≡ end
 Gives known (Debugging part stream script) end = DebuggedAs script (debug_inputs known part stream script) end
 
 -- the words come to this end: words without a form are a wrong usage

@@ -41,6 +41,8 @@ pub enum InputFault {
     Foreign,
     /// So many slots can't be read: none, or more than there are.
     Range,
+    /// An image with this update stream would be larger than a flash may be.
+    Image,
 }
 
 /// The start of the line, before the name of the input.
@@ -111,6 +113,7 @@ pub(crate) fn say_bad_input<E: Sink>(
         InputFault::TwiceLine(line) => say_number(err, name, b": twice line ", line),
         InputFault::Foreign => say_at(err, name, b": foreign", b""),
         InputFault::Range => say_at(err, name, b": range", b""),
+        InputFault::Image => say_at(err, name, b": image", b""),
         InputFault::Sum { line, want, got } => {
             let mut buffer = Buffer::new();
             say_sum(

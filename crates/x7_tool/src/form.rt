@@ -1,6 +1,6 @@
 //! The forms of the command line.
 ghost use Rattle.std.specs.Prelude.{◌≡◌, map, string_bytes};
-ghost use Rattle.x7_tool.specs.Form.{Assembling, FromMcs, Listing, PlanningFull, ToMcs, debug_form, form_of, number_in, one_name, plan_form, plan_read_form, play_form, two_names, word_in};
+ghost use Rattle.x7_tool.specs.Form.{Assembling, FromMcs, Imaging, Listing, PlanningFull, ToMcs, debug_form, form_of, number_in, one_name, plan_form, plan_read_form, play_form, three_names, two_names, word_in};
 ghost use Rattle.x7_tool.specs.Run.{asked};
 
 use x7_text::{decimal_below, word_of_hex};
@@ -43,6 +43,15 @@ pub enum Form<'w> {
         far: u32,
         /// The number of slots.
         n: u32,
+    },
+    /// `image PART GOLDEN UPDATE`: the flash image of two streams.
+    Image {
+        /// The part file's name.
+        part: &'w str,
+        /// The golden stream's name.
+        golden: &'w str,
+        /// The update stream's name.
+        update: &'w str,
     },
     /// `play PART STREAM..`: the report of what one to eight streams do.
     Play {
@@ -201,6 +210,20 @@ fn debug_form(names: &[String]) -> Option<Form<'_>>
     }
 }
 
+/// `image PART GOLDEN UPDATE`.
+fn image_form(names: &[String]) -> Option<Form<'_>>
+    ensures { asked result ≡ three_names Imaging (map string_bytes names.now) }
+{
+    match names {
+        [part, golden, update] => Some(Form::Image {
+            part: part.as_str(),
+            golden: golden.as_str(),
+            update: update.as_str(),
+        }),
+        _ => None,
+    }
+}
+
 /// The form of the words, where they have one.
 pub fn words_of(words: &Vec<String>) -> Option<Form<'_>>
     ensures { asked result ≡ form_of (map string_bytes words.now.items) }
@@ -215,6 +238,7 @@ pub fn words_of(words: &Vec<String>) -> Option<Form<'_>>
         "mcs" => mcs_form(names),
         "unmcs" => unmcs_form(names),
         "plan" => plan_form(names),
+        "image" => image_form(names),
         "debug" => debug_form(names),
         _ => None,
     }

@@ -7,6 +7,7 @@ mod bad_part;
 mod debug;
 mod form;
 mod front;
+mod image;
 mod list;
 mod mcs;
 mod plan;

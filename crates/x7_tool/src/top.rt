@@ -11,6 +11,7 @@ ghost use Rattle.x7_tool.specs.Runs.{Runs};
 use crate::asm::asm;
 use crate::debug::debug;
 use crate::form::{Form, words_of};
+use crate::image::image;
 use crate::list::list;
 use crate::mcs::{mcs, unmcs};
 use crate::plan::{plan_full, plan_read};
@@ -48,6 +49,13 @@ fn answer<'w, I: Inputs, O: Sink, F: Flash>(
         Some(Form::PlanRead { part, far, n }) => {
             put_whole(plan_read(alloc, inputs, part, far, n), out)
         }
+        Some(
+            Form::Image {
+                part,
+                golden,
+                update,
+            },
+        ) => { put_whole(image(alloc, inputs, part, golden, update), out) }
         Some(Form::Unmcs { text }) => put_whole(unmcs(alloc, inputs, text), out),
         Some(
             Form::Debug {

@@ -34,3 +34,6 @@ returns-in-Foreign g c = rw c.in-Foreign.is c.say_at-in-Foreign.ensures
 
 pub returns-in-Range : goal.returns-in-Range
 returns-in-Range g c = rw c.in-Range.is c.say_at-in-Range.ensures
+
+pub returns-in-Image : goal.returns-in-Image
+returns-in-Image g c = rw c.in-Image.is c.say_at-in-Image.ensures

@@ -1,0 +1,24 @@
+-- Lemmas on the layout of an image.
+use Rattle.std.proofs.Common.{◌≡◌, ℕ, ◌/◌, List, [], ◌∷◌, ◌++◌, length, refl, ap, ◌∙◌}
+use Rattle.std.specs.List.{AllZip, repeat}
+use Rattle.x7_boot.specs.Image.{closed_slots, first_sector, slot, image_of, image_size, update_place, filled_to}
+
+-- the image by its places
+pub image_put : (unit place size start : ℕ) (golden update all : List ℕ) → place ≡ update_place (length golden) → size ≡ image_size (length golden) (length update)
+    → start ≡ place / unit → all ≡ filled_to size (filled_to place (first_sector start ++ golden) ++ update) → all ≡ image_of unit golden update
+unfolding image_of
+image_put unit place size start golden update all p s t e =
+    e ∙ ap (λ n. filled_to n (filled_to place (first_sector start ++ golden) ++ update)) s
+    ∙ ap (λ n. filled_to (image_size (length golden) (length update)) (filled_to place (first_sector n ++ golden) ++ update)) t
+    ∙ ap (λ n. filled_to (image_size (length golden) (length update)) (filled_to n (first_sector (n / unit) ++ golden) ++ update)) p
+
+equal : (xs ys : List ℕ) → AllZip (λ x y. y ≡ x) xs ys → ys ≡ xs
+equal [] [] e = refl
+equal [] (y ∷ ys) e = absurd e
+equal (x ∷ xs) [] e = absurd e
+equal (x ∷ xs) (y ∷ ys) e = let head : y ≡ x = e.0 in let tail : ys ≡ xs = equal xs ys e.1 in cc
+
+-- all slots but the first
+pub closed_slots_are : (start : ℕ) (one all : List ℕ) → one ≡ slot 0xFFFFFFFF start → AllZip (λ x y. y ≡ x) (repeat 2047 one) all → all ≡ closed_slots start
+unfolding closed_slots
+closed_slots_are start one all e f = equal (repeat 2047 one) all f ∙ ap (λ o. repeat 2047 o) e

@@ -1,0 +1,4 @@
+pub mod ImageLemmas
+pub mod PhaseLemmas
+pub mod TookLemmas
+pub mod TrialLemmas

@@ -1,0 +1,312 @@
+-- Lemmas on an attempt over a flash: how it begins, goes on by a page, and ends.
+use Rattle.std.proofs.Common.{◌≡◌, ◌==◌, ◌+◌, ◌-◌, ◌^◌, ◌<◌, ◌≤◌, ℕ, suc, Bool, true, false, List, [], ◌++◌, length, take, drop, slice_range, Option, None, Some, IsSome, length-append, length-drop, length-take-le, take-add, take-append-drop, take-take, take_all, drop-drop, refl, ap, sym, subst, ◌∙◌, append_assoc, inl, inr, arith}
+use Rattle.std.proofs.lemmas.Bool.{cases_lt}
+use Rattle.std.proofs.lemmas.List.{take-append-le}
+use Rattle.std.proofs.Math.Seq.{take-append-add, take-append_seam}
+use Rattle.x7_words.specs.Flash.{WhereTold}
+use Rattle.x7_words.specs.Word.{AreBytes}
+use Rattle.x7_words.proofs.ListLemmas.{all_back, all_front}
+use Rattle.x7_part.specs.Part.{PartData}
+use Rattle.x7_regs.specs.declared.boot_status.Cause.TheVariants.{Wrap}
+use Rattle.x7_regs.specs.declared.boot_status.Kind.TheVariants.{Bench}
+use Rattle.x7_engine.specs.declared.kept.Kept.{Kept}
+use Rattle.x7_engine.specs.declared.regs.Regs.{Regs}
+use Rattle.x7_engine.specs.declared.stop.Stop.{Stop}
+use Rattle.x7_engine.specs.declared.stop.Stop.TheVariants as stop
+use Rattle.x7_engine.specs.Standing.{DeviceState, DeviceStandsFor, MayWrap, NoWordDue}
+use Rattle.x7_engine.specs.State.{line_by, state_of, stop_in, taken_of, taken_by}
+use Rattle.x7_engine.specs.Stops.{Stopped, fault_of, stopped_at}
+use Rattle.x7_engine.specs.Values.{cause_of}
+use Rattle.x7_engine.proofs.BootLemmas.{may_wrap, none_due_at_first}
+use Rattle.x7_engine.proofs.StateLemmas.{stop_is_final-state, stop_is_final-stop}
+use Rattle.x7_boot.specs.Attempt.{Feeds, IsReady, NoneBefore, StepsTo, Took, Trial, Tries, ending_at, ending_by, failed_by}
+use Rattle.x7_boot.specs.Pages.{page_end}
+use Rattle.x7_boot.specs.declared.attempt.Ending.{Ending}
+use Rattle.x7_boot.specs.declared.attempt.Ending.TheVariants.{Started, Iprog, Failed}
+use Rattle.x7_boot.specs.declared.attempt.Step.{Step}
+use Rattle.x7_boot.specs.declared.attempt.Step.TheVariants.{Goes, Ends, Stops}
+use Rattle.x7_boot.proofs.TookLemmas.{ends_by_stop, ends_started}
+
+-- ---- nothing ends it
+
+-- an attempt that no bytes ended is neither started, nor failed, nor left by an IPROG
+not_started : (part : PartData) (kept : Kept) (bytes : List ℕ) → ending_at part kept bytes ≡ None → ((state_of part kept false bytes).phase == 7) ≡ false
+not_started part kept bytes none = by ((state_of part kept false bytes).phase == 7) refl
+  where
+    by : (b : Bool) → ((state_of part kept false bytes).phase == 7) ≡ b → ((state_of part kept false bytes).phase == 7) ≡ false
+    by false e = e
+    by true e = let some : ending_at part kept bytes ≡ Some Started = ends_started part kept bytes e in cc
+
+no_ending : (part : PartData) (kept : Kept) (bytes : List ℕ) → ending_at part kept bytes ≡ None → ending_by (line_by (stop_in part kept bytes)) ≡ None
+no_ending part kept bytes none = sym (ends_by_stop part kept bytes (not_started part kept bytes none)) ∙ none
+
+no_cause : (o : Option Stop) → ending_by o ≡ None → cause_of (fault_of o) false ≡ None
+no_cause None e = refl
+no_cause (Some stop.Iprog) e = refl
+no_cause (Some (stop.Fault f)) e = by (cause_of (Some f) false) e
+  where
+    by : (c : Option _) → failed_by c ≡ None → c ≡ None
+    by None e = refl
+    by (Some c) e = cc
+
+not_left : (o : Option Stop) → ending_by o ≡ None → o ≡ Some stop.Iprog → ⊥
+not_left o e f = let some : ending_by o ≡ Some Iprog = ap ending_by f in cc
+
+-- so the flash may end
+pub ends_here : (part : PartData) (kept : Kept) (d : DeviceState) (bytes : List ℕ) → (kept.kind ≡ Bench → ⊥) → DeviceStandsFor part kept false d bytes → ending_at part kept bytes ≡ None → NoWordDue d → MayWrap d
+ends_here part kept d bytes boots s none due =
+    let o : ending_by (line_by (stop_in part kept bytes)) ≡ None = no_ending part kept bytes none in
+    may_wrap part kept false d bytes s boots (not_started part kept bytes none) (no_cause (line_by (stop_in part kept bytes)) o) (not_left (line_by (stop_in part kept bytes)) o) due
+
+-- ---- how it begins, and goes on
+
+-- no byte ends it
+none_at_first : (part : PartData) (kept : Kept) → ending_at part kept [] ≡ None
+none_at_first part kept = refl
+
+empty_range : (all : List ℕ) (at : ℕ) → [] ≡ slice_range all at at
+empty_range all at = let e : at - at ≡ 0 = omega arith in sym (ap (λ (n : ℕ). take n (drop at all)) e)
+
+where_told : (known : Option (List ℕ)) (P : List ℕ → Type 0) → ((all : List ℕ) → P all) → WhereTold known P
+where_told None P f = tt
+where_told (Some all) P f = f all
+
+pub feeds_first : (part : PartData) (kept : Kept) (address : ℕ) (known : Option (List ℕ)) (d : DeviceState) → DeviceStandsFor part kept false d [] → Feeds part kept address known d address
+feeds_first part kept address known d s = record {
+  bytes = [];
+  stands = s;
+  going = refl;
+  open_end = none_at_first part kept;
+  due = none_due_at_first part kept false d s;
+  count = omega arith;
+  read = where_told known (λ all. [] ≡ slice_range all address address) (λ all. empty_range all address);
+  none = λ k l. absurd (omega (arith, l));
+}
+
+pub feeds_ready : (part : PartData) (kept : Kept) (address : ℕ) (known : Option (List ℕ)) (d : DeviceState) (at more : ℕ) → at + more ≤ 2 ^ 63 → Feeds part kept address known d at → IsReady d more
+feeds_ready part kept address known d at more l f = record {
+  part = part;
+  kept = kept;
+  bytes = f.bytes;
+  stands = f.stands;
+  going = f.going;
+  open_end = f.open_end;
+  fits = let c : address + length f.bytes ≡ at = f.count in omega (arith, l, c);
+}
+
+-- what nothing ended among the bytes before a piece and in it
+none_joined : (part : PartData) (kept : Kept) (bytes page : List ℕ) (n : ℕ) → n ≤ length page → ((k : ℕ) → k < length bytes → ending_at part kept (take k bytes) ≡ None)
+    → ((k : ℕ) → k < n → ending_at part kept (bytes ++ take k page) ≡ None) → (k : ℕ) → k < length (bytes ++ take n page) → ending_at part kept (take k (bytes ++ take n page)) ≡ None
+none_joined part kept bytes page n within before inside k l = elim (cases_lt k (length bytes)) [
+  | inl early ↦ subst (λ (b : List ℕ). ending_at part kept b ≡ None) (sym (take-append-le k bytes (take n page) (omega (arith, early)))) (before k early)
+  | inr late ↦
+      let sum : length (bytes ++ take n page) ≡ length bytes + length (take n page) = length-append bytes (take n page) in
+      let long : length (take n page) ≡ n = length-take-le n page within in
+      let e : length bytes + (k - length bytes) ≡ k = omega (arith, late) in
+      let here : take k (bytes ++ take n page) ≡ bytes ++ take (k - length bytes) page =
+      sym (ap (λ (m : ℕ). take m (bytes ++ take n page)) e) ∙ take-append-add bytes (take n page) (k - length bytes) ∙ ap (λ (x : List ℕ). bytes ++ x) (take-take (k - length bytes) n page (omega (arith, l, sum, long, late))) in
+      subst (λ (b : List ℕ). ending_at part kept b ≡ None) (sym here) (inside (k - length bytes) (omega (arith, l, sum, long, late)))
+]
+
+-- bytes of the flash behind others
+ranges_join : (all : List ℕ) (a b c : ℕ) → a ≤ b → b ≤ c → slice_range all a b ++ slice_range all b c ≡ slice_range all a c
+ranges_join all a b c l m =
+    let e : a + (b - a) ≡ b = omega (arith, l) in
+    let f : b - a + (c - b) ≡ c - a = omega (arith, l, m) in
+    let d : drop b all ≡ drop (b - a) (drop a all) = sym (ap (λ (n : ℕ). drop n all) e) ∙ sym (drop-drop (b - a) a all) in
+    ap (λ (x : List ℕ). take (b - a) (drop a all) ++ take (c - b) x) d ∙ sym (take-add (b - a) (c - b) (drop a all)) ∙ ap (λ (n : ℕ). take n (drop a all)) f
+
+joined_told : (known : Option (List ℕ)) (bytes page : List ℕ) (a b c : ℕ) → a ≤ b → b ≤ c → WhereTold known (λ all. bytes ≡ slice_range all a b) → WhereTold known (λ all. page ≡ slice_range all b c)
+    → WhereTold known (λ all. bytes ++ page ≡ slice_range all a c)
+joined_told None bytes page a b c l m e f = tt
+joined_told (Some all) bytes page a b c l m e f = ap (λ (x : List ℕ). x ++ page) e ∙ ap (λ (x : List ℕ). slice_range all a b ++ x) f ∙ ranges_join all a b c l m
+
+pub feeds_on : (part : PartData) (kept : Kept) (address : ℕ) (known : Option (List ℕ)) (d new : DeviceState) (page : List ℕ) (at end : ℕ) (step : Step) → at + length page ≡ end → (f : Feeds part kept address known d at)
+    → WhereTold known (λ all. page ≡ slice_range all at end) → Took part kept new f.bytes page step → step ≡ Goes → Feeds part kept address known new end
+feeds_on part kept address known d new page at end step sum f told t goes =
+    let whole : t.count ≡ length page = t.all goes in
+    let all : take t.count page ≡ page = ap (λ (n : ℕ). take n page) whole ∙ take_all (length page) page (omega arith) in
+    let steps : StepsTo part kept (f.bytes ++ page) Goes = subst (λ (s : Step). StepsTo part kept (f.bytes ++ page) s) goes (subst (λ (b : List ℕ). StepsTo part kept (f.bytes ++ b) step) all t.steps) in
+    let count : address + length f.bytes ≡ at = f.count in
+    let long : length (f.bytes ++ page) ≡ length f.bytes + length page = length-append f.bytes page in
+    record {
+      bytes = f.bytes ++ page;
+      stands = subst (λ (b : List ℕ). DeviceStandsFor part kept false new (f.bytes ++ b)) all t.stands;
+      going = steps.0;
+      open_end = steps.1;
+      due = t.due;
+      count = omega (arith, count, long, sum);
+      read = joined_told known f.bytes page address at end (omega (arith, count)) (omega (arith, sum)) f.read told;
+      none = subst (λ (b : List ℕ). (k : ℕ) → k < length (f.bytes ++ b) → ending_at part kept (take k (f.bytes ++ b)) ≡ None) all (none_joined part kept f.bytes page t.count t.within f.none t.none);
+    }
+
+-- ---- how it ends
+
+-- the bytes of a flash from an address on begin with those taken
+flash_from : (all bytes page : List ℕ) (address at end n : ℕ) → address ≤ at → at ≤ end → n ≤ length page → bytes ≡ slice_range all address at → page ≡ slice_range all at end
+    → drop address all ≡ (bytes ++ take n page) ++ (drop n page ++ drop (end - address) (drop address all))
+flash_from all bytes page address at end n l m within e f =
+    let whole : bytes ++ page ≡ take (end - address) (drop address all) = ap (λ (x : List ℕ). x ++ page) e ∙ ap (λ (x : List ℕ). slice_range all address at ++ x) f ∙ ranges_join all address at end l m in
+    let cut : page ≡ take n page ++ drop n page = sym (take-append-drop n page) in
+    let rest : List ℕ = drop (end - address) (drop address all) in
+    sym (take-append-drop (end - address) (drop address all)) ∙ ap (λ (x : List ℕ). x ++ rest) (sym whole)
+    ∙ ap (λ (x : List ℕ). (bytes ++ x) ++ rest) cut ∙ ap (λ (x : List ℕ). x ++ rest) (sym (append_assoc bytes (take n page) (drop n page))) ∙ append_assoc (bytes ++ take n page) (drop n page) rest
+
+-- nothing ends it at fewer bytes than those taken
+none_of : (part : PartData) (kept : Kept) (from bytes rest : List ℕ) → from ≡ bytes ++ rest → ((k : ℕ) → k < length bytes → ending_at part kept (take k bytes) ≡ None) → NoneBefore part kept from (length bytes)
+none_of part kept from bytes rest e none k l =
+    subst (λ (b : List ℕ). ending_at part kept b ≡ None) (sym (ap (take k) e ∙ take-append-le k bytes rest (omega (arith, l)))) (none k l)
+
+-- the attempt of a page that ends it
+pub tries_ended : (part : PartData) (kept : Kept) (address : ℕ) (all : List ℕ) (d new : DeviceState) (page : List ℕ) (at end : ℕ) (step : Step) (e : Ending) → at ≤ end → (f : Feeds part kept address (Some all) d at)
+    → page ≡ slice_range all at end → Took part kept new f.bytes page step → step ≡ Ends e → Tries part kept address all new e
+tries_ended part kept address all d new page at end step e order f told t is =
+    let bytes : List ℕ = f.bytes ++ take t.count page in
+    let count : address + length f.bytes ≡ at = f.count in
+    let rest : List ℕ = drop t.count page ++ drop (end - address) (drop address all) in
+    let from : drop address all ≡ bytes ++ rest = flash_from all f.bytes page address at end t.count (omega (arith, count)) order t.within f.read told in
+    let ends : ending_at part kept bytes ≡ Some e = subst (λ (s : Step). StepsTo part kept bytes s) is t.steps in
+    let trial : Trial = record { kept = kept; address = address; bytes = bytes; wrapped = false; ending = e } in
+    record {
+      trial = trial;
+      is = inl (record { rest = rest; taken = from; ends = ends; first = none_of part kept (drop address all) bytes rest from (none_joined part kept f.bytes page t.count t.within f.none t.none); in_flash = refl });
+      kept_is = refl;
+      address_is = refl;
+      ending_is = refl;
+      device = t.stands;
+    }
+
+-- a stop that doesn't end it stays to the flash's end
+stays_open : (part : PartData) (kept : Kept) (bytes more : List ℕ) → AreBytes (bytes ++ more) → IsSome (stop_in part kept bytes) → ending_at part kept bytes ≡ None → ending_at part kept (bytes ++ more) ≡ None
+stays_open part kept bytes more fits some none = by (stop_in part kept bytes) refl some
+  where
+    by : (o : Option Stopped) → stop_in part kept bytes ≡ o → IsSome o → ending_at part kept (bytes ++ more) ≡ None
+    by None e s = cc
+    by (Some s) e i =
+        let later : stop_in part kept (bytes ++ more) ≡ Some s = stop_is_final-stop part kept bytes more s fits e in
+        let same : state_of part kept false (bytes ++ more) ≡ state_of part kept false bytes = stop_is_final-state part kept false bytes more s fits e in
+        let no : ((state_of part kept false (bytes ++ more)).phase == 7) ≡ false = ap (λ (r : Regs). r.phase == 7) same ∙ not_started part kept bytes none in
+        ends_by_stop part kept (bytes ++ more) no ∙ ap (λ (o : Option Stopped). ending_by (line_by o)) (later ∙ sym e) ∙ no_ending part kept bytes none
+
+stop_at_last : (part : PartData) (kept : Kept) (d : DeviceState) (bytes : List ℕ) → DeviceStandsFor part kept false d bytes → (s : Stopped) → stop_in part kept bytes ≡ Some s → s.place ≡ length bytes
+stop_at_last part kept d bytes stands s e = by d.registers.stop (sym e ∙ stands.stop_is)
+  where
+    by : (o : Option Stop) → Some s ≡ stopped_at (length bytes) o → s.place ≡ length bytes
+    by None f = cc
+    by (Some line) f = cc
+
+none_stopped : (part : PartData) (kept : Kept) (from bytes rest : List ℕ) → from ≡ bytes ++ rest → AreBytes (bytes ++ rest) → IsSome (stop_in part kept bytes) → ending_at part kept bytes ≡ None
+    → ((k : ℕ) → k < length bytes → ending_at part kept (take k bytes) ≡ None) → NoneBefore part kept from (suc (length from))
+none_stopped part kept from bytes rest e fits some open_end none k l = elim (cases_lt k (length bytes)) [
+  | inl early ↦ none_of part kept from bytes rest e none k early
+  | inr late ↦
+      let m : ℕ = k - length bytes in
+      let sum : length bytes + m ≡ k = omega (arith, late) in
+      let here : take k from ≡ bytes ++ take m rest = ap (take k) e ∙ sym (ap (λ (n : ℕ). take n (bytes ++ rest)) sum) ∙ take-append-add bytes rest m in
+      let cut : bytes ++ rest ≡ (bytes ++ take m rest) ++ drop m rest = ap (λ (x : List ℕ). bytes ++ x) (sym (take-append-drop m rest)) ∙ sym (append_assoc bytes (take m rest) (drop m rest)) in
+      let fits' : AreBytes (bytes ++ take m rest) = all_front (λ b. b < 256) (bytes ++ take m rest) (drop m rest) (subst AreBytes cut fits) in
+      subst (λ (b : List ℕ). ending_at part kept b ≡ None) (sym here) (stays_open part kept bytes (take m rest) fits' some open_end)
+]
+
+taken_stopped : (part : PartData) (kept : Kept) (d : DeviceState) (from bytes rest : List ℕ) → from ≡ bytes ++ rest → AreBytes (bytes ++ rest) → DeviceStandsFor part kept false d bytes → IsSome (stop_in part kept bytes)
+    → bytes ≡ take (taken_of part kept from) from
+taken_stopped part kept d from bytes rest e fits stands some = by (stop_in part kept bytes) refl some
+  where
+    by : (o : Option Stopped) → stop_in part kept bytes ≡ o → IsSome o → bytes ≡ take (taken_of part kept from) from
+    by None f s = cc
+    by (Some s) f i =
+        let later : stop_in part kept from ≡ Some s = ap (stop_in part kept) e ∙ stop_is_final-stop part kept bytes rest s fits f in
+        let count : taken_of part kept from ≡ length bytes = ap (λ (o : Option Stopped). taken_by o (length from)) later ∙ stop_at_last part kept d bytes stands s f in
+        sym (ap (λ (n : ℕ). take n from) count ∙ ap (take (length bytes)) e ∙ take-append_seam bytes rest)
+
+-- the attempt of a page in which the device stopped, where the flash has ended for it
+pub tries_stopped : (part : PartData) (kept : Kept) (address : ℕ) (all : List ℕ) (d new wrapped : DeviceState) (page : List ℕ) (at end : ℕ) (step : Step) → AreBytes all → at ≤ end → (f : Feeds part kept address (Some all) d at)
+    → page ≡ slice_range all at end → (t : Took part kept new f.bytes page step) → step ≡ Stops → DeviceStandsFor part kept true wrapped (f.bytes ++ take t.count page) → Tries part kept address all wrapped (Failed Wrap)
+tries_stopped part kept address all d new wrapped page at end step fits order f told t is w =
+    let bytes : List ℕ = f.bytes ++ take t.count page in
+    let count : address + length f.bytes ≡ at = f.count in
+    let rest : List ℕ = drop t.count page ++ drop (end - address) (drop address all) in
+    let from : drop address all ≡ bytes ++ rest = flash_from all f.bytes page address at end t.count (omega (arith, count)) order t.within f.read told in
+    let stopped : StepsTo part kept bytes Stops = subst (λ (s : Step). StepsTo part kept bytes s) is t.steps in
+    let fits' : AreBytes (bytes ++ rest) = subst AreBytes from (all_back (λ b. b < 256) (take address all) (drop address all) (subst AreBytes (sym (take-append-drop address all)) fits)) in
+    record {
+      trial = record { kept = kept; address = address; bytes = bytes; wrapped = true; ending = Failed Wrap };
+      is = inr (record {
+        none = none_stopped part kept (drop address all) bytes rest from fits' stopped.0 stopped.1 (none_joined part kept f.bytes page t.count t.within f.none t.none);
+        taken = taken_stopped part kept new (drop address all) bytes rest from fits' t.stands stopped.0;
+        failed = refl;
+        past_end = refl;
+      });
+      kept_is = refl;
+      address_is = refl;
+      ending_is = refl;
+      device = w;
+    }
+
+-- the attempt that took all bytes of the flash
+pub tries_out : (part : PartData) (kept : Kept) (address : ℕ) (all : List ℕ) (d wrapped : DeviceState) (at : ℕ) → (f : Feeds part kept address (Some all) d at) → length all ≤ at
+    → DeviceStandsFor part kept true wrapped f.bytes → Tries part kept address all wrapped (Failed Wrap)
+tries_out part kept address all d wrapped at f past w =
+    let from : List ℕ = drop address all in
+    let left : length from ≡ length all - address = length-drop address all in
+    let count : address + length f.bytes ≡ at = f.count in
+    let whole : f.bytes ≡ from = f.read ∙ take_all (at - address) from (omega (arith, left, past, count)) in
+    let going : stop_in part kept from ≡ None = ap (stop_in part kept) (sym whole) ∙ f.going in
+    let taken : taken_of part kept from ≡ length from = ap (λ (o : Option Stopped). taken_by o (length from)) going in
+    record {
+      trial = record { kept = kept; address = address; bytes = f.bytes; wrapped = true; ending = Failed Wrap };
+      is = inr (record {
+        none = λ k l. elim (cases_lt k (length f.bytes)) [
+          | inl early ↦ subst (λ (b : List ℕ). ending_at part kept (take k b) ≡ None) whole (f.none k early)
+          | inr late ↦
+              let same : take k from ≡ f.bytes = sym (ap (take k) whole) ∙ take_all k f.bytes late in
+              subst (λ (b : List ℕ). ending_at part kept b ≡ None) (sym same) f.open_end
+        ];
+        taken = whole ∙ sym (ap (λ (n : ℕ). take n from) taken ∙ take_all (length from) from (omega arith));
+        failed = refl;
+        past_end = refl;
+      });
+      kept_is = refl;
+      address_is = refl;
+      ending_is = refl;
+      device = w;
+    }
+
+-- ---- the same where the bytes of the flash are known or not
+
+pub page_known : (known told : Option (List ℕ)) (page items : List ℕ) (at stop : ℕ) → told ≡ known → page ≡ items → length items ≡ stop - at → at ≤ stop → WhereTold told (λ all. items ≡ slice_range all at stop)
+    → WhereTold known (λ all. page ≡ slice_range all at (at + length page))
+page_known None told page items at stop e f l m w = tt
+page_known (Some all) told page items at stop e f l m w =
+    let here : items ≡ slice_range all at stop = subst (λ (o : Option (List ℕ)). WhereTold o (λ a. items ≡ slice_range a at stop)) e w in
+    let long : length page ≡ length items = ap length f in
+    let end : stop ≡ at + length page = omega (arith, l, m, long) in
+    f ∙ here ∙ ap (λ (n : ℕ). slice_range all at n) end
+
+pub known_out : (part : PartData) (kept : Kept) (address : ℕ) (known : Option (List ℕ)) (d wrapped : DeviceState) (at size : ℕ) (e : Ending) → (f : Feeds part kept address known d at) → size ≤ at
+    → WhereTold known (λ all. size ≡ length all) → DeviceStandsFor part kept true wrapped f.bytes → e ≡ Failed Wrap → WhereTold known (λ all. AreBytes all → Tries part kept address all wrapped e)
+known_out part kept address None d wrapped at size e f past told w is = tt
+known_out part kept address (Some all) d wrapped at size e f past told w is =
+    λ fits. subst (λ (x : Ending). Tries part kept address all wrapped x) (sym is) (tries_out part kept address all d wrapped at f (omega (arith, past, told)) w)
+
+pub known_ended : (part : PartData) (kept : Kept) (address : ℕ) (known : Option (List ℕ)) (d new : DeviceState) (page : List ℕ) (at : ℕ) (step : Step) (e : Ending) → (f : Feeds part kept address known d at)
+    → WhereTold known (λ all. page ≡ slice_range all at (at + length page)) → Took part kept new f.bytes page step → step ≡ Ends e → WhereTold known (λ all. AreBytes all → Tries part kept address all new e)
+known_ended part kept address None d new page at step e f told t is = tt
+known_ended part kept address (Some all) d new page at step e f told t is = λ fits. tries_ended part kept address all d new page at (at + length page) step e (omega arith) f told t is
+
+pub known_stopped : (part : PartData) (kept : Kept) (address : ℕ) (known : Option (List ℕ)) (d new wrapped : DeviceState) (page : List ℕ) (at : ℕ) (step : Step) (e : Ending) → (f : Feeds part kept address known d at)
+    → WhereTold known (λ all. page ≡ slice_range all at (at + length page)) → (t : Took part kept new f.bytes page step) → step ≡ Stops → DeviceStandsFor part kept true wrapped (f.bytes ++ take t.count page) → e ≡ Failed Wrap
+    → WhereTold known (λ all. AreBytes all → Tries part kept address all wrapped e)
+known_stopped part kept address None d new wrapped page at step e f told t is w failed = tt
+known_stopped part kept address (Some all) d new wrapped page at step e f told t is w failed =
+    λ fits. subst (λ (x : Ending). Tries part kept address all wrapped x) (sym failed) (tries_stopped part kept address all d new wrapped page at (at + length page) step fits (omega arith) f told t is w)
+
+-- a device that stopped, where the flash may end
+pub stops_here : (part : PartData) (kept : Kept) (d : DeviceState) (bytes page : List ℕ) (step : Step) → (kept.kind ≡ Bench → ⊥) → Took part kept d bytes page step → step ≡ Stops → MayWrap d
+stops_here part kept d bytes page step boots t is =
+    let steps : StepsTo part kept (bytes ++ take t.count page) Stops = subst (λ (s : Step). StepsTo part kept (bytes ++ take t.count page) s) is t.steps in
+    ends_here part kept d (bytes ++ take t.count page) boots t.stands steps.1 t.due
+
+-- a place stands before the end of its page
+pub within_page : (at extent : ℕ) → at < extent → at ≤ page_end at extent
+within_page at extent l = grind arith

@@ -1,0 +1,131 @@
+-- A boot attempt: a device takes the bytes of a flash from an address on, up to what ends the attempt (UG470, MultiBoot; its
+-- end at the least byte, and at the flash's end, are this project's choice).
+use Rattle.std.specs.Prelude.{◌≡◌, ℕ, suc, ◌+◌, ◌^◌, ◌<◌, ◌≤◌, ◌==◌, ◌⊎◌, Bool, true, false, if◌then◌else◌, List, ◌++◌, length, take, drop, slice_range, Option, None, Some, IsSome}
+use Rattle.x7_words.specs.Flash.{WhereTold}
+use Rattle.x7_part.specs.Part.{PartData}
+use Rattle.x7_regs.specs.declared.boot_status.Cause.{Cause}
+use Rattle.x7_regs.specs.declared.boot_status.Cause.TheVariants.{Wrap}
+use Rattle.x7_engine.specs.Standing.{DeviceState, DeviceStandsFor, NoWordDue}
+use Rattle.x7_engine.specs.State.{line_by, state_of, stop_in, taken_of}
+use Rattle.x7_engine.specs.Stops.{fault_of}
+use Rattle.x7_engine.specs.Values.{cause_of}
+use Rattle.x7_engine.specs.declared.fed.Fed.{Fed}
+use Rattle.x7_engine.specs.declared.fed.Fed.TheVariants as fed
+use Rattle.x7_engine.specs.declared.kept.Kept.{Kept}
+use Rattle.x7_engine.specs.declared.stop.Stop.{Stop}
+use Rattle.x7_engine.specs.declared.stop.Stop.TheVariants as stop
+use Rattle.x7_boot.specs.declared.attempt.Ending.{Ending}
+use Rattle.x7_boot.specs.declared.attempt.Ending.TheVariants.{Started, Iprog, Failed}
+use Rattle.x7_boot.specs.declared.attempt.Step.{Step}
+use Rattle.x7_boot.specs.declared.attempt.Step.TheVariants.{Goes, Ends, Stops}
+
+abbrev pub failed_by : Option Cause → Option Ending
+failed_by None = None
+failed_by (Some cause) = Some (Failed cause)
+
+-- what a stop ends an attempt by: an obeyed IPROG, or a fault Id, Crc or Watchdog; another fault doesn't end it
+abbrev pub ending_by : Option Stop → Option Ending
+ending_by (Some stop.Iprog) = Some Iprog
+ending_by line = failed_by (cause_of (fault_of line) false)
+
+-- what ends an attempt at these bytes, if anything does; phase 7 comes first
+abbrev pub ending_at : PartData → Kept → List ℕ → Option Ending
+ending_at part kept bytes =
+    if (state_of part kept false bytes).phase == 7 then Some Started else ending_by (line_by (stop_in part kept bytes))
+
+-- an attempt: what its device kept over the reset, its address, the bytes that the device took, whether the flash ended first, and what ended it
+pub record Trial : Type 0 where
+  pub kept : Kept
+  pub address : ℕ
+  pub bytes : List ℕ
+  pub wrapped : Bool
+  pub ending : Ending
+
+-- nothing ends an attempt at fewer bytes
+abbrev pub NoneBefore : PartData → Kept → List ℕ → ℕ → Type 0
+NoneBefore part kept from n = (k : ℕ) → k < n → ending_at part kept (take k from) ≡ None
+
+-- the attempt ended at the least number of bytes at which something ends it
+pub record EndsFirst (part : PartData) (from : List ℕ) (t : Trial) : Type 0 where
+  pub rest : List ℕ
+  pub taken : from ≡ t.bytes ++ rest
+  pub ends : ending_at part t.kept t.bytes ≡ Some t.ending
+  pub first : NoneBefore part t.kept from (length t.bytes)
+  pub in_flash : t.wrapped ≡ false
+
+-- nothing ended it up to the flash's end; the device took all bytes, or those up to another fault
+pub record RunsOut (part : PartData) (from : List ℕ) (t : Trial) : Type 0 where
+  pub none : NoneBefore part t.kept from (suc (length from))
+  pub taken : t.bytes ≡ take (taken_of part t.kept from) from
+  pub failed : t.ending ≡ Failed Wrap
+  pub past_end : t.wrapped ≡ true
+
+-- an attempt over a flash of these bytes; at an address past its end it has none
+abbrev pub IsTrial : PartData → List ℕ → Trial → Type 0
+IsTrial part flash t = EndsFirst part (drop t.address flash) t ⊎ RunsOut part (drop t.address flash) t
+
+-- the device is as the attempt left it
+abbrev pub IsDeviceOf : PartData → DeviceState → Trial → Type 0
+IsDeviceOf part d t = DeviceStandsFor part t.kept t.wrapped d t.bytes
+
+-- what a feed does to an attempt: whether startup has ended by then comes first, then its answer
+abbrev pub step_by : Bool → Fed → Option Cause → Step
+step_by true answer cause = Ends Started
+step_by false (fed.Iprog n) cause = Ends Iprog
+step_by false (fed.Stopped n) (Some cause) = Ends (Failed cause)
+step_by false (fed.Stopped n) None = Stops
+step_by false fed.All cause = Goes
+step_by false (fed.ReadFull n) cause = Goes
+
+-- what the bytes of a piece, behind those taken before, did to an attempt that nothing had ended
+abbrev pub StepsTo : PartData → Kept → List ℕ → Step → Type 0
+StepsTo part kept bytes Goes = (stop_in part kept bytes ≡ None) × (ending_at part kept bytes ≡ None)
+StepsTo part kept bytes (Ends e) = ending_at part kept bytes ≡ Some e
+StepsTo part kept bytes Stops = IsSome (stop_in part kept bytes) × (ending_at part kept bytes ≡ None)
+
+-- a device took bytes of a piece: all of it where the attempt goes on
+pub record Took (part : PartData) (kept : Kept) (d : DeviceState) (bytes piece : List ℕ) (step : Step) : Type 0 where
+  pub count : ℕ
+  pub within : count ≤ length piece
+  pub all : step ≡ Goes → count ≡ length piece
+  pub stands : DeviceStandsFor part kept false d (bytes ++ take count piece)
+  pub due : NoWordDue d
+  pub steps : StepsTo part kept (bytes ++ take count piece) step
+  pub none : (k : ℕ) → k < count → ending_at part kept (bytes ++ take k piece) ≡ None
+
+-- a device in an attempt that nothing has ended, with room in the count for so many bytes more
+pub record IsReady (d : DeviceState) (more : ℕ) : Type 0 where
+  pub part : PartData
+  pub kept : Kept
+  pub bytes : List ℕ
+  pub stands : DeviceStandsFor part kept false d bytes
+  pub going : stop_in part kept bytes ≡ None
+  pub open_end : ending_at part kept bytes ≡ None
+  pub fits : length bytes + more ≤ 2 ^ 63
+
+-- a device took the first bytes of a page, behind those taken before, and nothing ended its attempt
+pub record Passed (part : PartData) (kept : Kept) (d : DeviceState) (bytes page : List ℕ) (at : ℕ) : Type 0 where
+  pub stands : DeviceStandsFor part kept false d (bytes ++ take at page)
+  pub going : stop_in part kept (bytes ++ take at page) ≡ None
+  pub open_end : ending_at part kept (bytes ++ take at page) ≡ None
+  pub none : (k : ℕ) → k < at → ending_at part kept (bytes ++ take k page) ≡ None
+
+-- an attempt with this kept, at this address, over a flash of these bytes, ended so and left the device
+pub record Tries (part : PartData) (kept : Kept) (address : ℕ) (flash : List ℕ) (d : DeviceState) (ending : Ending) : Type 0 where
+  pub trial : Trial
+  pub is : IsTrial part flash trial
+  pub kept_is : trial.kept ≡ kept
+  pub address_is : trial.address ≡ address
+  pub ending_is : trial.ending ≡ ending
+  pub device : IsDeviceOf part d trial
+
+-- an attempt that took the bytes of a flash from its address to a place, where they are told, and that nothing has ended
+pub record Feeds (part : PartData) (kept : Kept) (address : ℕ) (known : Option (List ℕ)) (d : DeviceState) (at : ℕ) : Type 0 where
+  pub bytes : List ℕ
+  pub stands : DeviceStandsFor part kept false d bytes
+  pub going : stop_in part kept bytes ≡ None
+  pub open_end : ending_at part kept bytes ≡ None
+  pub due : NoWordDue d
+  pub count : address + length bytes ≡ at
+  pub read : WhereTold known (λ all. bytes ≡ slice_range all address at)
+  pub none : (k : ℕ) → k < length bytes → ending_at part kept (take k bytes) ≡ None

@@ -1,0 +1,74 @@
+-- The attempts of a boot, each of which the table gives from the end of the one before (UG470, MultiBoot and fallback; the
+-- limit of 16 attempts is this project's choice).
+--
+--     the attempt ended by     then
+--     phase 7                  the boot has started
+--     IPROG                    an attempt at the start address in WBSTAR; after 16 attempts that all ended so, a loop
+--     a failure                a fallback at address 0; the boot stops where the attempt is one itself, or CTL0 forbids it
+use Rattle.std.specs.Prelude.{◌≡◌, ℕ, ◌+◌, ◌*◌, ◌==◌, ◌||◌, nat_le, Bool, if◌then◌else◌, List, [], ◌∷◌, length, map, reverse, None}
+use Rattle.x7_words.specs.Word.{field_of}
+use Rattle.x7_part.specs.Part.{PartData}
+use Rattle.x7_regs.specs.declared.boot_status.Kind.TheVariants.{Power, Iprog, Fallback}
+use Rattle.x7_engine.specs.Kept.{is_fallback}
+use Rattle.x7_engine.specs.Standing.{DeviceState}
+use Rattle.x7_engine.specs.State.{kept_after, state_of}
+use Rattle.x7_engine.specs.declared.kept.Kept.{Kept}
+use Rattle.x7_engine.specs.declared.regs.Regs.{Regs}
+use Rattle.x7_boot.specs.Attempt.{IsDeviceOf, IsTrial, Trial}
+use Rattle.x7_boot.specs.declared.attempt.Ending.{Ending}
+use Rattle.x7_boot.specs.declared.attempt.Ending.TheVariants as ending
+use Rattle.x7_boot.specs.declared.boots.BootEnd.{BootEnd}
+use Rattle.x7_boot.specs.declared.boots.BootEnd.TheVariants as boot_end
+use Rattle.x7_boot.specs.declared.boots.Tried.{Tried}
+
+-- ConfigFallback of CTL0, bit 10: 1 forbids a fallback (UG470, control register 0)
+abbrev pub forbids_fallback : ℕ → Bool
+forbids_fallback ctl0 = field_of 10 1 ctl0 == 1
+
+-- the place in the flash that WBSTAR names: its bits 28:0, or 256 times its bits 23:0 where the part counts in steps of 256 bytes
+abbrev pub start_address : ℕ → ℕ → ℕ
+start_address unit wbstar = if unit == 256 then 256 * field_of 0 24 wbstar else field_of 0 29 wbstar
+
+-- what comes next: an attempt, or the end of the boot
+pub data Next : Type 0 where
+  Again : (kept : Kept) (address : ℕ) → Next
+  Ends : BootEnd → Next
+
+-- the state of a device at the end of an attempt
+abbrev pub end_state : PartData → Trial → Regs
+end_state part t = state_of part t.kept t.wrapped t.bytes
+
+-- the table, after so many attempts
+abbrev pub next_by : PartData → ℕ → Trial → Ending → Next
+next_by part number t ending.Started = Ends boot_end.Started
+next_by part number t ending.Iprog =
+    if nat_le 16 number then Ends boot_end.Loop else Again (kept_after part t.kept t.wrapped t.bytes Iprog) (start_address part.start_unit (end_state part t).wbstar)
+next_by part number t (ending.Failed cause) =
+    if is_fallback t.kept.kind || forbids_fallback (end_state part t).ctl0 then Ends boot_end.Stopped else Again (kept_after part t.kept t.wrapped t.bytes Fallback) 0
+
+-- the first attempt begins at address 0 as power comes, and nothing is kept
+abbrev pub at_power : Kept
+at_power = record { wbstar = 0; timer = 0; bspi = 0; kind = Power; before = None }
+
+-- a flash leads a device through these attempts, the newest first, to what comes next
+abbrev pub LeadsTo : PartData → List ℕ → List Trial → Next → Type 0
+LeadsTo part flash [] next = next ≡ Again at_power 0
+LeadsTo part flash (t ∷ older) next = LeadsTo part flash older (Again t.kept t.address) × IsTrial part flash t × (next ≡ next_by part (length older + 1) t t.ending)
+
+-- how an attempt is told
+abbrev pub tried : Trial → Tried
+tried t = record { kind = t.kept.kind; address = t.address; ending = t.ending }
+
+-- what a boot comes to: its attempts in order, its end, and the device as the last one left it
+pub record BootedState : Type 0 where
+  pub attempts : List Tried
+  pub end : BootEnd
+  pub device : DeviceState
+
+-- it is the boot of a part from a flash of these bytes
+pub record IsBoot (part : PartData) (flash : List ℕ) (b : BootedState) : Type 0 where
+  pub last : Trial
+  pub older : List Trial
+  pub leads : LeadsTo part flash (last ∷ older) (Ends b.end)
+  pub attempts : b.attempts ≡ reverse (map tried (last ∷ older))
+  pub device : IsDeviceOf part b.device last

@@ -1,0 +1,5 @@
+pub mod Attempt
+pub mod Boot
+pub mod Image
+pub mod Pages
+pub mod Phases

@@ -1,0 +1,126 @@
+//! A flash image with a golden and an update stream.
+ghost use Rattle.std.specs.Prelude.{◌≡◌, ◌+◌, ◌*◌, ◌/◌, ◌<◌, ◌≤◌, ◌++◌, ◌⊎◌, ◌↔◌, ◌∷◌, [], length, replicate, Err, IfOk, IfSome, OnOk, IfNone};
+ghost use Rattle.std.specs.List.{flat_map};
+ghost use Rattle.x7_boot.specs.Image.{closed_slots, filled_to, first_sector, flash_limit, image_of, image_size, sector_from, slot, update_place};
+
+use crate::fault::ImageFault;
+use std::alloc::Global;
+use x7_part::Part;
+use x7_words::{NoMemory, bytes_of};
+
+/// The bytes of a flash at most (this project's choice).
+pub const FLASH_LIMIT: u64 = 134_217_728;
+
+/// The bytes of a sector.
+const SECTOR: u64 = 65_536;
+
+/// The first place at or behind this one at which a sector begins.
+fn sector_from(place: u64) -> u64
+    requires { place ≤ flash_limit }
+    ensures value { result ≡ sector_from place }
+    ensures within { result ≤ flash_limit }
+{
+    (place + (SECTOR - 1)) / SECTOR * SECTOR
+}
+
+/// Where both streams end and begin: the update's place and the image's size, or none where it is larger than a flash may be.
+fn places(golden: u64, update: u64) -> Option<(u64, u64)>
+    ensures found { IfSome result (λ it. (it.0 ≡ update_place golden) × (it.1 ≡ image_size golden update) × (it.1 ≤ flash_limit)) }
+    ensures none { IfNone result (flash_limit < image_size golden update) }
+{
+    if golden > FLASH_LIMIT - SECTOR {
+        return None;
+    }
+    let place = sector_from(SECTOR + golden).max(2 * SECTOR);
+    if update > FLASH_LIMIT - place {
+        return None;
+    }
+    Some((place, sector_from(place + update)))
+}
+
+/// A slot of the first sector: a device that finds its sync word goes to the start address.
+#[rattlefmt::skip]
+#[tactic(auto, unfolding(crate::specs::Image::slot))]
+fn slot(switch: u32, start: u32) -> [u8; 32]
+    ensures { result ≡ slot switch start }
+{
+    let [s0, s1, s2, s3] = bytes_of(switch);
+    let [a0, a1, a2, a3] = bytes_of(start);
+    [
+        s0, s1, s2, s3, 0x20, 0x00, 0x00, 0x00, 0x30, 0x02, 0x00, 0x01, a0, a1, a2, a3, //
+        0x30, 0x00, 0x80, 0x01, 0x00, 0x00, 0x00, 0x0F, 0x30, 0x00, 0x80, 0x01, 0x00, 0x00, 0x00, 0x0D,
+    ]
+}
+
+/// All slots of a sector but the first, closed.
+#[tactic(auto, unfolding(crate::specs::Image::closed_slots, crate::specs::Image::slot))]
+fn closed_slots(alloc: Global, start: u32) -> Result<Vec<u8>, NoMemory>
+    ensures items { IfOk result (λ all. all.items ≡ closed_slots start) }
+    ensures length { IfOk result (λ all. length all.items ≡ 65504) }
+{
+    Ok(slot(0xFFFF_FFFF, start).repeat(alloc, 2047)?)
+}
+
+/// Appends the first sector.
+fn put_first_sector(alloc: Global, out: &mut Vec<u8>, start: u32) -> Result<(), NoMemory>
+    ensures items { OnOk result (out.new.items ≡ out.old.items ++ first_sector start) }
+    ensures length { OnOk result (length out.new.items ≡ length out.old.items + 65536) }
+{
+    let closed = closed_slots(alloc, start)?;
+    out.extend_from_slice(&slot(0xAA99_5566, start))?;
+    out.extend_from_slice(&closed)?;
+    Ok(())
+}
+
+/// Appends FF up to a place.
+fn fill(out: &mut Vec<u8>, place: u64) -> Result<(), NoMemory>
+    requires { length out.old.items ≤ place }
+    ensures items { OnOk result (out.new.items ≡ filled_to place out.old.items) }
+    ensures length { OnOk result (length out.new.items ≡ place) }
+{
+    out.resize(place as usize, 0xFF)?;
+    Ok(())
+}
+
+/// The image of this size, with the update at its place, to which the first sector leads by this start address.
+fn whole(
+    alloc: Global,
+    start: u32,
+    golden: &[u8],
+    place: u64,
+    update: &[u8],
+    size: u64,
+) -> Result<Vec<u8>, NoMemory>
+    requires golden { length golden.now + 65536 ≤ place }
+    requires update { place + length update.now ≤ size }
+    ensures { IfOk result (λ all. all.items ≡ filled_to size (filled_to place (first_sector start ++ golden.now) ++ update.now)) }
+{
+    let mut all = Vec::with_capacity(alloc, size as usize)?;
+    put_first_sector(alloc, &mut all, start)?;
+    all.extend_from_slice(golden)?;
+    fill(&mut all, place)?;
+    all.extend_from_slice(update)?;
+    fill(&mut all, size)?;
+    Ok(all)
+}
+
+/// The flash image of a golden and an update stream for a part: the first sector leads to the update, and a device whose
+/// update fails falls back to the golden one (UG470, MultiBoot; the layout is this project's choice).
+pub fn image(
+    alloc: Global,
+    part: &Part,
+    golden: &[u8],
+    update: &[u8],
+) -> Result<Vec<u8>, ImageFault>
+    ensures bytes { IfOk result (λ all. all.items ≡ image_of part.now.start_unit golden.now update.now) }
+    ensures too_long { (result ≡ Err ImageFault.TooLong) ↔ (flash_limit < image_size (length golden.now) (length update.now)) }
+{
+    let Some((place, size)) = places(golden.len() as u64, update.len() as u64) else {
+        return Err(ImageFault::TooLong);
+    };
+    let start = place as u32 / part.start_unit();
+    match whole(alloc, start, golden, place, update, size) {
+        Ok(image) => Ok(image),
+        Err(NoMemory) => Err(ImageFault::NoMemory),
+    }
+}

@@ -1,0 +1,16 @@
+//! Flash images with a golden and an update stream, and the boot of a device from a flash.
+#![tactic(auto)]
+
+mod attempt;
+mod boots;
+mod fault;
+mod layout;
+mod pages;
+#[cfg(test)]
+mod tests;
+mod trial;
+
+pub use attempt::Ending;
+pub use boots::{BootEnd, Tried};
+pub use fault::{BootFault, ImageFault};
+pub use layout::{FLASH_LIMIT, image};
