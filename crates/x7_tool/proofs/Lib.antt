@@ -5,6 +5,7 @@ pub mod HeadLemmas
 pub mod FrontLemmas
 pub mod PlayLemmas
 pub mod PlayerLemmas
+pub mod PromiseLemmas
 pub mod ReadLemmas
 pub mod ReportLemmas
 pub mod RunLemmas

@@ -20,6 +20,8 @@ use Rattle.x7_tool.specs.Form.{Asked, Assembling, Debugging, FromMcs, Imaging, L
 use Rattle.x7_tool.specs.Message.{final_status}
 use Rattle.x7_tool.specs.Outcome.{Answer, AssembledAs, Known, Gives, IsOutcome, and_so, mcs_image, present, text_limit, whole_in, with_inputs, within, known_of}
 use Rattle.x7_tool.specs.Run.{Agrees, Comes, DecidedBy, OpenBy, Ends, EndsAs, EndsBy, FreeBy, GetsPrefix, IsCausedBy, Leaves, Puts, Says, RisesFor}
+use Rattle.x7_tool.specs.Promise.{Promise}
+use Rattle.x7_tool.proofs.PromiseLemmas.{no_promise, promised}
 use Rattle.x7_tool.specs.Runs.{Back, CausedBy, Fails, FlashState, HasCause, IsQuiet, KeepsFlash, Lacks, LeftBy, Outside, Runs, Wrote, known_in}
 
 -- ---- which status an event has
@@ -200,6 +202,11 @@ back_is (Some (PlanningRead part far n)) old new s end outcome = tt
 back_is (Some (Imaging part golden update)) old new s end outcome = tt
 back_is (Some (Debugging part stream script)) old new s end outcome = tt
 
+promise_is : (form : Option Asked) (old new : Outside) (end : Result Answer Event)
+    → Ends (known_in form old) (Fails form old new) (Lacks form old new) form (HasRisen old.out_faults new.out_faults) old.out new.out end → Promise (known_in form old) form end
+promise_is form old new (Ok answer) h = promised (known_in form old) form answer (agrees_text (known_in form old) (Fails form old new) (Lacks form old new) form answer h.0)
+promise_is form old new (Err event) h = no_promise (known_in form old) form event
+
 -- how a command ended is what its run comes to
 pub runs : (form : Option Asked) (old new : Outside) (s : Status) (end : Result Answer Event) → s ≡ final_status end
     → Ends (known_in form old) (Fails form old new) (Lacks form old new) form (HasRisen old.out_faults new.out_faults) old.out new.out end
@@ -212,6 +219,7 @@ runs form old new s end e h t f = record {
   said = t;
   outcome = λ known m q. outcome_is (known_in form old) (Fails form old new) (Lacks form old new) form (HasRisen old.out_faults new.out_faults) old.out new.out s end e h known m (λ x p. q.0 p.1) (λ x p. q.1 p.1) q.2;
   back = back_is form old new s end (λ known m q. outcome_is (known_in form old) (Fails form old new) (Lacks form old new) form (HasRisen old.out_faults new.out_faults) old.out new.out s end e h known m (λ x p. q.0 p.1) (λ x p. q.1 p.1) q.2);
+  promise = promise_is form old new end h;
   no_form = λ n. run_no_form (known_in form old) (Fails form old new) (Lacks form old new) form (HasRisen old.out_faults new.out_faults) old.out new.out s end e h n;
   flash = f;
 }

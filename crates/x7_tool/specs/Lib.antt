@@ -10,3 +10,4 @@ pub mod Runs
 pub mod Turn
 pub mod Planned
 pub mod Streamed
+pub mod Promise

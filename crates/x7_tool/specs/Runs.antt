@@ -11,6 +11,7 @@ use Rattle.x7_mcs.specs.Text.{mcs_text}
 use Rattle.x7_tool.specs.Form.{Asked, Assembling, FromMcs, names_of, names_flash}
 use Rattle.x7_tool.specs.Message.{final_status}
 use Rattle.x7_tool.specs.Outcome.{Answer, Known, IsOutcome, flash_limit, known_of, stream_limit, text_limit}
+use Rattle.x7_tool.specs.Promise.{Promise}
 use Rattle.x7_tool.specs.Run.{Agrees, GetsPrefix, Leaves, RisesFor, Says, Shows}
 
 -- a flash: its bytes where they are known, its size, whether it is attached, and its counts
@@ -108,5 +109,7 @@ pub record Runs (form : Option Asked) (old new : Outside) (s : Status) : Type 0 
   pub no_form : form ≡ None → s ≡ status.Usage
   -- what other forms wrote leads back
   pub back : Back form old new s end
+  -- a planned stream that was written does on a device at rest what was planned
+  pub promise : Promise (known_in form old) form end
   -- the flash stays
   pub flash : KeepsFlash (names_flash form) old.flash new.flash

@@ -1,0 +1,97 @@
+-- What planned streams do, by what was known when they were written.
+use Rattle.std.proofs.Common.{◌≡◌, ℕ, List, Option, None, Some, Result, Ok, Err, ap, refl, subst, sym}
+use Rattle.std.specs.Prelude.{Contains}
+use Rattle.std.proofs.lemmas.List.Sorted.{All-permutation}
+use Rattle.x7_part.specs.AddressOrder.{addresses_in}
+use Rattle.x7_part.specs.Part.{PartData}
+use Rattle.x7_part.specs.PartFile.{part_in}
+use Rattle.x7_part.specs.PartRange.{IsPart}
+use Rattle.x7_part.specs.declared.fault.PartFault.{PartFault}
+use Rattle.x7_part.proofs.FileRowLemmas.{text_is}
+use Rattle.x7_planner.specs.Full.{full_stream}
+use Rattle.x7_planner.specs.Readback.{read_stream}
+use Rattle.x7_effects.specs.Played.{PlaysFull, PlaysRead}
+use Rattle.x7_effects.proofs.LawLemmas.{full_law, read_law}
+use Rattle.x7_tool.specs.Event.{Event}
+use Rattle.x7_tool.specs.Form.{Asked, Assembling, Debugging, FromMcs, Imaging, Listing, PlanningFull, PlanningRead, Playing, ToMcs}
+use Rattle.x7_tool.specs.Outcome.{Answer, Known, PlanTexts, PlannedFull, PlannedRead, and_so, part_by, part_limit, part_of, plan_texts, text_limit, whole_in}
+use Rattle.x7_tool.specs.Promise.{Promise, PromisesFull, PromisesRead}
+use Rattle.x7_tool.specs.Run.{Agrees}
+
+-- ---- the part that was read is a part
+
+value_or : {A : Type 0} → A → Result A Event → A
+value_or a (Ok b) = b
+value_or a (Err event) = a
+
+part_read : (name text : List ℕ) (p : PartData) (r : Result PartData PartFault) → part_in text ≡ r → part_by name r ≡ Ok p → IsPart p
+unfolding value_or
+part_read name text p (Ok q) e h = subst IsPart (ap (value_or q) h) (text_is text q e)
+part_read name text p (Err fault) e h = absurd (cc)
+
+part_whole : (name : List ℕ) (p : PartData) (whole : Result (List ℕ) Event) → and_so whole (λ text. part_by name (part_in text)) ≡ Ok p → IsPart p
+part_whole name p (Ok text) h = part_read name text p (part_in text) refl h
+part_whole name p (Err event) h = absurd (cc)
+
+part_is : (known : Known) (name : List ℕ) (p : PartData) → part_of known name ≡ Ok p → IsPart p
+part_is known name p h = part_whole name p (whole_in known part_limit name) h
+
+part_of_texts : (texts : PlanTexts) → PartData
+part_of_texts texts = texts.part
+
+texts_by : (part : Result PartData Event) (whole : Result (List ℕ) Event) (texts : PlanTexts) → and_so part (λ p. and_so whole (λ text. Ok (record { part = p; text = text }))) ≡ Ok texts → part ≡ Ok texts.part
+unfolding value_or part_of_texts
+texts_by (Ok p) (Ok text) texts h = ap (λ (r : Result PlanTexts Event). Ok (part_of_texts (value_or texts r))) h
+texts_by (Ok p) (Err event) texts h = absurd (cc)
+texts_by (Err event) whole texts h = absurd (cc)
+
+-- ---- what each form promises
+
+full_promised : (known : Known) (part frames : List ℕ) (read : Result PlanTexts Event) (answer : Answer) → plan_texts known part frames ≡ read → PlannedFull frames read (Ok answer) → PromisesFull known part frames answer.text
+full_promised known part frames (Err event) answer e p = absurd (cc)
+full_promised known part frames (Ok texts) answer e p = record {
+  texts = texts;
+  plan = p.1;
+  read = e;
+  planned = p.2;
+  plays = λ kept bytes fits rests.
+      let is : IsPart texts.part = part_is known part texts.part (texts_by (part_of known part) (whole_in known text_limit frames) texts e) in
+      subst (λ (stream : List ℕ). PlaysFull texts.part kept bytes stream p.1) (sym p.3)
+      (full_law texts.part kept bytes p.1 fits rests is p.2.is p.2.width (All-permutation (λ row. Contains (addresses_in texts.part) row.far) p.2.rows p.1.rows p.2.same p.2.good.addresses));
+}
+
+read_promised : (known : Known) (part : List ℕ) (far n : ℕ) (read : Result PartData Event) (answer : Answer) → part_of known part ≡ read → PlannedRead part far n read (Ok answer) → PromisesRead known part far n answer.text
+read_promised known part far n (Err event) answer e p = absurd (cc)
+read_promised known part far n (Ok device) answer e p = record {
+  device = device;
+  read = e;
+  plays = λ kept bytes fits rests.
+      subst (λ (stream : List ℕ). PlaysRead device kept bytes stream far n) (sym p.2) (read_law device kept bytes far n fits rests (part_is known part device e) p.1);
+}
+
+pub promised : (known : Option Known) (form : Option Asked) (answer : Answer) → Agrees known form (Ok answer) → Promise known form (Ok answer)
+promised None form answer a = tt
+promised (Some known) None answer a = tt
+promised (Some known) (Some (Listing stream)) answer a = tt
+promised (Some known) (Some (Playing part streams)) answer a = tt
+promised (Some known) (Some (Assembling text)) answer a = tt
+promised (Some known) (Some (ToMcs image)) answer a = tt
+promised (Some known) (Some (FromMcs text)) answer a = tt
+promised (Some known) (Some (PlanningFull part frames)) answer a = full_promised known part frames (plan_texts known part frames) answer refl a
+promised (Some known) (Some (PlanningRead part far n)) answer a = read_promised known part far n (part_of known part) answer refl a
+promised (Some known) (Some (Debugging part stream script)) answer a = tt
+promised (Some known) (Some (Imaging part golden update)) answer a = tt
+
+-- no whole text, no promise
+pub no_promise : (known : Option Known) (form : Option Asked) (event : Event) → Promise known form (Err event)
+no_promise None form event = tt
+no_promise (Some known) None event = tt
+no_promise (Some known) (Some (Listing stream)) event = tt
+no_promise (Some known) (Some (Playing part streams)) event = tt
+no_promise (Some known) (Some (Assembling text)) event = tt
+no_promise (Some known) (Some (ToMcs image)) event = tt
+no_promise (Some known) (Some (FromMcs text)) event = tt
+no_promise (Some known) (Some (PlanningFull part frames)) event = tt
+no_promise (Some known) (Some (PlanningRead part far n)) event = tt
+no_promise (Some known) (Some (Debugging part stream script)) event = tt
+no_promise (Some known) (Some (Imaging part golden update)) event = tt
