@@ -18,10 +18,10 @@ use Rattle.x7_engine.specs.Rest.{AtRest}
 use Rattle.x7_engine.specs.Startup.{phase_of}
 use Rattle.x7_effects.proofs.Items as item
 use Rattle.x7_effects.proofs.Checking.{ArePieces, Check, Piece, Put, pieces_length}
-use Rattle.x7_effects.specs.Partial.{stretches_of}
+use Rattle.x7_planner.specs.Partial.{stretches_of}
 use Rattle.x7_effects.proofs.Groups.{plan_pieces, put_stretches}
 use Rattle.x7_effects.specs.Played.{PlaysPartial}
-use Rattle.x7_effects.specs.Partial.{Stretch}
+use Rattle.x7_planner.specs.Partial.{Stretch}
 use Rattle.x7_effects.proofs.Streams.{HaveWords, command, one, stream_of, stretches_pieces}
 use Rattle.x7_effects.proofs.EndLemmas.{HasPlayed, memory_all, phase_all, played, ready_begin, ready_check}
 use Rattle.x7_effects.proofs.FormLemmas.{partial_clears}

@@ -2,3 +2,4 @@ pub mod Stream
 pub mod Full
 pub mod Readback
 pub mod Refusals
+pub mod Partial

@@ -2,10 +2,10 @@
 use Rattle.std.specs.Prelude.{◌≡◌, ℕ, ◌+◌, ◌*◌, ◌==◌, ◌&&◌, nat_le, Bool, true, false, if◌then◌else◌, List, [], ◌∷◌, ◌++◌, length, map, replicate, slice_index, slice_index_or, All, Contains, Some}
 use Rattle.std.specs.List.{flat_map}
 use Rattle.x7_part.specs.Part.{PartData, frame_words}
+use Rattle.x7_part.specs.Slots.{from, slots_in}
 use Rattle.x7_part.specs.declared.slot.Slot.{Slot}
 use Rattle.x7_part.specs.declared.slot.Slot.TheVariants.{Frame, Pad, End}
 use Rattle.x7_memory.specs.Planned.{AreApart, PlanRow, planned, planned_addresses}
-use Rattle.x7_pipeline.specs.Runs.{slots_from}
 use Rattle.x7_planner.specs.Stream.{Words, Check, head, no_op, far, idcode, mfwr, write_one, wcfg, mfw, rcrc, desync, frame_data, stream_of}
 use Rattle.x7_planner.specs.Full.{zero_frame}
 
@@ -52,7 +52,7 @@ is_frame far End = false
 
 -- the second address is the next of the first, in the same row
 abbrev pub follows : PartData → ℕ → ℕ → Bool
-follows part a b = is_frame b (slice_index_or (slots_from part a) 1 End)
+follows part a b = is_frame b (slice_index_or (from a (slots_in part)) 1 End)
 
 -- runs with a row more before them, which joins the first of them where that follows it
 abbrev pub with_row : PartData → PlanRow → List (List PlanRow) → List (List PlanRow)
