@@ -3,3 +3,4 @@ pub mod Full
 pub mod Readback
 pub mod Refusals
 pub mod Partial
+pub mod Contents

@@ -46,9 +46,9 @@ others all (r ∷ rows) = if is_shared all r then others all rows else r ∷ oth
 
 -- the slot is the frame at this address
 abbrev pub is_frame : ℕ → Slot → Bool
-is_frame far (Frame a) = a == far
-is_frame far Pad = false
-is_frame far End = false
+is_frame address (Frame a) = a == address
+is_frame address Pad = false
+is_frame address End = false
 
 -- the second address is the next of the first, in the same row
 abbrev pub follows : PartData → ℕ → ℕ → Bool
@@ -83,6 +83,14 @@ stretch_words part (Copies words fars) =
     wcfg ++ (write_one far (slice_index fars 0) ++ (frame_data (frame_words part) ++ (words ++ (mfw ++ flat_map copy_words fars))))
 stretch_words part (Rows rows) =
     wcfg ++ (write_one far (slice_index (planned_addresses rows) 0) ++ (frame_data (frame_words part * (length rows + 1)) ++ (frames_words rows ++ zero_frame part)))
+
+-- what stands before the groups
+abbrev pub partial_opening : PartData → List ℕ
+partial_opening part = head ++ (rcrc ++ (no_op ∷ write_one idcode part.idcode))
+
+-- the words of the longest runs of rows
+abbrev pub runs_words : PartData → List PlanRow → List ℕ
+runs_words part rows = flat_map (stretch_words part) (map Rows (runs_of part rows))
 
 -- the partial stream of a plan's rows
 abbrev pub partial_stream : PartData → List PlanRow → List ℕ
