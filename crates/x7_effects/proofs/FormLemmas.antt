@@ -20,7 +20,7 @@ use Rattle.x7_memory.proofs.PlanLemmas.{planned_here, planned_behind}
 use Rattle.x7_effects.proofs.Items.{Item, WriteLong, items_entered, item_words, sync_word, items_words, bytes_of_words, closed, opened, desync, bus_width_head}
 use Rattle.x7_effects.proofs.Checking.{Checking, Piece, Put, Check, IsPiece, ArePieces, ClearFirst, at_first, with_checks, piece_item, piece_length, pieces_length, after_item, ChecksAgree}
 use Rattle.x7_effects.proofs.Frames.{joined, AreWide, zero_frame, frame_of, frames_at, row_frames}
-use Rattle.x7_effects.specs.Partial.{Stretch, Copies, Rows}
+use Rattle.x7_planner.specs.Partial.{Stretch, Copies, Rows}
 use Rattle.x7_effects.proofs.Streams.{one, stream_of, full_pieces, full_stream, copy_pieces, stretch_pieces, stretches_pieces, partial_pieces, read_pieces, read_stream, HaveWords, IsStretch, AreStretches}
 use Rattle.x7_effects.proofs.FrameLemmas.{all_wide, plan_wide, first_small}
 use Rattle.x7_effects.proofs.StreamLemmas.{bytes_count, appended_history, appended_ends, head_leads, items_entered-append}

@@ -12,9 +12,9 @@ use Rattle.x7_memory.proofs.PlanLemmas.{planned_here, planned_behind}
 use Rattle.x7_memory.proofs.MapLemmas.{override_same}
 use Rattle.x7_pipeline.specs.Runs.{put_over}
 use Rattle.x7_pipeline.proofs.LawLemmas.{put_twice}
-use Rattle.x7_effects.specs.Partial.{Stretch, Copies, Rows}
-use Rattle.x7_effects.specs.Partial.{same_words, with_content, is_shared, leads_group, groups_led, others, follows, with_row, runs_of, stretches_of}
-use Rattle.x7_effects.specs.Partial.{joined_runs, IsRun, AreLongest, pairs_of}
+use Rattle.x7_planner.specs.Partial.{Stretch, Copies, Rows}
+use Rattle.x7_planner.specs.Partial.{same_words, with_content, is_shared, leads_group, groups_led, others, follows, with_row, runs_of, stretches_of}
+use Rattle.x7_planner.specs.Partial.{joined_runs, IsRun, AreLongest, pairs_of}
 use Rattle.x7_effects.proofs.Groups.{put_stretches}
 
 -- ---- the address is one of these rows'

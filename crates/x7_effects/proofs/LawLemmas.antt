@@ -11,7 +11,7 @@ use Rattle.x7_planner.specs.Readback.{read_stream}
 use Rattle.x7_planner.specs.Refusals.{AreAddressed, CanRead}
 use Rattle.x7_engine.specs.declared.kept.Kept.{Kept}
 use Rattle.x7_engine.specs.Rest.{AtRest}
-use Rattle.x7_effects.specs.Partial.{partial_stream}
+use Rattle.x7_planner.specs.Partial.{partial_stream}
 use Rattle.x7_effects.specs.Played.{PlaysFull, PlaysPartial, PlaysRead}
 use Rattle.x7_engine.specs.Kept.{on_the_bench}
 use Rattle.x7_engine.proofs.RestLemmas.{rest_new}

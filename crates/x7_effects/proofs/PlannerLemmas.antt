@@ -23,8 +23,8 @@ use Rattle.x7_effects.proofs.Checking.{ArePieces, Check, Checking, IsPiece, Piec
 use Rattle.x7_effects.proofs.Frames.{frame_of, frames_at, joined, row_frames, zero_frame}
 use Rattle.x7_effects.proofs.Groups.{plan_pieces}
 use Rattle.x7_effects.proofs.Streams.{command, copy_pieces, full_pieces, full_stream, one, read_stream, stream_of, stretch_pieces, stretches_pieces}
-use Rattle.x7_effects.specs.Partial.{Stretch, copy_words, frames_words, groups_led, leads_group, others, partial_stream, runs_of, stretch_words, stretches_of, with_content}
-use Rattle.x7_effects.specs.Partial as stretch
+use Rattle.x7_planner.specs.Partial.{Stretch, copy_words, frames_words, groups_led, leads_group, others, partial_stream, runs_of, stretch_words, stretches_of, with_content}
+use Rattle.x7_planner.specs.Partial as stretch
 use Rattle.x7_effects.proofs.CheckingLemmas.{begins, checks_after, items_checked, pieces_fit}
 use Rattle.x7_effects.proofs.FormLemmas.{frames_long, full_fits, joined_length}
 use Rattle.x7_effects.proofs.PlacedLemmas.{of_runs, rows_wide}

@@ -1,2 +1,1 @@
-pub mod Partial
 pub mod Played

@@ -1,6 +1,6 @@
 //! What planned streams do on a device at rest. The functions do nothing: their contracts are the laws.
 ghost use Rattle.std.specs.Prelude.{◌≡◌, ℕ, List, []};
-ghost use Rattle.x7_effects.specs.Partial.{AreLongest, WritesOnce, joined_runs, pairs_in, partial_stream, runs_of, stretches_of};
+ghost use Rattle.x7_planner.specs.Partial.{AreLongest, WritesOnce, joined_runs, pairs_in, partial_stream, runs_of, stretches_of};
 ghost use Rattle.x7_effects.specs.Played.{PlaysFull, PlaysPartial, PlaysRead};
 ghost use Rattle.x7_engine.specs.Kept.{on_the_bench};
 ghost use Rattle.x7_engine.specs.Rest.{AtRest};

@@ -1,2 +1,6 @@
 pub mod AddressLemmas
 pub mod SlotLemmas
+pub mod ContentLemmas
+pub mod GroupLemmas
+pub mod FewLemmas
+pub mod RunLemmas

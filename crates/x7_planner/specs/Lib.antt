@@ -2,3 +2,5 @@ pub mod Stream
 pub mod Full
 pub mod Readback
 pub mod Refusals
+pub mod Partial
+pub mod Contents

@@ -2,11 +2,16 @@
 #![tactic(auto)]
 
 mod address;
+mod change;
+mod content;
 mod fault;
+mod group;
 mod reading;
+mod run;
 mod whole;
 mod writer;
 
+pub use change::partial;
 pub use fault::PlanFault;
 pub use reading::readback;
 pub use whole::full;

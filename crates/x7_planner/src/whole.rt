@@ -72,7 +72,7 @@ fn first_words(words: &[u32], count: u32) -> &[u32]
 }
 
 /// A frame of zeros.
-fn zeros(count: u32) -> &'static [u32]
+pub(crate) fn zeros(count: u32) -> &'static [u32]
     requires { count ≤ 255 }
     ensures { result.now ≡ replicate count 0 }
 {

@@ -2,10 +2,10 @@
 use Rattle.std.specs.Prelude.{◌≡◌, ℕ, ◌+◌, ◌*◌, ◌==◌, ◌&&◌, nat_le, Bool, true, false, if◌then◌else◌, List, [], ◌∷◌, ◌++◌, length, map, replicate, slice_index, slice_index_or, All, Contains, Some}
 use Rattle.std.specs.List.{flat_map}
 use Rattle.x7_part.specs.Part.{PartData, frame_words}
+use Rattle.x7_part.specs.Slots.{from, slots_in}
 use Rattle.x7_part.specs.declared.slot.Slot.{Slot}
 use Rattle.x7_part.specs.declared.slot.Slot.TheVariants.{Frame, Pad, End}
 use Rattle.x7_memory.specs.Planned.{AreApart, PlanRow, planned, planned_addresses}
-use Rattle.x7_pipeline.specs.Runs.{slots_from}
 use Rattle.x7_planner.specs.Stream.{Words, Check, head, no_op, far, idcode, mfwr, write_one, wcfg, mfw, rcrc, desync, frame_data, stream_of}
 use Rattle.x7_planner.specs.Full.{zero_frame}
 
@@ -46,13 +46,13 @@ others all (r ∷ rows) = if is_shared all r then others all rows else r ∷ oth
 
 -- the slot is the frame at this address
 abbrev pub is_frame : ℕ → Slot → Bool
-is_frame far (Frame a) = a == far
-is_frame far Pad = false
-is_frame far End = false
+is_frame address (Frame a) = a == address
+is_frame address Pad = false
+is_frame address End = false
 
 -- the second address is the next of the first, in the same row
 abbrev pub follows : PartData → ℕ → ℕ → Bool
-follows part a b = is_frame b (slice_index_or (slots_from part a) 1 End)
+follows part a b = is_frame b (slice_index_or (from a (slots_in part)) 1 End)
 
 -- runs with a row more before them, which joins the first of them where that follows it
 abbrev pub with_row : PartData → PlanRow → List (List PlanRow) → List (List PlanRow)
@@ -83,6 +83,14 @@ stretch_words part (Copies words fars) =
     wcfg ++ (write_one far (slice_index fars 0) ++ (frame_data (frame_words part) ++ (words ++ (mfw ++ flat_map copy_words fars))))
 stretch_words part (Rows rows) =
     wcfg ++ (write_one far (slice_index (planned_addresses rows) 0) ++ (frame_data (frame_words part * (length rows + 1)) ++ (frames_words rows ++ zero_frame part)))
+
+-- what stands before the groups
+abbrev pub partial_opening : PartData → List ℕ
+partial_opening part = head ++ (rcrc ++ (no_op ∷ write_one idcode part.idcode))
+
+-- the words of the longest runs of rows
+abbrev pub runs_words : PartData → List PlanRow → List ℕ
+runs_words part rows = flat_map (stretch_words part) (map Rows (runs_of part rows))
 
 -- the partial stream of a plan's rows
 abbrev pub partial_stream : PartData → List PlanRow → List ℕ

@@ -1,0 +1,305 @@
+-- Equal contents stand together.
+use Rattle.std.proofs.Common.{◌≡◌, ◌≢◌, ℕ, zero, suc, ◌+◌, ◌-◌, ◌<◌, ◌≤◌, ◌==◌, ◌&&◌, not, ◌⊎◌, inl, inr, Bool, true, false, if◌then◌else◌, List, [], ◌∷◌, ◌++◌, length, map, take, drop, get_or, set, refl, ap, sym, subst, ◌∙◌, arith, eq-eqb, Ordering, Less, Equal, Greater, cond}
+use Rattle.std.specs.Prelude.{Contains, nat_le, IsPermutation}
+use Rattle.std.specs.List.{filter}
+use Rattle.std.specs.List.Sorted.{IsSortedBy, IsStableBy, ties}
+use Rattle.std.specs.Cmp.Lexicographic.{slice_cmp}
+use Rattle.std.specs.Cmp.{IsStrictWeakOrder}
+use Rattle.std.specs.Ordering.{nat_cmp, is_lt, is_eq, ordering_reverse}
+use Rattle.std.proofs.lemmas.Bool.{cases_eq, eqb-true, false≢true}
+use Rattle.std.proofs.lemmas.Bool.Decides.{nat_tests}
+use Rattle.std.proofs.lemmas.Cmp.{nat_list_cmp_total, same_from_slice_cmp}
+use Rattle.std.proofs.lemmas.List.{get_or-take, get_or-drop, get_or-map, get_or_default, append-nil, take-append-drop, drop_more, length-append, length-drop, length-take-le, drop-drop, length-map, get_or-set_same, get_or-set_other}
+use Rattle.std.proofs.lemmas.List.Elements.{Contains-get_or}
+use Rattle.std.proofs.lemmas.List.Sorted.{sorted_far, ranks_by, All-permutation, Contains-permutation, IsPermutation-map}
+use Rattle.x7_memory.specs.Planned.{PlanRow}
+use Rattle.x7_planner.specs.Contents.{AreGrouped, AreStarts, AreTogether, IsBegun, IsFirst, IsPlaced, row_of, rows_of}
+use Rattle.x7_planner.specs.Partial.{same_words, with_content}
+use Rattle.x7_planner.specs.declared.content.Content.{Content}
+
+-- ---- the same words
+
+pub same_words-true : (xs ys : List ℕ) → same_words xs ys ≡ true → xs ≡ ys
+same_words-true [] [] e = refl
+same_words-true [] (y ∷ ys) e = absurd (cc)
+same_words-true (x ∷ xs) [] e = absurd (cc)
+same_words-true (x ∷ xs) (y ∷ ys) e = both (x == y) refl e (same_words-true xs ys)
+  where
+    both : (b : Bool) → (x == y) ≡ b → (b && same_words xs ys) ≡ true → (same_words xs ys ≡ true → xs ≡ ys) → x ∷ xs ≡ y ∷ ys
+    both true t e ih = let h : x ≡ y = eqb-true x y t in let r : xs ≡ ys = ih e in cc
+    both false t e ih = absurd (cc)
+
+pub same_words-own : (xs : List ℕ) → same_words xs xs ≡ true
+same_words-own [] = refl
+same_words-own (x ∷ xs) = rw (eq-eqb x x refl) (same_words-own xs)
+
+pub same_words-false : (xs ys : List ℕ) → same_words xs ys ≡ false → xs ≢ ys
+same_words-false xs ys e h = false≢true (sym e ∙ ap (λ t. same_words xs t) (sym h) ∙ same_words-own xs)
+
+pub same_words-other : (xs ys : List ℕ) → xs ≢ ys → same_words xs ys ≡ false
+same_words-other xs ys n = by (same_words xs ys) refl
+  where
+    by : (b : Bool) → same_words xs ys ≡ b → b ≡ false
+    by true e = absurd (n (same_words-true xs ys e))
+    by false e = refl
+
+-- ---- rows with a content
+
+pub content-same : (words : List ℕ) (r : PlanRow) (rows : List PlanRow) → r.words ≡ words → with_content words (r ∷ rows) ≡ r ∷ with_content words rows
+content-same words r rows e = rw (ap (λ t. same_words t words) e ∙ same_words-own words) refl
+
+pub content-other : (words : List ℕ) (r : PlanRow) (rows : List PlanRow) → r.words ≢ words → with_content words (r ∷ rows) ≡ with_content words rows
+content-other words r rows n = rw (same_words-other r.words words n) refl
+
+pub content-append : (words : List ℕ) (xs ys : List PlanRow) → with_content words (xs ++ ys) ≡ with_content words xs ++ with_content words ys
+content-append words [] ys = refl
+content-append words (x ∷ xs) ys = by (same_words x.words words) (content-append words xs ys)
+  where
+    by : (b : Bool) → with_content words (xs ++ ys) ≡ with_content words xs ++ with_content words ys
+        → (if b then x ∷ with_content words (xs ++ ys) else with_content words (xs ++ ys)) ≡ (if b then x ∷ with_content words xs else with_content words xs) ++ with_content words ys
+    by true ih = ap (λ t. x ∷ t) ih
+    by false ih = ih
+
+pub content-none : (words : List ℕ) (xs : List PlanRow) → ((k : ℕ) (d : PlanRow) → k < length xs → (get_or xs k d).words ≢ words) → with_content words xs ≡ []
+content-none words [] n = refl
+content-none words (x ∷ xs) n = content-other words x xs (n 0 x (omega arith)) ∙ content-none words xs (λ k d h. n (suc k) d (omega (arith, h)))
+
+pub content-shorter : (words : List ℕ) (xs : List PlanRow) → length (with_content words xs) ≤ length xs
+content-shorter words [] = omega arith
+content-shorter words (x ∷ xs) = by (same_words x.words words) (content-shorter words xs)
+  where
+    by : (b : Bool) → length (with_content words xs) ≤ length xs → length (if b then x ∷ with_content words xs else with_content words xs) ≤ suc (length xs)
+    by true ih = omega (arith, ih)
+    by false ih = omega (arith, ih)
+
+-- ---- where a content begins and ends
+
+pub none-before : (rows : List PlanRow) (words : List ℕ) (a : ℕ) → AreTogether rows → IsFirst rows words a → with_content words (take a rows) ≡ []
+none-before rows words a t f = content-none words (take a rows) (λ k d h e.
+    let below : k < a = omega (arith, h, length-take-le a rows (let i = f.inside in omega (arith, i))) in
+    let at : (get_or rows k d).words ≡ words = ap (λ (r : PlanRow). r.words) (sym (get_or-take a rows k d below)) ∙ e in
+    f.before d (omega (arith, below)) (t k (a - 1) a d (omega (arith, below)) (omega arith) f.inside (at ∙ sym (f.has d)) ∙ at))
+
+pub none-behind : (rows : List PlanRow) (words : List ℕ) (a b : ℕ) → AreTogether rows → IsFirst rows words a → a ≤ b → ((d : PlanRow) → (get_or rows b d).words ≢ words) → with_content words (drop b rows) ≡ []
+none-behind rows words a b t f l n = content-none words (drop b rows) (λ k d h e.
+    let inside : b + k < length rows = omega (arith, h, length-drop b rows) in
+    let at : (get_or rows (b + k) d).words ≡ words = ap (λ (r : PlanRow). r.words) (sym (get_or-drop b rows k d)) ∙ e in
+    n d (t a b (b + k) d l (omega arith) inside (f.has d ∙ sym at) ∙ f.has d))
+
+pub from-first : (rows : List PlanRow) (words : List ℕ) (a : ℕ) → AreTogether rows → IsFirst rows words a → with_content words rows ≡ with_content words (drop a rows)
+from-first rows words a t f =
+    ap (with_content words) (sym (take-append-drop a rows)) ∙ content-append words (take a rows) (drop a rows) ∙ ap (λ x. x ++ with_content words (drop a rows)) (none-before rows words a t f)
+
+pub up-to : (rows : List PlanRow) (words : List ℕ) (a b : ℕ) → AreTogether rows → IsFirst rows words a → a ≤ b → ((d : PlanRow) → (get_or rows b d).words ≢ words) → with_content words rows ≡ with_content words (take b rows)
+up-to rows words a b t f l n =
+    ap (with_content words) (sym (take-append-drop b rows)) ∙ content-append words (take b rows) (drop b rows) ∙ ap (λ x. with_content words (take b rows) ++ x) (none-behind rows words a b t f l n)
+    ∙ append-nil (with_content words (take b rows))
+
+pub step-in : (rows : List PlanRow) (words : List ℕ) (a : ℕ) (d : PlanRow) → a < length rows → (get_or rows a d).words ≡ words → with_content words (drop a rows) ≡ get_or rows a d ∷ with_content words (drop (a + 1) rows)
+step-in rows words a d l e = ap (with_content words) (drop_more rows a d l) ∙ content-same words (get_or rows a d) (drop (a + 1) rows) e
+
+pub at_least : (n : ℕ) → 3 ≤ n → nat_le 3 n ≡ true
+at_least n l = grind (arith, nat_tests)
+
+pub at_most : (n : ℕ) → n < 3 → nat_le 3 n ≡ false
+at_most n l = grind (arith, nat_tests)
+
+pub is-group : (rows : List PlanRow) (words : List ℕ) (a : ℕ) (d : PlanRow) → AreTogether rows → IsFirst rows words a → a + 2 < length rows → (get_or rows (a + 2) d).words ≡ words → nat_le 3 (length (with_content words rows)) ≡ true
+is-group rows words a d t f l e =
+    let second : (get_or rows (a + 1) d).words ≡ words = t a (a + 1) (a + 2) d (omega arith) (omega arith) l (f.has d ∙ sym e) ∙ f.has d in
+    let whole : with_content words rows ≡ get_or rows a d ∷ get_or rows (a + 1) d ∷ get_or rows (a + 2) d ∷ with_content words (drop (a + 2 + 1) rows) =
+    from-first rows words a t f ∙ step-in rows words a d f.inside (f.has d)
+    ∙ ap (λ x. get_or rows a d ∷ x) (step-in rows words (a + 1) d (omega (arith, l)) second ∙ ap (λ x. get_or rows (a + 1) d ∷ x) (ap (λ (k : ℕ). with_content words (drop k rows)) (omega arith) ∙ step-in rows words (a + 2) d l e)) in
+    at_least (length (with_content words rows)) (let n : length (with_content words rows) ≡ suc (suc (suc (length (with_content words (drop (a + 2 + 1) rows))))) = ap length whole in omega (arith, n))
+
+pub no-group-short : (rows : List PlanRow) (words : List ℕ) (a : ℕ) → AreTogether rows → IsFirst rows words a → length rows - a < 3 → nat_le 3 (length (with_content words rows)) ≡ false
+no-group-short rows words a t f l =
+    at_most (length (with_content words rows)) (let n : length (with_content words rows) ≡ length (with_content words (drop a rows)) = ap length (from-first rows words a t f) in omega (arith, n, content-shorter words (drop a rows), length-drop a rows, l))
+
+pub no-group : (rows : List PlanRow) (words : List ℕ) (a : ℕ) → AreTogether rows → IsFirst rows words a → a + 2 < length rows → ((d : PlanRow) → (get_or rows (a + 2) d).words ≢ words) → nat_le 3 (length (with_content words rows)) ≡ false
+no-group rows words a t f l n =
+    let parts : with_content words (drop a rows) ≡ with_content words (take 2 (drop a rows)) ++ with_content words (drop 2 (drop a rows)) =
+    ap (with_content words) (sym (take-append-drop 2 (drop a rows))) ∙ content-append words (take 2 (drop a rows)) (drop 2 (drop a rows)) in
+    let behind : with_content words (drop 2 (drop a rows)) ≡ [] = ap (with_content words) (drop-drop 2 a rows) ∙ none-behind rows words a (a + 2) t f (omega arith) n in
+    let whole : length (with_content words rows) ≡ length (with_content words (take 2 (drop a rows))) + length (with_content words (drop 2 (drop a rows))) =
+    ap length (from-first rows words a t f ∙ parts) ∙ length-append (with_content words (take 2 (drop a rows))) (with_content words (drop 2 (drop a rows))) in
+    let none : length (with_content words (drop 2 (drop a rows))) ≡ 0 = ap length behind in
+    let two : length (take 2 (drop a rows)) ≡ 2 = length-take-le 2 (drop a rows) (omega (arith, length-drop a rows, l)) in
+    at_most (length (with_content words rows)) (omega (arith, whole, none, two, content-shorter words (take 2 (drop a rows))))
+
+pub first-of : (rows : List PlanRow) (words : List ℕ) (a : ℕ) (d : PlanRow) → AreTogether rows → IsFirst rows words a → with_content words rows ≡ get_or rows a d ∷ with_content words (drop (a + 1) rows)
+first-of rows words a d t f = from-first rows words a t f ∙ step-in rows words a d f.inside (f.has d)
+
+-- ---- rows of contents
+
+pub row-at : (contents : List Content) (i : ℕ) (d : PlanRow) (e : Content) → i < length contents → get_or (rows_of contents) i d ≡ row_of (get_or contents i e)
+row-at [] i d e l = absurd (omega (arith, l))
+row-at (c ∷ contents) zero d e l = refl
+row-at (c ∷ contents) (suc i) d e l = row-at contents i d e (omega (arith, l))
+
+-- ---- the order of contents
+
+abbrev pub by_words : Content → Content → Bool
+by_words x y = is_lt (slice_cmp nat_cmp x.words.now y.words.now)
+
+equal_is_same : (xs ys : List ℕ) (o : Ordering) → o ≡ slice_cmp nat_cmp xs ys → is_eq o ≡ same_words xs ys
+equal_is_same = same_from_slice_cmp nat_cmp is_eq same_words refl (λ _ _. refl) (λ _ _. refl) (λ x y xs ys o h. grind (arith, nat_tests))
+
+tied : (xs ys : List ℕ) → is_lt (slice_cmp nat_cmp xs ys) ≡ false → is_lt (slice_cmp nat_cmp ys xs) ≡ false → xs ≡ ys
+tied xs ys f g =
+    same_words-true xs ys (sym (equal_is_same xs ys (slice_cmp nat_cmp xs ys) refl) ∙ by (slice_cmp nat_cmp xs ys) (slice_cmp nat_cmp ys xs) f g (nat_list_cmp_total.antisymm xs ys))
+  where
+    by : (o p : Ordering) → is_lt o ≡ false → is_lt p ≡ false → o ≡ ordering_reverse p → is_eq o ≡ true
+    by Less p f g e = absurd (cc)
+    by Equal p f g e = refl
+    by Greater Less f g e = absurd (cc)
+    by Greater Equal f g e = absurd (cc)
+    by Greater Greater f g e = absurd (cc)
+
+ties_same : (x y : Content) → ties by_words x y ≡ same_words y.words.now x.words.now
+ties_same x y =
+    by (slice_cmp nat_cmp x.words.now y.words.now) (slice_cmp nat_cmp y.words.now x.words.now) (nat_list_cmp_total.antisymm x.words.now y.words.now)
+    ∙ equal_is_same y.words.now x.words.now (slice_cmp nat_cmp y.words.now x.words.now) refl
+  where
+    by : (o p : Ordering) → o ≡ ordering_reverse p → (not (is_lt o) && not (is_lt p)) ≡ is_eq p
+    by Less Less e = absurd (cc)
+    by Less Equal e = absurd (cc)
+    by Less Greater e = refl
+    by Equal Less e = absurd (cc)
+    by Equal Equal e = refl
+    by Equal Greater e = absurd (cc)
+    by Greater Less e = refl
+    by Greater Equal e = absurd (cc)
+    by Greater Greater e = absurd (cc)
+
+content_is_filter : (c : Content) (contents : List Content) → with_content c.words.now (rows_of contents) ≡ rows_of (filter (ties by_words c) contents)
+content_is_filter c [] = refl
+content_is_filter c (x ∷ contents) = rw (ties_same c x) (by (same_words x.words.now c.words.now) (content_is_filter c contents))
+  where
+    by : (b : Bool) → with_content c.words.now (rows_of contents) ≡ rows_of (filter (ties by_words c) contents)
+        → (if b then row_of x ∷ with_content c.words.now (rows_of contents) else with_content c.words.now (rows_of contents)) ≡ rows_of (cond b (x ∷ filter (ties by_words c) contents) (filter (ties by_words c) contents))
+    by true ih = ap (λ t. row_of x ∷ t) ih
+    by false ih = ih
+
+pub words_order : IsStrictWeakOrder by_words
+words_order = ranks_by nat_list_cmp_total (λ (x : Content). x.words.now)
+
+sorted_together : (contents : List Content) → IsSortedBy by_words contents → AreTogether (rows_of contents)
+sorted_together [] s i k j d l m h e = absurd (omega (arith, h))
+sorted_together (c ∷ contents) s i k j d l m h e =
+    let all : List Content = c ∷ contents in
+    let inside : j < length all = omega (arith, h, length-map all row_of) in
+    let first : get_or (rows_of all) i d ≡ row_of (get_or all i c) = row-at all i d c (omega (arith, l, m, inside)) in
+    let middle : get_or (rows_of all) k d ≡ row_of (get_or all k c) = row-at all k d c (omega (arith, m, inside)) in
+    let last : get_or (rows_of all) j d ≡ row_of (get_or all j c) = row-at all j d c inside in
+    let same : (get_or all i c).words.now ≡ (get_or all j c).words.now = ap (λ (r : PlanRow). r.words) (sym first) ∙ e ∙ ap (λ (r : PlanRow). r.words) last in
+    let up : by_words (get_or all k c) (get_or all i c) ≡ false = sorted_far by_words words_order all s i k c l (omega (arith, m, inside)) in
+    let over : by_words (get_or all j c) (get_or all k c) ≡ false = sorted_far by_words words_order all s k j c m inside in
+    let back : is_lt (slice_cmp nat_cmp (get_or all i c).words.now (get_or all k c).words.now) ≡ false = ap (λ t. is_lt (slice_cmp nat_cmp t (get_or all k c).words.now)) same ∙ over in
+    ap (λ (r : PlanRow). r.words) middle ∙ tied (get_or all k c).words.now (get_or all i c).words.now up back ∙ ap (λ (r : PlanRow). r.words) (sym first)
+
+row_there : (contents : List Content) (i : ℕ) → ((k : ℕ) (d : Content) → k < length contents → (get_or contents k d).row ≡ k) → i < length contents → Contains (map (λ (c : Content). c.row) contents) i
+row_there [] i p l = absurd (omega (arith, l))
+row_there (c ∷ contents) i p l =
+    subst (Contains (map (λ (c : Content). c.row) (c ∷ contents))) (get_or-map (λ (c : Content). c.row) (c ∷ contents) i c 0 l ∙ p i c l)
+    (Contains-get_or (map (λ (c : Content). c.row) (c ∷ contents)) i 0 (omega (arith, l, length-map (c ∷ contents) (λ (c : Content). c.row))))
+
+pub grouped-is : (rows : List PlanRow) (old new : List Content) → rows_of old ≡ rows → ((k : ℕ) (d : Content) → k < length old → (get_or old k d).row ≡ k) → IsPermutation old new → IsSortedBy by_words new → IsStableBy by_words old new
+    → AreGrouped rows new
+grouped-is rows old new e p m s t =
+    let long : length rows ≡ length old = ap length (sym e) ∙ length-map old row_of in
+    record {
+      together = sorted_together new s;
+      same = (λ k d l. content_is_filter (get_or new k d) new ∙ ap rows_of (t (get_or new k d)) ∙ sym (content_is_filter (get_or new k d) old) ∙ ap (with_content (get_or new k d).words.now) e);
+      placed = All-permutation (IsPlaced rows) old new m (λ k d l. (omega (arith, p k d l, l, long), (λ f. ap (λ (n : ℕ). get_or rows n f) (p k d l) ∙ ap (λ t. get_or t k f) (sym e) ∙ row-at old k f d l)));
+      each = (λ i l. Contains-permutation (map (λ (c : Content). c.row) old) (map (λ (c : Content). c.row) new) i (IsPermutation-map (λ (c : Content). c.row) old new m) (row_there old i p (omega (arith, l, long))));
+    }
+
+-- ---- where contents begin
+
+pub begun-same : (rows : List PlanRow) (start k : ℕ) (d : PlanRow) → IsBegun rows start k → k < length rows → (get_or rows k d).words ≡ (get_or rows start d).words → IsFirst rows (get_or rows k d).words start
+begun-same rows start zero d b l e = record {
+  inside = omega (arith, l, b.none refl);
+  has = (λ f. ap (λ (r : PlanRow). r.words) (get_or_default rows start f d (omega (arith, l, b.none refl))) ∙ sym e);
+  before = (λ f h. absurd (omega (arith, h, b.none refl)));
+}
+begun-same rows start (suc k) d b l e =
+    let f = b.first d (omega arith) in
+    subst (λ t. IsFirst rows t start) (sym (f.has d) ∙ sym e) f
+
+pub begun-new : (rows : List PlanRow) (start k : ℕ) (d : PlanRow) → IsBegun rows start k → k < length rows → (get_or rows k d).words ≢ (get_or rows start d).words → IsFirst rows (get_or rows k d).words k
+begun-new rows start k d b l n = record {
+  inside = l;
+  has = (λ f. ap (λ (r : PlanRow). r.words) (get_or_default rows k f d l));
+  before = (λ f h e. let g = b.first f h in n (sym e ∙ sym (g.has d)));
+}
+
+pub start_same : (contents : List Content) (start k : ℕ) (e : Content) → IsBegun (rows_of contents) start k → k < length contents → same_words (get_or contents k e).words.now (get_or contents start e).words.now ≡ true
+    → (d : PlanRow) → IsFirst (rows_of contents) (get_or (rows_of contents) k d).words start
+start_same contents start k e b l t d =
+    begun-same (rows_of contents) start k d b (omega (arith, l, length-map contents row_of))
+    (ap (λ (r : PlanRow). r.words) (row-at contents k d e l) ∙ same_words-true (get_or contents k e).words.now (get_or contents start e).words.now t
+    ∙ ap (λ (r : PlanRow). r.words) (sym (row-at contents start d e (let h = b.behind in omega (arith, h, l)))))
+
+pub start_new : (contents : List Content) (start k : ℕ) (e : Content) → IsBegun (rows_of contents) start k → k < length contents → same_words (get_or contents k e).words.now (get_or contents start e).words.now ≡ false
+    → (d : PlanRow) → IsFirst (rows_of contents) (get_or (rows_of contents) k d).words k
+start_new contents start k e b l t d =
+    begun-new (rows_of contents) start k d b (omega (arith, l, length-map contents row_of)) (λ s.
+    same_words-false (get_or contents k e).words.now (get_or contents start e).words.now t
+    (ap (λ (r : PlanRow). r.words) (sym (row-at contents k d e l)) ∙ s ∙ ap (λ (r : PlanRow). r.words) (row-at contents start d e (let h = b.behind in omega (arith, h, l)))))
+
+-- places up to k are marked
+pub record StartsUpTo (rows : List PlanRow) (contents : List Content) (starts : List ℕ) (start k : ℕ) : Type 0 where
+  pub begun : IsBegun (rows_of contents) start k
+  pub done : (j : ℕ) (d : Content) (e : PlanRow) → j < k → IsFirst (rows_of contents) (get_or rows (get_or contents j d).row e).words (get_or starts (get_or contents j d).row 0)
+
+pub starts_none : (rows : List PlanRow) (contents : List Content) (starts : List ℕ) → StartsUpTo rows contents starts 0 0
+starts_none rows contents starts = record {
+  begun = record { behind = omega arith; none = (λ e. refl); first = (λ d h. absurd (omega (arith, h))) };
+  done = (λ j d e h. absurd (omega (arith, h)));
+}
+
+pub starts_more : (rows : List PlanRow) (contents : List Content) (starts : List ℕ) (start k s : ℕ) (c : Content) → AreGrouped rows contents → StartsUpTo rows contents starts start k → length starts ≡ length rows → k < length contents
+    → c ≡ get_or contents k c → ((d : PlanRow) → IsFirst (rows_of contents) (get_or (rows_of contents) k d).words s) → s ≤ k → StartsUpTo rows contents (set starts c.row s) s (k + 1)
+starts_more rows contents starts start k s c g u n l r f b = record {
+  begun = record { behind = omega (arith, b); none = (λ e. absurd (omega (arith, e))); first = (λ d h. subst (λ (i : ℕ). IsFirst (rows_of contents) (get_or (rows_of contents) i d).words s) (omega arith) (f d)) };
+  done = (λ j d e h. at j d e h (cases_eq j k));
+}
+  where
+    here : (e : PlanRow) → IsFirst (rows_of contents) (get_or rows c.row e).words (get_or (set starts c.row s) c.row 0)
+    here e =
+        let placed : IsPlaced rows c = subst (IsPlaced rows) (sym r) (g.placed k c l) in
+        let words : (get_or (rows_of contents) k e).words ≡ (get_or rows c.row e).words = ap (λ (r : PlanRow). r.words) (row-at contents k e c l ∙ ap row_of (sym r) ∙ sym (placed.1 e)) in
+        rw (get_or-set_same starts c.row s 0 (omega (arith, placed.0, n))) (subst (λ t. IsFirst (rows_of contents) t s) words (f e))
+
+    at : (j : ℕ) (d : Content) (e : PlanRow) → j < k + 1 → (j ≡ k) ⊎ (j ≢ k) → IsFirst (rows_of contents) (get_or rows (get_or contents j d).row e).words (get_or (set starts c.row s) (get_or contents j d).row 0)
+    at j d e h (inl same) =
+        subst (λ (x : Content). IsFirst (rows_of contents) (get_or rows x.row e).words (get_or (set starts c.row s) x.row 0)) (r ∙ get_or_default contents k c d l ∙ ap (λ (i : ℕ). get_or contents i d) (sym same)) (here e)
+    at j d e h (inr other) = elim (cases_eq (get_or contents j d).row c.row) [
+      | inl same ↦ subst (λ (x : ℕ). IsFirst (rows_of contents) (get_or rows x e).words (get_or (set starts c.row s) x 0)) (sym same) (here e)
+      | inr differs ↦ rw (get_or-set_other starts c.row (get_or contents j d).row s 0 differs) (u.done j d e (omega (arith, h, other)))
+    ]
+
+pub starts_step : (rows : List PlanRow) (contents : List Content) (starts : List ℕ) (start k s : ℕ) (e : Content) → AreGrouped rows contents → StartsUpTo rows contents starts start k → length starts ≡ length rows → k < length contents
+    → ((d : PlanRow) → IsFirst (rows_of contents) (get_or (rows_of contents) k d).words s) → s ≤ k → StartsUpTo rows contents (set starts (get_or contents k e).row s) s (k + 1)
+starts_step rows contents starts start k s e g u n l f b = starts_more rows contents starts start k s (get_or contents k e) g u n l (get_or_default contents k e (get_or contents k e) l) f b
+
+pub starts_all : (rows : List PlanRow) (contents : List Content) (starts : List ℕ) (start k : ℕ) → AreGrouped rows contents → StartsUpTo rows contents starts start k → length starts ≡ length rows → length contents ≤ k → AreStarts rows (rows_of contents) starts
+starts_all rows contents starts start k g u n l = record {
+  count = n;
+  each = (λ i d h. at i d (g.each i h));
+}
+  where
+    some : (j : ℕ) → j < length contents → Content
+    some j h = first contents h
+      where
+        first : (cs : List Content) → j < length cs → Content
+        first [] h = absurd (omega (arith, h))
+        first (c ∷ cs) h = c
+
+    at : (i : ℕ) (d : PlanRow) → Contains (map (λ (c : Content). c.row) contents) i → IsFirst (rows_of contents) (get_or rows i d).words (get_or starts i 0)
+    at i d (j, low, e) =
+        let inside : j < length contents = omega (arith, low, length-map contents (λ (c : Content). c.row)) in
+        let c : Content = some j inside in
+        let is : (get_or contents j c).row ≡ i = sym (get_or-map (λ (c : Content). c.row) contents j c i inside) ∙ e in
+        subst (λ (x : ℕ). IsFirst (rows_of contents) (get_or rows x d).words (get_or starts x 0)) is (u.done j c d (omega (arith, inside, l)))

@@ -1,0 +1,178 @@
+-- The groups of a plan and the other rows, one row more.
+use Rattle.std.proofs.Common.{◌≡◌, ℕ, ◌+◌, ◌-◌, ◌<◌, ◌≤◌, ◌==◌, ◌&&◌, Bool, true, false, if◌then◌else◌, List, [], ◌∷◌, ◌++◌, length, take, get_or, refl, ap, sym, subst, ◌∙◌, arith, append_assoc, ◌⊎◌, inl, inr}
+use Rattle.std.proofs.lemmas.Bool.{cases_eq}
+use Rattle.std.specs.Prelude.{nat_le}
+use Rattle.std.specs.List.{flat_map}
+use Rattle.std.proofs.lemmas.Grind.{flat_map-append}
+use Rattle.std.proofs.lemmas.List.{append-nil, take_all, take_more, length-map, map-append, get_or_default, length_push, get_or_push, get_or_append_left}
+use Rattle.x7_memory.specs.Planned.{PlanRow, planned_addresses}
+use Rattle.x7_part.specs.Part.{PartData, frame_words}
+use Rattle.x7_planner.specs.Contents.{AreGrouped, AreStarts, AreTogether, IsFirst, row_of, rows_of}
+use Rattle.x7_planner.specs.Partial.{Copies, copy_words, groups_led, is_shared, leads_group, others, same_words, stretch_words, with_content}
+use Rattle.x7_planner.specs.Stream.{bytes_of_words}
+use Rattle.x7_planner.specs.declared.content.Content.{Content}
+use Rattle.x7_planner.proofs.ContentLemmas.{content-append, content-same, first-of, is-group, no-group, no-group-short, none-before, row-at, same_words-false, same_words-true, up-to}
+use Rattle.x7_planner.proofs.SlotLemmas.{written-on}
+
+-- ---- contents of a plan's rows
+
+content_grown : (rows : List PlanRow) (contents : List Content) (n : ℕ) (c : Content) (d : PlanRow) → rows_of contents ≡ take n rows → length contents ≡ n → ((i : ℕ) (e : Content) → i < length contents → (get_or contents i e).row ≡ i)
+    → n < length rows → get_or rows n d ≡ row_of c → c.row ≡ n
+    → (rows_of (contents ++ c ∷ []) ≡ take (n + 1) rows) × (length (contents ++ c ∷ []) ≡ n + 1) × ((i : ℕ) (e : Content) → i < length (contents ++ c ∷ []) → (get_or (contents ++ c ∷ []) i e).row ≡ i)
+content_grown rows contents n c d e l p h at r = (
+  map-append row_of contents (c ∷ []) ∙ ap (λ t. t ++ row_of c ∷ []) e ∙ ap (λ (x : PlanRow). take n rows ++ x ∷ []) (sym at) ∙ sym (take_more rows n d h),
+  omega (arith, length_push contents c, l),
+  (λ i f m. by i f (cases_less i (omega (arith, m, length_push contents c, l)))),
+)
+  where
+    cases_less : (i : ℕ) → i < n + 1 → (i < n) ⊎ (i ≡ n)
+    cases_less i m = elim (cases_eq i n) [ inl e ↦ inr e | inr x ↦ inl (omega (arith, m, x)) ]
+
+    by : (i : ℕ) (f : Content) → (i < n) ⊎ (i ≡ n) → (get_or (contents ++ c ∷ []) i f).row ≡ i
+    by i f (inl m) = ap (λ (x : Content). x.row) (get_or_append_left contents (c ∷ []) f i (omega (arith, m, l))) ∙ p i f (omega (arith, m, l))
+    by i f (inr m) = ap (λ (x : Content). x.row) (get_or_push contents c f i (l ∙ sym m)) ∙ r ∙ sym m
+
+pub content_pushed : (rows : List PlanRow) (old new : List Content) (n : ℕ) (c : Content) (d : PlanRow) → rows_of old ≡ take n rows → length old ≡ n → ((i : ℕ) (e : Content) → i < length old → (get_or old i e).row ≡ i)
+    → n < length rows → get_or rows n d ≡ row_of c → c.row ≡ n → new ≡ old ++ c ∷ []
+    → (rows_of new ≡ take (n + 1) rows) × (length new ≡ n + 1) × ((i : ℕ) (e : Content) → i < length new → (get_or new i e).row ≡ i)
+content_pushed rows old new n c d e l p h at r m =
+    subst (λ (t : List Content). (rows_of t ≡ take (n + 1) rows) × (length t ≡ n + 1) × ((i : ℕ) (e : Content) → i < length t → (get_or t i e).row ≡ i)) (sym m) (content_grown rows old n c d e l p h at r)
+
+-- ---- whether a content stands at three addresses or more
+
+pub short_group : (contents : List Content) (words : List ℕ) (a : ℕ) → AreTogether (rows_of contents) → IsFirst (rows_of contents) words a → length contents - a < 3 → false ≡ nat_le 3 (length (with_content words (rows_of contents)))
+short_group contents words a t f l = sym (no-group-short (rows_of contents) words a t f (omega (arith, l, length-map contents row_of)))
+
+pub group_by : (contents : List Content) (words : List ℕ) (a : ℕ) (e : Content) (b : Bool) → AreTogether (rows_of contents) → IsFirst (rows_of contents) words a → a + 2 < length contents → b ≡ same_words (get_or contents (a + 2) e).words.now words
+    → b ≡ nat_le 3 (length (with_content words (rows_of contents)))
+group_by contents words a e true t f l s =
+    sym (is-group (rows_of contents) words a (row_of e) t f (omega (arith, l, length-map contents row_of)) (ap (λ (r : PlanRow). r.words) (row-at contents (a + 2) (row_of e) e l) ∙ same_words-true (get_or contents (a + 2) e).words.now words (sym s)))
+group_by contents words a e false t f l s =
+    sym (no-group (rows_of contents) words a t f (omega (arith, l, length-map contents row_of)) (λ d h. same_words-false (get_or contents (a + 2) e).words.now words (sym s) (ap (λ (r : PlanRow). r.words) (sym (row-at contents (a + 2) d e l)) ∙ h)))
+
+-- a content's first address
+pub first_far : (contents : List Content) (words : List ℕ) (a : ℕ) (e : Content) → AreTogether (rows_of contents) → IsFirst (rows_of contents) words a → get_or (planned_addresses (with_content words (rows_of contents))) 0 0 ≡ (get_or contents a e).far
+first_far contents words a e t f =
+    let l : a < length contents = (let i = f.inside in omega (arith, i, length-map contents row_of)) in
+    ap (λ (rows : List PlanRow). get_or (planned_addresses rows) 0 0) (first-of (rows_of contents) words a (row_of e) t f) ∙ ap (λ (r : PlanRow). r.far) (row-at contents a (row_of e) e l)
+
+pub leads_by : (contents : List Content) (words : List ℕ) (a far : ℕ) (e : Content) (b : Bool) → AreTogether (rows_of contents) → IsFirst (rows_of contents) words a → b ≡ nat_le 3 (length (with_content words (rows_of contents))) → b ≡ true
+    → ((get_or contents a e).far == far) ≡ (nat_le 3 (length (with_content words (rows_of contents))) && (get_or (planned_addresses (with_content words (rows_of contents))) 0 0 == far))
+leads_by contents words a far e b t f n y = rw (sym n ∙ y) (ap (λ (x : ℕ). x == far) (sym (first_far contents words a e t f)))
+
+pub no_lead : (contents : List Content) (words : List ℕ) (far : ℕ) (b : Bool) → b ≡ nat_le 3 (length (with_content words (rows_of contents))) → b ≡ false
+    → false ≡ (nat_le 3 (length (with_content words (rows_of contents))) && (get_or (planned_addresses (with_content words (rows_of contents))) 0 0 == far))
+no_lead contents words far b n y = rw (sym n ∙ y) refl
+
+-- ---- a row's content
+
+pub first_at : (rows : List PlanRow) (contents : List Content) (starts : List ℕ) (i : ℕ) (d : PlanRow) (e : ℕ) (r : PlanRow) → AreStarts rows (rows_of contents) starts → i < length rows → get_or rows i d ≡ r → IsFirst (rows_of contents) r.words (get_or starts i e)
+first_at rows contents starts i d e r s l at =
+    subst (λ (x : ℕ). IsFirst (rows_of contents) r.words x) (get_or_default starts i 0 e (let n = s.count in omega (arith, l, n))) (subst (λ (x : PlanRow). IsFirst (rows_of contents) x.words (get_or starts i 0)) at (s.each i d l))
+
+pub inside_at : (contents : List Content) (words : List ℕ) (a : ℕ) → IsFirst (rows_of contents) words a → a < length contents
+inside_at contents words a f = let i = f.inside in omega (arith, i, length-map contents row_of)
+
+pub same_content : (rows : List PlanRow) (contents : List Content) (words : List ℕ) (a : ℕ) → AreGrouped rows contents → IsFirst (rows_of contents) words a → with_content words (rows_of contents) ≡ with_content words rows
+same_content rows [] words a g f = absurd (let i = f.inside in omega (arith, i))
+same_content rows (c ∷ contents) words a g f =
+    let l : a < length (c ∷ contents) = inside_at (c ∷ contents) words a f in
+    let is : (get_or (c ∷ contents) a c).words.now ≡ words = ap (λ (r : PlanRow). r.words) (sym (row-at (c ∷ contents) a (row_of c) c l)) ∙ f.has (row_of c) in
+    subst (λ t. with_content t (rows_of (c ∷ contents)) ≡ with_content t rows) is (g.same a c l)
+
+-- ---- the other rows
+
+pub others_append : (all xs ys : List PlanRow) → others all (xs ++ ys) ≡ others all xs ++ others all ys
+others_append all [] ys = refl
+others_append all (x ∷ xs) ys = by (is_shared all x) (others_append all xs ys)
+  where
+    by : (b : Bool) → others all (xs ++ ys) ≡ others all xs ++ others all ys → (if b then others all (xs ++ ys) else x ∷ others all (xs ++ ys)) ≡ (if b then others all xs else x ∷ others all xs) ++ others all ys
+    by true ih = ih
+    by false ih = ap (λ t. x ∷ t) ih
+
+pub other_more : (rows : List PlanRow) (contents old new : List Content) (a n : ℕ) (c : Content) (d : PlanRow) (b : Bool) → AreGrouped rows contents → IsFirst (rows_of contents) c.words.now a → n < length rows → get_or rows n d ≡ row_of c
+    → b ≡ nat_le 3 (length (with_content c.words.now (rows_of contents))) → rows_of old ≡ others rows (take n rows) → new ≡ (if b then old else old ++ c ∷ []) → rows_of new ≡ others rows (take (n + 1) rows)
+other_more rows contents old new a n c d b g f l at e h m =
+    ap rows_of m ∙ by b (e ∙ ap (λ t. nat_le 3 (length t)) (same_content rows contents c.words.now a g f))
+    ∙ sym (ap (others rows) (take_more rows n d l ∙ ap (λ (x : PlanRow). take n rows ++ x ∷ []) at) ∙ others_append rows (take n rows) (row_of c ∷ []))
+  where
+    by : (b : Bool) → b ≡ is_shared rows (row_of c) → rows_of (if b then old else old ++ c ∷ []) ≡ others rows (take n rows) ++ others rows (row_of c ∷ [])
+    by true e = h ∙ sym (append-nil (others rows (take n rows))) ∙ ap (λ t. others rows (take n rows) ++ t) (rw (sym e) refl)
+    by false e = map-append row_of old (c ∷ []) ∙ ap (λ t. t ++ row_of c ∷ []) h ∙ ap (λ t. others rows (take n rows) ++ t) (rw (sym e) refl)
+
+-- ---- the groups
+
+pub groups_append : (all xs ys : List PlanRow) → groups_led all (xs ++ ys) ≡ groups_led all xs ++ groups_led all ys
+groups_append all [] ys = refl
+groups_append all (x ∷ xs) ys = by (leads_group all x) (groups_append all xs ys)
+  where
+    by : (b : Bool) → groups_led all (xs ++ ys) ≡ groups_led all xs ++ groups_led all ys
+        → (if b then Copies x.words (planned_addresses (with_content x.words all)) ∷ groups_led all (xs ++ ys) else groups_led all (xs ++ ys))
+        ≡ (if b then Copies x.words (planned_addresses (with_content x.words all)) ∷ groups_led all xs else groups_led all xs) ++ groups_led all ys
+    by true ih = ap (λ t. Copies x.words (planned_addresses (with_content x.words all)) ∷ t) ih
+    by false ih = ih
+
+pub same_led : (rows others : List PlanRow) (r : PlanRow) → with_content r.words others ≡ with_content r.words rows → groups_led others (r ∷ []) ≡ groups_led rows (r ∷ [])
+same_led rows others r e =
+    ap (λ t. if nat_le 3 (length t) && (get_or (planned_addresses t) 0 0 == r.far) then Copies r.words (planned_addresses t) ∷ [] else []) e
+
+pub group_more : (part : PartData) (rows : List PlanRow) (contents : List Content) (old mid new : List ℕ) (a n : ℕ) (r : PlanRow) (d : PlanRow) → AreGrouped rows contents → IsFirst (rows_of contents) r.words a → n < length rows → get_or rows n d ≡ r
+    → mid ≡ old ++ bytes_of_words (flat_map (stretch_words part) (groups_led rows (take n rows))) → new ≡ mid ++ bytes_of_words (flat_map (stretch_words part) (groups_led (rows_of contents) (r ∷ [])))
+    → new ≡ old ++ bytes_of_words (flat_map (stretch_words part) (groups_led rows (take (n + 1) rows)))
+group_more part rows contents old mid new a n r d g f l at e h =
+    written-on old mid new (flat_map (stretch_words part) (groups_led rows (take n rows))) (flat_map (stretch_words part) (groups_led (rows_of contents) (r ∷ []))) e h
+    ∙ ap (λ t. old ++ bytes_of_words (flat_map (stretch_words part) (groups_led rows (take n rows)) ++ flat_map (stretch_words part) t)) (same_led rows (rows_of contents) r (same_content rows contents r.words a g f))
+    ∙ ap (λ t. old ++ bytes_of_words t) (sym (flat_map-append (stretch_words part) (groups_led rows (take n rows)) (groups_led rows (r ∷ []))))
+    ∙ ap (λ t. old ++ bytes_of_words (flat_map (stretch_words part) t)) (sym (groups_append rows (take n rows) (r ∷ [])) ∙ ap (groups_led rows) (ap (λ (x : PlanRow). take n rows ++ x ∷ []) (sym at) ∙ sym (take_more rows n d l)))
+
+-- ---- what a group writes
+
+pub copies_begin : (contents : List Content) (words old : List ℕ) (a : ℕ) → AreTogether (rows_of contents) → IsFirst (rows_of contents) words a
+    → old ≡ old ++ bytes_of_words (flat_map copy_words (planned_addresses (with_content words (take a (rows_of contents)))))
+copies_begin contents words old a t f =
+    sym (ap (λ x. old ++ bytes_of_words (flat_map copy_words (planned_addresses x))) (none-before (rows_of contents) words a t f) ∙ append-nil old)
+
+pub copies_more : (contents : List Content) (words old mid new : List ℕ) (k : ℕ) (e : Content) (b : Bool) → k < length contents → b ≡ same_words (get_or contents k e).words.now words → b ≡ true
+    → mid ≡ old ++ bytes_of_words (flat_map copy_words (planned_addresses (with_content words (take k (rows_of contents))))) → new ≡ mid ++ bytes_of_words (copy_words (get_or contents k e).far)
+    → new ≡ old ++ bytes_of_words (flat_map copy_words (planned_addresses (with_content words (take (k + 1) (rows_of contents)))))
+copies_more contents words old mid new k e b l s y h m =
+    let rows : List PlanRow = rows_of contents in
+    let r : PlanRow = row_of (get_or contents k e) in
+    let more : with_content words (take (k + 1) rows) ≡ with_content words (take k rows) ++ r ∷ [] =
+    ap (with_content words) (take_more rows k r (omega (arith, l, length-map contents row_of)) ∙ ap (λ (x : PlanRow). take k rows ++ x ∷ []) (row-at contents k r e l))
+    ∙ content-append words (take k rows) (r ∷ []) ∙ ap (λ t. with_content words (take k rows) ++ t) (content-same words r [] (same_words-true r.words words (sym s ∙ y))) in
+    let all : flat_map copy_words (planned_addresses (with_content words (take (k + 1) rows))) ≡ flat_map copy_words (planned_addresses (with_content words (take k rows))) ++ copy_words r.far =
+    ap (λ t. flat_map copy_words (planned_addresses t)) more ∙ ap (flat_map copy_words) (map-append (λ (x : PlanRow). x.far) (with_content words (take k rows)) (r ∷ []))
+    ∙ flat_map-append copy_words (planned_addresses (with_content words (take k rows))) (r.far ∷ [])
+    ∙ ap (λ t. flat_map copy_words (planned_addresses (with_content words (take k rows))) ++ t) (append-nil (copy_words r.far)) in
+    written-on old mid new (flat_map copy_words (planned_addresses (with_content words (take k rows)))) (copy_words r.far) h m ∙ ap (λ t. old ++ bytes_of_words t) (sym all)
+
+pub copies_end : (contents : List Content) (words old new : List ℕ) (a k : ℕ) (e : Content) (b : Bool) → AreTogether (rows_of contents) → IsFirst (rows_of contents) words a → a ≤ k → k < length contents
+    → b ≡ same_words (get_or contents k e).words.now words → b ≡ false → new ≡ old ++ bytes_of_words (flat_map copy_words (planned_addresses (with_content words (take k (rows_of contents)))))
+    → new ≡ old ++ bytes_of_words (flat_map copy_words (planned_addresses (with_content words (rows_of contents))))
+copies_end contents words old new a k e b t f l m s y h =
+    h ∙ ap (λ x. old ++ bytes_of_words (flat_map copy_words (planned_addresses x)))
+    (sym (up-to (rows_of contents) words a k t f l (λ d g. same_words-false (get_or contents k e).words.now words (sym s ∙ y) (ap (λ (r : PlanRow). r.words) (sym (row-at contents k d e m)) ∙ g))))
+
+pub copies_all : (contents : List Content) (words old new : List ℕ) (k : ℕ) → length contents ≤ k → new ≡ old ++ bytes_of_words (flat_map copy_words (planned_addresses (with_content words (take k (rows_of contents)))))
+    → new ≡ old ++ bytes_of_words (flat_map copy_words (planned_addresses (with_content words (rows_of contents))))
+copies_all contents words old new k l h = h ∙ ap (λ x. old ++ bytes_of_words (flat_map copy_words (planned_addresses (with_content words x)))) (take_all k (rows_of contents) (omega (arith, l, length-map contents row_of)))
+
+pub group_written : (part : PartData) (old one two three new words fars : List ℕ) (first width : ℕ) → width ≡ frame_words part → get_or fars 0 0 ≡ first
+    → one ≡ old ++ bytes_of_words (0x30008001 ∷ 1 ∷ 0x30002001 ∷ first ∷ 0x30004000 ∷ (0x50000000 + width) ∷ []) → two ≡ one ++ bytes_of_words words → three ≡ two ++ bytes_of_words (0x30008001 ∷ 2 ∷ [])
+    → new ≡ three ++ bytes_of_words (flat_map copy_words fars) → new ≡ old ++ bytes_of_words (stretch_words part (Copies words fars))
+group_written part old one two three new words fars first width w f a b c d =
+    let opening : List ℕ = 0x30008001 ∷ 1 ∷ 0x30002001 ∷ first ∷ 0x30004000 ∷ (0x50000000 + width) ∷ [] in
+    let copies : List ℕ = flat_map copy_words fars in
+    written-on old three new ((opening ++ words) ++ 0x30008001 ∷ 2 ∷ []) copies (written-on old two three (opening ++ words) (0x30008001 ∷ 2 ∷ []) (written-on old one two opening words a b) c) d
+    ∙ ap (λ t. old ++ bytes_of_words t)
+    (append_assoc (opening ++ words) (0x30008001 ∷ 2 ∷ []) copies ∙ append_assoc opening words (0x30008001 ∷ 2 ∷ copies)
+    ∙ ap (λ (x : ℕ). 0x30008001 ∷ 1 ∷ 0x30002001 ∷ x ∷ 0x30004000 ∷ (0x50000000 + width) ∷ (words ++ 0x30008001 ∷ 2 ∷ copies)) (sym f)
+    ∙ ap (λ (x : ℕ). 0x30008001 ∷ 1 ∷ 0x30002001 ∷ get_or fars 0 0 ∷ 0x30004000 ∷ (0x50000000 + x) ∷ (words ++ 0x30008001 ∷ 2 ∷ copies)) w)
+
+pub led_none : (part : PartData) (old : List ℕ) (all : List PlanRow) (r : PlanRow) (b : Bool) → b ≡ leads_group all r → b ≡ false → old ≡ old ++ bytes_of_words (flat_map (stretch_words part) (groups_led all (r ∷ [])))
+led_none part old all r b e y = rw (sym e ∙ y) (sym (append-nil old))
+
+pub led_some : (part : PartData) (old new : List ℕ) (all : List PlanRow) (r : PlanRow) (b : Bool) → b ≡ leads_group all r → b ≡ true
+    → new ≡ old ++ bytes_of_words (stretch_words part (Copies r.words (planned_addresses (with_content r.words all)))) → new ≡ old ++ bytes_of_words (flat_map (stretch_words part) (groups_led all (r ∷ [])))
+led_some part old new all r b e y h = rw (sym e ∙ y) (h ∙ ap (λ t. old ++ bytes_of_words t) (sym (append-nil (stretch_words part (Copies r.words (planned_addresses (with_content r.words all)))))))

@@ -1,0 +1,190 @@
+-- The first run of rows, and the others.
+use Rattle.std.proofs.Common.{◌≡◌, ℕ, zero, suc, ◌+◌, ◌-◌, ◌*◌, ◌<◌, ◌≤◌, Bool, true, false, if◌then◌else◌, List, [], ◌∷◌, ◌++◌, length, map, take, drop, replicate, get_or, refl, ap, sym, subst, ◌∙◌, arith, append_assoc, inl, inr}
+use Rattle.std.specs.Prelude.{All, Contains}
+use Rattle.std.specs.List.{AllByRecursion, flat_map}
+use Rattle.std.proofs.lemmas.List.Elements.{All-cons, All-drop, All-nil}
+use Rattle.x7_words.specs.Word.{bytes_of_word}
+use Rattle.x7_part.specs.AddressOrder.{addresses_in}
+use Rattle.x7_part.specs.PartRange.{IsPart}
+use Rattle.x7_planner.proofs.FewLemmas.{by_rows, rows_few}
+use Rattle.std.proofs.lemmas.Bool.{cases_eq}
+use Rattle.std.proofs.lemmas.Grind.{flat_map-append}
+use Rattle.std.proofs.lemmas.List.{append-nil, length-drop, take_rest, drop-drop, drop_all, length-map, take-map}
+use Rattle.x7_memory.specs.Planned.{AreInOrder, PlanRow, planned_addresses}
+use Rattle.x7_part.specs.Part.{PartData, frame_words}
+use Rattle.x7_planner.specs.Contents.{IsRunLength, row_of, rows_of}
+use Rattle.x7_planner.specs.Partial.{Rows, follows, frames_words, groups_led, is_shared, others, partial_opening, partial_stream, stretches_of, runs_of, runs_words, stretch_words, with_row}
+use Rattle.x7_planner.specs.Stream.{Check, Words, bytes_of_words, desync, no_op, with_piece}
+use Rattle.x7_planner.specs.declared.content.Content.{Content}
+use Rattle.x7_planner.proofs.ContentLemmas.{row-at}
+use Rattle.x7_planner.proofs.SlotLemmas.{written-on}
+
+-- the runs of rows begin with the first row
+record Begins (part : PartData) (s : PlanRow) (rows : List PlanRow) : Type 0 where
+  run : List PlanRow
+  runs : List (List PlanRow)
+  is : runs_of part (s ∷ rows) ≡ (s ∷ run) ∷ runs
+
+begins : (part : PartData) (s : PlanRow) (rows : List PlanRow) → Begins part s rows
+begins part s rows = by (runs_of part rows) refl
+  where
+    test : (r : PlanRow) (run : List PlanRow) (runs : List (List PlanRow)) (b : Bool) → follows part s.far r.far ≡ b → runs_of part rows ≡ (r ∷ run) ∷ runs → Begins part s rows
+    test r run runs true e h = record { run = r ∷ run; runs = runs; is = ap (with_row part s) h ∙ rw e refl }
+    test r run runs false e h = record { run = []; runs = (r ∷ run) ∷ runs; is = ap (with_row part s) h ∙ rw e refl }
+
+    by : (runs : List (List PlanRow)) → runs_of part rows ≡ runs → Begins part s rows
+    by [] h = record { run = []; runs = []; is = ap (with_row part s) h }
+    by ([] ∷ runs) h = record { run = []; runs = runs; is = ap (with_row part s) h }
+    by ((r ∷ run) ∷ runs) h = test r run runs (follows part s.far r.far) refl h
+
+pub first_run : (part : PartData) (rows : List PlanRow) (count : ℕ) → IsRunLength part rows count → runs_of part rows ≡ take count rows ∷ runs_of part (drop count rows)
+first_run part [] count l = absurd (let a = l.some in let b = l.inside in omega (arith, a, b))
+first_run part (r ∷ rows) zero l = absurd (let a = l.some in omega (arith, a))
+first_run part (r ∷ []) (suc zero) l = refl
+first_run part (r ∷ []) (suc (suc k)) l = absurd (let b = l.inside in omega (arith, b))
+first_run part (r ∷ s ∷ rows) (suc zero) l =
+    let b = begins part s rows in
+    let apart : follows part r.far s.far ≡ false = l.ends r (omega arith) in
+    ap (with_row part r) b.is ∙ rw apart refl ∙ ap (λ t. (r ∷ []) ∷ t) (sym b.is)
+first_run part (r ∷ s ∷ rows) (suc (suc k)) l =
+    let inside : suc (suc k) ≤ length (r ∷ s ∷ rows) = l.inside in
+    let rest : IsRunLength part (s ∷ rows) (suc k) = record {
+      some = omega arith;
+      inside = omega (arith, inside);
+      joined = (λ j d h. let next : suc (j + 1) ≡ suc j + 1 = omega arith in ap (λ (i : ℕ). follows part (get_or (s ∷ rows) j d).far (get_or (r ∷ s ∷ rows) i d).far) next ∙ l.joined (suc j) d (omega (arith, h)));
+      ends = (λ d h. let back : suc (suc k - 1) ≡ suc (suc k) - 1 = omega arith in ap (λ (i : ℕ). follows part (get_or (r ∷ s ∷ rows) i d).far (get_or (s ∷ rows) (suc k) d).far) back ∙ l.ends d (omega (arith, h)));
+    } in
+    let joined : follows part r.far s.far ≡ true = l.joined 0 r (omega arith) in
+    ap (with_row part r) (first_run part (s ∷ rows) (suc k) rest) ∙ rw joined refl
+
+pub run_found : (part : PartData) (frames : List Content) (k : ℕ) (e : Content) (b : Bool) → 1 ≤ k → k < length frames
+    → ((j : ℕ) (d : PlanRow) → j + 1 < k → follows part (get_or (rows_of frames) j d).far (get_or (rows_of frames) (j + 1) d).far ≡ true)
+    → b ≡ follows part (get_or frames (k - 1) e).far (get_or frames k e).far → b ≡ false → IsRunLength part (rows_of frames) k
+run_found part frames k e b l h j s y = record {
+  some = omega (arith, l);
+  inside = omega (arith, h, length-map frames row_of);
+  joined = j;
+  ends = (λ d m. ap (λ (r : PlanRow). follows part r.far (get_or (rows_of frames) k d).far) (row-at frames (k - 1) d e (omega (arith, h)))
+      ∙ ap (λ (r : PlanRow). follows part (get_or frames (k - 1) e).far r.far) (row-at frames k d e h) ∙ sym s ∙ y);
+}
+
+pub run_more : (part : PartData) (frames : List Content) (k : ℕ) (e : Content) (b : Bool) → 1 ≤ k → k < length frames
+    → ((j : ℕ) (d : PlanRow) → j + 1 < k → follows part (get_or (rows_of frames) j d).far (get_or (rows_of frames) (j + 1) d).far ≡ true)
+    → b ≡ follows part (get_or frames (k - 1) e).far (get_or frames k e).far → b ≡ true
+    → ((j : ℕ) (d : PlanRow) → j + 1 < k + 1 → follows part (get_or (rows_of frames) j d).far (get_or (rows_of frames) (j + 1) d).far ≡ true)
+run_more part frames k e b l h p s y j d m = elim (cases_eq (j + 1) k) [
+  | inl same ↦ (let at : follows part (get_or (rows_of frames) (k - 1) d).far (get_or (rows_of frames) k d).far ≡ true =
+      ap (λ (r : PlanRow). follows part r.far (get_or (rows_of frames) k d).far) (row-at frames (k - 1) d e (omega (arith, h)))
+      ∙ ap (λ (r : PlanRow). follows part (get_or frames (k - 1) e).far r.far) (row-at frames k d e h) ∙ sym s ∙ y in
+      let back : k - 1 ≡ j = omega (arith, same) in
+      ap (λ (i : ℕ). follows part (get_or (rows_of frames) j d).far (get_or (rows_of frames) i d).far) same ∙ ap (λ (i : ℕ). follows part (get_or (rows_of frames) i d).far (get_or (rows_of frames) k d).far) (sym back) ∙ at)
+  | inr other ↦ p j d (omega (arith, m, other))
+]
+
+pub run_whole : (part : PartData) (frames : List Content) (k : ℕ) → 0 < length frames → length frames ≤ k → k ≤ length frames
+    → ((j : ℕ) (d : PlanRow) → j + 1 < k → follows part (get_or (rows_of frames) j d).far (get_or (rows_of frames) (j + 1) d).far ≡ true) → IsRunLength part (rows_of frames) (length frames)
+run_whole part frames k l h m p = record {
+  some = l;
+  inside = omega (arith, length-map frames row_of);
+  joined = (λ j d n. p j d (omega (arith, n, h)));
+  ends = (λ d n. absurd (omega (arith, n, length-map frames row_of)));
+}
+
+pub run_written : (part : PartData) (old one two new : List ℕ) (rows : List PlanRow) (first width count : ℕ) → width ≡ frame_words part → get_or (planned_addresses rows) 0 0 ≡ first → count ≡ length rows
+    → one ≡ old ++ bytes_of_words (0x30008001 ∷ 1 ∷ 0x30002001 ∷ first ∷ 0x30004000 ∷ (0x50000000 + width * (count + 1)) ∷ []) → two ≡ one ++ bytes_of_words (frames_words rows) → new ≡ two ++ bytes_of_words (replicate width 0)
+    → new ≡ old ++ bytes_of_words (stretch_words part (Rows rows))
+run_written part old one two new rows first width count w f n a b c =
+    let opening : List ℕ = 0x30008001 ∷ 1 ∷ 0x30002001 ∷ first ∷ 0x30004000 ∷ (0x50000000 + width * (count + 1)) ∷ [] in
+    written-on old two new (opening ++ frames_words rows) (replicate width 0) (written-on old one two opening (frames_words rows) a b) c
+    ∙ ap (λ t. old ++ bytes_of_words t)
+    (append_assoc opening (frames_words rows) (replicate width 0)
+    ∙ ap (λ (x : ℕ). 0x30008001 ∷ 1 ∷ 0x30002001 ∷ x ∷ 0x30004000 ∷ (0x50000000 + width * (count + 1)) ∷ (frames_words rows ++ replicate width 0)) (sym f)
+    ∙ ap (λ (x : ℕ). 0x30008001 ∷ 1 ∷ 0x30002001 ∷ get_or (planned_addresses rows) 0 0 ∷ 0x30004000 ∷ (0x50000000 + width * (x + 1)) ∷ (frames_words rows ++ replicate width 0)) n
+    ∙ ap (λ (x : ℕ). 0x30008001 ∷ 1 ∷ 0x30002001 ∷ get_or (planned_addresses rows) 0 0 ∷ 0x30004000 ∷ (0x50000000 + x * (length rows + 1)) ∷ (frames_words rows ++ replicate x 0)) w)
+
+pub address_at : (part : PartData) (frames : List Content) (k : ℕ) (e : Content) → All (λ row. Contains (addresses_in part) row.far) (rows_of frames) → k < length frames → Contains (addresses_in part) (get_or frames k e).far
+address_at part frames k e a l = subst (λ (r : PlanRow). Contains (addresses_in part) r.far) (row-at frames k (row_of e) e l) (a k (row_of e) (omega (arith, l, length-map frames row_of)))
+
+pub first_address : (frames : List Content) (e : Content) → 0 < length frames → get_or (planned_addresses (rows_of frames)) 0 0 ≡ (get_or frames 0 e).far
+first_address [] e l = absurd (omega (arith, l))
+first_address (c ∷ frames) e l = refl
+
+rows_drop : (n : ℕ) (frames : List Content) → rows_of (drop n frames) ≡ drop n (rows_of frames)
+rows_drop zero frames = refl
+rows_drop (suc n) [] = refl
+rows_drop (suc n) (c ∷ frames) = rows_drop n frames
+
+pub addresses_drop : (part : PartData) (n : ℕ) (frames : List Content) → All (λ row. Contains (addresses_in part) row.far) (rows_of frames) → All (λ row. Contains (addresses_in part) row.far) (rows_of (drop n frames))
+addresses_drop part n frames a = subst (All (λ (row : PlanRow). Contains (addresses_in part) row.far)) (sym (rows_drop n frames)) (All-drop (λ (row : PlanRow). Contains (addresses_in part) row.far) n (rows_of frames) a)
+
+pub runs_step : (part : PartData) (frames : List Content) (all mid new : List ℕ) (at count : ℕ) → IsRunLength part (rows_of (drop at frames)) count → mid ++ bytes_of_words (runs_words part (rows_of (drop at frames))) ≡ all
+    → new ≡ mid ++ bytes_of_words (stretch_words part (Rows (rows_of (take count (drop at frames))))) → new ++ bytes_of_words (runs_words part (rows_of (drop (at + count) frames))) ≡ all
+runs_step part frames all mid new at count l e h =
+    let rest : List PlanRow = rows_of (drop at frames) in
+    let cut : runs_words part rest ≡ stretch_words part (Rows (rows_of (take count (drop at frames)))) ++ runs_words part (rows_of (drop (at + count) frames)) =
+    ap (λ t. flat_map (stretch_words part) (map Rows t)) (first_run part rest count l)
+    ∙ ap (λ t. stretch_words part (Rows t) ++ runs_words part (drop count rest)) (take-map row_of count (drop at frames))
+    ∙ ap (λ t. stretch_words part (Rows (rows_of (take count (drop at frames)))) ++ runs_words part t) (sym (rows_drop count (drop at frames)) ∙ ap rows_of (drop-drop count at frames)) in
+    ap (λ t. t ++ bytes_of_words (runs_words part (rows_of (drop (at + count) frames)))) h
+    ∙ append_assoc mid (bytes_of_words (stretch_words part (Rows (rows_of (take count (drop at frames)))))) (bytes_of_words (runs_words part (rows_of (drop (at + count) frames))))
+    ∙ ap (λ t. mid ++ t) (sym (flat_map-append bytes_of_word (stretch_words part (Rows (rows_of (take count (drop at frames))))) (runs_words part (rows_of (drop (at + count) frames)))) ∙ ap bytes_of_words (sym cut))
+    ∙ e
+
+pub runs_stepped : (part : PartData) (frames : List Content) (all mid new : List ℕ) (at count : ℕ) → at ≤ length frames → IsRunLength part (rows_of (take (length frames - at) (drop at frames))) count
+    → mid ++ bytes_of_words (runs_words part (rows_of (drop at frames))) ≡ all → new ≡ mid ++ bytes_of_words (stretch_words part (Rows (rows_of (take (at + count - at) (drop at frames)))))
+    → (at + count ≤ length frames) × (new ++ bytes_of_words (runs_words part (rows_of (drop (at + count) frames))) ≡ all)
+runs_stepped part frames all mid new at count i l e h =
+    let run : IsRunLength part (rows_of (drop at frames)) count = subst (λ t. IsRunLength part (rows_of t) count) (take_rest frames at) l in
+    let inside : count ≤ length (rows_of (drop at frames)) = run.inside in
+    let same : at + count - at ≡ count = omega arith in (
+      omega (arith, i, inside, length-map (drop at frames) row_of, length-drop at frames),
+      runs_step part frames all mid new at count run e (h ∙ ap (λ (n : ℕ). mid ++ bytes_of_words (stretch_words part (Rows (rows_of (take n (drop at frames)))))) same),
+    )
+
+pub runs_all : (part : PartData) (frames : List Content) (old new : List ℕ) (at : ℕ) → length frames ≤ at → new ++ bytes_of_words (runs_words part (rows_of (drop at frames))) ≡ old ++ bytes_of_words (runs_words part (rows_of frames))
+    → new ≡ old ++ bytes_of_words (runs_words part (rows_of frames))
+runs_all part frames old new at l e = sym (append-nil new) ∙ ap (λ t. new ++ bytes_of_words (runs_words part (rows_of t))) (sym (drop_all at frames l)) ∙ e
+
+-- ---- the other rows are some of the rows
+
+others_all : (P : PlanRow → Type 0) (all rows : List PlanRow) → AllByRecursion P rows → AllByRecursion P (others all rows)
+others_all P all [] h = tt
+others_all P all (r ∷ rows) h = by (is_shared all r) (others_all P all rows h.1)
+  where
+    by : (b : Bool) → AllByRecursion P (others all rows) → AllByRecursion P (if b then others all rows else r ∷ others all rows)
+    by true ih = ih
+    by false ih = (h.0, ih)
+
+others_fewer : (all rows : List PlanRow) → length (others all rows) ≤ length rows
+others_fewer all [] = omega arith
+others_fewer all (r ∷ rows) = by (is_shared all r) (others_fewer all rows)
+  where
+    by : (b : Bool) → length (others all rows) ≤ length rows → length (if b then others all rows else r ∷ others all rows) ≤ suc (length rows)
+    by true ih = omega (arith, ih)
+    by false ih = omega (arith, ih)
+
+all_rows : (P : PlanRow → Type 0) (rows : List PlanRow) → AllByRecursion P rows → All P rows
+all_rows P [] a = All-nil P
+all_rows P (r ∷ rows) a = All-cons P r rows a.0 (all_rows P rows a.1)
+
+pub alone_addressed : (part : PartData) (rows : List PlanRow) (alone : List Content) → All (λ row. Contains (addresses_in part) row.far) rows → rows_of alone ≡ others rows rows → All (λ row. Contains (addresses_in part) row.far) (rows_of alone)
+alone_addressed part rows alone a e =
+    subst (All (λ (row : PlanRow). Contains (addresses_in part) row.far)) (sym e)
+    (all_rows (λ (row : PlanRow). Contains (addresses_in part) row.far) (others rows rows) (others_all (λ (row : PlanRow). Contains (addresses_in part) row.far) rows rows (by_rows (λ (row : PlanRow). Contains (addresses_in part) row.far) rows a)))
+
+pub alone_few : (part : PartData) (rows : List PlanRow) (alone : List Content) → IsPart part → AreInOrder rows → All (λ row. Contains (addresses_in part) row.far) rows → rows_of alone ≡ others rows rows → length alone ≤ 131072
+alone_few part rows alone is o a e = omega (arith, rows_few part rows is o a, is.few, others_fewer rows rows, ap length e, length-map alone row_of)
+
+pub stretches_written : (part : PartData) (rows : List PlanRow) (alone : List Content) (old mid new : List ℕ) → rows_of alone ≡ others rows rows → mid ≡ old ++ bytes_of_words (flat_map (stretch_words part) (groups_led rows rows))
+    → new ≡ mid ++ bytes_of_words (runs_words part (rows_of alone)) → new ≡ old ++ bytes_of_words (flat_map (stretch_words part) (stretches_of part rows))
+stretches_written part rows alone old mid new e g h =
+    written-on old mid new (flat_map (stretch_words part) (groups_led rows rows)) (runs_words part (rows_of alone)) g h
+    ∙ ap (λ t. old ++ bytes_of_words (flat_map (stretch_words part) (groups_led rows rows) ++ runs_words part t)) e
+    ∙ ap (λ t. old ++ bytes_of_words t) (sym (flat_map-append (stretch_words part) (groups_led rows rows) (map Rows (runs_of part (others rows rows)))))
+
+pub stream_written : (part : PartData) (rows : List PlanRow) (none one two three new : List ℕ) → none ≡ [] → one ≡ none ++ bytes_of_words (partial_opening part)
+    → two ≡ one ++ bytes_of_words (flat_map (stretch_words part) (stretches_of part rows)) → three ≡ with_piece two Check → new ≡ with_piece three (Words (desync ++ replicate 4 no_op)) → new ≡ partial_stream part rows
+stream_written part rows none one two three new z a b c d =
+    let words : List ℕ = flat_map (stretch_words part) (stretches_of part rows) in
+    d ∙ ap (λ t. with_piece t (Words (desync ++ replicate 4 no_op)))
+    (c ∙ ap (λ t. with_piece t Check) (written-on none one two (partial_opening part) words a b ∙ ap (λ t. t ++ bytes_of_words (partial_opening part ++ words)) z))

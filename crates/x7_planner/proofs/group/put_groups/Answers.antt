@@ -1,0 +1,21 @@
+use Rattle.std.proofs.Common.{get_or}
+use Rattle.x7_memory.specs.Planned.{PlanRow}
+use Rattle.x7_planner.proofs.GroupLemmas.{first_at, inside_at, group_more}
+use Rattle.x7_planner.proofs.group.put_groups.Goals as goal
+
+pub put_led-requires-clause-first : goal.put_led-requires-clause-first
+put_led-requires-clause-first c =
+    let row : PlanRow = record { far = c.in-Some.far; words = c.in-Some.words.now } in
+    first_at c.args.plan.now.rows c.args.contents.now c.args.starts.now c.loop-i.i row _ row c.requires.starts c.in-Some.ensures.found.0 (c.in-Some.ensures.found.1 row)
+
+pub put_led-requires-clause-inside : goal.put_led-requires-clause-inside
+put_led-requires-clause-inside c =
+    let row : PlanRow = record { far = c.in-Some.far; words = c.in-Some.words.now } in
+    inside_at c.args.contents.now c.in-Some.words.now _ (first_at c.args.plan.now.rows c.args.contents.now c.args.starts.now c.loop-i.i row _ row c.requires.starts c.in-Some.ensures.found.0 (c.in-Some.ensures.found.1 row))
+
+pub loop-i-preserved : goal.loop-i-preserved
+loop-i-preserved c =
+    let row : PlanRow = record { far = c.in-Some.far; words = c.in-Some.words.now } in
+    group_more c.args.part.now c.args.plan.now.rows c.args.contents.now c.args.writer.now c.loop-i.writer c.put_led.new.writer (get_or c.args.starts.now c.loop-i.i 0) c.loop-i.i row row c.requires.contents
+    (first_at c.args.plan.now.rows c.args.contents.now c.args.starts.now c.loop-i.i row 0 row c.requires.starts c.in-Some.ensures.found.0 (c.in-Some.ensures.found.1 row))
+    c.in-Some.ensures.found.0 (c.in-Some.ensures.found.1 row) c.loop-i.invariant c.in_ok-put_led.ensures

@@ -1,0 +1,53 @@
+-- The contents of planned frames, equal ones together.
+use Rattle.std.specs.Prelude.{◌≡◌, ◌≢◌, ℕ, ◌+◌, ◌-◌, ◌<◌, ◌≤◌, true, false, List, length, map, slice_index_or, All, Contains}
+use Rattle.x7_part.specs.Part.{PartData}
+use Rattle.x7_memory.specs.Planned.{PlanRow}
+use Rattle.x7_planner.specs.Partial.{follows, with_content}
+use Rattle.x7_planner.specs.declared.content.Content.{Content}
+
+-- the planned rows of contents
+abbrev pub row_of : Content → PlanRow
+row_of c = record { far = c.far; words = c.words.now }
+
+abbrev pub rows_of : List Content → List PlanRow
+rows_of contents = map row_of contents
+
+-- equal contents stand together
+abbrev pub AreTogether : List PlanRow → Type 0
+AreTogether rows = (i k j : ℕ) (d : PlanRow) → i ≤ k → k ≤ j → j < length rows
+    → (slice_index_or rows i d).words ≡ (slice_index_or rows j d).words → (slice_index_or rows k d).words ≡ (slice_index_or rows i d).words
+
+-- a content knows its row's place in a plan
+abbrev pub IsPlaced : List PlanRow → Content → Type 0
+IsPlaced rows c = (c.row < length rows) × ((d : PlanRow) → slice_index_or rows c.row d ≡ row_of c)
+
+-- the contents of all rows of a plan, equal ones together and in the plan's order
+pub record AreGrouped (rows : List PlanRow) (contents : List Content) : Type 0 where
+  pub together : AreTogether (rows_of contents)
+  pub same : All (λ c. with_content c.words.now (rows_of contents) ≡ with_content c.words.now rows) contents
+  pub placed : All (IsPlaced rows) contents
+  pub each : (i : ℕ) → i < length rows → Contains (map (λ c. c.row) contents) i
+
+-- the first of the rows that have a content
+pub record IsFirst (rows : List PlanRow) (words : List ℕ) (start : ℕ) : Type 0 where
+  pub inside : start < length rows
+  pub has : (d : PlanRow) → (slice_index_or rows start d).words ≡ words
+  pub before : (d : PlanRow) → 0 < start → (slice_index_or rows (start - 1) d).words ≢ words
+
+-- the content of the row before a place begins at start, which is 0 at the first place
+pub record IsBegun (rows : List PlanRow) (start place : ℕ) : Type 0 where
+  pub behind : start ≤ place
+  pub none : place ≡ 0 → start ≡ 0
+  pub first : (d : PlanRow) → 0 < place → IsFirst rows (slice_index_or rows (place - 1) d).words start
+
+-- each row's content begins where starts says
+pub record AreStarts (rows grouped : List PlanRow) (starts : List ℕ) : Type 0 where
+  pub count : length starts ≡ length rows
+  pub each : (i : ℕ) (d : PlanRow) → i < length rows → IsFirst grouped (slice_index_or rows i d).words (slice_index_or starts i 0)
+
+-- the longest run at the start of rows has so many: each follows the one before it, and the next one doesn't
+pub record IsRunLength (part : PartData) (rows : List PlanRow) (count : ℕ) : Type 0 where
+  pub some : 0 < count
+  pub inside : count ≤ length rows
+  pub joined : (k : ℕ) (d : PlanRow) → k + 1 < count → follows part (slice_index_or rows k d).far (slice_index_or rows (k + 1) d).far ≡ true
+  pub ends : (d : PlanRow) → count < length rows → follows part (slice_index_or rows (count - 1) d).far (slice_index_or rows count d).far ≡ false

@@ -1,0 +1,131 @@
+//! The stream of a partial reconfiguration.
+ghost use Rattle.std.specs.Prelude.{◌≡◌, ◌⊎◌, ◌<◌, ◌++◌, length, IfOk, IfErr, OnOk};
+ghost use Rattle.std.specs.List.{flat_map};
+ghost use Rattle.x7_part.specs.Part.{frame_words};
+ghost use Rattle.x7_planner.specs.Contents.{AreGrouped, AreStarts, rows_of};
+ghost use Rattle.x7_planner.specs.Partial.{others, partial_opening, partial_stream, stretch_words, stretches_of};
+ghost use Rattle.x7_planner.specs.Refusals.{AreAddressed, IsPartialFault};
+ghost use Rattle.x7_planner.specs.Stream.{with_piece, Words};
+ghost use Rattle.x7_planner.specs.declared.fault.PlanFault.{PlanFault};
+
+use crate::address::first_foreign;
+use crate::content::{Content, grouped, starts_of};
+use crate::fault::PlanFault;
+use crate::group::{others_of, put_groups};
+use crate::run::put_runs;
+use crate::writer::Writer;
+use std::alloc::{AllocError, Global};
+use x7_memory::Plan;
+use x7_part::Part;
+use x7_words::NoMemory;
+
+/// Room for the words of small streams; larger ones make more.
+const FIRST_WORDS: usize = 1024;
+
+/// The frames of a plan by content, and those that no group has.
+#[derive(Drop)]
+struct Grouping<'p> {
+    contents: Vec<Content<'p>>,
+    starts: Vec<usize>,
+    alone: Vec<Content<'p>>,
+}
+
+/// A plan's frames by content.
+fn grouping_of(alloc: Global, plan: &Plan) -> Result<Grouping<'_>, AllocError>
+    ensures contents { IfOk result (λ g. AreGrouped plan.now.rows g.contents.items) }
+    ensures starts { IfOk result (λ g. AreStarts plan.now.rows (rows_of g.contents.items) g.starts.items) }
+    ensures alone { IfOk result (λ g. rows_of g.alone.items ≡ others plan.now.rows plan.now.rows) }
+{
+    let contents = grouped(alloc, plan)?;
+    let starts = starts_of(alloc, plan, &contents)?;
+    let alone = others_of(alloc, plan, &contents, &starts)?;
+    Ok(Grouping {
+        contents,
+        starts,
+        alone,
+    })
+}
+
+/// Writes what stands before the groups.
+fn put_opening(writer: &mut Writer, part: &Part) -> Result<(), NoMemory>
+    ensures { OnOk result (writer.new ≡ with_piece writer.old (Words (partial_opening part.now))) }
+{
+    writer.words(&[
+        0xFFFF_FFFF,
+        0xFFFF_FFFF,
+        0xFFFF_FFFF,
+        0xFFFF_FFFF,
+        0x0000_00BB,
+        0x1122_0044,
+        0xFFFF_FFFF,
+        0xFFFF_FFFF,
+        0xAA99_5566,
+        0x2000_0000,
+        0x3000_8001,
+        7,
+        0x2000_0000,
+        0x3001_8001,
+        part.idcode(),
+    ])
+}
+
+/// Writes the groups and the runs of a plan.
+fn put_stretches(
+    writer: &mut Writer,
+    part: &Part,
+    plan: &Plan,
+    grouping: &Grouping,
+) -> Result<(), NoMemory>
+    requires contents { AreGrouped plan.now.rows grouping.now.contents.items }
+    requires starts { AreStarts plan.now.rows (rows_of grouping.now.contents.items) grouping.now.starts.items }
+    requires alone { rows_of grouping.now.alone.items ≡ others plan.now.rows plan.now.rows }
+    requires addresses { AreAddressed part.now plan.now.rows }
+    ensures { OnOk result (writer.new ≡ with_piece writer.old (Words (flat_map (stretch_words part.now) (stretches_of part.now plan.now.rows)))) }
+{
+    let _frames = part.frames();
+    let _rows = plan.len();
+    put_groups(writer, part, plan, &grouping.contents, &grouping.starts)?;
+    put_runs(writer, part, &grouping.alone)?;
+    Ok(())
+}
+
+/// The partial stream of a plan whose addresses are the part's.
+fn partial_of(alloc: Global, part: &Part, plan: &Plan) -> Result<Vec<u8>, NoMemory>
+    requires addresses { AreAddressed part.now plan.now.rows }
+    ensures { IfOk result (λ bytes. bytes.items ≡ partial_stream part.now plan.now.rows) }
+{
+    let Ok(grouping) = grouping_of(alloc, plan) else {
+        return Err(NoMemory);
+    };
+    let mut writer = Writer::new(alloc, FIRST_WORDS)?;
+    put_opening(&mut writer, part)?;
+    put_stretches(&mut writer, part, plan, &grouping)?;
+    writer.check()?;
+    writer.words(&[
+        0x3000_8001,
+        13,
+        0x2000_0000,
+        0x2000_0000,
+        0x2000_0000,
+        0x2000_0000,
+    ])?;
+    Ok(writer.finish())
+}
+
+/// The stream that writes the planned frames alone: contents at three addresses or more by copies, the others in runs. A plan
+/// has the part's width.
+pub fn partial(alloc: Global, part: &Part, plan: &Plan) -> Result<Vec<u8>, PlanFault>
+    requires width { plan.now.width ≡ frame_words part.now }
+    ensures stream { IfOk result (λ bytes. bytes.items ≡ partial_stream part.now plan.now.rows) }
+    ensures some { IfOk result (λ bytes. 0 < length plan.now.rows) }
+    ensures addresses { IfOk result (λ bytes. AreAddressed part.now plan.now.rows) }
+    ensures fault { IfErr result (λ fault. (fault ≡ PlanFault.NoMemory) ⊎ IsPartialFault part.now plan.now fault) }
+{
+    if plan.len() == 0 {
+        return Err(PlanFault::Empty);
+    }
+    if let Some(far) = first_foreign(part, plan) {
+        return Err(PlanFault::Foreign(far));
+    }
+    Ok(partial_of(alloc, part, plan)?)
+}

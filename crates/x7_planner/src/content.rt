@@ -1,0 +1,78 @@
+//! The contents of planned frames, equal ones together.
+ghost use Rattle.std.specs.Prelude.{◌≡◌, ℕ, ◌<◌, ◌≤◌, length, slice_index_or, IfOk};
+ghost use Rattle.x7_memory.specs.Planned.{PlanRow};
+ghost use Rattle.x7_planner.specs.Contents.{AreGrouped, AreStarts, IsBegun, IsFirst, rows_of};
+ghost use Rattle.x7_planner.specs.Partial.{same_words};
+
+use std::alloc::{AllocError, Global};
+use x7_memory::Plan;
+
+/// A planned frame, and the place of its row in the plan.
+#[derive(Clone, Copy)]
+pub(crate) struct Content<'p> {
+    pub(crate) far: u32,
+    pub(crate) words: &'p [u32],
+    pub(crate) row: usize,
+}
+
+/// Whether two frames have the same words.
+pub(crate) fn is_same(a: &[u32], b: &[u32]) -> bool
+    ensures { result ≡ same_words a.now b.now }
+{
+    a == b
+}
+
+/// The contents of all rows in the plan's order.
+fn contents_of(alloc: Global, plan: &Plan) -> Result<Vec<Content<'_>>, AllocError>
+    ensures rows { IfOk result (λ contents. rows_of contents.items ≡ plan.now.rows) }
+    ensures places { IfOk result (λ contents. (i : ℕ) (d : Content) → i < length contents.items → (slice_index_or contents.items i d).row ≡ i) }
+{
+    let mut contents = Vec::with_capacity(alloc, plan.len())?;
+    for row in 0..plan.len() {
+        let Some((far, words)) = plan.row(row) else {
+            return Ok(contents);
+        };
+        contents.push(Content { far, words, row })?;
+    }
+    Ok(contents)
+}
+
+/// The contents of all rows, equal ones together and in the plan's order.
+pub(crate) fn grouped(alloc: Global, plan: &Plan) -> Result<Vec<Content<'_>>, AllocError>
+    ensures { IfOk result (λ contents. AreGrouped plan.now.rows contents.items) }
+{
+    let mut contents = contents_of(alloc, plan)?;
+    contents.sort_by(|a, b| a.words.cmp(b.words))?;
+    Ok(contents)
+}
+
+/// Where the content at a place begins; that of the place before it is known.
+fn start_at(contents: &[Content], start: usize, place: usize) -> usize
+    requires begun { IsBegun (rows_of contents.now) start place }
+    requires inside { place < length contents.now }
+    ensures first { (d : PlanRow) → IsFirst (rows_of contents.now) (slice_index_or (rows_of contents.now) place d).words result }
+    ensures behind { result ≤ place }
+{
+    if is_same(contents[place].words, contents[start].words) {
+        return start;
+    }
+    place
+}
+
+/// Where each row's content begins.
+pub(crate) fn starts_of(
+    alloc: Global,
+    plan: &Plan,
+    contents: &[Content],
+) -> Result<Vec<usize>, AllocError>
+    requires { AreGrouped plan.now.rows contents.now }
+    ensures { IfOk result (λ starts. AreStarts plan.now.rows (rows_of contents.now) starts.items) }
+{
+    let mut starts = vec![in alloc; 0usize; plan.len()]?;
+    let mut start = 0;
+    for k in 0..contents.len() {
+        start = start_at(contents, start, k);
+        starts[contents[k].row] = start;
+    }
+    Ok(starts)
+}

@@ -1,0 +1,167 @@
+//! Contents at three addresses or more, which are written once and copied.
+ghost use Rattle.std.specs.Prelude.{◌≡◌, ◌==◌, ◌&&◌, ◌<◌, ◌++◌, nat_le, if◌then◌else◌, [], ◌∷◌, length, slice_index, IfOk, OnOk};
+ghost use Rattle.std.specs.List.{flat_map};
+ghost use Rattle.x7_memory.specs.Planned.{planned_addresses};
+ghost use Rattle.x7_part.specs.Part.{frame_words};
+ghost use Rattle.x7_planner.specs.Contents.{AreGrouped, AreStarts, AreTogether, IsFirst, rows_of};
+ghost use Rattle.x7_planner.specs.Partial.{copy_words, groups_led, others, stretch_words, with_content, Copies};
+ghost use Rattle.x7_planner.specs.Stream.{with_piece, Words};
+
+use crate::content::{Content, is_same};
+use crate::writer::Writer;
+use std::alloc::{AllocError, Global};
+use x7_memory::Plan;
+use x7_part::Part;
+use x7_words::NoMemory;
+
+/// Whether a content, whose first place is known, stands at three addresses or more.
+fn is_group(contents: &[Content], start: usize, words: &[u32]) -> bool
+    requires together { AreTogether (rows_of contents.now) }
+    requires first { IsFirst (rows_of contents.now) words.now start }
+    requires inside { start < length contents.now }
+    ensures { result ≡ nat_le 3 (length (with_content words.now (rows_of contents.now))) }
+{
+    if contents.len() - start < 3 {
+        return false;
+    }
+    is_same(contents[start + 2].words, words)
+}
+
+/// Whether the row at an address is the first of three or more with its content.
+fn leads(contents: &[Content], start: usize, far: u32, words: &[u32]) -> bool
+    requires together { AreTogether (rows_of contents.now) }
+    requires first { IsFirst (rows_of contents.now) words.now start }
+    requires inside { start < length contents.now }
+    ensures { result ≡ (nat_le 3 (length (with_content words.now (rows_of contents.now))) && (slice_index (planned_addresses (with_content words.now (rows_of contents.now))) 0 == far)) }
+{
+    if !is_group(contents, start, words) {
+        return false;
+    }
+    contents[start].far == far
+}
+
+/// Copies a frame to each address of its content.
+fn put_copies(
+    writer: &mut Writer,
+    contents: &[Content],
+    start: usize,
+    words: &[u32],
+) -> Result<(), NoMemory>
+    requires together { AreTogether (rows_of contents.now) }
+    requires first { IsFirst (rows_of contents.now) words.now start }
+    ensures { OnOk result (writer.new ≡ with_piece writer.old (Words (flat_map copy_words (planned_addresses (with_content words.now (rows_of contents.now)))))) }
+{
+    for k in start..contents.len() {
+        if !is_same(contents[k].words, words) {
+            return Ok(());
+        }
+        writer.words(&[0x3000_2001, contents[k].far, 0x3001_4001, 0])?;
+    }
+    Ok(())
+}
+
+/// Writes a content at its first address, and copies of it.
+fn put_group(
+    writer: &mut Writer,
+    part: &Part,
+    contents: &[Content],
+    start: usize,
+    words: &[u32],
+) -> Result<(), NoMemory>
+    requires together { AreTogether (rows_of contents.now) }
+    requires first { IsFirst (rows_of contents.now) words.now start }
+    requires inside { start < length contents.now }
+    ensures { OnOk result (writer.new ≡ with_piece writer.old (Words (stretch_words part.now (Copies words.now (planned_addresses (with_content words.now (rows_of contents.now))))))) }
+{
+    let far = contents[start].far;
+    writer.words(&[
+        0x3000_8001,
+        1,
+        0x3000_2001,
+        far,
+        0x3000_4000,
+        0x5000_0000 + part.words(),
+    ])?;
+    writer.words(words)?;
+    writer.words(&[0x3000_8001, 2])?;
+    put_copies(writer, contents, start, words)?;
+    Ok(())
+}
+
+/// Writes the group that a row leads, if it leads one.
+fn put_led(
+    writer: &mut Writer,
+    part: &Part,
+    contents: &[Content],
+    start: usize,
+    far: u32,
+    words: &[u32],
+) -> Result<(), NoMemory>
+    requires together { AreTogether (rows_of contents.now) }
+    requires first { IsFirst (rows_of contents.now) words.now start }
+    requires inside { start < length contents.now }
+    ensures { OnOk result (writer.new ≡ with_piece writer.old (Words (flat_map (stretch_words part.now) (groups_led (rows_of contents.now) (record { far = far; words = words.now } ∷ []))))) }
+{
+    if !leads(contents, start, far, words) {
+        return Ok(());
+    }
+    put_group(writer, part, contents, start, words)?;
+    Ok(())
+}
+
+/// Writes the groups of a plan in order.
+pub(crate) fn put_groups(
+    writer: &mut Writer,
+    part: &Part,
+    plan: &Plan,
+    contents: &[Content],
+    starts: &[usize],
+) -> Result<(), NoMemory>
+    requires contents { AreGrouped plan.now.rows contents.now }
+    requires starts { AreStarts plan.now.rows (rows_of contents.now) starts.now }
+    ensures { OnOk result (writer.new ≡ with_piece writer.old (Words (flat_map (stretch_words part.now) (groups_led plan.now.rows plan.now.rows)))) }
+{
+    for i in 0..plan.len() {
+        let Some((far, words)) = plan.row(i) else {
+            return Err(NoMemory);
+        };
+        put_led(writer, part, contents, starts[i], far, words)?;
+    }
+    Ok(())
+}
+
+/// Adds a frame unless a group has it.
+fn add_unless<'p>(
+    alone: &mut Vec<Content<'p>>,
+    shared: bool,
+    content: Content<'p>,
+) -> Result<(), AllocError>
+    ensures { OnOk result (alone.new.items ≡ (if shared then alone.old.items else alone.old.items ++ content.entry ∷ [])) }
+{
+    if shared {
+        return Ok(());
+    }
+    Ok(alone.push(content)?)
+}
+
+/// The frames of a plan that no group has, in order.
+pub(crate) fn others_of<'p>(
+    alloc: Global,
+    plan: &'p Plan,
+    contents: &[Content],
+    starts: &[usize],
+) -> Result<Vec<Content<'p>>, AllocError>
+    requires contents { AreGrouped plan.now.rows contents.now }
+    requires starts { AreStarts plan.now.rows (rows_of contents.now) starts.now }
+    ensures { IfOk result (λ alone. rows_of alone.items ≡ others plan.now.rows plan.now.rows) }
+{
+    let mut alone = Vec::new(alloc);
+    for row in 0..plan.len() {
+        let Some((far, words)) = plan.row(row) else {
+            return Err(AllocError);
+        };
+        let shared = is_group(contents, starts[row], words);
+        add_unless(&mut alone, shared, Content { far, words, row })?;
+    }
+    Ok(alone)
+}

@@ -1,0 +1,85 @@
+//! Frames whose addresses follow one another, which are written at once.
+ghost use Rattle.std.specs.Prelude.{◌≡◌, ℕ, ◌+◌, ◌-◌, ◌*◌, ◌^◌, ◌<◌, ◌≤◌, ◌++◌, true, false, length, slice_index_or, All, Contains, OnOk};
+ghost use Rattle.std.specs.List.{flat_map};
+ghost use Rattle.x7_memory.specs.Planned.{PlanRow};
+ghost use Rattle.x7_part.specs.AddressOrder.{addresses_in};
+ghost use Rattle.x7_part.specs.Part.{PartData, frame_words};
+ghost use Rattle.x7_planner.specs.Contents.{IsRunLength, rows_of};
+ghost use Rattle.x7_planner.specs.Partial.{follows, frames_words, runs_words, stretch_words, Rows};
+ghost use Rattle.x7_planner.specs.Stream.{with_piece, Words};
+
+use crate::content::Content;
+use crate::whole::zeros;
+use crate::writer::Writer;
+use x7_part::{Part, Slot};
+use x7_words::NoMemory;
+
+/// Whether the second address is the next of the first, in the same row.
+fn is_next(part: &Part, far: u32, next: u32) -> bool
+    requires { Contains (addresses_in part.now) far }
+    ensures { result ≡ follows part.now far next }
+{
+    let Slot::Frame(address) = part.slot_after(far, 1) else {
+        return false;
+    };
+    address == next
+}
+
+/// How many frames the first run has.
+fn run_length(part: &Part, frames: &[Content]) -> usize
+    requires some { 0 < length frames.now }
+    requires addresses { All (λ row. Contains (addresses_in part.now) row.far) (rows_of frames.now) }
+    ensures { IsRunLength part.now (rows_of frames.now) result }
+{
+    for k in 1..frames.len() {
+        if !is_next(part, frames[k - 1].far, frames[k].far) {
+            return k;
+        }
+    }
+    frames.len()
+}
+
+/// Writes frames.
+fn put_frames(writer: &mut Writer, frames: &[Content]) -> Result<(), NoMemory>
+    ensures { OnOk result (writer.new ≡ with_piece writer.old (Words (frames_words (rows_of frames.now)))) }
+{
+    for frame in frames {
+        writer.words(frame.words)?;
+    }
+    Ok(())
+}
+
+/// Writes a run: the frames from its first address on, and a frame of zeros.
+fn put_run(writer: &mut Writer, part: &Part, run: &[Content]) -> Result<(), NoMemory>
+    requires some { 0 < length run.now }
+    requires few { length run.now ≤ 131072 }
+    ensures { OnOk result (writer.new ≡ with_piece writer.old (Words (stretch_words part.now (Rows (rows_of run.now))))) }
+{
+    let words = part.words() * (run.len() as u32 + 1);
+    writer.words(&[
+        0x3000_8001,
+        1,
+        0x3000_2001,
+        run[0].far,
+        0x3000_4000,
+        0x5000_0000 + words,
+    ])?;
+    put_frames(writer, run)?;
+    writer.words(zeros(part.words()))?;
+    Ok(())
+}
+
+/// Writes the longest runs of frames in order.
+pub(crate) fn put_runs(writer: &mut Writer, part: &Part, frames: &[Content]) -> Result<(), NoMemory>
+    requires addresses { All (λ row. Contains (addresses_in part.now) row.far) (rows_of frames.now) }
+    requires few { length frames.now ≤ 131072 }
+    ensures { OnOk result (writer.new ≡ with_piece writer.old (Words (runs_words part.now (rows_of frames.now)))) }
+{
+    let mut at = 0;
+    while at < frames.len() {
+        let count = run_length(part, &frames[at..]);
+        put_run(writer, part, &frames[at..at + count])?;
+        at += count;
+    }
+    Ok(())
+}
