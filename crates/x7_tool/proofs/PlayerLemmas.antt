@@ -145,17 +145,19 @@ pub new_plays : (part : PartData) (d : DeviceState) (reads : List ℕ) → Devic
 new_plays part d reads s e =
     let h = history_taken part on_the_bench [] in
     let none : length (reads_of part on_the_bench []) ≡ 0 = refl in
-    let due : NoWordDue d = omega (arith, none, ap length s.due_are.all, length-append s.due_are.told (words_left part h d.registers.due), length_left part h d.registers.due) in
-    (record {
-      taken = [];
-      left = [];
-      parts = refl;
-      ends = inl refl;
-      fits = tt;
-      stands = s;
-      told = e ∙ sym (told_all part on_the_bench d [] due);
-      few = omega (arith, ap length e);
-    }, due)
+    let due : NoWordDue d = omega (arith, none, ap length s.due_are.all, length-append s.due_are.told (words_left part h d.registers.due), length_left part h d.registers.due) in (
+      record {
+        taken = [];
+        left = [];
+        parts = refl;
+        ends = inl refl;
+        fits = tt;
+        stands = s;
+        told = e ∙ sym (told_all part on_the_bench d [] due);
+        few = omega (arith, ap length e);
+      },
+      due,
+    )
 
 -- a device that was given these bytes may be given more
 pub may_feed : (part : PartData) (bytes : List ℕ) (d : DeviceState) (reads : List ℕ) (count : ℕ) → Plays part bytes d reads → length bytes + count ≤ stream_limit → d.taken + count ≤ 2 ^ 63
