@@ -9,13 +9,14 @@ use Rattle.x7_part.specs.PartRange.{IsPart}
 use Rattle.x7_part.specs.declared.fault.PartFault.{PartFault}
 use Rattle.x7_part.proofs.FileRowLemmas.{text_is}
 use Rattle.x7_planner.specs.Full.{full_stream}
+use Rattle.x7_planner.specs.Partial.{partial_stream}
 use Rattle.x7_planner.specs.Readback.{read_stream}
-use Rattle.x7_effects.specs.Played.{PlaysFull, PlaysRead}
-use Rattle.x7_effects.proofs.LawLemmas.{full_law, read_law}
+use Rattle.x7_effects.specs.Played.{PlaysFull, PlaysPartial, PlaysRead}
+use Rattle.x7_effects.proofs.LawLemmas.{full_law, partial_law, read_law}
 use Rattle.x7_tool.specs.Event.{Event}
-use Rattle.x7_tool.specs.Form.{Asked, Assembling, Debugging, FromMcs, Imaging, Listing, PlanningFull, PlanningRead, Playing, ToMcs}
-use Rattle.x7_tool.specs.Outcome.{Answer, Known, PlanTexts, PlannedFull, PlannedRead, and_so, part_by, part_limit, part_of, plan_texts, text_limit, whole_in}
-use Rattle.x7_tool.specs.Promise.{Promise, PromisesFull, PromisesRead}
+use Rattle.x7_tool.specs.Form.{Asked, Assembling, Debugging, FromMcs, Imaging, Listing, PlanningFull, PlanningPartial, PlanningRead, Playing, ToMcs}
+use Rattle.x7_tool.specs.Outcome.{Answer, Known, PlanTexts, PlannedFull, PlannedPartial, PlannedRead, and_so, part_by, part_limit, part_of, plan_texts, text_limit, whole_in}
+use Rattle.x7_tool.specs.Promise.{Promise, PromisesFull, PromisesPartial, PromisesRead}
 use Rattle.x7_tool.specs.Run.{Agrees}
 
 -- ---- the part that was read is a part
@@ -60,6 +61,19 @@ full_promised known part frames (Ok texts) answer e p = record {
       (full_law texts.part kept bytes p.1 fits rests is p.2.is p.2.width (All-permutation (λ row. Contains (addresses_in texts.part) row.far) p.2.rows p.1.rows p.2.same p.2.good.addresses));
 }
 
+partial_promised : (known : Known) (part frames : List ℕ) (read : Result PlanTexts Event) (answer : Answer) → plan_texts known part frames ≡ read → PlannedPartial frames read (Ok answer) → PromisesPartial known part frames answer.text
+partial_promised known part frames (Err event) answer e p = absurd (cc)
+partial_promised known part frames (Ok texts) answer e p = record {
+  texts = texts;
+  plan = p.1;
+  read = e;
+  planned = p.2;
+  plays = λ kept bytes fits rests.
+      let is : IsPart texts.part = part_is known part texts.part (texts_by (part_of known part) (whole_in known text_limit frames) texts e) in
+      subst (λ (stream : List ℕ). PlaysPartial texts.part kept bytes stream p.1) (sym p.4)
+      (partial_law texts.part kept bytes p.1 fits rests is p.2.is p.2.width (All-permutation (λ row. Contains (addresses_in texts.part) row.far) p.2.rows p.1.rows p.2.same p.2.good.addresses));
+}
+
 read_promised : (known : Known) (part : List ℕ) (far n : ℕ) (read : Result PartData Event) (answer : Answer) → part_of known part ≡ read → PlannedRead part far n read (Ok answer) → PromisesRead known part far n answer.text
 read_promised known part far n (Err event) answer e p = absurd (cc)
 read_promised known part far n (Ok device) answer e p = record {
@@ -78,6 +92,7 @@ promised (Some known) (Some (Assembling text)) answer a = tt
 promised (Some known) (Some (ToMcs image)) answer a = tt
 promised (Some known) (Some (FromMcs text)) answer a = tt
 promised (Some known) (Some (PlanningFull part frames)) answer a = full_promised known part frames (plan_texts known part frames) answer refl a
+promised (Some known) (Some (PlanningPartial part frames)) answer a = partial_promised known part frames (plan_texts known part frames) answer refl a
 promised (Some known) (Some (PlanningRead part far n)) answer a = read_promised known part far n (part_of known part) answer refl a
 promised (Some known) (Some (Debugging part stream script)) answer a = tt
 promised (Some known) (Some (Imaging part golden update)) answer a = tt
@@ -92,6 +107,7 @@ no_promise (Some known) (Some (Assembling text)) event = tt
 no_promise (Some known) (Some (ToMcs image)) event = tt
 no_promise (Some known) (Some (FromMcs text)) event = tt
 no_promise (Some known) (Some (PlanningFull part frames)) event = tt
+no_promise (Some known) (Some (PlanningPartial part frames)) event = tt
 no_promise (Some known) (Some (PlanningRead part far n)) event = tt
 no_promise (Some known) (Some (Debugging part stream script)) event = tt
 no_promise (Some known) (Some (Imaging part golden update)) event = tt

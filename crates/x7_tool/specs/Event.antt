@@ -60,6 +60,7 @@ input_text (input.Overlap place) = codes "overlap " ++ hex_word place
 input_text input.NoEnd = codes "no end"
 input_text (input.AddressLine line) = codes "address line " ++ decimal line
 input_text (input.TwiceLine line) = codes "twice line " ++ decimal line
+input_text input.Empty = codes "empty"
 input_text input.Foreign = codes "foreign"
 input_text input.Range = codes "range"
 input_text input.Image = codes "image"

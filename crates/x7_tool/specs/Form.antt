@@ -13,6 +13,7 @@ pub data Asked : Type 0 where
   ToMcs : (image : List ℕ) → Asked
   FromMcs : (text : List ℕ) → Asked
   PlanningFull : (part frames : List ℕ) → Asked
+  PlanningPartial : (part frames : List ℕ) → Asked
   PlanningRead : (part : List ℕ) (far n : ℕ) → Asked
   Imaging : (part golden update : List ℕ) → Asked
   Debugging : (part stream script : List ℕ) → Asked
@@ -63,6 +64,7 @@ abbrev pub plan_form : List (List ℕ) → Option Asked
 plan_form [] = None
 plan_form (kind ∷ names) =
     if bytes_eq kind (codes "full") then two_names PlanningFull names
+    else if bytes_eq kind (codes "partial") then two_names PlanningPartial names
     else if bytes_eq kind (codes "read") then plan_read_form names
     else None
 
@@ -100,6 +102,7 @@ names_of (Some (Assembling text)) = text ∷ []
 names_of (Some (ToMcs image)) = image ∷ []
 names_of (Some (FromMcs text)) = text ∷ []
 names_of (Some (PlanningFull part frames)) = part ∷ frames ∷ []
+names_of (Some (PlanningPartial part frames)) = part ∷ frames ∷ []
 names_of (Some (PlanningRead part far n)) = part ∷ []
 names_of (Some (Debugging part stream script)) = part ∷ stream ∷ script ∷ []
 
@@ -113,5 +116,6 @@ names_flash (Some (Assembling text)) = false
 names_flash (Some (ToMcs image)) = false
 names_flash (Some (FromMcs text)) = false
 names_flash (Some (PlanningFull part frames)) = false
+names_flash (Some (PlanningPartial part frames)) = false
 names_flash (Some (PlanningRead part far n)) = false
 names_flash (Some (Debugging part stream script)) = false

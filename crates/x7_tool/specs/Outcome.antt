@@ -1,5 +1,5 @@
 -- What a command comes to, over known inputs and a known flash: the first event in the order of the work decides (this project's choice).
-use Rattle.std.specs.Prelude.{◌≡◌, ℕ, List, [], ◌∷◌, ◌++◌, ◌-◌, Option, None, Some, is_some, Result, Ok, Err, Bool, false, if◌then◌else◌, drop, length, nat_lt, take}
+use Rattle.std.specs.Prelude.{◌≡◌, ℕ, List, [], ◌∷◌, ◌++◌, ◌-◌, Option, None, Some, is_some, Result, Ok, Err, Bool, false, if◌then◌else◌, drop, length, nat_lt, take, ◌⊎◌, ◌<◌}
 use Rattle.x7_header.specs.Header.{Contents}
 use Rattle.x7_header.specs.Reading.{header_at}
 use Rattle.x7_header.specs.declared.fault.HeaderFault.{HeaderFault}
@@ -22,8 +22,9 @@ use Rattle.x7_frames.specs.FramesText.{IsPlanOf}
 use Rattle.x7_frames.specs.declared.fault.FramesFault.{FramesFault}
 use Rattle.x7_frames.specs.declared.fault.FramesFault.TheVariants as frames
 use Rattle.x7_planner.specs.Full.{full_stream}
+use Rattle.x7_planner.specs.Partial.{partial_stream}
 use Rattle.x7_planner.specs.Readback.{read_stream}
-use Rattle.x7_planner.specs.Refusals.{CanRead, IsReadFault}
+use Rattle.x7_planner.specs.Refusals.{CanRead, IsPartialFault, IsReadFault}
 use Rattle.x7_planner.specs.declared.fault.PlanFault.{PlanFault}
 use Rattle.x7_planner.specs.declared.fault.PlanFault.TheVariants as planner
 use Rattle.x7_mcs.specs.Text.{mcs_text}
@@ -34,7 +35,7 @@ use Rattle.x7_debug.specs.Script.{IsScriptOf}
 use Rattle.x7_debug.specs.Transcript.{final_position, transcript_of}
 use Rattle.x7_tool.specs.declared.bad_input.InputFault.TheVariants as input
 use Rattle.x7_tool.specs.Event.{Event, bad_input, bad_part, missing, no_memory, too_large, too_many_reads, usage}
-use Rattle.x7_tool.specs.Form.{Asked, Assembling, Debugging, FromMcs, Imaging, Listing, PlanningFull, PlanningRead, Playing, ToMcs, names_flash}
+use Rattle.x7_tool.specs.Form.{Asked, Assembling, Debugging, FromMcs, Imaging, Listing, PlanningFull, PlanningRead, Playing, ToMcs, names_flash, PlanningPartial}
 use Rattle.x7_part.specs.PartFile.{part_in}
 use Rattle.x7_tool.specs.Report.{report_text}
 
@@ -212,11 +213,23 @@ PlannedFull name (Err event) end = Err event ≡ end
 PlannedFull name (Ok texts) (Ok answer) = (answer.stopped ≡ false) × (plan : PlanData) × IsPlanOf texts.part texts.text (Ok plan) × (answer.text ≡ full_stream texts.part plan)
 PlannedFull name (Ok texts) (Err event) = (fault : FramesFault) × IsPlanOf texts.part texts.text (Err fault) × (frames_event name fault ≡ event)
 
--- the event of a readback that isn't planned
+-- the event of a stream that isn't planned
 abbrev pub planner_event : List ℕ → PlanFault → Event
+planner_event name planner.Empty = bad_input name input.Empty
 planner_event name (planner.Foreign far) = bad_input name input.Foreign
 planner_event name (planner.Range n) = bad_input name input.Range
 planner_event name _ = no_memory
+
+-- the plan of a frames text has no partial stream
+abbrev pub IsUnplanned : List ℕ → PlanTexts → Event → Type 0
+IsUnplanned name texts event = (plan : PlanData) × IsPlanOf texts.part texts.text (Ok plan) × (fault : PlanFault) × IsPartialFault texts.part plan fault × (planner_event name fault ≡ event)
+
+-- `plan partial PART FRAMES`: the partial stream of the plan, or the frames text's first line at fault, or that it plans nothing
+abbrev pub PlannedPartial : List ℕ → Result PlanTexts Event → Result Answer Event → Type 0
+PlannedPartial name (Err event) end = Err event ≡ end
+PlannedPartial name (Ok texts) (Ok answer) =
+    (answer.stopped ≡ false) × (plan : PlanData) × IsPlanOf texts.part texts.text (Ok plan) × (0 < length plan.rows) × (answer.text ≡ partial_stream texts.part plan.rows)
+PlannedPartial name (Ok texts) (Err event) = ((fault : FramesFault) × IsPlanOf texts.part texts.text (Err fault) × (frames_event name fault ≡ event)) ⊎ IsUnplanned name texts event
 
 -- `plan read PART FAR N`: the read stream, or why there is none
 abbrev pub PlannedRead : List ℕ → ℕ → ℕ → Result PartData Event → Result Answer Event → Type 0
@@ -286,6 +299,7 @@ Gives known (Assembling text) end = AssembledAs text (whole_in known text_limit 
 Gives known (ToMcs image) end = mcs_written known image ≡ end
 Gives known (FromMcs text) end = mcs_read known text ≡ end
 Gives known (PlanningFull part frames) end = PlannedFull frames (plan_texts known part frames) end
+Gives known (PlanningPartial part frames) end = PlannedPartial frames (plan_texts known part frames) end
 Gives known (PlanningRead part far n) end = PlannedRead part far n (part_of known part) end
 Gives known (Imaging part golden update) end = imaged known part golden update ≡ end
 Gives known (Debugging part stream script) end = DebuggedAs script (debug_inputs known part stream script) end

@@ -37,6 +37,8 @@ pub enum InputFault {
     AddressLine(u64),
     /// The first line with an address that an earlier line has.
     TwiceLine(u64),
+    /// The frames text plans nothing.
+    Empty,
     /// The part has no frame at the address.
     Foreign,
     /// So many slots can't be read: none, or more than there are.
@@ -111,6 +113,7 @@ pub(crate) fn say_bad_input<E: Sink>(
         InputFault::NoEnd => say_at(err, name, b": no end", b""),
         InputFault::AddressLine(line) => say_number(err, name, b": address line ", line),
         InputFault::TwiceLine(line) => say_number(err, name, b": twice line ", line),
+        InputFault::Empty => say_at(err, name, b": empty", b""),
         InputFault::Foreign => say_at(err, name, b": foreign", b""),
         InputFault::Range => say_at(err, name, b": range", b""),
         InputFault::Image => say_at(err, name, b": image", b""),

@@ -1,6 +1,6 @@
 //! The forms of the command line.
 ghost use Rattle.std.specs.Prelude.{◌≡◌, map, string_bytes};
-ghost use Rattle.x7_tool.specs.Form.{Assembling, FromMcs, Imaging, Listing, PlanningFull, ToMcs, debug_form, form_of, number_in, one_name, plan_form, plan_read_form, play_form, three_names, two_names, word_in};
+ghost use Rattle.x7_tool.specs.Form.{Assembling, FromMcs, Imaging, Listing, PlanningFull, ToMcs, debug_form, form_of, number_in, one_name, plan_form, plan_read_form, play_form, three_names, two_names, word_in, PlanningPartial};
 ghost use Rattle.x7_tool.specs.Run.{asked};
 
 use x7_text::{decimal_below, word_of_hex};
@@ -30,6 +30,13 @@ pub enum Form<'w> {
     },
     /// `plan full PART FRAMES`: the stream of a whole configuration.
     PlanFull {
+        /// The part file's name.
+        part: &'w str,
+        /// The frames text's name.
+        frames: &'w str,
+    },
+    /// `plan partial PART FRAMES`: the stream that writes the planned frames alone.
+    PlanPartial {
         /// The part file's name.
         part: &'w str,
         /// The frames text's name.
@@ -165,6 +172,19 @@ fn plan_full_form(names: &[String]) -> Option<Form<'_>>
     }
 }
 
+/// `plan partial PART FRAMES`.
+fn plan_partial_form(names: &[String]) -> Option<Form<'_>>
+    ensures { asked result ≡ two_names PlanningPartial (map string_bytes names.now) }
+{
+    match names {
+        [part, frames] => Some(Form::PlanPartial {
+            part: part.as_str(),
+            frames: frames.as_str(),
+        }),
+        _ => None,
+    }
+}
+
 /// `plan read PART FAR N`.
 fn plan_read_form(names: &[String]) -> Option<Form<'_>>
     ensures { asked result ≡ plan_read_form (map string_bytes names.now) }
@@ -191,6 +211,7 @@ fn plan_form(names: &[String]) -> Option<Form<'_>>
     };
     match kind.as_str() {
         "full" => plan_full_form(names),
+        "partial" => plan_partial_form(names),
         "read" => plan_read_form(names),
         _ => None,
     }

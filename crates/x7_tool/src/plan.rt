@@ -1,9 +1,9 @@
-//! The commands `plan full` and `plan read`: streams for plans.
+//! The commands `plan full`, `plan partial` and `plan read`: streams for plans.
 ghost use Rattle.std.specs.Prelude.{◌≡◌, ◌⊎◌, ◌≤◌, ℕ, List, [], ◌∷◌, Option, Ok, Err, IfOk, IfErr};
 ghost use Rattle.x7_part.specs.Part.{PartData};
 ghost use Rattle.x7_tool.specs.Message.{event_of};
 ghost use Rattle.x7_tool.specs.Event.{no_memory};
-ghost use Rattle.x7_tool.specs.Outcome.{PlannedFull, PlannedRead, frames_event, part_of, plan_texts, planner_event, with_inputs};
+ghost use Rattle.x7_tool.specs.Outcome.{PlannedFull, PlannedPartial, PlannedRead, frames_event, part_of, plan_texts, planner_event, with_inputs};
 ghost use Rattle.x7_tool.specs.Planned.{texts_of};
 ghost use Rattle.x7_tool.specs.Play.{whole_of};
 ghost use Rattle.x7_tool.specs.Run.{IsCaused, IsCausedBy, RisesFor, seen};
@@ -16,7 +16,7 @@ use crate::text::Text;
 use std::alloc::Global;
 use x7_frames::{FramesFault, plan_of};
 use x7_part::Part;
-use x7_planner::{PlanFault, full, readback};
+use x7_planner::{PlanFault, full, partial, readback};
 use x7_words::Inputs;
 
 /// A part, and a frames text.
@@ -62,14 +62,15 @@ fn frames_refusal<'w>(name: &'w str, fault: FramesFault) -> Refusal<'w>
     }
 }
 
-/// Why the planner refuses a readback.
+/// Why the planner refuses.
 fn planner_refusal<'w>(name: &'w str, fault: PlanFault) -> Refusal<'w>
     ensures { event_of result ≡ planner_event name.now fault }
 {
     let input = match fault {
+        PlanFault::Empty => InputFault::Empty,
         PlanFault::Foreign(_) => InputFault::Foreign,
         PlanFault::Range(_) => InputFault::Range,
-        PlanFault::Empty | PlanFault::NoMemory => return Refusal::unnamed(Why::NoMemory),
+        PlanFault::NoMemory => return Refusal::unnamed(Why::NoMemory),
     };
     Refusal {
         reason: Why::BadInput(input),
@@ -110,6 +111,41 @@ pub(crate) fn plan_full<'w, I: Inputs>(
         Err(refusal) => return Err(refusal),
     };
     full_text(alloc, &texts, frames)
+}
+
+/// The partial stream of the plan of a frames text.
+fn partial_text<'w>(alloc: Global, texts: &PlanTexts, frames: &'w str) -> Result<Text, Refusal<'w>>
+    ensures ok { IfOk result (λ text. PlannedPartial frames.now (Ok (texts_of texts.now)) (Ok (whole_of text))) }
+    ensures err { IfErr result (λ r. (event_of r ≡ no_memory) ⊎ PlannedPartial frames.now (Ok (texts_of texts.now)) (Err (event_of r))) }
+{
+    let plan = match plan_of(alloc, &texts.text, &texts.part) {
+        Ok(plan) => plan,
+        Err(fault) => return Err(frames_refusal(frames, fault)),
+    };
+    match partial(alloc, &texts.part, &plan) {
+        Ok(text) => Ok(Text {
+            stopped: false,
+            text,
+        }),
+        Err(fault) => Err(planner_refusal(frames, fault)),
+    }
+}
+
+/// The stream of `plan partial PART FRAMES`.
+pub(crate) fn plan_partial<'w, I: Inputs>(
+    alloc: Global,
+    inputs: &mut I,
+    part: &'w str,
+    frames: &'w str,
+) -> Result<Text, Refusal<'w>>
+    ensures { (flash : Option (List ℕ)) → IsCausedBy (with_inputs (I.contents inputs.old) flash) (RisesFor (part.now ∷ frames.now ∷ []) (I.faults inputs.old) (I.faults inputs.new)) (RisesFor (part.now ∷ frames.now ∷ []) (I.absences inputs.old) (I.absences inputs.new))
+        (λ known end. PlannedPartial frames.now (plan_texts known part.now frames.now) end) (seen whole_of result) }
+{
+    let texts = match read_texts(alloc, inputs, part, frames) {
+        Ok(texts) => texts,
+        Err(refusal) => return Err(refusal),
+    };
+    partial_text(alloc, &texts, frames)
 }
 
 /// The read stream of n slots from an address on.

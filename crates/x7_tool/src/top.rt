@@ -14,7 +14,7 @@ use crate::form::{Form, words_of};
 use crate::image::image;
 use crate::list::list;
 use crate::mcs::{mcs, unmcs};
-use crate::plan::{plan_full, plan_read};
+use crate::plan::{plan_full, plan_partial, plan_read};
 use crate::play::play;
 use crate::refusal::{Refusal, Why};
 use crate::status::Status;
@@ -45,6 +45,9 @@ fn answer<'w, I: Inputs, O: Sink, F: Flash>(
         Some(Form::Mcs { image }) => put_whole(mcs(alloc, inputs, image), out),
         Some(Form::PlanFull { part, frames }) => {
             put_whole(plan_full(alloc, inputs, part, frames), out)
+        }
+        Some(Form::PlanPartial { part, frames }) => {
+            put_whole(plan_partial(alloc, inputs, part, frames), out)
         }
         Some(Form::PlanRead { part, far, n }) => {
             put_whole(plan_read(alloc, inputs, part, far, n), out)

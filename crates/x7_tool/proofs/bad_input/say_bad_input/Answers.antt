@@ -29,6 +29,9 @@ returns-in-AddressLine g c = rw c.in-AddressLine.is c.say_number-in-AddressLine.
 pub returns-in-TwiceLine : goal.returns-in-TwiceLine
 returns-in-TwiceLine g c = rw c.in-TwiceLine.is c.say_number-in-TwiceLine.ensures
 
+pub returns-in-Empty : goal.returns-in-Empty
+returns-in-Empty g c = rw c.in-Empty.is c.say_at-in-Empty.ensures
+
 pub returns-in-Foreign : goal.returns-in-Foreign
 returns-in-Foreign g c = rw c.in-Foreign.is c.say_at-in-Foreign.ensures
 

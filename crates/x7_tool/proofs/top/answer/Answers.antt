@@ -1,6 +1,6 @@
 use Rattle.std.proofs.Common.{◌≡◌, Option, Some, Err, map, string_bytes, sym, ap, subst, ◌∙◌}
 use Rattle.x7_words.specs.Count.{HasRisen}
-use Rattle.x7_tool.specs.Form.{Asked, Assembling, Debugging, FromMcs, Imaging, Listing, PlanningFull, PlanningRead, Playing, ToMcs, form_of, names_of}
+use Rattle.x7_tool.specs.Form.{Asked, Assembling, Debugging, FromMcs, Imaging, Listing, PlanningFull, PlanningRead, Playing, ToMcs, form_of, names_of, PlanningPartial}
 use Rattle.x7_tool.specs.Message.{event_of}
 use Rattle.x7_tool.specs.Outcome.{known_of}
 use Rattle.x7_tool.specs.Play.{whole_of, text_of_image}
@@ -49,6 +49,12 @@ returns-in-Some-PlanFull-clause-ends g c =
     let flash = g.F.Flash.bytes c.args.flash.now in
     ready_ends _ (PlanningFull c.in-Some-PlanFull.part.now c.in-Some-PlanFull.frames.now) _ flash _ _ _ _ _ _ _ (seen whole_of c.plan_full.result) _
     (sym c.words_of.ensures ∙ ap asked c.in-Some-PlanFull.is ∙ ap (λ f. Some (asked_by f)) c.in-Some-PlanFull.field-0-is) tt (c.plan_full.ensures flash) c.put_whole-in-Some-PlanFull.ensures
+
+pub returns-in-Some-PlanPartial-clause-ends : goal.returns-in-Some-PlanPartial-clause-ends
+returns-in-Some-PlanPartial-clause-ends g c =
+    let flash = g.F.Flash.bytes c.args.flash.now in
+    ready_ends _ (PlanningPartial c.in-Some-PlanPartial.part.now c.in-Some-PlanPartial.frames.now) _ flash _ _ _ _ _ _ _ (seen whole_of c.plan_partial.result) _
+    (sym c.words_of.ensures ∙ ap asked c.in-Some-PlanPartial.is ∙ ap (λ f. Some (asked_by f)) c.in-Some-PlanPartial.field-0-is) tt (c.plan_partial.ensures flash) c.put_whole-in-Some-PlanPartial.ensures
 
 pub returns-in-Some-PlanRead-clause-ends : goal.returns-in-Some-PlanRead-clause-ends
 returns-in-Some-PlanRead-clause-ends g c =
