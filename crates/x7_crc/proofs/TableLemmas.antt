@@ -62,19 +62,41 @@ advanced_byte n v =
     ∙ xor_comm (advanced n (v / 256)) (advanced n (advanced 8 (v % 256)))
     ∙ ap (λ x. bit_xor x (advanced n (v / 256))) (sym (advanced-add 8 n (v % 256)))
 
+advanced_at : (m n v : ℕ) → advanced (8 + m + n) v ≡ bit_xor (advanced (8 + m + n) (v % 256)) (advanced (m + n) (v / 256))
+advanced_at m n v = let e : 8 + m + n ≡ 8 + (m + n) = omega arith in rw e (advanced_byte (m + n) v)
+
 -- a word by its four bytes
-pub four_entries : (v a b c d : ℕ) → a ≡ bit_and v 255 → b ≡ bit_and (v / 256) 255 → c ≡ bit_and (v / 65536) 255 → d ≡ v / 16777216 →
-    bit_xor (advanced 32 a) (bit_xor (advanced 24 b) (bit_xor (advanced 16 c) (advanced 8 d))) ≡ advanced 32 v
-four_entries v a b c d ea eb ec ed =
+four_bytes : (n v a b c d : ℕ) → a ≡ bit_and v 255 → b ≡ bit_and (v / 256) 255 → c ≡ bit_and (v / 65536) 255 → d ≡ v / 16777216 →
+    bit_xor (advanced (24 + n) a) (bit_xor (advanced (16 + n) b) (bit_xor (advanced (8 + n) c) (advanced n d))) ≡ advanced (24 + n) v
+four_bytes n v a b c d ea eb ec ed =
     let two : v / 256 / 256 ≡ v / 65536 = omega arith in
     let three : v / 256 / 256 / 256 ≡ v / 16777216 = omega arith in
     let ra : v % 256 ≡ a = sym (ea ∙ low_mask 8 v) in
     let rb : v / 256 % 256 ≡ b = sym (eb ∙ low_mask 8 (v / 256)) in
     let rc : v / 256 / 256 % 256 ≡ c = ap (λ x. x % 256) two ∙ sym (ec ∙ low_mask 8 (v / 65536)) in
     let rd : v / 256 / 256 / 256 ≡ d = three ∙ sym ed in
-    sym (advanced_byte 24 v ∙ ap (λ x. bit_xor (advanced 32 (v % 256)) x) (advanced_byte 16 (v / 256)
-    ∙ ap (λ x. bit_xor (advanced 24 (v / 256 % 256)) x) (advanced_byte 8 (v / 256 / 256)))
+    let high : advanced (24 + n) v ≡ bit_xor (advanced (24 + n) (v % 256)) (advanced (16 + n) (v / 256)) = advanced_at 16 n v in
+    let mid : advanced (16 + n) (v / 256) ≡ bit_xor (advanced (16 + n) (v / 256 % 256)) (advanced (8 + n) (v / 256 / 256)) = advanced_at 8 n (v / 256) in
+    let low : advanced (8 + n) (v / 256 / 256) ≡ bit_xor (advanced (8 + n) (v / 256 / 256 % 256)) (advanced n (v / 256 / 256 / 256)) = advanced_byte n (v / 256 / 256) in
+    sym (high ∙ ap (λ x. bit_xor (advanced (24 + n) (v % 256)) x) (mid
+    ∙ ap (λ x. bit_xor (advanced (16 + n) (v / 256 % 256)) x) low)
     ∙ rw (ra, rb, rc, rd) refl)
+
+-- the same, as the entries are looked up
+pub four_entries : (n v a b c d : ℕ) → a ≡ bit_and v 255 → b ≡ bit_and (v / 256) 255 → c ≡ bit_and (v / 65536) 255 → d ≡ v / 16777216 →
+    bit_xor (advanced (n + 8 * 3) a) (bit_xor (advanced (n + 8 * 2) b) (bit_xor (advanced (n + 8 * 1) c) (advanced (n + 8 * 0) d))) ≡ advanced (n + 24) v
+four_entries n v a b c d ea eb ec ed =
+    let three : n + 8 * 3 ≡ 24 + n = omega arith in
+    let two : n + 8 * 2 ≡ 16 + n = omega arith in
+    let one : n + 8 * 1 ≡ 8 + n = omega arith in
+    let none : n + 8 * 0 ≡ n = omega arith in
+    let all : n + 24 ≡ 24 + n = omega arith in
+    ap (λ k. bit_xor (advanced k a) (bit_xor (advanced (n + 8 * 2) b) (bit_xor (advanced (n + 8 * 1) c) (advanced (n + 8 * 0) d)))) three
+    ∙ ap (λ k. bit_xor (advanced (24 + n) a) (bit_xor (advanced k b) (bit_xor (advanced (n + 8 * 1) c) (advanced (n + 8 * 0) d)))) two
+    ∙ ap (λ k. bit_xor (advanced (24 + n) a) (bit_xor (advanced (16 + n) b) (bit_xor (advanced k c) (advanced (n + 8 * 0) d)))) one
+    ∙ ap (λ k. bit_xor (advanced (24 + n) a) (bit_xor (advanced (16 + n) b) (bit_xor (advanced (8 + n) c) (advanced k d)))) none
+    ∙ four_bytes n v a b c d ea eb ec ed
+    ∙ ap (λ k. advanced k v) (sym all)
 
 pub entry_in_all : (n k i : ℕ) (ts : List (List ℕ)) → IsTrue (advance_all n ts) → k < length ts → i < 256 →
     get_or (get_or ts k []) i 0 ≡ advanced (n + 8 * k) i

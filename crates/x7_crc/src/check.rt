@@ -2,9 +2,10 @@
 ghost use Rattle.std.specs.Prelude.{◌≡◌, ◌<◌, ◌%◌, ◌++◌, List, [], ◌∷◌, bit_xor, length, ℕ};
 ghost use Rattle.x7_crc.specs.RunningCheck.{check_after, check_of, low_bits, writes_to};
 ghost use Rattle.x7_crc.specs.ShiftRegister.{shifted, shifted_all};
+ghost use Rattle.std.specs.List.{flat_map};
 ghost use Rattle.x7_words.specs.Word.{words_of_bytes};
 
-use crate::table::fold_by_tables;
+use crate::table::{check_of_zeros, fold_by_tables, fold_four};
 use x7_words::word_of;
 
 /// The polynomial of CRC-32C, the coefficient of x^31 lowest (this project's choice).
@@ -63,12 +64,35 @@ pub fn fold(prev: u32, reg: u8, word: u32) -> u32
 }
 
 /// The check after writes of whole words to one register, in order, for any check before them.
-#[tactic(auto, using(crate::proofs::CheckLemmas::words_by_chunks))]
 pub fn fold_slice(prev: u32, reg: u8, bytes: &[u8]) -> u32
     requires register { reg < 32 }
     requires whole { length bytes.now % 4 ≡ 0 }
     ensures value { result ≡ check_after prev (writes_to reg (words_of_bytes bytes.now)) }
     ensures last { (writes : List (ℕ × ℕ)) → prev ≡ check_of writes → result ≡ check_of (writes ++ writes_to reg (words_of_bytes bytes.now)) }
+{
+    let (blocks, rest) = bytes.as_chunks::<16>();
+    fold_words(fold_blocks(prev, reg, blocks), reg, rest)
+}
+
+/// The same of words that stand four in a block.
+fn fold_blocks(prev: u32, reg: u8, blocks: &[[u8; 16]]) -> u32
+    requires register { reg < 32 }
+    ensures { result ≡ check_after prev (writes_to reg (flat_map words_of_bytes blocks.now)) }
+{
+    let zeros = check_of_zeros(reg);
+    let mut sum = prev;
+    for block in blocks {
+        let [first, second, third, last] = words_of(block);
+        sum = fold_four(sum, zeros, first, second, third, last);
+    }
+    sum
+}
+
+/// The same word by word.
+#[tactic(auto, using(crate::proofs::CheckLemmas::words_by_chunks))]
+fn fold_words(prev: u32, reg: u8, bytes: &[u8]) -> u32
+    requires { reg < 32 }
+    ensures { result ≡ check_after prev (writes_to reg (words_of_bytes bytes.now)) }
 {
     let (words, _) = bytes.as_chunks::<4>();
     let mut check = prev;
@@ -76,4 +100,18 @@ pub fn fold_slice(prev: u32, reg: u8, bytes: &[u8]) -> u32
         check = fold_by_tables(check, reg, word_of(*word));
     }
     check
+}
+
+/// The four words of a block.
+fn words_of(block: &[u8; 16]) -> [u32; 4]
+    ensures value { result ≡ words_of_bytes block.now }
+    ensures four { length result ≡ 4 }
+{
+    let [a, b, c, d, e, f, g, h, i, j, k, l, m, n, o, p] = *block;
+    [
+        word_of([a, b, c, d]),
+        word_of([e, f, g, h]),
+        word_of([i, j, k, l]),
+        word_of([m, n, o, p]),
+    ]
 }

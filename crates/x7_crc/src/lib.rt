@@ -1,6 +1,7 @@
 //! The running check over writes to registers: each word and the number of its register, as CRC-32C.
 #![tactic(auto)]
 
+mod block_table;
 mod check;
 mod checker;
 mod law;

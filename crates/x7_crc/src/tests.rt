@@ -27,7 +27,7 @@ fn checks_of_one_write(rt: HostRuntime) {
 #[test]
 fn checks_of_words_in_order(rt: HostRuntime) {
     // check before, register number, bytes, check
-    let cases: [(u32, u8, &[u8], u32); 5] = [
+    let cases: [(u32, u8, &[u8], u32); 7] = [
         (0, 2, &[], 0),
         (0x20BD_8EDE, 2, &[], 0x20BD_8EDE),
         (0, 4, &[0, 0, 0, 13], 0xC923_5AB6),
@@ -42,6 +42,24 @@ fn checks_of_words_in_order(rt: HostRuntime) {
             2,
             &[0x11, 0x22, 0x33, 0x44, 0x55, 0x66, 0x77, 0x88],
             0x0CC5_2F39,
+        ),
+        (
+            0x20BD_8EDE,
+            2,
+            &[
+                1, 2, 3, 4, 5, 6, 7, 8, 9, 10, 11, 12, 13, 14, 15, 16, 17, 18, 19, 20,
+            ],
+            0x5298_EA2F,
+        ),
+        (
+            0,
+            31,
+            &[
+                3, 10, 17, 24, 31, 38, 45, 52, 59, 66, 73, 80, 87, 94, 101, 108, 115, 122, 129,
+                136, 143, 150, 157, 164, 171, 178, 185, 192, 199, 206, 213, 220, 227, 234, 241,
+                248,
+            ],
+            0x15CC_F261,
         ),
     ];
     for (before, register, bytes, check) in cases {

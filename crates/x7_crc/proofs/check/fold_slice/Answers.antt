@@ -1,21 +1,20 @@
-use Rattle.std.proofs.Common.{[], ◌∷◌, ◌∙◌, arith}
+use Rattle.std.proofs.Common.{◌∙◌, ◌/◌, ap, arith, length}
+use Rattle.std.specs.List.{flat_map}
 use Rattle.x7_words.specs.Word.{words_of_bytes}
-use Rattle.x7_crc.specs.RunningCheck.{writes_to}
-use Rattle.x7_crc.proofs.CheckLemmas.{check_of-more, check_after_fits, chunk_taken, chunks_end}
+use Rattle.x7_crc.specs.RunningCheck.{check_after, writes_to}
+use Rattle.x7_crc.proofs.BlockLemmas.{blocks_and_rest}
+use Rattle.x7_crc.proofs.CheckLemmas.{check_of-more}
 use Rattle.x7_crc.proofs.check.fold_slice.Goals as goal
-
-pub loop-word-preserved : goal.loop-word-preserved
-loop-word-preserved c = (
-  chunk_taken c.loop-word.check c.args.reg c.loop-word.word-index c.word_of.result c.fold_by_tables-check.result _ c.as_chunks.result.0.now
-      c.loop-word.invariant.1 c.loop-word-test.true c.word_of.ensures.value c.fold_by_tables-check.ensures c.loop-word.invariant.0,
-  rw c.fold_by_tables-check.ensures (check_after_fits c.loop-word.check ((c.args.reg, c.word_of.result) ∷ [])),
-)
 
 pub returns-clause-value : goal.returns-clause-value
 returns-clause-value c =
-    chunks_end c.loop-word.check c.args.reg c.loop-word.word-index _ c.as_chunks.result.0.now c.loop-word.invariant.1 (omega (arith, c.loop-word-test.false)) c.loop-word.invariant.0
+    blocks_and_rest c.args.prev c.args.reg c.fold_blocks.result _ (length c.args.bytes.now / 16) c.args.bytes.now c.ranges.prev.fits (omega arith)
+    (c.fold_blocks.ensures ∙ ap (λ bs. check_after c.args.prev (writes_to c.args.reg (flat_map words_of_bytes bs))) c.as_chunks.ensures.front)
+    (c.fold_words.ensures ∙ ap (λ bs. check_after c.fold_blocks.result (writes_to c.args.reg (words_of_bytes bs))) c.as_chunks.ensures.back)
 
 pub returns-clause-last : goal.returns-clause-last
 returns-clause-last c writes e =
-    chunks_end c.loop-word.check c.args.reg c.loop-word.word-index _ c.as_chunks.result.0.now c.loop-word.invariant.1 (omega (arith, c.loop-word-test.false)) c.loop-word.invariant.0
+    blocks_and_rest c.args.prev c.args.reg c.fold_blocks.result _ (length c.args.bytes.now / 16) c.args.bytes.now c.ranges.prev.fits (omega arith)
+    (c.fold_blocks.ensures ∙ ap (λ bs. check_after c.args.prev (writes_to c.args.reg (flat_map words_of_bytes bs))) c.as_chunks.ensures.front)
+    (c.fold_words.ensures ∙ ap (λ bs. check_after c.fold_blocks.result (writes_to c.args.reg (words_of_bytes bs))) c.as_chunks.ensures.back)
     ∙ check_of-more c.args.prev writes (writes_to c.args.reg (words_of_bytes c.args.bytes.now)) e

@@ -1,0 +1,8 @@
+use Rattle.std.proofs.Common.{◌≡◌, ◌<◌, ◌^◌, drop}
+use Rattle.std.specs.List.{flat_map}
+use Rattle.x7_words.specs.Word.{words_of_bytes}
+use Rattle.x7_crc.specs.RunningCheck.{check_after, writes_to}
+use Rattle.x7_crc.proofs.check.fold_blocks.Given as goal
+
+abbrev pub invariant-loop-block : goal.invariant-loop-block
+invariant-loop-block l = (check_after l.sum (writes_to l.reg (flat_map words_of_bytes (drop l.block-index l.blocks))) ≡ check_after l.fn.prev (writes_to l.reg (flat_map words_of_bytes l.blocks))) × (l.sum < 2 ^ 32)
