@@ -1,3 +1,4 @@
+pub mod BootedLemmas
 pub mod ImageLemmas
 pub mod PhaseLemmas
 pub mod TookLemmas

@@ -20,6 +20,8 @@ use Rattle.x7_boot.specs.declared.attempt.Ending.TheVariants as ending
 use Rattle.x7_boot.specs.declared.boots.BootEnd.{BootEnd}
 use Rattle.x7_boot.specs.declared.boots.BootEnd.TheVariants as boot_end
 use Rattle.x7_boot.specs.declared.boots.Tried.{Tried}
+use Rattle.x7_boot.specs.declared.next.Next.{Next}
+use Rattle.x7_boot.specs.declared.next.Next.TheVariants.{Again, Ends}
 
 -- ConfigFallback of CTL0, bit 10: 1 forbids a fallback (UG470, control register 0)
 abbrev pub forbids_fallback : ℕ → Bool
@@ -28,11 +30,6 @@ forbids_fallback ctl0 = field_of 10 1 ctl0 == 1
 -- the place in the flash that WBSTAR names: its bits 28:0, or 256 times its bits 23:0 where the part counts in steps of 256 bytes
 abbrev pub start_address : ℕ → ℕ → ℕ
 start_address unit wbstar = if unit == 256 then 256 * field_of 0 24 wbstar else field_of 0 29 wbstar
-
--- what comes next: an attempt, or the end of the boot
-pub data Next : Type 0 where
-  Again : (kept : Kept) (address : ℕ) → Next
-  Ends : BootEnd → Next
 
 -- the state of a device at the end of an attempt
 abbrev pub end_state : PartData → Trial → Regs
@@ -72,3 +69,10 @@ pub record IsBoot (part : PartData) (flash : List ℕ) (b : BootedState) : Type 
   pub leads : LeadsTo part flash (last ∷ older) (Ends b.end)
   pub attempts : b.attempts ≡ reverse (map tried (last ∷ older))
   pub device : IsDeviceOf part b.device last
+
+-- a flash has led through these attempts, so many, to this one
+pub record Led (part : PartData) (flash : List ℕ) (kept : Kept) (address : ℕ) (attempts : List Tried) (number : ℕ) : Type 0 where
+  pub older : List Trial
+  pub leads : LeadsTo part flash older (Again kept address)
+  pub tried_are : attempts ≡ reverse (map tried older)
+  pub count : length older ≡ number

@@ -1,6 +1,23 @@
 //! The boot of a device from a flash.
+ghost use Rattle.std.specs.Prelude.{◌≡◌, ◌≤◌, ◌<◌, ◌↔◌, List, true, Err, IfOk, IsErrOf};
+ghost use Rattle.x7_words.specs.Count.{HasRisen};
+ghost use Rattle.x7_words.specs.Flash.{WhereTold};
+ghost use Rattle.x7_words.specs.Word.{AreBytes};
+ghost use Rattle.x7_engine.specs.Standing.{NoWordDue};
+ghost use Rattle.x7_boot.specs.Boot.{BootedState, IsBoot};
+ghost use Rattle.x7_boot.specs.Image.{flash_limit};
+
 use crate::attempt::Ending;
+use crate::fault::BootFault;
+use crate::layout::FLASH_LIMIT;
+use crate::next::{Next, next_of};
+use crate::trial::try_once;
+use std::alloc::Global;
+use std::marker::Model;
+use x7_engine::{Device, Kept};
+use x7_part::Part;
 use x7_regs::Kind;
+use x7_words::Flash;
 
 /// An attempt of a boot.
 #[derive(Clone, Copy, Debug, PartialEq, Eq)]
@@ -22,4 +39,108 @@ pub enum BootEnd {
     Stopped,
     /// Sixteen attempts ended by IPROG.
     Loop,
+}
+
+/// What a boot came to.
+#[derive(Drop)]
+pub struct Booted {
+    attempts: Vec<Tried>,
+    end: BootEnd,
+    device: Device,
+}
+
+impl Model for Booted {
+    ghost use Rattle.x7_boot.specs.Boot.{BootedState};
+
+    ghost Value = { BootedState };
+
+    ghost view = { λ b. record { attempts = b.attempts.items; end = b.end; device = b.device } };
+}
+
+impl Booted {
+    /// Its attempts, in order.
+    pub fn attempts(&self) -> &[Tried]
+        ensures { result.now ≡ self.now.attempts }
+    {
+        &self.attempts
+    }
+
+    /// How it ended.
+    pub fn end(&self) -> BootEnd
+        ensures { result ≡ self.now.end }
+    {
+        self.end
+    }
+
+    /// The device, as the last attempt left it.
+    pub fn device(&self) -> &Device
+        ensures { result.now ≡ self.now.device }
+    {
+        &self.device
+    }
+}
+
+/// What the first attempt keeps: nothing, as power comes.
+const AT_POWER: Kept = Kept {
+    wbstar: 0,
+    timer: 0,
+    bspi: 0,
+    kind: Kind::Power,
+    before: None,
+};
+
+/// Boots a device of a part from a flash: attempt after attempt, as the table of UG470, MultiBoot and fallback, leads from
+/// the end of one to the next.
+pub fn boot<F: Flash>(alloc: Global, part: &Part, flash: &mut F) -> Result<Booted, BootFault>
+    requires attached { F.attached flash.old ≡ true }
+    ensures booted { IfOk result (λ booted. WhereTold (F.bytes flash.old) (λ all. AreBytes all → IsBoot part.now all booted)) }
+    ensures part { IfOk result (λ booted. booted.device.part ≡ part.now) }
+    ensures due { IfOk result (λ booted. NoWordDue booted.device) }
+    ensures failed { IsErrOf result BootFault.Failed → HasRisen (F.faults flash.old) (F.faults flash.new) }
+    ensures too_large { (result ≡ Err BootFault.TooLarge) ↔ (flash_limit < F.extent flash.old) }
+    ensures attached { F.attached flash.new ≡ F.attached flash.old }
+    ensures extent { F.extent flash.new ≡ F.extent flash.old }
+    ensures same { F.bytes flash.new ≡ F.bytes flash.old }
+    ensures faults { F.faults flash.old ≤ F.faults flash.new }
+    ensures absences { F.absences flash.new ≡ F.absences flash.old }
+{
+    if flash.size() > FLASH_LIMIT {
+        return Err(BootFault::TooLarge);
+    }
+    let Ok(mut device) = Device::new(alloc, part) else {
+        return Err(BootFault::NoMemory);
+    };
+    let mut attempts = Vec::new(alloc);
+    let mut page = Vec::new(alloc);
+    let mut keep = AT_POWER;
+    let mut address = 0;
+    let mut number = 0;
+    'attempts: loop {
+        let ending = match try_once(&mut device, flash, &mut page, keep, address) {
+            Ok(ending) => ending,
+            Err(fault) => return Err(fault),
+        };
+        let Ok(()) = attempts.push(Tried {
+            kind: keep.kind,
+            address,
+            ending,
+        }) else {
+            return Err(BootFault::NoMemory);
+        };
+        number += 1;
+        match next_of(&device, keep.kind, number, ending) {
+            Next::Again {
+                kept,
+                address: place,
+            } => {
+                keep = kept;
+                address = place;
+            }
+            Next::Ends(end) => return Ok(Booted {
+                attempts,
+                end,
+                device,
+            }),
+        }
+    }
 }

@@ -5,12 +5,13 @@ mod attempt;
 mod boots;
 mod fault;
 mod layout;
+mod next;
 mod pages;
 #[cfg(test)]
 mod tests;
 mod trial;
 
 pub use attempt::Ending;
-pub use boots::{BootEnd, Tried};
+pub use boots::{BootEnd, Booted, Tried, boot};
 pub use fault::{BootFault, ImageFault};
 pub use layout::{FLASH_LIMIT, image};

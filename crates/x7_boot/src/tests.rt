@@ -1,7 +1,9 @@
 //! What no clause says: that calls succeed while memory is left.
-use crate::{ImageFault, image};
+use crate::{BootEnd, BootFault, Booted, Ending, ImageFault, Tried, boot, image};
 use std::alloc::Global;
 use x7_part::part_of;
+use x7_regs::{Cause, Kind};
+use x7_words::{Flash, MemoryFlash};
 
 /// A part of one frame.
 const SMALL: &[u8] =
@@ -32,4 +34,40 @@ fn streams_stand_at_their_places(rt: HostRuntime) {
     for (place, bytes) in cases {
         assert_eq!(rt; &all[place..place + 4], bytes.as_slice());
     }
+}
+
+/// The attempts of a boot of the small part from a flash of these bytes, and its end; or none.
+fn boot_of(alloc: Global, bytes: &[u8]) -> Result<Booted, BootFault> {
+    let Ok(part) = part_of(alloc, SMALL) else {
+        return Err(BootFault::NoMemory);
+    };
+    let Ok(mut flash) = MemoryFlash::new(alloc, "flash", bytes) else {
+        return Err(BootFault::NoMemory);
+    };
+    match flash.attach("flash") {
+        Ok(()) => boot(alloc, &part, &mut flash),
+        Err(_) => Err(BootFault::Failed),
+    }
+}
+
+#[test]
+fn a_flash_of_dummy_words_falls_back_and_stops(rt: HostRuntime) {
+    let Ok(booted) = boot_of(rt.alloc(), &[0xFF; 8192]) else {
+        panic!(rt; "no boot");
+    };
+    let wrap = Ending::Failed(Cause::Wrap);
+    let tried = [(Kind::Power, 0, wrap), (Kind::Fallback, 0, wrap)];
+    assert_eq!(rt; booted.attempts().len(), 2);
+    for ((kind, address, ending), attempt) in tried.into_iter().zip(booted.attempts()) {
+        assert_eq!(rt;
+            *attempt,
+            Tried {
+                kind,
+                address,
+                ending
+            }
+        );
+    }
+    assert_eq!(rt; booted.end(), BootEnd::Stopped);
+    assert_eq!(rt; booted.device().state().bootsts, 0x4143);
 }

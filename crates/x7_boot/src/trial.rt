@@ -7,7 +7,7 @@ ghost use Rattle.x7_words.specs.Flash.{WhereTold};
 ghost use Rattle.x7_words.specs.Word.{AreBytes};
 ghost use Rattle.x7_part.specs.Part.{PartData};
 ghost use Rattle.x7_engine.specs.declared.kept.Kept.{Kept as KeptData};
-ghost use Rattle.x7_engine.specs.Standing.{DeviceStandsFor, MayWrap, with_wrap};
+ghost use Rattle.x7_engine.specs.Standing.{DeviceStandsFor, MayWrap, NoWordDue, with_wrap};
 ghost use Rattle.x7_boot.specs.Attempt.{Tries};
 ghost use Rattle.x7_boot.specs.declared.attempt.Ending.TheVariants as ending;
 
@@ -23,6 +23,7 @@ fn run_out(device: &mut Device) -> Ending
     requires { MayWrap device.old }
     ensures ending { result ≡ ending.Failed Wrap }
     ensures device { device.new ≡ with_wrap device.old }
+    ensures due { NoWordDue device.new }
     ensures stands { (part : PartData) (kept : KeptData) (bytes : List ℕ) → DeviceStandsFor part kept false device.old bytes → DeviceStandsFor part kept true device.new bytes }
 {
     device.wrap();
@@ -42,6 +43,7 @@ pub(crate) fn try_once<F: Flash>(
     requires boots { keep.kind ≡ Bench → ⊥ }
     ensures tried { IfOk result (λ ending. WhereTold (F.bytes flash.old) (λ all. AreBytes all → Tries device.old.part keep address all device.new ending)) }
     ensures part { IfOk result (λ ending. device.new.part ≡ device.old.part) }
+    ensures due { IfOk result (λ ending. NoWordDue device.new) }
     ensures failed { IsErrOf result BootFault.Failed → HasRisen (F.faults flash.old) (F.faults flash.new) }
     ensures not_large { IsErrOf result BootFault.TooLarge → ⊥ }
     ensures attached { F.attached flash.new ≡ F.attached flash.old }

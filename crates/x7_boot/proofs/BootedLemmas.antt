@@ -1,0 +1,118 @@
+-- Lemmas on a boot, attempt after attempt.
+use Rattle.std.proofs.Common.{◌≡◌, ◌+◌, ℕ, List, [], ◌∷◌, ◌++◌, length, map, reverse, Option, None, Some, refl, ap, sym, subst, ◌∙◌, ◌<◌, ◌≤◌, Bool, true, false, arith}
+use Rattle.std.proofs.lemmas.List.{reverse-append}
+use Rattle.x7_words.specs.Flash.{WhereTold}
+use Rattle.x7_words.specs.Word.{AreBytes}
+use Rattle.x7_part.specs.Part.{PartData}
+use Rattle.x7_regs.specs.declared.boot_status.Kind.{Kind}
+use Rattle.x7_engine.specs.Kept.{is_fallback}
+use Rattle.x7_engine.specs.Standing.{DeviceState}
+use Rattle.x7_engine.specs.declared.kept.Kept.{Kept}
+use Rattle.x7_boot.specs.Attempt.{IsDeviceOf, Trial, Tries}
+use Rattle.x7_boot.specs.Boot.{IsBoot, Led, LeadsTo, at_power, next_by, tried}
+use Rattle.x7_boot.specs.declared.attempt.Ending.{Ending}
+use Rattle.x7_boot.specs.declared.boots.BootEnd.{BootEnd}
+use Rattle.x7_boot.specs.declared.boots.Tried.{Tried}
+use Rattle.x7_boot.specs.declared.next.Next.{Next}
+use Rattle.x7_boot.specs.declared.next.Next.TheVariants.{Again, Ends}
+
+pub where_all : (known : Option (List ℕ)) (P : List ℕ → Type 0) → ((all : List ℕ) → P all) → WhereTold known P
+where_all None P f = tt
+where_all (Some all) P f = f all
+
+pub where_on : (known : Option (List ℕ)) (P Q R : List ℕ → Type 0) → ((all : List ℕ) → P all → Q all → R all) → WhereTold known P → WhereTold known Q → WhereTold known R
+where_on None P Q R f p q = tt
+where_on (Some all) P Q R f p q = f all p q
+
+-- no attempt yet
+pub led_first : (part : PartData) (all : List ℕ) → Led part all at_power 0 [] 0
+led_first part all = record { older = []; leads = refl; tried_are = refl; count = refl }
+
+one_more : (older : List Trial) (t : Trial) (attempts : List Tried) (next : Tried) → attempts ≡ reverse (map tried older) → next ≡ tried t → attempts ++ next ∷ [] ≡ reverse (map tried (t ∷ older))
+one_more older t attempts next e f =
+    ap (λ (a : List Tried). a ++ next ∷ []) e ∙ ap (λ (x : Tried). reverse (map tried older) ++ x ∷ []) f ∙ sym (reverse-append (tried t ∷ []) (map tried older))
+
+tried_is : (part : PartData) (kept : Kept) (address : ℕ) (all : List ℕ) (d : DeviceState) (ending : Ending) (tries : Tries part kept address all d ending) → record { kind = kept.kind; address = address; ending = ending } ≡ tried tries.trial
+tried_is part kept address all d ending tries =
+    let e : tries.trial.kept ≡ kept = tries.kept_is in
+    let f : tries.trial.address ≡ address = tries.address_is in
+    let g : tries.trial.ending ≡ ending = tries.ending_is in
+    sym (ap (λ (k : Kept). record { kind = k.kind; address = tries.trial.address; ending = tries.trial.ending }) e
+    ∙ ap (λ (n : ℕ). record { kind = kept.kind; address = n; ending = tries.trial.ending }) f
+    ∙ ap (λ (n : Ending). record { kind = kept.kind; address = address; ending = n }) g)
+
+-- the attempts with one more, by the table
+leads_on : (part : PartData) (kept : Kept) (address : ℕ) (all : List ℕ) (d : DeviceState) (ending : Ending) (attempts : List Tried) (number : ℕ) (next : Next) (led : Led part all kept address attempts number) (tries : Tries part kept address all d ending)
+    → ((t : Trial) → IsDeviceOf part d t → t.kept.kind ≡ kept.kind → next ≡ next_by part (number + 1) t ending) → LeadsTo part all (tries.trial ∷ led.older) next
+leads_on part kept address all d ending attempts number next led tries table =
+    let t : Trial = tries.trial in
+    let e : t.kept ≡ kept = tries.kept_is in
+    let f : t.address ≡ address = tries.address_is in
+    let g : t.ending ≡ ending = tries.ending_is in
+    let c : length led.older ≡ number = led.count in
+    let here : next ≡ next_by part (number + 1) t ending = table t tries.device (ap (λ (k : Kept). k.kind) e) in (
+      subst (λ (n : Next). LeadsTo part all led.older n) (sym (ap (λ (k : Kept). Again k t.address) e ∙ ap (λ (n : ℕ). Again kept n) f)) led.leads,
+      tries.is,
+      here ∙ sym (ap (λ (n : ℕ). next_by part (n + 1) t t.ending) c ∙ ap (λ (x : Ending). next_by part (number + 1) t x) g),
+    )
+
+pub led_on : (part : PartData) (kept kept_now : Kept) (address address_now : ℕ) (all : List ℕ) (d : DeviceState) (ending : Ending) (attempts : List Tried) (number : ℕ) (next : Next) → Led part all kept address attempts number → Tries part kept address all d ending
+    → ((t : Trial) → IsDeviceOf part d t → t.kept.kind ≡ kept.kind → next ≡ next_by part (number + 1) t ending) → next ≡ Again kept_now address_now
+    → Led part all kept_now address_now (attempts ++ record { kind = kept.kind; address = address; ending = ending } ∷ []) (number + 1)
+led_on part kept kept_now address address_now all d ending attempts number next led tries table is = record {
+  older = tries.trial ∷ led.older;
+  leads = subst (λ (n : Next). LeadsTo part all (tries.trial ∷ led.older) n) is (leads_on part kept address all d ending attempts number next led tries table);
+  tried_are = one_more led.older tries.trial attempts _ led.tried_are (tried_is part kept address all d ending tries);
+  count = let c : length led.older ≡ number = led.count in omega (arith, c);
+}
+
+pub led_ends : (part : PartData) (kept : Kept) (address : ℕ) (all : List ℕ) (d : DeviceState) (ending : Ending) (attempts : List Tried) (number : ℕ) (next : Next) (end : BootEnd) → Led part all kept address attempts number → Tries part kept address all d ending
+    → ((t : Trial) → IsDeviceOf part d t → t.kept.kind ≡ kept.kind → next ≡ next_by part (number + 1) t ending) → next ≡ Ends end
+    → IsBoot part all (record { attempts = attempts ++ record { kind = kept.kind; address = address; ending = ending } ∷ []; end = end; device = d })
+led_ends part kept address all d ending attempts number next end led tries table is = record {
+  last = tries.trial;
+  older = led.older;
+  leads = subst (λ (n : Next). LeadsTo part all (tries.trial ∷ led.older) n) is (leads_on part kept address all d ending attempts number next led tries table);
+  attempts = one_more led.older tries.trial attempts _ led.tried_are (tried_is part kept address all d ending tries);
+  device = tries.device;
+}
+
+-- ---- the same where the bytes of the flash are known or not
+
+-- what the table says of the attempt that left this device
+abbrev pub ByTable : DeviceState → Kept → ℕ → Ending → Next → Type 0
+ByTable d kept number ending next = (part : PartData) (t : Trial) → IsDeviceOf part d t → t.kept.kind ≡ kept.kind → next ≡ next_by part number t ending
+
+-- an attempt as it is told
+abbrev pub told_as : Kept → ℕ → Ending → Tried
+told_as kept address ending = record { kind = kept.kind; address = address; ending = ending }
+
+pub led_next : (part old_part : PartData) (kept kept_now : Kept) (address address_now : ℕ) (known told : Option (List ℕ)) (d : DeviceState) (ending : Ending) (attempts now : List Tried) (number : ℕ) (next : Next)
+    → told ≡ known → old_part ≡ part → WhereTold known (λ all. AreBytes all → Led part all kept address attempts number) → WhereTold told (λ all. AreBytes all → Tries old_part kept address all d ending)
+    → ByTable d kept (number + 1) ending next → next ≡ Again kept_now address_now → now ≡ attempts ++ told_as kept address ending ∷ []
+    → WhereTold known (λ all. AreBytes all → Led part all kept_now address_now now (number + 1))
+led_next part old_part kept kept_now address address_now known told d ending attempts now number next same e led tries table is items =
+    let here : WhereTold known (λ all. AreBytes all → Tries part kept address all d ending) =
+    subst (λ (p : PartData). WhereTold known (λ all. AreBytes all → Tries p kept address all d ending)) e (subst (λ (k : Option (List ℕ)). WhereTold k (λ all. AreBytes all → Tries old_part kept address all d ending)) same tries) in
+    where_on known (λ all. AreBytes all → Led part all kept address attempts number) (λ all. AreBytes all → Tries part kept address all d ending) (λ all. AreBytes all → Led part all kept_now address_now now (number + 1))
+    (λ all l t fits. subst (λ (a : List Tried). Led part all kept_now address_now a (number + 1)) (sym items)
+    (led_on part kept kept_now address address_now all d ending attempts number next (l fits) (t fits) (table part) is)) led here
+
+pub boot_ends : (part old_part : PartData) (kept : Kept) (address : ℕ) (known told : Option (List ℕ)) (d : DeviceState) (ending : Ending) (attempts now : List Tried) (number : ℕ) (next : Next) (end : BootEnd)
+    → told ≡ known → old_part ≡ part → WhereTold known (λ all. AreBytes all → Led part all kept address attempts number) → WhereTold told (λ all. AreBytes all → Tries old_part kept address all d ending)
+    → ByTable d kept (number + 1) ending next → next ≡ Ends end → now ≡ attempts ++ told_as kept address ending ∷ []
+    → WhereTold known (λ all. AreBytes all → IsBoot part all (record { attempts = now; end = end; device = d }))
+boot_ends part old_part kept address known told d ending attempts now number next end same e led tries table is items =
+    let here : WhereTold known (λ all. AreBytes all → Tries part kept address all d ending) =
+    subst (λ (p : PartData). WhereTold known (λ all. AreBytes all → Tries p kept address all d ending)) e (subst (λ (k : Option (List ℕ)). WhereTold k (λ all. AreBytes all → Tries old_part kept address all d ending)) same tries) in
+    where_on known (λ all. AreBytes all → Led part all kept address attempts number) (λ all. AreBytes all → Tries part kept address all d ending) (λ all. AreBytes all → IsBoot part all (record { attempts = now; end = end; device = d }))
+    (λ all l t fits. subst (λ (a : List Tried). IsBoot part all (record { attempts = a; end = end; device = d })) (sym items)
+    (led_ends part kept address all d ending attempts number next end (l fits) (t fits) (table part) is)) led here
+
+-- a seventeenth attempt is a fallback, and the last
+pub attempts_next : (kind kind_now : Kind) (number : ℕ) → (is_fallback kind_now ≡ true → is_fallback kind ≡ false) → (is_fallback kind_now ≡ false → number + 1 < 16) → (is_fallback kind ≡ false → number < 16) → number + 1 ≤ 16
+attempts_next kind kind_now number fallback few room = by (is_fallback kind_now) refl
+  where
+    by : (b : Bool) → is_fallback kind_now ≡ b → number + 1 ≤ 16
+    by true e = let l : number < 16 = room (fallback e) in omega (arith, l)
+    by false e = let l : number + 1 < 16 = few e in omega (arith, l)

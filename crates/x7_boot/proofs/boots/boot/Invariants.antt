@@ -1,0 +1,28 @@
+use Rattle.std.proofs.Common.{◌≡◌, ◌-◌, ◌<◌, ◌≤◌, false}
+use Rattle.x7_words.specs.Flash.{WhereTold}
+use Rattle.x7_words.specs.Word.{AreBytes}
+use Rattle.x7_regs.specs.declared.boot_status.Kind.TheVariants.{Bench}
+use Rattle.x7_engine.specs.Kept.{is_fallback}
+use Rattle.x7_boot.specs.Boot.{Led}
+use Rattle.x7_boot.specs.Image.{flash_limit}
+use Rattle.x7_boot.proofs.boots.boot.Given as goal
+
+abbrev pub invariant-attempts : goal.invariant-attempts
+invariant-attempts g l =
+    let f = g.F.Flash in
+    record {
+      led : WhereTold (f.bytes l.fn.flash) (λ all. AreBytes all → Led l.fn.part all l.keep l.address l.attempts.items l.number);
+      part : l.device.part ≡ l.fn.part;
+      boots : l.keep.kind ≡ Bench → ⊥;
+      number : l.number ≤ 16;
+      room : is_fallback l.keep.kind ≡ false → l.number < 16;
+      limit : f.extent l.fn.flash ≤ flash_limit;
+      attached : f.attached l.flash ≡ f.attached l.fn.flash;
+      extent : f.extent l.flash ≡ f.extent l.fn.flash;
+      same : f.bytes l.flash ≡ f.bytes l.fn.flash;
+      faults : f.faults l.fn.flash ≤ f.faults l.flash;
+      absences : f.absences l.flash ≡ f.absences l.fn.flash;
+    }
+
+abbrev pub decreases-attempts : goal.decreases-attempts
+decreases-attempts g l = 17 - l.number

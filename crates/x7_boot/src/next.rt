@@ -1,0 +1,102 @@
+//! What comes after an attempt of a boot.
+ghost use Rattle.std.specs.Prelude.{◌≡◌, ◌<◌, ℕ, true, false};
+ghost use Rattle.x7_part.specs.Part.{PartData};
+ghost use Rattle.x7_regs.specs.declared.boot_status.Kind.TheVariants.{Bench};
+ghost use Rattle.x7_engine.specs.Kept.{is_fallback};
+ghost use Rattle.x7_engine.specs.State.{kept_after};
+ghost use Rattle.x7_engine.specs.declared.kept.Kept.{Kept as KeptData};
+ghost use Rattle.x7_boot.specs.Attempt.{IsDeviceOf, Trial};
+ghost use Rattle.x7_boot.specs.Boot.{forbids_fallback, next_by, start_address};
+ghost use Rattle.x7_boot.specs.declared.next.Next.TheVariants as next;
+
+use crate::attempt::Ending;
+use crate::boots::BootEnd;
+use x7_engine::{Device, Kept};
+use x7_regs::Kind;
+
+/// The attempts of a boot that may end by IPROG.
+const ATTEMPTS: u32 = 16;
+
+/// What comes after an attempt.
+#[derive(Clone, Copy, Debug, PartialEq, Eq)]
+pub(crate) enum Next {
+    /// An attempt that keeps this, at this address.
+    Again {
+        /// What the device keeps over the reset.
+        kept: Kept,
+        /// Where the attempt begins, in bytes.
+        address: u32,
+    },
+    /// The end of the boot.
+    Ends(BootEnd),
+}
+
+/// Whether CTL0 forbids a fallback.
+fn forbids_fallback(ctl0: u32) -> bool
+    ensures { result ≡ forbids_fallback ctl0 }
+{
+    ctl0 / 1_024 % 2 == 1
+}
+
+/// The place in the flash that WBSTAR names, for a part whose start addresses count steps of so many bytes.
+fn start_address(unit: u32, wbstar: u32) -> u32
+    ensures { result ≡ start_address unit wbstar }
+{
+    if unit == 256 {
+        256 * (wbstar % 16_777_216)
+    } else {
+        wbstar % 536_870_912
+    }
+}
+
+/// Whether an attempt of this kind is a fallback.
+fn is_a_fallback(kind: Kind) -> bool
+    ensures { result ≡ is_fallback kind }
+{
+    match kind {
+        Kind::Fallback => true,
+        _ => false,
+    }
+}
+
+/// What comes after the attempt of this number, of this kind, which ended so.
+pub(crate) fn next_of(device: &Device, kind: Kind, number: u32, ending: Ending) -> Next
+    ensures table { (part : PartData) (t : Trial) → IsDeviceOf part device.now t → t.kept.kind ≡ kind → result ≡ next_by part number t ending }
+    ensures boots { (kept : KeptData) (address : ℕ) → result ≡ next.Again kept address → kept.kind ≡ Bench → ⊥ }
+    ensures fallback { (kept : KeptData) (address : ℕ) → result ≡ next.Again kept address → is_fallback kept.kind ≡ true → is_fallback kind ≡ false }
+    ensures few { (kept : KeptData) (address : ℕ) → result ≡ next.Again kept address → is_fallback kept.kind ≡ false → number < 16 }
+{
+    match ending {
+        Ending::Started => Next::Ends(BootEnd::Started),
+        Ending::Iprog => {
+            if number >= ATTEMPTS {
+                return Next::Ends(BootEnd::Loop);
+            }
+            let address = start_address(device.part().start_unit(), device.state().wbstar);
+            Next::Again {
+                kept: kept_by(device, Kind::Iprog),
+                address,
+            }
+        }
+        Ending::Failed(_) => {
+            if is_a_fallback(kind) || forbids_fallback(device.state().ctl0) {
+                return Next::Ends(BootEnd::Stopped);
+            }
+            Next::Again {
+                kept: kept_by(device, Kind::Fallback),
+                address: 0,
+            }
+        }
+    }
+}
+
+/// What the next attempt, of this kind, keeps.
+fn kept_by(device: &Device, kind: Kind) -> Kept
+    ensures kind { result.kind ≡ kind }
+    ensures kept { (part : PartData) (t : Trial) → IsDeviceOf part device.now t → result ≡ kept_after part t.kept t.wrapped t.bytes kind }
+{
+    Kept {
+        kind,
+        ..device.kept(kind)
+    }
+}
