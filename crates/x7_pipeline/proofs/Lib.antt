@@ -1,6 +1,7 @@
 pub mod RunLemmas
 pub mod SlotLemmas
 pub mod FarLemmas
+pub mod FrameLemmas
 pub mod ReadLemmas
 pub mod StateLemmas
 pub mod LawLemmas

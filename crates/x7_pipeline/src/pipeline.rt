@@ -1,5 +1,5 @@
 //! The frame pipeline (UG470, frame data): frames on their way into the memory, copies, and words on their way out.
-ghost use Rattle.std.specs.Prelude.{◌≡◌, ◌+◌, ◌-◌, ◌*◌, ◌/◌, ◌%◌, ◌^◌, ◌<◌, ◌≤◌, ◌==◌, ◌&&◌, not, ℕ, List, [], ◌∷◌, ◌++◌, length, min, slice_index_or, is_some, vec_len, vec_capacity, Option, Some, None, IfOk, OnOk, OnErr};
+ghost use Rattle.std.specs.Prelude.{◌≡◌, ◌+◌, ◌-◌, ◌*◌, ◌/◌, ◌%◌, ◌^◌, ◌<◌, ◌≤◌, ◌==◌, ◌&&◌, not, ℕ, List, [], ◌∷◌, ◌++◌, length, take, min, slice_index_or, is_some, vec_len, vec_capacity, Option, Some, None, IfOk, IfErr, IsTrue, OnOk, OnErr};
 ghost use Rattle.std.specs.Result.{result_err};
 ghost use Rattle.x7_words.specs.Word.{words_of_bytes};
 ghost use Rattle.x7_part.specs.Part.{PartData, frame_words};
@@ -7,7 +7,7 @@ ghost use Rattle.x7_memory.specs.FrameMap.{AreSame};
 ghost use Rattle.x7_memory.specs.Frames.{frame_at, AreFramesOf};
 ghost use Rattle.x7_part.specs.declared.slot.Slot.{Slot};
 ghost use Rattle.x7_regs.specs.declared.command.Command.{Command};
-ghost use Rattle.x7_pipeline.specs.Runs.{Lands, at_slot, put_over, slots_from};
+ghost use Rattle.x7_pipeline.specs.Runs.{Lands, at_slot, onto, put_over, slots_from};
 ghost use Rattle.x7_pipeline.specs.FarAsRead.{far_of, loaded_base, has_frame_at};
 ghost use Rattle.x7_pipeline.specs.Copies.{is_wcfg, is_mfw, source_with, source_after, copied};
 ghost use Rattle.x7_pipeline.specs.Readback.{read_at, word_at};
@@ -195,16 +195,79 @@ impl Pipeline {
         ensures part { IsPipelineOf part.now self.new }
         ensures memory { AreFramesOf part.now memory.new }
     {
-        let (words, _) = bytes.as_chunks::<4>();
-        let mut count = 0;
-        for word in words {
-            let answer = self.write(word_of(*word), part, memory);
-            count += 1;
-            if let Err(fault) = answer {
-                return (count, Some(fault));
+        let mut at = 0;
+        'somes: while at < bytes.len() {
+            let (_, rest) = bytes.split_at(at);
+            match self.write_some(rest, part, memory) {
+                Ok(taken) => at += taken,
+                Err(fault) => return (at / 4 + 1, Some(fault)),
             }
         }
-        (count, None)
+        (at / 4, None)
+    }
+
+    /// Writes the whole frame that comes next, where none has begun, or else the next word. It gives the number of bytes.
+    fn write_some(
+        &mut self,
+        bytes: &[u8],
+        part: &Part,
+        memory: &mut Memory,
+    ) -> Result<usize, RunFault>
+        requires some { 4 ≤ length bytes.now }
+        requires part { IsPipelineOf part.now self.old }
+        requires memory { AreFramesOf part.now memory.old }
+        ensures words { IfOk result (λ taken. (1 ≤ taken / 4) × (taken % 4 ≡ 0) × (taken ≤ length bytes.now)) }
+        ensures stands { IfOk result (λ taken. (command : Command) (base : ℕ) (run : List ℕ) (source : Option (List ℕ)) (given : ℕ) →
+            StandsFor part.now self.old command base run source given → StandsFor part.now self.new command base (onto (words_of_bytes (take taken bytes.now)) run) source given) }
+        ensures lands { IfOk result (λ taken. (command : Command) (base : ℕ) (run : List ℕ) (source : Option (List ℕ)) (given : ℕ) →
+            StandsFor part.now self.old command base run source given →
+            Lands part.now base run (onto (words_of_bytes (take taken bytes.now)) run) (frame_at part.now memory.old) (frame_at part.now memory.new)) }
+        ensures passes { IfOk result (λ taken. (command : Command) (base : ℕ) (run : List ℕ) (source : Option (List ℕ)) (given : ℕ) →
+            StandsFor part.now self.old command base run source given → (written part.now base run (words_of_bytes (take taken bytes.now))).fault ≡ None) }
+        ensures fault { IfErr result (λ fault. (command : Command) (base : ℕ) (run : List ℕ) (source : Option (List ℕ)) (given : ℕ) →
+            StandsFor part.now self.old command base run source given → Some fault ≡ write_fault part.now base run) }
+        ensures part { IsPipelineOf part.now self.new }
+        ensures memory { AreFramesOf part.now memory.new }
+        ensures refused { OnErr result (self.new ≡ self.old) }
+        ensures unchanged { OnErr result (memory.new ≡ memory.old) }
+    {
+        let size = 4 * self.width as usize;
+        if size <= bytes.len() && self.takes_frame(part) {
+            self.write_frame(&bytes[..size], part, memory);
+            return Ok(size);
+        }
+        let word = word_of([bytes[0], bytes[1], bytes[2], bytes[3]]);
+        match self.write(word, part, memory) {
+            Ok(()) => Ok(4),
+            Err(fault) => Err(fault),
+        }
+    }
+
+    /// Whether no frame has begun, and the next one has a slot.
+    fn takes_frame(&self, part: &Part) -> bool
+        ensures begins { IsTrue result → self.now.rest ≡ [] }
+        ensures slot { IsTrue result → self.now.frame_count < length (slots_from part.now self.now.base) }
+    {
+        self.rest.is_empty() && self.frame_count < slot_count(part, self.base)
+    }
+
+    /// Puts the newest whole frame, and holds the next one.
+    fn write_frame(&mut self, bytes: &[u8], part: &Part, memory: &mut Memory)
+        requires part { IsPipelineOf part.now self.old }
+        requires memory { AreFramesOf part.now memory.old }
+        requires frame { length bytes.now ≡ 4 * self.old.width }
+        requires slot { self.old.frame_count < length (slots_from part.now self.old.base) }
+        ensures held { self.new ≡ record self.old { newest = Some (words_of_bytes bytes.now); frame_count = self.old.frame_count + 1 } }
+        ensures none { self.old.newest ≡ None → memory.new ≡ memory.old }
+        ensures put { (frame : List ℕ) → self.old.newest ≡ Some frame →
+            AreSame (frame_at part.now memory.new) (put_over (at_slot (slice_index_or (slots_from part.now self.old.base) (self.old.frame_count - 1) Slot.End) frame []) (frame_at part.now memory.old)) }
+        ensures memory { AreFramesOf part.now memory.new }
+    {
+        // a part has fewer slots than the count has room for
+        let _slots = slot_count(part, self.base);
+        self.put_held(part, memory);
+        hold(&mut self.held, bytes);
+        self.frame_count += 1;
     }
 
     /// The same as `write`, and meant for the first and the last word of a frame.
@@ -460,5 +523,38 @@ fn push_word(words: &mut Vec<u32>, word: u32)
     match words.push(word) {
         Ok(()) => (),
         Err(_) => (),
+    }
+}
+
+/// Makes a vector with room the words of these bytes.
+fn hold(words: &mut Vec<u32>, bytes: &[u8])
+    requires room { length bytes.now / 4 ≤ vec_capacity words.old }
+    ensures items { words.new.items ≡ words_of_bytes bytes.now }
+    ensures room { vec_capacity words.old ≤ vec_capacity words.new }
+{
+    set_len(words, bytes.len() / 4);
+    read_words(words, bytes);
+}
+
+/// Gives a vector with room so many words.
+fn set_len(words: &mut Vec<u32>, count: usize)
+    requires room { count ≤ vec_capacity words.old }
+    ensures count { length words.new.items ≡ count }
+    ensures room { vec_capacity words.old ≤ vec_capacity words.new }
+{
+    match words.resize(count, 0) {
+        Ok(()) => (),
+        Err(_) => (),
+    }
+}
+
+/// Writes the words of these bytes over words.
+fn read_words(words: &mut [u32], bytes: &[u8])
+    requires { length words.old ≡ length bytes.now / 4 }
+    ensures { words.new ≡ words_of_bytes bytes.now }
+{
+    let (chunks, _) = bytes.as_chunks::<4>();
+    for i in 0..words.len() {
+        words[i] = word_of(chunks[i]);
     }
 }

@@ -1,94 +1,109 @@
-use Rattle.std.proofs.Common.{◌+◌, ◌∙◌, map, drop, ap, sym, refl, arith}
-use Rattle.x7_words.specs.Word.{word_of_bytes, words_of_bytes}
+use Rattle.std.proofs.Common.{◌≡◌, ◌-◌, ◌/◌, drop, length, ap, sym, refl, arith}
+use Rattle.std.proofs.lemmas.List.{length-drop}
+use Rattle.x7_words.specs.Word.{words_of_bytes}
 use Rattle.x7_memory.specs.Frames.{frame_at}
 use Rattle.x7_pipeline.specs.Words.{Written}
-use Rattle.x7_pipeline.proofs.WordLemmas.{words_by_chunks, goes_first, goes_here, goes_next, goes_whole, ends_whole, ends_refused}
+use Rattle.x7_pipeline.proofs.FrameLemmas.{goes_left, goes_through, refused_here}
+use Rattle.x7_pipeline.proofs.WordLemmas.{goes_first, ends_whole}
 use Rattle.x7_pipeline.proofs.pipeline.Pipeline.write_bytes.Goals as goal
 
-pub loop-word-init : goal.loop-word-init
-loop-word-init c = record {
+pub somes-init : goal.somes-init
+somes-init c = record {
   part = c.requires.part;
   memory = c.requires.memory;
-  place = refl;
-  goes = goes_first c.args.part.now c.args.self.now (frame_at c.args.part.now c.args.memory.now) (words_of_bytes c.args.bytes.now) (map word_of_bytes c.as_chunks.result.0.now)
-      (words_by_chunks _ c.args.bytes.now refl ∙ ap (map word_of_bytes) (sym c.as_chunks.ensures.front));
+  within = omega arith;
+  whole = refl;
+  goes = goes_first c.args.part.now c.args.self.now (frame_at c.args.part.now c.args.memory.now) (words_of_bytes c.args.bytes.now) (words_of_bytes c.args.bytes.now) refl;
 }
 
-pub loop-word-preserved : goal.loop-word-preserved
-loop-word-preserved c = record {
-  part = c.in_default.ensures.part;
-  memory = c.in_default.ensures.memory;
-  place = (let same = c.loop-word.invariant.place in omega arith);
-  goes = goes_next c.args.part.now c.args.self.now c.loop-word.self c.write-answer.new.self (frame_at c.args.part.now c.args.memory.now) (frame_at c.args.part.now c.loop-word.memory) (frame_at c.args.part.now c.write-answer.new.memory)
-      (words_of_bytes c.args.bytes.now) (map word_of_bytes (drop (c.loop-word.word-index + 1) c.as_chunks.result.0.now)) c.loop-word.count c.word_of.result
-      (goes_here _ _ _ _ _ _ _ c.loop-word.word-index c.word_of.result c.as_chunks.result.0.now c.loop-word.invariant.goes c.loop-word-test.true c.word_of.ensures.value)
-      c.in_default.ensures.stands c.in_default.ensures.lands c.in_default.ensures.fault;
-}
+pub somes-preserved : goal.somes-preserved
+somes-preserved c =
+    let left : length (drop c.somes.at c.args.bytes.now) ≡ length c.args.bytes.now - c.somes.at = length-drop c.somes.at c.args.bytes.now in
+    let words = c.in-Ok.ensures.words in
+    let before = c.somes.invariant.within in
+    let whole = c.somes.invariant.whole in
+    let some = words.0 in
+    let fits = words.1 in
+    let inside = words.2 in
+    let same = ap length c.split_at.ensures.back in
+    record {
+      part = c.in-Ok.ensures.part;
+      memory = c.in-Ok.ensures.memory;
+      within = omega arith;
+      whole = omega arith;
+      goes = goes_left c.args.part.now c.args.self.now c.somes.self c.write_some.new.self (frame_at c.args.part.now c.args.memory.now) (frame_at c.args.part.now c.somes.memory) (frame_at c.args.part.now c.write_some.new.memory)
+          (words_of_bytes c.args.bytes.now) c.args.bytes.now c.split_at.result.1.now c.somes.at c.in-Ok.taken c.split_at.ensures.back c.somes.invariant.goes whole fits inside
+          c.in-Ok.ensures.stands c.in-Ok.ensures.lands c.in-Ok.ensures.passes;
+    }
 
 pub returns-in-Err-clause-stands : goal.returns-in-Err-clause-stands
 returns-in-Err-clause-stands c = λ command base run source given s.
-    let goes = goes_here c.args.part.now c.args.self.now c.loop-word.self (frame_at c.args.part.now c.args.memory.now) (frame_at c.args.part.now c.loop-word.memory) (words_of_bytes c.args.bytes.now) c.loop-word.count c.loop-word.word-index c.word_of.result c.as_chunks.result.0.now
-    c.loop-word.invariant.goes c.loop-word-test.true c.word_of.ensures.value in
-    let r = goes command base run source given s in
-    let e = ends_refused c.args.part.now base c.word_of.result run r.longer (words_of_bytes c.args.bytes.now) (map word_of_bytes (drop (c.loop-word.word-index + 1) c.as_chunks.result.0.now)) c.loop-word.count c.in-Err.fault r.later
+    let left : length (drop c.somes.at c.args.bytes.now) ≡ length c.args.bytes.now - c.somes.at = length-drop c.somes.at c.args.bytes.now in
+    let whole = c.somes.invariant.whole in
+    let all = c.requires.whole in
+    let before = c.somes-test.true in
+    let r = c.somes.invariant.goes command base run source given s in
+    let e = refused_here c.args.part.now base run r.longer (words_of_bytes c.args.bytes.now) c.args.bytes.now c.somes.at c.in-Err.fault r.later whole (omega arith)
     (c.in-Err.ensures.fault command base r.longer source given r.stands) in
     rw (ap (λ (w : Written). w.run) e, c.in-Err.ensures.refused) r.stands
 
 pub returns-in-Err-clause-lands : goal.returns-in-Err-clause-lands
 returns-in-Err-clause-lands c = λ command base run source given s.
-    let goes = goes_here c.args.part.now c.args.self.now c.loop-word.self (frame_at c.args.part.now c.args.memory.now) (frame_at c.args.part.now c.loop-word.memory) (words_of_bytes c.args.bytes.now) c.loop-word.count c.loop-word.word-index c.word_of.result c.as_chunks.result.0.now
-    c.loop-word.invariant.goes c.loop-word-test.true c.word_of.ensures.value in
-    let r = goes command base run source given s in
-    let e = ends_refused c.args.part.now base c.word_of.result run r.longer (words_of_bytes c.args.bytes.now) (map word_of_bytes (drop (c.loop-word.word-index + 1) c.as_chunks.result.0.now)) c.loop-word.count c.in-Err.fault r.later
+    let left : length (drop c.somes.at c.args.bytes.now) ≡ length c.args.bytes.now - c.somes.at = length-drop c.somes.at c.args.bytes.now in
+    let whole = c.somes.invariant.whole in
+    let all = c.requires.whole in
+    let before = c.somes-test.true in
+    let r = c.somes.invariant.goes command base run source given s in
+    let e = refused_here c.args.part.now base run r.longer (words_of_bytes c.args.bytes.now) c.args.bytes.now c.somes.at c.in-Err.fault r.later whole (omega arith)
     (c.in-Err.ensures.fault command base r.longer source given r.stands) in
     rw (ap (λ (w : Written). w.run) e, c.in-Err.ensures.unchanged) r.lands
 
 pub returns-in-Err-clause-count : goal.returns-in-Err-clause-count
 returns-in-Err-clause-count c = λ command base run source given s.
-    let goes = goes_here c.args.part.now c.args.self.now c.loop-word.self (frame_at c.args.part.now c.args.memory.now) (frame_at c.args.part.now c.loop-word.memory) (words_of_bytes c.args.bytes.now) c.loop-word.count c.loop-word.word-index c.word_of.result c.as_chunks.result.0.now
-    c.loop-word.invariant.goes c.loop-word-test.true c.word_of.ensures.value in
-    let r = goes command base run source given s in
-    let e = ends_refused c.args.part.now base c.word_of.result run r.longer (words_of_bytes c.args.bytes.now) (map word_of_bytes (drop (c.loop-word.word-index + 1) c.as_chunks.result.0.now)) c.loop-word.count c.in-Err.fault r.later
+    let left : length (drop c.somes.at c.args.bytes.now) ≡ length c.args.bytes.now - c.somes.at = length-drop c.somes.at c.args.bytes.now in
+    let whole = c.somes.invariant.whole in
+    let all = c.requires.whole in
+    let before = c.somes-test.true in
+    let r = c.somes.invariant.goes command base run source given s in
+    let e = refused_here c.args.part.now base run r.longer (words_of_bytes c.args.bytes.now) c.args.bytes.now c.somes.at c.in-Err.fault r.later whole (omega arith)
     (c.in-Err.ensures.fault command base r.longer source given r.stands) in
     sym (ap (λ (w : Written). w.count) e)
 
 pub returns-in-Err-clause-fault : goal.returns-in-Err-clause-fault
 returns-in-Err-clause-fault c = λ command base run source given s.
-    let goes = goes_here c.args.part.now c.args.self.now c.loop-word.self (frame_at c.args.part.now c.args.memory.now) (frame_at c.args.part.now c.loop-word.memory) (words_of_bytes c.args.bytes.now) c.loop-word.count c.loop-word.word-index c.word_of.result c.as_chunks.result.0.now
-    c.loop-word.invariant.goes c.loop-word-test.true c.word_of.ensures.value in
-    let r = goes command base run source given s in
-    let e = ends_refused c.args.part.now base c.word_of.result run r.longer (words_of_bytes c.args.bytes.now) (map word_of_bytes (drop (c.loop-word.word-index + 1) c.as_chunks.result.0.now)) c.loop-word.count c.in-Err.fault r.later
+    let left : length (drop c.somes.at c.args.bytes.now) ≡ length c.args.bytes.now - c.somes.at = length-drop c.somes.at c.args.bytes.now in
+    let whole = c.somes.invariant.whole in
+    let all = c.requires.whole in
+    let before = c.somes-test.true in
+    let r = c.somes.invariant.goes command base run source given s in
+    let e = refused_here c.args.part.now base run r.longer (words_of_bytes c.args.bytes.now) c.args.bytes.now c.somes.at c.in-Err.fault r.later whole (omega arith)
     (c.in-Err.ensures.fault command base r.longer source given r.stands) in
     sym (ap (λ (w : Written). w.fault) e)
 
 pub returns-clause-stands : goal.returns-clause-stands
 returns-clause-stands c = λ command base run source given s.
-    let goes = goes_whole c.args.part.now c.args.self.now c.loop-word.self (frame_at c.args.part.now c.args.memory.now) (frame_at c.args.part.now c.loop-word.memory) (words_of_bytes c.args.bytes.now) c.loop-word.count c.loop-word.word-index c.as_chunks.result.0.now
-    c.loop-word.invariant.goes c.loop-word-test.false in
-    let r = goes command base run source given s in
-    let e = ends_whole c.args.part.now base run r.longer (words_of_bytes c.args.bytes.now) c.loop-word.count r.later in
+    let r = goes_through c.args.part.now c.args.self.now c.somes.self (frame_at c.args.part.now c.args.memory.now) (frame_at c.args.part.now c.somes.memory) (words_of_bytes c.args.bytes.now) c.args.bytes.now c.somes.at
+    c.somes.invariant.goes (omega (arith, c.somes-test.false)) command base run source given s in
+    let e = ends_whole c.args.part.now base run r.longer (words_of_bytes c.args.bytes.now) (c.somes.at / 4) r.later in
     rw (ap (λ (w : Written). w.run) e) r.stands
 
 pub returns-clause-lands : goal.returns-clause-lands
 returns-clause-lands c = λ command base run source given s.
-    let goes = goes_whole c.args.part.now c.args.self.now c.loop-word.self (frame_at c.args.part.now c.args.memory.now) (frame_at c.args.part.now c.loop-word.memory) (words_of_bytes c.args.bytes.now) c.loop-word.count c.loop-word.word-index c.as_chunks.result.0.now
-    c.loop-word.invariant.goes c.loop-word-test.false in
-    let r = goes command base run source given s in
-    let e = ends_whole c.args.part.now base run r.longer (words_of_bytes c.args.bytes.now) c.loop-word.count r.later in
+    let r = goes_through c.args.part.now c.args.self.now c.somes.self (frame_at c.args.part.now c.args.memory.now) (frame_at c.args.part.now c.somes.memory) (words_of_bytes c.args.bytes.now) c.args.bytes.now c.somes.at
+    c.somes.invariant.goes (omega (arith, c.somes-test.false)) command base run source given s in
+    let e = ends_whole c.args.part.now base run r.longer (words_of_bytes c.args.bytes.now) (c.somes.at / 4) r.later in
     rw (ap (λ (w : Written). w.run) e) r.lands
 
 pub returns-clause-count : goal.returns-clause-count
 returns-clause-count c = λ command base run source given s.
-    let goes = goes_whole c.args.part.now c.args.self.now c.loop-word.self (frame_at c.args.part.now c.args.memory.now) (frame_at c.args.part.now c.loop-word.memory) (words_of_bytes c.args.bytes.now) c.loop-word.count c.loop-word.word-index c.as_chunks.result.0.now
-    c.loop-word.invariant.goes c.loop-word-test.false in
-    let r = goes command base run source given s in
-    let e = ends_whole c.args.part.now base run r.longer (words_of_bytes c.args.bytes.now) c.loop-word.count r.later in
+    let r = goes_through c.args.part.now c.args.self.now c.somes.self (frame_at c.args.part.now c.args.memory.now) (frame_at c.args.part.now c.somes.memory) (words_of_bytes c.args.bytes.now) c.args.bytes.now c.somes.at
+    c.somes.invariant.goes (omega (arith, c.somes-test.false)) command base run source given s in
+    let e = ends_whole c.args.part.now base run r.longer (words_of_bytes c.args.bytes.now) (c.somes.at / 4) r.later in
     sym (ap (λ (w : Written). w.count) e)
 
 pub returns-clause-fault : goal.returns-clause-fault
 returns-clause-fault c = λ command base run source given s.
-    let goes = goes_whole c.args.part.now c.args.self.now c.loop-word.self (frame_at c.args.part.now c.args.memory.now) (frame_at c.args.part.now c.loop-word.memory) (words_of_bytes c.args.bytes.now) c.loop-word.count c.loop-word.word-index c.as_chunks.result.0.now
-    c.loop-word.invariant.goes c.loop-word-test.false in
-    let r = goes command base run source given s in
-    let e = ends_whole c.args.part.now base run r.longer (words_of_bytes c.args.bytes.now) c.loop-word.count r.later in
+    let r = goes_through c.args.part.now c.args.self.now c.somes.self (frame_at c.args.part.now c.args.memory.now) (frame_at c.args.part.now c.somes.memory) (words_of_bytes c.args.bytes.now) c.args.bytes.now c.somes.at
+    c.somes.invariant.goes (omega (arith, c.somes-test.false)) command base run source given s in
+    let e = ends_whole c.args.part.now base run r.longer (words_of_bytes c.args.bytes.now) (c.somes.at / 4) r.later in
     sym (ap (λ (w : Written). w.fault) e)

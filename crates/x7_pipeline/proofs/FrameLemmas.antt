@@ -1,0 +1,240 @@
+-- A whole frame that is written at once: the same as its words one by one.
+use Rattle.std.proofs.Common.{◌≡◌, ℕ, zero, suc, ◌+◌, ◌-◌, ◌*◌, ◌/◌, ◌%◌, ◌<◌, ◌≤◌, List, [], ◌∷◌, ◌++◌, length, get_or, set, take, drop, map, Option, Some, None, refl, sym, ap, ◌∙◌, arith, append_assoc, append-nil, length-append, true, lt-ltb}
+use Rattle.std.proofs.lemmas.List.{length-take-le, drop-drop, drop_all, take_all}
+use Rattle.std.proofs.lemmas.Option.{none-some}
+use Rattle.x7_words.specs.Word.{word_of_bytes, words_of_bytes}
+use Rattle.x7_part.specs.Part.{PartData}
+use Rattle.x7_part.specs.declared.slot.Slot.TheVariants.{End}
+use Rattle.x7_memory.specs.FrameMap.{FrameMap, AreSame}
+use Rattle.x7_regs.specs.declared.command.Command.{Command}
+use Rattle.x7_pipeline.specs.declared.fault.RunFault.{RunFault}
+use Rattle.x7_pipeline.specs.FarAsRead.{has_frame_at}
+use Rattle.x7_pipeline.specs.Runs.{at_slot, onto, put_over, slots_from, Lands}
+use Rattle.x7_pipeline.specs.Faults.{write_fault}
+use Rattle.x7_pipeline.specs.Words.{Written, one_written, written}
+use Rattle.x7_pipeline.specs.Pipeline.{PipelineData, StandsFor}
+use Rattle.x7_pipeline.proofs.LawLemmas.{lands_none, lands_more}
+use Rattle.x7_pipeline.proofs.StateLemmas.{goes_on, completes_frame, lands_nothing, lands_frame, write_allowed}
+use Rattle.x7_pipeline.proofs.WordLemmas.{after, written_end, written_next, ends_refused, Goes, Reached}
+
+-- ---- some words at once
+
+pub written_some : (part : PartData) (base : ℕ) (run words rest : List ℕ) → (written part base run words).fault ≡ None →
+    written part base run (words ++ rest) ≡ after (length words) (written part base (onto words run) rest)
+unfolding written
+written_some part base run [] rest e = ap (λ n. record (written part base run rest) { count = n }) (omega arith)
+written_some part base run (w ∷ words) rest e = by (write_fault part base run) e (written_some part base (w ∷ run) words rest)
+  where
+    by : (o : Option RunFault) → (one_written o run (written part base (w ∷ run) words)).fault ≡ None →
+        ((written part base (w ∷ run) words).fault ≡ None → written part base (w ∷ run) (words ++ rest) ≡ after (length words) (written part base (onto words (w ∷ run)) rest)) →
+        one_written o run (written part base (w ∷ run) (words ++ rest)) ≡ after (length (w ∷ words)) (written part base (onto words (w ∷ run)) rest)
+    by (Some fault) e later = absurd (none-some fault (sym e))
+    by None e later = ap (after 1) (later e) ∙ ap (λ n. record (written part base (onto words (w ∷ run)) rest) { count = n }) (omega arith)
+
+pub goes_some : (part : PartData) (start now next : PipelineData) (old middle new : FrameMap) (all words rest : List ℕ) (count : ℕ) → Goes part start now old middle all (words ++ rest) count →
+    ((command : Command) (base : ℕ) (run : List ℕ) (source : Option (List ℕ)) (given : ℕ) → StandsFor part now command base run source given → StandsFor part next command base (onto words run) source given) →
+    ((command : Command) (base : ℕ) (run : List ℕ) (source : Option (List ℕ)) (given : ℕ) → StandsFor part now command base run source given → Lands part base run (onto words run) middle new) →
+    ((command : Command) (base : ℕ) (run : List ℕ) (source : Option (List ℕ)) (given : ℕ) → StandsFor part now command base run source given → (written part base run words).fault ≡ None) →
+    Goes part start next old new all rest (count + length words)
+goes_some part start now next old middle new all words rest count before stands lands passes command base run source given s =
+    let r : Reached part now old middle command base run source given all (words ++ rest) count = before command base run source given s in
+    record {
+      longer = onto words r.longer;
+      stands = stands command base r.longer source given r.stands;
+      lands = lands_more part base run r.longer (onto words r.longer) old middle new r.lands (lands command base r.longer source given r.stands);
+      later = r.later ∙ ap (after count) (written_some part base r.longer words rest (passes command base r.longer source given r.stands))
+          ∙ ap (λ n. record (written part base (onto words r.longer) rest) { count = n }) (omega arith);
+    }
+
+-- ---- the words of a frame
+
+-- what comes of words that begin no frame and complete none
+pub record Within (part : PartData) (p : PipelineData) (memory : FrameMap) (command : Command) (base : ℕ) (run : List ℕ) (source : Option (List ℕ)) (given : ℕ) (words : List ℕ) : Type 0 where
+  pub stands : StandsFor part (record p { rest = p.rest ++ words }) command base (onto words run) source given
+  pub lands : Lands part base run (onto words run) memory memory
+  pub passes : (written part base run words).fault ≡ None
+
+passes_next : (part : PartData) (base w : ℕ) (run words : List ℕ) → None ≡ write_fault part base run → (written part base (w ∷ run) words).fault ≡ None → (written part base run (w ∷ words)).fault ≡ None
+passes_next part base w run words e f = ap (λ (x : Written). x.fault) (written_next part base w run words e) ∙ f
+
+pub within : (part : PartData) (p : PipelineData) (memory : FrameMap) (command : Command) (base : ℕ) (run : List ℕ) (source : Option (List ℕ)) (given : ℕ) (words : List ℕ) →
+    StandsFor part p command base run source given → (p.frame_count ≡ 0 → length p.rest ≡ 0 → has_frame_at part p.base ≡ true) → length p.rest + length words < p.width →
+    Within part p memory command base run source given words
+unfolding written
+within part p memory command base run source given [] s first short = record {
+  stands = rw (append-nil p.rest) s;
+  lands = lands_none part base run memory memory (λ far. refl);
+  passes = refl;
+}
+within part p memory command base run source given (w ∷ words) s first short =
+    let q : PipelineData = record p { rest = p.rest ++ w ∷ [] } in
+    let more : length (p.rest ++ w ∷ []) ≡ length p.rest + 1 = length-append p.rest (w ∷ []) in
+    let next = goes_on part p q w command base run source given s (omega arith) refl in
+    let r : Within part q memory command base (w ∷ run) source given words =
+    within part q memory command base (w ∷ run) source given words next (λ none no_rest. absurd (omega arith)) (omega arith) in
+    let joined : p.rest ++ w ∷ words ≡ (p.rest ++ w ∷ []) ++ words = sym (append_assoc p.rest (w ∷ []) words) in
+    record {
+      stands = rw joined r.stands;
+      lands = lands_more part base run (w ∷ run) (onto words (w ∷ run)) memory memory memory
+          (lands_nothing part p w command base run source given memory memory s (omega arith) (λ far. refl)) r.lands;
+      passes = passes_next part base w run words (write_allowed part p command base run source given s first (λ full. absurd (omega arith))) r.passes;
+    }
+
+pub onto_last : (words run : List ℕ) (w : ℕ) → onto (words ++ w ∷ []) run ≡ w ∷ onto words run
+onto_last [] run w = refl
+onto_last (v ∷ words) run w = onto_last words (v ∷ run) w
+
+pub record Front (words : List ℕ) : Type 0 where
+  pub front : List ℕ
+  pub last : ℕ
+  pub are : words ≡ front ++ last ∷ []
+
+pub front_of : (words : List ℕ) → 0 < length words → Front words
+front_of [] h = absurd (omega arith)
+front_of (w ∷ []) h = record { front = []; last = w; are = refl }
+front_of (w ∷ v ∷ words) h =
+    let f : Front (v ∷ words) = front_of (v ∷ words) (omega arith) in
+    record { front = w ∷ f.front; last = f.last; are = ap (λ t. w ∷ t) f.are }
+
+-- what comes of a whole frame's words
+pub record Whole (part : PartData) (q : PipelineData) (old new : FrameMap) (command : Command) (base : ℕ) (run : List ℕ) (source : Option (List ℕ)) (given : ℕ) (frame : List ℕ) : Type 0 where
+  pub stands : StandsFor part q command base (onto frame run) source given
+  pub lands : Lands part base run (onto frame run) old new
+  pub passes : (written part base run frame).fault ≡ None
+
+pub whole : (part : PartData) (p q : PipelineData) (old new : FrameMap) (command : Command) (base : ℕ) (run : List ℕ) (source : Option (List ℕ)) (given : ℕ) (frame : List ℕ) →
+    StandsFor part p command base run source given → p.rest ≡ [] → length frame ≡ p.width → p.frame_count < length (slots_from part p.base) →
+    q ≡ record p { newest = Some frame; frame_count = p.frame_count + 1 } → (p.newest ≡ None → AreSame new old) →
+    ((kept : List ℕ) → p.newest ≡ Some kept → AreSame new (put_over (at_slot (get_or (slots_from part p.base) (p.frame_count - 1) End) kept []) old)) →
+    Whole part q old new command base run source given frame
+unfolding written
+whole part p q old new command base run source given frame s begins wide slot e none some =
+    let nothing : length p.rest ≡ 0 = ap length begins in
+    let positive = s.some_words in
+    let f : Front frame = front_of frame (omega arith) in
+    let long : length frame ≡ length f.front + 1 = ap length f.are ∙ length-append f.front (f.last ∷ []) in
+    let first : p.frame_count ≡ 0 → length p.rest ≡ 0 → has_frame_at part p.base ≡ true = λ a b. lt-ltb 0 (length (slots_from part p.base)) (omega arith) in
+    let w : Within part p old command base run source given f.front = within part p old command base run source given f.front s first (omega arith) in
+    let m : PipelineData = record p { rest = p.rest ++ f.front } in
+    let filled : length (p.rest ++ f.front) ≡ length p.rest + length f.front = length-append p.rest f.front in
+    let same : onto frame run ≡ f.last ∷ onto f.front run = ap (λ t. onto t run) f.are ∙ onto_last f.front run f.last in
+    let base_is = s.base_is in
+    let is_whole : (p.rest ++ f.front) ++ f.last ∷ [] ≡ frame = ap (λ t. (t ++ f.front) ++ f.last ∷ []) begins ∙ sym f.are in
+    let made : q ≡ record m { rest = []; newest = Some (m.rest ++ f.last ∷ []); frame_count = m.frame_count + 1 } =
+    e ∙ ap (λ t. record p { rest = t; newest = Some frame; frame_count = p.frame_count + 1 }) begins
+    ∙ ap (λ t. record p { rest = []; newest = Some t; frame_count = p.frame_count + 1 }) (sym is_whole) in
+    let here : p.frame_count < length (slots_from part base) = rw (← base_is) slot in
+    record {
+      stands = rw same (completes_frame part m q f.last command base (onto f.front run) source given w.stands (omega arith) here made);
+      lands = rw same (lands_more part base run (onto f.front run) (f.last ∷ onto f.front run) old old new w.lands
+          (lands_frame part m f.last command base (onto f.front run) source given old new w.stands (omega arith) none some));
+      passes = rw f.are (ap (λ (x : Written). x.fault) (written_some part base run f.front (f.last ∷ []) w.passes)
+          ∙ passes_next part base f.last (onto f.front run) []
+          (write_allowed part m command base (onto f.front run) source given w.stands (λ a b. lt-ltb 0 (length (slots_from part p.base)) (omega arith)) (λ full. slot)) refl);
+    }
+
+-- one word
+pub passes_one : (part : PartData) (base w : ℕ) (run : List ℕ) → None ≡ write_fault part base run → (written part base run (w ∷ [])).fault ≡ None
+passes_one part base w run e = passes_next part base w run [] e (ap (λ (x : Written). x.fault) (written_end part base (w ∷ run)))
+
+-- ---- words of a slice
+
+pub words_apart : (k : ℕ) (bs : List ℕ) → k * 4 ≤ length bs → words_of_bytes bs ≡ words_of_bytes (take (k * 4) bs) ++ words_of_bytes (drop (k * 4) bs)
+words_apart zero bs h = refl
+words_apart (suc k) [] h = absurd (omega arith)
+words_apart (suc k) (a ∷ []) h = absurd (omega arith)
+words_apart (suc k) (a ∷ b ∷ []) h = absurd (omega arith)
+words_apart (suc k) (a ∷ b ∷ c ∷ []) h = absurd (omega arith)
+words_apart (suc k) (a ∷ b ∷ c ∷ d ∷ bs) h =
+    let e : suc k * 4 ≡ suc (suc (suc (suc (k * 4)))) = omega arith in
+    rw e (ap (λ x. word_of_bytes (a ∷ b ∷ c ∷ d ∷ []) ∷ x) (words_apart k bs (omega arith)))
+
+pub words_count : (bs : List ℕ) → length (words_of_bytes bs) ≡ length bs / 4
+words_count [] = refl
+words_count (a ∷ []) = refl
+words_count (a ∷ b ∷ []) = refl
+words_count (a ∷ b ∷ c ∷ []) = refl
+words_count (a ∷ b ∷ c ∷ d ∷ bs) = let ih = words_count bs in omega arith
+
+pub words_from : (at n : ℕ) (bs : List ℕ) → n % 4 ≡ 0 → n ≤ length (drop at bs) → words_of_bytes (drop at bs) ≡ words_of_bytes (take n (drop at bs)) ++ words_of_bytes (drop (at + n) bs)
+words_from at n bs e h =
+    let k : n / 4 * 4 ≡ n = omega arith in
+    let split : words_of_bytes (drop at bs) ≡ words_of_bytes (take (n / 4 * 4) (drop at bs)) ++ words_of_bytes (drop (n / 4 * 4) (drop at bs)) = words_apart (n / 4) (drop at bs) (omega arith) in
+    split ∙ ap (λ m. words_of_bytes (take m (drop at bs)) ++ words_of_bytes (drop m (drop at bs))) k
+    ∙ ap (λ t. words_of_bytes (take n (drop at bs)) ++ words_of_bytes t) (drop-drop n at bs)
+
+-- ---- words written over words
+
+pub written_over : (i : ℕ) (chunks : List (List ℕ)) (old : List ℕ) (w : ℕ) → i < length chunks → i < length old → w ≡ word_of_bytes (get_or chunks i []) →
+    set (map word_of_bytes (take i chunks) ++ drop i old) i w ≡ map word_of_bytes (take (suc i) chunks) ++ drop (suc i) old
+written_over i [] old w h k e = absurd (omega arith)
+written_over i (c ∷ chunks) [] w h k e = absurd (omega arith)
+written_over zero (c ∷ chunks) (x ∷ old) w h k e = ap (λ v. v ∷ old) e
+written_over (suc i) (c ∷ chunks) (x ∷ old) w h k e = ap (λ t. word_of_bytes c ∷ t) (written_over i chunks old w (omega arith) (omega arith) e)
+
+pub all_over : (i : ℕ) (chunks : List (List ℕ)) (old new bs : List ℕ) → new ≡ map word_of_bytes (take i chunks) ++ drop i old → length chunks ≤ i → length old ≤ i →
+    words_of_bytes bs ≡ map word_of_bytes chunks → new ≡ words_of_bytes bs
+all_over i chunks old new bs e h k f =
+    e ∙ rw (take_all i chunks h, drop_all i old k) (append-nil (map word_of_bytes chunks)) ∙ sym f
+
+-- the first word of a slice
+pub first_word : (bs : List ℕ) (w : ℕ) → 4 ≤ length bs → w ≡ word_of_bytes (get_or bs 0 0 ∷ get_or bs 1 0 ∷ get_or bs 2 0 ∷ get_or bs 3 0 ∷ []) → w ∷ [] ≡ words_of_bytes (take 4 bs)
+first_word [] w h e = absurd (omega arith)
+first_word (a ∷ []) w h e = absurd (omega arith)
+first_word (a ∷ b ∷ []) w h e = absurd (omega arith)
+first_word (a ∷ b ∷ c ∷ []) w h e = absurd (omega arith)
+first_word (a ∷ b ∷ c ∷ d ∷ bs) w h e = ap (λ v. v ∷ []) e
+
+pub frame_wide : (n : ℕ) (bs : List ℕ) → 4 * n ≤ length bs → length (words_of_bytes (take (4 * n) bs)) ≡ n
+frame_wide n bs h = let long : length (take (4 * n) bs) ≡ 4 * n = length-take-le (4 * n) bs h in words_count (take (4 * n) bs) ∙ (omega arith)
+
+-- ---- on the way through a slice
+
+pub goes_bytes : (part : PartData) (start now next : PipelineData) (old middle new : FrameMap) (all bs : List ℕ) (at n : ℕ) →
+    Goes part start now old middle all (words_of_bytes (drop at bs)) (at / 4) → at % 4 ≡ 0 → n % 4 ≡ 0 → n ≤ length (drop at bs) →
+    ((command : Command) (base : ℕ) (run : List ℕ) (source : Option (List ℕ)) (given : ℕ) → StandsFor part now command base run source given → StandsFor part next command base (onto (words_of_bytes (take n (drop at bs))) run) source given) →
+    ((command : Command) (base : ℕ) (run : List ℕ) (source : Option (List ℕ)) (given : ℕ) → StandsFor part now command base run source given → Lands part base run (onto (words_of_bytes (take n (drop at bs))) run) middle new) →
+    ((command : Command) (base : ℕ) (run : List ℕ) (source : Option (List ℕ)) (given : ℕ) → StandsFor part now command base run source given → (written part base run (words_of_bytes (take n (drop at bs)))).fault ≡ None) →
+    Goes part start next old new all (words_of_bytes (drop (at + n) bs)) ((at + n) / 4)
+goes_bytes part start now next old middle new all bs at n before a b h stands lands passes =
+    let words = words_of_bytes (take n (drop at bs)) in
+    let long : length (take n (drop at bs)) ≡ n = length-take-le n (drop at bs) h in
+    let count : length words ≡ n / 4 = words_count (take n (drop at bs)) ∙ ap (λ k. k / 4) long in
+    let sum : at / 4 + length words ≡ (at + n) / 4 = omega arith in
+    rw (← sum) (goes_some part start now next old middle new all words (words_of_bytes (drop (at + n) bs)) (at / 4)
+    (rw (← words_from at n bs b h) before) stands lands passes)
+
+-- the same with the bytes that are left
+pub goes_left : (part : PartData) (start now next : PipelineData) (old middle new : FrameMap) (all bs left : List ℕ) (at n : ℕ) → left ≡ drop at bs →
+    Goes part start now old middle all (words_of_bytes (drop at bs)) (at / 4) → at % 4 ≡ 0 → n % 4 ≡ 0 → n ≤ length left →
+    ((command : Command) (base : ℕ) (run : List ℕ) (source : Option (List ℕ)) (given : ℕ) → StandsFor part now command base run source given → StandsFor part next command base (onto (words_of_bytes (take n left)) run) source given) →
+    ((command : Command) (base : ℕ) (run : List ℕ) (source : Option (List ℕ)) (given : ℕ) → StandsFor part now command base run source given → Lands part base run (onto (words_of_bytes (take n left)) run) middle new) →
+    ((command : Command) (base : ℕ) (run : List ℕ) (source : Option (List ℕ)) (given : ℕ) → StandsFor part now command base run source given → (written part base run (words_of_bytes (take n left))).fault ≡ None) →
+    Goes part start next old new all (words_of_bytes (drop (at + n) bs)) ((at + n) / 4)
+goes_left part start now next old middle new all bs left at n e before a b h stands lands passes =
+    goes_bytes part start now next old middle new all bs at n before a b (rw e at h) (rw e at stands) (rw e at lands) (rw e at passes)
+
+-- all bytes are taken
+pub goes_through : (part : PartData) (start now : PipelineData) (old new : FrameMap) (all bs : List ℕ) (at : ℕ) →
+    Goes part start now old new all (words_of_bytes (drop at bs)) (at / 4) → length bs ≤ at → Goes part start now old new all [] (at / 4)
+goes_through part start now old new all bs at goes h = rw (ap words_of_bytes (sym (drop_all at bs h))) goes
+
+-- the word that is next
+pub record Next (bs : List ℕ) : Type 0 where
+  pub word : ℕ
+  pub later : List ℕ
+  pub are : words_of_bytes bs ≡ word ∷ later
+
+pub next_of : (bs : List ℕ) → 4 ≤ length bs → Next bs
+next_of [] h = absurd (omega arith)
+next_of (a ∷ []) h = absurd (omega arith)
+next_of (a ∷ b ∷ []) h = absurd (omega arith)
+next_of (a ∷ b ∷ c ∷ []) h = absurd (omega arith)
+next_of (a ∷ b ∷ c ∷ d ∷ bs) h = record { word = word_of_bytes (a ∷ b ∷ c ∷ d ∷ []); later = words_of_bytes bs; are = refl }
+
+-- what was written where the next word is refused
+pub refused_here : (part : PartData) (base : ℕ) (run longer all bs : List ℕ) (at : ℕ) (fault : RunFault) → written part base run all ≡ after (at / 4) (written part base longer (words_of_bytes (drop at bs))) →
+    at % 4 ≡ 0 → 4 ≤ length (drop at bs) → Some fault ≡ write_fault part base longer → written part base run all ≡ record { run = longer; count = at / 4 + 1; fault = Some fault }
+refused_here part base run longer all bs at fault e a h f =
+    let n : Next (drop at bs) = next_of (drop at bs) h in
+    ends_refused part base n.word run longer all n.later (at / 4) fault (e ∙ ap (λ t. after (at / 4) (written part base longer t)) n.are) f
