@@ -5,3 +5,4 @@ pub mod ReadLemmas
 pub mod StateLemmas
 pub mod LawLemmas
 pub mod WordLemmas
+pub mod SavedLemmas
