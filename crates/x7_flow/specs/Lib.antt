@@ -13,3 +13,4 @@ pub mod Words
 pub mod Alike
 pub mod Quiet
 pub mod Inside
+pub mod Saving

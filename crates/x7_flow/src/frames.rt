@@ -10,6 +10,8 @@ ghost use Rattle.x7_flow.specs.Flow.{far_in, flow_of, frame_fault};
 ghost use Rattle.x7_flow.specs.Standing.{AfterAccess, AfterRead, FramesFit, FramesStandFor, less, words_due};
 ghost use Rattle.x7_flow.specs.Words.{WordsTaken};
 
+mod saved;
+
 use crate::asking::{asked_write, takes_frames};
 use crate::settings::FrameSettings;
 use crate::taking::{next_word, pass_words, refuses_read, take, take_words};

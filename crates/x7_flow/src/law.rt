@@ -17,7 +17,10 @@ ghost use Rattle.x7_flow.specs.NeedsAddress.{needs_address};
 ghost use Rattle.x7_pipeline.specs.FarAsRead.{has_frame_at, loaded_base};
 ghost use Rattle.x7_pipeline.specs.Pipeline.{PipelineData};
 ghost use Rattle.x7_flow.specs.declared.asked.Asked.{Asked};
-ghost use Rattle.x7_flow.specs.Standing.{AreFramesAfter, AreOf, Did, frames_read, less, words_due};
+ghost use Rattle.x7_memory.specs.Frames.{frame_at};
+ghost use Rattle.x7_pipeline.specs.Saving.{SavedState};
+ghost use Rattle.x7_flow.specs.Saving.{FramesBack, KeepsFrames};
+ghost use Rattle.x7_flow.specs.Standing.{AreFramesAfter, AreOf, Did, FramesFit, FramesStandFor, FramesState, frames_read, less, words_due};
 ghost use Rattle.x7_flow.specs.Quiet.{AreQuiet};
 ghost use Rattle.x7_flow.specs.Settings.{Settings, settings_of, settings_after, settings_from, takes_copies, takes_frames};
 ghost use Rattle.x7_flow.specs.Flow.{Flow, asks, base_of, begins, far_read, first_flow, flow_by, flow_of, frame_fault, given_of, is_copy, is_read, is_word, run_of, source_of};
@@ -167,4 +170,12 @@ pub fn words_have_room()
         length (run_of part h) + length ws ≤ frame_words part * length (slots_from part (base_of part h)) → NoneRefused part n ws h }
     ensures memory { (part : PartData) (n : ℕ) (ws : List ℕ) (h : History) → takes_frames (settings_of part.idcode h) ≡ true → run_of part h ≡ [] →
         AreSame (memory_of part (entered_all n (payload_steps 2 ws) h)) (put_over (landed part (base_of part h) (onto ws [])) (memory_of part h)) }
+{}
+
+/// What is kept of frames without a word due leads back from the same history, and from one with one access more.
+pub fn saving_laws()
+    ensures same { (part : PartData) (s : SavedState) (old new : FramesState) → KeepsFrames part s old → FramesFit part old → FramesFit part new →
+        AreSame (frame_at part new.memory) (frame_at part old.memory) → FramesBack part s new old }
+    ensures one { (part : PartData) (s : SavedState) (old new : FramesState) (h : History) (e : Entry) → KeepsFrames part s old → FramesFit part old → FramesFit part new →
+        FramesStandFor part old h 0 → AreSame (frame_at part new.memory) (memory_of part (e ∷ h)) → FramesBack part s new old }
 {}

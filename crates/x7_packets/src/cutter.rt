@@ -6,6 +6,8 @@ ghost use Rattle.x7_packets.specs.Nops.{Idles};
 ghost use Rattle.x7_packets.specs.Reading.{is_synced, Place, Session, tail_of};
 ghost use Rattle.x7_packets.specs.declared.cutter.Mode.TheVariants as mode;
 
+mod copied;
+
 use crate::header::Step;
 use crate::machine::Machine;
 use crate::nops::count_nops;

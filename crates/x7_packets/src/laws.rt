@@ -1,10 +1,10 @@
 //! Laws of the definitions: what is read has one reading, which is found by hand, and its history grows with each run and byte.
-ghost use Rattle.std.specs.Prelude.{◌≡◌, ℕ, ◌+◌, ◌*◌, ◌⊎◌, List, [], ◌∷◌, ◌++◌, false, length};
+ghost use Rattle.std.specs.Prelude.{◌≡◌, ℕ, ◌+◌, ◌*◌, ◌≤◌, ◌⊎◌, List, [], ◌∷◌, ◌++◌, false, length};
 ghost use Rattle.x7_words.specs.Word.{AreBytes, AreWords};
 ghost use Rattle.x7_packets.specs.ByHand.{AreOfOneSession, packets_of, reading_of};
 ghost use Rattle.x7_packets.specs.Cutting.{Adds, CutterStandsFor, CutterState, Longer, run_steps, Went};
 ghost use Rattle.x7_packets.specs.Ended.{HasEnded};
-ghost use Rattle.x7_packets.specs.History.{Access, AllBehind, AllFit, entered_all, entry, History, history, history_of, next_word, Placed, until};
+ghost use Rattle.x7_packets.specs.History.{Access, AllBehind, AllFit, Entry, entered_all, entry, History, history, history_of, next_word, Placed, until};
 ghost use Rattle.x7_packets.specs.Packet.{Packet, Packets};
 ghost use Rattle.x7_packets.specs.Reading.{IsReading, Place, Searching, Session, Synced, is_synced, tail_of};
 ghost use Rattle.x7_packets.specs.declared.cutter.Cut.{Cut};
@@ -79,6 +79,12 @@ pub fn histories_grow()
         → (newer : History) × (history_of (bytes ++ more) ≡ newer ++ history_of bytes) × AllBehind (length bytes) (length (bytes ++ more)) newer }
     ensures front { (bytes more : List ℕ) → AreBytes (bytes ++ more) → until (length bytes) (history_of (bytes ++ more)) ≡ history_of bytes }
     ensures placed { (bytes : List ℕ) → AreBytes bytes → Placed (length bytes) (history_of bytes) }
+{}
+
+/// Up to four bytes enter one access at most.
+pub fn four_bytes_enter_one()
+    ensures { (bytes more : List ℕ) → AreBytes (bytes ++ more) → length more ≤ 4
+        → (history_of (bytes ++ more) ≡ history_of bytes) ⊎ ((e : Entry) × (history_of (bytes ++ more) ≡ e ∷ history_of bytes)) }
 {}
 
 /// Where bytes end searching, DESYNC is the newest access of their history, or there is none.

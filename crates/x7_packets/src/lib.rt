@@ -19,8 +19,9 @@ pub use examples::{
 };
 pub use header::Step;
 pub use laws::{
-    accesses_fit, histories_grow, nothing_enters, one_list_of_packets, one_reading,
-    packets_are_found, reading_is_found, searching_after_desync, words_after, words_enter,
+    accesses_fit, four_bytes_enter_one, histories_grow, nothing_enters, one_list_of_packets,
+    one_reading, packets_are_found, reading_is_found, searching_after_desync, words_after,
+    words_enter,
 };
 pub use machine::Machine;
 pub use sync::Matcher;

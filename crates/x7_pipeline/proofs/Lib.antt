@@ -6,3 +6,4 @@ pub mod ReadLemmas
 pub mod StateLemmas
 pub mod LawLemmas
 pub mod WordLemmas
+pub mod SavedLemmas

@@ -7,3 +7,4 @@ pub mod Words
 pub mod Pipeline
 pub mod Fields
 pub mod InWords
+pub mod Saving

@@ -5,17 +5,19 @@ ghost use Rattle.x7_part.specs.Part.{PartData, frame_words};
 ghost use Rattle.x7_part.specs.AddressOrder.{addresses_in};
 ghost use Rattle.x7_part.specs.declared.slot.Slot.{Slot};
 ghost use Rattle.x7_memory.specs.FrameMap.{FrameMap, AreSame};
+ghost use Rattle.x7_memory.specs.Frames.{AreFramesOf, frame_at};
 ghost use Rattle.x7_memory.specs.Planned.{PlanRow};
 ghost use Rattle.x7_regs.specs.declared.command.Command.{Command};
 ghost use Rattle.x7_pipeline.specs.declared.fault.RunFault.{RunFault};
 ghost use Rattle.x7_pipeline.specs.Runs.{rest_of, frames_of, slots_from, but_newest, onto, landed, put_over, Lands};
 ghost use Rattle.x7_pipeline.specs.InWords.{AreCutFrom, pair_of};
 ghost use Rattle.x7_pipeline.specs.FarAsRead.{has_frame_at, far_of, last_address};
-ghost use Rattle.x7_pipeline.specs.Copies.{is_wcfg, is_mfw, newest_of, source_after};
+ghost use Rattle.x7_pipeline.specs.Copies.{copied, is_wcfg, is_mfw, newest_of, source_after};
 ghost use Rattle.x7_pipeline.specs.Readback.{word_at, read_at, read_limit, given_stored};
 ghost use Rattle.x7_pipeline.specs.Faults.{write_fault, copy_fault, read_fault};
 ghost use Rattle.x7_pipeline.specs.Words.{written, Refused};
 ghost use Rattle.x7_pipeline.specs.Pipeline.{PipelineData, StandsFor};
+ghost use Rattle.x7_pipeline.specs.Saving.{ChangesAt, next_put, pair_at};
 
 /// A run is its whole frames and a rest. Its frames but the newest land with the slots in order, those at pads nowhere;
 /// and what a memory gets by one word after the other is what it gets by all.
@@ -85,4 +87,12 @@ pub fn fault_laws()
 pub fn pipeline_laws()
     ensures one { (part : PartData) (p q : PipelineData) (command : Command) (base : ℕ) (run : List ℕ) (source : Option (List ℕ)) (given : ℕ) →
         StandsFor part p command base run source given → StandsFor part q command base run source given → p ≡ q }
+{}
+
+/// A kept frame leads back where the memory changed at its address alone. A copy changes just the address where it puts one.
+pub fn saving_laws()
+    ensures back { (part : PartData) (at : Option ℕ) (old new : List (List ℕ)) → AreFramesOf part old → AreFramesOf part new → ChangesAt at (frame_at part old) (frame_at part new) →
+        AreSame (put_over (pair_at (frame_at part old) at) (frame_at part new)) (frame_at part old) }
+    ensures copy { (part : PartData) (p : PipelineData) (command : Command) (base : ℕ) (run : List ℕ) (source : Option (List ℕ)) (given : ℕ) (old new : FrameMap) →
+        StandsFor part p command base run source given → copy_fault part command base source ≡ None → AreSame new (put_over (copied base source) old) → ChangesAt (next_put part p) old new }
 {}

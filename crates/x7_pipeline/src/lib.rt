@@ -9,5 +9,7 @@ mod place;
 mod tests;
 
 pub use fault::RunFault;
-pub use law::{far_laws, fault_laws, pipeline_laws, read_laws, run_laws, source_laws, word_laws};
-pub use pipeline::Pipeline;
+pub use law::{
+    far_laws, fault_laws, pipeline_laws, read_laws, run_laws, saving_laws, source_laws, word_laws,
+};
+pub use pipeline::{Pipeline, Saved};

@@ -15,8 +15,11 @@ ghost use Rattle.x7_pipeline.specs.Faults.{write_fault, copy_fault, read_fault, 
 ghost use Rattle.x7_pipeline.specs.Words.{written};
 ghost use Rattle.x7_pipeline.specs.Pipeline.{PipelineData, StandsFor, IsPipelineOf};
 
+mod saved;
+
 use crate::fault::RunFault;
 use crate::place::{far_at, is_base, slot_at, slot_count, slot_read};
+pub use saved::Saved;
 use std::alloc::Global;
 use std::marker::Model;
 use x7_memory::Memory;

@@ -3,7 +3,7 @@ ghost use Rattle.std.specs.Prelude.{IfOk};
 ghost use Rattle.x7_memory.specs.Frames.{AreFramesOf};
 ghost use Rattle.x7_pipeline.specs.Pipeline.{IsPipelineOf};
 
-use crate::{Pipeline, RunFault};
+use crate::{Pipeline, RunFault, Saved};
 use std::alloc::{AllocError, Global};
 use std::test::Fail;
 use x7_memory::Memory;
@@ -358,6 +358,64 @@ fn copies_and_faults(rt: HostRuntime) -> Result<(), Fail> {
         assert_eq!(rt; take_all(&mut pipeline, &part, &mut memory, steps), answer);
         assert!(rt; has_frames(&part, &memory, words));
         assert_eq!(rt; pipeline.far(&part), far);
+    }
+    Ok(())
+}
+
+#[test]
+fn a_step_is_taken_back(rt: HostRuntime) -> Result<(), Fail> {
+    let part = tiny(rt.alloc())?;
+    let wcfg = Step::Command(Command::Wcfg);
+    let mfw = Step::Command(Command::Mfw);
+    let top = Step::Load(TOP_0);
+    // steps, one more, which is taken back and done again; words of the frames and FAR as read before and after it
+    let cases: [(&[Step], Step, [u32; 4], u32, [u32; 4], u32); 4] = [
+        (
+            &[wcfg, top, Step::Words(201)],
+            Step::Words(1),
+            [0; 4],
+            TOP_0,
+            [1, 0, 0, 0],
+            TOP_1,
+        ),
+        (
+            &[wcfg, top, Step::Words(202), mfw, top],
+            Step::Copy,
+            [1, 0, 0, 0],
+            TOP_0,
+            [2, 0, 0, 0],
+            TOP_0,
+        ),
+        (
+            &[wcfg, top, Step::Words(202)],
+            Step::Load(BOTTOM_1),
+            [1, 0, 0, 0],
+            TOP_1,
+            [1, 0, 0, 0],
+            BOTTOM_1,
+        ),
+        (
+            &[wcfg, top, Step::Words(202)],
+            mfw,
+            [1, 0, 0, 0],
+            TOP_1,
+            [1, 0, 0, 0],
+            TOP_1,
+        ),
+    ];
+    for (steps, step, words_before, far_before, words_after, far_after) in cases {
+        let mut memory = Memory::new(rt.alloc(), &part)?;
+        let mut pipeline = Pipeline::new(rt.alloc(), &part)?;
+        assert_eq!(rt; take_all(&mut pipeline, &part, &mut memory, steps), Ok(()));
+        let mut saved = Saved::new(rt.alloc(), &part)?;
+        pipeline.save(&part, &memory, &mut saved);
+        assert_eq!(rt; take(&mut pipeline, &part, &mut memory, step), Ok(()));
+        pipeline.restore(&part, &mut memory, &saved);
+        assert!(rt; has_frames(&part, &memory, words_before));
+        assert_eq!(rt; pipeline.far(&part), far_before);
+        assert_eq!(rt; take(&mut pipeline, &part, &mut memory, step), Ok(()));
+        assert!(rt; has_frames(&part, &memory, words_after));
+        assert_eq!(rt; pipeline.far(&part), far_after);
     }
     Ok(())
 }

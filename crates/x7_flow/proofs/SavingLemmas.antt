@@ -1,0 +1,112 @@
+-- What is kept of frames leads back over one access.
+use Rattle.std.proofs.Common.{◌≡◌, ℕ, ◌+◌, ◌-◌, ◌==◌, ◌&&◌, Bool, true, false, if◌then◌else◌, List, [], ◌∷◌, length, get_or, Option, None, Some, is_some, refl, sym, ap, subst, ◌∙◌, arith, ne_eqb}
+use Rattle.std.proofs.lemmas.Option.{none-some}
+use Rattle.x7_packets.specs.History.{Entry, History}
+use Rattle.x7_part.specs.Part.{PartData, frame_words}
+use Rattle.x7_part.specs.declared.slot.Slot.{Slot}
+use Rattle.x7_part.specs.declared.slot.Slot.TheVariants.{Frame, Pad, End}
+use Rattle.x7_memory.specs.FrameMap.{FrameMap, AreSame}
+use Rattle.x7_memory.specs.Frames.{AreFramesOf, frame_at}
+use Rattle.x7_memory.specs.Planned.{PlanRow, planned}
+use Rattle.x7_memory.proofs.MapLemmas.{override_same, same_memory}
+use Rattle.x7_regs.specs.Command.{command_with}
+use Rattle.x7_regs.specs.declared.command.Command.{Command}
+use Rattle.x7_pipeline.specs.Runs.{frames_of, put_over, rest_of, slots_from}
+use Rattle.x7_pipeline.specs.FarAsRead.{has_frame_at}
+use Rattle.x7_pipeline.specs.Copies.{copied, is_mfw}
+use Rattle.x7_pipeline.specs.Faults.{completes}
+use Rattle.x7_pipeline.specs.Pipeline.{PipelineData}
+use Rattle.x7_pipeline.specs.Saving.{ChangesAt, SavedState, address_of, newest_slot, next_put, pair_at, put_by_word, takes_copies}
+use Rattle.x7_pipeline.proofs.SavedLemmas.{changes_copy, changes_none, changes_slot, taken_back}
+use Rattle.x7_flow.specs.declared.asked.Asked.{Asked}
+use Rattle.x7_flow.specs.declared.asked.Asked.TheVariants.{Load, Order, Word, Copies, Reads, Other}
+use Rattle.x7_flow.specs.Settings.{Settings, settings_after, settings_of}
+use Rattle.x7_flow.specs.Flow.{Flow, asks, flow_of}
+use Rattle.x7_flow.specs.FrameMemory.{copy_pairs, landed_more, memory_of, newest_put, puts}
+use Rattle.x7_flow.specs.Saving.{FramesBack, KeepsFrames}
+use Rattle.x7_flow.specs.Sound.{IsSound}
+use Rattle.x7_flow.specs.Standing.{FramesFit, FramesStandFor, FramesState, HasFlow, less}
+use Rattle.x7_flow.proofs.FlowLemmas.{flow_sound, memory_more, put_none}
+use Rattle.x7_flow.proofs.SettingsLemmas.{Means, asked_means}
+
+-- ---- what an access puts
+
+-- the slot of the newest of frames
+abbrev slot_of_newest : PartData → ℕ → List (List ℕ) → Slot
+slot_of_newest part base [] = Pad
+slot_of_newest part base (frame ∷ older) = get_or (slots_from part base) (length older) End
+
+newest_changes : (part : PartData) (base : ℕ) (frames : List (List ℕ)) (old new : FrameMap) → AreSame new (put_over (newest_put part base frames) old) → ChangesAt (address_of (slot_of_newest part base frames)) old new
+newest_changes part base [] old new s = changes_none None old new (λ far. s far ∙ put_none [] old refl far)
+newest_changes part base (frame ∷ older) old new s = changes_slot (get_or (slots_from part base) (length older) End) frame old new s
+
+newest_is : (part : PartData) (base count : ℕ) (frames : List (List ℕ)) → count ≡ length frames → (if count == 0 then Pad else get_or (slots_from part base) (count - 1) End) ≡ slot_of_newest part base frames
+newest_is part base count [] e = rw e refl
+newest_is part base count (frame ∷ older) e =
+    let some : (count == 0) ≡ false = ne_eqb count 0 (λ z. omega (arith, e, z)) in
+    let one : count - 1 ≡ length older = omega (arith, e) in
+    rw (some, one) refl
+
+word_by : (part : PartData) (base : ℕ) (run : List ℕ) (slot : Slot) (b : Bool) (old new : FrameMap) → slot ≡ slot_of_newest part base (frames_of (frame_words part) run)
+    → AreSame new (put_over (if b then newest_put part base (frames_of (frame_words part) run) else []) old) → ChangesAt (if b then address_of slot else None) old new
+word_by part base run slot true old new e s = rw e (newest_changes part base (frames_of (frame_words part) run) old new s)
+word_by part base run slot false old new e s = changes_none None old new (λ far. s far ∙ put_none [] old refl far)
+
+word_changes : (part : PartData) (p : PipelineData) (f : Flow) (old new : FrameMap) → HasFlow part p f → takes_copies p ≡ false → AreSame new (put_over (landed_more part f.base f.run) old) → ChangesAt (next_put part p) old new
+unfolding landed_more
+word_changes part p f old new h words s =
+    let slot : newest_slot part p ≡ slot_of_newest part f.base (frames_of (frame_words part) f.run) =
+    ap (λ (b : ℕ). if p.frame_count == 0 then Pad else get_or (slots_from part b) (p.frame_count - 1) End) h.stands.base_is ∙ newest_is part f.base p.frame_count (frames_of (frame_words part) f.run) h.stands.count_is in
+    let whole : (length p.rest + 1 == p.width) ≡ completes part f.run = ap (λ (r : List ℕ). length r + 1 == p.width) h.stands.rest_is ∙ ap (λ (w : ℕ). length (rest_of (frame_words part) f.run) + 1 == w) h.stands.width_is in
+    rw (words, whole) (word_by part f.base f.run (newest_slot part p) (completes part f.run) old new slot s)
+
+copy_by : (part : PartData) (p : PipelineData) (base : ℕ) (source : Option (List ℕ)) (old new : FrameMap) (m b : Bool) → p.base ≡ base → p.source ≡ source → is_mfw p.command ≡ m → has_frame_at part p.base ≡ b
+    → AreSame new (put_over (if m && b then copied base source else []) old) → ChangesAt (next_put part p) old new
+copy_by part p base (Some frame) old new true true e g h i s = rw (h, g, i, e) (changes_copy base (Some frame) old new s)
+copy_by part p base None old new true true e g h i s = changes_none (next_put part p) old new (λ far. s far ∙ put_none [] old refl far)
+copy_by part p base source old new true false e g h i s = changes_none (next_put part p) old new (λ far. s far ∙ put_none [] old refl far)
+copy_by part p base source old new false b e g h i s = changes_none (next_put part p) old new (λ far. s far ∙ put_none [] old refl far)
+
+-- a pipeline that takes words takes no copies
+no_copies : (p : PipelineData) → is_mfw p.command ≡ false → takes_copies p ≡ false
+no_copies p e = rw e refl
+
+access_changes : (part : PartData) (s : Settings) (a : Asked) (t : ℕ) (p : PipelineData) (f : Flow) (old new : FrameMap) → Means s a t → IsSound part s f → HasFlow part p f → AreSame new (put_over (puts part a f) old) → ChangesAt (next_put part p) old new
+access_changes part s (Load w) t p f old new m i h same = changes_none (next_put part p) old new (λ far. same far ∙ put_none [] old refl far)
+access_changes part s (Order c) t p f old new m i h same = changes_none (next_put part p) old new (λ far. same far ∙ put_none [] old refl far)
+access_changes part s (Word w) t p f old new m i h same =
+    word_changes part p f old new h (no_copies p (ap is_mfw (h.stands.command_is ∙ i.command_is ∙ ap command_with m.1))) same
+access_changes part s Copies t p f old new m i h same =
+    copy_by part p f.base f.source old new (is_mfw f.command) (has_frame_at part f.base) h.stands.base_is h.stands.source_is (ap is_mfw h.stands.command_is) (ap (has_frame_at part) h.stands.base_is) same
+access_changes part s (Reads count) t p f old new m i h same = changes_none (next_put part p) old new (λ far. same far ∙ put_none [] old refl far)
+access_changes part s Other t p f old new m i h same = changes_none (next_put part p) old new (λ far. same far ∙ put_none [] old refl far)
+
+-- ---- back
+
+back_over : (part : PartData) (s : SavedState) (old new : FramesState) → KeepsFrames part s old → FramesFit part old → FramesFit part new → ChangesAt (next_put part old.pipeline) (frame_at part old.memory) (frame_at part new.memory) → FramesBack part s new old
+back_over part s old new k o n c = record {
+  pipeline = k.pipeline;
+  memory = rw k.pair (taken_back part (next_put part old.pipeline) old.memory new.memory o.frames_fit n.frames_fit c);
+  frames_fit = o.frames_fit;
+}
+
+pub back_same : (part : PartData) (s : SavedState) (old new : FramesState) → KeepsFrames part s old → FramesFit part old → FramesFit part new → AreSame (frame_at part new.memory) (frame_at part old.memory) → FramesBack part s new old
+back_same part s old new k o n same = back_over part s old new k o n (changes_none (next_put part old.pipeline) (frame_at part old.memory) (frame_at part new.memory) same)
+
+pub back_one : (part : PartData) (s : SavedState) (old new : FramesState) (h : History) (e : Entry) → KeepsFrames part s old → FramesFit part old → FramesFit part new → FramesStandFor part old h 0 → AreSame (frame_at part new.memory) (memory_of part (e ∷ h))
+    → FramesBack part s new old
+back_one part s old new h e k o n stands same =
+    let f : Flow = flow_of part h in
+    let all : f.given - 0 ≡ f.given = omega arith in
+    let flow : HasFlow part old.pipeline f = subst (λ (g : ℕ). HasFlow part old.pipeline (record f { given = g })) all stands.flow in
+    let pairs : List PlanRow = puts part (asks part.idcode h e.access) f in
+    let put : AreSame (frame_at part new.memory) (put_over pairs (frame_at part old.memory)) =
+    λ far. same far ∙ memory_more part e h far ∙ sym (override_same (frame_at part old.memory) (memory_of part h) (planned pairs) (planned pairs) stands.memory (λ a. refl) far) in
+    back_over part s old new k o n (access_changes part (settings_of part.idcode h) (asks part.idcode h e.access) (settings_after part.idcode e.access (settings_of part.idcode h)).held old.pipeline f (frame_at part old.memory) (frame_at part new.memory)
+    (asked_means (settings_of part.idcode h) e.access) (flow_sound part h) flow put)
+
+-- the frames to which the kept ones lead back are just these
+pub back_is : (part : PartData) (s : SavedState) (new old now : FramesState) → FramesBack part s new old → now.pipeline ≡ s.pipeline → AreFramesOf part now.memory → AreSame (frame_at part now.memory) (put_over s.pair (frame_at part new.memory)) → now ≡ old
+back_is part s new old now b p n m =
+    let memory : now.memory ≡ old.memory = same_memory part now.memory old.memory n b.frames_fit (λ far. m far ∙ b.memory far) in
+    ap (λ (q : PipelineData). record { pipeline = q; memory = now.memory }) (p ∙ b.pipeline) ∙ ap (λ (t : List (List ℕ)). record { pipeline = old.pipeline; memory = t }) memory

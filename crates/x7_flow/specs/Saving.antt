@@ -1,0 +1,19 @@
+-- Frames that are kept, and what leads back to them (this project's choice).
+use Rattle.std.specs.Prelude.{◌≡◌, ℕ, List}
+use Rattle.x7_part.specs.Part.{PartData}
+use Rattle.x7_memory.specs.FrameMap.{AreSame}
+use Rattle.x7_memory.specs.Frames.{AreFramesOf, frame_at}
+use Rattle.x7_pipeline.specs.Runs.{put_over}
+use Rattle.x7_pipeline.specs.Saving.{SavedState, next_put, pair_at}
+use Rattle.x7_flow.specs.Standing.{FramesState}
+
+-- the pipeline of these frames, and the frame that stands where its next word or copy would put one
+pub record KeepsFrames (part : PartData) (s : SavedState) (f : FramesState) : Type 0 where
+  pub pipeline : s.pipeline ≡ f.pipeline
+  pub pair : s.pair ≡ pair_at (frame_at part f.memory) (next_put part f.pipeline)
+
+-- the kept pipeline is that of the old frames, and the new memory with the kept pair is the old one
+pub record FramesBack (part : PartData) (s : SavedState) (new old : FramesState) : Type 0 where
+  pub pipeline : s.pipeline ≡ old.pipeline
+  pub memory : AreSame (put_over s.pair (frame_at part new.memory)) (frame_at part old.memory)
+  pub frames_fit : AreFramesOf part old.memory

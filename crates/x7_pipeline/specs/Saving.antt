@@ -1,0 +1,76 @@
+-- What is kept of a pipeline and a memory, so that the next word or copy can be taken back (this project's choice).
+use Rattle.std.specs.Prelude.{◌≡◌, ℕ, ◌+◌, ◌-◌, ◌==◌, ◌&&◌, Bool, if◌then◌else◌, List, [], ◌∷◌, length, slice_index_or, Contains, Option, Some, None, is_some}
+use Rattle.std.specs.List.{AllByRecursion}
+use Rattle.x7_part.specs.AddressOrder.{addresses_in}
+use Rattle.x7_part.specs.Part.{PartData, frame_words}
+use Rattle.x7_part.specs.declared.slot.Slot.{Slot}
+use Rattle.x7_part.specs.declared.slot.Slot.TheVariants.{Frame, Pad, End}
+use Rattle.x7_memory.specs.FrameMap.{FrameMap}
+use Rattle.x7_memory.specs.Planned.{PlanRow}
+use Rattle.x7_pipeline.specs.Runs.{slots_from}
+use Rattle.x7_pipeline.specs.FarAsRead.{has_frame_at}
+use Rattle.x7_pipeline.specs.Copies.{is_mfw}
+use Rattle.x7_pipeline.specs.Pipeline.{IsPipelineOf, PipelineData}
+
+-- ---- where the next frame is put
+
+abbrev pub address_of : Slot → Option ℕ
+address_of (Frame far) = Some far
+address_of Pad = None
+address_of End = None
+
+-- the slot of the newest whole frame
+abbrev pub newest_slot : PartData → PipelineData → Slot
+newest_slot part p = if p.frame_count == 0 then Pad else slice_index_or (slots_from part p.base) (p.frame_count - 1) End
+
+-- where the next word would put a frame: it completes one, and so the one before it goes to its slot
+abbrev pub put_by_word : PartData → PipelineData → Option ℕ
+put_by_word part p = if length p.rest + 1 == p.width then address_of (newest_slot part p) else None
+
+-- where a copy would put one
+abbrev pub put_by_copy : PartData → PipelineData → Option ℕ
+put_by_copy part p = if has_frame_at part p.base then Some p.base else None
+
+-- a pipeline takes copies: the command is MFW, and there is a source
+abbrev pub takes_copies : PipelineData → Bool
+takes_copies p = is_mfw p.command && is_some p.source
+
+-- where the next word, or under MFW the next copy, would put a frame
+abbrev pub next_put : PartData → PipelineData → Option ℕ
+next_put part p = if takes_copies p then put_by_copy part p else put_by_word part p
+
+-- ---- what is kept
+
+-- the frame of an address, as at most one pair
+abbrev pub pair_of_frame : ℕ → Option (List ℕ) → List PlanRow
+pair_of_frame far None = []
+pair_of_frame far (Some words) = record { far = far; words = words } ∷ []
+
+abbrev pub pair_at : FrameMap → Option ℕ → List PlanRow
+pair_at memory None = []
+pair_at memory (Some far) = pair_of_frame far (memory far)
+
+-- a pipeline, and at most one pair of an address and the frame that stood there
+pub record SavedState : Type 0 where
+  pub pipeline : PipelineData
+  pub pair : List PlanRow
+
+-- the pair as the fields hold it
+abbrev pub pair_held : Bool → ℕ → List ℕ → List PlanRow
+pair_held has_frame far words = if has_frame then record { far = far; words = words } ∷ [] else []
+
+-- a frame of the part at one of its addresses
+pub record IsPairOf (part : PartData) (row : PlanRow) : Type 0 where
+  pub address : Contains (addresses_in part) row.far
+  pub width : length row.words ≡ frame_words part
+
+-- it is one for pipelines and memories of the part
+pub record IsSavedOf (part : PartData) (s : SavedState) : Type 0 where
+  pub pipeline_fits : IsPipelineOf part s.pipeline
+  pub pair_fits : AllByRecursion (IsPairOf part) s.pair
+
+-- ---- taking back
+
+-- the new map has the frames of the old one at each address but this one, where there is one
+abbrev pub ChangesAt : Option ℕ → FrameMap → FrameMap → Type 0
+ChangesAt at old new = (far : ℕ) → (at ≡ Some far → ⊥) → new far ≡ old far

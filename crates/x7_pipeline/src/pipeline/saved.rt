@@ -1,0 +1,206 @@
+//! A pipeline as it stood, kept so that the next word or copy can be taken back.
+ghost use Rattle.std.specs.Prelude.{◌≡◌, ◌≤◌, true, length, vec_len, vec_capacity, Contains, IfOk, IfSome};
+ghost use Rattle.std.specs.List.{AllByRecursion};
+ghost use Rattle.x7_part.specs.AddressOrder.{addresses_in};
+ghost use Rattle.x7_memory.specs.FrameMap.{AreSame};
+ghost use Rattle.x7_memory.specs.Frames.{AreFramesOf, frame_at};
+ghost use Rattle.x7_pipeline.specs.Pipeline.{IsPipelineOf};
+ghost use Rattle.x7_pipeline.specs.Runs.{put_over};
+ghost use Rattle.x7_pipeline.specs.Saving.{IsPairOf, IsSavedOf, address_of, next_put, pair_at, put_by_copy, put_by_word};
+
+use super::{Pipeline, room_for};
+use crate::place::{is_base, slot_at};
+use std::alloc::Global;
+use std::marker::Model;
+use x7_memory::Memory;
+use x7_part::{Part, Slot};
+use x7_words::NoMemory;
+
+/// A pipeline as it stood, and the frame that stood where its next word or copy puts one.
+#[derive(Drop)]
+pub struct Saved {
+    pipeline: Pipeline,
+    has_frame: bool,
+    /// The address of the frame, where `has_frame`.
+    far: u32,
+    frame: Vec<u32>,
+}
+
+impl Model for Saved {
+    ghost use Rattle.std.specs.Prelude.{◌≤◌, vec_capacity};
+    ghost use Rattle.x7_pipeline.specs.Saving.{SavedState, pair_held};
+
+    ghost Value = { SavedState };
+
+    ghost view = { λ s. record { pipeline = s.pipeline; pair = pair_held s.has_frame s.far s.frame.items } };
+
+    ghost invariant = { λ s. s.pipeline.width ≤ vec_capacity s.frame };
+}
+
+/// The address of a slot.
+fn address(slot: Slot) -> Option<u32>
+    ensures { result ≡ address_of slot }
+{
+    match slot {
+        Slot::Frame(far) => Some(far),
+        Slot::Pad => None,
+        Slot::End => None,
+    }
+}
+
+/// Writes words over others, for which there is room.
+fn copy_words(words: &mut Vec<u32>, from: &[u32])
+    requires { length from.now ≤ vec_capacity words.old }
+    ensures items { words.new.items ≡ from.now }
+    ensures len { vec_len words.new ≡ length from.now }
+    ensures room { vec_capacity words.old ≤ vec_capacity words.new }
+{
+    words.clear();
+    match words.extend_from_slice(from) {
+        Ok(()) => (),
+        Err(_) => (),
+    }
+}
+
+/// The same where some words are kept.
+fn copy_some(words: &mut Vec<u32>, from: &[u32], some: bool)
+    requires { some ≡ true → length from.now ≤ vec_capacity words.old }
+    ensures items { some ≡ true → words.new.items ≡ from.now }
+    ensures len { some ≡ true → vec_len words.new ≡ length from.now }
+    ensures room { vec_capacity words.old ≤ vec_capacity words.new }
+{
+    if some {
+        copy_words(words, from);
+    }
+}
+
+impl Saved {
+    /// Room for a pipeline of this part and a frame. No other call takes memory.
+    pub fn new(alloc: Global, part: &Part) -> Result<Saved, NoMemory>
+        ensures { IfOk result (IsSavedOf part.now) }
+    {
+        let pipeline = Pipeline::new(alloc, part)?;
+        let frame = room_for(alloc, part.words())?;
+        Ok(Saved {
+            pipeline,
+            has_frame: false,
+            far: 0,
+            frame,
+        })
+    }
+
+    /// Keeps the frame of an address, where the memory has one.
+    fn keep_frame(&mut self, part: &Part, memory: &Memory, far: Option<u32>)
+        requires part { IsPipelineOf part.now self.old.pipeline }
+        requires memory { AreFramesOf part.now memory.now }
+        requires address { IfSome far (Contains (addresses_in part.now)) }
+        ensures pipeline { self.new.pipeline ≡ self.old.pipeline }
+        ensures pair { self.new.pair ≡ pair_at (frame_at part.now memory.now) far }
+        ensures fits { AllByRecursion (IsPairOf part.now) self.new.pair }
+    {
+        self.has_frame = false;
+        let Some(far) = far else {
+            return;
+        };
+        let Some(words) = memory.frame(part, far) else {
+            return;
+        };
+        copy_words(&mut self.frame, words);
+        self.far = far;
+        self.has_frame = true;
+    }
+
+    /// Puts the kept frame, where there is one.
+    fn put_frame(&self, part: &Part, memory: &mut Memory)
+        requires memory { AreFramesOf part.now memory.old }
+        requires fits { AllByRecursion (IsPairOf part.now) self.now.pair }
+        ensures put { AreSame (frame_at part.now memory.new) (put_over self.now.pair (frame_at part.now memory.old)) }
+        ensures memory { AreFramesOf part.now memory.new }
+    {
+        if self.has_frame {
+            memory.put(part, self.far, &self.frame);
+        }
+    }
+}
+
+impl Pipeline {
+    /// Makes it another one of the same part.
+    fn copy_from(&mut self, other: &Pipeline)
+        requires { self.old.width ≡ other.now.width }
+        ensures { self.new ≡ other.now }
+    {
+        self.far_width = other.far_width;
+        self.command = other.command;
+        self.base = other.base;
+        copy_words(&mut self.rest, &other.rest);
+        copy_some(&mut self.held, &other.held, other.frame_count > 0);
+        self.frame_count = other.frame_count;
+        copy_some(&mut self.source, &other.source, other.has_source);
+        self.has_source = other.has_source;
+        self.given = other.given;
+        self.slot = other.slot;
+    }
+
+    /// Where the next word would put a frame.
+    fn put_by_word(&self, part: &Part) -> Option<u32>
+        ensures value { result ≡ put_by_word part.now self.now }
+        ensures address { IfSome result (Contains (addresses_in part.now)) }
+    {
+        if self.rest.len() + 1 != self.width as usize {
+            return None;
+        }
+        if self.frame_count == 0 {
+            return None;
+        }
+        address(slot_at(part, self.base, self.frame_count - 1))
+    }
+
+    /// Where a copy would put one.
+    fn put_by_copy(&self, part: &Part) -> Option<u32>
+        ensures value { result ≡ put_by_copy part.now self.now }
+        ensures address { IfSome result (Contains (addresses_in part.now)) }
+    {
+        if is_base(part, self.base) {
+            Some(self.base)
+        } else {
+            None
+        }
+    }
+
+    /// Where the next word or copy would put a frame.
+    fn next_put(&self, part: &Part) -> Option<u32>
+        ensures value { result ≡ next_put part.now self.now }
+        ensures address { IfSome result (Contains (addresses_in part.now)) }
+    {
+        if self.may_copy() {
+            return self.put_by_copy(part);
+        }
+        self.put_by_word(part)
+    }
+
+    /// Keeps the pipeline and, where the next word or copy would put a frame, that address and its frame in the memory.
+    pub fn save(&self, part: &Part, memory: &Memory, into: &mut Saved)
+        requires part { IsPipelineOf part.now self.now }
+        requires memory { AreFramesOf part.now memory.now }
+        requires saved { IsSavedOf part.now into.old }
+        ensures pipeline { into.new.pipeline ≡ self.now }
+        ensures pair { into.new.pair ≡ pair_at (frame_at part.now memory.now) (next_put part.now self.now) }
+        ensures part { IsSavedOf part.now into.new }
+    {
+        into.pipeline.copy_from(self);
+        into.keep_frame(part, memory, self.next_put(part));
+    }
+
+    /// Makes it the kept pipeline, and puts the kept frame into the memory, where there is one. Every other frame stays.
+    pub fn restore(&mut self, part: &Part, memory: &mut Memory, from: &Saved)
+        requires part { IsPipelineOf part.now self.old }
+        requires memory { AreFramesOf part.now memory.old }
+        requires saved { IsSavedOf part.now from.now }
+        ensures pipeline { self.new ≡ from.now.pipeline }
+        ensures put { AreSame (frame_at part.now memory.new) (put_over from.now.pair (frame_at part.now memory.old)) }
+        ensures memory { AreFramesOf part.now memory.new }
+    {
+        self.copy_from(&from.pipeline);
+        from.put_frame(part, memory);
+    }
+}
