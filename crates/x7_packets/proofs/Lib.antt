@@ -13,3 +13,4 @@ pub mod UniqueLemmas
 pub mod SeamLemmas
 pub mod AppendedLemmas
 pub mod EndedLemmas
+pub mod AtOnceLemmas
