@@ -17,3 +17,4 @@ pub mod StandLemmas
 pub mod StreamLemmas
 pub mod TakeLemmas
 pub mod NearLemmas
+pub mod AtOnceLemmas

@@ -2,6 +2,7 @@
 #![tactic(auto)]
 
 mod assembler;
+mod at_once;
 mod bit_line;
 mod laws;
 mod line;
@@ -9,6 +10,7 @@ mod lines;
 mod lister;
 mod pen;
 mod reading;
+mod rows;
 #[cfg(test)]
 mod tests;
 

@@ -2,6 +2,7 @@
 ghost use Rattle.std.specs.Prelude.{◌≡◌, ℕ, ◌+◌, ◌*◌, ◌≤◌, List, [], ◌++◌, OnOk, OnErr, length, take, vec_len, vec_capacity};
 ghost use Rattle.x7_listing.specs.Telling.{Finished, ListerStandsFor, Rests, Tells};
 
+use crate::at_once::{put_idle, put_write};
 use crate::pen::{Pen, new_pen, put_end, put_run};
 use std::alloc::Global;
 use std::marker::Model;
@@ -17,6 +18,18 @@ fn take_all(text: &mut Vec<u8>, cutter: &mut Cutter, pen: Pen, piece: &[u8]) -> 
     let mut now = pen;
     let mut at = 0;
     loop {
+        let rest = &piece[at..];
+        let nops = cutter.nop_count(rest);
+        if nops > 0 {
+            now = put_idle(text, now, nops);
+            at += 4 * nops;
+            continue;
+        }
+        if let Some((register, w)) = cutter.take_write(rest) {
+            now = put_write(text, now, register, w);
+            at += 8;
+            continue;
+        }
         let run = cutter.cut(piece, &mut at);
         if let Cut::Need = run {
             return now;

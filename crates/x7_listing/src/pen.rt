@@ -52,7 +52,7 @@ fn in_gap(pen: Pen) -> Pen
 }
 
 /// A pen in a session, with this many words in the open line.
-fn in_session(line: usize) -> Pen
+pub(crate) fn in_session(line: usize) -> Pen
     requires { line < 8 }
     ensures synced { result.synced ≡ true }
     ensures line { result.line ≡ line }
@@ -66,7 +66,7 @@ fn in_session(line: usize) -> Pen
 }
 
 /// How many words stand in the open line of a session.
-fn session_line(pen: Pen) -> usize
+pub(crate) fn session_line(pen: Pen) -> usize
     ensures within { result < 8 }
     ensures line { pen.synced ≡ true → result ≡ pen.line }
 {

@@ -14,3 +14,4 @@ pub mod SeamLemmas
 pub mod AppendedLemmas
 pub mod EndedLemmas
 pub mod OnceLemmas
+pub mod AtOnceLemmas

@@ -75,7 +75,7 @@ nops_taken k bytes fits l e =
 
 -- ---- a machine in a header's place
 
-nop_grows : (m : MachineState) (ps : List Packet) → m.due ≡ 0 → MachineStandsFor m ps → Grows ps ((nop_word, Nop) ∷ []) m
+pub nop_grows : (m : MachineState) (ps : List Packet) → m.due ≡ 0 → MachineStandsFor m ps → Grows ps ((nop_word, Nop) ∷ []) m
 nop_grows m ps none (inl a) = header_whole m m ps nop_word Nop (omega arith) a refl refl refl none
 nop_grows m ps none (inr a) = absurd (omega (arith, none, a.more))
 

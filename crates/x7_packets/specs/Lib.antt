@@ -10,4 +10,5 @@ pub mod SyncWord
 pub mod Taking
 pub mod Nops
 pub mod Appended
+pub mod AtOnce
 pub mod Ended

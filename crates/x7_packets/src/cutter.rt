@@ -1,14 +1,15 @@
 //! A stream cut into its parts, in whatever pieces it comes.
-ghost use Rattle.std.specs.Prelude.{◌≡◌, ℕ, List, [], ◌∷◌, ◌++◌, ◌≤◌, ◌<◌, ◌+◌, ◌-◌, ◌*◌, ◌/◌, ◌%◌, ◌^◌, ◌↔◌, IsTrue, take, length, if◌then◌else◌};
+ghost use Rattle.std.specs.Prelude.{◌≡◌, ℕ, List, [], ◌∷◌, ◌++◌, ◌≤◌, ◌<◌, ◌+◌, ◌-◌, ◌*◌, ◌/◌, ◌%◌, ◌^◌, ◌↔◌, IfNone, IfSome, IsTrue, take, length, if◌then◌else◌};
 ghost use Rattle.x7_words.specs.Word.{bytes_of_word};
+ghost use Rattle.x7_packets.specs.AtOnce.{Takes, WritesOne};
 ghost use Rattle.x7_packets.specs.Cutting.{between, calls_left, CompletesNone, Cuts, CutterStandsFor, Goes, IsBody, IsLent, IsNeed, IsOneWord, IsRun, run_bytes, syncs_due, Went};
-ghost use Rattle.x7_packets.specs.Nops.{Idles};
+ghost use Rattle.x7_packets.specs.Nops.{Idles, nop_bytes, nop_word};
 ghost use Rattle.x7_packets.specs.Reading.{is_synced, Place, Session, tail_of};
 ghost use Rattle.x7_packets.specs.declared.cutter.Mode.TheVariants as mode;
 
 mod copied;
 
-use crate::header::Step;
+use crate::header::{Step, is_desync};
 use crate::machine::Machine;
 use crate::nops::count_nops;
 use crate::sync::Matcher;
@@ -141,6 +142,43 @@ impl Cutter {
             return 0;
         }
         4 * count_nops(rest)
+    }
+
+    /// How many of the words that come next are no-ops of a session, one after the other. To take each of them, as a word
+    /// in a header's place, leaves the cutter as it is.
+    #[inline(always)]
+    pub fn nop_count(&self, rest: &[u8]) -> usize
+        ensures within { 4 * result ≤ length rest.now }
+        ensures nops { take (4 * result) rest.now ≡ nop_bytes result }
+        ensures same { 0 < result → Takes self.now self.now (bytes_of_word nop_word) (Cut.Head nop_word Step.Nop) }
+    {
+        if !self.is_at_header() {
+            return 0;
+        }
+        count_nops(rest)
+    }
+
+    /// Takes the packet that comes next, where it lies whole in `rest` and is a write of one word that doesn't end the
+    /// session, its header's reserved bits 0. Gives its register and its word.
+    #[inline(always)]
+    pub fn take_write(&mut self, rest: &[u8]) -> Option<(u8, u32)>
+        ensures some { IfSome result (λ write. WritesOne self.old self.new rest.now write.0 write.1) }
+        ensures none { IfNone result (self.new ≡ self.old) }
+    {
+        if !self.is_at_header() {
+            return None;
+        }
+        let [a, b, c, d, e, f, g, h, ..] = rest else {
+            return None;
+        };
+        let head = word_of([*a, *b, *c, *d]);
+        let w = word_of([*e, *f, *g, *h]);
+        let register = (head >> 13 & 31) as u8;
+        if head != 0x3000_0001 + 8192 * u32::from(register) || is_desync(register, w) {
+            return None;
+        }
+        self.machine.pass_write(register, w);
+        Some((register, w))
     }
 
     /// Whether the next byte begins a word in a header's place.

@@ -3,8 +3,10 @@ ghost use Rattle.std.specs.Prelude.{◌≡◌, ◌≤◌, ◌+◌, ◌%◌, ◌+
 ghost use Rattle.x7_text.specs.Appends.{Appends};
 ghost use Rattle.x7_text.specs.Digits.{hex_digit, hex_byte, hex_word};
 
+use crate::block::hex_of_four;
 use crate::room::put;
 use itoa::Buffer;
+use x7_words::bytes_of;
 
 /// The digit of the low four bits.
 fn hex_of_low_bits(n: u32) -> u8
@@ -19,19 +21,11 @@ fn hex_of_low_bits(n: u32) -> u8
 }
 
 /// The eight upper-case digits of a word.
+#[inline(always)]
 pub fn hex_of_word(w: u32) -> [u8; 8]
     ensures { result ≡ hex_word w }
 {
-    [
-        hex_of_low_bits(w >> 28),
-        hex_of_low_bits(w >> 24),
-        hex_of_low_bits(w >> 20),
-        hex_of_low_bits(w >> 16),
-        hex_of_low_bits(w >> 12),
-        hex_of_low_bits(w >> 8),
-        hex_of_low_bits(w >> 4),
-        hex_of_low_bits(w),
-    ]
+    hex_of_four(&bytes_of(w))
 }
 
 /// The two upper-case digits of each byte.

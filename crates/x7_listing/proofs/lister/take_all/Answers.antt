@@ -1,10 +1,12 @@
-use Rattle.std.proofs.Common.{◌≡◌, ◌+◌, ◌-◌, ◌<◌, append-nil, arith, length}
-use Rattle.x7_packets.specs.Cutting.{calls_left, run_bytes}
+use Rattle.std.proofs.Common.{◌≡◌, ◌+◌, ◌-◌, ◌*◌, ◌<◌, ◌++◌, ap, append-nil, arith, drop, length, refl, subst, sym, take}
+use Rattle.x7_packets.specs.Cutting.{calls_left, CutterState, run_bytes}
+use Rattle.x7_listing.specs.Telling.{Tells}
+use Rattle.x7_listing.proofs.AtOnceLemmas.{rest_length, seam}
 use Rattle.x7_listing.proofs.TakeLemmas.{goes_less, goes_out, one_due, run_length, took, took_all}
 use Rattle.x7_listing.proofs.lister.take_all.Goals as goal
 
-pub loop-now-init : goal.loop-now-init
-loop-now-init c = record {
+pub loop-rest-init : goal.loop-rest-init
+loop-rest-init c = record {
   within = omega arith;
   room = omega (arith, one_due c.args.cutter.now.mode, c.requires);
   tells = λ given before bytes s. rw append-nil s;
@@ -14,20 +16,50 @@ pub returns-in-Need : goal.returns-in-Need
 returns-in-Need c = record {
   rests = λ given before bytes s.
       let used = goes_out _ _ _ _ c.in-Need.is c.cut-run.ensures.goes in
-      took_all _ _ _ _ _ _ _ _ _ given before bytes c.args.piece.now (c.loop-now.invariant.tells given before bytes s) c.cut-run.ensures.forward (omega (arith, used)) c.in-Need.is c.cut-run.ensures.adds;
+      let same : c.take_write.new.self ≡ c.loop-rest.cutter = c.in_default.ensures.none in
+      took_all _ _ _ _ _ _ _ _ _ given before bytes c.args.piece.now (subst (λ (k : CutterState). Tells k c.loop-rest.now.synced c.loop-rest.now.line (take c.loop-rest.now.count c.loop-rest.now.held) c.loop-rest.text.items given before (bytes ++ take c.loop-rest.at c.args.piece.now)) (sym same) (c.loop-rest.invariant.tells given before bytes s)) c.cut-run.ensures.forward (omega (arith, used)) c.in-Need.is c.cut-run.ensures.adds;
 }
 
 pub put_run-now-requires : goal.put_run-now-requires
 put_run-now-requires c =
-    let long : length c.loop-now.cutter.kept + (c.cut-run.new.at - c.loop-now.at) ≡ length (run_bytes c.cut-run.result) + length c.cut-run.new.self.kept = run_length _ _ _ c.args.piece.now _ _ c.cut-run.ensures.forward c.cut-run.ensures.within c.cut-run.ensures.joined in
-    record { run = c.cut-run.ensures.run; room = omega (arith, long, c.cut-run.ensures.within, c.cut-run.ensures.forward, c.loop-now.invariant.room) }
+    let same : c.take_write.new.self ≡ c.loop-rest.cutter = c.in_default.ensures.none in
+    let long : length c.take_write.new.self.kept + (c.cut-run.new.at - c.loop-rest.at) ≡ length (run_bytes c.cut-run.result) + length c.cut-run.new.self.kept = run_length _ _ _ c.args.piece.now _ _ c.cut-run.ensures.forward c.cut-run.ensures.within c.cut-run.ensures.joined in
+    record { run = c.cut-run.ensures.run; room = omega (arith, long, ap (λ (k : CutterState). length k.kept) same, c.cut-run.ensures.within, c.cut-run.ensures.forward, c.loop-rest.invariant.room) }
 
-pub loop-now-preserved : goal.loop-now-preserved
-loop-now-preserved c =
-    let long : length c.loop-now.cutter.kept + (c.cut-run.new.at - c.loop-now.at) ≡ length (run_bytes c.cut-run.result) + length c.cut-run.new.self.kept = run_length _ _ _ c.args.piece.now _ _ c.cut-run.ensures.forward c.cut-run.ensures.within c.cut-run.ensures.joined in
-    let less : calls_left c.cut-run.new.self (length c.args.piece.now - c.cut-run.new.at) < calls_left c.loop-now.cutter (length c.args.piece.now - c.loop-now.at) = goes_less _ _ _ _ c.in_default.not-Need c.cut-run.ensures.goes in
+pub loop-rest-preserved : goal.loop-rest-preserved
+loop-rest-preserved c =
+    let same : c.take_write.new.self ≡ c.loop-rest.cutter = c.in_default.ensures.none in
+    let long : length c.take_write.new.self.kept + (c.cut-run.new.at - c.loop-rest.at) ≡ length (run_bytes c.cut-run.result) + length c.cut-run.new.self.kept = run_length _ _ _ c.args.piece.now _ _ c.cut-run.ensures.forward c.cut-run.ensures.within c.cut-run.ensures.joined in
+    let less : calls_left c.cut-run.new.self (length c.args.piece.now - c.cut-run.new.at) < calls_left c.take_write.new.self (length c.args.piece.now - c.loop-rest.at) = goes_less _ _ _ _ c.in_default-run.not-Need c.cut-run.ensures.goes in
+    let calls : calls_left c.take_write.new.self (length c.args.piece.now - c.loop-rest.at) ≡ calls_left c.loop-rest.cutter (length c.args.piece.now - c.loop-rest.at) = ap (λ (k : CutterState). calls_left k (length c.args.piece.now - c.loop-rest.at)) same in
     record {
       within = c.cut-run.ensures.within;
-      room = omega (arith, long, less, c.cut-run.ensures.within, c.cut-run.ensures.forward, c.loop-now.invariant.room, c.put_run-now.ensures.len, c.put_run-now.ensures.room);
-      tells = λ given before bytes s. took _ _ _ _ _ _ _ _ _ _ _ _ _ given before bytes c.args.piece.now (c.loop-now.invariant.tells given before bytes s) c.cut-run.ensures.forward c.cut-run.ensures.adds c.cut-run.ensures.run (c.put_run-now.ensures.told given);
+      room = omega (arith, long, less, calls, ap (λ (k : CutterState). length k.kept) same, c.cut-run.ensures.within, c.cut-run.ensures.forward, c.loop-rest.invariant.room, c.put_run-now.ensures.len, c.put_run-now.ensures.room);
+      tells = λ given before bytes s.
+          took _ _ _ _ _ _ _ _ _ _ _ _ _ given before bytes c.args.piece.now (subst (λ (k : CutterState). Tells k c.loop-rest.now.synced c.loop-rest.now.line (take c.loop-rest.now.count c.loop-rest.now.held) c.loop-rest.text.items given before (bytes ++ take c.loop-rest.at c.args.piece.now)) (sym same) (c.loop-rest.invariant.tells given before bytes s)) c.cut-run.ensures.forward c.cut-run.ensures.adds c.cut-run.ensures.run (c.put_run-now.ensures.told given);
+    }
+
+pub loop-rest-preserved-then-nops-gt0 : goal.loop-rest-preserved-then-nops-gt0
+loop-rest-preserved-then-nops-gt0 c =
+    let left : length (take (length c.args.piece.now - c.loop-rest.at) (drop c.loop-rest.at c.args.piece.now)) ≡ length c.args.piece.now - c.loop-rest.at = rest_length c.args.piece.now c.loop-rest.at c.loop-rest.invariant.within in
+    record {
+      within = omega (arith, left, c.nop_count-nops.ensures.within, c.loop-rest.invariant.within);
+      room = omega (arith, left, c.nop_count-nops.ensures.within, c.if-nops-gt0.true, c.loop-rest.invariant.within, c.loop-rest.invariant.room, c.put_idle-now.ensures.len, c.put_idle-now.ensures.room);
+      tells = λ given before bytes s.
+          subst (Tells c.loop-rest.cutter c.put_idle-now.result.synced c.put_idle-now.result.line (take c.put_idle-now.result.count c.put_idle-now.result.held) c.put_idle-now.new.text.items given before)
+          (seam c.args.piece.now bytes _ c.loop-rest.at (4 * c.nop_count-nops.result) c.loop-rest.invariant.within c.nop_count-nops.ensures.nops)
+          (c.put_idle-now.ensures.told c.loop-rest.cutter given before (bytes ++ take c.loop-rest.at c.args.piece.now) (c.nop_count-nops.ensures.same c.if-nops-gt0.true) (c.loop-rest.invariant.tells given before bytes s));
+    }
+
+pub loop-rest-preserved-in-Some : goal.loop-rest-preserved-in-Some
+loop-rest-preserved-in-Some c =
+    let write = c.in-Some.ensures.some in
+    let left : length (take (length c.args.piece.now - c.loop-rest.at) (drop c.loop-rest.at c.args.piece.now)) ≡ length c.args.piece.now - c.loop-rest.at = rest_length c.args.piece.now c.loop-rest.at c.loop-rest.invariant.within in
+    record {
+      within = omega (arith, left, write.whole, c.loop-rest.invariant.within);
+      room = omega (arith, left, write.whole, ap length write.none_kept, one_due c.take_write.new.self.mode, c.loop-rest.invariant.within, c.loop-rest.invariant.room, c.put_write-now.ensures.len, c.put_write-now.ensures.room);
+      tells = λ given before bytes s.
+          subst (Tells c.take_write.new.self c.put_write-now.result.synced c.put_write-now.result.line (take c.put_write-now.result.count c.put_write-now.result.held) c.put_write-now.new.text.items given before)
+          (seam c.args.piece.now bytes _ c.loop-rest.at 8 c.loop-rest.invariant.within refl)
+          (c.put_write-now.ensures.told c.loop-rest.cutter c.take_write.new.self _ given before (bytes ++ take c.loop-rest.at c.args.piece.now) write (c.loop-rest.invariant.tells given before bytes s));
     }

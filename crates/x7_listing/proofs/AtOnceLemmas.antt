@@ -1,0 +1,173 @@
+-- Lemmas on specs/AtOnce, and what a lister stands for after what it tells at once.
+use Rattle.std.proofs.Common.{◌≡◌, ℕ, zero, suc, ◌+◌, ◌*◌, ◌%◌, ◌^◌, ◌-◌, ◌<◌, ◌≤◌, ◌==◌, Bool, true, false, List, [], ◌∷◌, ◌++◌, codes, get_or, length, drop, take, take-add, take_all, length-drop, replicate, refl, ap, sym, subst, ◌∙◌, append_assoc, append-nil, arith, Vec}
+use Rattle.std.proofs.lemmas.Bool.Decides.{nat_tests}
+use Rattle.std.proofs.lemmas.Fmt.{decimal_digit}
+use Rattle.std.proofs.lemmas.List.{length-take-le}
+use Rattle.std.specs.List.{flat_map}
+use Rattle.std.specs.declared.alloc.Global.{Global}
+use Rattle.x7_words.specs.Word.{bytes_of_word}
+use Rattle.x7_packets.specs.AtOnce.{Takes, WritesOne, write_head}
+use Rattle.x7_packets.specs.Cutting.{CutterState, IsRun, Went}
+use Rattle.x7_packets.specs.Nops.{nop_bytes, nop_word}
+use Rattle.x7_packets.specs.Packet.{payload_steps, register_of}
+use Rattle.x7_packets.specs.declared.cutter.Cut.{Cut}
+use Rattle.x7_packets.specs.declared.cutter.Cut.TheVariants.{Head, Word}
+use Rattle.x7_packets.specs.declared.header.Step.TheVariants.{Nop, Open}
+use Rattle.x7_text.specs.Appends.{Appends}
+use Rattle.x7_text.specs.Digits.{hex_word}
+use Rattle.x7_text.specs.Row.{close}
+use Rattle.x7_regs.specs.Register.{reg_name}
+use Rattle.x7_listing.specs.declared.line.HeadLine.TheVariants.{Write}
+use Rattle.x7_listing.specs.AtOnce.{AreRows, command_lines, nop_lines, row_text, write_line, write_start}
+use Rattle.x7_listing.specs.HeadLine.{best_line, command_line, head_text, line_text}
+use Rattle.x7_listing.specs.Telling.{Tells, words_place, words_told, Writes}
+use Rattle.x7_listing.proofs.RunLemmas.{by_head, by_word}
+use Rattle.x7_listing.proofs.SessionLemmas.{data_told, is_data}
+
+-- ---- texts
+
+pub row_at : (text : ℕ → List ℕ) (n : ℕ) (rows : List (List ℕ)) (k m : ℕ) (d : List ℕ) → AreRows text n rows → k < length rows → m ≡ n + k → row_text (get_or rows k d) ≡ text m
+row_at text n [] k m d a h e = absurd (omega (arith, h))
+row_at text n (row ∷ rows) zero m d a h e = let f : n ≡ m = omega (arith, e) in a.0 ∙ ap text f
+row_at text n (row ∷ rows) (suc k) m d a h e = row_at text (suc n) rows k m d a.1 (omega (arith, h)) (omega (arith, e))
+
+pub nop_block : (n : ℕ) → flat_map (λ x. x) (replicate n (codes "nop\n")) ≡ nop_lines n
+nop_block zero = refl
+nop_block (suc n) = ap (λ t. codes "nop\n" ++ t) (nop_block n)
+
+pub nop_front : (n k : ℕ) → k ≤ n → take (4 * k) (nop_lines n) ≡ nop_lines k
+nop_front n zero h = refl
+nop_front zero (suc k) h = absurd (omega (arith, h))
+nop_front (suc n) (suc k) h =
+    let four : 4 * suc k ≡ suc (suc (suc (suc (4 * k)))) = omega arith in
+    ap (λ (m : ℕ). take m (codes "nop\n" ++ nop_lines n)) four ∙ ap (λ t. codes "nop\n" ++ t) (nop_front n k (omega (arith, h)))
+
+pub nop_lines-add : (m n : ℕ) → nop_lines (m + n) ≡ nop_lines m ++ nop_lines n
+nop_lines-add zero n = let e : 0 + n ≡ n = omega arith in ap nop_lines e
+nop_lines-add (suc m) n =
+    let e : suc m + n ≡ suc (m + n) = omega arith in
+    ap nop_lines e ∙ ap (λ t. codes "nop\n" ++ t) (nop_lines-add m n)
+
+pub nops_more : (t0 t1 t2 : Vec ℕ Global) (m n k : ℕ) → Appends t0 t1 (nop_lines m) (4 * m) → Appends t1 t2 (nop_lines n) (4 * n) → k ≡ m + n → Appends t0 t2 (nop_lines k) (4 * k)
+nops_more t0 t1 t2 m n k a b e =
+    record {
+      items = b.items ∙ ap (λ t. t ++ nop_lines n) a.items ∙ append_assoc t0.items (nop_lines m) (nop_lines n) ∙ ap (λ t. t0.items ++ t) (sym (nop_lines-add m n) ∙ ap nop_lines (sym e));
+      within = omega (arith, a.within, b.within, e);
+      room = omega (arith, a.room, b.room);
+    }
+
+-- the header's line
+pub write_line-is : (register : ℕ) → register < 32 → head_text (Open register 1) (write_head register) ≡ write_line register
+write_line-is register h =
+    let nop : (write_head register == 0x20000000) ≡ false = grind (arith, nat_tests) in
+    let sync : (write_head register == 0xAA995566) ≡ false = grind (arith, nat_tests) in
+    let named : register_of (write_head register) ≡ register = omega arith in
+    let count : write_head register % 2 ^ 11 ≡ 1 = omega arith in
+    let same : (write_head register == 0x30000000 + 8192 * register + 1) ≡ true = grind (arith, nat_tests) in
+    let line : best_line (write_head register) ≡ Write register 1 = rw (nop, sync, named, count, same) refl in
+    ap line_text line ∙ ap (λ t. codes "write " ++ reg_name register ++ 32 ∷ t ++ 10 ∷ []) (decimal_digit 1 (omega arith)) ∙ append_assoc (codes "write " ++ reg_name register) (32 ∷ 49 ∷ []) (10 ∷ [])
+
+-- a write to CMD of a word that no row has
+pub far_command_appends : (t0 t1 t2 : Vec ℕ Global) (w : ℕ) → Appends t0 t1 (close 0 ++ head_text (Open 4 1) (write_head 4)) 48 → Appends t1 t2 (close 0 ++ command_line w) 48 → Appends t0 t2 (command_lines w) 96
+far_command_appends t0 t1 t2 w a b =
+    record {
+      items = b.items ∙ ap (λ t. t ++ command_line w) a.items ∙ append_assoc t0.items (head_text (Open 4 1) (write_head 4)) (command_line w) ∙ ap (λ t. t0.items ++ (t ++ command_line w)) (write_line-is 4 (omega arith));
+      within = omega (arith, a.within, b.within);
+      room = omega (arith, a.room, b.room);
+    }
+
+-- a write to CMD
+pub command_appends : (t0 t1 t2 : Vec ℕ Global) (line register w : ℕ) → register ≡ 4 → Appends t0 t1 (close line) 1 → Appends t1 t2 (command_lines w) 96
+    → Appends t0 t2 (close line ++ head_text (Open register 1) (write_head register) ++ words_told 0 (payload_steps register (w ∷ []))) 97
+command_appends t0 t1 t2 line register w e a b =
+    subst (λ (r : ℕ). Appends t0 t2 (close line ++ head_text (Open r 1) (write_head r) ++ words_told 0 (payload_steps r (w ∷ []))) 97) (sym e)
+    (record {
+      items = b.items ∙ ap (λ t. t ++ command_lines w) a.items ∙ append_assoc t0.items (close line) (command_lines w)
+          ∙ ap (λ t. t0.items ++ t) (sym (append_assoc (close line) (write_line 4) (command_line w)) ∙ ap (λ t. close line ++ t ++ command_line w) (sym (write_line-is 4 (omega arith))) ∙ ap (λ t. close line ++ head_text (Open 4 1) (write_head 4) ++ t) (sym (append-nil (command_line w))));
+      within = omega (arith, a.within, b.within);
+      room = omega (arith, a.room, b.room);
+    })
+
+-- a write to another register
+pub data_appends : (t0 t1 t2 t3 : Vec ℕ Global) (line register w : ℕ) (row digits : List ℕ) → register < 32 → (register ≡ 4 → ⊥) → row_text row ≡ write_start register → digits ≡ hex_word w
+    → Appends t0 t1 (close line) 1 → Appends t1 t2 (row_text row) 32 → Appends t2 t3 digits (length digits)
+    → Appends t0 t3 (close line ++ head_text (Open register 1) (write_head register) ++ words_told 0 (payload_steps register (w ∷ []))) 97
+data_appends t0 t1 t2 t3 line register w row digits h n e f a b c =
+    let H : List ℕ = write_line register in
+    let told : words_told 0 (payload_steps register (w ∷ [])) ≡ codes "data " ++ hex_word w =
+    data_told register 0 (w ∷ []) (is_data register n) ∙ append-nil _ ∙ ap (λ t. codes "data" ++ t) (append-nil (32 ∷ hex_word w)) in
+    record {
+      items = c.items ∙ ap (λ t. t ++ digits) b.items ∙ ap (λ t. (t1.items ++ t) ++ digits) e ∙ ap (λ t. (t1.items ++ write_start register) ++ t) f ∙ ap (λ t. (t ++ write_start register) ++ hex_word w) a.items
+          ∙ append_assoc (t0.items ++ close line) (write_start register) (hex_word w) ∙ append_assoc t0.items (close line) (write_start register ++ hex_word w)
+          ∙ ap (λ t. t0.items ++ t) (ap (λ t. close line ++ t) (append_assoc H (codes "data ") (hex_word w)) ∙ sym (append_assoc (close line) H (codes "data " ++ hex_word w)) ∙ ap (λ t. close line ++ t ++ (codes "data " ++ hex_word w)) (sym (write_line-is register h)) ∙ ap (λ t. close line ++ head_text (Open register 1) (write_head register) ++ t) (sym told));
+      within = omega (arith, a.within, b.within, c.within, ap length f);
+      room = omega (arith, a.room, b.room, c.room);
+    }
+
+-- ---- what a lister stands for
+
+took_run : (c d : CutterState) (run : Cut) (synced s2 : Bool) (line l2 : ℕ) (held h2 text text2 given before bytes taken : List ℕ)
+    → Tells c synced line held text given before bytes → Takes c d taken run → IsRun run → Writes run synced line held (given ++ text) s2 l2 h2 (given ++ text2) → Tells d s2 l2 h2 text2 given before (bytes ++ taken)
+took_run c d run synced s2 line l2 held h2 text text2 given before bytes taken s takes is writes =
+    let w : Went c d (bytes ++ taken) s.sessions s.at run = takes bytes s.sessions s.at s.cut in
+    record {
+      sessions = w.new_sessions;
+      at = w.new_place;
+      cut = w.stands;
+      told = writes before (bytes ++ taken) s.sessions w.new_sessions s.at w.new_place c.mode d.mode s.told w.adds w.turns is w.stands.reading;
+    }
+
+one_nop : (c : CutterState) (synced s2 : Bool) (line l2 from : ℕ) (held h2 text text2 given before bytes : List ℕ) → Takes c c (bytes_of_word nop_word) (Head nop_word Nop) → (synced ≡ true → from ≡ line) → s2 ≡ true → l2 ≡ 0
+    → text2 ≡ text ++ (close from ++ codes "nop\n") → Tells c synced line held text given before bytes → Tells c s2 l2 h2 text2 given before (bytes ++ bytes_of_word nop_word)
+one_nop c synced s2 line l2 from held h2 text text2 given before bytes takes same e f t s =
+    took_run c c (Head nop_word Nop) synced s2 line l2 held h2 text text2 given before bytes (bytes_of_word nop_word) s takes tt
+    (by_head (Head nop_word Nop) synced s2 line l2 from held h2 given text text2 nop_word Nop refl same e f t)
+
+-- no-ops behind a line that has its end
+more_nops : (n : ℕ) (c : CutterState) (line : ℕ) (held text text2 given before bytes : List ℕ) → Takes c c (bytes_of_word nop_word) (Head nop_word Nop) → line ≡ 0 → text2 ≡ text ++ nop_lines n
+    → Tells c true line held text given before bytes → Tells c true line held text2 given before (bytes ++ nop_bytes n)
+more_nops zero c line held text text2 given before bytes takes f t s =
+    let same : text ≡ text2 = sym (t ∙ append-nil text) in
+    subst (λ (x : List ℕ). Tells c true line held x given before (bytes ++ [])) same (subst (Tells c true line held text given before) (sym (append-nil bytes)) s)
+more_nops (suc n) c line held text text2 given before bytes takes f t s =
+    let next : List ℕ = text ++ codes "nop\n" in
+    let one : Tells c true line held next given before (bytes ++ bytes_of_word nop_word) = one_nop c true true line line 0 held held text next given before bytes takes (λ e. sym f) refl f refl s in
+    let all : Tells c true line held text2 given before ((bytes ++ bytes_of_word nop_word) ++ nop_bytes n) =
+    more_nops n c line held next text2 given before (bytes ++ bytes_of_word nop_word) takes f (t ∙ sym (append_assoc text (codes "nop\n") (nop_lines n))) one in
+    subst (Tells c true line held text2 given before) (append_assoc bytes (bytes_of_word nop_word) (nop_bytes n)) all
+
+pub idle_told : (n : ℕ) (c : CutterState) (synced s2 : Bool) (line l2 from : ℕ) (held h2 text text1 text2 given before bytes : List ℕ) → 0 < n → Takes c c (bytes_of_word nop_word) (Head nop_word Nop) → (synced ≡ true → from ≡ line) → s2 ≡ true → l2 ≡ 0
+    → text1 ≡ text ++ close from → text2 ≡ text1 ++ nop_lines n → Tells c synced line held text given before bytes → Tells c s2 l2 h2 text2 given before (bytes ++ nop_bytes n)
+idle_told zero c synced s2 line l2 from held h2 text text1 text2 given before bytes some takes same e f a b s = absurd (omega (arith, some))
+idle_told (suc n) c synced s2 line l2 from held h2 text text1 text2 given before bytes some takes same e f a b s =
+    let next : List ℕ = text ++ (close from ++ codes "nop\n") in
+    let one : Tells c true l2 h2 next given before (bytes ++ bytes_of_word nop_word) = one_nop c synced true line l2 from held h2 text next given before bytes takes same refl f refl s in
+    let all : Tells c true l2 h2 text2 given before ((bytes ++ bytes_of_word nop_word) ++ nop_bytes n) =
+    more_nops n c l2 h2 next text2 given before (bytes ++ bytes_of_word nop_word) takes f
+    (b ∙ ap (λ t. t ++ (codes "nop\n" ++ nop_lines n)) a ∙ sym (append_assoc (text ++ close from) (codes "nop\n") (nop_lines n)) ∙ ap (λ t. t ++ nop_lines n) (append_assoc text (close from) (codes "nop\n"))) one in
+    subst (λ (x : Bool). Tells c x l2 h2 text2 given before (bytes ++ nop_bytes (suc n))) (sym e) (subst (Tells c true l2 h2 text2 given before) (append_assoc bytes (bytes_of_word nop_word) (nop_bytes n)) all)
+
+pub write_told : (c d : CutterState) (synced s2 : Bool) (line l2 from register w : ℕ) (held h2 text text2 given before bytes rest : List ℕ) → WritesOne c d rest register w → (synced ≡ true → from ≡ line) → s2 ≡ true
+    → l2 ≡ words_place 0 (payload_steps register (w ∷ [])) → text2 ≡ text ++ (close from ++ head_text (Open register 1) (write_head register) ++ words_told 0 (payload_steps register (w ∷ [])))
+    → Tells c synced line held text given before bytes → Tells d s2 l2 h2 text2 given before (bytes ++ take 8 rest)
+write_told c d synced s2 line l2 from register w held h2 text text2 given before bytes rest x same e f t s =
+    let H : List ℕ = head_text (Open register 1) (write_head register) in
+    let D : List ℕ = words_told 0 (payload_steps register (w ∷ [])) in
+    let head : List ℕ = bytes_of_word (write_head register) in
+    let next : List ℕ = text ++ (close from ++ H) in
+    let one : Tells x.between true 0 [] next given before (bytes ++ head) =
+    took_run c x.between (Head (write_head register) (Open register 1)) synced true line 0 held [] text next given before bytes head s x.head tt
+    (by_head (Head (write_head register) (Open register 1)) synced true line 0 from held [] given text next (write_head register) (Open register 1) refl same refl refl refl) in
+    let two : Tells d s2 l2 h2 text2 given before ((bytes ++ head) ++ bytes_of_word w) =
+    took_run x.between d (Word register w) true s2 0 l2 [] h2 next text2 given before (bytes ++ head) (bytes_of_word w) one x.word x.range
+    (by_word (Word register w) true s2 0 l2 0 [] h2 given next text2 register w refl (λ k. refl) e f (t ∙ sym (append_assoc text (close from ++ H) D))) in
+    subst (Tells d s2 l2 h2 text2 given before) (append_assoc bytes head (bytes_of_word w) ∙ ap (λ k. bytes ++ k) (sym x.bytes)) two
+
+-- the bytes that are left of a piece, and some of them behind those before
+pub rest_length : (piece : List ℕ) (at : ℕ) → at ≤ length piece → length (take (length piece - at) (drop at piece)) ≡ length piece - at
+rest_length piece at h = length-take-le (length piece - at) (drop at piece) (omega (arith, length-drop at piece))
+
+pub seam : (piece bytes taken : List ℕ) (at k : ℕ) → at ≤ length piece → take k (take (length piece - at) (drop at piece)) ≡ taken → (bytes ++ take at piece) ++ taken ≡ bytes ++ take (at + k) piece
+seam piece bytes taken at k h e =
+    let rest : take (length piece - at) (drop at piece) ≡ drop at piece = take_all (length piece - at) (drop at piece) (omega (arith, length-drop at piece)) in
+    append_assoc bytes (take at piece) taken ∙ ap (λ t. bytes ++ t) (ap (λ t. take at piece ++ t) (sym e ∙ ap (take k) rest) ∙ sym (take-add at k piece))

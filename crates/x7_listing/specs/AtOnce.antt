@@ -1,0 +1,32 @@
+-- The lines of packets that are told at once: no-ops in a row, and a write of one word (this project's choice).
+use Rattle.std.specs.Prelude.{◌≡◌, ℕ, zero, suc, List, [], ◌∷◌, ◌++◌, codes, get_or, take}
+use Rattle.x7_packets.specs.Nops.{nop_word}
+use Rattle.x7_packets.specs.declared.header.Step.TheVariants.{Nop}
+use Rattle.x7_regs.specs.Register.{reg_name}
+use Rattle.x7_listing.specs.HeadLine.{command_line, head_text}
+
+-- the lines of so many no-ops
+abbrev pub nop_lines : ℕ → List ℕ
+nop_lines zero = []
+nop_lines (suc n) = head_text Nop nop_word ++ nop_lines n
+
+-- the line of the header of a write of one word
+abbrev pub write_line : ℕ → List ℕ
+write_line register = codes "write " ++ reg_name register ++ codes " 1\n"
+
+-- the lines of a write of one word, up to the word's digits
+abbrev pub write_start : ℕ → List ℕ
+write_start register = write_line register ++ codes "data "
+
+-- the lines of a write of a word to CMD
+abbrev pub command_lines : ℕ → List ℕ
+command_lines w = write_line 4 ++ command_line w
+
+-- a row of 32 bytes, of which the last says how many of the first are a text
+abbrev pub row_text : List ℕ → List ℕ
+row_text row = take (get_or row 31 0) row
+
+-- the rows are those of the numbers from n up
+abbrev pub AreRows : (ℕ → List ℕ) → ℕ → List (List ℕ) → Type 0
+AreRows text n [] = Unit {0}
+AreRows text n (row ∷ rows) = (row_text row ≡ text n) × AreRows text (suc n) rows
