@@ -1,5 +1,5 @@
 -- What stops a device comes at the last position alone.
-use Rattle.std.proofs.Common.{◌≡◌, ◌⊎◌, inl, inr, ℕ, zero, suc, ◌+◌, ◌-◌, ◌<◌, ◌≤◌, Bool, true, false, List, ◌++◌, length, take, drop, Option, Some, None, refl, ap, sym, subst, ◌∙◌, arith}
+use Rattle.std.proofs.Common.{◌≡◌, inl, inr, ℕ, ◌<◌, ◌≤◌, Bool, true, false, List, ◌++◌, length, take, drop, Option, Some, None, refl, ap, sym, subst, ◌∙◌, arith}
 use Rattle.std.proofs.lemmas.Bool.{cases_order}
 use Rattle.std.proofs.lemmas.List.{length-take-le, take-append-drop}
 use Rattle.x7_words.specs.Word.{AreBytes}
@@ -9,7 +9,7 @@ use Rattle.x7_packets.specs.Reading.{is_synced as ends_synced}
 use Rattle.x7_part.specs.Part.{PartData}
 use Rattle.x7_engine.specs.declared.stop.Stop.{Stop as Line}
 use Rattle.x7_engine.specs.Kept.{on_the_bench}
-use Rattle.x7_engine.specs.State.{end_by, line_by, state_of, stop_in}
+use Rattle.x7_engine.specs.State.{end_by, line_by, stop_in}
 use Rattle.x7_engine.specs.Stops.{Stopped}
 use Rattle.x7_engine.proofs.StateLemmas.{stop_is_final-stop, stop_place}
 use Rattle.x7_debug.specs.declared.order.Stop.TheVariants as stop

@@ -4,3 +4,4 @@ pub mod PositionLemmas
 pub mod ScriptLemmas
 pub mod TranscriptLemmas
 pub mod UniqueLemmas
+pub mod JournalLemmas

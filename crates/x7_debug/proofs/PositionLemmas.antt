@@ -16,7 +16,7 @@ use Rattle.x7_engine.proofs.StateLemmas.{stop_is_final-stop, stop_place}
 use Rattle.x7_debug.specs.declared.order.Stop.{Stop}
 use Rattle.x7_engine.specs.declared.regs.Regs.{Regs}
 use Rattle.x7_debug.specs.Position.{holds_at, holds_in, last_of, until_of}
-use Rattle.x7_debug.specs.Session.{IsSession, SessionState, StandsAt}
+use Rattle.x7_debug.specs.Session.{StandsAt}
 use Rattle.x7_debug.proofs.FeedLemmas.{taken-all, taken-stopped, taken-within}
 
 pub last-within : (part : PartData) (stream : List ℕ) → AreBytes stream → last_of part stream ≤ length stream
@@ -71,16 +71,9 @@ played part stream d fits stands due =
 pub own : (part : PartData) (stream : List ℕ) (d : DeviceState) (n : ℕ) → StandsAt part stream d n → StandsAt d.part stream d d.taken
 own part stream d n s = subst (λ p. StandsAt p stream d d.taken) (sym s.stands.part_is) (subst (λ (k : ℕ). StandsAt part stream d k) (sym s.taken) s)
 
-pub kept : (part : PartData) (stream : List ℕ) (d : DeviceState) (n last : ℕ) → last ≡ last_of part stream → StandsAt part stream d n → IsSession d stream last
-kept part stream d n last e s = record { stands = own part stream d n s; last_is = e ∙ ap (λ p. last_of p stream) (sym s.stands.part_is) }
-
 -- a device that stands at a position of a stream has taken so many bytes
 pub by-taken : (part : PartData) (stream : List ℕ) (d : DeviceState) (n : ℕ) → StandsAt part stream d n → StandsAt part stream d d.taken
 by-taken part stream d n s = subst (λ (k : ℕ). StandsAt part stream d k) (sym s.taken) s
-
--- what is seen of a session
-pub seen : (part : PartData) (stream : List ℕ) (d : DeviceState) (n : ℕ) → d.part ≡ part → d.taken ≡ n → ◌≡◌ {A = SessionState} (record { part = d.part; stream = stream; at = d.taken }) (record { part = part; stream = stream; at = n })
-seen part stream d n p t = ap (λ (q : PartData). record { part = q; stream = stream; at = d.taken }) p ∙ ap (λ (k : ℕ). record { part = part; stream = stream; at = k }) t
 
 -- ---- the least later position
 

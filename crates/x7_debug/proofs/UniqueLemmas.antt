@@ -1,12 +1,11 @@
 -- A line is that of one order at most, and a text comes to one script, or to one bad line.
-use Rattle.std.proofs.Common.{◌≡◌, ◌⊎◌, inl, inr, ℕ, suc, ◌+◌, ◌*◌, ◌-◌, ◌^◌, ◌<◌, ◌==◌, if◌then◌else◌, Bool, true, false, List, [], ◌∷◌, ◌++◌, Result, Ok, Err, length, map, get_or, drop, cond, refl, ap, sym, subst, ◌∙◌, arith, rules, codes}
+use Rattle.std.proofs.Common.{◌≡◌, ◌⊎◌, inl, inr, ℕ, suc, ◌+◌, ◌*◌, ◌-◌, ◌^◌, ◌<◌, ◌==◌, if◌then◌else◌, Bool, true, List, [], ◌∷◌, ◌++◌, Result, Ok, Err, length, map, get_or, drop, cond, refl, ap, sym, ◌∙◌, arith, rules}
 use Rattle.std.proofs.lemmas.Fmt.{digits_value-decimal}
 use Rattle.std.proofs.lemmas.Str.Parse.{IsNumeralModel, numerals_by_fold}
 use Rattle.std.proofs.lemmas.List.Elements.{filter-append}
 use Rattle.std.specs.Fmt.{decimal}
 use Rattle.std.specs.List.{AllByRecursion, filter}
 use Rattle.std.specs.Str.{all_ascii_digits}
-use Rattle.x7_text.specs.Digits.{hex_word}
 use Rattle.x7_text.specs.DigitValue.{word_value}
 use Rattle.x7_text.specs.Lines.{split}
 use Rattle.x7_text.proofs.ValueLemmas.{word-back}

@@ -5,11 +5,13 @@ use Rattle.x7_engine.specs.Kept.{on_the_bench}
 use Rattle.x7_engine.specs.Standing.{DeviceState, DeviceStandsFor, NoWordDue}
 use Rattle.x7_debug.specs.Position.{last_of}
 
--- the part, the bytes of the stream, and the position
+-- the part, the bytes of the stream, the position, the least one that the records lead back to, and how many bytes the device was ever fed
 pub record SessionState : Type 0 where
   pub part : PartData
   pub stream : List ℕ
   pub at : ℕ
+  pub oldest : ℕ
+  pub fed : ℕ
 
 -- the same part and stream, at this position
 pub record MovesTo (old new : SessionState) (n : ℕ) : Type 0 where
@@ -23,8 +25,3 @@ pub record StandsAt (part : PartData) (stream : List ℕ) (d : DeviceState) (n :
   pub taken : d.taken ≡ n
   pub within : n ≤ last_of part stream
   pub none_due : NoWordDue d
-
--- how a session is kept
-pub record IsSession (d : DeviceState) (stream : List ℕ) (last : ℕ) : Type 0 where
-  pub stands : StandsAt d.part stream d d.taken
-  pub last_is : last ≡ last_of d.part stream

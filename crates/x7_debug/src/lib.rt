@@ -2,12 +2,15 @@
 #![tactic(auto)]
 
 mod fault;
+mod journal;
 mod law;
 mod line;
+mod moving;
 mod order;
 mod script;
 mod session;
 mod showing;
+mod until;
 
 pub use fault::ScriptFault;
 pub use law::{one_order, one_script, until_leads_to_the_least};

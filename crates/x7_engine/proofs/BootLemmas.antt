@@ -1,17 +1,16 @@
 -- Lemmas on what a boot asks of a device.
-use Rattle.std.proofs.Common.{◌≡◌, ◌==◌, ◌+◌, ℕ, zero, suc, Bool, false, List, [], ◌∷◌, ◌++◌, length, replicate, Option, None, Some, refl, ap, sym, subst, ◌∙◌}
+use Rattle.std.proofs.Common.{◌≡◌, ◌==◌, ℕ, zero, suc, Bool, false, List, [], ◌∷◌, ◌++◌, length, replicate, Option, None, Some, refl, ap, sym, ◌∙◌}
 use Rattle.x7_part.specs.Part.{PartData}
 use Rattle.x7_packets.specs.History.{History}
 use Rattle.x7_regs.specs.declared.boot_status.Kind.TheVariants.{Bench}
-use Rattle.x7_startup.specs.Calls.{IsPhaseOf}
 use Rattle.x7_engine.specs.declared.kept.Kept.{Kept}
 use Rattle.x7_engine.specs.declared.stop.Stop.{Stop}
 use Rattle.x7_engine.specs.declared.stop.Stop.TheVariants as stop
 use Rattle.x7_engine.specs.declared.due.Due.{Due}
 use Rattle.x7_engine.specs.declared.due.Due.TheVariants as due
 use Rattle.x7_engine.specs.Standing.{DeviceState, DeviceStandsFor, MayWrap, NoWordDue, due_count, words_left}
-use Rattle.x7_engine.specs.Startup.{phase_of, startup_progress}
-use Rattle.x7_engine.specs.State.{history_taken, line_by, state_of, stop_in, taken_of}
+use Rattle.x7_engine.specs.Startup.{phase_of}
+use Rattle.x7_engine.specs.State.{history_taken, line_by, state_of, stop_in}
 use Rattle.x7_engine.specs.Stops.{fault_of}
 use Rattle.x7_engine.specs.Values.{cause_of}
 use Rattle.x7_engine.proofs.ClockLemmas.{phase_by_clock}

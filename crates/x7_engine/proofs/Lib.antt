@@ -21,3 +21,4 @@ pub mod StartupLemmas
 pub mod StateLemmas
 pub mod TimeoutLemmas
 pub mod TurnLemmas
+pub mod UndoLemmas

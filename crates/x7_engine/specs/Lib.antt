@@ -16,3 +16,4 @@ pub mod Text
 pub mod Timeout
 pub mod Values
 pub mod Watching
+pub mod Undo

@@ -1,5 +1,5 @@
 -- What a device stands for: all bytes that it took since its reset. Each stored value is that of the bytes.
-use Rattle.std.specs.Prelude.{◌≡◌, ℕ, ◌<◌, ◌≤◌, ◌==◌, ◌+◌, ◌++◌, ◌-◌, Bool, true, false, if◌then◌else◌, take, List, [], ◌∷◌, length, slice_index, Option, None, Some, replicate}
+use Rattle.std.specs.Prelude.{◌≡◌, ℕ, ◌<◌, ◌≤◌, ◌==◌, ◌+◌, ◌++◌, ◌-◌, ◌^◌, min, Bool, true, false, if◌then◌else◌, take, List, [], ◌∷◌, length, slice_index, Option, None, Some, replicate}
 use Rattle.x7_words.specs.Word.{AreBytes}
 use Rattle.x7_packets.specs.Cutting.{CutterState, CutterStandsFor}
 use Rattle.x7_packets.specs.declared.cutter.Cut.{Cut}
@@ -190,13 +190,18 @@ EndsWords (Word register w) from n count = (n < from + 4) × (from + 4 ≡ n + c
 EndsWords (Body register bytes) from n count = (from ≡ n) × (length bytes.now ≡ count)
 EndsWords _ from n count = Unit {0}
 
--- a device: its part, its stored values, and whether the flash has ended in this attempt
+-- a device: its part, its stored values, whether the flash has ended in this attempt, and how many bytes it was fed beside those that it took since its reset
 pub record DeviceState : Type 0 where
   pub part : PartData
   pub cutter : CutterState
   pub registers : RegistersState
   pub wrapped : Bool
   pub taken : ℕ
+  pub fed_before : ℕ
+
+-- the bytes that it was ever fed, counted up to the last number of 64 bits
+abbrev pub fed_of : DeviceState → ℕ
+fed_of d = min (d.fed_before + d.taken) (2 ^ 64 - 1)
 
 -- no word that was read out is still to be given
 abbrev pub NoWordDue : DeviceState → Type 0

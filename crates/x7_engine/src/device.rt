@@ -7,7 +7,7 @@ ghost use Rattle.x7_memory.specs.Frames.{AreFramesOf, frame_at};
 ghost use Rattle.x7_engine.specs.Kept.{on_the_bench};
 ghost use Rattle.x7_engine.specs.Readout.{Gives};
 ghost use Rattle.x7_engine.specs.ReadBuffer.{IsFull, with_words};
-ghost use Rattle.x7_engine.specs.Standing.{Answers, DeviceStandsFor, MayWrap, NoWordDue, due_count, fed_by, frames_due, taken_in, told_of, with_wrap};
+ghost use Rattle.x7_engine.specs.Standing.{Answers, DeviceStandsFor, MayWrap, NoWordDue, due_count, fed_by, fed_of, frames_due, taken_in, told_of, with_wrap};
 ghost use Rattle.x7_engine.specs.State.{attempt_in, end_by, kept_after, line_by, memory_in, state_of, state_owing, stop_in};
 ghost use Rattle.x7_engine.specs.Stops.{fault_of};
 ghost use Rattle.x7_engine.specs.Values.{cause_of};
@@ -15,6 +15,7 @@ ghost use Rattle.x7_engine.specs.declared.fault.Fault.{Fault as FaultData};
 ghost use Rattle.x7_engine.specs.declared.kept.Kept.{Kept as KeptData};
 
 mod boot;
+mod undo;
 
 use crate::fault::Fault;
 use crate::fed::Fed;
@@ -26,6 +27,7 @@ use crate::stop::Stop;
 pub use boot::flash_may_end;
 use std::alloc::Global;
 use std::marker::Model;
+pub use undo::Undo;
 use x7_flow::Frames;
 use x7_memory::Memory;
 use x7_packets::{Cut, Cutter};
@@ -42,6 +44,8 @@ pub struct Device {
     // the flash has ended in this attempt
     wrapped: bool,
     taken: u64,
+    // the bytes that were fed and are not counted in `taken`
+    fed_before: u64,
 }
 
 impl Model for Device {
@@ -49,7 +53,7 @@ impl Model for Device {
 
     ghost Value = { DeviceState };
 
-    ghost view = { λ d. record { part = d.part; cutter = d.cutter; registers = registers_in d.registers; wrapped = d.wrapped; taken = d.taken } };
+    ghost view = { λ d. record { part = d.part; cutter = d.cutter; registers = registers_in d.registers; wrapped = d.wrapped; taken = d.taken; fed_before = d.fed_before } };
 
     ghost use Rattle.x7_flow.specs.Standing.{FramesFit};
 
@@ -122,7 +126,8 @@ const ON_THE_BENCH: Kept = Kept {
 impl Device {
     /// A device of this part as after a reset on the bench. It takes room for all frames, and no other call takes memory.
     pub fn new(alloc: Global, part: &Part) -> Result<Device, NoMemory>
-        ensures { IfOk result (λ d. DeviceStandsFor part.now on_the_bench false d []) }
+        ensures stands { IfOk result (λ d. DeviceStandsFor part.now on_the_bench false d []) }
+        ensures fed { IfOk result (λ d. fed_of d ≡ 0) }
     {
         let frames = match Frames::new(alloc, part) {
             Ok(frames) => frames,
@@ -135,6 +140,7 @@ impl Device {
                 registers: Registers::new(&ON_THE_BENCH, frames),
                 wrapped: false,
                 taken: 0,
+                fed_before: 0,
             }),
             Err(NoMemory) => Err(NoMemory),
         }
@@ -144,7 +150,9 @@ impl Device {
     pub fn reset(&mut self, keep: Kept)
         ensures part { self.new.part ≡ self.old.part }
         ensures stands { DeviceStandsFor self.old.part keep false self.new [] }
+        ensures fed { fed_of self.new ≡ fed_of self.old }
     {
+        self.fed_before = self.fed();
         self.cutter = Cutter::new();
         self.registers.reset(&keep);
         self.wrapped = false;
@@ -221,6 +229,7 @@ impl Device {
         ensures full { 0 < due_count self.new.registers.due → IsFull read.new }
         ensures going { self.new.registers.stop ≡ None }
         ensures taken { self.new.taken ≡ self.old.taken }
+        ensures fed_before { self.new.fed_before ≡ self.old.fed_before }
         ensures cutter { self.new.cutter ≡ self.old.cutter }
         ensures given { (part : PartData) (kept : KeptData) (wrapped : Bool) (bytes : List ℕ) → DeviceStandsFor part kept wrapped self.old bytes
             → Gives part kept wrapped self.old self.new bytes read.old read.new }
@@ -237,6 +246,7 @@ impl Device {
         ensures forward { at.old ≤ at.new }
         ensures within { at.new ≤ length piece.now }
         ensures taken { self.new.taken ≡ self.old.taken + (at.new - at.old) }
+        ensures fed_before { self.new.fed_before ≡ self.old.fed_before }
         ensures due { NoWordDue self.new }
         ensures cutter { self.new.cutter ≡ self.old.cutter }
         ensures stands { (part : PartData) (kept : KeptData) (wrapped : Bool) (bytes : List ℕ) → DeviceStandsFor part kept wrapped self.old bytes
@@ -260,6 +270,7 @@ impl Device {
         ensures forward { at.old ≤ at.new }
         ensures within { at.new ≤ length piece.now }
         ensures taken { self.new.taken ≡ self.old.taken + (at.new - at.old) }
+        ensures fed_before { self.new.fed_before ≡ self.old.fed_before }
         ensures stands { (part : PartData) (kept : KeptData) (wrapped : Bool) (bytes : List ℕ) → DeviceStandsFor part kept wrapped self.old bytes
             → DeviceStandsFor part kept wrapped self.new (bytes ++ between piece.now at.old at.new) }
         ensures told { (part : PartData) (kept : KeptData) (wrapped : Bool) (bytes : List ℕ) → DeviceStandsFor part kept wrapped self.old bytes
@@ -287,6 +298,7 @@ impl Device {
         ensures forward { at.old ≤ at.new }
         ensures within { at.new ≤ length piece.now }
         ensures taken { self.new.taken ≡ self.old.taken + (at.new - at.old) }
+        ensures fed_before { self.new.fed_before ≡ self.old.fed_before }
         ensures stands { (part : PartData) (kept : KeptData) (wrapped : Bool) (bytes : List ℕ) → DeviceStandsFor part kept wrapped self.old bytes
             → DeviceStandsFor part kept wrapped self.new (bytes ++ between piece.now at.old at.new) }
         ensures told { (part : PartData) (kept : KeptData) (wrapped : Bool) (bytes : List ℕ) → DeviceStandsFor part kept wrapped self.old bytes
@@ -307,6 +319,7 @@ impl Device {
     pub fn feed(&mut self, piece: &[u8], read: &mut ReadBuf) -> Fed
         requires { self.old.taken + length piece.now ≤ 2 ^ 63 }
         ensures within { taken_in (length piece.now) result ≤ length piece.now }
+        ensures fed_before { self.new.fed_before ≡ self.old.fed_before }
         ensures stands { (part : PartData) (kept : KeptData) (wrapped : Bool) (bytes : List ℕ) → DeviceStandsFor part kept wrapped self.old bytes
             → DeviceStandsFor part kept wrapped self.new (bytes ++ take (taken_in (length piece.now) result) piece.now) }
         ensures answer { (part : PartData) (kept : KeptData) (wrapped : Bool) (bytes : List ℕ) → DeviceStandsFor part kept wrapped self.old bytes

@@ -14,6 +14,7 @@ mod read_buffer;
 mod readout;
 mod registers;
 mod regs;
+mod saved;
 mod stop;
 #[cfg(test)]
 mod tests;
@@ -21,7 +22,7 @@ mod text;
 mod value;
 mod words;
 
-pub use device::{Device, flash_may_end};
+pub use device::{Device, Undo, flash_may_end};
 pub use fault::Fault;
 pub use fed::Fed;
 pub use kept::Kept;

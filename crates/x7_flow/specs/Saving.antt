@@ -1,5 +1,5 @@
 -- Frames that are kept, and what leads back to them (this project's choice).
-use Rattle.std.specs.Prelude.{◌≡◌, ℕ, List}
+use Rattle.std.specs.Prelude.{◌≡◌}
 use Rattle.x7_part.specs.Part.{PartData}
 use Rattle.x7_memory.specs.FrameMap.{AreSame}
 use Rattle.x7_memory.specs.Frames.{AreFramesOf, frame_at}

@@ -13,6 +13,7 @@ pub use asking::{asked_write, reads_frames, takes_frames};
 pub use frames::Frames;
 pub use law::{
     asked_laws, fault_laws, flow_laws, later_laws, many_laws, memory_has_frames, memory_laws,
-    plan_laws, quiet_laws, saving_laws, standing_laws, stream_laws, stretch_laws, word_laws, words_have_room,
+    plan_laws, quiet_laws, saving_laws, standing_laws, stream_laws, stretch_laws, word_laws,
+    words_have_room,
 };
 pub use settings::FrameSettings;

@@ -16,13 +16,14 @@ abbrev fails_at : PartData → List ℕ → ℕ → Bool
 fails_at part stream n = is_some (fault_of (line_by (stop_in part on_the_bench (take n stream))))
 
 pub shown_is : (part : PartData) (stream : List ℕ) (orders : List Order) (begin now : SessionState) (text : List ℕ) (fault : Option Fault) (stopped : Bool)
-    → begin ≡ record { part = part; stream = stream; at = 0 } → text ≡ transcript_of begin.part begin.stream orders → MovesTo begin now (final_position begin.part begin.stream orders)
+    → begin.part ≡ part → begin.stream ≡ stream → text ≡ transcript_of begin.part begin.stream orders → MovesTo begin now (final_position begin.part begin.stream orders)
     → fault ≡ fault_of (line_by (stop_in now.part on_the_bench (take now.at now.stream))) → stopped ≡ is_some fault → shown_of part stream orders ≡ record { stopped = stopped; text = text }
-shown_is part stream orders begin now text fault stopped e t m f s =
+shown_is part stream orders begin now text fault stopped p q t m f s =
     let ends : fails_at part stream (final_position part stream orders) ≡ stopped
-    = ap (λ (x : SessionState). fails_at x.part x.stream (final_position x.part x.stream orders)) (sym e)
-    ∙ ap (λ (p : PartData). fails_at p begin.stream (final_position begin.part begin.stream orders)) (sym m.part)
+    = ap (λ (x : PartData). fails_at x stream (final_position x stream orders)) (sym p)
+    ∙ ap (λ (x : List ℕ). fails_at begin.part x (final_position begin.part x orders)) (sym q)
+    ∙ ap (λ (x : PartData). fails_at x begin.stream (final_position begin.part begin.stream orders)) (sym m.part)
     ∙ ap (λ (x : List ℕ). fails_at now.part x (final_position begin.part begin.stream orders)) (sym m.stream)
     ∙ ap (λ (n : ℕ). fails_at now.part now.stream n) (sym m.at) ∙ ap is_some (sym f) ∙ sym s in
-    let shows : transcript_of part stream orders ≡ text = ap (λ (x : SessionState). transcript_of x.part x.stream orders) (sym e) ∙ sym t in
+    let shows : transcript_of part stream orders ≡ text = ap (λ (x : PartData). transcript_of x stream orders) (sym p) ∙ ap (λ (x : List ℕ). transcript_of begin.part x orders) (sym q) ∙ sym t in
     ap (λ (b : Bool). record { stopped = b; text = transcript_of part stream orders }) ends ∙ ap (λ (x : List ℕ). record { stopped = stopped; text = x }) shows

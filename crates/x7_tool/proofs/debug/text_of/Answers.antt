@@ -13,7 +13,7 @@ returns-in-Ok-transcript-clause-ok c =
       orders,
       (
         subst (λ (t : List ℕ). IsScriptOf t (Ok orders)) c.deref.ensures.value c.in-Ok.ensures.script,
-        shown_is given.part given.stream.items orders c.in-Ok-new.session now c.in-Ok-transcript.text.items c.fault.result c.is_some.result c.in-Ok-new.ensures c.in-Ok-transcript.ensures.text c.in-Ok-transcript.ensures.position
+        shown_is given.part given.stream.items orders c.in-Ok-new.session now c.in-Ok-transcript.text.items c.fault.result c.is_some.result c.in-Ok-new.ensures.begins.0 c.in-Ok-new.ensures.begins.1 c.in-Ok-transcript.ensures.text c.in-Ok-transcript.ensures.position
             (c.fault.ensures now.part on_the_bench false (take now.at now.stream) stands.stands) c.is_some.ensures,
       ),
     )

@@ -5,8 +5,8 @@ use Rattle.x7_engine.specs.Standing.{due_count, words_left}
 use Rattle.x7_engine.specs.Stops.{stopped_at}
 use Rattle.x7_engine.proofs.device.Device.new.Goals as goal
 
-pub returns-in-Ok-copy : goal.returns-in-Ok-copy
-returns-in-Ok-copy c = record {
+pub returns-in-Ok-copy-clause-stands : goal.returns-in-Ok-copy-clause-stands
+returns-in-Ok-copy-clause-stands c = record {
   fits = tt;
   part_is = c.in-Ok-copy.ensures;
   wrapped_is = refl;

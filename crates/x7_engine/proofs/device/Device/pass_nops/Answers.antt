@@ -12,7 +12,7 @@ use Rattle.x7_engine.proofs.device.Device.pass_nops.Goals as goal
 
 -- the device before the no-ops, and behind them
 abbrev device_before : goal.After-self-1 → DeviceState
-device_before c = record { part = c.self.inside.part; cutter = c.self.inside.cutter; registers = registers_in c.self.inside.registers; wrapped = c.self.inside.wrapped; taken = c.self.inside.taken }
+device_before c = record { part = c.self.inside.part; cutter = c.self.inside.cutter; registers = registers_in c.self.inside.registers; wrapped = c.self.inside.wrapped; taken = c.self.inside.taken; fed_before = c.self.inside.fed_before }
 
 abbrev device_after : goal.After-self-1 → DeviceState
 device_after c = record {
@@ -21,6 +21,7 @@ device_after c = record {
   registers = registers_in c.tick-left.new.self;
   wrapped = c.self.inside.wrapped;
   taken = c.self.inside.taken + (c.nops-count.result - c.tick-left.result);
+  fed_before = c.self.inside.fed_before;
 }
 
 passed_here : (c : goal.After-self-1) (kept : Kept) (wrapped : Bool) (bytes : List ℕ) → (let part : PartData = c.self.inside.part in DeviceStandsFor part kept wrapped c.args.self.now bytes

@@ -2,7 +2,7 @@ use Rattle.std.proofs.Common.{◌<◌, arith}
 use Rattle.x7_words.specs.Word.{AreBytes}
 use Rattle.x7_words.proofs.ListLemmas.{all-append, all_from_places}
 use Rattle.x7_debug.proofs.FeedLemmas.{drops, fed-none-due, fed-stands}
-use Rattle.x7_debug.proofs.session.take.Goals as goal
+use Rattle.x7_debug.proofs.moving.take.Goals as goal
 
 pub returns-clause-stands : goal.returns-clause-stands
 returns-clause-stands c = λ part kept wrapped bytes s.

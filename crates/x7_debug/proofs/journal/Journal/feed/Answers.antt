@@ -1,0 +1,25 @@
+use Rattle.std.proofs.Common.{◌≡◌, ◌-◌, ◌∷◌, List, length, take, ap, sym, subst, ◌∙◌}
+use Rattle.std.specs.List.{AllByRecursion}
+use Rattle.circular_buffer.specs.Buffer.{Buffer}
+use Rattle.x7_engine.specs.Undo.{IsUndoOf, UndoState}
+use Rattle.x7_debug.specs.Journal.{JournalState, records_of}
+use Rattle.x7_debug.proofs.JournalLemmas.{get_all, records_more}
+use Rattle.x7_debug.proofs.journal.Journal.feed.Goals as goal
+
+pub feed-requires-clause-undo : goal.feed-requires-clause-undo
+feed-requires-clause-undo c =
+    let all : AllByRecursion (IsUndoOf c.args.device.now.part) c.self.inside.records.items = subst (λ (j : JournalState). AllByRecursion (IsUndoOf c.args.device.now.part) j.all) (sym c.self.view_is) c.requires.records in
+    get_all (IsUndoOf c.args.device.now.part) c.self.inside.records.items (length c.self.inside.records.items - 1) c.in-Some.undo c.in-Some.ensures.value all
+
+pub returns-clause-more : goal.returns-clause-more
+returns-clause-more c =
+    let items : List UndoState = c.self.inside.records.items in
+    let popped : c.pop_back.new.self.items ≡ take (length items - 1) items = ap (λ (b : Buffer UndoState). b.items) c.in-Some.ensures.items in
+    let room : c.pop_back.new.self.capacity ≡ 64 = ap (λ (b : Buffer UndoState). b.capacity) c.in-Some.ensures.items ∙ c.self.invariant.1 in
+    let pushed : c.push_front.new.self.items ≡ take c.pop_back.new.self.capacity (c.feed.new.undo ∷ take (length items - 1) items) =
+    ap (λ (b : Buffer UndoState). b.items) c.push_front.ensures.items ∙ ap (λ (t : List UndoState). take c.pop_back.new.self.capacity (c.feed.new.undo ∷ t)) popped in (
+      c.feed.new.undo,
+      c.feed.ensures.keeps,
+      records_more items c.push_front.new.self.items c.feed.new.undo c.self.inside.count c.min-self-inside.result c.pop_back.new.self.capacity pushed room c.self.invariant.0 c.self.invariant.2 c.min-self-inside.ensures
+          ∙ ap (λ (j : JournalState). c.feed.new.undo ∷ take 63 (records_of j)) c.self.view_is,
+    )

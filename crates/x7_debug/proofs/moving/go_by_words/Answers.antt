@@ -1,0 +1,44 @@
+use Rattle.std.proofs.Common.{◌≡◌, ◌+◌, ◌<◌, ◌≤◌, ℕ, refl, ap, sym, subst, ◌∙◌, arith, max, ◌-◌, ◌∷◌, take}
+use Rattle.x7_debug.specs.Journal.{oldest_by, records_of}
+use Rattle.x7_debug.proofs.JournalLemmas.{Reaches, reaches_first, reaches_last, reaches_now, reaches_whole}
+use Rattle.x7_debug.proofs.moving.go_by_words.Goals as goal
+
+pub loop-device-init : goal.loop-device-init
+loop-device-init c = record {
+  on = c.requires.on;
+  within = c.requires.forward;
+  since = omega arith;
+  part = refl;
+  fed_before = refl;
+  reaches = reaches_first c.args.device.now.part c.args.stream.now c.args.device.now.taken (records_of c.args.journal.now) c.requires.on.leads;
+}
+
+pub loop-device-preserved : goal.loop-device-preserved
+loop-device-preserved c =
+    let before : ℕ = c.loop-device.device.taken in
+    let to : ℕ = c.record_to.new.device.taken in
+    let next : to ≡ before + 4 = omega (arith, c.record_to.ensures.taken, c.taken-next.ensures.now) in
+    record {
+      on = c.record_to.ensures.on;
+      within = omega (arith, next, c.loop-device-test.true, c.taken.ensures.now);
+      since = omega (arith, next, c.loop-device.invariant.since);
+      part = c.record_to.ensures.part ∙ c.loop-device.invariant.part;
+      fed_before = c.record_to.ensures.fed_before ∙ c.loop-device.invariant.fed_before;
+      reaches = subst (Reaches c.args.device.now.taken to) (sym c.record_to.ensures.more.2)
+          (reaches_whole c.args.device.now.taken before to c.record_to.ensures.more.0 (records_of c.loop-device.journal) c.record_to.ensures.more.1 next c.loop-device.invariant.reaches);
+    }
+
+pub returns-then-taken-to-clause-oldest : goal.returns-then-taken-to-clause-oldest
+returns-then-taken-to-clause-oldest c =
+    let before : ℕ = c.loop-device.device.taken in
+    let l : before < c.args.to = omega (arith, c.if-taken-to.true, c.taken-2.ensures.now) in
+    let last : oldest_by c.args.to (c.record_to-then-taken-to.ensures.more.0 ∷ take 63 (records_of c.loop-device.journal)) ≤ max c.args.device.now.taken (c.args.to - 253) =
+    reaches_last c.args.device.now.taken before c.args.to c.record_to-then-taken-to.ensures.more.0 (records_of c.loop-device.journal) c.record_to-then-taken-to.ensures.more.1 l c.loop-device.invariant.reaches in
+    let same : oldest_by c.record_to-then-taken-to.new.device.taken (records_of c.record_to-then-taken-to.new.journal) ≡ oldest_by c.args.to (c.record_to-then-taken-to.ensures.more.0 ∷ take 63 (records_of c.loop-device.journal)) =
+    ap (λ (n : ℕ). oldest_by n (records_of c.record_to-then-taken-to.new.journal)) c.record_to-then-taken-to.ensures.taken ∙ ap (oldest_by c.args.to) c.record_to-then-taken-to.ensures.more.2 in
+    omega (arith, same, last)
+
+pub returns-else-taken-to-clause-oldest : goal.returns-else-taken-to-clause-oldest
+returns-else-taken-to-clause-oldest c =
+    let now = reaches_now c.args.device.now.taken c.loop-device.device.taken (records_of c.loop-device.journal) c.loop-device.invariant.on.few c.loop-device.invariant.reaches in
+    omega (arith, now, c.if-taken-to.false, c.taken-2.ensures.now, c.loop-device.invariant.within)

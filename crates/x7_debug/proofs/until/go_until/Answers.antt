@@ -1,0 +1,32 @@
+use Rattle.std.proofs.Common.{◌<◌, ℕ, sym, ◌∙◌, ap, arith}
+use Rattle.x7_words.specs.Word.{AreBytes}
+use Rattle.x7_words.proofs.ListLemmas.{all_from_places}
+use Rattle.x7_debug.specs.declared.order.Stop.{Stop}
+use Rattle.x7_debug.specs.Journal.{records_of}
+use Rattle.x7_debug.specs.Kept.{session_of}
+use Rattle.x7_debug.specs.Position.{until_of}
+use Rattle.x7_debug.proofs.JournalLemmas.{goes_forward, goes_nowhere, is_fed, oldest_within}
+use Rattle.x7_debug.proofs.LeastLemmas.{until-stopped}
+use Rattle.x7_debug.proofs.until.go_until.Goals as goal
+
+pub returns-then-taken-last-clause-goes : goal.returns-then-taken-last-clause-goes
+returns-then-taken-last-clause-goes c =
+    goes_nowhere (session_of c.args.device.now c.args.stream.now c.args.journal.now) (oldest_within c.args.device.now.part c.args.stream.now c.args.device.now.taken (records_of c.args.journal.now) c.requires.on.leads)
+
+pub returns-in-Stopped-clause-taken : goal.returns-in-Stopped-clause-taken
+returns-in-Stopped-clause-taken c =
+    let part = c.args.device.now.part in
+    let stream = c.args.stream.now in
+    let fits : AreBytes stream = all_from_places (λ b. b < 256) stream (λ k h. omega (arith, c.type_inv.stream k)) in
+    let from : ℕ = c.args.device.now.taken in
+    c.move_to.ensures.taken ∙ c.requires.last ∙ sym (until-stopped part stream from fits c.requires.on.stands.within) ∙ ap (λ (s : Stop). until_of part stream s from) (sym c.in-Stopped.is)
+
+pub returns-in_default : goal.returns-in_default
+returns-in_default c = record {
+  on = c.forward_until.ensures.on;
+  part = c.forward_until.ensures.part;
+  taken = c.forward_until.ensures.taken;
+  goes = goes_forward (session_of c.args.device.now c.args.stream.now c.args.journal.now) (session_of c.forward_until.new.device c.args.stream.now c.forward_until.new.journal) c.forward_until.ensures.forward
+      (oldest_within c.args.device.now.part c.args.stream.now c.args.device.now.taken (records_of c.args.journal.now) c.requires.on.leads) c.forward_until.ensures.oldest
+      (is_fed c.args.device.now c.forward_until.new.device c.forward_until.ensures.fed_before (omega (arith, c.forward_until.ensures.forward)));
+}

@@ -1,0 +1,40 @@
+use Rattle.std.proofs.Common.{◌≡◌, ◌+◌, ◌<◌, ℕ, false, take, subst, ◌∙◌, arith}
+use Rattle.x7_part.specs.Part.{PartData}
+use Rattle.x7_engine.specs.Kept.{on_the_bench}
+use Rattle.x7_debug.specs.Position.{holds_at}
+use Rattle.x7_debug.specs.Session.{StandsAt}
+use Rattle.x7_debug.proofs.JournalLemmas.{none_there, on_further, stands_of}
+use Rattle.x7_debug.proofs.PositionLemmas.{holds-is}
+use Rattle.x7_debug.proofs.until.seek.Goals as goal
+
+pub returns-then-at-end-clause-none_at_end : goal.returns-then-at-end-clause-none_at_end
+returns-then-at-end-clause-none_at_end c = λ q.
+    let part : PartData = c.args.device.now.part in
+    let stream = c.args.stream.now in
+    let n : ℕ = c.loop-stop.device.taken in
+    let there : StandsAt part stream c.loop-stop.device n = stands_of c.loop-stop.device.part part stream c.loop-stop.device c.args.journal.now c.loop-stop.invariant.part c.loop-stop.invariant.on in
+    let here : holds_at part stream c.args.stop n ≡ false =
+    holds-is part stream c.args.stop n c.state.result c.holds.result (c.state.ensures.value part on_the_bench false (take n stream) there.stands there.none_due) c.holds.ensures ∙ c.if-holds.false in
+    let same : n ≡ c.args.end = omega (arith, c.if-at-end.true, c.taken-at.ensures.now, c.loop-stop.invariant.within) in
+    subst (λ (k : ℕ). holds_at part stream c.args.stop k ≡ false) same here
+
+pub loop-stop-preserved : goal.loop-stop-preserved
+loop-stop-preserved c =
+    let part : PartData = c.args.device.now.part in
+    let stream = c.args.stream.now in
+    let n : ℕ = c.loop-stop.device.taken in
+    let there : StandsAt part stream c.loop-stop.device n = stands_of c.loop-stop.device.part part stream c.loop-stop.device c.args.journal.now c.loop-stop.invariant.part c.loop-stop.invariant.on in
+    let here : holds_at part stream c.args.stop n ≡ false =
+    holds-is part stream c.args.stop n c.state.result c.holds.result (c.state.ensures.value part on_the_bench false (take n stream) there.stands there.none_due) c.holds.ensures ∙ c.if-holds.false in
+    let at : c.taken-at.result ≡ n = c.taken-at.ensures.now in
+    let next : c.advance.new.device.taken ≡ n + 1 = omega (arith, at, c.advance.ensures.stands.taken) in
+    let less : n < c.args.end = omega (arith, at, c.if-at-end.false) in
+    record {
+      on = on_further c.loop-stop.device.part stream c.loop-stop.device c.advance.new.device c.args.journal.now (c.taken-at.result + 1) c.requires.some.0 c.requires.some.1 c.loop-stop.invariant.on c.requires.some.2 c.advance.ensures.stands
+          (omega (arith, at)) (omega (arith, at, less, c.requires.some.3));
+      part = c.advance.ensures.stands.stands.part_is ∙ c.loop-stop.invariant.part;
+      fed_before = c.advance.ensures.fed_before ∙ c.loop-stop.invariant.fed_before;
+      since = omega (arith, next, c.loop-stop.invariant.since);
+      within = omega (arith, next, less);
+      none = none_there (holds_at part stream c.args.stop) c.args.device.now.taken n c.advance.new.device.taken next c.loop-stop.invariant.none here;
+    }

@@ -1,0 +1,58 @@
+-- The records of a session: devices kept on the way, the newest first, which lead back along the stream (this project's choice).
+use Rattle.std.specs.Prelude.{◌≡◌, ℕ, ◌+◌, ◌-◌, ◌<◌, ◌≤◌, max, List, [], ◌∷◌, length, take}
+use Rattle.std.specs.List.{AllByRecursion}
+use Rattle.x7_part.specs.Part.{PartData}
+use Rattle.x7_engine.specs.Standing.{DeviceState, fed_of}
+use Rattle.x7_engine.specs.Undo.{IsUndoOf, Keeps, UndoState}
+use Rattle.x7_debug.specs.Session.{SessionState, StandsAt}
+
+-- the room for records, of which the first are in use
+pub record JournalState : Type 0 where
+  pub all : List UndoState
+  pub count : ℕ
+
+abbrev pub records_of : JournalState → List UndoState
+records_of j = take j.count j.all
+
+abbrev pub AreRecordsOf : PartData → JournalState → Type 0
+AreRecordsOf part j = AllByRecursion (IsUndoOf part) j.all
+
+-- a device that stood at a position of the stream is kept
+pub record IsRecord (part : PartData) (stream : List ℕ) (u : UndoState) : Type 0 where
+  pub device : DeviceState
+  pub keeps : Keeps u device
+  pub stands : StandsAt part stream device u.taken
+
+-- each record is at most four bytes before the next newer one, and the newest one before this position
+abbrev pub Leads : PartData → List ℕ → ℕ → List UndoState → Type 0
+Leads part stream at [] = Unit {0}
+Leads part stream at (u ∷ older) = IsRecord part stream u × (u.taken ≤ at) × (at ≤ u.taken + 4) × Leads part stream u.taken older
+
+-- the position of the oldest record, and this one where there is none
+abbrev pub oldest_by : ℕ → List UndoState → ℕ
+oldest_by at [] = at
+oldest_by at (u ∷ older) = oldest_by u.taken older
+
+-- a device at its position of the stream, and records that lead back from there
+pub record IsOn (part : PartData) (stream : List ℕ) (d : DeviceState) (j : JournalState) : Type 0 where
+  pub stands : StandsAt part stream d d.taken
+  pub records : AreRecordsOf part j
+  pub few : length (records_of j) ≤ 64
+  pub leads : Leads part stream d.taken (records_of j)
+
+-- a device was fed at most so many bytes more
+pub record IsFed (old new : DeviceState) (count : ℕ) : Type 0 where
+  pub never_less : fed_of old ≤ fed_of new
+  pub most : fed_of new ≤ fed_of old + count
+
+-- how far records lead back after a move, and how many bytes the device was fed in it
+pub record GoesWith (old new : SessionState) : Type 0 where
+  pub stays_oldest : new.at ≡ old.at → new.oldest ≡ old.oldest
+  pub forward_oldest : old.at < new.at → new.oldest ≤ max old.at (new.at - 253)
+  pub near_oldest : new.at < old.at → old.oldest ≤ new.at → new.oldest ≡ old.oldest
+  pub far_oldest : new.at < old.oldest → new.oldest ≤ new.at - 253
+  pub never_less : old.fed ≤ new.fed
+  pub stays_fed : new.at ≡ old.at → new.fed ≡ old.fed
+  pub forward_fed : old.at ≤ new.at → new.fed ≤ old.fed + (new.at - old.at)
+  pub near_fed : old.oldest ≤ new.at → new.at < old.at → new.fed ≤ old.fed + 3
+  pub far_fed : new.at < old.oldest → new.fed ≤ old.fed + new.at

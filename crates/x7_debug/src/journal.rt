@@ -1,0 +1,132 @@
+//! Records of a device on its way, which lead it back.
+ghost use Rattle.std.specs.Prelude.{◌≡◌, ◌≤◌, ◌<◌, ◌+◌, ◌^◌, ◌++◌, ◌∷◌, ℕ, List, Bool, length, take, IfOk};
+ghost use Rattle.x7_part.specs.Part.{PartData};
+ghost use Rattle.x7_engine.specs.declared.kept.Kept.{Kept as KeptData};
+ghost use Rattle.x7_engine.specs.Standing.{DeviceStandsFor, NoWordDue, fed_of};
+ghost use Rattle.x7_engine.specs.State.{taken_of};
+ghost use Rattle.x7_engine.specs.Undo.{IsUndoOf, Keeps, UndoState};
+ghost use Rattle.x7_debug.specs.Journal.{AreRecordsOf, IsOn, JournalState, oldest_by, records_of};
+
+use circular_buffer::HeapCircularBuffer;
+use std::alloc::Global;
+use std::marker::Model;
+use x7_engine::{Device, Undo};
+use x7_part::Part;
+use x7_words::NoMemory;
+
+/// How many records there are.
+const RECORDS: usize = 64;
+
+/// Records of a device, the newest first.
+#[derive(Drop)]
+pub(crate) struct Journal {
+    records: HeapCircularBuffer<Undo>,
+    // how many of them are in use
+    count: usize,
+}
+
+impl Model for Journal {
+    ghost use Rattle.std.specs.Prelude.{◌≡◌, ◌≤◌, length};
+    ghost use Rattle.x7_debug.specs.Journal.{JournalState};
+
+    ghost Value = { JournalState };
+
+    ghost view = { λ j. record { all = j.records.items; count = j.count } };
+
+    ghost invariant = { λ j. (length j.records.items ≡ 64) × (j.records.capacity ≡ 64) × (j.count ≤ 64) };
+}
+
+/// Keeps a device in a record, and feeds it a piece of up to four bytes, up to what stops it.
+fn feed(device: &mut Device, piece: &[u8], undo: &mut Undo)
+    requires few { length piece.now ≤ 4 }
+    requires fits { device.old.taken + length piece.now ≤ 2 ^ 63 }
+    requires none_due { NoWordDue device.old }
+    requires undo { IsUndoOf device.old.part undo.old }
+    ensures stands { (part : PartData) (kept : KeptData) (wrapped : Bool) (bytes : List ℕ) → DeviceStandsFor part kept wrapped device.old bytes
+        → DeviceStandsFor part kept wrapped device.new (take (taken_of part kept (bytes ++ piece.now)) (bytes ++ piece.now)) }
+    ensures none_due { (part : PartData) (kept : KeptData) (wrapped : Bool) (bytes : List ℕ) → DeviceStandsFor part kept wrapped device.old bytes → NoWordDue device.new }
+    ensures fed_before { device.new.fed_before ≡ device.old.fed_before }
+    ensures keeps { Keeps undo.new device.old }
+    ensures undo { IsUndoOf device.old.part undo.new }
+{
+    device.feed_word(piece, undo);
+}
+
+impl Journal {
+    /// A journal of a device of this part, without a record in use. No other call takes memory.
+    pub(crate) fn new(alloc: Global, part: &Part) -> Result<Journal, NoMemory>
+        ensures records { IfOk result (AreRecordsOf part.now) }
+        ensures empty { IfOk result (λ j. j.count ≡ 0) }
+    {
+        let mut records = match HeapCircularBuffer::with_capacity(alloc, RECORDS) {
+            Ok(records) => records,
+            Err(_) => return Err(NoMemory),
+        };
+        for _ in 0..RECORDS {
+            records.push_back(Undo::new(alloc, part)?);
+        }
+        Ok(Journal { records, count: 0 })
+    }
+
+    /// Forgets all records.
+    pub(crate) fn forget(&mut self)
+        ensures { self.new ≡ record self.old { count = 0 } }
+    {
+        self.count = 0;
+    }
+
+    /// The position of the oldest record, and this one where there is none.
+    pub(crate) fn oldest(&self, at: u64) -> u64
+        ensures { result ≡ oldest_by at (records_of self.now) }
+    {
+        if self.count == 0 {
+            return at;
+        }
+        match self.records.get(self.count - 1) {
+            Some(undo) => undo.taken(),
+            None => at,
+        }
+    }
+
+    /// Feeds a piece of up to four bytes to a device, up to what stops it, with a record. Where all are in use, the oldest
+    /// one is used again.
+    pub(crate) fn feed(&mut self, device: &mut Device, piece: &[u8])
+        requires few { length piece.now ≤ 4 }
+        requires fits { device.old.taken + length piece.now ≤ 2 ^ 63 }
+        requires none_due { NoWordDue device.old }
+        requires records { AreRecordsOf device.old.part self.old }
+        ensures stands { (part : PartData) (kept : KeptData) (wrapped : Bool) (bytes : List ℕ) → DeviceStandsFor part kept wrapped device.old bytes
+            → DeviceStandsFor part kept wrapped device.new (take (taken_of part kept (bytes ++ piece.now)) (bytes ++ piece.now)) }
+        ensures none_due { (part : PartData) (kept : KeptData) (wrapped : Bool) (bytes : List ℕ) → DeviceStandsFor part kept wrapped device.old bytes → NoWordDue device.new }
+        ensures fed_before { device.new.fed_before ≡ device.old.fed_before }
+        ensures records { AreRecordsOf device.old.part self.new }
+        ensures more { (u : UndoState) × Keeps u device.old × (records_of self.new ≡ u ∷ take 63 (records_of self.old)) }
+    {
+        let Some(mut undo) = self.records.pop_back() else {
+            unreachable!();
+        };
+        feed(device, piece, &mut undo);
+        self.records.push_front(undo);
+        self.count = (self.count + 1).min(RECORDS);
+    }
+
+    /// Takes a device back to where its newest record was made, which is not in use from then on.
+    pub(crate) fn back(&mut self, device: &mut Device)
+        requires some { 0 < self.old.count }
+        requires records { AreRecordsOf device.old.part self.old }
+        ensures back { (stream : List ℕ) → IsOn device.old.part stream device.old self.old → IsOn device.new.part stream device.new self.new }
+        ensures less { (stream : List ℕ) → IsOn device.old.part stream device.old self.old → device.new.taken ≤ device.old.taken × device.old.taken ≤ device.new.taken + 4 }
+        ensures fed { (stream : List ℕ) → IsOn device.old.part stream device.old self.old → fed_of device.new ≡ fed_of device.old }
+        ensures oldest { (stream : List ℕ) → IsOn device.old.part stream device.old self.old → oldest_by device.new.taken (records_of self.new) ≡ oldest_by device.old.taken (records_of self.old) }
+        ensures few { (stream : List ℕ) → IsOn device.old.part stream device.old self.old → length (records_of self.new) ≤ 63 }
+        ensures count { self.new.count + 1 ≡ self.old.count }
+        ensures part { device.new.part ≡ device.old.part }
+    {
+        let Some(undo) = self.records.pop_front() else {
+            unreachable!();
+        };
+        device.undo(&undo);
+        self.records.push_back(undo);
+        self.count -= 1;
+    }
+}

@@ -1,0 +1,217 @@
+//! A device is brought from one position of a stream to another one, forwards by pieces and backwards by records.
+ghost use Rattle.std.specs.Prelude.{◌≡◌, ◌≤◌, ◌<◌, ◌+◌, ◌-◌, ◌^◌, ◌++◌, ◌∷◌, ℕ, List, [], Bool, false, length, max, take};
+ghost use Rattle.x7_part.specs.Part.{PartData};
+ghost use Rattle.x7_engine.specs.declared.kept.Kept.{Kept as KeptData};
+ghost use Rattle.x7_engine.specs.Kept.{on_the_bench};
+ghost use Rattle.x7_engine.specs.Standing.{DeviceStandsFor, NoWordDue, fed_of};
+ghost use Rattle.x7_engine.specs.State.{taken_of};
+ghost use Rattle.x7_engine.specs.Undo.{UndoState};
+ghost use Rattle.x7_debug.specs.Journal.{GoesWith, IsFed, IsOn, oldest_by, records_of};
+ghost use Rattle.x7_debug.specs.Kept.{session_of};
+ghost use Rattle.x7_debug.specs.Position.{last_of};
+ghost use Rattle.x7_debug.specs.Session.{StandsAt};
+
+use crate::journal::Journal;
+use x7_engine::{Device, Kept, ReadBuf};
+use x7_regs::Kind;
+
+/// What a device on the bench keeps over a reset.
+const ON_THE_BENCH: Kept = Kept {
+    wbstar: 0,
+    timer: 0,
+    bspi: 0,
+    kind: Kind::Bench,
+    before: None,
+};
+
+/// How many bytes before a position records lead back to: 63 of four bytes, and one of a byte.
+const REACH: u64 = 253;
+
+/// Feeds a piece to a device, up to what stops it. Words read out are dropped.
+fn take(device: &mut Device, piece: &[u8])
+    requires { device.old.taken + length piece.now ≤ 2 ^ 63 }
+    ensures stands { (part : PartData) (kept : KeptData) (wrapped : Bool) (bytes : List ℕ) → DeviceStandsFor part kept wrapped device.old bytes
+        → DeviceStandsFor part kept wrapped device.new (take (taken_of part kept (bytes ++ piece.now)) (bytes ++ piece.now)) }
+    ensures none_due { (part : PartData) (kept : KeptData) (wrapped : Bool) (bytes : List ℕ) → DeviceStandsFor part kept wrapped device.old bytes → NoWordDue device.new }
+    ensures fed_before { device.new.fed_before ≡ device.old.fed_before }
+{
+    let mut read = ReadBuf::dropping();
+    device.feed(piece, &mut read);
+}
+
+/// Brings a device forward by one piece.
+pub(crate) fn advance(device: &mut Device, stream: &[u8], to: u64)
+    requires stands { StandsAt device.old.part stream.now device.old device.old.taken }
+    requires within { to ≤ last_of device.old.part stream.now }
+    requires forward { device.old.taken ≤ to }
+    ensures stands { StandsAt device.old.part stream.now device.new to }
+    ensures fed_before { device.new.fed_before ≡ device.old.fed_before }
+{
+    let from = device.taken() as usize;
+    take(device, &stream[from..to as usize]);
+}
+
+/// Plays the whole stream on a new device, and resets it. Gives the last position.
+pub(crate) fn play_through(device: &mut Device, stream: &[u8]) -> u64
+    requires stands { DeviceStandsFor device.old.part on_the_bench false device.old [] }
+    requires fed { fed_of device.old ≡ 0 }
+    ensures last { result ≡ last_of device.old.part stream.now }
+    ensures stands { StandsAt device.old.part stream.now device.new 0 }
+    ensures fed { fed_of device.new ≤ last_of device.old.part stream.now }
+{
+    take(device, stream);
+    let last = device.taken();
+    device.reset(ON_THE_BENCH);
+    last
+}
+
+/// Brings a device forward by a piece of up to four bytes, with a record.
+pub(crate) fn record_to(device: &mut Device, journal: &mut Journal, stream: &[u8], to: u64)
+    requires on { IsOn device.old.part stream.now device.old journal.old }
+    requires within { to ≤ last_of device.old.part stream.now }
+    requires forward { device.old.taken ≤ to }
+    requires few { to ≤ device.old.taken + 4 }
+    ensures on { IsOn device.new.part stream.now device.new journal.new }
+    ensures taken { device.new.taken ≡ to }
+    ensures part { device.new.part ≡ device.old.part }
+    ensures fed_before { device.new.fed_before ≡ device.old.fed_before }
+    ensures more { (u : UndoState) × (u.taken ≡ device.old.taken) × (records_of journal.new ≡ u ∷ take 63 (records_of journal.old)) }
+{
+    let from = device.taken() as usize;
+    journal.feed(device, &stream[from..to as usize]);
+}
+
+/// Brings a device forward by pieces of four bytes, the last one shorter, each with a record.
+fn go_by_words(device: &mut Device, journal: &mut Journal, stream: &[u8], to: u64)
+    requires on { IsOn device.old.part stream.now device.old journal.old }
+    requires within { to ≤ last_of device.old.part stream.now }
+    requires forward { device.old.taken ≤ to }
+    ensures on { IsOn device.new.part stream.now device.new journal.new }
+    ensures taken { device.new.taken ≡ to }
+    ensures part { device.new.part ≡ device.old.part }
+    ensures fed_before { device.new.fed_before ≡ device.old.fed_before }
+    ensures oldest { oldest_by device.new.taken (records_of journal.new) ≤ max device.old.taken (to - 253) }
+{
+    while to - device.taken() >= 4 {
+        let next = device.taken() + 4;
+        record_to(device, journal, stream, next);
+    }
+    if device.taken() < to {
+        record_to(device, journal, stream, to);
+    }
+}
+
+/// Brings a device forward by one piece, and forgets the records.
+fn leap(device: &mut Device, journal: &mut Journal, stream: &[u8], to: u64)
+    requires on { IsOn device.old.part stream.now device.old journal.old }
+    requires within { to ≤ last_of device.old.part stream.now }
+    requires forward { device.old.taken ≤ to }
+    ensures on { IsOn device.new.part stream.now device.new journal.new }
+    ensures taken { device.new.taken ≡ to }
+    ensures part { device.new.part ≡ device.old.part }
+    ensures fed_before { device.new.fed_before ≡ device.old.fed_before }
+{
+    advance(device, stream, to);
+    journal.forget();
+}
+
+/// Brings a device forward: far away by one piece up to the reach of the records, and the rest by pieces of four bytes.
+fn go_forward(device: &mut Device, journal: &mut Journal, stream: &[u8], to: u64)
+    requires on { IsOn device.old.part stream.now device.old journal.old }
+    requires within { to ≤ last_of device.old.part stream.now }
+    requires forward { device.old.taken ≤ to }
+    ensures on { IsOn device.new.part stream.now device.new journal.new }
+    ensures taken { device.new.taken ≡ to }
+    ensures part { device.new.part ≡ device.old.part }
+    ensures fed_before { device.new.fed_before ≡ device.old.fed_before }
+    ensures oldest { oldest_by device.new.taken (records_of journal.new) ≤ max device.old.taken (to - 253) }
+{
+    if to - device.taken() > REACH {
+        leap(device, journal, stream, to - REACH);
+        return go_by_words(device, journal, stream, to);
+    }
+    go_by_words(device, journal, stream, to);
+}
+
+/// Resets a device, and forgets the records.
+fn begin_again(device: &mut Device, journal: &mut Journal, stream: &[u8])
+    requires { IsOn device.old.part stream.now device.old journal.old }
+    ensures on { IsOn device.new.part stream.now device.new journal.new }
+    ensures taken { device.new.taken ≡ 0 }
+    ensures part { device.new.part ≡ device.old.part }
+    ensures fed { fed_of device.new ≡ fed_of device.old }
+{
+    device.reset(ON_THE_BENCH);
+    journal.forget();
+}
+
+/// Resets a device and brings it to an earlier position from the first byte on.
+fn replay(device: &mut Device, journal: &mut Journal, stream: &[u8], to: u64)
+    requires on { IsOn device.old.part stream.now device.old journal.old }
+    requires within { to ≤ last_of device.old.part stream.now }
+    ensures on { IsOn device.new.part stream.now device.new journal.new }
+    ensures taken { device.new.taken ≡ to }
+    ensures part { device.new.part ≡ device.old.part }
+    ensures fed { IsFed device.old device.new to }
+    ensures oldest { oldest_by device.new.taken (records_of journal.new) ≤ to - 253 }
+{
+    begin_again(device, journal, stream);
+    go_forward(device, journal, stream, to);
+}
+
+/// Takes a device back by records to the last position at or before this one where a record was made.
+fn take_back(device: &mut Device, journal: &mut Journal, stream: &[u8], to: u64)
+    requires on { IsOn device.old.part stream.now device.old journal.old }
+    requires before { to < device.old.taken }
+    requires reach { oldest_by device.old.taken (records_of journal.old) ≤ to }
+    ensures on { IsOn device.new.part stream.now device.new journal.new }
+    ensures part { device.new.part ≡ device.old.part }
+    ensures before { device.new.taken ≤ to }
+    ensures near { to ≤ device.new.taken + 3 }
+    ensures fed { fed_of device.new ≡ fed_of device.old }
+    ensures few { length (records_of journal.new) ≤ 63 }
+    ensures oldest { oldest_by device.new.taken (records_of journal.new) ≡ oldest_by device.old.taken (records_of journal.old) }
+{
+    while device.taken() > to {
+        journal.back(device);
+    }
+}
+
+/// Takes a device back by records, and the few bytes up to the position forward again.
+fn go_back(device: &mut Device, journal: &mut Journal, stream: &[u8], to: u64)
+    requires on { IsOn device.old.part stream.now device.old journal.old }
+    requires before { to < device.old.taken }
+    requires reach { oldest_by device.old.taken (records_of journal.old) ≤ to }
+    ensures on { IsOn device.new.part stream.now device.new journal.new }
+    ensures taken { device.new.taken ≡ to }
+    ensures part { device.new.part ≡ device.old.part }
+    ensures fed { IsFed device.old device.new 3 }
+    ensures oldest { oldest_by device.new.taken (records_of journal.new) ≡ oldest_by device.old.taken (records_of journal.old) }
+{
+    take_back(device, journal, stream, to);
+    if device.taken() < to {
+        record_to(device, journal, stream, to);
+    }
+}
+
+/// Brings a device that stands at a position of the stream to another one.
+pub(crate) fn move_to(device: &mut Device, journal: &mut Journal, stream: &[u8], to: u64)
+    requires on { IsOn device.old.part stream.now device.old journal.old }
+    requires within { to ≤ last_of device.old.part stream.now }
+    ensures on { IsOn device.new.part stream.now device.new journal.new }
+    ensures taken { device.new.taken ≡ to }
+    ensures part { device.new.part ≡ device.old.part }
+    ensures goes { GoesWith (session_of device.old stream.now journal.old) (session_of device.new stream.now journal.new) }
+{
+    let from = device.taken();
+    if to == from {
+        return;
+    }
+    if from < to {
+        return go_forward(device, journal, stream, to);
+    }
+    if to < journal.oldest(from) {
+        return replay(device, journal, stream, to);
+    }
+    go_back(device, journal, stream, to);
+}

@@ -1,0 +1,124 @@
+//! A device is brought forward to where something holds.
+ghost use Rattle.std.specs.Prelude.{◌≡◌, ◌≤◌, ◌<◌, ◌+◌, ◌-◌, ◌∷◌, ℕ, List, true, false, take, max};
+ghost use Rattle.x7_engine.specs.Undo.{UndoState};
+ghost use Rattle.x7_debug.specs.Journal.{GoesWith, IsOn, oldest_by, records_of};
+ghost use Rattle.x7_debug.specs.Kept.{session_of};
+ghost use Rattle.x7_debug.specs.Position.{holds_at, holds_in, last_of, until_of};
+
+use crate::journal::Journal;
+use crate::moving::{advance, move_to, record_to};
+use crate::order::Stop;
+use x7_engine::{Device, End, Regs};
+
+/// Whether a device with these registers is where a session goes forward to.
+fn holds(stop: Stop, regs: &Regs) -> bool
+    ensures { result ≡ holds_in stop regs.now }
+{
+    match (stop, regs.end) {
+        (Stop::Synced, End::Synced) => true,
+        (Stop::Searching, End::Searching) => true,
+        (Stop::Stopped, End::Iprog(_)) => true,
+        (Stop::Stopped, End::Fault(_)) => true,
+        (Stop::Phase(phase), _) => regs.phase == phase,
+        _ => false,
+    }
+}
+
+/// Brings a device forward byte by byte to the first position up to `end` where it holds, at most four bytes behind the
+/// newest record. Says whether it holds there.
+fn seek(device: &mut Device, journal: &Journal, stream: &[u8], end: u64, stop: Stop) -> bool
+    requires on { IsOn device.old.part stream.now device.old journal.now }
+    requires within { end ≤ last_of device.old.part stream.now }
+    requires before { device.old.taken ≤ end }
+    requires some { (u : UndoState) × (older : List UndoState) × (records_of journal.now ≡ u ∷ older) × (end ≤ u.taken + 4) }
+    ensures on { IsOn device.new.part stream.now device.new journal.now }
+    ensures part { device.new.part ≡ device.old.part }
+    ensures fed_before { device.new.fed_before ≡ device.old.fed_before }
+    ensures forward { device.old.taken ≤ device.new.taken × device.new.taken ≤ end }
+    ensures found { result ≡ true → holds_at device.old.part stream.now stop device.new.taken ≡ true }
+    ensures end { result ≡ false → device.new.taken ≡ end }
+    ensures none { (k : ℕ) → device.old.taken ≤ k → k < device.new.taken → holds_at device.old.part stream.now stop k ≡ false }
+    ensures none_at_end { result ≡ false → holds_at device.old.part stream.now stop end ≡ false }
+{
+    loop {
+        if holds(stop, &device.state()) {
+            return true;
+        }
+        let at = device.taken();
+        if at >= end {
+            return false;
+        }
+        advance(device, stream, at + 1);
+    }
+}
+
+/// Brings a device forward by up to four bytes, with a record, to the first later position where it holds. Says whether it
+/// holds there.
+fn seek_word(
+    device: &mut Device,
+    journal: &mut Journal,
+    stream: &[u8],
+    last: u64,
+    stop: Stop,
+) -> bool
+    requires on { IsOn device.old.part stream.now device.old journal.old }
+    requires last { last ≡ last_of device.old.part stream.now }
+    requires before { device.old.taken < last }
+    ensures on { IsOn device.new.part stream.now device.new journal.new }
+    ensures part { device.new.part ≡ device.old.part }
+    ensures fed_before { device.new.fed_before ≡ device.old.fed_before }
+    ensures more { (u : UndoState) × (u.taken ≡ device.old.taken) × (records_of journal.new ≡ u ∷ take 63 (records_of journal.old)) }
+    ensures forward { device.old.taken < device.new.taken × device.new.taken ≤ last × device.new.taken ≤ device.old.taken + 4 }
+    ensures whole { result ≡ false → device.new.taken < last → device.new.taken ≡ device.old.taken + 4 }
+    ensures found { result ≡ true → holds_at device.old.part stream.now stop device.new.taken ≡ true }
+    ensures none { (k : ℕ) → device.old.taken < k → k < device.new.taken → holds_at device.old.part stream.now stop k ≡ false }
+    ensures none_at_end { result ≡ false → holds_at device.old.part stream.now stop device.new.taken ≡ false }
+{
+    let from = device.taken();
+    record_to(device, journal, stream, from + 1);
+    seek(device, journal, stream, last.min(from + 4), stop)
+}
+
+/// Brings a device forward, byte by byte, to the first later position where it holds, or else to the last one.
+fn forward_until(device: &mut Device, journal: &mut Journal, stream: &[u8], last: u64, stop: Stop)
+    requires on { IsOn device.old.part stream.now device.old journal.old }
+    requires last { last ≡ last_of device.old.part stream.now }
+    requires before { device.old.taken < last }
+    ensures on { IsOn device.new.part stream.now device.new journal.new }
+    ensures part { device.new.part ≡ device.old.part }
+    ensures fed_before { device.new.fed_before ≡ device.old.fed_before }
+    ensures taken { device.new.taken ≡ until_of device.old.part stream.now stop device.old.taken }
+    ensures forward { device.old.taken < device.new.taken }
+    ensures oldest { oldest_by device.new.taken (records_of journal.new) ≤ max device.old.taken (device.new.taken - 253) }
+{
+    while device.taken() < last {
+        if seek_word(device, journal, stream, last, stop) {
+            return;
+        }
+    }
+}
+
+/// Brings a device forward to the first later position where it holds, or else to the last one. What stops a device comes
+/// at the last position alone.
+pub(crate) fn go_until(
+    device: &mut Device,
+    journal: &mut Journal,
+    stream: &[u8],
+    last: u64,
+    stop: Stop,
+)
+    requires on { IsOn device.old.part stream.now device.old journal.old }
+    requires last { last ≡ last_of device.old.part stream.now }
+    ensures on { IsOn device.new.part stream.now device.new journal.new }
+    ensures part { device.new.part ≡ device.old.part }
+    ensures taken { device.new.taken ≡ until_of device.old.part stream.now stop device.old.taken }
+    ensures goes { GoesWith (session_of device.old stream.now journal.old) (session_of device.new stream.now journal.new) }
+{
+    if device.taken() >= last {
+        return;
+    }
+    match stop {
+        Stop::Stopped => move_to(device, journal, stream, last),
+        _ => forward_until(device, journal, stream, last, stop),
+    }
+}

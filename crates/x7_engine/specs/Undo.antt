@@ -1,0 +1,85 @@
+-- What is kept of a device, so that the next bytes up to four can be taken back (this project's choice).
+use Rattle.std.specs.Prelude.{◌≡◌, ℕ, Bool, List, Option, None, []}
+use Rattle.x7_packets.specs.Cutting.{CutterState}
+use Rattle.x7_part.specs.Part.{PartData}
+use Rattle.x7_regs.specs.declared.boot_status.Attempt.{Attempt}
+use Rattle.x7_regs.specs.declared.boot_status.Kind.{Kind}
+use Rattle.x7_pipeline.specs.Saving.{IsSavedOf, SavedState}
+use Rattle.x7_flow.specs.Saving.{FramesBack, KeepsFrames}
+use Rattle.x7_flow.specs.Standing.{FramesFit, FramesState}
+use Rattle.x7_engine.specs.declared.due.Due.{Due}
+use Rattle.x7_engine.specs.declared.saved.SavedRegisters.{SavedRegisters}
+use Rattle.x7_engine.specs.declared.stop.Stop.{Stop}
+use Rattle.x7_engine.specs.Clock.{ClockState, clock_in}
+use Rattle.x7_engine.specs.ReadBuffer.{ReadBufState}
+use Rattle.x7_engine.specs.Standing.{ControlsState, DeviceState, ProgressState, RegistersState, controls_in, progress_in}
+
+-- the stored values of registers but their frames
+pub record ValuesState : Type 0 where
+  pub words : List ℕ
+  pub controls : ControlsState
+  pub progress : ProgressState
+  pub kind : Kind
+  pub before : Option Attempt
+  pub clock : ClockState
+  pub stop : Option Stop
+  pub due : Due
+
+abbrev pub values_of : RegistersState → ValuesState
+values_of r = record { words = r.words; controls = r.controls; progress = r.progress; kind = r.kind; before = r.before; clock = r.clock; stop = r.stop; due = r.due }
+
+-- how they are kept
+abbrev pub values_in : SavedRegisters → ValuesState
+values_in s = record {
+  words = s.words.last;
+  controls = controls_in s.controls;
+  progress = progress_in s.progress;
+  kind = s.kind;
+  before = s.before;
+  clock = clock_in s.clock;
+  stop = s.stop;
+  due = s.due;
+}
+
+-- registers with these values and frames
+abbrev pub registers_with : ValuesState → FramesState → RegistersState
+registers_with v f = record { words = v.words; controls = v.controls; progress = v.progress; kind = v.kind; before = v.before; clock = v.clock; stop = v.stop; due = v.due; frames = f }
+
+-- what is kept: each stored value of a device but its memory, and at most one frame of that
+pub record UndoState : Type 0 where
+  pub cutter : CutterState
+  pub values : ValuesState
+  pub frames : SavedState
+  pub wrapped : Bool
+  pub taken : ℕ
+
+-- it is one for devices of the part
+abbrev pub IsUndoOf : PartData → UndoState → Type 0
+IsUndoOf part u = IsSavedOf part u.frames
+
+-- each value but the memory is that of a device
+pub record KeepsValues (u : UndoState) (d : DeviceState) : Type 0 where
+  pub cutter : u.cutter ≡ d.cutter
+  pub values : u.values ≡ values_of d.registers
+  pub wrapped : u.wrapped ≡ d.wrapped
+  pub taken : u.taken ≡ d.taken
+
+-- a device is kept: its values, and the frame that its next word or copy would change
+pub record Keeps (u : UndoState) (d : DeviceState) : Type 0 where
+  pub values : KeepsValues u d
+  pub frames : KeepsFrames d.part u.frames d.registers.frames
+  pub frames_fit : FramesFit d.part d.registers.frames
+
+-- What is kept leads from a device back to an old one: the values are those of the old device, and the memory of the new one, with the kept frame put into it, is that of the old one.
+pub record Back (u : UndoState) (new old : DeviceState) : Type 0 where
+  pub part : new.part ≡ old.part
+  pub values : KeepsValues u old
+  pub frames : FramesBack old.part u.frames new.registers.frames old.registers.frames
+
+-- two devices are equal but for the count of all bytes that they were fed
+abbrev pub AreEqual : DeviceState → DeviceState → Type 0
+AreEqual d e = d ≡ record e { fed_before = d.fed_before }
+
+-- a buffer that drops each word
+abbrev pub dropping : ReadBufState
+dropping = record { most = None; words = [] }

@@ -1,0 +1,154 @@
+//! A device goes back over bytes that it took.
+ghost use Rattle.std.specs.Prelude.{◌≡◌, ◌≤◌, ◌+◌, ◌++◌, ◌^◌, ℕ, Bool, List, length, take, IfOk};
+ghost use Rattle.x7_part.specs.Part.{PartData};
+ghost use Rattle.x7_flow.specs.Standing.{FramesFit};
+ghost use Rattle.x7_engine.specs.Standing.{Answers, DeviceStandsFor, DeviceState, NoWordDue, fed_of, taken_in};
+ghost use Rattle.x7_engine.specs.Undo.{AreEqual, Back, IsUndoOf, Keeps, dropping};
+ghost use Rattle.x7_engine.specs.declared.kept.Kept.{Kept as KeptData};
+
+use super::Device;
+use crate::fed::Fed;
+use crate::read_buffer::ReadBuf;
+use crate::saved::SavedRegisters;
+use std::alloc::Global;
+use std::marker::Model;
+use x7_packets::Cutter;
+use x7_part::Part;
+use x7_pipeline::Saved;
+use x7_words::NoMemory;
+
+/// A device as it stood, kept so that the bytes that it takes next, up to four, can be taken back.
+#[derive(Drop)]
+pub struct Undo {
+    cutter: Cutter,
+    registers: SavedRegisters,
+    frames: Saved,
+    wrapped: bool,
+    taken: u64,
+}
+
+impl Model for Undo {
+    ghost use Rattle.x7_engine.specs.Undo.{UndoState, values_in};
+
+    ghost Value = { UndoState };
+
+    ghost view = { λ u. record { cutter = u.cutter; values = values_in u.registers; frames = u.frames; wrapped = u.wrapped; taken = u.taken } };
+}
+
+impl Undo {
+    /// Room for what is kept of a device of this part. Beside this no call takes memory.
+    pub fn new(alloc: Global, part: &Part) -> Result<Undo, NoMemory>
+        ensures { IfOk result (IsUndoOf part.now) }
+    {
+        let frames = Saved::new(alloc, part)?;
+        Ok(Undo {
+            cutter: Cutter::new(),
+            registers: SavedRegisters::new(),
+            frames,
+            wrapped: false,
+            taken: 0,
+        })
+    }
+
+    /// The bytes that the device had taken.
+    pub fn taken(&self) -> u64
+        ensures { result ≡ self.now.taken }
+    {
+        self.taken
+    }
+}
+
+impl Device {
+    /// The bytes that were ever fed to the device, counted up to the last number of 64 bits.
+    pub fn fed(&self) -> u64
+        ensures { result ≡ fed_of self.now }
+    {
+        self.fed_before.saturating_add(self.taken)
+    }
+
+    /// Keeps the device.
+    fn save(&self, undo: &mut Undo)
+        requires { IsUndoOf self.now.part undo.old }
+        ensures keeps { Keeps undo.new self.now }
+        ensures undo { IsUndoOf self.now.part undo.new }
+    {
+        undo.cutter = self.cutter.copy();
+        undo.registers = self.registers.values();
+        self.registers.frames.save(&self.part, &mut undo.frames);
+        undo.wrapped = self.wrapped;
+        undo.taken = self.taken;
+    }
+
+    /// Keeps the device, and takes up to four bytes as `feed` does. Words read out are dropped.
+    pub fn feed_word(&mut self, piece: &[u8], undo: &mut Undo) -> Fed
+        requires few { length piece.now ≤ 4 }
+        requires fits { self.old.taken + length piece.now ≤ 2 ^ 63 }
+        requires none_due { NoWordDue self.old }
+        requires undo { IsUndoOf self.old.part undo.old }
+        ensures within { taken_in (length piece.now) result ≤ length piece.now }
+        ensures stands { (part : PartData) (kept : KeptData) (wrapped : Bool) (bytes : List ℕ) → DeviceStandsFor part kept wrapped self.old bytes
+            → DeviceStandsFor part kept wrapped self.new (bytes ++ take (taken_in (length piece.now) result) piece.now) }
+        ensures answer { (part : PartData) (kept : KeptData) (wrapped : Bool) (bytes : List ℕ) → DeviceStandsFor part kept wrapped self.old bytes
+            → Answers part kept self.new (bytes ++ take (taken_in (length piece.now) result) piece.now) dropping result }
+        ensures fed_before { self.new.fed_before ≡ self.old.fed_before }
+        ensures keeps { Keeps undo.new self.old }
+        ensures back { (part : PartData) (kept : KeptData) (wrapped : Bool) (bytes : List ℕ) → DeviceStandsFor part kept wrapped self.old bytes → Back undo.new self.new self.old }
+        ensures undo { IsUndoOf self.old.part undo.new }
+    {
+        self.save(undo);
+        let fed = self.feed_dropping(piece);
+        self.frames_fit();
+        fed
+    }
+
+    /// Takes bytes as `feed` does, where words read out are dropped.
+    fn feed_dropping(&mut self, piece: &[u8]) -> Fed
+        requires { self.old.taken + length piece.now ≤ 2 ^ 63 }
+        ensures within { taken_in (length piece.now) result ≤ length piece.now }
+        ensures stands { (part : PartData) (kept : KeptData) (wrapped : Bool) (bytes : List ℕ) → DeviceStandsFor part kept wrapped self.old bytes
+            → DeviceStandsFor part kept wrapped self.new (bytes ++ take (taken_in (length piece.now) result) piece.now) }
+        ensures answer { (part : PartData) (kept : KeptData) (wrapped : Bool) (bytes : List ℕ) → DeviceStandsFor part kept wrapped self.old bytes
+            → Answers part kept self.new (bytes ++ take (taken_in (length piece.now) result) piece.now) dropping result }
+        ensures fed_before { self.new.fed_before ≡ self.old.fed_before }
+    {
+        let mut read = ReadBuf::dropping();
+        self.feed(piece, &mut read)
+    }
+
+    /// The frames of a device are those of its part.
+    fn frames_fit(&self)
+        ensures { FramesFit self.now.part self.now.registers.frames }
+    {
+        // the fields are what it rests on
+        let _taken = self.taken;
+    }
+
+    /// Makes the device the one to which what is kept leads back: that of before `feed_word`, or of before it and later
+    /// calls of `feed` with four bytes at most in all.
+    pub fn undo(&mut self, undo: &Undo)
+        requires { IsUndoOf self.old.part undo.now }
+        ensures back { (old : DeviceState) → Back undo.now self.old old → AreEqual self.new old }
+        ensures more { (part : PartData) (kept : KeptData) (wrapped : Bool) (bytes more : List ℕ) (old : DeviceState) → Keeps undo.now old → NoWordDue old → length more ≤ 4
+            → DeviceStandsFor part kept wrapped old bytes → DeviceStandsFor part kept wrapped self.old (bytes ++ more) → AreEqual self.new old }
+        ensures part { self.new.part ≡ self.old.part }
+        ensures fed { undo.now.taken ≤ self.old.taken → fed_of self.new ≡ fed_of self.old }
+    {
+        self.frames_fit();
+        self.go_back(undo);
+    }
+
+    /// Makes the device the one to which what is kept leads back.
+    fn go_back(&mut self, undo: &Undo)
+        requires { IsUndoOf self.old.part undo.now }
+        ensures back { (old : DeviceState) → Back undo.now self.old old → AreEqual self.new old }
+        ensures part { self.new.part ≡ self.old.part }
+        ensures fed { undo.now.taken ≤ self.old.taken → fed_of self.new ≡ fed_of self.old }
+    {
+        self.fed_before = self.fed().saturating_sub(undo.taken);
+        self.cutter = undo.cutter.copy();
+        self.registers
+            .restore(&self.part, &undo.registers, &undo.frames);
+        self.wrapped = undo.wrapped;
+        self.taken = undo.taken;
+    }
+}

@@ -1,0 +1,95 @@
+//! The stored values of registers, kept.
+ghost use Rattle.std.specs.Prelude.{◌≡◌};
+ghost use Rattle.x7_pipeline.specs.Saving.{IsSavedOf};
+ghost use Rattle.x7_flow.specs.Saving.{FramesBack};
+ghost use Rattle.x7_flow.specs.Standing.{FramesFit};
+ghost use Rattle.x7_engine.specs.Standing.{RegistersState};
+ghost use Rattle.x7_engine.specs.Undo.{values_in, values_of};
+
+use crate::clock::Clock;
+use crate::controls::Controls;
+use crate::due::Due;
+use crate::kept::Kept;
+use crate::progress::Progress;
+use crate::registers::Registers;
+use crate::stop::Stop;
+use crate::words::Words;
+use x7_part::Part;
+use x7_pipeline::Saved;
+use x7_regs::{Attempt, Kind};
+
+/// Nothing kept over a reset.
+const NONE_KEPT: Kept = Kept {
+    wbstar: 0,
+    timer: 0,
+    bspi: 0,
+    kind: Kind::Bench,
+    before: None,
+};
+
+/// The stored values of registers but their frames.
+#[derive(Clone, Copy, Debug)]
+pub(crate) struct SavedRegisters {
+    pub(crate) words: Words,
+    pub(crate) controls: Controls,
+    pub(crate) progress: Progress,
+    pub(crate) kind: Kind,
+    pub(crate) before: Option<Attempt>,
+    pub(crate) clock: Clock,
+    pub(crate) stop: Option<Stop>,
+    pub(crate) due: Due,
+}
+
+impl SavedRegisters {
+    /// Some values, where none were kept yet.
+    pub(crate) fn new() -> SavedRegisters {
+        SavedRegisters {
+            words: Words::new(&NONE_KEPT),
+            controls: Controls::new(),
+            progress: Progress::new(),
+            kind: Kind::Bench,
+            before: None,
+            clock: Clock::new(0, false),
+            stop: None,
+            due: Due::Nothing,
+        }
+    }
+}
+
+impl Registers {
+    ghost use Rattle.x7_engine.specs.Standing.{registers_in};
+
+    /// The stored values but the frames.
+    pub(crate) fn values(&self) -> SavedRegisters
+        ensures { values_in result ≡ values_of (registers_in self.now) }
+    {
+        SavedRegisters {
+            words: self.words,
+            controls: self.controls,
+            progress: self.progress,
+            kind: self.kind,
+            before: self.before,
+            clock: self.clock,
+            stop: self.stop,
+            due: self.due,
+        }
+    }
+
+    /// Makes them the registers to which what is kept leads back.
+    pub(crate) fn restore(&mut self, part: &Part, values: &SavedRegisters, frames: &Saved)
+        requires frames { FramesFit part.now self.old.frames }
+        requires saved { IsSavedOf part.now frames.now }
+        ensures back { (old : RegistersState) → values_in values.now ≡ values_of old → FramesBack part.now frames.now self.old.frames old.frames → registers_in self.new ≡ old }
+        ensures frames { FramesFit part.now self.new.frames }
+    {
+        self.words = values.words;
+        self.controls = values.controls;
+        self.progress = values.progress;
+        self.kind = values.kind;
+        self.before = values.before;
+        self.clock = values.clock;
+        self.stop = values.stop;
+        self.due = values.due;
+        self.frames.restore(part, frames);
+    }
+}
