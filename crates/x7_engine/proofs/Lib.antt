@@ -1,3 +1,4 @@
+pub mod DigitLemmas
 pub mod BeginsLemmas
 pub mod BodyLemmas
 pub mod BootLemmas

@@ -346,6 +346,7 @@ impl Device {
 
     /// The frames: those of the part, as the bytes taken have left them.
     pub fn memory(&self) -> &Memory
+        ensures now { result.now ≡ self.now.registers.frames.memory }
         ensures frames { AreFramesOf self.now.part result.now }
         ensures shows { (part : PartData) (kept : KeptData) (wrapped : Bool) (bytes : List ℕ) → DeviceStandsFor part kept wrapped self.now bytes
             → AreSame (frame_at part result.now) (memory_in part kept bytes) }

@@ -33,4 +33,4 @@ pub use law::{
 };
 pub use read_buffer::ReadBuf;
 pub use regs::{End, Regs};
-pub use text::{end_words, frame_line, phase_line, reg_lines};
+pub use text::{end_words, frame_line, phase_line, put_frame, reg_lines};

@@ -3,13 +3,14 @@ ghost use Rattle.std.specs.Prelude.{◌≡◌, ◌∷◌, ◌++◌, ◌≤◌, �
 ghost use Rattle.std.specs.List.{flat_map};
 ghost use Rattle.x7_text.specs.Appends.{Appends};
 ghost use Rattle.x7_text.specs.Digits.{hex_word};
+ghost use Rattle.x7_words.specs.Word.{bytes_of_word};
 ghost use Rattle.x7_engine.specs.Text.{bit_text, end_text, fault_text, frame_text, phase_text, reg_line, reg_text, reg_words};
 
 use crate::fault::Fault;
 use crate::regs::{End, Regs};
 use x7_regs::{Reg, name_of};
-use x7_text::{hex_of_word, make_room, put, put_decimal};
-use x7_words::NoMemory;
+use x7_text::{hex_of_block, hex_of_word, make_room, put, put_decimal};
+use x7_words::{NoMemory, bytes_of};
 
 /// Appends a name and the digits of a word.
 fn put_named_word(out: &mut Vec<u8>, name: &[u8], word: u32)
@@ -178,8 +179,37 @@ fn put_word(out: &mut Vec<u8>, word: u32)
     put(out, &hex_of_word(word));
 }
 
-/// Appends the digits of words.
-fn put_digits(out: &mut Vec<u8>, words: &[u32])
+/// The bytes of eight words, the highest of each first.
+#[inline(always)]
+fn bytes_of_words(words: &[u32; 8]) -> [u8; 32]
+    ensures { result ≡ flat_map bytes_of_word words.now }
+{
+    let [a, b, c, d, e, f, g, h] = *words;
+    let [a0, a1, a2, a3] = bytes_of(a);
+    let [b0, b1, b2, b3] = bytes_of(b);
+    let [c0, c1, c2, c3] = bytes_of(c);
+    let [d0, d1, d2, d3] = bytes_of(d);
+    let [e0, e1, e2, e3] = bytes_of(e);
+    let [f0, f1, f2, f3] = bytes_of(f);
+    let [g0, g1, g2, g3] = bytes_of(g);
+    let [h0, h1, h2, h3] = bytes_of(h);
+    [
+        a0, a1, a2, a3, b0, b1, b2, b3, c0, c1, c2, c3, d0, d1, d2, d3, e0, e1, e2, e3, f0, f1, f2,
+        f3, g0, g1, g2, g3, h0, h1, h2, h3,
+    ]
+}
+
+/// Appends the digits of eight words.
+#[inline(always)]
+fn put_eight(out: &mut Vec<u8>, words: &[u32; 8])
+    requires { vec_len out.old + 64 ≤ vec_capacity out.old }
+    ensures appends { Appends out.old out.new (flat_map hex_word words.now) 64 }
+{
+    put(out, &hex_of_block(&bytes_of_words(words)));
+}
+
+/// Appends the digits of words one by one.
+fn put_each(out: &mut Vec<u8>, words: &[u32])
     requires { vec_len out.old + 8 * length words.now ≤ vec_capacity out.old }
     ensures appends { Appends out.old out.new (flat_map hex_word words.now) (8 * length words.now) }
 {
@@ -188,11 +218,31 @@ fn put_digits(out: &mut Vec<u8>, words: &[u32])
     }
 }
 
-/// Appends the line of a frame.
+/// Appends the digits of words that stand eight in a block.
+fn put_blocks(out: &mut Vec<u8>, blocks: &[[u32; 8]])
+    requires { vec_len out.old + 64 * length blocks.now ≤ vec_capacity out.old }
+    ensures appends { Appends out.old out.new (flat_map (λ block. flat_map hex_word block) blocks.now) (64 * length blocks.now) }
+{
+    for block in blocks {
+        put_eight(out, block);
+    }
+}
+
+/// Appends the digits of words.
+fn put_digits(out: &mut Vec<u8>, words: &[u32])
+    requires { vec_len out.old + 8 * length words.now ≤ vec_capacity out.old }
+    ensures appends { Appends out.old out.new (flat_map hex_word words.now) (8 * length words.now) }
+{
+    let (blocks, rest) = words.as_chunks::<8>();
+    put_blocks(out, blocks);
+    put_each(out, rest);
+}
+
+/// Appends the line of a frame, as `frame_line`, where there is room for it, and so takes no memory.
 #[tactic(auto, unfolding(crate::specs::Text::frame_text))]
-fn put_frame(out: &mut Vec<u8>, far: u32, words: &[u32])
+pub fn put_frame(out: &mut Vec<u8>, far: u32, words: &[u32])
     requires { vec_len out.old + (16 + 8 * length words.now) ≤ vec_capacity out.old }
-    ensures { out.new.items ≡ out.old.items ++ frame_text far words.now }
+    ensures appends { Appends out.old out.new (frame_text far words.now) (16 + 8 * length words.now) }
 {
     put(out, b"frame ");
     put_word(out, far);
