@@ -1,9 +1,10 @@
 -- Lemmas on specs/AtOnce.
-use Rattle.std.proofs.Common.{◌≡◌, ℕ, ◌/◌, ◌%◌, ◌^◌, ◌<◌, ◌≤◌, ◌==◌, List, [], ◌∷◌, ◌++◌, Option, Some, true, false, inl, inr, get_or, length, take, refl, ap, sym, ◌∙◌, append-nil, arith}
+use Rattle.std.proofs.Common.{◌≡◌, ℕ, ◌/◌, ◌%◌, ◌^◌, ◌<◌, ◌≤◌, ◌==◌, List, [], ◌∷◌, ◌++◌, Option, Some, true, false, if◌then◌else◌, inl, inr, get_or, length, take, refl, ap, sym, ◌∙◌, append-nil, arith}
 use Rattle.std.proofs.lemmas.Bool.Decides.{nat_tests}
 use Rattle.std.specs.List.{flat_map}
 use Rattle.x7_words.specs.Word.{AreBytes, bytes_of_word}
 use Rattle.x7_words.proofs.ListLemmas.{all-append}
+use Rattle.x7_packets.specs.Matching.{MatcherStandsFor}
 use Rattle.x7_packets.specs.SyncWord.{sync_bytes}
 use Rattle.x7_packets.specs.declared.header.Step.{Step}
 use Rattle.x7_packets.specs.declared.header.Step.TheVariants.{Nop, Open, Payload}
@@ -15,9 +16,9 @@ use Rattle.x7_packets.specs.Nops.{nop_word}
 use Rattle.x7_packets.specs.Packet.{Packet, ends_session, meaning, register_of}
 use Rattle.x7_packets.specs.Reading.{Place, Searching, Session, Synced, packet_bytes, session_bytes}
 use Rattle.x7_packets.specs.Taking.{Grows, MachineStandsFor, MachineState, is_end}
-use Rattle.x7_packets.proofs.CutLemmas.{joined_more, packet_bytes-grown}
+use Rattle.x7_packets.proofs.CutLemmas.{joined_more, packet_bytes-grown, word_more}
 use Rattle.x7_packets.proofs.NopLemmas.{nop_grows}
-use Rattle.x7_packets.proofs.TakeLemmas.{header_opens, payload_goes}
+use Rattle.x7_packets.proofs.TakeLemmas.{header_opens, payload_ends, payload_goes}
 
 -- ---- a machine
 
@@ -35,10 +36,14 @@ pub write_opens : (m : MachineState) (ps : List Packet) (register : ℕ) → reg
 write_opens m ps register h none (inl a) = header_opens m (in_write register) ps (write_head register) register 1 (omega arith) a (write_means m.latest register h) (omega arith) refl refl refl
 write_opens m ps register h none (inr a) = absurd (omega (arith, none, a.more))
 
-pub write_ends : (n : MachineState) (ps : List Packet) (register w : ℕ) → w < 2 ^ 32 → ends_session register w ≡ false → n.latest ≡ Some register → n.register ≡ register → n.due ≡ 0
+pub write_goes_on : (n : MachineState) (ps : List Packet) (register w : ℕ) → w < 2 ^ 32 → ends_session register w ≡ false → n.latest ≡ Some register → n.register ≡ register → n.due ≡ 0
     → MachineStandsFor (in_write register) ps → Grows ps ((w, Payload register w) ∷ []) n
-write_ends n ps register w f e l r d (inl a) = absurd (omega (arith, a.due))
-write_ends n ps register w f e l r d (inr a) = payload_goes (in_write register) n ps w f a e r l (omega arith)
+write_goes_on n ps register w f e l r d (inl a) = absurd (omega (arith, a.due))
+write_goes_on n ps register w f e l r d (inr a) = payload_goes (in_write register) n ps w f a e r l (omega arith)
+
+pub write_closes : (n : MachineState) (ps : List Packet) (register w : ℕ) → w < 2 ^ 32 → ends_session register w ≡ true → MachineStandsFor n [] → MachineStandsFor (in_write register) ps → Grows ps ((w, Payload register w) ∷ []) n
+write_closes n ps register w f e s (inl a) = absurd (omega (arith, a.due))
+write_closes n ps register w f e s (inr a) = payload_ends (in_write register) n ps w f a e s
 
 -- ---- a cutter
 
@@ -82,13 +87,6 @@ takes_head c n w step is to none none2 calm grows bytes sessions (Synced gap pac
     let g : GoesOn n (bytes ++ bytes_of_word w) sessions gap packets ((w, step) ∷ []) = goes_on c n w step bytes sessions gap tail packets is to none none2 calm grows s in
     record { new_sessions = sessions; new_place = g.new; stands = g.stands; adds = g.longer; turns = (λ e. absurd (let f : mode.Synced ≡ mode.Due = sym is ∙ e in cc), λ e. absurd (let f : mode.Synced ≡ mode.Due = sym to ∙ e in cc)) }
 
-pub takes_word : (c n : CutterState) (register w : ℕ) → c.mode ≡ mode.Synced → n.mode ≡ mode.Synced → c.kept ≡ [] → n.kept ≡ [] → ends_session register w ≡ false
-    → ((ps : List Packet) → MachineStandsFor c.machine ps → Grows ps ((w, Payload register w) ∷ []) n.machine) → Takes c n (bytes_of_word w) (Word register w)
-takes_word c n register w is to none none2 calm grows bytes sessions (Searching gap) s = absurd (let h : AtPlace c mode.Synced (Searching gap) = rw is at s.at in h)
-takes_word c n register w is to none none2 calm grows bytes sessions (Synced gap packets tail) s =
-    let g : GoesOn n (bytes ++ bytes_of_word w) sessions gap packets ((w, Payload register w) ∷ []) = goes_on c n w (Payload register w) bytes sessions gap tail packets is to none none2 calm grows s in
-    record { new_sessions = sessions; new_place = g.new; stands = g.stands; adds = g.longer; turns = (λ e. absurd (let f : mode.Synced ≡ mode.Due = sym is ∙ e in cc), λ e. absurd (let f : mode.Synced ≡ mode.Due = sym to ∙ e in cc)) }
-
 pub takes_nop : (c : CutterState) → c.mode ≡ mode.Synced → c.kept ≡ [] → c.machine.due ≡ 0 → Takes c c (bytes_of_word nop_word) (Head nop_word Nop)
 takes_nop c is none due = takes_head c c nop_word Nop is is none none refl (λ ps s. nop_grows c.machine ps due s)
 
@@ -104,13 +102,13 @@ first_eight (a ∷ b ∷ c ∷ d ∷ e ∷ f ∷ []) l = absurd (omega arith)
 first_eight (a ∷ b ∷ c ∷ d ∷ e ∷ f ∷ g ∷ []) l = absurd (omega arith)
 first_eight (a ∷ b ∷ c ∷ d ∷ e ∷ f ∷ g ∷ h ∷ bs) l = refl
 
-pub writes_one : (old new : CutterState) (bs : List ℕ) (head register w : ℕ) → old.mode ≡ mode.Synced → new.mode ≡ mode.Synced → old.kept ≡ [] → new.kept ≡ [] → 8 ≤ length bs
+pub writes_one : (old new : CutterState) (bs : List ℕ) (head register w : ℕ) → old.mode ≡ mode.Synced → new.mode ≡ (if ends_session register w then mode.Searching else mode.Synced) → MatcherStandsFor new.matcher [] → old.kept ≡ [] → new.kept ≡ [] → 8 ≤ length bs
     → bytes_of_word head ≡ get_or bs 0 0 ∷ get_or bs 1 0 ∷ get_or bs 2 0 ∷ get_or bs 3 0 ∷ [] → bytes_of_word w ≡ get_or bs 4 0 ∷ get_or bs 5 0 ∷ get_or bs 6 0 ∷ get_or bs 7 0 ∷ []
-    → head ≡ write_head register → register < 32 → ends_session register w ≡ false
+    → head ≡ write_head register → register < 32
     → ((ps : List Packet) → MachineStandsFor old.machine ps → Grows ps ((write_head register, Open register 1) ∷ []) (in_write register))
     → ((ps : List Packet) → MachineStandsFor (in_write register) ps → Grows ps ((w, Payload register w) ∷ []) new.machine)
     → WritesOne old new bs register w
-writes_one old new bs head register w is to none none2 long e f g range calm opens ends =
+writes_one old new bs head register w is to matcher none none2 long e f g range opens ends =
     let middle : CutterState = record { mode = mode.Synced; matcher = old.matcher; machine = in_write register; kept = [] } in
     record {
       between = middle;
@@ -118,6 +116,6 @@ writes_one old new bs head register w is to none none2 long e f g range calm ope
       whole = long;
       bytes = first_eight bs long ∙ ap (λ t. t ++ get_or bs 4 0 ∷ get_or bs 5 0 ∷ get_or bs 6 0 ∷ get_or bs 7 0 ∷ []) (sym e) ∙ ap (λ t. bytes_of_word head ++ t) (sym f) ∙ ap (λ k. bytes_of_word k ++ bytes_of_word w) g;
       head = takes_head old middle (write_head register) (Open register 1) is refl none refl refl opens;
-      word = takes_word middle new register w refl to refl none2 calm ends;
+      word = λ bytes sessions place s. word_more middle new bytes (bytes_of_word w) sessions place register w s refl ends (fits_word w) refl none2 to matcher;
       none_kept = none2;
     }

@@ -20,7 +20,7 @@ write_head register = 0x30000001 + 8192 * register
 abbrev pub in_write : ℕ → MachineState
 in_write register = record { due = 1; register = register; latest = Some register }
 
--- the bytes begin with a write of one word, which doesn't end the session: taken, it is its header and then its word
+-- the bytes begin with a write of one word: taken, it is its header and then its word
 pub record WritesOne (old new : CutterState) (rest : List ℕ) (register w : ℕ) : Type 0 where
   pub between : CutterState
   pub range : register < 32

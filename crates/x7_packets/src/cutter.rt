@@ -9,7 +9,7 @@ ghost use Rattle.x7_packets.specs.declared.cutter.Mode.TheVariants as mode;
 
 mod copied;
 
-use crate::header::{Step, is_desync};
+use crate::header::Step;
 use crate::machine::Machine;
 use crate::nops::count_nops;
 use crate::sync::Matcher;
@@ -158,8 +158,8 @@ impl Cutter {
         count_nops(rest)
     }
 
-    /// Takes the packet that comes next, where it lies whole in `rest` and is a write of one word that doesn't end the
-    /// session, its header's reserved bits 0. Gives its register and its word.
+    /// Takes the packet that comes next, where it lies whole in `rest` and is a write of one word, its header's reserved
+    /// bits 0. Gives its register and its word.
     #[inline(always)]
     pub fn take_write(&mut self, rest: &[u8]) -> Option<(u8, u32)>
         ensures some { IfSome result (λ write. WritesOne self.old self.new rest.now write.0 write.1) }
@@ -174,10 +174,11 @@ impl Cutter {
         let head = word_of([*a, *b, *c, *d]);
         let w = word_of([*e, *f, *g, *h]);
         let register = (head >> 13 & 31) as u8;
-        if head != 0x3000_0001 + 8192 * u32::from(register) || is_desync(register, w) {
+        if head != 0x3000_0001 + 8192 * u32::from(register) {
             return None;
         }
-        self.machine.pass_write(register, w);
+        self.mode = after_word(self.machine.pass_write(register, w));
+        self.matcher = Matcher::new();
         Some((register, w))
     }
 

@@ -1,5 +1,5 @@
 //! The words of a session as packets (UG470, packet types).
-ghost use Rattle.std.specs.Prelude.{◌≡◌, ℕ, List, [], ◌∷◌, ◌++◌, ◌≤◌, ◌<◌, ◌*◌, ◌/◌, ◌==◌, false, length, min, if◌then◌else◌};
+ghost use Rattle.std.specs.Prelude.{◌≡◌, ℕ, List, [], ◌∷◌, ◌++◌, ◌≤◌, ◌<◌, ◌*◌, ◌/◌, ◌==◌, length, min, if◌then◌else◌};
 ghost use Rattle.x7_words.specs.Word.{words_of_bytes};
 ghost use Rattle.x7_packets.specs.AtOnce.{in_write, write_head};
 ghost use Rattle.x7_packets.specs.Packet.{Packet, ends_session, payload_steps};
@@ -108,18 +108,22 @@ impl Machine {
         false
     }
 
-    /// Takes a whole write of one word at once, which doesn't end the session.
+    /// Takes a whole write of one word at once, and says whether it ends the session.
     #[inline(always)]
-    pub(crate) fn pass_write(&mut self, register: u8, w: u32)
+    pub(crate) fn pass_write(&mut self, register: u8, w: u32) -> bool
         requires at_header { self.old.due ≡ 0 }
         requires range { register < 32 }
-        requires goes_on { ends_session register w ≡ false }
-        ensures due { self.new.due ≡ 0 }
+        ensures ends { result ≡ ends_session register w }
         ensures head { (ps : List Packet) → MachineStandsFor self.old ps → Grows ps ((write_head register, Step.Open register 1) ∷ []) (in_write register) }
         ensures word { (ps : List Packet) → MachineStandsFor (in_write register) ps → Grows ps ((w, Step.Payload register w) ∷ []) self.new }
     {
+        if is_desync(register, w) {
+            *self = Machine::new();
+            return true;
+        }
         self.register = register;
         self.latest = Some(register);
+        false
     }
 
     /// The register whose payload words are due.

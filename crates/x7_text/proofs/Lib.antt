@@ -11,3 +11,4 @@ pub mod ToldLemmas
 pub mod ValueLemmas
 pub mod WholeLineLemmas
 pub mod WordLemmas
+pub mod FewLemmas

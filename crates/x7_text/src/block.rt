@@ -1,5 +1,5 @@
 //! Lines of 32 bytes at once: their digits in vector registers, and the line in an array.
-ghost use Rattle.std.specs.Prelude.{◌≡◌, ◌<◌, ◌≤◌, ◌+◌, ◌/◌, ◌%◌, ◌^◌, [], ◌∷◌, ◌++◌, length, take, map, codes};
+ghost use Rattle.std.specs.Prelude.{◌≡◌, ◌<◌, ◌≤◌, ◌+◌, ◌*◌, ◌/◌, ◌%◌, ◌^◌, [], ◌∷◌, ◌++◌, length, take, map, codes};
 ghost use Rattle.std.specs.List.{flat_map};
 ghost use Rattle.std.specs.Simd.Lanes.{Each1};
 ghost use Rattle.x7_text.specs.Digits.{hex_byte, hex_digit};
@@ -42,6 +42,17 @@ pub fn hex_of_block(bytes: &[u8; 32]) -> [u8; 64]
     ensures { result ≡ flat_map hex_byte bytes.now }
 {
     hex_digits(halves_of(u8x32::from_array(*bytes))).to_array()
+}
+
+/// The two upper-case digits of each of so few bytes, and other digits behind them.
+#[inline(always)]
+pub(crate) fn hex_of_few(bytes: &[u8]) -> [u8; 64]
+    requires { length bytes.now ≤ 32 }
+    ensures { take (2 * length bytes.now) result ≡ flat_map hex_byte bytes.now }
+{
+    let mut block = [0; 32];
+    block[..bytes.len()].copy_from_slice(bytes);
+    hex_of_block(&block)
 }
 
 /// The digits of eight numbers below 16.

@@ -6,7 +6,7 @@ ghost use Rattle.x7_text.specs.Digits.{hex_byte};
 ghost use Rattle.x7_text.specs.Row.{line, line_start, line_end, next_in_line, open_text, in_line_after, spaced, close};
 ghost use Rattle.x7_words.specs.Word.{words_of_bytes};
 
-use crate::block::{data_line, hex_of_block};
+use crate::block::{data_line, hex_of_block, hex_of_few};
 use crate::digits::{hex_of_byte, hex_of_word};
 use crate::room::put;
 use x7_words::word_of;
@@ -136,6 +136,22 @@ fn put_each_byte(text: &mut Vec<u8>, in_line: usize, bytes: &[u8]) -> usize
     count
 }
 
+/// Appends bytes that leave the line open.
+fn put_few_bytes(text: &mut Vec<u8>, in_line: usize, bytes: &[u8]) -> usize
+    requires open { in_line + length bytes.now < 32 }
+    requires room { vec_len text.old + (2 * length bytes.now + 6) ≤ vec_capacity text.old }
+    ensures count { result ≡ in_line_after 32 in_line bytes.now }
+    ensures open { result < 32 }
+    ensures appends { Appends text.old text.new (open_text 32 (codes "bytes ") hex_byte in_line bytes.now) (2 * length bytes.now + 6) }
+{
+    if bytes.is_empty() {
+        return in_line;
+    }
+    put_line_start(text, b"bytes ", in_line);
+    put(text, &hex_of_few(bytes)[..2 * bytes.len()]);
+    in_line + bytes.len()
+}
+
 /// Appends the words of whole groups of four bytes, the first byte the highest, to `data` lines of which the open one
 /// has `in_line` words (0 where none is open). Gives that count afterwards. It takes no memory.
 pub fn put_words(text: &mut Vec<u8>, in_line: usize, bytes: &[u8]) -> usize
@@ -168,7 +184,7 @@ pub fn put_bytes(text: &mut Vec<u8>, in_line: usize, bytes: &[u8]) -> usize
 {
     let open = 32 - in_line;
     if bytes.len() < open {
-        return put_each_byte(text, in_line, bytes);
+        return put_few_bytes(text, in_line, bytes);
     }
     let (front, rest) = bytes.split_at(open);
     put_each_byte(text, in_line, front);
