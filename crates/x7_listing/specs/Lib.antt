@@ -1,4 +1,5 @@
 pub mod Assembly
+pub mod Assembling
 pub mod BitLine
 pub mod HeadLine
 pub mod Line
