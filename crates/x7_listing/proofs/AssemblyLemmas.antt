@@ -1,15 +1,12 @@
 -- Texts cut at their line ends, and one line more.
-use Rattle.std.proofs.Common.{◌≡◌, ◌≢◌, ◌⊎◌, inl, inr, ℕ, ◌+◌, ◌-◌, ◌<◌, ◌≤◌, Bool, true, false, List, [], ◌∷◌, ◌++◌, Option, None, Some, MatchOption, MatchResult, IfOk, IfErr, Result, Ok, Err, Bor, length, map, refl, ap, sym, subst, ◌∙◌, arith, append_assoc, append-nil, length-append, take, drop, codes}
-use Rattle.std.proofs.lemmas.List.{drop-append-le, take-append-le}
+use Rattle.std.proofs.Common.{◌≡◌, ◌≢◌, inl, inr, ℕ, ◌+◌, ◌-◌, ◌^◌, ◌<◌, ◌≤◌, Bool, true, false, List, [], ◌∷◌, ◌++◌, Ok, Err, length, map, refl, ap, sym, subst, ◌∙◌, arith, append_assoc, length-append, length-drop, take, drop, codes}
+use Rattle.std.proofs.lemmas.List.{drop-append-le, length-take-le, take-append-drop, take-append-le}
 use Rattle.std.proofs.lemmas.List.Sums.{fold-append}
 use Rattle.x7_words.proofs.ListLemmas.{all-append, map-append}
-use Rattle.x7_listing.specs.Assembly.{AreAsm, Assembles, assembled, Begins, behind, Follows, Goes, HasNoHead, IsAsm, IsBad, IsTooLong, with_line}
-use Rattle.x7_header.specs.Header.{Contents}
-use Rattle.x7_listing.specs.BitLine.{bit_text, IsHeaderOf, IsHeld}
-use Rattle.x7_listing.specs.declared.assembler.AsmFault.{AsmFault}
+use Rattle.x7_listing.specs.Assembly.{AreHeadedAsm, Assembles, assembled, Begins, IsBad, IsTooLong, with_line}
+use Rattle.x7_listing.specs.Assembling.{Goes, Opens, Went}
 use Rattle.x7_listing.specs.declared.assembler.AsmFault.TheVariants as fault
 use Rattle.x7_crc.specs.Checking.{check_of_bytes}
-use Rattle.x7_text.specs.Lines.{split}
 use Rattle.x7_crc.specs.Checking.{CheckerState, Keeps}
 use Rattle.x7_listing.specs.Line.{Line, Empty, Comment, Bytes, Sync, Nop, Write, Read, Write2, Read2, Word, Data, Cmd, Check, bytes_of, FitsLine, text_of}
 use Rattle.x7_text.specs.Reads.{Reads}
@@ -60,68 +57,31 @@ begins-more limit texts lines l t left b fits e within = record {
 begins-at : (limit : ℕ) (texts : List (List ℕ)) (lines : List Line) (left left2 : List (List ℕ)) → left ≡ left2 → Begins limit texts lines left → Begins limit texts lines left2
 begins-at limit texts lines left left2 e b = subst (λ s. Begins limit texts lines s) e b
 
-module _ (limit : ℕ) (texts : List (List ℕ)) (rest t old new : List ℕ) (left : List (List ℕ)) (n : ℕ) (parts : split rest ≡ t ∷ left) (g : Goes limit texts rest old n) where
+module _ (limit : ℕ) (texts : List (List ℕ)) (t old new : List ℕ) (left : List (List ℕ)) (n : ℕ) (g : Went limit texts (t ∷ left) old n) where
   pub bad : Reads FitsLine text_of (bytes_of (check_of_bytes old)) false t old new → IsBad limit texts (n + 1)
-  bad r = record { lines = g.lines; bad = t; left = left; begins = begins-at limit texts g.lines (split rest) (t ∷ left) parts g.begins; count = ap (λ (k : ℕ). k + 1) g.count; no_line = λ l i. r.0 l i.fits i.is }
+  bad r = record { lines = g.lines; bad = t; left = left; begins = g.begins; count = ap (λ (k : ℕ). k + 1) g.count; no_line = λ l i. r.0 l i.fits i.is }
 
   pub too-long : Reads FitsLine text_of (bytes_of (check_of_bytes old)) true t old new → limit < length new → IsTooLong limit texts (n + 1)
   too-long r h = record {
     lines = g.lines;
     last = r.0;
     left = left;
-    begins = begins-at limit texts g.lines (split rest) (text_of r.0 ∷ left) (parts ∙ ap (λ s. s ∷ left) r.2) g.begins;
+    begins = begins-at limit texts g.lines (t ∷ left) (text_of r.0 ∷ left) (ap (λ s. s ∷ left) r.2) g.begins;
     fits = r.1;
     count = ap (λ (k : ℕ). k + 1) g.count;
     passes = subst (λ b. limit < length b) (grown g.lines r.0 old new g.is r.3) h;
   }
 
-  goes-on : Reads FitsLine text_of (bytes_of (check_of_bytes old)) true t old new → length new ≤ limit → (lines : List Line) × Begins limit texts lines left × (new ≡ assembled lines) × (n + 1 ≡ length lines)
-  goes-on r h =
+  pub next : Reads FitsLine text_of (bytes_of (check_of_bytes old)) true t old new → length new ≤ limit → Went limit texts left new (n + 1)
+  next r h =
       let e : new ≡ assembled (g.lines ++ r.0 ∷ []) = grown g.lines r.0 old new g.is r.3 in
-      (g.lines ++ r.0 ∷ [], begins-more limit texts g.lines r.0 t left (begins-at limit texts g.lines (split rest) (t ∷ left) parts g.begins) r.1 r.2 (subst (λ b. length b ≤ limit) e h), e, ap (λ (k : ℕ). k + 1) g.count ∙ sym (longer g.lines r.0))
+      record { lines = g.lines ++ r.0 ∷ []; begins = begins-more limit texts g.lines r.0 t left g.begins r.1 r.2 (subst (λ b. length b ≤ limit) e h); is = e; count = ap (λ (k : ℕ). k + 1) g.count ∙ sym (longer g.lines r.0) }
 
-  pub next : (more : List ℕ) → left ≡ split more → Reads FitsLine text_of (bytes_of (check_of_bytes old)) true t old new → length new ≤ limit → Goes limit texts more new (n + 1)
-  next more e r h = let p = goes-on r h in record { lines = p.0; begins = begins-at limit texts p.0 left (split more) e p.1; is = p.2; count = p.3 }
+pub went-nothing : (limit : ℕ) (texts : List (List ℕ)) → Went limit texts texts [] 0
+went-nothing limit texts = record { lines = []; begins = record { texts = refl; fits = tt; within = omega arith }; is = refl; count = refl }
 
-  pub done : left ≡ [] → Reads FitsLine text_of (bytes_of (check_of_bytes old)) true t old new → length new ≤ limit → Assembles limit texts new
-  done e r h = let p = goes-on r h in record { lines = p.0; begins = begins-at limit texts p.0 left [] e p.1; is = p.2 }
-
-pub starts : (limit : ℕ) (text : List ℕ) → Goes limit (split text) text [] 0
-starts limit text = record { lines = []; begins = record { texts = refl; fits = tt; within = omega arith }; is = refl; count = refl }
-
--- what the first line and the text after it are
-abbrev pub FirstLine : List ℕ → List ℕ → Option (Bor (List ℕ)) → Type 0
-FirstLine text t o = MatchOption o (split text ≡ t ∷ []) (λ more. (split text ≡ t ∷ split more.now) × (length more.now < length text))
-
-some-left : (text t : List ℕ) (o : Option (Bor (List ℕ))) → FirstLine text t o → (left : List (List ℕ)) × (split text ≡ t ∷ left)
-some-left text t None h = ([], h)
-some-left text t (Some x) h = (split x.now, h.0)
-
-at-some : (text t : List ℕ) (o : Option (Bor (List ℕ))) (x : Bor (List ℕ)) → o ≡ Some x → FirstLine text t o → (split text ≡ t ∷ split x.now) × (length x.now < length text)
-at-some text t o x e h = subst (λ p. FirstLine text t p) e h
-
-at-none : (text t : List ℕ) (o : Option (Bor (List ℕ))) → o ≡ None → FirstLine text t o → split text ≡ t ∷ []
-at-none text t o e h = subst (λ p. FirstLine text t p) e h
-
-module _ (limit : ℕ) (texts : List (List ℕ)) (rest t out old new : List ℕ) (n : ℕ) (r : Bool) (o : Option (Bor (List ℕ))) (items : old ≡ out) (first : FirstLine rest t o) (g : Goes limit texts rest out n) (yes : r ≡ true)
-    (reads : Reads FitsLine text_of (bytes_of (check_of_bytes old)) r t old new) where
-  goes-old : Goes limit texts rest old n
-  goes-old = subst (λ b. Goes limit texts rest b n) (sym items) g
-
-  reads-true : Reads FitsLine text_of (bytes_of (check_of_bytes old)) true t old new
-  reads-true = subst (λ b. Reads FitsLine text_of (bytes_of (check_of_bytes old)) b t old new) yes reads
-
-  pub passes-limit : limit < length new → IsTooLong limit texts (n + 1)
-  passes-limit h = let p = some-left rest t o first in too-long limit texts rest t old new p.0 n p.1 goes-old reads-true h
-
-  pub one-line-on : (x : Bor (List ℕ)) → o ≡ Some x → length new ≤ limit → Goes limit texts x.now new (n + 1)
-  one-line-on x e h = let p = at-some rest t o x e first in next limit texts rest t old new (split x.now) n p.0 goes-old x.now refl reads-true h
-
-  pub shorter : (x : Bor (List ℕ)) → o ≡ Some x → length x.now < length rest
-  shorter x e = (at-some rest t o x e first).1
-
-  pub all-read : o ≡ None → length new ≤ limit → Assembles limit texts new
-  all-read e h = done limit texts rest t old new [] n (at-none rest t o e first) goes-old refl reads-true h
+pub went-all : (limit : ℕ) (texts : List (List ℕ)) (bytes : List ℕ) (n : ℕ) → Went limit texts [] bytes n → Assembles limit texts bytes
+went-all limit texts bytes n g = record { lines = g.lines; begins = g.begins; is = g.is }
 
 -- the same where other bytes stand in front
 pub dropped : (start a : ℕ) (r : Bool) (t old new : List ℕ) → start ≤ length old → Reads FitsLine text_of (bytes_of a) r t old new → Reads FitsLine text_of (bytes_of a) r t (drop start old) (drop start new)
@@ -132,88 +92,105 @@ pub front-stays : (start a : ℕ) (r : Bool) (t old new : List ℕ) → start �
 front-stays start a true t old new h r = (ap (take start) r.3 ∙ take-append-le start old (bytes_of a r.0) h, omega (arith, h, ap length r.3, length-append old (bytes_of a r.0)))
 front-stays start a false t old new h r = (ap (take start) r.1, omega (arith, h, ap length r.1))
 
--- no line follows
-pub no-lines : (front : List ℕ) (others : List (List ℕ)) → length front ≤ 262170 → others ≡ [] → Follows front others (Ok front)
-no-lines front others h e = record {
-  rest = Ok [];
-  lines = record { lines = []; begins = record { texts = e; fits = tt; within = omega arith }; is = refl };
-  is = ap Ok (sym (append-nil front));
-}
-
--- the texts of lines that may be none
-abbrev pub AreTexts : Option (Bor (List ℕ)) → List (List ℕ) → Type 0
-AreTexts lines others = MatchOption lines (others ≡ []) (λ text. others ≡ split text.now)
-
-pub texts-none : (lines : Option (Bor (List ℕ))) (others : List (List ℕ)) → lines ≡ None → AreTexts lines others → others ≡ []
-texts-none lines others e h = subst (λ o. AreTexts o others) e h
-
-pub texts-some : (lines : Option (Bor (List ℕ))) (text : Bor (List ℕ)) (others : List (List ℕ)) → lines ≡ Some text → AreTexts lines others → others ≡ split text.now
-texts-some lines text others e h = subst (λ o. AreTexts o others) e h
-
-pub lines-follow : (n : ℕ) (front all : List ℕ) (text : List ℕ) (others : List (List ℕ)) → n ≡ length front → others ≡ split text → (bytes : List ℕ) × (all ≡ front ++ bytes) × Assembles (67108864 - n) (split text) bytes → Follows front others (Ok all)
-lines-follow n front all text others e is h = record {
-  rest = Ok h.0;
-  lines = subst (λ o. Assembles (67108864 - length front) o h.0) (sym is) (subst (λ k. Assembles (67108864 - k) (split text) h.0) e h.2);
-  is = ap Ok h.1;
-}
-
-later-by : (f g : AsmFault) (front others : List ℕ) → ◌≡◌ {A = Result (List ℕ) AsmFault} (Err g) (behind others (Err f)) → ◌≡◌ {A = Result (List ℕ) AsmFault} (Err g) (behind front (Err f))
-later-by (fault.Line n) g front others e = e
-later-by (fault.TooLong n) g front others e = e
-later-by fault.NoMemory g front others e = e
-
-no-memory-later : (g : AsmFault) → ◌≡◌ {A = Result (List ℕ) AsmFault} (Err g) (Err fault.NoMemory) → g ≡ fault.NoMemory
-no-memory-later g e = cc
-
-pub fault-follows : (n : ℕ) (front text : List ℕ) (others : List (List ℕ)) (f g : AsmFault) → n ≡ length front → others ≡ split text → ◌≡◌ {A = Result (List ℕ) AsmFault} (Err g) (behind [] (Err f)) → (f ≡ fault.NoMemory) ⊎ AreAsm (67108864 - n) (split text) (Err f)
-    → (g ≡ fault.NoMemory) ⊎ Follows front others (Err g)
-fault-follows n front text others f g e is later (inl none) = inl (no-memory-later g (later ∙ ap (λ x. behind [] (Err x)) none))
-fault-follows n front text others f g e is later (inr h) = inr (record {
-  rest = Err f;
-  lines = subst (λ o. AreAsm (67108864 - length front) o (Err f)) (sym is) (subst (λ k. AreAsm (67108864 - k) (split text) (Err f)) e h);
-  is = later-by f g front [] later;
+-- what texts come to behind those of a header, or of none
+pub close-ok : (all others : List (List ℕ)) (front out : List ℕ) (start first : ℕ) → start ≡ length front → Opens all others front first → Assembles (67108864 - start) others (drop start out) → take start out ≡ front → AreHeadedAsm all (Ok out)
+close-ok all others front out start first n (inl h) a same = inl (record {
+  header = h.header;
+  held = h.held;
+  others = others;
+  texts = h.texts;
+  follows = record {
+    rest = Ok (drop start out);
+    lines = subst (λ (k : ℕ). Assembles (67108864 - k) others (drop start out)) (n ∙ ap length h.are) a;
+    is = ap Ok (sym (take-append-drop start out) ∙ ap (λ t. t ++ drop start out) (same ∙ h.are));
+  };
 })
+close-ok all others front out start first n (inr p) a same =
+    let zero : start ≡ 0 = n ∙ ap length p.are in
+    let is : drop start out ≡ out = ap (λ (k : ℕ). drop k out) zero in
+    let b : Assembles 67108864 others (drop start out) = subst (λ (k : ℕ). Assembles (67108864 - k) others (drop start out)) zero a in
+    inr (p.no_head, subst (λ (t : List (List ℕ)). Assembles 67108864 t out) (sym p.texts) (subst (Assembles 67108864 others) is b))
 
--- a text whose first line is a header's
-pub first-texts : (text t : List ℕ) (o : Option (Bor (List ℕ))) → FirstLine text t o → (others : List (List ℕ)) × (split text ≡ t ∷ others) × AreTexts o others
-first-texts text t None h = ([], h, refl)
-first-texts text t (Some x) h = (split x.now, h.0, refl)
+pub close-bad : (all others : List (List ℕ)) (front : List ℕ) (start first m n : ℕ) → start ≡ length front → Opens all others front first → IsBad (67108864 - start) others m → n ≡ first + m → AreHeadedAsm all (Err (fault.Line n))
+close-bad all others front start first m n s (inl h) b e =
+    let one : n ≡ m + 1 = omega (arith, e, h.one) in
+    inl (record {
+      header = h.header;
+      held = h.held;
+      others = others;
+      texts = h.texts;
+      follows = record { rest = Err (fault.Line m); lines = subst (λ (k : ℕ). IsBad (67108864 - k) others m) (s ∙ ap length h.are) b; is = ap (λ (k : ℕ). Err (fault.Line k)) one };
+    })
+close-bad all others front start first m n s (inr p) b e =
+    let zero : start ≡ 0 = s ∙ ap length p.are in
+    let same : m ≡ n = omega (arith, e, p.none) in
+    let c : IsBad 67108864 others m = subst (λ (k : ℕ). IsBad (67108864 - k) others m) zero b in
+    inr (p.no_head, subst (λ (t : List (List ℕ)). IsBad 67108864 t n) (sym p.texts) (subst (IsBad 67108864 others) same c))
 
-pub headed-bytes : {X : Type 0} (items : X → List ℕ) (text t front : List ℕ) (o : Option (Bor (List ℕ))) (r : Result X AsmFault) → FirstLine text t o → IsHeaderOf t front
-    → ((others : List (List ℕ)) → AreTexts o others → MatchResult r (λ x. Follows front others (Ok (items x))) (λ f. (f ≡ fault.NoMemory) ⊎ Follows front others (Err f)))
-    → IfOk r (λ x. IsAsm text (Ok (items x)))
-headed-bytes items text t front o (Ok x) first h follows =
-    let p = first-texts text t o first in
-    inl (record { header = h.header; held = h.held; others = p.0; texts = p.1 ∙ ap (λ s. s ∷ p.0) h.text; follows = subst (λ b. Follows b p.0 (Ok (items x))) h.are (follows p.0 p.2) })
-headed-bytes items text t front o (Err f) first h follows = tt
+pub close-long : (all others : List (List ℕ)) (front : List ℕ) (start first m n : ℕ) → start ≡ length front → Opens all others front first → IsTooLong (67108864 - start) others m → n ≡ first + m → AreHeadedAsm all (Err (fault.TooLong n))
+close-long all others front start first m n s (inl h) b e =
+    let one : n ≡ m + 1 = omega (arith, e, h.one) in
+    inl (record {
+      header = h.header;
+      held = h.held;
+      others = others;
+      texts = h.texts;
+      follows = record { rest = Err (fault.TooLong m); lines = subst (λ (k : ℕ). IsTooLong (67108864 - k) others m) (s ∙ ap length h.are) b; is = ap (λ (k : ℕ). Err (fault.TooLong k)) one };
+    })
+close-long all others front start first m n s (inr p) b e =
+    let zero : start ≡ 0 = s ∙ ap length p.are in
+    let same : m ≡ n = omega (arith, e, p.none) in
+    let c : IsTooLong 67108864 others m = subst (λ (k : ℕ). IsTooLong (67108864 - k) others m) zero b in
+    inr (p.no_head, subst (λ (t : List (List ℕ)). IsTooLong 67108864 t n) (sym p.texts) (subst (IsTooLong 67108864 others) same c))
 
-pub headed-fault : {X : Type 0} (items : X → List ℕ) (text t front : List ℕ) (o : Option (Bor (List ℕ))) (r : Result X AsmFault) → FirstLine text t o → IsHeaderOf t front
-    → ((others : List (List ℕ)) → AreTexts o others → MatchResult r (λ x. Follows front others (Ok (items x))) (λ f. (f ≡ fault.NoMemory) ⊎ Follows front others (Err f)))
-    → IfErr r (λ f. (f ≡ fault.NoMemory) ⊎ IsAsm text (Err f))
-headed-fault items text t front o (Ok x) first h follows = tt
-headed-fault items text t front o (Err f) first h follows =
-    let p = first-texts text t o first in
-    elim (follows p.0 p.2) [
-      | inl none ↦ inl none
-      | inr is ↦ inr (inl (record { header = h.header; held = h.held; others = p.0; texts = p.1 ∙ ap (λ s. s ∷ p.0) h.text; follows = subst (λ b. Follows b p.0 (Err f)) h.are is }))
-    ]
+-- all texts are read
+pub goes-whole : (all : List (List ℕ)) (out : List ℕ) (start : ℕ) (checker : CheckerState) (n : ℕ) → Goes all [] out start checker n → AreHeadedAsm all (Ok out)
+goes-whole all out start checker n g = close-ok all g.others (take start out) out start g.first (sym (length-take-le start out g.long)) g.opens (went-all (67108864 - start) g.others (drop start out) g.read g.went) refl
 
--- a text whose first line is no header's
-pub no-head-first : (text t : List ℕ) (o : Option (Bor (List ℕ))) → FirstLine text t o → ((x : Contents) → IsHeld x → t ≡ bit_text x → ⊥) → HasNoHead (split text)
-no-head-first text t o first none =
-    let p = first-texts text t o first in
-    λ x others held e. none x held (first-is t (bit_text x) p.0 others (sym p.1 ∙ e))
-  where
-    first-is : (s t : List ℕ) (ss ts : List (List ℕ)) → s ∷ ss ≡ t ∷ ts → s ≡ t
-    first-is s t ss ts e = cc
+-- one text more is read
+module _ (line out mid new : List ℕ) (start at n c : ℕ) (old-checker new-checker : CheckerState) (r : Bool) (same : mid ≡ out) (at-is : start ≤ length mid → at ≡ start) (n-is : n < 2 ^ 63 → c ≡ n + 1)
+    (reads : Keeps old-checker (drop at mid) → Reads FitsLine text_of (bytes_of (check_of_bytes (drop at mid))) r line mid new)
+    (keeps : Keeps old-checker (drop at mid) → Keeps new-checker (drop at new)) where
+  module _ (all left : List (List ℕ)) (few : n < 2 ^ 63) (g : Goes all (line ∷ left) out start old-checker n) where
+    long-mid : start ≤ length mid
+    long-mid = subst (λ (b : List ℕ). start ≤ length b) (sym same) g.long
 
-pub plain-bytes : (text t new old : List ℕ) (o : Option (Bor (List ℕ))) → FirstLine text t o → ((x : Contents) → IsHeld x → t ≡ bit_text x → ⊥) → old ≡ [] → (n : ℕ) → n ≡ 0
-    → (bytes : List ℕ) × (new ≡ old ++ bytes) × Assembles (67108864 - n) (split text) bytes → IsAsm text (Ok new)
-plain-bytes text t new old o first none empty n zero h =
-    let same : new ≡ h.0 = h.1 ∙ ap (λ b. b ++ h.0) empty in
-    inr (no-head-first text t o first none, subst (λ b. Assembles 67108864 (split text) b) (sym same) (subst (λ k. Assembles (67108864 - k) (split text) h.0) zero h.2))
+    at-start : at ≡ start
+    at-start = at-is long-mid
 
-pub plain-fault : (text t : List ℕ) (o : Option (Bor (List ℕ))) (f : AsmFault) → FirstLine text t o → ((x : Contents) → IsHeld x → t ≡ bit_text x → ⊥) → (n : ℕ) → n ≡ 0
-    → (f ≡ fault.NoMemory) ⊎ AreAsm (67108864 - n) (split text) (Err f) → (f ≡ fault.NoMemory) ⊎ IsAsm text (Err f)
-plain-fault text t o f first none n zero (inl is) = inl is
-plain-fault text t o f first none n zero (inr h) = inr (inr (no-head-first text t o first none, subst (λ k. AreAsm (67108864 - k) (split text) (Err f)) zero h))
+    held : Keeps old-checker (drop at mid)
+    held = subst (λ (b : List ℕ). Keeps old-checker b) (ap (drop start) (sym same) ∙ ap (λ (k : ℕ). drop k mid) (sym at-start)) g.keeps
+
+    got : Reads FitsLine text_of (bytes_of (check_of_bytes (drop start out))) r line out new
+    got = subst (λ (m : List ℕ). Reads FitsLine text_of (bytes_of (check_of_bytes (drop start m))) r line m new) same (subst (λ (k : ℕ). Reads FitsLine text_of (bytes_of (check_of_bytes (drop k mid))) r line mid new) at-start (reads held))
+
+    behind-front : Reads FitsLine text_of (bytes_of (check_of_bytes (drop start out))) r line (drop start out) (drop start new)
+    behind-front = dropped start (check_of_bytes (drop start out)) r line out new g.long got
+
+    pub read-bad : r ≡ false → AreHeadedAsm all (Err (fault.Line c))
+    read-bad e = close-bad all g.others (take start out) start g.first (g.read + 1) c (sym (length-take-le start out g.long)) g.opens
+        (bad (67108864 - start) g.others line (drop start out) (drop start new) left g.read g.went (subst (λ b. Reads FitsLine text_of (bytes_of (check_of_bytes (drop start out))) b line (drop start out) (drop start new)) e behind-front))
+        (omega (arith, n-is few, g.count_is))
+
+    yes : r ≡ true → Reads FitsLine text_of (bytes_of (check_of_bytes (drop start out))) true line (drop start out) (drop start new)
+    yes e = subst (λ b. Reads FitsLine text_of (bytes_of (check_of_bytes (drop start out))) b line (drop start out) (drop start new)) e behind-front
+
+    pub read-long : r ≡ true → 67108864 < length new → AreHeadedAsm all (Err (fault.TooLong c))
+    read-long e h = close-long all g.others (take start out) start g.first (g.read + 1) c (sym (length-take-le start out g.long)) g.opens
+        (too-long (67108864 - start) g.others line (drop start out) (drop start new) left g.read g.went (yes e) (omega (arith, h, g.short, length-drop start new)))
+        (omega (arith, n-is few, g.count_is))
+
+    pub read-on : r ≡ true → length new ≤ 67108864 → Goes all left new start new-checker c
+    read-on e h =
+        let f = front-stays start (check_of_bytes (drop start out)) r line out new g.long got in
+        record {
+          others = g.others;
+          first = g.first;
+          read = g.read + 1;
+          long = f.1;
+          short = g.short;
+          keeps = subst (λ (k : ℕ). Keeps new-checker (drop k new)) at-start (keeps held);
+          opens = subst (λ (b : List ℕ). Opens all g.others b g.first) (sym f.0) g.opens;
+          went = next (67108864 - start) g.others line (drop start out) (drop start new) left g.read g.went (yes e) (omega (arith, h, length-drop start new));
+          count_is = omega (arith, n-is few, g.count_is);
+        }

@@ -1,3 +1,4 @@
+pub mod AssemblerLemmas
 pub mod AssemblyLemmas
 pub mod BitLemmas
 pub mod BoundLemmas
@@ -10,9 +11,11 @@ pub mod NameLemmas
 pub mod OutcomeLemmas
 pub mod PairLemmas
 pub mod PlaceLemmas
+pub mod QuickLemmas
 pub mod RoundLemmas
 pub mod RunLemmas
 pub mod SessionLemmas
+pub mod ShortLemmas
 pub mod StandLemmas
 pub mod StreamLemmas
 pub mod TakeLemmas

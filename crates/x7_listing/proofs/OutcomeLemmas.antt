@@ -157,7 +157,7 @@ one-outcome text a b (inr h) (inl k) = absurd (not-headed (split text) b k h.0)
 one-outcome text a b (inr h) (inr k) = same-asm asm_limit (split text) a b h.1 k.1
 
 -- the outcome of the listing of a stream is the stream, but for want of memory
-stream-fault : (text b : List ℕ) (f : AsmFault) → AreBytes b → length b ≤ asm_limit → stream_listing b ≡ Ok text → (f ≡ fault.NoMemory) ⊎ IsAsm text (Err f) → f ≡ fault.NoMemory
+pub stream-fault : (text b : List ℕ) (f : AsmFault) → AreBytes b → length b ≤ asm_limit → stream_listing b ≡ Ok text → (f ≡ fault.NoMemory) ⊎ IsAsm text (Err f) → f ≡ fault.NoMemory
 stream-fault text b f a h e (inl is) = is
 stream-fault text b f a h e (inr is) = let other : Ok b ≡ Err f = one-outcome text (Ok b) (Err f) (stream-back b text a h e) is in absurd cc
 

@@ -129,7 +129,7 @@ split-lines (l ∷ ls) a =
     ap split (append_assoc (text_of l) (10 ∷ []) (texts_of ls)) ∙ split-line (text_of l) (texts_of ls) (line-free l a.0.0 a.0.1) ∙ ap (λ t. text_of l ∷ t) (split-lines ls a.1)
 
 -- the bytes of lines that are no check
-same-bytes : (c : ℕ) (l : Line) → IsListed l → bytes_of c l ≡ bytes_of 0 l
+pub same-bytes : (c : ℕ) (l : Line) → IsListed l → bytes_of c l ≡ bytes_of 0 l
 same-bytes c Empty h = refl
 same-bytes c (Comment text) h = refl
 same-bytes c (Bytes bs) h = refl

@@ -84,19 +84,10 @@ pub record IsHeaded (all : List (List ℕ)) (outcome : Result (List ℕ) AsmFaul
 abbrev pub HasNoHead : List (List ℕ) → Type 0
 HasNoHead all = (x : Contents) (others : List (List ℕ)) → IsHeld x → all ≢ bit_text x ∷ others
 
+-- what texts of lines, which may begin with a header's, assemble to
+abbrev pub AreHeadedAsm : List (List ℕ) → Result (List ℕ) AsmFault → Type 0
+AreHeadedAsm all outcome = IsHeaded all outcome ⊎ (HasNoHead all × AreAsm asm_limit all outcome)
+
 -- what a text assembles to: a header's line first or none, and lines
 abbrev pub IsAsm : List ℕ → Result (List ℕ) AsmFault → Type 0
-IsAsm text outcome = IsHeaded (split text) outcome ⊎ (HasNoHead (split text) × AreAsm asm_limit (split text) outcome)
-
--- the first n texts are read, this text is left, and these are their bytes
-pub record Goes (limit : ℕ) (all : List (List ℕ)) (rest bytes : List ℕ) (n : ℕ) : Type 0 where
-  pub lines : List Line
-  pub begins : Begins limit all lines (split rest)
-  pub is : bytes ≡ assembled lines
-  pub count : n ≡ length lines
-
--- the fault's line is no later than this one
-abbrev pub IsEarly : AsmFault → ℕ → Type 0
-IsEarly (fault.Line n) last = n ≤ last
-IsEarly (fault.TooLong n) last = n ≤ last
-IsEarly fault.NoMemory last = Unit {0}
+IsAsm text outcome = AreHeadedAsm (split text) outcome

@@ -1,5 +1,6 @@
 pub mod Assembly
 pub mod AtOnce
+pub mod Assembling
 pub mod BitLine
 pub mod HeadLine
 pub mod Line

@@ -1,21 +1,18 @@
 //! Assembling a whole text.
-ghost use Rattle.std.specs.Prelude.{◌≡◌, ℕ, List, [], ◌++◌, ◌+◌, ◌-◌, ◌^◌, ◌≤◌, ◌⊎◌, drop, length, vec_len, vec_capacity, Ok, Err, IfOk, IfErr, OnOk, MatchOption, MatchResult};
+ghost use Rattle.std.specs.Prelude.{◌≡◌, ℕ, List, [], ◌+◌, ◌^◌, ◌<◌, ◌≤◌, ◌⊎◌, true, false, length, Ok, Err, IfOk, IfErr, OnOk, MatchOption, MatchResult};
 ghost use Rattle.x7_words.specs.Word.{AreBytes};
-ghost use Rattle.x7_text.specs.Lines.{split};
-ghost use Rattle.x7_text.specs.Reads.{Reads};
-ghost use Rattle.x7_crc.specs.Checking.{check_of_bytes, Keeps};
-ghost use Rattle.x7_listing.specs.Assembly.{AreAsm, behind, IsAsm, Follows, IsEarly};
-ghost use Rattle.x7_listing.specs.Line.{bytes_of, FitsLine, text_of};
+ghost use Rattle.x7_listing.specs.Assembly.{IsAsm};
+ghost use Rattle.x7_listing.specs.Assembling.{AssemblerStandsFor, FailsAt, FailsIn, ReadsNext, TakesFront, TakesPiece};
 ghost use Rattle.x7_listing.specs.StreamListing.{stream_listing};
 
 use crate::bit_line::header_of_line;
-use crate::lines::next_line;
-use crate::reading::put_line;
+use crate::body::Body;
 use std::alloc::{AllocError, Global};
+use std::marker::Model;
 use thiserror::Error;
 use x7_crc::Checker;
 use x7_text::first_line;
-use x7_words::{NoMemory, is_same};
+use x7_words::NoMemory;
 
 /// How many bytes a text may stand for.
 pub const ASM_LIMIT: usize = 67_108_864;
@@ -56,89 +53,130 @@ impl From<AllocError> for AsmFault {
     }
 }
 
-/// Appends the bytes of a line to those of the lines before, which stand from `start` on. `false`: the text is that of no line.
-fn put_checked(out: &mut Vec<u8>, start: usize, checker: &mut Checker, line: &[u8]) -> bool
-    requires room { vec_len out.old + 32 ≤ vec_capacity out.old }
-    requires start { start ≤ vec_len out.old }
-    ensures reads { Keeps checker.old (drop start out.old.items)
-        → Reads FitsLine text_of (bytes_of (check_of_bytes (drop start out.old.items))) result line.now out.old.items out.new.items }
-    ensures keeps { Keeps checker.old (drop start out.old.items) → Keeps checker.new (drop start out.new.items) }
-{
-    if !is_same(line, b"crc") {
-        return put_line(out, 0, line);
-    }
-    let check = checker.check_of(&out[start..]);
-    put_line(out, check, line)
+/// Assembles a text that comes in pieces.
+#[derive(Drop)]
+pub struct Assembler {
+    alloc: Global,
+    body: Body,
+    held: Vec<u8>,
+    begun: bool,
 }
 
-/// A fault with one line more before its line.
-fn one_line_later(fault: AsmFault) -> AsmFault
-    requires { IsEarly fault (2 ^ 63) }
-    ensures { Err result ≡ behind [] (Err fault) }
-{
-    match fault {
-        AsmFault::Line(line) => AsmFault::Line(line + 1),
-        AsmFault::TooLong(line) => AsmFault::TooLong(line + 1),
-        AsmFault::NoMemory => AsmFault::NoMemory,
-    }
+impl Model for Assembler {
+    ghost use Rattle.x7_listing.specs.Assembling.{AssemblerState};
+
+    ghost Value = { AssemblerState };
+
+    ghost view = { λ a. record { out = a.body.out.items; start = a.body.start; checker = a.body.checker; held = a.held.items; begun = a.begun; count = a.body.count } };
 }
 
-/// Appends the bytes of a text's lines, up to the first line that is none or at which all bytes pass the limit.
-fn put_lines(out: &mut Vec<u8>, text: &[u8]) -> Result<(), AsmFault>
-    requires { vec_len out.old ≤ ASM_LIMIT }
-    ensures bytes { OnOk result ((bytes : List ℕ) × (out.new.items ≡ out.old.items ++ bytes) × AreAsm (ASM_LIMIT - vec_len out.old) (split text.now) (Ok bytes)) }
-    ensures fault { IfErr result (λ fault. (fault ≡ AsmFault.NoMemory) ⊎ AreAsm (ASM_LIMIT - vec_len out.old) (split text.now) (Err fault)) }
-    ensures early { IfErr result (λ fault. IsEarly fault (length text.now + 1)) }
-{
-    let start = out.len();
-    let mut checker = Checker::new();
-    let mut rest = text;
-    let mut count: u64 = 0;
-    loop {
-        let (line, more) = next_line(rest);
-        count += 1;
-        out.reserve(32)?;
-        if !put_checked(out, start, &mut checker, line) {
-            return Err(AsmFault::Line(count));
-        }
-        if out.len() > ASM_LIMIT {
-            return Err(AsmFault::TooLong(count));
-        }
-        match more {
-            Some(after) => rest = after,
-            None => return Ok(()),
+impl Assembler {
+    /// One that has taken no text.
+    pub fn new(alloc: Global) -> Assembler
+        ensures { AssemblerStandsFor result [] }
+    {
+        Assembler {
+            alloc,
+            body: Body {
+                out: Vec::new(alloc),
+                start: 0,
+                checker: Checker::new(),
+                count: 0,
+            },
+            held: Vec::new(alloc),
+            begun: false,
         }
     }
-}
 
-/// The header's bytes, and then those of the lines after its line.
-fn bytes_behind(header: Vec<u8>, lines: Option<&[u8]>) -> Result<Vec<u8>, AsmFault>
-    requires short { vec_len header ≤ 262170 }
-    ensures asm { (others : List (List ℕ)) → MatchOption lines.entry (others ≡ []) (λ text. others ≡ split text.now)
-        → MatchResult result (λ all. Follows header.items others (Ok all.items)) (λ fault. (fault ≡ AsmFault.NoMemory) ⊎ Follows header.items others (Err fault)) }
-{
-    let mut out = header;
-    let Some(text) = lines else {
-        return Ok(out);
-    };
-    match put_lines(&mut out, text) {
-        Ok(()) => Ok(out),
-        Err(fault) => Err(one_line_later(fault)),
+    /// Reads the line that is held, which is the text's first.
+    fn read_first(&mut self) -> Result<(), AsmFault>
+        ensures ok { OnOk result (ReadsNext false self.old.held self.old.out self.old.start self.old.checker self.old.count self.new.out self.new.start self.new.checker self.new.count) }
+        ensures fault { IfErr result (FailsAt false self.old.held self.old.out self.old.start self.old.checker self.old.count) }
+        ensures count { self.new.count ≤ self.old.count + 1 }
+    {
+        if let Some(header) = header_of_line(self.alloc, &self.held)? {
+            self.body.start = header.len();
+            self.body.out = header;
+            self.body.count = self.body.count.saturating_add(1);
+            return Ok(());
+        }
+        self.body.put_one(&self.held)
     }
-}
 
-/// The bytes of a text's header and lines, or its first line that is none or at which they pass the limit.
-fn bytes_of_text(alloc: Global, text: &[u8]) -> Result<Vec<u8>, AsmFault>
-    ensures bytes { IfOk result (λ bytes. IsAsm text.now (Ok bytes.items)) }
-    ensures fault { IfErr result (λ fault. (fault ≡ AsmFault.NoMemory) ⊎ IsAsm text.now (Err fault)) }
-{
-    let (line, lines) = first_line(text);
-    if let Some(header) = header_of_line(alloc, line)? {
-        return bytes_behind(header, lines);
+    /// Reads the line that is held.
+    fn read_next(&mut self) -> Result<(), AsmFault>
+        ensures ok { OnOk result (ReadsNext self.old.begun self.old.held self.old.out self.old.start self.old.checker self.old.count self.new.out self.new.start self.new.checker self.new.count) }
+        ensures fault { IfErr result (FailsAt self.old.begun self.old.held self.old.out self.old.start self.old.checker self.old.count) }
+        ensures count { self.new.count ≤ self.old.count + 1 }
+    {
+        if self.begun {
+            return self.body.put_one(&self.held);
+        }
+        self.read_first()
     }
-    let mut out = Vec::new(alloc);
-    put_lines(&mut out, text)?;
-    Ok(out)
+
+    /// Reads the line that the piece completes, if it completes one. Answers the text behind it.
+    fn complete<'t>(&mut self, piece: &'t [u8]) -> Result<Option<&'t [u8]>, AsmFault>
+        ensures ok { IfOk result (λ found. MatchOption found (TakesPiece self.old self.new piece.now) (λ rest. TakesFront self.old self.new piece.now rest.now)) }
+        ensures fault { IfErr result (FailsIn self.old piece.now) }
+    {
+        let (line, more) = first_line(piece);
+        self.held.extend_from_slice(line)?;
+        let Some(rest) = more else {
+            return Ok(None);
+        };
+        match self.read_next() {
+            Ok(()) => (),
+            Err(fault) => return Err(fault),
+        }
+        self.begun = true;
+        self.held.clear();
+        Ok(Some(rest))
+    }
+
+    /// Takes a piece where no line is held, and the first one was read.
+    fn take_lines(&mut self, piece: &[u8]) -> Result<(), AsmFault>
+        ensures ok { OnOk result (self.old.begun ≡ true → self.old.held ≡ [] → TakesPiece self.old self.new piece.now) }
+        ensures fault { self.old.begun ≡ true → self.old.held ≡ [] → IfErr result (FailsIn self.old piece.now) }
+    {
+        match self.body.put_lines(piece) {
+            Ok(tail) => {
+                self.held.extend_from_slice(tail)?;
+                Ok(())
+            }
+            Err(fault) => Err(fault),
+        }
+    }
+
+    /// Takes the next piece of the text. After an error no more of it is to be taken.
+    pub fn feed(&mut self, piece: &[u8]) -> Result<(), AsmFault>
+        ensures ok { OnOk result (TakesPiece self.old self.new piece.now) }
+        ensures fault { IfErr result (FailsIn self.old piece.now) }
+    {
+        if self.begun && self.held.is_empty() {
+            return self.take_lines(piece);
+        }
+        let found = match self.complete(piece) {
+            Ok(found) => found,
+            Err(fault) => return Err(fault),
+        };
+        match found {
+            Some(rest) => self.take_lines(rest),
+            None => Ok(()),
+        }
+    }
+
+    /// Ends the text: the bytes of its header and lines, or its first fault, which stands in its last line.
+    pub fn finish(self) -> Result<Vec<u8>, AsmFault>
+        ensures bytes { IfOk result (λ bytes. (text : List ℕ) → length text < 2 ^ 63 → AssemblerStandsFor self text → IsAsm text (Ok bytes.items)) }
+        ensures fault { IfErr result (λ fault. (fault ≡ AsmFault.NoMemory) ⊎ ((text : List ℕ) → length text < 2 ^ 63 → AssemblerStandsFor self text → IsAsm text (Err fault))) }
+    {
+        let mut last = self;
+        match last.read_next() {
+            Ok(()) => Ok(last.body.out),
+            Err(fault) => Err(fault),
+        }
+    }
 }
 
 /// Assembles a text: the bytes of its header and lines, or its first line that is none or at which they pass the limit.
@@ -150,7 +188,11 @@ pub fn assemble(alloc: Global, text: &[u8]) -> Result<Vec<u8>, AsmFault>
     ensures back { (bytes : List ℕ) → AreBytes bytes → length bytes ≤ ASM_LIMIT → stream_listing bytes ≡ Ok text.now
         → MatchResult result (λ assembled. assembled.items ≡ bytes) (λ fault. fault ≡ AsmFault.NoMemory) }
 {
-    bytes_of_text(alloc, text)
+    let mut assembler = Assembler::new(alloc);
+    match assembler.feed(text) {
+        Ok(()) => assembler.finish(),
+        Err(fault) => Err(fault),
+    }
 }
 
 #[cfg(test)]

@@ -1,5 +1,5 @@
 //! Laws of the definitions.
-ghost use Rattle.std.specs.Prelude.{◌≡◌, ◌+◌, ◌≤◌, ℕ, List, [], ◌++◌, length, true, Result, Ok};
+ghost use Rattle.std.specs.Prelude.{◌≡◌, ◌+◌, ◌*◌, ◌≤◌, ℕ, List, [], ◌++◌, length, true, Result, Ok};
 ghost use Rattle.x7_words.specs.Word.{AreBytes};
 ghost use Rattle.x7_text.specs.Lines.{has_no_end};
 ghost use Rattle.x7_listing.specs.Assembly.{asm_limit, IsAsm};
@@ -47,6 +47,11 @@ pub fn lines_hold_no_end()
 /// The listing of a stream assembles back to the stream, its header included.
 pub fn listing_assembles_back()
     ensures { (bytes text : List ℕ) → AreBytes bytes → length bytes ≤ asm_limit → stream_listing bytes ≡ Ok text → IsAsm text (Ok bytes) }
+{}
+
+/// A listing has at most five bytes for each byte of its stream, and four more.
+pub fn listing_is_short()
+    ensures { (bytes text : List ℕ) → AreBytes bytes → stream_listing bytes ≡ Ok text → length text ≤ 5 * length bytes + 4 }
 {}
 
 /// A header's line is that of no other header, and no other line.

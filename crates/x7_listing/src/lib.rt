@@ -4,21 +4,23 @@
 mod assembler;
 mod at_once;
 mod bit_line;
+mod body;
 mod laws;
 mod line;
 mod lines;
 mod lister;
 mod pen;
+mod quick;
 mod reading;
 mod rows;
 #[cfg(test)]
 mod tests;
 
-pub use assembler::{ASM_LIMIT, AsmFault, assemble};
+pub use assembler::{ASM_LIMIT, AsmFault, Assembler, assemble};
 pub use bit_line::header_line;
 pub use laws::{
     few_bytes_are_held, header_line_is_its_own, lines_hold_no_end, listing_assembles_back,
-    listing_is_of_lines, one_line, one_listing, one_outcome, told_is_a_front,
+    listing_is_of_lines, listing_is_short, one_line, one_listing, one_outcome, told_is_a_front,
 };
 pub use line::HeadLine;
 pub use lister::Lister;

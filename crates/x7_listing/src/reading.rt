@@ -1,5 +1,5 @@
 //! Reading one line: the bytes that it stands for.
-ghost use Rattle.std.specs.Prelude.{◌≡◌, ◌≢◌, ℕ, List, ◌<◌, ◌≤◌, ◌+◌, ◌*◌, ◌^◌, ◌∷◌, ◌++◌, length, slice_index, decimal, MatchOption, vec_len, vec_capacity};
+ghost use Rattle.std.specs.Prelude.{◌≡◌, ◌≢◌, ℕ, List, ◌<◌, ◌≤◌, ◌+◌, ◌*◌, ◌^◌, ◌∷◌, ◌++◌, length, slice_index, decimal, IfSome, MatchOption, vec_len, vec_capacity};
 ghost use Rattle.x7_words.specs.Word.{bytes_of_word};
 ghost use Rattle.x7_regs.specs.Command.{code_of, command_name_of};
 ghost use Rattle.x7_regs.specs.Register.{reg_name};
@@ -49,8 +49,24 @@ fn register_before(text: &[u8]) -> Option<(u8, &[u8])>
     Some((number, &text[at + 1..]))
 }
 
+/// A register's number and a word count, where a space stands behind the name at this place.
+pub(crate) fn access_at(text: &[u8], space: usize) -> Option<(u8, u32)>
+    ensures { IfSome result (λ a. IsAccess (a.0, a.1) × (text.now ≡ access_text (a.0, a.1))) }
+{
+    if space >= text.len() || text[space] != b' ' {
+        return None;
+    }
+    let Some(register) = reg_named(&text[..space]) else {
+        return None;
+    };
+    let Some(count) = count_of(&text[space + 1..], 2048) else {
+        return None;
+    };
+    Some((register, count))
+}
+
 /// Appends the bytes of a word.
-fn put_word(out: &mut Vec<u8>, w: u32)
+pub(crate) fn put_word(out: &mut Vec<u8>, w: u32)
     requires { vec_len out.old + 32 ≤ vec_capacity out.old }
     ensures appends { Appends out.old out.new (bytes_of_word w) 32 }
 {
@@ -58,7 +74,7 @@ fn put_word(out: &mut Vec<u8>, w: u32)
 }
 
 /// Appends the word of eight digits.
-fn put_digits(out: &mut Vec<u8>, digits: &[u8]) -> bool
+pub(crate) fn put_digits(out: &mut Vec<u8>, digits: &[u8]) -> bool
     requires { vec_len out.old + 32 ≤ vec_capacity out.old }
     ensures reads { Reads (λ w. w < 2 ^ 32) hex_word bytes_of_word result digits.now out.old.items out.new.items }
     ensures room { StaysWithin out.old out.new 32 }
@@ -73,7 +89,7 @@ fn put_digits(out: &mut Vec<u8>, digits: &[u8]) -> bool
 }
 
 /// Appends the code of a command.
-fn put_command(out: &mut Vec<u8>, name: &[u8]) -> bool
+pub(crate) fn put_command(out: &mut Vec<u8>, name: &[u8]) -> bool
     requires { vec_len out.old + 32 ≤ vec_capacity out.old }
     ensures reads { Reads (λ (c : Command). Unit {0}) command_name_of (λ c. bytes_of_word (code_of c)) result name.now out.old.items out.new.items }
     ensures room { StaysWithin out.old out.new 32 }

@@ -1,5 +1,7 @@
 -- A text that assembles to nothing.
-use Rattle.std.proofs.Common.{◌≡◌, ℕ, List, Option, Result, Ok, Err, refl, subst, ◌⊎◌, inl, inr}
+use Rattle.std.proofs.Common.{◌≡◌, ℕ, ◌^◌, ◌<◌, List, [], ◌++◌, Option, None, Some, Result, Ok, Err, length, refl, subst, sym, append_assoc, append-nil, ◌⊎◌, inl, inr}
+use Rattle.x7_listing.specs.Assembling.{AssemblerStandsFor, AssemblerState, FailsIn}
+use Rattle.x7_tool.specs.Turn.{IsFed}
 use Rattle.x7_listing.specs.Assembly.{IsAsm}
 use Rattle.x7_listing.specs.declared.assembler.AsmFault.{AsmFault}
 use Rattle.x7_listing.specs.declared.assembler.AsmFault.TheVariants as fault
@@ -22,3 +24,34 @@ pub asm_faulted : (known : Option Known) (F L : List ℕ → Type 0) (due : Know
 asm_faulted known F L due name text f event e whole why =
     subst (λ (x : Event). IsCausedBy {A = Answer} known F L (λ t end. AssembledAs name (due t) end) (Err x)) e
     (after_text_by known F L due text (AssembledAs name) (Err (asm_event name f)) whole (faulted_by F L name text f why))
+
+-- ---- an assembler that is fed
+
+-- a piece behind a fault
+pub fed_on : (found : Option AsmFault) (f : AsmFault) (a b : AssemblerState) (text piece : List ℕ) → found ≡ Some f → IsFed found a text → IsFed (Some f) b (text ++ piece)
+fed_on found f a b text piece e h = faulty (subst (λ o. IsFed o a text) e h)
+  where
+    faulty : (f ≡ fault.NoMemory) ⊎ ((more : List ℕ) → IsAsm (text ++ more) (Err f)) → (f ≡ fault.NoMemory) ⊎ ((more : List ℕ) → IsAsm ((text ++ piece) ++ more) (Err f))
+    faulty (inl n) = inl n
+    faulty (inr k) = inr (λ more. subst (λ t. IsAsm t (Err f)) (sym (append_assoc text piece more)) (k (piece ++ more)))
+
+-- a fault in a piece
+pub fed_fault : (found : Option AsmFault) (f : AsmFault) (a b : AssemblerState) (text piece : List ℕ) → found ≡ None → length (text ++ piece) < 2 ^ 63 → FailsIn a piece f → IsFed found a text → IsFed (Some f) b (text ++ piece)
+fed_fault found f a b text piece e fits fails h = faulty fails
+  where
+    faulty : FailsIn a piece f → (f ≡ fault.NoMemory) ⊎ ((more : List ℕ) → IsAsm ((text ++ piece) ++ more) (Err f))
+    faulty (inl n) = inl n
+    faulty (inr k) = inr (λ more. k text more fits (subst (λ o. IsFed o a text) e h))
+
+-- the fault of a whole text
+pub fed_end : (found : Option AsmFault) (f : AsmFault) (a : AssemblerState) (text : List ℕ) → found ≡ Some f → IsFed found a text → (f ≡ fault.NoMemory) ⊎ IsAsm text (Err f)
+fed_end found f a text e h = faulty (subst (λ o. IsFed o a text) e h)
+  where
+    faulty : (f ≡ fault.NoMemory) ⊎ ((more : List ℕ) → IsAsm (text ++ more) (Err f)) → (f ≡ fault.NoMemory) ⊎ IsAsm text (Err f)
+    faulty (inl n) = inl n
+    faulty (inr k) = inr (subst (λ t. IsAsm t (Err f)) (append-nil text) (k []))
+
+-- the fault of the end of a text
+pub end_fault : (a : AssemblerState) (f : AsmFault) (text : List ℕ) → length text < 2 ^ 63 → AssemblerStandsFor a text → (f ≡ fault.NoMemory) ⊎ ((t : List ℕ) → length t < 2 ^ 63 → AssemblerStandsFor a t → IsAsm t (Err f)) → (f ≡ fault.NoMemory) ⊎ IsAsm text (Err f)
+end_fault a f text fits s (inl n) = inl n
+end_fault a f text fits s (inr k) = inr (k text fits s)

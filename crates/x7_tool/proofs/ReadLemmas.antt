@@ -225,7 +225,7 @@ rest_unread old mid new name taken limit left most f0 f1 f2 event e n fl (inr h)
     inr (h.0, (taken ++ piece, (new, (rest_more old mid new taken piece e h.1.1.0, omega (arith, n, h.1.1.1, length-append taken piece)))))
 
 -- an input that was read to its end
-whole_read : (contents : Option (List ℕ → Option (List ℕ))) (flash : Option (List ℕ)) (F L : List ℕ → Type 0) (name whole : List ℕ) (rest : Option (List ℕ)) (limit : ℕ) → Selects contents name (preceded whole rest) → AtEnd rest → length whole ≤ limit
+pub whole_read : (contents : Option (List ℕ → Option (List ℕ))) (flash : Option (List ℕ)) (F L : List ℕ → Type 0) (name whole : List ℕ) (rest : Option (List ℕ)) (limit : ℕ) → Selects contents name (preceded whole rest) → AtEnd rest → length whole ≤ limit
     → IsCaused (with_inputs contents flash) F L (λ t. whole_in t limit name) (Ok whole)
 whole_read None flash F L name whole rest limit s e h = inr tt
 whole_read (Some inputs) flash F L name whole rest limit s e h =

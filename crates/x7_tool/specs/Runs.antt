@@ -77,9 +77,9 @@ abbrev pub KeepsFlash : Bool → FlashState → FlashState → Type 0
 KeepsFlash false old new = new ≡ old
 KeepsFlash true old new = new.bytes ≡ old.bytes
 
--- an input has this text, which is within the limit of texts
+-- an input has this text
 abbrev pub HasText : Outside → List ℕ → List ℕ → Type 0
-HasText o name text = (contents : List ℕ → Option (List ℕ)) × ((o.inputs ≡ Some contents) × (contents name ≡ Some text) × (length text ≤ text_limit))
+HasText o name text = (contents : List ℕ → Option (List ℕ)) × ((o.inputs ≡ Some contents) × (contents name ≡ Some text))
 
 -- the run ended with these bytes, or for want of memory
 abbrev pub LeadsBack : Status → Result Answer Event → List ℕ → Type 0
@@ -88,7 +88,7 @@ LeadsBack s end bytes = (s ≡ status.NoMemory) ⊎ (end ≡ Ok (record { stoppe
 -- texts lead back, where no count rose: the listing of a stream assembles to the stream, its header included, and the flash text of an image gives the image
 abbrev pub Back : Option Asked → Outside → Outside → Status → Result Answer Event → Type 0
 Back (Some (Assembling name)) old new s end = (bytes text : List ℕ) → AreBytes bytes → length bytes ≤ stream_limit → stream_listing bytes ≡ Ok text → HasText old name text → IsQuiet old new → LeadsBack s end bytes
-Back (Some (FromMcs name)) old new s end = (bytes : List ℕ) → AreBytes bytes → length bytes ≤ flash_limit → HasText old name (mcs_text bytes) → IsQuiet old new → LeadsBack s end bytes
+Back (Some (FromMcs name)) old new s end = (bytes : List ℕ) → AreBytes bytes → length bytes ≤ flash_limit → length (mcs_text bytes) ≤ text_limit → HasText old name (mcs_text bytes) → IsQuiet old new → LeadsBack s end bytes
 Back form old new s end = Unit {0}
 
 -- a run of the command that the words ask for

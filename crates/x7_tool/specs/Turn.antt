@@ -1,10 +1,14 @@
 -- Inputs that are read, and a listing that is written, turn by turn.
-use Rattle.std.specs.Prelude.{◌≡◌, ◌<◌, ◌≤◌, ◌⊎◌, ◌++◌, ℕ, Bool, true, List, [], Option, Result, Ok, Err, drop, length}
+use Rattle.std.specs.Prelude.{◌≡◌, ◌<◌, ◌≤◌, ◌⊎◌, ◌++◌, ℕ, Bool, true, List, [], Option, None, Some, Ok, Err, drop, length}
 use Rattle.x7_words.specs.Count.{HasRisen}
 use Rattle.x7_words.specs.Input.{AtEnd, Lacks, preceded}
 use Rattle.x7_words.specs.Sink.{appended}
 use Rattle.x7_tool.specs.Event.{Event, bad_input, missing, no_memory, read_fault, too_large}
 use Rattle.x7_tool.specs.declared.bad_input.InputFault.TheVariants as input
+use Rattle.x7_listing.specs.Assembly.{IsAsm}
+use Rattle.x7_listing.specs.Assembling.{AssemblerStandsFor, AssemblerState}
+use Rattle.x7_listing.specs.declared.assembler.AsmFault.{AsmFault}
+use Rattle.x7_listing.specs.declared.assembler.AsmFault.TheVariants as fault
 use Rattle.x7_listing.specs.Listing.{listing_of}
 use Rattle.x7_listing.specs.StreamListing.{stream_listing}
 use Rattle.x7_listing.specs.Telling.{ListerState, ListerStandsFor}
@@ -78,3 +82,8 @@ pub record IsBadFront (rest rest_now : Option (List ℕ)) (name : List ℕ) (eve
 abbrev pub Unfronted : Option (List ℕ) → Option (List ℕ) → List ℕ → ℕ → ℕ → Event → Type 0
 Unfronted rest rest_now name faults faults_now event =
     (event ≡ no_memory) ⊎ (((event ≡ read_fault name) × HasRisen faults faults_now) ⊎ IsBadFront rest rest_now name event)
+
+-- an assembler was fed this text, or a first part of it, in which it found this fault
+abbrev pub IsFed : Option AsmFault → AssemblerState → List ℕ → Type 0
+IsFed None a text = AssemblerStandsFor a text
+IsFed (Some f) a text = (f ≡ fault.NoMemory) ⊎ ((more : List ℕ) → IsAsm (text ++ more) (Err f))

@@ -1,16 +1,18 @@
 //! The command `asm`.
-ghost use Rattle.std.specs.Prelude.{◌≡◌, ℕ, List, [], ◌∷◌, Option};
+ghost use Rattle.std.specs.Prelude.{◌≡◌, ℕ, ◌+◌, ◌^◌, ◌<◌, ◌≤◌, List, [], ◌∷◌, ◌++◌, length, Option, Ok, Err, IfOk, IfErr};
+ghost use Rattle.x7_listing.specs.Assembling.{AssemblerStandsFor};
 ghost use Rattle.x7_tool.specs.Message.{event_of};
 ghost use Rattle.x7_tool.specs.Outcome.{AssembledAs, asm_event, text_limit, whole_in, with_inputs};
 ghost use Rattle.x7_tool.specs.Play.{whole_of};
-ghost use Rattle.x7_tool.specs.Run.{IsCausedBy, RisesFor, seen};
+ghost use Rattle.x7_tool.specs.Run.{IsCaused, IsCausedBy, RisesFor, seen};
+ghost use Rattle.x7_tool.specs.Turn.{IsFed};
 
 use crate::bad_input::InputFault;
-use crate::read::{TEXT_LIMIT, read_whole};
+use crate::read::{TEXT_LIMIT, TURN, next_turn, open};
 use crate::refusal::{Refusal, Why};
 use crate::text::Text;
 use std::alloc::Global;
-use x7_listing::{AsmFault, assemble};
+use x7_listing::{AsmFault, Assembler};
 use x7_words::Inputs;
 
 /// Why a text assembles to nothing.
@@ -28,7 +30,53 @@ fn refusal_of<'w>(name: &'w str, fault: AsmFault) -> Refusal<'w>
     }
 }
 
-/// The bytes of `asm TEXT`.
+/// Feeds a piece, where no fault was found before it. Answers the first fault.
+fn feed_turn(assembler: &mut Assembler, found: Option<AsmFault>, piece: &[u8]) -> Option<AsmFault>
+    ensures { (text : List ℕ) → length (text ++ piece.now) < 2 ^ 63 → IsFed found assembler.old text → IsFed result assembler.new (text ++ piece.now) }
+{
+    if let Some(fault) = found {
+        return Some(fault);
+    }
+    match assembler.feed(piece) {
+        Ok(()) => None,
+        Err(fault) => Some(fault),
+    }
+}
+
+/// Feeds a whole text turn by turn, and reads it to its end where there is a fault, which is answered.
+fn feed_whole<'w, I: Inputs>(
+    inputs: &mut I,
+    name: &'w str,
+    assembler: &mut Assembler,
+) -> Result<Option<AsmFault>, Refusal<'w>>
+    requires new { AssemblerStandsFor assembler.old [] }
+    ensures ok { IfOk result (λ found. (text : List ℕ) × (length text ≤ text_limit) × IsFed found assembler.new text
+        × ((flash : Option (List ℕ)) → IsCaused (with_inputs (I.contents inputs.old) flash) (RisesFor (name.now ∷ []) (I.faults inputs.old) (I.faults inputs.new)) (RisesFor (name.now ∷ []) (I.absences inputs.old) (I.absences inputs.new))
+        (λ known. whole_in known text_limit name.now) (Ok text))) }
+    ensures err { IfErr result (λ r. (flash : Option (List ℕ)) → IsCaused (with_inputs (I.contents inputs.old) flash) (RisesFor (name.now ∷ []) (I.faults inputs.old) (I.faults inputs.new)) (RisesFor (name.now ∷ []) (I.absences inputs.old) (I.absences inputs.new))
+        (λ known. whole_in known text_limit name.now) (Err (event_of r))) }
+{
+    match open(inputs, name) {
+        Ok(()) => (),
+        Err(refusal) => return Err(refusal),
+    }
+    let mut piece = [0u8; TURN];
+    let mut left = TEXT_LIMIT;
+    let mut found = None;
+    loop {
+        let turn = match next_turn(inputs, name, left, &mut piece) {
+            Ok(turn) => turn,
+            Err(refusal) => return Err(refusal),
+        };
+        found = feed_turn(assembler, found, &piece[..turn.count]);
+        left -= turn.count;
+        if turn.last {
+            return Ok(found);
+        }
+    }
+}
+
+/// The bytes of `asm TEXT`, which is assembled while it is read.
 pub(crate) fn asm<'w, I: Inputs>(
     alloc: Global,
     inputs: &mut I,
@@ -37,11 +85,15 @@ pub(crate) fn asm<'w, I: Inputs>(
     ensures { (flash : Option (List ℕ)) → IsCausedBy (with_inputs (I.contents inputs.old) flash) (RisesFor (name.now ∷ []) (I.faults inputs.old) (I.faults inputs.new)) (RisesFor (name.now ∷ []) (I.absences inputs.old) (I.absences inputs.new))
         (λ known end. AssembledAs name.now (whole_in known text_limit name.now) end) (seen whole_of result) }
 {
-    let text = match read_whole(alloc, inputs, name, TEXT_LIMIT) {
-        Ok(text) => text,
+    let mut assembler = Assembler::new(alloc);
+    let found = match feed_whole(inputs, name, &mut assembler) {
+        Ok(found) => found,
         Err(refusal) => return Err(refusal),
     };
-    match assemble(alloc, &text) {
+    if let Some(fault) = found {
+        return Err(refusal_of(name, fault));
+    }
+    match assembler.finish() {
         Ok(bytes) => Ok(Text {
             stopped: false,
             text: bytes,

@@ -1,4 +1,4 @@
-use crate::{AsmFault, Lister, assemble, header_line};
+use crate::{AsmFault, Assembler, Lister, assemble, header_line};
 use std::alloc::Global;
 use std::process::Abort;
 use std::test::Fail;
@@ -142,5 +142,27 @@ fn headers_and_lines(rt: HostRuntime) {
     ];
     for (text, line) in faults {
         assert_fault(&rt, rt.alloc(), text, AsmFault::Line(line));
+    }
+}
+
+/// The text, fed in pieces of this length, assembles to these bytes.
+fn assert_pieces(rt: &impl Abort, alloc: Global, text: &[u8], length: usize, want: &[u8]) {
+    let mut assembler = Assembler::new(alloc);
+    for piece in text.chunks(length.max(1)) {
+        assert!(rt; assembler.feed(piece).is_ok(), "a fault");
+    }
+    match assembler.finish() {
+        Ok(bytes) => assert_eq!(rt; bytes.as_slice(), want),
+        Err(_) => assert!(rt; false, "a fault at the end"),
+    }
+}
+
+#[test]
+fn pieces_of_every_length(rt: HostRuntime) {
+    let text = b"bit - - - - 0\n# a header\nsync\nwrite CMD 1\ncmd RCRC\nnop\nnop\ncrc";
+    let want =
+        b"\0\x09\x0F\xF0\x0F\xF0\x0F\xF0\x0F\xF0\0\0\x01a\0\0b\0\0c\0\0d\0\0e\0\0\0\0\xAA\x99\x55\x66\x30\0\x80\x01\0\0\0\x07\x20\0\0\0\x20\0\0\0\x30\0\0\x01\0\0\0\0";
+    for length in [1, 2, 3, 5, 7, 16, 1000] {
+        assert_pieces(&rt, rt.alloc(), text, length, want);
     }
 }

@@ -1,40 +1,29 @@
-use Rattle.std.proofs.Common.{◌≡◌, ℕ, List, [], ◌∷◌, Result, Ok, Err, false, refl, ◌⊎◌, inr, subst, sym}
-use Rattle.x7_listing.specs.Assembly.{IsAsm}
-use Rattle.x7_listing.specs.declared.assembler.AsmFault.TheVariants as fault
-use Rattle.x7_tool.specs.Event.{Event}
+use Rattle.std.proofs.Common.{ℕ, List, [], ◌∷◌, sym, subst, arith}
+use Rattle.x7_listing.specs.Assembling.{AssemblerStandsFor}
 use Rattle.x7_tool.specs.Message.{event_of}
-use Rattle.x7_tool.specs.Outcome.{Answer, AssembledAs, text_limit, whole_in, with_inputs}
+use Rattle.x7_tool.specs.Outcome.{text_limit, whole_in, with_inputs}
 use Rattle.x7_tool.specs.Run.{RisesFor}
-use Rattle.x7_tool.proofs.AsmLemmas.{asm_faulted}
-use Rattle.x7_tool.proofs.ReadLemmas.{after_text_by, unread_by}
+use Rattle.x7_tool.specs.Turn.{IsFed}
+use Rattle.x7_tool.proofs.AsmLemmas.{asm_faulted, end_fault, fed_end}
 use Rattle.x7_tool.proofs.asm.asm.Goals as goal
 
-pub returns-in-Err : goal.returns-in-Err
-returns-in-Err g c = λ flash.
+pub returns-in-Some : goal.returns-in-Some
+returns-in-Some g c = λ flash.
     let i = g.I.Inputs in
     let known = with_inputs (i.contents c.args.inputs.now) flash in
     let name = c.args.name.now in
-    let F : List ℕ → Type 0 = RisesFor (name ∷ []) (i.faults c.args.inputs.now) (i.faults c.read_whole.new.inputs) in
-    let L : List ℕ → Type 0 = RisesFor (name ∷ []) (i.absences c.args.inputs.now) (i.absences c.read_whole.new.inputs) in
-    unread_by known F L (λ t. whole_in t text_limit name) (event_of c.in-Err.refusal) (AssembledAs name) (λ x. refl) (c.in-Err.ensures.due flash)
+    let F : List ℕ → Type 0 = RisesFor (name ∷ []) (i.faults c.args.inputs.now) (i.faults c.feed_whole.new.inputs) in
+    let L : List ℕ → Type 0 = RisesFor (name ∷ []) (i.absences c.args.inputs.now) (i.absences c.feed_whole.new.inputs) in
+    let t = c.in-Ok.ensures.ok in
+    asm_faulted known F L (λ t. whole_in t text_limit name) name t.0 c.in-Some.fault (event_of c.refusal_of.result) (sym c.refusal_of.ensures) (t.3 flash) (fed_end c.in-Ok.found c.in-Some.fault c.feed_whole.new.assembler t.0 c.in-Some.is t.2)
 
-pub returns-in-Ok-assemble : goal.returns-in-Ok-assemble
-returns-in-Ok-assemble g c = λ flash.
+pub returns-in-Err-finish : goal.returns-in-Err-finish
+returns-in-Err-finish g c = λ flash.
     let i = g.I.Inputs in
     let known = with_inputs (i.contents c.args.inputs.now) flash in
     let name = c.args.name.now in
-    let F : List ℕ → Type 0 = RisesFor (name ∷ []) (i.faults c.args.inputs.now) (i.faults c.read_whole.new.inputs) in
-    let L : List ℕ → Type 0 = RisesFor (name ∷ []) (i.absences c.args.inputs.now) (i.absences c.read_whole.new.inputs) in
-    let is = rw c.deref.ensures.value at c.in-Ok-assemble.ensures.bytes in
-    let got : Result Answer Event = Ok (record { stopped = false; text = c.in-Ok-assemble.bytes.items }) in
-    after_text_by known F L (λ t. whole_in t text_limit name) c.in-Ok.text.items (AssembledAs name) got (c.in-Ok.ensures.due flash) (inr (tt, tt, (refl, is)))
-
-pub returns : goal.returns
-returns g c = λ flash.
-    let i = g.I.Inputs in
-    let known = with_inputs (i.contents c.args.inputs.now) flash in
-    let name = c.args.name.now in
-    let F : List ℕ → Type 0 = RisesFor (name ∷ []) (i.faults c.args.inputs.now) (i.faults c.read_whole.new.inputs) in
-    let L : List ℕ → Type 0 = RisesFor (name ∷ []) (i.absences c.args.inputs.now) (i.absences c.read_whole.new.inputs) in
-    let why = subst (λ (t : List ℕ). (c.in-Err-assemble.fault ≡ fault.NoMemory) ⊎ IsAsm t (Err c.in-Err-assemble.fault)) c.deref.ensures.value c.in-Err-assemble.ensures.fault in
-    asm_faulted known F L (λ t. whole_in t text_limit name) name c.in-Ok.text.items c.in-Err-assemble.fault (event_of c.refusal_of.result) (sym c.refusal_of.ensures) (c.in-Ok.ensures.due flash) why
+    let F : List ℕ → Type 0 = RisesFor (name ∷ []) (i.faults c.args.inputs.now) (i.faults c.feed_whole.new.inputs) in
+    let L : List ℕ → Type 0 = RisesFor (name ∷ []) (i.absences c.args.inputs.now) (i.absences c.feed_whole.new.inputs) in
+    let t = c.in-Ok.ensures.ok in
+    let s : AssemblerStandsFor c.feed_whole.new.assembler t.0 = subst (λ o. IsFed o c.feed_whole.new.assembler t.0) c.in_default.is t.2 in
+    asm_faulted known F L (λ t. whole_in t text_limit name) name t.0 c.in-Err-finish.fault (event_of c.refusal_of-in-Err-finish.result) (sym c.refusal_of-in-Err-finish.ensures) (t.3 flash) (end_fault c.feed_whole.new.assembler c.in-Err-finish.fault t.0 (omega (arith, t.1)) s c.in-Err-finish.ensures.fault)

@@ -1,0 +1,190 @@
+//! Lines of a listing that are read at once: full rows, single words and commands, and no-ops by eight.
+ghost use Rattle.std.specs.Prelude.{◌≡◌, ◌≤◌, ◌+◌, drop, length, vec_len, vec_capacity, IfOk, MatchOption};
+ghost use Rattle.x7_text.specs.Reads.{StaysWithin};
+ghost use Rattle.x7_listing.specs.Assembling.{TakesFirst, TakesLines};
+
+use crate::assembler::ASM_LIMIT;
+use crate::reading::{access_at, put_command, put_digits, put_word};
+use std::simd::prelude::*;
+use x7_text::{put, put_byte_row, put_word_row};
+use x7_words::{NoMemory, is_same};
+
+/// The lines of eight no-ops.
+const NOPS: &[u8; 32] = b"nop\nnop\nnop\nnop\nnop\nnop\nnop\nnop\n";
+
+/// The bytes of eight no-ops.
+const NOP_BYTES: &[u8; 32] =
+    b"\x20\0\0\0\x20\0\0\0\x20\0\0\0\x20\0\0\0\x20\0\0\0\x20\0\0\0\x20\0\0\0\x20\0\0\0";
+
+/// Some whole lines that were read: how many bytes of the text they are, and how many lines.
+#[derive(Clone, Copy, Drop)]
+pub(crate) struct Taken {
+    pub(crate) size: usize,
+    pub(crate) count: u64,
+}
+
+/// Appends the bytes of eight no-ops, if their lines begin the text.
+#[inline(always)]
+fn put_nops(out: &mut Vec<u8>, text: &[u8]) -> Option<Taken>
+    requires room { vec_len out.old + 32 ≤ vec_capacity out.old }
+    requires long { 77 ≤ length text.now }
+    ensures takes { MatchOption result (out.new.items ≡ out.old.items) (λ taken. TakesFirst text.now out.old.items out.new.items taken.size taken.count) }
+    ensures room { StaysWithin out.old out.new 32 }
+{
+    if !is_same(&text[..32], NOPS) {
+        return None;
+    }
+    put(out, NOP_BYTES);
+    Some(Taken { size: 32, count: 8 })
+}
+
+/// Appends the bytes of a full `data` line, if one begins the text.
+#[inline(always)]
+fn put_data(out: &mut Vec<u8>, text: &[u8]) -> Option<Taken>
+    requires room { vec_len out.old + 32 ≤ vec_capacity out.old }
+    requires long { 77 ≤ length text.now }
+    ensures takes { MatchOption result (out.new.items ≡ out.old.items) (λ taken. TakesFirst text.now out.old.items out.new.items taken.size taken.count) }
+    ensures room { StaysWithin out.old out.new 32 }
+{
+    if !is_same(&text[..4], b"data") || text[76] != b'\n' || !put_word_row(out, &text[4..76]) {
+        return None;
+    }
+    Some(Taken { size: 77, count: 1 })
+}
+
+/// Appends the bytes of a full `bytes` line, if one begins the text.
+#[inline(always)]
+fn put_bytes(out: &mut Vec<u8>, text: &[u8]) -> Option<Taken>
+    requires room { vec_len out.old + 32 ≤ vec_capacity out.old }
+    requires long { 77 ≤ length text.now }
+    ensures takes { MatchOption result (out.new.items ≡ out.old.items) (λ taken. TakesFirst text.now out.old.items out.new.items taken.size taken.count) }
+    ensures room { StaysWithin out.old out.new 32 }
+{
+    if !is_same(&text[..6], b"bytes ") || text[70] != b'\n' || !put_byte_row(out, &text[6..70]) {
+        return None;
+    }
+    Some(Taken { size: 71, count: 1 })
+}
+
+/// The place of the first of these bytes among 16, or one behind them.
+#[inline(always)]
+fn place_of(byte: u8, bytes: u8x16) -> usize {
+    bytes
+        .simd_eq(u8x16::splat(byte))
+        .to_bitmask()
+        .trailing_zeros() as usize
+}
+
+/// Appends the bytes of a `data` line of one word, if one begins the text.
+#[inline(always)]
+fn put_single(out: &mut Vec<u8>, text: &[u8]) -> Option<Taken>
+    requires room { vec_len out.old + 32 ≤ vec_capacity out.old }
+    requires long { 77 ≤ length text.now }
+    ensures takes { MatchOption result (out.new.items ≡ out.old.items) (λ taken. TakesFirst text.now out.old.items out.new.items taken.size taken.count) }
+    ensures room { StaysWithin out.old out.new 32 }
+{
+    if !is_same(&text[..5], b"data ") || text[13] != b'\n' || !put_digits(out, &text[5..13]) {
+        return None;
+    }
+    Some(Taken { size: 14, count: 1 })
+}
+
+/// Appends the bytes of a `cmd` line, if one begins the text.
+#[inline(always)]
+fn put_cmd(out: &mut Vec<u8>, text: &[u8]) -> Option<Taken>
+    requires room { vec_len out.old + 32 ≤ vec_capacity out.old }
+    requires long { 77 ≤ length text.now }
+    ensures takes { MatchOption result (out.new.items ≡ out.old.items) (λ taken. TakesFirst text.now out.old.items out.new.items taken.size taken.count) }
+    ensures room { StaysWithin out.old out.new 32 }
+{
+    let size = place_of(b'\n', u8x16::from_slice(&text[4..]));
+    if size > 16 || !is_same(&text[..4], b"cmd ") || text[4 + size] != b'\n' {
+        return None;
+    }
+    if !put_command(out, &text[4..4 + size]) {
+        return None;
+    }
+    Some(Taken {
+        size: 5 + size,
+        count: 1,
+    })
+}
+
+/// Appends the bytes of a `write` line with a count of one digit, if one begins the text.
+#[inline(always)]
+fn put_write(out: &mut Vec<u8>, text: &[u8]) -> Option<Taken>
+    requires room { vec_len out.old + 32 ≤ vec_capacity out.old }
+    requires long { 77 ≤ length text.now }
+    ensures takes { MatchOption result (out.new.items ≡ out.old.items) (λ taken. TakesFirst text.now out.old.items out.new.items taken.size taken.count) }
+    ensures room { StaysWithin out.old out.new 32 }
+{
+    let space = place_of(b' ', u8x16::from_slice(&text[6..]));
+    if space > 16 || !is_same(&text[..6], b"write ") || text[8 + space] != b'\n' {
+        return None;
+    }
+    let Some((register, count)) = access_at(&text[6..8 + space], space) else {
+        return None;
+    };
+    put_word(out, 0x3000_0000 + 8192 * u32::from(register) + count);
+    Some(Taken {
+        size: 9 + space,
+        count: 1,
+    })
+}
+
+/// Appends the bytes of a `data` line of eight words or of one, if one begins the text.
+#[inline(always)]
+fn put_words(out: &mut Vec<u8>, text: &[u8]) -> Option<Taken>
+    requires room { vec_len out.old + 32 ≤ vec_capacity out.old }
+    requires long { 77 ≤ length text.now }
+    ensures takes { MatchOption result (out.new.items ≡ out.old.items) (λ taken. TakesFirst text.now out.old.items out.new.items taken.size taken.count) }
+    ensures room { StaysWithin out.old out.new 32 }
+{
+    if text[13] == b'\n' {
+        put_single(out, text)
+    } else {
+        put_data(out, text)
+    }
+}
+
+/// Appends the bytes of some first lines of the text, if they are of those that are read at once.
+#[inline(always)]
+fn put_some(out: &mut Vec<u8>, text: &[u8]) -> Option<Taken>
+    requires room { vec_len out.old + 32 ≤ vec_capacity out.old }
+    ensures takes { MatchOption result (out.new.items ≡ out.old.items) (λ taken. TakesFirst text.now out.old.items out.new.items taken.size taken.count) }
+    ensures room { StaysWithin out.old out.new 32 }
+{
+    if text.len() < 77 {
+        return None;
+    }
+    match text[0] {
+        b'd' => put_words(out, text),
+        b'w' => put_write(out, text),
+        b'c' => put_cmd(out, text),
+        b'b' => put_bytes(out, text),
+        b'n' => put_nops(out, text),
+        _ => None,
+    }
+}
+
+/// Appends the bytes of the text's first lines, as far as they are read at once and their bytes are within the limit.
+pub(crate) fn put_quick(out: &mut Vec<u8>, text: &[u8]) -> Result<Taken, NoMemory>
+    ensures takes { IfOk result (λ taken. TakesLines text.now (drop taken.size text.now) out.old.items out.new.items taken.count) }
+    ensures few { IfOk result (λ taken. (taken.size ≤ length text.now) × (taken.count ≤ taken.size)) }
+    ensures within { vec_len out.old ≤ ASM_LIMIT → vec_len out.new ≤ ASM_LIMIT }
+{
+    let mut all = Taken { size: 0, count: 0 };
+    loop {
+        out.reserve(32)?;
+        if out.len() > ASM_LIMIT - 32 {
+            return Ok(all);
+        }
+        let Some(taken) = put_some(out, &text[all.size..]) else {
+            return Ok(all);
+        };
+        all = Taken {
+            size: all.size + taken.size,
+            count: all.count + taken.count,
+        };
+    }
+}
