@@ -40,6 +40,7 @@ use Rattle.x7_flow.proofs.InsideLemmas.{memory_has}
 use Rattle.x7_effects.proofs.PartialLemmas.{have_words}
 use Rattle.x7_effects.proofs.PlanLemmas.{target}
 use Rattle.x7_effects.proofs.RestingLemmas.{going_at_rest}
+use Rattle.x7_effects.proofs.SilentLemmas.{stream_silent}
 use Rattle.x7_effects.proofs.StillLemmas.{HasStartup, IsStill, ends_in_seven, startup_armed, startup_bytes, startup_desynced, startup_dropped, startup_none}
 use Rattle.x7_effects.proofs.StretchLemmas.{IsTarget}
 use Rattle.x7_effects.proofs.WalkLemmas.{HasWritten, IsLoaded, IsReady, going_one, loaded_words, quiet_one, ready_load}
@@ -236,5 +237,7 @@ full_plays part kept bytes plan f r is p e within =
     record {
       memory = λ far. all.memory far ∙ whole_over part plan m is p e within (memory_has part h (omega (arith, is.words))).inside far;
       phase = all.phase_is;
+      reads = stream_silent part kept bytes pieces 16 f r.searching (full_fits part plan is p e (have_words plan.rows p.each)) (full_clears part plan)
+          (tt, (tt, (tt, (tt, (tt, (tt, (tt, (tt, (tt, (tt, (tt, (tt, (tt, (tt, (tt, tt))))))))))))))) r.no_stop all.rests_again.no_stop;
       rests = all.rests_again;
     }

@@ -20,6 +20,7 @@ pub mod RestingLemmas
 pub mod PlanLemmas
 pub mod ReadLemmas
 pub mod EndLemmas
+pub mod SilentLemmas
 pub mod PartialLemmas
 pub mod ReadbackLemmas
 pub mod FullLemmas

@@ -30,6 +30,7 @@ use Rattle.x7_effects.proofs.GroupLemmas.{plan_put}
 use Rattle.x7_effects.proofs.PlacedLemmas.{by_all, by_recursion, plan_fits, stretches_land}
 use Rattle.x7_effects.proofs.PlanLemmas.{stretches_stand}
 use Rattle.x7_effects.proofs.RestingLemmas.{going_at_rest, going_closed}
+use Rattle.x7_effects.proofs.SilentLemmas.{stream_silent, stretches_silent}
 use Rattle.x7_effects.proofs.StretchLemmas.{pieces_sum, stretches_ready}
 use Rattle.x7_effects.proofs.WalkLemmas.{IsReady}
 
@@ -91,5 +92,7 @@ partial_plays part kept bytes plan f r is p e within =
     record {
       memory = λ far. all.memory far ∙ plan_put part rows (memory_of part h) p.order far ∙ ap (λ (x : FrameMap). override x (planned rows) far) (sym (memory_all part kept bytes r.no_stop));
       phase = λ wrapped. all.phase_is wrapped ∙ sym (phase_all part kept wrapped bytes r.no_stop);
+      reads = stream_silent part kept bytes (plan_pieces part rows) 4 f r.searching (partial_fits_plan part plan is p e within) (partial_clears part stretches)
+          (tt, (tt, (tt, (tt, stretches_silent part stretches (Check ∷ []) (tt, tt))))) r.no_stop all.rests_again.no_stop;
       rests = all.rests_again;
     }

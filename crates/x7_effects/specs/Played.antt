@@ -21,16 +21,18 @@ slot_words part memory End = replicate (frame_words part) 0
 abbrev pub words_along : PartData → FrameMap → ℕ → ℕ → List ℕ
 words_along part memory far n = replicate (frame_words part) 0 ++ flat_map (slot_words part memory) (take n (slots_from part far))
 
--- After a full stream the memory is the plan over zeros and startup has ended. There is no stop, and the device is at rest again.
+-- After a full stream the memory is the plan over zeros and startup has ended. It reads nothing out, there is no stop, and the device is at rest again.
 pub record PlaysFull (part : PartData) (kept : Kept) (bytes stream : List ℕ) (plan : PlanData) : Type 0 where
   pub memory : AreSame (memory_in part kept (bytes ++ stream)) (total part plan)
   pub phase : (wrapped : Bool) → (state_of part kept wrapped (bytes ++ stream)).phase ≡ 7
+  pub reads : reads_of part kept (bytes ++ stream) ≡ reads_of part kept bytes
   pub rests : AtRest part kept (bytes ++ stream)
 
--- After a partial stream the memory is that before it, overridden by the plan, and the phase stays. There is no stop, and the device is at rest again.
+-- After a partial stream the memory is that before it, overridden by the plan, and the phase stays. It reads nothing out, there is no stop, and the device is at rest again.
 pub record PlaysPartial (part : PartData) (kept : Kept) (bytes stream : List ℕ) (plan : PlanData) : Type 0 where
   pub memory : AreSame (memory_in part kept (bytes ++ stream)) (override (memory_in part kept bytes) (planned plan.rows))
   pub phase : (wrapped : Bool) → (state_of part kept wrapped (bytes ++ stream)).phase ≡ (state_of part kept wrapped bytes).phase
+  pub reads : reads_of part kept (bytes ++ stream) ≡ reads_of part kept bytes
   pub rests : AtRest part kept (bytes ++ stream)
 
 -- A read stream reads out the words of n slots from an address on; memory and phase stay. There is no stop, and the device is at rest again.

@@ -3,6 +3,7 @@ pub mod Causes
 pub mod DebugLemmas
 pub mod HeadLemmas
 pub mod FrontLemmas
+pub mod GenerateLemmas
 pub mod PlayLemmas
 pub mod PlayerLemmas
 pub mod PromiseLemmas

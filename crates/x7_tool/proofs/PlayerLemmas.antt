@@ -17,7 +17,7 @@ use Rattle.x7_engine.proofs.FeedLemmas.{told_all}
 use Rattle.x7_engine.proofs.FrameLemmas.{length_left}
 use Rattle.x7_engine.proofs.ReadsLemmas.{reads_grow}
 use Rattle.x7_engine.proofs.StateLemmas.{stop_is_final-stop}
-use Rattle.x7_tool.specs.Outcome.{reads_limit, stream_limit}
+use Rattle.x7_tool.specs.Outcome.{reads_limit}
 use Rattle.x7_tool.specs.Play.{HasPlayed, HasPlayedBy, IsPlayed, MayPlay, Plays, PlaysOn, ReadsOver}
 use Rattle.x7_tool.specs.declared.player.Player.{Player}
 use Rattle.x7_tool.proofs.PlayLemmas.{IsEnd, over_limit, stopped_end}
@@ -160,7 +160,7 @@ new_plays part d reads s e =
     )
 
 -- a device that was given these bytes may be given more
-pub may_feed : (part : PartData) (bytes : List ℕ) (d : DeviceState) (reads : List ℕ) (count : ℕ) → Plays part bytes d reads → length bytes + count ≤ stream_limit → d.taken + count ≤ 2 ^ 63
+pub may_feed : (part : PartData) (bytes : List ℕ) (d : DeviceState) (reads : List ℕ) (count : ℕ) → Plays part bytes d reads → length bytes + count ≤ 2 ^ 63 → d.taken + count ≤ 2 ^ 63
 may_feed part bytes d reads count s few = omega (arith, few, s.stands.taken_is, ap length s.parts, length-append s.taken s.left)
 
 pub may_less : (p : Player) (count fewer : ℕ) → fewer ≤ count → MayPlay p count → MayPlay p fewer

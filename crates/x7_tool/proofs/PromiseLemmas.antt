@@ -14,7 +14,7 @@ use Rattle.x7_planner.specs.Readback.{read_stream}
 use Rattle.x7_effects.specs.Played.{PlaysFull, PlaysPartial, PlaysRead}
 use Rattle.x7_effects.proofs.LawLemmas.{full_law, partial_law, read_law}
 use Rattle.x7_tool.specs.Event.{Event}
-use Rattle.x7_tool.specs.Form.{Asked, Assembling, Debugging, FromMcs, Imaging, Listing, PlanningFull, PlanningPartial, PlanningRead, Playing, ToMcs}
+use Rattle.x7_tool.specs.Form.{Asked, Assembling, Debugging, FromMcs, Imaging, Listing, PlanningFull, PlanningPartial, PlanningRead, Playing, ToMcs, Generating}
 use Rattle.x7_tool.specs.Outcome.{Answer, Known, PlanTexts, PlannedFull, PlannedPartial, PlannedRead, and_so, part_by, part_limit, part_of, plan_texts, text_limit, whole_in}
 use Rattle.x7_tool.specs.Promise.{Promise, PromisesFull, PromisesPartial, PromisesRead}
 use Rattle.x7_tool.specs.Run.{Agrees}
@@ -94,6 +94,7 @@ promised (Some known) (Some (FromMcs text)) answer a = tt
 promised (Some known) (Some (PlanningFull part frames)) answer a = full_promised known part frames (plan_texts known part frames) answer refl a
 promised (Some known) (Some (PlanningPartial part frames)) answer a = partial_promised known part frames (plan_texts known part frames) answer refl a
 promised (Some known) (Some (PlanningRead part far n)) answer a = read_promised known part far n (part_of known part) answer refl a
+promised (Some known) (Some (Generating part seed)) answer a = tt
 promised (Some known) (Some (Debugging part stream script)) answer a = tt
 promised (Some known) (Some (Imaging part golden update)) answer a = tt
 
@@ -109,5 +110,6 @@ no_promise (Some known) (Some (FromMcs text)) event = tt
 no_promise (Some known) (Some (PlanningFull part frames)) event = tt
 no_promise (Some known) (Some (PlanningPartial part frames)) event = tt
 no_promise (Some known) (Some (PlanningRead part far n)) event = tt
+no_promise (Some known) (Some (Generating part seed)) event = tt
 no_promise (Some known) (Some (Debugging part stream script)) event = tt
 no_promise (Some known) (Some (Imaging part golden update)) event = tt

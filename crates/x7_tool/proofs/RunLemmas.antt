@@ -17,7 +17,7 @@ use Rattle.x7_tool.specs.declared.refusal.Why.TheVariants as why
 use Rattle.x7_tool.specs.declared.status.Status.{Status}
 use Rattle.x7_tool.specs.declared.status.Status.TheVariants as status
 use Rattle.x7_tool.specs.Event.{Event, Cause, Wording, Want, Fault, Absence, Break, Contents, cause_of, row_of, status_of, usage}
-use Rattle.x7_tool.specs.Form.{Asked, Assembling, Debugging, FromMcs, Imaging, Listing, Playing, ToMcs, names_flash, names_of, PlanningFull, PlanningRead, PlanningPartial}
+use Rattle.x7_tool.specs.Form.{Asked, Assembling, Debugging, FromMcs, Imaging, Listing, Playing, ToMcs, names_flash, names_of, PlanningFull, PlanningRead, PlanningPartial, Generating}
 use Rattle.x7_tool.specs.Message.{final_status}
 use Rattle.x7_tool.specs.Outcome.{Answer, AssembledAs, Known, Gives, IsOutcome, and_so, mcs_image, present, text_limit, whole_in, with_inputs, within, known_of}
 use Rattle.x7_tool.specs.Run.{Agrees, Comes, DecidedBy, OpenBy, Ends, EndsAs, EndsBy, FreeBy, GetsPrefix, IsCausedBy, Leaves, Puts, Says, RisesFor}
@@ -201,6 +201,7 @@ back_is (Some (ToMcs image)) old new s end outcome = tt
 back_is (Some (PlanningFull part frames)) old new s end outcome = tt
 back_is (Some (PlanningPartial part frames)) old new s end outcome = tt
 back_is (Some (PlanningRead part far n)) old new s end outcome = tt
+back_is (Some (Generating part seed)) old new s end outcome = tt
 back_is (Some (Imaging part golden update)) old new s end outcome = tt
 back_is (Some (Debugging part stream script)) old new s end outcome = tt
 
@@ -290,6 +291,7 @@ ready_knows (PlanningFull part frames) inputs flash r = refl
 ready_knows (Imaging part golden update) inputs flash r = refl
 ready_knows (PlanningPartial part frames) inputs flash r = refl
 ready_knows (PlanningRead part far n) inputs flash r = refl
+ready_knows (Generating part seed) inputs flash r = refl
 ready_knows (Debugging part stream script) inputs flash r = refl
 
 ready_gets : (t : Known) (form : Asked) (old new : Option (List ℕ)) (answer : Answer) → IsReady form → Gives t form (Ok answer) → PutsFront old answer.text new → GetsPrefix (Some t) (Some form) old new
@@ -302,6 +304,7 @@ ready_gets t (Imaging part golden update) old new answer r g p = (answer, (g, p)
 ready_gets t (PlanningFull part frames) old new answer r g p = (answer, (g, p))
 ready_gets t (PlanningPartial part frames) old new answer r g p = (answer, (g, p))
 ready_gets t (PlanningRead part far n) old new answer r g p = (answer, (g, p))
+ready_gets t (Generating part seed) old new answer r g p = (answer, (g, p))
 ready_gets t (Debugging part stream script) old new answer r g p = (answer, (g, p))
 
 ready_leaves : (known : Option Known) (form : Asked) (old new : Option (List ℕ)) (event : Event) → IsReady form → new ≡ old → Leaves known (Some form) event old new
@@ -314,6 +317,7 @@ ready_leaves known (FromMcs text) old new event r e = e
 ready_leaves known (PlanningFull part frames) old new event r e = e
 ready_leaves known (PlanningPartial part frames) old new event r e = e
 ready_leaves known (PlanningRead part far n) old new event r e = e
+ready_leaves known (Generating part seed) old new event r e = e
 ready_leaves known (Debugging part stream script) old new event r e = e
 
 -- such a form ends as it should where its text has its cause and was put

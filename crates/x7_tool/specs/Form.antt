@@ -15,6 +15,7 @@ pub data Asked : Type 0 where
   PlanningFull : (part frames : List ℕ) → Asked
   PlanningPartial : (part frames : List ℕ) → Asked
   PlanningRead : (part : List ℕ) (far n : ℕ) → Asked
+  Generating : (part : List ℕ) (seed : ℕ) → Asked
   Imaging : (part golden update : List ℕ) → Asked
   Debugging : (part stream script : List ℕ) → Asked
 
@@ -59,6 +60,17 @@ plan_read_form (part ∷ far ∷ []) = None
 plan_read_form (part ∷ far ∷ n ∷ []) = read_asked part (word_in far) (number_in n)
 plan_read_form (part ∷ far ∷ n ∷ more ∷ others) = None
 
+-- `gen PART SEED`
+abbrev pub gen_asked : List ℕ → Option ℕ → Option Asked
+gen_asked part (Some seed) = Some (Generating part seed)
+gen_asked part None = None
+
+abbrev pub gen_form : List (List ℕ) → Option Asked
+gen_form [] = None
+gen_form (part ∷ []) = None
+gen_form (part ∷ seed ∷ []) = gen_asked part (number_in seed)
+gen_form (part ∷ seed ∷ more ∷ others) = None
+
 -- `plan ..`, by the second word
 abbrev pub plan_form : List (List ℕ) → Option Asked
 plan_form [] = None
@@ -89,6 +101,7 @@ form_of (command ∷ names) =
     else if bytes_eq command (codes "mcs") then one_name ToMcs names
     else if bytes_eq command (codes "unmcs") then one_name FromMcs names
     else if bytes_eq command (codes "plan") then plan_form names
+    else if bytes_eq command (codes "gen") then gen_form names
     else if bytes_eq command (codes "debug") then debug_form names
     else None
 
@@ -104,6 +117,7 @@ names_of (Some (FromMcs text)) = text ∷ []
 names_of (Some (PlanningFull part frames)) = part ∷ frames ∷ []
 names_of (Some (PlanningPartial part frames)) = part ∷ frames ∷ []
 names_of (Some (PlanningRead part far n)) = part ∷ []
+names_of (Some (Generating part seed)) = part ∷ []
 names_of (Some (Debugging part stream script)) = part ∷ stream ∷ script ∷ []
 
 -- whether a form names the flash
@@ -118,4 +132,5 @@ names_flash (Some (FromMcs text)) = false
 names_flash (Some (PlanningFull part frames)) = false
 names_flash (Some (PlanningPartial part frames)) = false
 names_flash (Some (PlanningRead part far n)) = false
+names_flash (Some (Generating part seed)) = false
 names_flash (Some (Debugging part stream script)) = false

@@ -1,6 +1,7 @@
 pub mod Debug
 pub mod Event
 pub mod Form
+pub mod Generated
 pub mod Message
 pub mod Outcome
 pub mod Play

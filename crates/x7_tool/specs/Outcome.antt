@@ -33,9 +33,10 @@ use Rattle.x7_debug.specs.declared.fault.ScriptFault.TheVariants as script
 use Rattle.x7_debug.specs.declared.order.Order.{Order}
 use Rattle.x7_debug.specs.Script.{IsScriptOf}
 use Rattle.x7_debug.specs.Transcript.{final_position, transcript_of}
+use Rattle.x7_tool.specs.Generated.{gen_text}
 use Rattle.x7_tool.specs.declared.bad_input.InputFault.TheVariants as input
 use Rattle.x7_tool.specs.Event.{Event, bad_input, bad_part, missing, no_memory, too_large, too_many_reads, usage}
-use Rattle.x7_tool.specs.Form.{Asked, Assembling, Debugging, FromMcs, Imaging, Listing, PlanningFull, PlanningRead, Playing, ToMcs, names_flash, PlanningPartial}
+use Rattle.x7_tool.specs.Form.{Asked, Assembling, Debugging, FromMcs, Imaging, Listing, PlanningFull, PlanningRead, Playing, ToMcs, names_flash, PlanningPartial, Generating}
 use Rattle.x7_part.specs.PartFile.{part_in}
 use Rattle.x7_tool.specs.Report.{report_text}
 
@@ -237,6 +238,13 @@ PlannedRead name far n (Err event) end = Err event ≡ end
 PlannedRead name far n (Ok part) (Ok answer) = (answer.stopped ≡ false) × CanRead part far n × (answer.text ≡ read_stream part far n)
 PlannedRead name far n (Ok part) (Err event) = (fault : PlanFault) × IsReadFault part far n fault × (planner_event name fault ≡ event)
 
+-- `gen PART SEED`: the summary of the plan of the seed, played
+abbrev pub gen_answer : PartData → ℕ → Answer
+gen_answer part seed = record { stopped = false; text = gen_text part seed }
+
+abbrev pub gen_made : Known → List ℕ → ℕ → Result Answer Event
+gen_made known part seed = and_so (part_of known part) (λ p. Ok (gen_answer p seed))
+
 -- ---- debug
 
 -- the data of the stream of this name
@@ -301,6 +309,7 @@ Gives known (FromMcs text) end = mcs_read known text ≡ end
 Gives known (PlanningFull part frames) end = PlannedFull frames (plan_texts known part frames) end
 Gives known (PlanningPartial part frames) end = PlannedPartial frames (plan_texts known part frames) end
 Gives known (PlanningRead part far n) end = PlannedRead part far n (part_of known part) end
+Gives known (Generating part seed) end = gen_made known part seed ≡ end
 Gives known (Imaging part golden update) end = imaged known part golden update ≡ end
 Gives known (Debugging part stream script) end = DebuggedAs script (debug_inputs known part stream script) end
 

@@ -1,5 +1,5 @@
 -- What the steps of a play come to.
-use Rattle.std.specs.Prelude.{◌≡◌, ◌+◌, ◌<◌, ◌≤◌, ◌⊎◌, ◌++◌, ℕ, List, [], Some, Bool, true, false, IsSome, length}
+use Rattle.std.specs.Prelude.{◌≡◌, ◌+◌, ◌^◌, ◌<◌, ◌≤◌, ◌⊎◌, ◌++◌, ℕ, List, [], Some, Bool, true, false, IsSome, length}
 use Rattle.x7_words.specs.Word.{AreBytes}
 use Rattle.x7_part.specs.Part.{PartData}
 use Rattle.x7_engine.specs.Kept.{on_the_bench}
@@ -9,7 +9,7 @@ use Rattle.x7_engine.specs.State.{memory_in, reads_of, state_of, stop_in}
 use Rattle.x7_part.specs.declared.fault.PartFault.{PartFault}
 use Rattle.x7_part.specs.declared.fault.PartFault.TheVariants as part
 use Rattle.x7_mcs.specs.Text.{mcs_text}
-use Rattle.x7_tool.specs.Outcome.{Answer, reads_limit, stream_limit}
+use Rattle.x7_tool.specs.Outcome.{Answer, reads_limit}
 use Rattle.x7_tool.specs.Event.{Event, bad_part, no_memory}
 use Rattle.x7_tool.specs.declared.player.Player.{Player}
 use Rattle.x7_tool.specs.declared.text.Text.{Text}
@@ -46,9 +46,9 @@ HasPlayed part bytes p = HasPlayedBy p.over part bytes p.device p.buffer p.reads
 abbrev pub PlaysOn : Player → Player → List ℕ → Type 0
 PlaysOn old new more = (part : PartData) (bytes : List ℕ) → HasPlayed part bytes old → HasPlayed part (bytes ++ more) new
 
--- with so many bytes more it was given no more than streams have
+-- with so many bytes more it was given no more than a device counts
 abbrev pub MayPlayBy : Bool → DeviceState → ReadBufState → List ℕ → ℕ → Type 0
-MayPlayBy over d buffer reads count = (part : PartData) × ((bytes : List ℕ) × (HasPlayedBy over part bytes d buffer reads × (length bytes + count ≤ stream_limit)))
+MayPlayBy over d buffer reads count = (part : PartData) × ((bytes : List ℕ) × (HasPlayedBy over part bytes d buffer reads × (length bytes + count ≤ 2 ^ 63)))
 
 abbrev pub MayPlay : Player → ℕ → Type 0
 MayPlay p count = MayPlayBy p.over p.device p.buffer p.reads.items count

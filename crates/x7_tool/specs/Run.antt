@@ -10,7 +10,7 @@ use Rattle.x7_tool.specs.declared.refusal.Refusal.{Refusal}
 use Rattle.x7_tool.specs.declared.refusal.Why.{Why}
 use Rattle.x7_tool.specs.declared.refusal.Why.TheVariants as why
 use Rattle.x7_tool.specs.Event.{Event, Cause, Want, Fault, Absence, Break, Contents, cause_of, line_of, usage, write_fault}
-use Rattle.x7_tool.specs.Form.{Asked, Assembling, Debugging, FromMcs, Imaging, Listing, PlanningFull, PlanningRead, Playing, ToMcs, PlanningPartial}
+use Rattle.x7_tool.specs.Form.{Asked, Assembling, Debugging, FromMcs, Imaging, Listing, PlanningFull, PlanningRead, Playing, ToMcs, PlanningPartial, Generating}
 use Rattle.x7_tool.specs.Outcome.{Answer, Known, Gives, IsOutcome}
 use Rattle.x7_tool.specs.Message.{event_of}
 
@@ -24,6 +24,7 @@ asked_by (form.Unmcs text) = FromMcs text.now
 asked_by (form.PlanFull part frames) = PlanningFull part.now frames.now
 asked_by (form.PlanPartial part frames) = PlanningPartial part.now frames.now
 asked_by (form.PlanRead part far n) = PlanningRead part.now far n
+asked_by (form.Gen part seed) = Generating part.now seed
 asked_by (form.Image part golden update) = Imaging part.now golden.now update.now
 asked_by (form.Debug part stream script) = Debugging part.now stream.now script.now
 

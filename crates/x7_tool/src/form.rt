@@ -1,6 +1,6 @@
 //! The forms of the command line.
 ghost use Rattle.std.specs.Prelude.{◌≡◌, map, string_bytes};
-ghost use Rattle.x7_tool.specs.Form.{Assembling, FromMcs, Imaging, Listing, PlanningFull, ToMcs, debug_form, form_of, number_in, one_name, plan_form, plan_read_form, play_form, three_names, two_names, word_in, PlanningPartial};
+ghost use Rattle.x7_tool.specs.Form.{Assembling, FromMcs, Imaging, Listing, PlanningFull, ToMcs, debug_form, form_of, gen_form, number_in, one_name, plan_form, plan_read_form, play_form, three_names, two_names, word_in, PlanningPartial};
 ghost use Rattle.x7_tool.specs.Run.{asked};
 
 use x7_text::{decimal_below, word_of_hex};
@@ -50,6 +50,13 @@ pub enum Form<'w> {
         far: u32,
         /// The number of slots.
         n: u32,
+    },
+    /// `gen PART SEED`: the summary of a plan that is made from a number.
+    Gen {
+        /// The part file's name.
+        part: &'w str,
+        /// The number.
+        seed: u32,
     },
     /// `image PART GOLDEN UPDATE`: the flash image of two streams.
     Image {
@@ -202,6 +209,22 @@ fn plan_read_form(names: &[String]) -> Option<Form<'_>>
     }
 }
 
+/// `gen PART SEED`.
+fn gen_form(names: &[String]) -> Option<Form<'_>>
+    ensures { asked result ≡ gen_form (map string_bytes names.now) }
+{
+    let [part, seed] = names else {
+        return None;
+    };
+    match number_in(seed.as_str()) {
+        Some(seed) => Some(Form::Gen {
+            part: part.as_str(),
+            seed,
+        }),
+        None => None,
+    }
+}
+
 /// `plan ..`, by the second word.
 fn plan_form(names: &[String]) -> Option<Form<'_>>
     ensures { asked result ≡ plan_form (map string_bytes names.now) }
@@ -259,6 +282,7 @@ pub fn words_of(words: &Vec<String>) -> Option<Form<'_>>
         "mcs" => mcs_form(names),
         "unmcs" => unmcs_form(names),
         "plan" => plan_form(names),
+        "gen" => gen_form(names),
         "image" => image_form(names),
         "debug" => debug_form(names),
         _ => None,

@@ -7,6 +7,7 @@ mod bad_part;
 mod debug;
 mod form;
 mod front;
+mod generate;
 mod image;
 mod list;
 mod mcs;
@@ -24,6 +25,7 @@ mod top;
 
 pub use bad_input::InputFault;
 pub use form::{Form, words_of};
+pub use generate::gen_text;
 pub use refusal::Why;
 pub use reports::report;
 pub use status::Status;

@@ -107,6 +107,13 @@ impl Player {
         }
     }
 
+    /// The device.
+    pub(crate) fn device(&self) -> &Device
+        ensures { result.now ≡ self.now.device }
+    {
+        &self.device
+    }
+
     /// The whole text of the play, or that too many words were read out.
     pub(crate) fn text<'w>(&self, alloc: Global) -> Result<Text, Refusal<'w>>
         ensures ok { IfOk result (λ text. (part : PartData) (bytes : List ℕ) → HasPlayed part bytes self.now → reported part bytes ≡ Ok (whole_of text)) }

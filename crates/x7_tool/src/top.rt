@@ -11,6 +11,7 @@ ghost use Rattle.x7_tool.specs.Runs.{Runs};
 use crate::asm::asm;
 use crate::debug::debug;
 use crate::form::{Form, words_of};
+use crate::generate::generate;
 use crate::image::image;
 use crate::list::list;
 use crate::mcs::{mcs, unmcs};
@@ -52,6 +53,7 @@ fn answer<'w, I: Inputs, O: Sink, F: Flash>(
         Some(Form::PlanRead { part, far, n }) => {
             put_whole(plan_read(alloc, inputs, part, far, n), out)
         }
+        Some(Form::Gen { part, seed }) => put_whole(generate(alloc, inputs, part, seed), out),
         Some(
             Form::Image {
                 part,

@@ -19,7 +19,7 @@ loop-name-init g c =
 pub play_stream-requires-clause-may : goal.play_stream-requires-clause-may
 play_stream-requires-clause-may g c =
     let v = c.loop-name.invariant in
-    (c.args.part.now, (v.played.0, (v.played.1.0, v.played.1.1)))
+    (c.args.part.now, (v.played.0, (v.played.1.0, omega (arith, v.played.1.1))))
 
 pub returns-in-Err-clause-err : goal.returns-in-Err-clause-err
 returns-in-Err-clause-err g c = λ flash.

@@ -1,6 +1,6 @@
 use Rattle.std.proofs.Common.{◌≡◌, Option, Some, Err, map, string_bytes, sym, ap, subst, ◌∙◌}
 use Rattle.x7_words.specs.Count.{HasRisen}
-use Rattle.x7_tool.specs.Form.{Asked, Assembling, Debugging, FromMcs, Imaging, Listing, PlanningFull, PlanningRead, Playing, ToMcs, form_of, names_of, PlanningPartial}
+use Rattle.x7_tool.specs.Form.{Asked, Assembling, Debugging, FromMcs, Imaging, Listing, PlanningFull, PlanningRead, Playing, ToMcs, form_of, names_of, PlanningPartial, Generating}
 use Rattle.x7_tool.specs.Message.{event_of}
 use Rattle.x7_tool.specs.Outcome.{known_of}
 use Rattle.x7_tool.specs.Play.{whole_of, text_of_image}
@@ -61,6 +61,12 @@ returns-in-Some-PlanRead-clause-ends g c =
     let flash = g.F.Flash.bytes c.args.flash.now in
     ready_ends _ (PlanningRead c.in-Some-PlanRead.part.now c.in-Some-PlanRead.far c.in-Some-PlanRead.n) _ flash _ _ _ _ _ _ _ (seen whole_of c.plan_read.result) _
     (sym c.words_of.ensures ∙ ap asked c.in-Some-PlanRead.is ∙ ap (λ f. Some (asked_by f)) c.in-Some-PlanRead.field-0-is) tt (c.plan_read.ensures flash) c.put_whole-in-Some-PlanRead.ensures
+
+pub returns-in-Some-Gen-clause-ends : goal.returns-in-Some-Gen-clause-ends
+returns-in-Some-Gen-clause-ends g c =
+    let flash = g.F.Flash.bytes c.args.flash.now in
+    ready_ends _ (Generating c.in-Some-Gen.part.now c.in-Some-Gen.seed) _ flash _ _ _ _ _ _ _ (seen whole_of c.generate.result) _
+    (sym c.words_of.ensures ∙ ap asked c.in-Some-Gen.is ∙ ap (λ f. Some (asked_by f)) c.in-Some-Gen.field-0-is) tt (c.generate.ensures flash) c.put_whole-in-Some-Gen.ensures
 
 pub returns-in-Some-Image-clause-ends : goal.returns-in-Some-Image-clause-ends
 returns-in-Some-Image-clause-ends g c =

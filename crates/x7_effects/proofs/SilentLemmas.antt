@@ -1,0 +1,78 @@
+-- Pieces that read nothing out.
+use Rattle.std.proofs.Common.{◌≡◌, ◌+◌, ◌*◌, ℕ, false, None, List, [], ◌∷◌, ◌++◌, length, refl, sym, ap, ◌∙◌, append-nil}
+use Rattle.std.specs.List.{AllByRecursion, flat_map}
+use Rattle.x7_words.specs.Word.{AreBytes}
+use Rattle.x7_packets.specs.ByHand.{reading_of}
+use Rattle.x7_packets.specs.History as access
+use Rattle.x7_packets.specs.History.{History, entry, history_of}
+use Rattle.x7_packets.specs.Reading.{is_synced}
+use Rattle.x7_part.specs.Part.{PartData}
+use Rattle.x7_engine.specs.declared.kept.Kept.{Kept}
+use Rattle.x7_engine.specs.State.{reads_of, stop_in}
+use Rattle.x7_engine.specs.Values.{read_out}
+use Rattle.x7_planner.specs.Partial.{Copies, Rows, Stretch}
+use Rattle.x7_effects.proofs.Items as item
+use Rattle.x7_effects.proofs.Items.{Item, item_entered, writes_entered}
+use Rattle.x7_effects.proofs.Checking.{ArePieces, Check, Checking, ClearFirst, Piece, Put, checking_of, piece_item, piece_length}
+use Rattle.x7_effects.proofs.Streams.{copy_pieces, stream_of, stretch_pieces, stretches_pieces}
+use Rattle.x7_effects.proofs.EndLemmas.{reads_all}
+use Rattle.x7_effects.proofs.GoingLemmas.{written}
+use Rattle.x7_effects.proofs.RestingLemmas.{stream_history}
+
+-- a piece that asks for no words
+abbrev pub IsSilent : Piece → Type 0
+IsSilent (Put (item.Read register count)) = ⊥
+IsSilent (Put (item.ReadLong register count)) = ⊥
+IsSilent p = Unit {0}
+
+abbrev pub AreSilent : List Piece → Type 0
+AreSilent pieces = AllByRecursion IsSilent pieces
+
+writes_silent : (part : PartData) (kept : Kept) (place register : ℕ) (ws : List ℕ) (h : History) → read_out part kept (writes_entered place register ws h) ≡ read_out part kept h
+writes_silent part kept place register [] h = refl
+writes_silent part kept place register (w ∷ ws) h = writes_silent part kept (place + 4) register ws (entry (access.Write register w) (place + 4) ∷ h) ∙ append-nil (read_out part kept h)
+
+piece_silent : (part : PartData) (kept : Kept) (place : ℕ) (c : Checking) (p : Piece) (h : History) → IsSilent p → read_out part kept (item_entered place (piece_item c p) h) ≡ read_out part kept h
+piece_silent part kept place c Check h s = append-nil (read_out part kept h)
+piece_silent part kept place c (Put item.Noop) h s = refl
+piece_silent part kept place c (Put item.Dummy) h s = refl
+piece_silent part kept place c (Put (item.Write register ws)) h s = writes_silent part kept (place + 4) register ws h
+piece_silent part kept place c (Put (item.WriteLong register ws)) h s = writes_silent part kept (place + 8) register ws h
+piece_silent part kept place c (Put (item.Read register count)) h s = absurd s
+piece_silent part kept place c (Put (item.ReadLong register count)) h s = absurd s
+
+pieces_silent : (part : PartData) (kept : Kept) (place : ℕ) (pieces : List Piece) (h : History) → AreSilent pieces → read_out part kept (written place pieces h) ≡ read_out part kept h
+pieces_silent part kept place [] h s = refl
+pieces_silent part kept place (p ∷ pieces) h s =
+    pieces_silent part kept (place + 4 * piece_length p) pieces (item_entered place (piece_item (checking_of h) p) h) s.1 ∙ piece_silent part kept place (checking_of h) p h s.0
+
+-- a stream of such pieces that nothing stops
+pub stream_silent : (part : PartData) (kept : Kept) (bytes : List ℕ) (pieces : List Piece) (noops : ℕ) → AreBytes bytes → is_synced (reading_of bytes).place ≡ false → ArePieces pieces → ClearFirst pieces → AreSilent pieces
+    → stop_in part kept bytes ≡ None → stop_in part kept (bytes ++ stream_of pieces noops) ≡ None → reads_of part kept (bytes ++ stream_of pieces noops) ≡ reads_of part kept bytes
+stream_silent part kept bytes pieces noops f e a c s before after =
+    reads_all part kept (bytes ++ stream_of pieces noops) after
+    ∙ ap (read_out part kept) (stream_history bytes pieces noops f e a c)
+    ∙ append-nil (read_out part kept (written (length bytes + 36) pieces (history_of bytes)))
+    ∙ pieces_silent part kept (length bytes + 36) pieces (history_of bytes) s
+    ∙ sym (reads_all part kept bytes before)
+
+-- ---- the pieces of a plan's frames alone
+
+silent-append : (xs ys : List Piece) → AreSilent xs → AreSilent ys → AreSilent (xs ++ ys)
+silent-append [] ys a b = b
+silent-append (x ∷ xs) ys a b = (a.0, silent-append xs ys a.1 b)
+
+copies_silent : (fars : List ℕ) → AreSilent (flat_map copy_pieces fars)
+copies_silent [] = tt
+copies_silent (far ∷ fars) = (tt, (tt, copies_silent fars))
+
+stretch_silent : (part : PartData) (s : Stretch) → AreSilent (stretch_pieces part s)
+stretch_silent part (Copies words fars) = (tt, (tt, (tt, (tt, copies_silent fars))))
+stretch_silent part (Rows rows) = (tt, (tt, (tt, tt)))
+
+pub stretches_silent : (part : PartData) (stretches : List Stretch) (more : List Piece) → AreSilent more → AreSilent (stretches_pieces part stretches ++ more)
+stretches_silent part stretches more a = silent-append (stretches_pieces part stretches) more (each stretches) a
+  where
+    each : (stretches : List Stretch) → AreSilent (stretches_pieces part stretches)
+    each [] = tt
+    each (s ∷ stretches) = silent-append (stretch_pieces part s) (stretches_pieces part stretches) (stretch_silent part s) (each stretches)

@@ -1,0 +1,164 @@
+-- Lemmas on plans that are made from a number, and on sums of words.
+use Rattle.std.proofs.Common.{codes, ◌≡◌, ◌+◌, ◌%◌, ◌^◌, ◌<◌, ◌≤◌, ℕ, zero, suc, Bool, true, false, if◌then◌else◌, List, [], ◌∷◌, ◌++◌, length, get_or, drop, Option, refl, ap, sym, subst, ◌∙◌, append_assoc, append-nil, arith}
+use Rattle.std.specs.Prelude.{nat_lt, unwrap_or, IsPermutation, Contains}
+use Rattle.std.specs.List.{sum}
+use Rattle.std.proofs.lemmas.Bool.Decides.{nat_tests}
+use Rattle.std.proofs.Math.ListN.{drop_of_length-le}
+use Rattle.std.proofs.lemmas.List.{drop_more}
+use Rattle.std.proofs.lemmas.List.FromFn.{map-range_with_len_more}
+use Rattle.x7_part.specs.AddressOrder.{Rises, addresses_in, rise}
+use Rattle.x7_part.specs.Part.{PartData, frame_words}
+use Rattle.x7_memory.specs.FrameMap.{AreSame, FrameMap}
+use Rattle.x7_memory.specs.Planned.{AreApart, AreInOrder, IsPlan, PlanData, PlanRow}
+use Rattle.x7_frames.proofs.OneLemmas.{same-order}
+use Rattle.std.proofs.lemmas.List.Elements.{All-contains_itself}
+use Rattle.std.proofs.lemmas.List.Sorted.{All-permutation, IsPermutation-sym}
+use Rattle.x7_memory.specs.Frames.{frame_at}
+use Rattle.x7_part.specs.PartRange.{IsPart}
+use Rattle.x7_planner.specs.Full.{full_stream}
+use Rattle.x7_planner.specs.Refusals.{AreAddressed}
+use Rattle.x7_engine.specs.Kept.{on_the_bench}
+use Rattle.x7_engine.specs.ReadBuffer.{ReadBufState}
+use Rattle.x7_engine.specs.Standing.{DeviceState, NoWordDue}
+use Rattle.x7_engine.specs.State.{memory_in, reads_of, state_of}
+use Rattle.x7_effects.proofs.LawLemmas.{new_law}
+use Rattle.x7_tool.specs.Generated.{count_line, counted, gen_text, generated, head_line, next_number, played_summary, row_by, rows_after, sum_line, summary_text, words_sum}
+use Rattle.x7_tool.specs.Outcome.{reads_limit}
+use Rattle.x7_tool.specs.Play.{HasPlayedBy, Plays}
+
+-- ---- frames that count up
+
+pub counted_more : (n i w : ℕ) → w ≡ (n + i) % 2 ^ 32 → counted (i + 1) n ≡ counted i n ++ w ∷ []
+counted_more n i w e = map-range_with_len_more (λ k. (n + k) % 2 ^ 32) 0 i i (omega arith) ∙ ap (λ (x : ℕ). counted i n ++ x ∷ []) (sym e)
+
+-- ---- an address more
+
+behind : (fars : List ℕ) (rank far : ℕ) → rank < length fars → get_or fars rank 0 ≡ far → drop rank fars ≡ far ∷ drop (rank + 1) fars
+behind fars rank far h e = drop_more fars rank 0 h ∙ ap (λ (y : ℕ). y ∷ drop (rank + 1) fars) e
+
+pub rows_more : (width x rank far : ℕ) (fars : List ℕ) (front now all : List PlanRow) → rank < length fars → get_or fars rank 0 ≡ far → now ≡ front ++ row_by width far (next_number x)
+    → front ++ rows_after width x (drop rank fars) ≡ all → now ++ rows_after width (next_number x) (drop (rank + 1) fars) ≡ all
+rows_more width x rank far fars front now all h e n was =
+    ap (λ (t : List PlanRow). t ++ rows_after width (next_number x) (drop (rank + 1) fars)) n
+    ∙ append_assoc front (row_by width far (next_number x)) (rows_after width (next_number x) (drop (rank + 1) fars))
+    ∙ ap (λ (t : List ℕ). front ++ rows_after width x t) (sym (behind fars rank far h e))
+    ∙ was
+
+pub rows_all : (width x rank : ℕ) (fars : List ℕ) (front all : List PlanRow) → length fars ≤ rank → front ++ rows_after width x (drop rank fars) ≡ all → front ≡ all
+rows_all width x rank fars front all h was = sym (append-nil front) ∙ ap (λ (t : List ℕ). front ++ rows_after width x t) (sym (drop_of_length-le fars h)) ∙ was
+
+-- ---- the rows stand in order
+
+abbrev IsLow : ℕ → List PlanRow → Type 0
+IsLow least rows = (i : ℕ) (d : PlanRow) → i < length rows → least ≤ (get_or rows i d).far
+
+low_less : (least most : ℕ) (rows : List PlanRow) → least ≤ most → IsLow most rows → IsLow least rows
+low_less least most rows l low = λ i d h. let k = low i d h in omega (arith, k, l)
+
+low_one : (least : ℕ) (row : PlanRow) (rows : List PlanRow) → least ≤ row.far → IsLow (row.far + 1) rows → IsLow least (row ∷ rows)
+low_one least row rows l low zero d h = l
+low_one least row rows l low (suc i) d h = let k = low i d (omega (arith, h)) in omega (arith, k, l)
+
+order_one : (row : PlanRow) (rows : List PlanRow) → IsLow (row.far + 1) rows → AreInOrder rows → AreInOrder (row ∷ rows)
+order_one row rows low order zero zero d l h = absurd (omega (arith, l))
+order_one row rows low order zero (suc j) d l h = let k = low j d (omega (arith, h)) in omega (arith, k)
+order_one row rows low order (suc i) zero d l h = absurd (omega (arith, l))
+order_one row rows low order (suc i) (suc j) d l h = order i j d (omega (arith, l)) (omega (arith, h))
+
+low_by : (b : Bool) (least far width n : ℕ) (rest : List PlanRow) → least ≤ far → IsLow (far + 1) rest → IsLow least ((if b then [] else record { far = far; words = counted width n } ∷ []) ++ rest)
+low_by true least far width n rest l low = low_less least (far + 1) rest (omega (arith, l)) low
+low_by false least far width n rest l low = low_one least (record { far = far; words = counted width n }) rest l low
+
+rows_low : (width x least : ℕ) (fars : List ℕ) → Rises least fars → IsLow least (rows_after width x fars)
+rows_low width x least [] r = λ i d h. absurd (omega (arith, h))
+rows_low width x least (far ∷ fars) (rise m y ys l r) = low_by (nat_lt (next_number x) (2 ^ 31)) least far width (next_number x) (rows_after width (next_number x) fars) l (rows_low width (next_number x) (far + 1) fars r)
+
+order_by : (b : Bool) (far width n : ℕ) (rest : List PlanRow) → IsLow (far + 1) rest → AreInOrder rest → AreInOrder ((if b then [] else record { far = far; words = counted width n } ∷ []) ++ rest)
+order_by true far width n rest low order = order
+order_by false far width n rest low order = order_one (record { far = far; words = counted width n }) rest low order
+
+rows_order : (width x least : ℕ) (fars : List ℕ) → Rises least fars → AreInOrder (rows_after width x fars)
+rows_order width x least [] r = λ i j d l h. absurd (omega (arith, h))
+rows_order width x least (far ∷ fars) (rise m y ys l r) =
+    order_by (nat_lt (next_number x) (2 ^ 31)) far width (next_number x) (rows_after width (next_number x) fars) (rows_low width (next_number x) (far + 1) fars r) (rows_order width (next_number x) (far + 1) fars r)
+
+pub rows_apart : (part : PartData) (seed : ℕ) → Rises 0 (addresses_in part) → AreApart (generated part seed).rows
+rows_apart part seed r = λ i j d l h e. let k = rows_order (frame_words part) seed 0 (addresses_in part) r i j d l h in omega (arith, k, e)
+
+-- the plan of rows that stand in order has just these
+pub plan_is : (part : PartData) (seed : ℕ) (draft plan : PlanData) → Rises 0 (addresses_in part) → draft.rows ≡ (generated part seed).rows → draft.width ≡ frame_words part → plan.width ≡ draft.width
+    → IsPermutation draft.rows plan.rows → IsPlan plan → plan ≡ generated part seed
+plan_is part seed draft plan r e w v same is =
+    let permuted : IsPermutation (generated part seed).rows plan.rows = subst (λ (t : List PlanRow). IsPermutation t plan.rows) e same in
+    let rows : plan.rows ≡ (generated part seed).rows = same-order plan.rows (generated part seed).rows is.order (rows_order (frame_words part) seed 0 (addresses_in part) r)
+    (All-permutation (Contains (generated part seed).rows) (generated part seed).rows plan.rows permuted (All-contains_itself (generated part seed).rows))
+    (All-permutation (Contains plan.rows) plan.rows (generated part seed).rows (IsPermutation-sym (generated part seed).rows plan.rows permuted) (All-contains_itself plan.rows)) in
+    ap (λ (n : ℕ). let p : PlanData = record { width = n; rows = plan.rows } in p) (v ∙ w) ∙ ap (λ (t : List PlanRow). let p : PlanData = record { width = frame_words part; rows = t } in p) rows
+
+-- ---- sums
+
+pub sum_more : (m : FrameMap) (rank far total s now all : ℕ) (fars : List ℕ) → rank < length fars → get_or fars rank 0 ≡ far → s ≡ sum (unwrap_or (m far) []) % 2 ^ 32 → now ≡ (total + s) % 2 ^ 32
+    → (total + words_sum m (drop rank fars)) % 2 ^ 32 ≡ all → (now + words_sum m (drop (rank + 1) fars)) % 2 ^ 32 ≡ all
+sum_more m rank far total s now all fars h e f n was =
+    let split : words_sum m (drop rank fars) ≡ sum (unwrap_or (m far) []) + words_sum m (drop (rank + 1) fars) = ap (words_sum m) (behind fars rank far h e) in
+    omega (arith, f, n, was, split)
+
+pub sum_all : (m : FrameMap) (rank total all : ℕ) (fars : List ℕ) → length fars ≤ rank → total < 2 ^ 32 → (total + words_sum m (drop rank fars)) % 2 ^ 32 ≡ all → total ≡ all
+sum_all m rank total all fars h t was =
+    let none : words_sum m (drop rank fars) ≡ 0 = ap (words_sum m) (drop_of_length-le fars h) in
+    omega (arith, t, was, none)
+
+pub sum_same : (m n : FrameMap) (fars : List ℕ) → AreSame m n → words_sum m fars ≡ words_sum n fars
+sum_same m n [] same = refl
+sum_same m n (x ∷ fars) same = ap (λ (o : Option (List ℕ)). sum (unwrap_or o []) + words_sum m fars) (same x) ∙ ap (λ (k : ℕ). sum (unwrap_or (n x) []) + k) (sum_same m n fars same)
+
+-- ---- a row by its number
+
+pub row_none : (width far n : ℕ) → n < 2 ^ 31 → row_by width far n ≡ []
+row_none width far n h = let t : nat_lt n (2 ^ 31) ≡ true = grind (arith, nat_tests, h) in rw t refl
+
+pub row_some : (width far n : ℕ) → 2 ^ 31 ≤ n → row_by width far n ≡ record { far = far; words = counted width n } ∷ []
+row_some width far n h = let t : nat_lt n (2 ^ 31) ≡ false = grind (arith, nat_tests, h) in rw t refl
+
+-- ---- a stream that was played
+
+-- where few words are read out, a player that was given the bytes isn't over
+pub sure : (over : Bool) (part : PartData) (bytes : List ℕ) (d : DeviceState) (b : ReadBufState) (reads : List ℕ) → length (reads_of part on_the_bench bytes) ≤ reads_limit → HasPlayedBy over part bytes d b reads → Plays part bytes d reads × NoWordDue d
+sure true part bytes d b reads few h = let many = h.many in absurd (omega (arith, few, many))
+sure false part bytes d b reads few h = (h.0, h.1)
+
+-- a full stream reads nothing out
+pub few_reads : (part : PartData) (plan : PlanData) (stream : List ℕ) → IsPart part → IsPlan plan → plan.width ≡ frame_words part → AreAddressed part plan.rows → stream ≡ full_stream part plan → length (reads_of part on_the_bench stream) ≤ reads_limit
+few_reads part plan stream is p e within s =
+    let law = new_law part plan is p e within in
+    let none : length (reads_of part on_the_bench []) ≡ 0 = refl in
+    let all : length (reads_of part on_the_bench stream) ≡ length (reads_of part on_the_bench (full_stream part plan)) = ap (λ (t : List ℕ). length (reads_of part on_the_bench t)) s in
+    omega (arith, none, all, ap length law.reads)
+
+pub summary_is : (p q : PartData) (name : List ℕ) (seed planned size phase total : ℕ) (frames : List (List ℕ)) (stream none text : List ℕ) → name ≡ p.name → p ≡ q → size ≡ length stream → phase ≡ (state_of q on_the_bench false stream).phase
+    → total ≡ words_sum (frame_at p frames) (addresses_in p) % 2 ^ 32 → AreSame (frame_at q frames) (memory_in q on_the_bench stream) → none ≡ [] → text ≡ none ++ summary_text name seed planned size phase total → text ≡ played_summary q seed planned stream
+summary_is p q name seed planned size phase total frames stream none text a d s f t same z e =
+    let sums : total ≡ words_sum (memory_in q on_the_bench stream) (addresses_in q) % 2 ^ 32 =
+    t ∙ ap (λ (x : PartData). words_sum (frame_at x frames) (addresses_in x) % 2 ^ 32) d ∙ ap (λ (n : ℕ). n % 2 ^ 32) (sum_same (frame_at q frames) (memory_in q on_the_bench stream) (addresses_in q) same) in
+    e ∙ ap (λ (x : List ℕ). x ++ summary_text name seed planned size phase total) z
+    ∙ ap (λ (x : List ℕ). summary_text x seed planned size phase total) (a ∙ ap (λ (x : PartData). x.name) d)
+    ∙ ap (λ (n : ℕ). summary_text q.name seed planned n phase total) s
+    ∙ ap (λ (n : ℕ). summary_text q.name seed planned (length stream) n total) f
+    ∙ ap (λ (n : ℕ). summary_text q.name seed planned (length stream) (state_of q on_the_bench false stream).phase n) sums
+
+five : (t h a b c s : List ℕ) → ((((t ++ h) ++ a) ++ b) ++ c) ++ s ≡ t ++ ((((h ++ a) ++ b) ++ c) ++ s)
+five t h a b c s =
+    ap (λ (x : List ℕ). ((x ++ b) ++ c) ++ s) (append_assoc t h a) ∙ ap (λ (x : List ℕ). (x ++ c) ++ s) (append_assoc t (h ++ a) b)
+    ∙ ap (λ (x : List ℕ). x ++ s) (append_assoc t ((h ++ a) ++ b) c) ∙ append_assoc t (((h ++ a) ++ b) ++ c) s
+
+pub summary_put : (name : List ℕ) (seed planned size phase total : ℕ) (old first second third fourth last : List ℕ) → first ≡ old ++ head_line name seed → second ≡ first ++ count_line (codes "planned ") planned → third ≡ second ++ count_line (codes "stream ") size
+    → fourth ≡ third ++ count_line (codes "phase ") phase → last ≡ fourth ++ sum_line total → last ≡ old ++ summary_text name seed planned size phase total
+unfolding summary_text
+summary_put name seed planned size phase total old first second third fourth last a b c d e =
+    e ∙ ap (λ (t : List ℕ). t ++ sum_line total) (d ∙ ap (λ (t : List ℕ). t ++ count_line (codes "phase ") phase) (c ∙ ap (λ (t : List ℕ). t ++ count_line (codes "stream ") size) (b ∙ ap (λ (t : List ℕ). t ++ count_line (codes "planned ") planned) a)))
+    ∙ five old (head_line name seed) (count_line (codes "planned ") planned) (count_line (codes "stream ") size) (count_line (codes "phase ") phase) (sum_line total)
+
+pub gen_is : (part : PartData) (seed planned : ℕ) (plan : PlanData) (stream text : List ℕ) → plan ≡ generated part seed → planned ≡ length plan.rows → stream ≡ full_stream part plan → text ≡ played_summary part seed planned stream → text ≡ gen_text part seed
+unfolding gen_text
+gen_is part seed planned plan stream text p n s t =
+    t ∙ ap (λ (k : ℕ). played_summary part seed k stream) (n ∙ ap (λ (x : PlanData). length x.rows) p) ∙ ap (played_summary part seed (length (generated part seed).rows)) (s ∙ ap (full_stream part) p)

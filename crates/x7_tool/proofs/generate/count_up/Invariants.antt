@@ -1,0 +1,10 @@
+use Rattle.std.proofs.Common.{◌≡◌, ◌+◌, ◌%◌, ◌^◌, length, take}
+use Rattle.x7_tool.specs.Generated.{counted}
+use Rattle.x7_tool.proofs.generate.count_up.Given as goal
+
+abbrev pub invariant-loop-i : goal.invariant-loop-i
+invariant-loop-i l = record {
+  length : length l.frame.items ≡ length l.fn.frame.items;
+  front : take l.i l.frame.items ≡ counted l.i l.n;
+  word : l.word ≡ (l.n + l.i) % 2 ^ 32;
+}

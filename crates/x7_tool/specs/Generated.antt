@@ -1,0 +1,61 @@
+-- Plans that are made from a number, and the summary of their streams (this project's choice).
+use Rattle.std.specs.Prelude.{ℕ, ◌+◌, ◌*◌, ◌%◌, ◌^◌, nat_lt, if◌then◌else◌, List, [], ◌∷◌, ◌++◌, false, codes, decimal, length, map, unwrap_or}
+use Rattle.std.specs.List.{range_with_len, sum}
+use Rattle.x7_text.specs.Digits.{hex_word}
+use Rattle.x7_part.specs.AddressOrder.{addresses_in}
+use Rattle.x7_part.specs.Part.{PartData, frame_words}
+use Rattle.x7_memory.specs.FrameMap.{FrameMap}
+use Rattle.x7_memory.specs.Planned.{PlanData, PlanRow}
+use Rattle.x7_planner.specs.Full.{full_stream}
+use Rattle.x7_engine.specs.Kept.{on_the_bench}
+use Rattle.x7_engine.specs.State.{memory_in, state_of}
+
+-- the number after a number
+abbrev pub next_number : ℕ → ℕ
+next_number x = (1664525 * x + 1013904223) % 2 ^ 32
+
+-- so many words that count up from a number, without their carries
+abbrev pub counted : ℕ → ℕ → List ℕ
+counted count n = map (λ i. (n + i) % 2 ^ 32) (range_with_len 0 count)
+
+-- what is planned for an address by its number: nothing where that is below 2^31
+abbrev pub row_by : ℕ → ℕ → ℕ → List PlanRow
+row_by width far n = if nat_lt n (2 ^ 31) then [] else record { far = far; words = counted width n } ∷ []
+
+-- what is planned for these addresses: the first one's number is that after x, each other's that after the number before
+abbrev pub rows_after : ℕ → ℕ → List ℕ → List PlanRow
+rows_after width x [] = []
+rows_after width x (far ∷ fars) = row_by width far (next_number x) ++ rows_after width (next_number x) fars
+
+-- the plan of a seed
+abbrev pub generated : PartData → ℕ → PlanData
+generated part seed = record { width = frame_words part; rows = rows_after (frame_words part) seed (addresses_in part) }
+
+-- the words of the frames at these addresses, added up
+abbrev pub words_sum : FrameMap → List ℕ → ℕ
+words_sum memory [] = 0
+words_sum memory (far ∷ fars) = sum (unwrap_or (memory far) []) + words_sum memory fars
+
+-- the lines of a part's name and a seed, of a number, and of a sum
+abbrev pub head_line : List ℕ → ℕ → List ℕ
+head_line name seed = codes "gen " ++ name ++ codes " " ++ decimal seed ++ codes "\n"
+
+abbrev pub count_line : List ℕ → ℕ → List ℕ
+count_line key n = key ++ decimal n ++ codes "\n"
+
+abbrev pub sum_line : ℕ → List ℕ
+sum_line n = codes "sum " ++ hex_word n ++ codes "\n"
+
+-- the part and the seed, the planned frames, the bytes of the stream, and the phase and the sum of all words of a device that took it
+unfoldable pub summary_text : List ℕ → ℕ → ℕ → ℕ → ℕ → ℕ → List ℕ
+summary_text name seed planned size phase sum =
+    head_line name seed ++ count_line (codes "planned ") planned ++ count_line (codes "stream ") size ++ count_line (codes "phase ") phase ++ sum_line sum
+
+-- the summary of a plan's stream, played on a new device; the sum is without its carries
+abbrev pub played_summary : PartData → ℕ → ℕ → List ℕ → List ℕ
+played_summary part seed planned stream =
+    summary_text part.name seed planned (length stream) (state_of part on_the_bench false stream).phase (words_sum (memory_in part on_the_bench stream) (addresses_in part) % 2 ^ 32)
+
+-- the text of `gen`
+unfoldable pub gen_text : PartData → ℕ → List ℕ
+gen_text part seed = played_summary part seed (length (generated part seed).rows) (full_stream part (generated part seed))

@@ -1,0 +1,250 @@
+//! The command `gen`: a plan that is made from a number, its stream played on a new device, and what came of it.
+ghost use Rattle.std.specs.Prelude.{◌≡◌, ◌⊎◌, ◌≤◌, ◌++◌, ◌%◌, ◌^◌, ℕ, List, [], ◌∷◌, Option, length, IfOk, IfErr, OnOk, unwrap_or};
+ghost use Rattle.std.specs.List.{sum};
+ghost use Rattle.x7_part.specs.AddressOrder.{addresses_in};
+ghost use Rattle.x7_part.specs.Part.{PartData};
+ghost use Rattle.x7_memory.specs.Frames.{AreFramesOf, frame_at};
+ghost use Rattle.x7_engine.specs.Kept.{on_the_bench};
+ghost use Rattle.x7_engine.specs.State.{reads_of};
+ghost use Rattle.x7_tool.specs.Generated.{count_line, counted, gen_text, head_line, sum_line, generated, next_number, played_summary, row_by, summary_text, words_sum};
+ghost use Rattle.x7_tool.specs.Event.{no_memory};
+ghost use Rattle.x7_tool.specs.Message.{event_of};
+ghost use Rattle.x7_tool.specs.Outcome.{gen_answer, gen_made, reads_limit, with_inputs};
+ghost use Rattle.x7_tool.specs.Play.{HasPlayed, whole_of};
+ghost use Rattle.x7_tool.specs.Run.{IsCaused, RisesFor, seen};
+
+use crate::play::read_part;
+use crate::player::Player;
+use crate::refusal::{Refusal, Why};
+use crate::reports::{put_number, put_text};
+use crate::text::Text;
+use std::alloc::Global;
+use x7_memory::{Draft, Memory, Plan};
+use x7_part::Part;
+use x7_planner::full;
+use x7_text::hex_of_word;
+use x7_words::{Inputs, NoMemory};
+
+/// The least number that plans a frame.
+const LEAST: u32 = 1 << 31;
+
+/// The number after a number.
+fn next_number(x: u32) -> u32
+    ensures { result ≡ next_number x }
+{
+    x.wrapping_mul(1_664_525).wrapping_add(1_013_904_223)
+}
+
+/// Makes the words of a frame count up from a number.
+fn count_up(frame: &mut Vec<u32>, n: u32)
+    ensures words { frame.new.items ≡ counted (length frame.old.items) n }
+    ensures room { length frame.new.items ≡ length frame.old.items }
+{
+    let mut word = n;
+    for i in 0..frame.len() {
+        frame[i] = word;
+        word = word.wrapping_add(1);
+    }
+}
+
+/// Adds what is planned for an address by its number. `frame` is room for its words.
+fn push_row(draft: &mut Draft, frame: &mut Vec<u32>, far: u32, n: u32) -> Result<(), NoMemory>
+    requires width { length frame.old.items ≡ draft.old.width }
+    ensures added { OnOk result (draft.new.rows ≡ draft.old.rows ++ row_by draft.old.width far n) }
+    ensures width { draft.new.width ≡ draft.old.width }
+    ensures room { length frame.new.items ≡ length frame.old.items }
+{
+    if n < LEAST {
+        return Ok(());
+    }
+    count_up(frame, n);
+    draft.push(far, frame)
+}
+
+/// The plan of a seed.
+fn generated(alloc: Global, part: &Part, seed: u32) -> Result<Plan, NoMemory>
+    ensures { IfOk result (λ plan. plan ≡ generated part.now seed) }
+{
+    let Ok(mut frame) = vec![in alloc; 0u32; part.words() as usize] else {
+        return Err(NoMemory);
+    };
+    let mut draft = Draft::new(alloc, part.words());
+    let mut n = seed;
+    for rank in 0..part.frames() {
+        let Some(far) = part.address(rank) else {
+            unreachable!()
+        };
+        n = next_number(n);
+        push_row(&mut draft, &mut frame, far, n)?;
+    }
+    Ok(draft.finish())
+}
+
+/// The sum of words, without its carries.
+fn sum_of(words: &[u32]) -> u32
+    ensures { result ≡ sum words.now % 2 ^ 32 }
+{
+    let mut total: u32 = 0;
+    for word in words {
+        total = total.wrapping_add(*word);
+    }
+    total
+}
+
+/// The sum of the words of the frame at an address, without its carries.
+fn frame_sum(part: &Part, memory: &Memory, far: u32) -> u32
+    requires { AreFramesOf part.now memory.now }
+    ensures { result ≡ sum (unwrap_or (frame_at part.now memory.now far) []) % 2 ^ 32 }
+{
+    match memory.frame(part, far) {
+        Some(words) => sum_of(words),
+        None => 0,
+    }
+}
+
+/// The sum of all words of a memory, without its carries.
+fn memory_sum(part: &Part, memory: &Memory) -> u32
+    requires { AreFramesOf part.now memory.now }
+    ensures { result ≡ words_sum (frame_at part.now memory.now) (addresses_in part.now) % 2 ^ 32 }
+{
+    let mut total: u32 = 0;
+    for rank in 0..part.frames() {
+        let Some(far) = part.address(rank) else {
+            unreachable!()
+        };
+        total = total.wrapping_add(frame_sum(part, memory, far));
+    }
+    total
+}
+
+/// A new device of the part that took a stream.
+fn play_stream(alloc: Global, part: &Part, stream: &Vec<u8>) -> Result<Player, NoMemory>
+    ensures { IfOk result (λ player. HasPlayed part.now stream.now.items player) }
+{
+    let mut player = Player::new(alloc, part)?;
+    player.play(stream)?;
+    Ok(player)
+}
+
+/// What is told of a stream that was played.
+#[derive(Clone, Copy)]
+struct Summary {
+    /// The planned frames.
+    planned: u64,
+    /// The bytes of the stream.
+    size: u64,
+    /// The phase of startup after it.
+    phase: u8,
+    /// The sum of all words after it, without its carries.
+    sum: u32,
+}
+
+/// Appends the line of a number.
+fn put_count(text: &mut Vec<u8>, key: &[u8], number: u64) -> Result<(), NoMemory>
+    ensures { OnOk result (text.new.items ≡ text.old.items ++ count_line key.now number) }
+{
+    put_text(text, key)?;
+    put_number(text, number)
+}
+
+/// Appends the line of a part's name and a seed.
+fn put_head(text: &mut Vec<u8>, name: &str, seed: u32) -> Result<(), NoMemory>
+    ensures { OnOk result (text.new.items ≡ text.old.items ++ head_line name.now seed) }
+{
+    put_text(text, b"gen ")?;
+    put_text(text, name.as_bytes())?;
+    put_text(text, b" ")?;
+    put_number(text, u64::from(seed))
+}
+
+/// Appends the line of a sum.
+fn put_sum(text: &mut Vec<u8>, sum: u32) -> Result<(), NoMemory>
+    ensures { OnOk result (text.new.items ≡ text.old.items ++ sum_line sum) }
+{
+    put_text(text, b"sum ")?;
+    put_text(text, &hex_of_word(sum))?;
+    put_text(text, b"\n")
+}
+
+/// Appends a summary.
+fn put_summary(text: &mut Vec<u8>, name: &str, seed: u32, summary: Summary) -> Result<(), NoMemory>
+    ensures { OnOk result (text.new.items ≡ text.old.items ++ summary_text name.now seed summary.planned summary.size summary.phase summary.sum) }
+{
+    put_head(text, name, seed)?;
+    put_count(text, b"planned ", summary.planned)?;
+    put_count(text, b"stream ", summary.size)?;
+    put_count(text, b"phase ", u64::from(summary.phase))?;
+    put_sum(text, summary.sum)?;
+    Ok(())
+}
+
+/// The summary of a stream that was played, of so many planned frames.
+fn summarized(
+    alloc: Global,
+    seed: u32,
+    planned: usize,
+    stream: &Vec<u8>,
+    player: &Player,
+) -> Result<Vec<u8>, NoMemory>
+    ensures { IfOk result (λ text. (part : PartData) → HasPlayed part stream.now.items player.now → length (reads_of part on_the_bench stream.now.items) ≤ reads_limit
+        → text.items ≡ played_summary part seed planned stream.now.items) }
+{
+    let device = player.device();
+    let part = device.part();
+    let summary = Summary {
+        planned: planned as u64,
+        size: stream.len() as u64,
+        phase: device.state().phase,
+        sum: memory_sum(part, device.memory()),
+    };
+    let mut text = Vec::new(alloc);
+    put_summary(&mut text, part.name(), seed, summary)?;
+    Ok(text)
+}
+
+/// The summary of the full stream of a seed's plan, played on a new device (this project's choice): `gen NAME SEED`; `planned N`,
+/// the planned frames; `stream N`, its bytes; `phase P`; `sum W`, the sum of all words of the memory modulo 2^32.
+pub fn gen_text(alloc: Global, part: &Part, seed: u32) -> Result<Vec<u8>, NoMemory>
+    ensures { IfOk result (λ text. text.items ≡ gen_text part.now seed) }
+{
+    let plan = generated(alloc, part, seed)?;
+    let _frames = part.frames();
+    let planned = plan.len();
+    let Ok(stream) = full(alloc, part, &plan) else {
+        return Err(NoMemory);
+    };
+    let player = play_stream(alloc, part, &stream)?;
+    let text = summarized(alloc, seed, planned, &stream, &player)?;
+    Ok(text)
+}
+
+/// The whole text of a part and a seed.
+fn summary_of<'w>(alloc: Global, part: &Part, seed: u32) -> Result<Text, Refusal<'w>>
+    ensures ok { IfOk result (λ text. whole_of text ≡ gen_answer part.now seed) }
+    ensures err { IfErr result (λ r. event_of r ≡ no_memory) }
+{
+    match gen_text(alloc, part, seed) {
+        Ok(text) => Ok(Text {
+            stopped: false,
+            text,
+        }),
+        Err(_) => Err(Refusal::unnamed(Why::NoMemory)),
+    }
+}
+
+/// The text of `gen PART SEED`.
+pub(crate) fn generate<'w, I: Inputs>(
+    alloc: Global,
+    inputs: &mut I,
+    name: &'w str,
+    seed: u32,
+) -> Result<Text, Refusal<'w>>
+    ensures { (flash : Option (List ℕ)) → IsCaused (with_inputs (I.contents inputs.old) flash) (RisesFor (name.now ∷ []) (I.faults inputs.old) (I.faults inputs.new)) (RisesFor (name.now ∷ []) (I.absences inputs.old) (I.absences inputs.new))
+        (λ known. gen_made known name.now seed) (seen whole_of result) }
+{
+    let part = match read_part(alloc, inputs, name) {
+        Ok(part) => part,
+        Err(refusal) => return Err(refusal),
+    };
+    summary_of(alloc, &part, seed)
+}
