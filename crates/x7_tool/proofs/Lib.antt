@@ -1,3 +1,4 @@
+pub mod AheadLemmas
 pub mod AsmLemmas
 pub mod Causes
 pub mod DebugLemmas

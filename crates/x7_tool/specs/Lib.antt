@@ -1,3 +1,4 @@
+pub mod Ahead
 pub mod Debug
 pub mod Event
 pub mod Form

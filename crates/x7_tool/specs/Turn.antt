@@ -1,5 +1,5 @@
 -- Inputs that are read, and a listing that is written, turn by turn.
-use Rattle.std.specs.Prelude.{◌≡◌, ◌<◌, ◌≤◌, ◌⊎◌, ◌++◌, ℕ, Bool, true, List, [], Option, None, Some, Ok, Err, drop, length}
+use Rattle.std.specs.Prelude.{◌≡◌, ◌<◌, ◌≤◌, ◌⊎◌, ◌++◌, ℕ, Bool, true, List, [], Option, None, Some, Ok, Err, drop, length, ◌+◌}
 use Rattle.x7_words.specs.Count.{HasRisen}
 use Rattle.x7_words.specs.Input.{AtEnd, Lacks, preceded}
 use Rattle.x7_words.specs.Sink.{appended}
@@ -47,6 +47,7 @@ pub record ListsStream (l : ListerState) (first now : Option (List ℕ)) (bytes 
   pub sent : List ℕ
   pub lists : Lists l (appended first line) now sent
   pub goes : (rest : List ℕ) → stream_listing (bytes ++ rest) ≡ Ok (line ++ listing_of (sent ++ rest))
+  pub close : length bytes ≤ length sent + 327706
 
 -- nothing follows the last bytes
 abbrev pub MayFollow : Bool → List ℕ → Type 0

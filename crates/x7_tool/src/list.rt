@@ -4,9 +4,10 @@ ghost use Rattle.x7_words.specs.Count.{HasRisen};
 ghost use Rattle.x7_words.specs.Sink.{appended, PutsFront};
 ghost use Rattle.x7_words.specs.Word.{AreBytes};
 ghost use Rattle.x7_listing.specs.Listing.{listing_of};
+ghost use Rattle.x7_tool.specs.Ahead.{IsLonger, StaysNear};
 ghost use Rattle.x7_tool.specs.Form.{Listing};
 ghost use Rattle.x7_tool.specs.Message.{event_of};
-ghost use Rattle.x7_tool.specs.Event.{no_memory, write_fault};
+ghost use Rattle.x7_tool.specs.Event.{no_memory, status_of, write_fault};
 ghost use Rattle.x7_listing.specs.Telling.{ListerStandsFor};
 ghost use Rattle.x7_tool.specs.Outcome.{with_inputs};
 ghost use Rattle.x7_tool.specs.Run.{Ends, RisesFor};
@@ -25,6 +26,7 @@ fn put_turn<'w, O: Sink>(lister: &mut Lister, out: &mut O, piece: &[u8]) -> Resu
     ensures err { IfErr result (λ r. (first : Option (List ℕ)) (bytes rest : List ℕ) → Lists lister.old first (O.written out.old) bytes → AreBytes (bytes ++ (piece.now ++ rest)) → PutsFront first (listing_of (bytes ++ (piece.now ++ rest))) (O.written out.new)) }
     ensures why { IfErr result (λ r. ((event_of r ≡ no_memory) × (O.written out.new ≡ O.written out.old)) ⊎ ((event_of r ≡ write_fault) × HasRisen (O.faults out.old) (O.faults out.new))) }
     ensures fits { AreBytes piece.now }
+    ensures longer { IsLonger (O.written out.old) (O.written out.new) }
     ensures faults { O.faults out.old ≤ O.faults out.new }
 {
     if lister.feed(piece).is_err() {
@@ -63,6 +65,7 @@ fn put_end<'w, O: Sink>(lister: &mut Lister, out: &mut O) -> Result<(), Refusal<
     ensures ok { OnOk result ((first : Option (List ℕ)) (bytes : List ℕ) → Lists lister.old first (O.written out.old) bytes → O.written out.new ≡ appended first (listing_of bytes)) }
     ensures err { IfErr result (λ r. (first : Option (List ℕ)) (bytes : List ℕ) → Lists lister.old first (O.written out.old) bytes → PutsFront first (listing_of bytes) (O.written out.new)) }
     ensures why { IfErr result (λ r. (event_of r ≡ no_memory) ⊎ ((event_of r ≡ write_fault) × HasRisen (O.faults out.old) (O.faults out.new))) }
+    ensures longer { IsLonger (O.written out.old) (O.written out.new) }
 {
     if lister.finish().is_err() {
         return Err(Refusal::unnamed(Why::NoMemory));
@@ -82,6 +85,7 @@ pub(crate) fn list<'w, I: Inputs, O: Sink>(
 ) -> Result<(), Refusal<'w>>
     ensures ok { OnOk result ((flash : Option (List ℕ)) → (text : List ℕ) × Ends (with_inputs (I.contents inputs.old) flash) (RisesFor (stream.now ∷ []) (I.faults inputs.old) (I.faults inputs.new)) (RisesFor (stream.now ∷ []) (I.absences inputs.old) (I.absences inputs.new)) (Some (Listing stream.now)) (HasRisen (O.faults out.old) (O.faults out.new)) (O.written out.old) (O.written out.new) (Ok (record { stopped = false; text = text }))) }
     ensures err { IfErr result (λ r. (flash : Option (List ℕ)) → Ends (with_inputs (I.contents inputs.old) flash) (RisesFor (stream.now ∷ []) (I.faults inputs.old) (I.faults inputs.new)) (RisesFor (stream.now ∷ []) (I.absences inputs.old) (I.absences inputs.new)) (Some (Listing stream.now)) (HasRisen (O.faults out.old) (O.faults out.new)) (O.written out.old) (O.written out.new) (Err (event_of r))) }
+    ensures near { IfErr result (λ r. StaysNear (status_of (event_of r)) (Some (Listing stream.now)) (I.contents inputs.old) (I.rest inputs.new) (O.written out.old) (O.written out.new)) }
 {
     match open(inputs, stream) {
         Ok(()) => (),

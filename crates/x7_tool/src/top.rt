@@ -1,9 +1,10 @@
 //! The top call.
-ghost use Rattle.std.specs.Prelude.{◌≡◌, map, string_bytes, Result};
+ghost use Rattle.std.specs.Prelude.{◌≡◌, map, string_bytes, IfErr, Result};
 ghost use Rattle.x7_words.specs.Count.{HasRisen};
-ghost use Rattle.x7_tool.specs.Event.{Event};
+ghost use Rattle.x7_tool.specs.Event.{Event, status_of};
+ghost use Rattle.x7_tool.specs.Ahead.{StaysNear};
 ghost use Rattle.x7_tool.specs.Form.{form_of, names_of};
-ghost use Rattle.x7_tool.specs.Message.{final_status};
+ghost use Rattle.x7_tool.specs.Message.{event_of, final_status};
 ghost use Rattle.x7_tool.specs.Outcome.{Answer, known_of};
 ghost use Rattle.x7_tool.specs.Run.{Ends, EndsAs, RisesFor, Says, seen};
 ghost use Rattle.x7_tool.specs.Runs.{Runs};
@@ -33,6 +34,7 @@ fn answer<'w, I: Inputs, O: Sink, F: Flash>(
 ) -> Result<bool, Refusal<'w>>
     ensures ends { let form = form_of (map string_bytes words.now.items) in EndsAs (known_of form (I.contents inputs.old) (F.bytes flash.old)) (RisesFor (names_of form) (I.faults inputs.old) (I.faults inputs.new)) (RisesFor (names_of form) (I.absences inputs.old) (I.absences inputs.new)) form
         (HasRisen (O.faults out.old) (O.faults out.new)) (O.written out.old) (O.written out.new) (seen (λ stopped. stopped) result) }
+    ensures near { IfErr result (λ r. StaysNear (status_of (event_of r)) (form_of (map string_bytes words.now.items)) (I.contents inputs.old) (I.rest inputs.new) (O.written out.old) (O.written out.new)) }
     ensures flash { flash.new ≡ flash.old }
 {
     match words_of(words) {
@@ -84,6 +86,7 @@ fn carry_out<I: Inputs, O: Sink, E: Sink, F: Flash>(
     ensures ends { let form = form_of (map string_bytes words.now.items) in (end : Result Answer Event) × ((result ≡ final_status end)
         × Ends (known_of form (I.contents inputs.old) (F.bytes flash.old)) (RisesFor (names_of form) (I.faults inputs.old) (I.faults inputs.new)) (RisesFor (names_of form) (I.absences inputs.old) (I.absences inputs.new)) form (HasRisen (O.faults out.old) (O.faults out.new)) (O.written out.old) (O.written out.new) end
         × Says (HasRisen (E.faults err.old) (E.faults err.new)) (E.written err.old) (E.written err.new) end) }
+    ensures near { StaysNear result (form_of (map string_bytes words.now.items)) (I.contents inputs.old) (I.rest inputs.new) (O.written out.old) (O.written out.new) }
     ensures flash { flash.new ≡ flash.old }
 {
     match answer(alloc, words, inputs, flash, out) {
@@ -103,7 +106,7 @@ pub fn run<I: Inputs, O: Sink, E: Sink, F: Flash>(
     out: &mut O,
     err: &mut E,
 ) -> Status
-    ensures { Runs (form_of (map string_bytes words.now.items))
+    ensures runs { Runs (form_of (map string_bytes words.now.items))
         (record {
           inputs = I.contents inputs.old;
           faults = I.faults inputs.old;
@@ -125,6 +128,7 @@ pub fn run<I: Inputs, O: Sink, E: Sink, F: Flash>(
           err_faults = E.faults err.new;
         })
         result }
+    ensures near { StaysNear result (form_of (map string_bytes words.now.items)) (I.contents inputs.old) (I.rest inputs.new) (O.written out.old) (O.written out.new) }
 {
     carry_out(alloc, words, inputs, flash, out, err)
 }

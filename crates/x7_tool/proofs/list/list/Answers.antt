@@ -1,4 +1,4 @@
-use Rattle.std.proofs.Common.{◌≡◌, ℕ, ◌+◌, ◌-◌, ◌≤◌, ◌⊎◌, List, [], ◌∷◌, ◌++◌, Option, Some, Ok, Err, drop, subst, take, length, length-append, length-drop, length-take-le, take_all, refl, sym, ap, ◌∙◌, inl, inr, arith}
+use Rattle.std.proofs.Common.{◌≡◌, ℕ, ◌+◌, ◌-◌, ◌≤◌, ◌⊎◌, List, [], ◌∷◌, ◌++◌, Option, Some, Ok, Err, drop, subst, take, length, length-append, append-nil, length-drop, length-take-le, take_all, refl, sym, ap, ◌∙◌, inl, inr, arith}
 use Rattle.std.proofs.lemmas.Result.{on_ok_weaker}
 use Rattle.x7_words.specs.Count.{HasRisen}
 use Rattle.x7_words.specs.Sink.{appended, PutsFront}
@@ -12,8 +12,9 @@ use Rattle.x7_tool.specs.Form.{Listing}
 use Rattle.x7_tool.specs.Message.{event_of}
 use Rattle.x7_tool.specs.Outcome.{stream_limit, with_inputs}
 use Rattle.x7_tool.specs.Run.{Ends, PutsListing, RisesFor}
-use Rattle.x7_tool.specs.Turn.{Lists, ListsStream, MayFollow}
-use Rattle.x7_tool.proofs.Causes.{both_err, ends_same, listed_whole, out_of_memory, unfronted, unopened}
+use Rattle.x7_tool.specs.Turn.{Lists, MayFollow}
+use Rattle.x7_tool.proofs.AheadLemmas.{front_near, lists_longer, longer_front, longer_twice, turn_near, unfronted_near, unopened_near, unread_near, unwritten_near, why_weaker}
+use Rattle.x7_tool.proofs.Causes.{both_err, err_weaker, ends_same, listed_whole, out_of_memory, unfronted, unopened}
 use Rattle.x7_tool.proofs.TurnLemmas.{end_failed, front_failed, front_here, goes_on, line_front, line_then, stream_here, stream_whole, taken_more, unread_end, write_failed}
 use Rattle.x7_tool.proofs.list.list.Goals as goal
 
@@ -253,5 +254,87 @@ loop-turn-preserved g c =
       written = omega (arith, v.written, c.put_turn.ensures.faults);
       left = omega (arith, v.left);
       piece = omega (arith, c.next_turn.ensures.length, v.piece);
-      told = (taken ++ piece, (sel, record { line = t.line; sent = t.sent ++ piece; lists = lists; goes = goes }, omega (arith, size, v.told.1.2, c.in-Ok-next_turn.ensures.within.0)));
+      told = (taken ++ piece, (sel, record { line = t.line; sent = t.sent ++ piece; lists = lists; goes = goes; close = omega (arith, t.close, length-append taken piece, length-append t.sent piece) }, omega (arith, size, v.told.1.2, c.in-Ok-next_turn.ensures.within.0)));
     }
+
+pub returns-in-Err-clause-near : goal.returns-in-Err-clause-near
+returns-in-Err-clause-near g c =
+    unopened_near (g.I.Inputs.contents c.args.inputs.now) c.args.stream.now (g.I.Inputs.rest c.open.new.inputs) (g.O.Sink.written c.args.out.now) (g.O.Sink.written c.args.out.now) _ c.args.stream.now _ _ _ _ (event_of c.in-Err.refusal) c.in-Err.ensures.err
+
+pub returns-in-Err-read_front-clause-near : goal.returns-in-Err-read_front-clause-near
+returns-in-Err-read_front-clause-near g c =
+    unfronted_near (g.I.Inputs.contents c.args.inputs.now) c.args.stream.now (g.I.Inputs.rest c.read_front.new.inputs) (g.O.Sink.written c.args.out.now) (g.O.Sink.written c.args.out.now) _ _ c.args.stream.now _ _ (event_of c.in-Err-read_front.refusal) c.in-Err-read_front.ensures.err
+
+pub returns-in-Err-put_front-clause-near : goal.returns-in-Err-put_front-clause-near
+returns-in-Err-put_front-clause-near g c =
+    let i = g.I.Inputs in
+    let o = g.O.Sink in
+    let contents = i.contents c.args.inputs.now in
+    let old = o.written c.args.out.now in
+    let now = o.written c.put_front.new.out in
+    let stream = c.args.stream.now in
+    let f = c.in-Ok-read_front.ensures.front in
+    let taken = c.in-Ok-read_front.front.bytes.items in
+    let rest = i.rest c.read_front.new.inputs in
+    let sel : Selects contents stream (preceded taken rest) = subst (λ r. Selects contents stream r) f.taken c.in-Ok.ensures.found in
+    let sent = c.put_front.ensures.fits in
+    let put = c.in-Err-put_front.ensures.err [] (subst AreBytes (sym (append-nil _)) c.put_front.ensures.fits) in
+    unwritten_near contents stream rest old now _ (event_of c.in-Err-put_front.refusal) (front_near contents stream taken rest old now sel f.few (longer_front old now _ put)) c.in-Err-put_front.ensures.why
+
+pub returns-then-front-clause-near : goal.returns-then-front-clause-near
+returns-then-front-clause-near g c =
+    let i = g.I.Inputs in
+    let o = g.O.Sink in
+    let contents = i.contents c.args.inputs.now in
+    let old = o.written c.args.out.now in
+    let now = o.written c.put_end.new.out in
+    let stream = c.args.stream.now in
+    let f = c.in-Ok-read_front.ensures.front in
+    let taken = c.in-Ok-read_front.front.bytes.items in
+    let rest = i.rest c.read_front.new.inputs in
+    let sel : Selects contents stream (preceded taken rest) = subst (λ r. Selects contents stream r) f.taken c.in-Ok.ensures.found in
+    let longer = longer_twice old (o.written c.put_front.new.out) now (lists_longer c.put_front.new.lister old (o.written c.put_front.new.out) _ _ c.in-Ok-put_front.ensures.ok) c.put_end.ensures.longer in
+    err_weaker c.put_end.result (λ r w. unwritten_near contents stream rest old now _ (event_of r) (front_near contents stream taken rest old now sel f.few longer) w) c.put_end.ensures.why
+
+pub returns-in-Err-next_turn-clause-near : goal.returns-in-Err-next_turn-clause-near
+returns-in-Err-next_turn-clause-near g c =
+    unread_near (g.I.Inputs.contents c.args.inputs.now) c.args.stream.now (g.I.Inputs.rest c.next_turn.new.inputs) (g.O.Sink.written c.args.out.now) (g.O.Sink.written c.loop-turn.out) _ _ c.args.stream.now _ _ _ _ (event_of c.in-Err-next_turn.refusal) c.in-Err-next_turn.ensures.err
+
+pub returns-in-Err-put_turn-clause-near : goal.returns-in-Err-put_turn-clause-near
+returns-in-Err-put_turn-clause-near g c =
+    let i = g.I.Inputs in
+    let o = g.O.Sink in
+    let contents = i.contents c.args.inputs.now in
+    let old = o.written c.args.out.now in
+    let now = o.written c.put_turn.new.out in
+    let stream = c.args.stream.now in
+    let v = c.loop-turn.invariant in
+    let taken = v.told.0 in
+    let t = v.told.1.1 in
+    let n = c.in-Ok-next_turn.turn.count in
+    let piece = take n c.next_turn.new.buf in
+    let rest = i.rest c.next_turn.new.inputs in
+    let sel = taken_more contents stream taken piece (i.rest c.loop-turn.inputs) rest v.told.1.0 c.in-Ok-next_turn.ensures.taken in
+    let few : length piece ≤ 65536 = omega (arith, length-take-le n c.next_turn.new.buf (omega (arith, c.in-Ok-next_turn.ensures.within.1, c.next_turn.ensures.length, v.piece)), c.in-Ok-next_turn.ensures.within.1, v.piece) in
+    let near = turn_near contents stream taken piece t.line t.sent c.loop-turn.lister rest old (o.written c.loop-turn.out) now sel t.close few t.lists c.put_turn.ensures.longer in
+    unwritten_near contents stream rest old now _ (event_of c.in-Err-put_turn.refusal) near (why_weaker c.in-Err-put_turn.ensures.why)
+
+pub returns-then-turn-clause-near : goal.returns-then-turn-clause-near
+returns-then-turn-clause-near g c =
+    let i = g.I.Inputs in
+    let o = g.O.Sink in
+    let contents = i.contents c.args.inputs.now in
+    let old = o.written c.args.out.now in
+    let now = o.written c.put_end-then-turn.new.out in
+    let stream = c.args.stream.now in
+    let v = c.loop-turn.invariant in
+    let taken = v.told.0 in
+    let t = v.told.1.1 in
+    let n = c.in-Ok-next_turn.turn.count in
+    let piece = take n c.next_turn.new.buf in
+    let rest = i.rest c.next_turn.new.inputs in
+    let sel = taken_more contents stream taken piece (i.rest c.loop-turn.inputs) rest v.told.1.0 c.in-Ok-next_turn.ensures.taken in
+    let few : length piece ≤ 65536 = omega (arith, length-take-le n c.next_turn.new.buf (omega (arith, c.in-Ok-next_turn.ensures.within.1, c.next_turn.ensures.length, v.piece)), c.in-Ok-next_turn.ensures.within.1, v.piece) in
+    let longer = longer_twice (o.written c.loop-turn.out) (o.written c.put_turn.new.out) now c.put_turn.ensures.longer c.put_end-then-turn.ensures.longer in
+    let near = turn_near contents stream taken piece t.line t.sent c.loop-turn.lister rest old (o.written c.loop-turn.out) now sel t.close few t.lists longer in
+    err_weaker c.put_end-then-turn.result (λ r w. unwritten_near contents stream rest old now _ (event_of r) near w) c.put_end-then-turn.ensures.why

@@ -1,4 +1,5 @@
 use Rattle.std.proofs.Common.{sym, ◌∙◌}
+use Rattle.x7_tool.proofs.AheadLemmas.{longer_front, same_now}
 use Rattle.x7_tool.proofs.TurnLemmas.{end_part, end_put, from_ok, lists_here}
 use Rattle.x7_tool.proofs.list.put_end.Goals as goal
 
@@ -15,3 +16,12 @@ pub returns-in-Err-clause-err : goal.returns-in-Err-clause-err
 returns-in-Err-clause-err g c = λ first bytes lists.
     let ends = from_ok c.finish.result (sym c.is_err.ensures.value ∙ c.if-is_err.false) c.finish.ensures.ok in
     end_part c.args.lister.now c.finish.new.self first (g.O.Sink.written c.args.out.now) (g.O.Sink.written c.write_all.new.sink) bytes c.text.result.now lists ends c.text.ensures c.write_all.ensures.front
+
+pub returns-then-is_err-clause-longer : goal.returns-then-is_err-clause-longer
+returns-then-is_err-clause-longer g c = same_now (g.O.Sink.written c.args.out.now)
+
+pub returns-in-Ok-clause-longer : goal.returns-in-Ok-clause-longer
+returns-in-Ok-clause-longer g c = longer_front (g.O.Sink.written c.args.out.now) (g.O.Sink.written c.write_all.new.sink) _ c.write_all.ensures.front
+
+pub returns-in-Err-clause-longer : goal.returns-in-Err-clause-longer
+returns-in-Err-clause-longer g c = longer_front (g.O.Sink.written c.args.out.now) (g.O.Sink.written c.write_all.new.sink) _ c.write_all.ensures.front

@@ -1,4 +1,5 @@
 use Rattle.std.proofs.Common.{sym, ◌∙◌}
+use Rattle.x7_tool.proofs.AheadLemmas.{longer_front, same_now}
 use Rattle.x7_tool.proofs.TurnLemmas.{from_ok, lists_front, lists_more, lists_part}
 use Rattle.x7_tool.proofs.list.put_turn.Goals as goal
 
@@ -16,3 +17,12 @@ returns-clause-ok g c = λ first bytes lists.
     let feeds = from_ok c.feed.result (sym c.is_err.ensures.value ∙ c.if-is_err.false) c.feed.ensures.ok in
     let put = from_ok c.write_all.result (sym c.is_err-2.ensures.value ∙ c.if-is_err-2.false) c.write_all.ensures.ok in
     lists_more c.args.lister.now c.feed.new.self c.clear_text.new.self first (g.O.Sink.written c.args.out.now) (g.O.Sink.written c.write_all.new.sink) bytes c.args.piece.now c.text.result.now lists feeds c.text.ensures put c.clear_text.ensures.cleared c.clear_text.ensures.given
+
+pub returns-then-is_err-clause-longer : goal.returns-then-is_err-clause-longer
+returns-then-is_err-clause-longer g c = same_now (g.O.Sink.written c.args.out.now)
+
+pub returns-then-is_err-2-clause-longer : goal.returns-then-is_err-2-clause-longer
+returns-then-is_err-2-clause-longer g c = longer_front (g.O.Sink.written c.args.out.now) (g.O.Sink.written c.write_all.new.sink) _ c.write_all.ensures.front
+
+pub returns-clause-longer : goal.returns-clause-longer
+returns-clause-longer g c = longer_front (g.O.Sink.written c.args.out.now) (g.O.Sink.written c.write_all.new.sink) _ c.write_all.ensures.front

@@ -5,6 +5,9 @@ use Rattle.x7_tool.specs.Message.{event_of}
 use Rattle.x7_tool.specs.Outcome.{known_of}
 use Rattle.x7_tool.specs.Play.{whole_of, text_of_image}
 use Rattle.x7_tool.specs.Run.{Ends, RisesFor, asked, asked_by, seen}
+use Rattle.x7_tool.specs.Ahead.{StaysNear}
+use Rattle.x7_tool.specs.Event.{status_of}
+use Rattle.x7_tool.proofs.AheadLemmas.{elsewhere}
 use Rattle.x7_tool.proofs.RunLemmas.{ready_ends}
 use Rattle.x7_tool.proofs.top.answer.Goals as goal
 
@@ -79,3 +82,35 @@ returns-in-Some-Debug-clause-ends g c =
     let flash = g.F.Flash.bytes c.args.flash.now in
     ready_ends _ (Debugging c.in-Some-Debug.part.now c.in-Some-Debug.stream.now c.in-Some-Debug.script.now) _ flash _ _ _ _ _ _ _ (seen whole_of c.debug.result) _
     (sym c.words_of.ensures ∙ ap asked c.in-Some-Debug.is ∙ ap (λ f. Some (asked_by f)) c.in-Some-Debug.field-0-is) tt (c.debug.ensures flash) c.put_whole-in-Some-Debug.ensures
+
+pub returns-in-Err-clause-near : goal.returns-in-Err-clause-near
+returns-in-Err-clause-near g c =
+    let form : form_of (map string_bytes c.args.words.now.items) ≡ Some (Listing c.in-Some-List.stream.now) = sym c.words_of.ensures ∙ ap asked c.in-Some-List.is ∙ ap (λ f. Some (asked_by f)) c.in-Some-List.field-0-is in
+    subst (λ (f : Option Asked). StaysNear (status_of (event_of c.in-Err.refusal)) f (g.I.Inputs.contents c.args.inputs.now) (g.I.Inputs.rest c.list.new.inputs) (g.O.Sink.written c.args.out.now) (g.O.Sink.written c.list.new.out)) (sym form) c.in-Err.ensures.near
+
+pub returns-in-Some-Play-clause-near : goal.returns-in-Some-Play-clause-near
+returns-in-Some-Play-clause-near g c = elsewhere _ (Playing c.in-Some-Play.part.now (map string_bytes c.in-Some-Play.streams.now)) _ _ _ _ c.put_whole.result (sym c.words_of.ensures ∙ ap asked c.in-Some-Play.is ∙ ap (λ f. Some (asked_by f)) c.in-Some-Play.field-0-is) tt
+
+pub returns-in-Some-Asm-clause-near : goal.returns-in-Some-Asm-clause-near
+returns-in-Some-Asm-clause-near g c = elsewhere _ (Assembling c.in-Some-Asm.text.now) _ _ _ _ c.put_whole-in-Some-Asm.result (sym c.words_of.ensures ∙ ap asked c.in-Some-Asm.is ∙ ap (λ f. Some (asked_by f)) c.in-Some-Asm.field-0-is) tt
+
+pub returns-in-Some-Mcs-clause-near : goal.returns-in-Some-Mcs-clause-near
+returns-in-Some-Mcs-clause-near g c = elsewhere _ (ToMcs c.in-Some-Mcs.image.now) _ _ _ _ c.put_whole-in-Some-Mcs.result (sym c.words_of.ensures ∙ ap asked c.in-Some-Mcs.is ∙ ap (λ f. Some (asked_by f)) c.in-Some-Mcs.field-0-is) tt
+
+pub returns-in-Some-Unmcs-clause-near : goal.returns-in-Some-Unmcs-clause-near
+returns-in-Some-Unmcs-clause-near g c = elsewhere _ (FromMcs c.in-Some-Unmcs.text.now) _ _ _ _ c.put_whole-in-Some-Unmcs.result (sym c.words_of.ensures ∙ ap asked c.in-Some-Unmcs.is ∙ ap (λ f. Some (asked_by f)) c.in-Some-Unmcs.field-0-is) tt
+
+pub returns-in-Some-PlanFull-clause-near : goal.returns-in-Some-PlanFull-clause-near
+returns-in-Some-PlanFull-clause-near g c = elsewhere _ (PlanningFull c.in-Some-PlanFull.part.now c.in-Some-PlanFull.frames.now) _ _ _ _ c.put_whole-in-Some-PlanFull.result (sym c.words_of.ensures ∙ ap asked c.in-Some-PlanFull.is ∙ ap (λ f. Some (asked_by f)) c.in-Some-PlanFull.field-0-is) tt
+
+pub returns-in-Some-PlanPartial-clause-near : goal.returns-in-Some-PlanPartial-clause-near
+returns-in-Some-PlanPartial-clause-near g c = elsewhere _ (PlanningPartial c.in-Some-PlanPartial.part.now c.in-Some-PlanPartial.frames.now) _ _ _ _ c.put_whole-in-Some-PlanPartial.result (sym c.words_of.ensures ∙ ap asked c.in-Some-PlanPartial.is ∙ ap (λ f. Some (asked_by f)) c.in-Some-PlanPartial.field-0-is) tt
+
+pub returns-in-Some-PlanRead-clause-near : goal.returns-in-Some-PlanRead-clause-near
+returns-in-Some-PlanRead-clause-near g c = elsewhere _ (PlanningRead c.in-Some-PlanRead.part.now c.in-Some-PlanRead.far c.in-Some-PlanRead.n) _ _ _ _ c.put_whole-in-Some-PlanRead.result (sym c.words_of.ensures ∙ ap asked c.in-Some-PlanRead.is ∙ ap (λ f. Some (asked_by f)) c.in-Some-PlanRead.field-0-is) tt
+
+pub returns-in-Some-Image-clause-near : goal.returns-in-Some-Image-clause-near
+returns-in-Some-Image-clause-near g c = elsewhere _ (Imaging c.in-Some-Image.part.now c.in-Some-Image.golden.now c.in-Some-Image.update.now) _ _ _ _ c.put_whole-in-Some-Image.result (sym c.words_of.ensures ∙ ap asked c.in-Some-Image.is ∙ ap (λ f. Some (asked_by f)) c.in-Some-Image.field-0-is) tt
+
+pub returns-in-Some-Debug-clause-near : goal.returns-in-Some-Debug-clause-near
+returns-in-Some-Debug-clause-near g c = elsewhere _ (Debugging c.in-Some-Debug.part.now c.in-Some-Debug.stream.now c.in-Some-Debug.script.now) _ _ _ _ c.put_whole-in-Some-Debug.result (sym c.words_of.ensures ∙ ap asked c.in-Some-Debug.is ∙ ap (λ f. Some (asked_by f)) c.in-Some-Debug.field-0-is) tt

@@ -4,8 +4,8 @@ use Rattle.x7_tool.specs.Runs.{FlashState}
 use Rattle.x7_tool.proofs.RunLemmas.{flash_kept, runs}
 use Rattle.x7_tool.proofs.top.run.Goals as goal
 
-pub returns : goal.returns
-returns g c =
+pub returns-clause-runs : goal.returns-clause-runs
+returns-clause-runs g c =
     let i = g.I.Inputs in
     let o = g.O.Sink in
     let e = g.E.Sink in
