@@ -1,5 +1,5 @@
 -- A listing has at most five bytes for each byte of its stream, and four more.
-use Rattle.std.proofs.Common.{◌≡◌, ◌==◌, ◌&&◌, ℕ, ◌+◌, ◌*◌, ◌<◌, ◌≤◌, ◌^◌, Bool, true, false, if◌then◌else◌, List, [], ◌∷◌, ◌++◌, Result, Ok, Err, length, map, drop, refl, ap, sym, subst, ◌∙◌, arith, codes, length-append}
+use Rattle.std.proofs.Common.{◌≡◌, ◌==◌, ℕ, ◌+◌, ◌*◌, ◌<◌, ◌≤◌, ◌^◌, Bool, true, false, if◌then◌else◌, List, [], ◌∷◌, ◌++◌, Result, Ok, Err, length, map, drop, refl, ap, subst, ◌∙◌, arith, codes, length-append}
 use Rattle.std.specs.Prelude.{nat_lt}
 use Rattle.std.specs.List.{AllByRecursion, flat_map}
 use Rattle.std.specs.Fmt.{decimal}
@@ -8,7 +8,7 @@ use Rattle.std.proofs.lemmas.Fmt.{length-decimal-le}
 use Rattle.std.proofs.lemmas.Grind.{flat_map-append}
 use Rattle.x7_words.specs.Word.{AreBytes, bytes_of_word}
 use Rattle.x7_words.proofs.ListLemmas.{all-append, all_back, all_front}
-use Rattle.x7_header.specs.Header.{Contents, field_bytes, fields_bytes, fixed_bytes, HaveHeader, header_bytes, Kind}
+use Rattle.x7_header.specs.Header.{Contents, field_bytes, fixed_bytes, HaveHeader, header_bytes, Kind}
 use Rattle.x7_header.specs.Reading.{header_at}
 use Rattle.x7_header.specs.declared.fault.HeaderFault.{HeaderFault}
 use Rattle.x7_header.specs.declared.fault.HeaderFault.TheVariants as fault
@@ -29,8 +29,8 @@ use Rattle.x7_listing.specs.BitLine.{bit_text, field_text}
 use Rattle.x7_listing.specs.HeadLine.{head_line}
 use Rattle.x7_listing.specs.declared.line.HeadLine.{HeadLine}
 use Rattle.x7_listing.specs.declared.line.HeadLine.TheVariants as head
-use Rattle.x7_listing.specs.Line.{Line, Bytes, Cmd, Comment, Check, Data, Empty, Nop, Read, Read2, Sync, Word, Write, Write2, bytes_of, FitsLine, IsListed, text_of}
-use Rattle.x7_listing.specs.Listed.{cmd_line, ended_text, gap_lines, line_as, listing_lines, packet_lines, packets_lines, payload_lines, place_lines, session_lines, texts_of}
+use Rattle.x7_listing.specs.Line.{Line, Bytes, Cmd, Comment, Check, Data, Empty, Nop, Read, Read2, Sync, Word, Write, Write2, bytes_of, FitsLine}
+use Rattle.x7_listing.specs.Listed.{cmd_line, ended_text, gap_lines, line_as, packet_lines, packets_lines, place_lines, session_lines, texts_of}
 use Rattle.x7_listing.specs.Listing.{listing_of}
 use Rattle.x7_listing.specs.StreamListing.{listing_by, stream_listing}
 use Rattle.x7_listing.proofs.GuessLemmas.{each_holds, each_name}

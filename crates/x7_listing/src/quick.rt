@@ -6,7 +6,7 @@ ghost use Rattle.x7_listing.specs.Assembling.{TakesFirst, TakesLines};
 use crate::assembler::ASM_LIMIT;
 use crate::reading::{access_at, put_command, put_digits, put_word};
 use std::simd::prelude::*;
-use x7_text::{put, put_byte_row, put_word_row};
+use x7_text::{block_of_hex, data_line, put, put_byte_row};
 use x7_words::{NoMemory, is_same};
 
 /// The lines of eight no-ops.
@@ -38,6 +38,67 @@ fn put_nops(out: &mut Vec<u8>, text: &[u8]) -> Option<Taken>
     Some(Taken { size: 32, count: 8 })
 }
 
+/// Twice eight bytes of the text, from two places on.
+#[inline(always)]
+fn two_eights(text: &[u8], one: usize, other: usize) -> u8x16
+    requires one { one + 8 ≤ length text.now }
+    requires other { other + 8 ≤ length text.now }
+    ensures { length result ≡ 16 }
+{
+    let (a, b) = (
+        u8x8::from_slice(&text[one..]),
+        u8x8::from_slice(&text[other..]),
+    );
+    a.shuffle(b, [0, 1, 2, 3, 4, 5, 6, 7, 8, 9, 10, 11, 12, 13, 14, 15])
+}
+
+/// What stands where a full `data` line has its digits.
+#[inline(always)]
+fn row_digits(text: &[u8]) -> [u8; 64]
+    requires { 77 ≤ length text.now }
+{
+    let (a, b) = (two_eights(text, 5, 14), two_eights(text, 23, 32));
+    let (c, d) = (two_eights(text, 41, 50), two_eights(text, 59, 68));
+    let low = a.shuffle(
+        b,
+        [
+            0, 1, 2, 3, 4, 5, 6, 7, 8, 9, 10, 11, 12, 13, 14, 15, 16, 17, 18, 19, 20, 21, 22, 23,
+            24, 25, 26, 27, 28, 29, 30, 31,
+        ],
+    );
+    let high = c.shuffle(
+        d,
+        [
+            0, 1, 2, 3, 4, 5, 6, 7, 8, 9, 10, 11, 12, 13, 14, 15, 16, 17, 18, 19, 20, 21, 22, 23,
+            24, 25, 26, 27, 28, 29, 30, 31,
+        ],
+    );
+    low.shuffle(
+        high,
+        [
+            0, 1, 2, 3, 4, 5, 6, 7, 8, 9, 10, 11, 12, 13, 14, 15, 16, 17, 18, 19, 20, 21, 22, 23,
+            24, 25, 26, 27, 28, 29, 30, 31, 32, 33, 34, 35, 36, 37, 38, 39, 40, 41, 42, 43, 44, 45,
+            46, 47, 48, 49, 50, 51, 52, 53, 54, 55, 56, 57, 58, 59, 60, 61, 62, 63,
+        ],
+    )
+    .to_array()
+}
+
+/// Appends these bytes, if their full `data` line begins the text.
+#[inline(always)]
+fn put_row(out: &mut Vec<u8>, text: &[u8], bytes: &[u8; 32]) -> Option<Taken>
+    requires room { vec_len out.old + 32 ≤ vec_capacity out.old }
+    requires long { 77 ≤ length text.now }
+    ensures takes { MatchOption result (out.new.items ≡ out.old.items) (λ taken. TakesFirst text.now out.old.items out.new.items taken.size taken.count) }
+    ensures room { StaysWithin out.old out.new 32 }
+{
+    if !is_same(&data_line(bytes), &text[..77]) {
+        return None;
+    }
+    put(out, bytes);
+    Some(Taken { size: 77, count: 1 })
+}
+
 /// Appends the bytes of a full `data` line, if one begins the text.
 #[inline(always)]
 fn put_data(out: &mut Vec<u8>, text: &[u8]) -> Option<Taken>
@@ -46,10 +107,10 @@ fn put_data(out: &mut Vec<u8>, text: &[u8]) -> Option<Taken>
     ensures takes { MatchOption result (out.new.items ≡ out.old.items) (λ taken. TakesFirst text.now out.old.items out.new.items taken.size taken.count) }
     ensures room { StaysWithin out.old out.new 32 }
 {
-    if !is_same(&text[..4], b"data") || text[76] != b'\n' || !put_word_row(out, &text[4..76]) {
-        return None;
+    match block_of_hex(&row_digits(text)) {
+        Some(bytes) => put_row(out, text, &bytes),
+        None => None,
     }
-    Some(Taken { size: 77, count: 1 })
 }
 
 /// Appends the bytes of a full `bytes` line, if one begins the text.
