@@ -1,4 +1,5 @@
 pub mod AsmLemmas
+pub mod BootTextLemmas
 pub mod Causes
 pub mod DebugLemmas
 pub mod HeadLemmas
@@ -10,4 +11,5 @@ pub mod ReadLemmas
 pub mod ReportLemmas
 pub mod RunLemmas
 pub mod TurnLemmas
+pub mod FlashLemmas
 pub mod FormLemmas

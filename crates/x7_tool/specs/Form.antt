@@ -1,5 +1,5 @@
 -- The forms of the command line (this project's choice).
-use Rattle.std.specs.Prelude.{ℕ, List, [], ◌∷◌, Option, None, Some, Bool, false, ◌&&◌, if◌then◌else◌, codes, length, nat_le, nat_lt, decimal}
+use Rattle.std.specs.Prelude.{ℕ, List, [], ◌∷◌, Option, None, Some, Bool, true, false, ◌&&◌, if◌then◌else◌, codes, length, nat_le, nat_lt, decimal}
 use Rattle.std.specs.Str.Parse.{digits_value}
 use Rattle.x7_text.specs.Digits.{hex_word}
 use Rattle.x7_text.specs.DigitValue.{word_value}
@@ -17,6 +17,7 @@ pub data Asked : Type 0 where
   PlanningRead : (part : List ℕ) (far n : ℕ) → Asked
   Imaging : (part golden update : List ℕ) → Asked
   Debugging : (part stream script : List ℕ) → Asked
+  Booting : (part flash : List ℕ) → Asked
 
 -- a form of one name
 abbrev pub one_name : (List ℕ → Asked) → List (List ℕ) → Option Asked
@@ -90,6 +91,7 @@ form_of (command ∷ names) =
     else if bytes_eq command (codes "unmcs") then one_name FromMcs names
     else if bytes_eq command (codes "plan") then plan_form names
     else if bytes_eq command (codes "debug") then debug_form names
+    else if bytes_eq command (codes "boot") then two_names Booting names
     else None
 
 -- the names of the inputs that a form reads
@@ -105,6 +107,12 @@ names_of (Some (PlanningFull part frames)) = part ∷ frames ∷ []
 names_of (Some (PlanningPartial part frames)) = part ∷ frames ∷ []
 names_of (Some (PlanningRead part far n)) = part ∷ []
 names_of (Some (Debugging part stream script)) = part ∷ stream ∷ script ∷ []
+names_of (Some (Booting part flash)) = part ∷ []
+
+-- the name of the flash that a form reads
+abbrev pub flash_names : Option Asked → List (List ℕ)
+flash_names (Some (Booting part flash)) = flash ∷ []
+flash_names form = []
 
 -- whether a form names the flash
 abbrev pub names_flash : Option Asked → Bool
@@ -119,3 +127,4 @@ names_flash (Some (PlanningFull part frames)) = false
 names_flash (Some (PlanningPartial part frames)) = false
 names_flash (Some (PlanningRead part far n)) = false
 names_flash (Some (Debugging part stream script)) = false
+names_flash (Some (Booting part flash)) = true

@@ -1,3 +1,4 @@
+pub mod BootText
 pub mod Debug
 pub mod Event
 pub mod Form

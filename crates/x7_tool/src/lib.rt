@@ -4,6 +4,7 @@
 mod asm;
 mod bad_input;
 mod bad_part;
+mod boot;
 mod debug;
 mod form;
 mod front;
@@ -23,6 +24,7 @@ mod text;
 mod top;
 
 pub use bad_input::InputFault;
+pub use boot::boot_text;
 pub use form::{Form, words_of};
 pub use refusal::Why;
 pub use reports::report;

@@ -18,7 +18,7 @@ use x7_text::{make_room, put, put_close, put_decimal, put_word};
 use x7_words::NoMemory;
 
 /// Appends bytes.
-fn put_text(text: &mut Vec<u8>, bytes: &[u8]) -> Result<(), NoMemory>
+pub(crate) fn put_text(text: &mut Vec<u8>, bytes: &[u8]) -> Result<(), NoMemory>
     ensures { OnOk result (text.new.items ≡ text.old.items ++ bytes.now) }
 {
     text.extend_from_slice(bytes)?;
@@ -26,7 +26,7 @@ fn put_text(text: &mut Vec<u8>, bytes: &[u8]) -> Result<(), NoMemory>
 }
 
 /// Appends a number in decimal and a line end.
-fn put_number(text: &mut Vec<u8>, number: u64) -> Result<(), NoMemory>
+pub(crate) fn put_number(text: &mut Vec<u8>, number: u64) -> Result<(), NoMemory>
     ensures { OnOk result (text.new.items ≡ text.old.items ++ decimal number ++ codes "\n") }
 {
     make_room(text, 21)?;
