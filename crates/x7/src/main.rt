@@ -9,7 +9,7 @@ use std::env;
 use std::io::{self, ErrorKind};
 use std::process::ExitCode;
 use x7_tool::{Status, run};
-use x7_words::{FileInputs, MemoryFlash, StdSink};
+use x7_words::{FileFlash, FileInputs, StdSink};
 
 /// The program's end where the system gives no list of words, as where one of them isn't UTF-8.
 const NO_WORDS: u8 = 12;
@@ -38,10 +38,8 @@ fn main(rt: HostRuntime) -> ExitCode {
         }
         Err(_) => return ExitCode::from(NO_WORDS),
     };
-    let Ok(mut flash) = MemoryFlash::new(rt.alloc(), "", &[]) else {
-        return end_of(Status::NoMemory);
-    };
     let mut inputs = FileInputs::new(&rt);
+    let mut flash = FileFlash::new(&rt);
     let mut out = StdSink::new(rt.stdout());
     let mut err = StdSink::new(rt.stderr());
     let status = run(

@@ -1,5 +1,7 @@
 pub mod BootedLemmas
+pub mod CheckedLemmas
 pub mod ImageLemmas
+pub mod OneBootLemmas
 pub mod PhaseLemmas
 pub mod TookLemmas
 pub mod TrialLemmas

@@ -52,6 +52,10 @@ abbrev pub LeadsTo : PartData → List ℕ → List Trial → Next → Type 0
 LeadsTo part flash [] next = next ≡ Again at_power 0
 LeadsTo part flash (t ∷ older) next = LeadsTo part flash older (Again t.kept t.address) × IsTrial part flash t × (next ≡ next_by part (length older + 1) t t.ending)
 
+-- it leads through these attempts, the newest first, to this end
+abbrev pub LeadsToEnd : PartData → List ℕ → List Trial → BootEnd → Type 0
+LeadsToEnd part flash trials end = LeadsTo part flash trials (Ends end)
+
 -- how an attempt is told
 abbrev pub tried : Trial → Tried
 tried t = record { kind = t.kept.kind; address = t.address; ending = t.ending }
@@ -66,7 +70,7 @@ pub record BootedState : Type 0 where
 pub record IsBoot (part : PartData) (flash : List ℕ) (b : BootedState) : Type 0 where
   pub last : Trial
   pub older : List Trial
-  pub leads : LeadsTo part flash (last ∷ older) (Ends b.end)
+  pub leads : LeadsToEnd part flash (last ∷ older) b.end
   pub attempts : b.attempts ≡ reverse (map tried (last ∷ older))
   pub device : IsDeviceOf part b.device last
 

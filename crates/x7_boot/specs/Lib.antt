@@ -1,5 +1,6 @@
 pub mod Attempt
 pub mod Boot
+pub mod Checked
 pub mod Image
 pub mod Pages
 pub mod Phases

@@ -4,6 +4,7 @@
 mod attempt;
 mod boots;
 mod fault;
+mod law;
 mod layout;
 mod next;
 mod pages;
@@ -14,4 +15,5 @@ mod trial;
 pub use attempt::Ending;
 pub use boots::{BootEnd, Booted, Tried, boot};
 pub use fault::{BootFault, ImageFault};
+pub use law::{one_boot, starts_are_checked};
 pub use layout::{FLASH_LIMIT, image};

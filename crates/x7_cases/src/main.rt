@@ -20,9 +20,9 @@ use std::alloc::Global;
 use std::{fs, io};
 
 /// The files of cases, each with the end `.txt`.
-const SUBJECTS: [&str; 13] = [
-    "list", "asm", "play", "frames", "startup", "mcs", "plan", "partial", "image", "parts",
-    "debug", "faults", "limits",
+const SUBJECTS: [&str; 16] = [
+    "list", "asm", "play", "frames", "startup", "mcs", "plan", "partial", "image", "boot",
+    "attempts", "chains", "parts", "debug", "faults", "limits",
 ];
 
 /// The report of one file of cases.

@@ -1,5 +1,6 @@
 pub mod AheadLemmas
 pub mod AsmLemmas
+pub mod BootTextLemmas
 pub mod Causes
 pub mod DebugLemmas
 pub mod HeadLemmas
@@ -12,4 +13,5 @@ pub mod ReadLemmas
 pub mod ReportLemmas
 pub mod RunLemmas
 pub mod TurnLemmas
+pub mod FlashLemmas
 pub mod FormLemmas

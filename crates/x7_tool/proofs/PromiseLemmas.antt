@@ -1,5 +1,6 @@
 -- What planned streams do, by what was known when they were written.
-use Rattle.std.proofs.Common.{◌≡◌, ℕ, List, Option, None, Some, Result, Ok, Err, ap, refl, subst, sym}
+use Rattle.std.proofs.Common.{◌≡◌, ◌∙◌, ℕ, List, false, Option, None, Some, Result, Ok, Err, ap, refl, subst, sym}
+use Rattle.x7_words.specs.Word.{AreBytes}
 use Rattle.std.specs.Prelude.{Contains}
 use Rattle.std.proofs.lemmas.List.Sorted.{All-permutation}
 use Rattle.x7_part.specs.AddressOrder.{addresses_in}
@@ -8,15 +9,15 @@ use Rattle.x7_part.specs.PartFile.{part_in}
 use Rattle.x7_part.specs.PartRange.{IsPart}
 use Rattle.x7_part.specs.declared.fault.PartFault.{PartFault}
 use Rattle.x7_part.proofs.FileRowLemmas.{text_is}
-use Rattle.x7_planner.specs.Full.{full_stream}
-use Rattle.x7_planner.specs.Partial.{partial_stream}
-use Rattle.x7_planner.specs.Readback.{read_stream}
+use Rattle.x7_boot.specs.declared.boots.BootEnd.{BootEnd}
+use Rattle.x7_boot.specs.declared.boots.BootEnd.TheVariants as boot_end
+use Rattle.x7_boot.proofs.CheckedLemmas.{last_checked}
 use Rattle.x7_effects.specs.Played.{PlaysFull, PlaysPartial, PlaysRead}
 use Rattle.x7_effects.proofs.LawLemmas.{full_law, partial_law, read_law}
 use Rattle.x7_tool.specs.Event.{Event}
-use Rattle.x7_tool.specs.Form.{Asked, Assembling, Debugging, FromMcs, Imaging, Listing, PlanningFull, PlanningPartial, PlanningRead, Playing, ToMcs, Generating}
-use Rattle.x7_tool.specs.Outcome.{Answer, Known, PlanTexts, PlannedFull, PlannedPartial, PlannedRead, and_so, part_by, part_limit, part_of, plan_texts, text_limit, whole_in}
-use Rattle.x7_tool.specs.Promise.{Promise, PromisesFull, PromisesPartial, PromisesRead}
+use Rattle.x7_tool.specs.Form.{Asked, Assembling, Booting, Debugging, FromMcs, Imaging, Listing, PlanningFull, PlanningPartial, PlanningRead, Playing, ToMcs, Generating}
+use Rattle.x7_tool.specs.Outcome.{Answer, BootedAs, BootsAs, FlashBoots, has_failed, Known, PlanTexts, PlannedFull, PlannedPartial, PlannedRead, and_so, part_by, part_limit, part_of, plan_texts, text_limit, whole_in}
+use Rattle.x7_tool.specs.Promise.{Promise, PromisesFull, PromisesPartial, PromisesRead, PromisesStart, StartsChecked}
 use Rattle.x7_tool.specs.Run.{Agrees}
 
 -- ---- the part that was read is a part
@@ -83,6 +84,30 @@ read_promised known part far n (Ok device) answer e p = record {
       subst (λ (stream : List ℕ). PlaysRead device kept bytes stream far n) (sym p.2) (read_law device kept bytes far n fits rests (part_is known part device e) p.1);
 }
 
+has_started : (end : BootEnd) → has_failed end ≡ false → end ≡ boot_end.Started
+has_started boot_end.Started e = refl
+has_started boot_end.Stopped e = absurd (cc)
+has_started boot_end.Loop e = absurd (cc)
+
+starts_checked : (part : PartData) (flash : List ℕ) (answer : Answer) → AreBytes flash → BootsAs part flash answer → StartsChecked part flash answer
+starts_checked part flash answer fits b = record {
+  boot = b;
+  checked = λ ok. last_checked part flash b.last b.older b.end fits b.leads (has_started b.end (sym b.stopped ∙ ok));
+}
+
+boots_told : (name : List ℕ) (part : PartData) (told : Option (List ℕ)) (flash : List ℕ) (answer : Answer) → told ≡ Some flash → FlashBoots name part told (Ok answer) → AreBytes flash → BootsAs part flash answer
+boots_told name part told flash answer e h fits =
+    let here : FlashBoots name part (Some flash) (Ok answer) = subst (λ (f : Option (List ℕ)). FlashBoots name part f (Ok answer)) e h in
+    here.1 fits
+
+start_promised : (known : Known) (part flash : List ℕ) (read : Result PartData Event) (answer : Answer) → part_of known part ≡ read → BootedAs flash read known.flash (Ok answer) → PromisesStart known part answer
+start_promised known part flash (Err event) answer e p = absurd (cc)
+start_promised known part flash (Ok device) answer e p = record {
+  device = device;
+  read = e;
+  starts = λ all is fits. starts_checked device all answer fits (boots_told flash device known.flash all answer is p fits);
+}
+
 pub promised : (known : Option Known) (form : Option Asked) (answer : Answer) → Agrees known form (Ok answer) → Promise known form (Ok answer)
 promised None form answer a = tt
 promised (Some known) None answer a = tt
@@ -97,6 +122,7 @@ promised (Some known) (Some (PlanningRead part far n)) answer a = read_promised 
 promised (Some known) (Some (Generating part seed)) answer a = tt
 promised (Some known) (Some (Debugging part stream script)) answer a = tt
 promised (Some known) (Some (Imaging part golden update)) answer a = tt
+promised (Some known) (Some (Booting part flash)) answer a = start_promised known part flash (part_of known part) answer refl a
 
 -- no whole text, no promise
 pub no_promise : (known : Option Known) (form : Option Asked) (event : Event) → Promise known form (Err event)
@@ -113,3 +139,4 @@ no_promise (Some known) (Some (PlanningRead part far n)) event = tt
 no_promise (Some known) (Some (Generating part seed)) event = tt
 no_promise (Some known) (Some (Debugging part stream script)) event = tt
 no_promise (Some known) (Some (Imaging part golden update)) event = tt
+no_promise (Some known) (Some (Booting part flash)) event = tt

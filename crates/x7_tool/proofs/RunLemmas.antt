@@ -4,7 +4,6 @@ use Rattle.std.specs.Prelude.{nat_lt}
 use Rattle.std.proofs.lemmas.Bool.Decides.{nat_tests}
 use Rattle.x7_words.specs.Count.{HasRisen}
 use Rattle.x7_listing.specs.Assembly.{IsAsm}
-use Rattle.x7_listing.specs.StreamListing.{stream_listing}
 use Rattle.x7_listing.proofs.OutcomeLemmas.{one-outcome}
 use Rattle.x7_listing.proofs.StreamLemmas.{stream-back}
 use Rattle.x7_mcs.specs.Flash.{mcs_of}
@@ -17,11 +16,12 @@ use Rattle.x7_tool.specs.declared.refusal.Why.TheVariants as why
 use Rattle.x7_tool.specs.declared.status.Status.{Status}
 use Rattle.x7_tool.specs.declared.status.Status.TheVariants as status
 use Rattle.x7_tool.specs.Event.{Event, Cause, Wording, Want, Fault, Absence, Break, Contents, cause_of, row_of, status_of, usage}
-use Rattle.x7_tool.specs.Form.{Asked, Assembling, Debugging, FromMcs, Imaging, Listing, Playing, ToMcs, names_flash, names_of, PlanningFull, PlanningRead, PlanningPartial, Generating}
+use Rattle.x7_tool.specs.Form.{Asked, Assembling, Booting, Debugging, FromMcs, Imaging, Listing, Playing, ToMcs, names_flash, names_of, PlanningFull, PlanningRead, PlanningPartial, Generating}
 use Rattle.x7_tool.specs.Message.{final_status}
 use Rattle.x7_tool.specs.Outcome.{Answer, AssembledAs, Known, Gives, IsOutcome, and_so, mcs_image, present, text_limit, whole_in, with_inputs, within, known_of}
-use Rattle.x7_tool.specs.Run.{Agrees, Comes, DecidedBy, OpenBy, Ends, EndsAs, EndsBy, FreeBy, GetsPrefix, IsCausedBy, Leaves, Puts, Says, RisesFor}
+use Rattle.x7_tool.specs.Run.{Agrees, Comes, DecidedBy, OpenBy, Ends, EndsAs, EndsBy, FreeBy, GetsPrefix, IsCausedBy, Leaves, Puts, Says, RisesFor, RisesIn}
 use Rattle.x7_tool.specs.Promise.{Promise}
+use Rattle.x7_tool.proofs.FlashLemmas.{caused_in}
 use Rattle.x7_tool.proofs.PromiseLemmas.{no_promise, promised}
 use Rattle.x7_tool.specs.Runs.{Back, CausedBy, Fails, FlashState, HasCause, IsQuiet, KeepsFlash, Lacks, LeftBy, Outside, Runs, Wrote, known_in}
 
@@ -181,7 +181,7 @@ leads_back : (s : Status) (form : Asked) (known : Known) (end goal_end : Result 
 leads_back s form known end goal_end (inl n) back = inl n
 leads_back s form known end goal_end (inr h) back = inr (back h)
 
-back_is : (form : Option Asked) (old new : Outside) (s : Status) (end : Result Answer Event) → ((known : Known) → known_in form old ≡ Some known → IsQuiet old new → (s ≡ status.NoMemory) ⊎ IsOutcome known form end) → Back form old new s end
+back_is : (form : Option Asked) (old new : Outside) (s : Status) (end : Result Answer Event) → ((known : Known) → known_in form old ≡ Some known → IsQuiet form old new → (s ≡ status.NoMemory) ⊎ IsOutcome known form end) → Back form old new s end
 back_is (Some (Assembling name)) old new s end outcome = λ bytes text fits short listed has quiet.
     let known : Known = record { inputs = has.0; flash = old.flash.bytes } in
     let is : known_in (Some (Assembling name)) old ≡ Some known = ap (λ (i : Option (List ℕ → Option (List ℕ))). with_inputs i old.flash.bytes) has.1.0 in
@@ -204,6 +204,7 @@ back_is (Some (PlanningRead part far n)) old new s end outcome = tt
 back_is (Some (Generating part seed)) old new s end outcome = tt
 back_is (Some (Imaging part golden update)) old new s end outcome = tt
 back_is (Some (Debugging part stream script)) old new s end outcome = tt
+back_is (Some (Booting part flash)) old new s end outcome = tt
 
 promise_is : (form : Option Asked) (old new : Outside) (end : Result Answer Event)
     → Ends (known_in form old) (Fails form old new) (Lacks form old new) form (HasRisen old.out_faults new.out_faults) old.out new.out end → Promise (known_in form old) form end
@@ -220,17 +221,23 @@ runs form old new s end e h t f = record {
   cause = cause_is form old new end h;
   wrote = wrote_is form old new end h;
   said = t;
-  outcome = λ known m q. outcome_is (known_in form old) (Fails form old new) (Lacks form old new) form (HasRisen old.out_faults new.out_faults) old.out new.out s end e h known m (λ x p. q.0 p.1) (λ x p. q.1 p.1) q.2;
-  back = back_is form old new s end (λ known m q. outcome_is (known_in form old) (Fails form old new) (Lacks form old new) form (HasRisen old.out_faults new.out_faults) old.out new.out s end e h known m (λ x p. q.0 p.1) (λ x p. q.1 p.1) q.2);
+  outcome = λ known m q. outcome_is (known_in form old) (Fails form old new) (Lacks form old new) form (HasRisen old.out_faults new.out_faults) old.out new.out s end e h known m q.0 q.1 q.2;
+  back = back_is form old new s end (λ known m q. outcome_is (known_in form old) (Fails form old new) (Lacks form old new) form (HasRisen old.out_faults new.out_faults) old.out new.out s end e h known m q.0 q.1 q.2);
   promise = promise_is form old new end h;
   no_form = λ n. run_no_form (known_in form old) (Fails form old new) (Lacks form old new) form (HasRisen old.out_faults new.out_faults) old.out new.out s end e h n;
   flash = f;
 }
 
--- an untouched flash is kept by every form
-pub flash_kept : (names : Bool) (old new : FlashState) → new ≡ old → KeepsFlash names old new
-flash_kept false old new e = e
-flash_kept true old new e = ap (λ (f : FlashState). f.bytes) e
+-- a flash whose bytes stay is kept by a form that names it, and an untouched one by the others
+pub flash_kept : (names : Bool) (old new : FlashState) → (names ≡ false → new ≡ old) → new.bytes ≡ old.bytes → KeepsFlash names old new
+flash_kept false old new untouched same = untouched refl
+flash_kept true old new untouched same = same
+
+-- a form that names its flash
+pub flash_named : (form : Option Asked) (asks : Asked) → form ≡ Some asks → names_flash (Some asks) ≡ true → names_flash form ≡ false → ⊥
+flash_named form asks e there none =
+    let both : true ≡ false = sym (ap names_flash e ∙ there) ∙ none in
+    absurd (cc)
 
 -- ---- a text that is whole before it is written
 
@@ -281,19 +288,6 @@ abbrev pub IsReady : Asked → Type 0
 IsReady (Listing stream) = ⊥
 IsReady form = Unit {0}
 
-ready_knows : (form : Asked) (inputs : Option (List ℕ → Option (List ℕ))) (flash : Option (List ℕ)) → IsReady form → known_of (Some form) inputs flash ≡ with_inputs inputs flash
-ready_knows (Listing stream) inputs flash r = absurd r
-ready_knows (Playing part streams) inputs flash r = refl
-ready_knows (Assembling text) inputs flash r = refl
-ready_knows (ToMcs image) inputs flash r = refl
-ready_knows (FromMcs text) inputs flash r = refl
-ready_knows (PlanningFull part frames) inputs flash r = refl
-ready_knows (Imaging part golden update) inputs flash r = refl
-ready_knows (PlanningPartial part frames) inputs flash r = refl
-ready_knows (PlanningRead part far n) inputs flash r = refl
-ready_knows (Generating part seed) inputs flash r = refl
-ready_knows (Debugging part stream script) inputs flash r = refl
-
 ready_gets : (t : Known) (form : Asked) (old new : Option (List ℕ)) (answer : Answer) → IsReady form → Gives t form (Ok answer) → PutsFront old answer.text new → GetsPrefix (Some t) (Some form) old new
 ready_gets t (Listing stream) old new answer r g p = absurd r
 ready_gets t (Playing part streams) old new answer r g p = (answer, (g, p))
@@ -306,6 +300,7 @@ ready_gets t (PlanningPartial part frames) old new answer r g p = (answer, (g, p
 ready_gets t (PlanningRead part far n) old new answer r g p = (answer, (g, p))
 ready_gets t (Generating part seed) old new answer r g p = (answer, (g, p))
 ready_gets t (Debugging part stream script) old new answer r g p = (answer, (g, p))
+ready_gets t (Booting part flash) old new answer r g p = (answer, (g, p))
 
 ready_leaves : (known : Option Known) (form : Asked) (old new : Option (List ℕ)) (event : Event) → IsReady form → new ≡ old → Leaves known (Some form) event old new
 ready_leaves known (Listing stream) old new event r e = absurd r
@@ -319,16 +314,19 @@ ready_leaves known (PlanningPartial part frames) old new event r e = e
 ready_leaves known (PlanningRead part far n) old new event r e = e
 ready_leaves known (Generating part seed) old new event r e = e
 ready_leaves known (Debugging part stream script) old new event r e = e
+ready_leaves known (Booting part flash) old new event r e = e
 
 -- such a form ends as it should where its text has its cause and was put
-pub ready_ends : (form : Option Asked) (asks : Asked) (inputs : Option (List ℕ → Option (List ℕ))) (flash : Option (List ℕ)) (faults faults_now absences absences_now : ℕ) (Full : Type 0) (old new : Option (List ℕ)) (whole : Result Answer Event) (got : Result Bool Event)
+pub text_ends : (form : Option Asked) (asks : Asked) (known : Option Known) (F L : Option Asked → List ℕ → Type 0) (Full : Type 0) (old new : Option (List ℕ)) (whole : Result Answer Event) (got : Result Bool Event)
+    → form ≡ Some asks → IsReady asks → IsCausedBy known (F (Some asks)) (L (Some asks)) (λ t end. Gives t asks end) whole → Puts whole Full old new got → EndsAs known (F form) (L form) form Full old new got
+text_ends form asks known F L Full old new whole got e r c p =
+    subst (λ (f : Option Asked). EndsAs known (F f) (L f) f Full old new got) (sym e)
+    (puts_end known (F (Some asks)) (L (Some asks)) asks Full old new whole got (λ t answer g q. ready_gets t asks old new answer r g q) (λ event q. ready_leaves known asks old new event r q) c p)
+
+-- the same of a form that reads inputs alone
+pub ready_ends : (form : Option Asked) (asks : Asked) (inputs : Option (List ℕ → Option (List ℕ))) (flash : Option (List ℕ)) (faults faults_now absences absences_now flash_faults flash_absences : ℕ) (Full : Type 0) (old new : Option (List ℕ)) (whole : Result Answer Event) (got : Result Bool Event)
     → form ≡ Some asks → IsReady asks → IsCausedBy (with_inputs inputs flash) (RisesFor (names_of (Some asks)) faults faults_now) (RisesFor (names_of (Some asks)) absences absences_now) (λ t end. Gives t asks end) whole → Puts whole Full old new got
-    → EndsAs (known_of form inputs flash) (RisesFor (names_of form) faults faults_now) (RisesFor (names_of form) absences absences_now) form Full old new got
-ready_ends form asks inputs flash faults faults_now absences absences_now Full old new whole got e r c p =
-    let F : List ℕ → Type 0 = RisesFor (names_of (Some asks)) faults faults_now in
-    let L : List ℕ → Type 0 = RisesFor (names_of (Some asks)) absences absences_now in
-    rw e (
-    subst (λ (known : Option Known). EndsAs known F L (Some asks) Full old new got) (sym (ready_knows asks inputs flash r)) (
-    puts_end (with_inputs inputs flash) F L asks Full old new whole got (λ t answer g q. ready_gets t asks old new answer r g q) (λ event q. ready_leaves (with_inputs inputs flash) asks old new event r q) c p
-    )
-    )
+    → EndsAs (known_of form inputs flash) (RisesIn form faults faults_now flash_faults flash_faults) (RisesIn form absences absences_now flash_absences flash_absences) form Full old new got
+ready_ends form asks inputs flash faults faults_now absences absences_now flash_faults flash_absences Full old new whole got e r c p =
+    text_ends form asks (with_inputs inputs flash) (λ f. RisesIn f faults faults_now flash_faults flash_faults) (λ f. RisesIn f absences absences_now flash_absences flash_absences) Full old new whole got e r
+    (caused_in (with_inputs inputs flash) asks faults faults_now absences absences_now flash_faults flash_faults flash_absences flash_absences whole c) p

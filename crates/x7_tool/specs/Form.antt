@@ -1,5 +1,5 @@
 -- The forms of the command line (this project's choice).
-use Rattle.std.specs.Prelude.{ℕ, List, [], ◌∷◌, Option, None, Some, Bool, false, ◌&&◌, if◌then◌else◌, codes, length, nat_le, nat_lt, decimal}
+use Rattle.std.specs.Prelude.{ℕ, List, [], ◌∷◌, Option, None, Some, Bool, true, false, ◌&&◌, if◌then◌else◌, codes, length, nat_le, nat_lt, decimal}
 use Rattle.std.specs.Str.Parse.{digits_value}
 use Rattle.x7_text.specs.Digits.{hex_word}
 use Rattle.x7_text.specs.DigitValue.{word_value}
@@ -18,6 +18,7 @@ pub data Asked : Type 0 where
   Generating : (part : List ℕ) (seed : ℕ) → Asked
   Imaging : (part golden update : List ℕ) → Asked
   Debugging : (part stream script : List ℕ) → Asked
+  Booting : (part flash : List ℕ) → Asked
 
 -- a form of one name
 abbrev pub one_name : (List ℕ → Asked) → List (List ℕ) → Option Asked
@@ -103,6 +104,7 @@ form_of (command ∷ names) =
     else if bytes_eq command (codes "plan") then plan_form names
     else if bytes_eq command (codes "gen") then gen_form names
     else if bytes_eq command (codes "debug") then debug_form names
+    else if bytes_eq command (codes "boot") then two_names Booting names
     else None
 
 -- the names of the inputs that a form reads
@@ -119,6 +121,12 @@ names_of (Some (PlanningPartial part frames)) = part ∷ frames ∷ []
 names_of (Some (PlanningRead part far n)) = part ∷ []
 names_of (Some (Generating part seed)) = part ∷ []
 names_of (Some (Debugging part stream script)) = part ∷ stream ∷ script ∷ []
+names_of (Some (Booting part flash)) = part ∷ []
+
+-- the name of the flash that a form reads
+abbrev pub flash_names : Option Asked → List (List ℕ)
+flash_names (Some (Booting part flash)) = flash ∷ []
+flash_names form = []
 
 -- whether a form names the flash
 abbrev pub names_flash : Option Asked → Bool
@@ -134,3 +142,4 @@ names_flash (Some (PlanningPartial part frames)) = false
 names_flash (Some (PlanningRead part far n)) = false
 names_flash (Some (Generating part seed)) = false
 names_flash (Some (Debugging part stream script)) = false
+names_flash (Some (Booting part flash)) = true

@@ -1,4 +1,5 @@
 pub mod Ahead
+pub mod BootText
 pub mod Debug
 pub mod Event
 pub mod Form

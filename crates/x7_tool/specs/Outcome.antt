@@ -1,5 +1,5 @@
 -- What a command comes to, over known inputs and a known flash: the first event in the order of the work decides (this project's choice).
-use Rattle.std.specs.Prelude.{◌≡◌, ℕ, List, [], ◌∷◌, ◌++◌, ◌-◌, Option, None, Some, is_some, Result, Ok, Err, Bool, false, if◌then◌else◌, drop, length, nat_lt, take, ◌⊎◌, ◌<◌}
+use Rattle.std.specs.Prelude.{◌≡◌, ℕ, List, [], ◌∷◌, ◌++◌, ◌-◌, Option, None, Some, is_some, Result, Ok, Err, Bool, false, if◌then◌else◌, drop, length, nat_lt, take, ◌⊎◌, ◌<◌, ◌≤◌, map, reverse, true}
 use Rattle.x7_header.specs.Header.{Contents}
 use Rattle.x7_header.specs.Reading.{header_at}
 use Rattle.x7_header.specs.declared.fault.HeaderFault.{HeaderFault}
@@ -10,7 +10,14 @@ use Rattle.x7_listing.specs.declared.assembler.AsmFault.{AsmFault}
 use Rattle.x7_listing.specs.declared.assembler.AsmFault.TheVariants as asm
 use Rattle.x7_part.specs.declared.fault.PartFault.{PartFault}
 use Rattle.x7_part.specs.Part.{PartData}
+use Rattle.x7_words.specs.Word.{AreBytes}
+use Rattle.x7_boot.specs.Attempt.{Trial}
+use Rattle.x7_boot.specs.Boot.{LeadsToEnd, tried}
 use Rattle.x7_boot.specs.Image.{image_of, image_size}
+use Rattle.x7_boot.specs.declared.boots.BootEnd.{BootEnd}
+use Rattle.x7_boot.specs.declared.boots.BootEnd.TheVariants as boot_end
+use Rattle.x7_boot.specs.declared.fault.BootFault.{BootFault}
+use Rattle.x7_boot.specs.declared.fault.BootFault.TheVariants as fault
 use Rattle.x7_engine.specs.Kept.{on_the_bench}
 use Rattle.x7_engine.specs.State.{line_by, memory_in, reads_of, state_of, stop_in}
 use Rattle.x7_engine.specs.Stops.{fault_of}
@@ -35,9 +42,10 @@ use Rattle.x7_debug.specs.Script.{IsScriptOf}
 use Rattle.x7_debug.specs.Transcript.{final_position, transcript_of}
 use Rattle.x7_tool.specs.Generated.{gen_text}
 use Rattle.x7_tool.specs.declared.bad_input.InputFault.TheVariants as input
-use Rattle.x7_tool.specs.Event.{Event, bad_input, bad_part, missing, no_memory, too_large, too_many_reads, usage}
-use Rattle.x7_tool.specs.Form.{Asked, Assembling, Debugging, FromMcs, Imaging, Listing, PlanningFull, PlanningRead, Playing, ToMcs, names_flash, PlanningPartial, Generating}
+use Rattle.x7_tool.specs.Event.{Event, bad_input, bad_part, missing, no_memory, read_fault, too_large, too_many_reads, usage}
+use Rattle.x7_tool.specs.Form.{Asked, Assembling, Booting, Debugging, FromMcs, Imaging, Listing, PlanningFull, PlanningRead, Playing, ToMcs, PlanningPartial, Generating}
 use Rattle.x7_part.specs.PartFile.{part_in}
+use Rattle.x7_tool.specs.BootText.{boot_text}
 use Rattle.x7_tool.specs.Report.{report_text}
 
 -- what is known: the bytes of each input by its name, and those of the flash where they are known
@@ -299,6 +307,41 @@ image_for name part golden update =
 abbrev pub imaged : Known → List ℕ → List ℕ → List ℕ → Result Answer Event
 imaged known part golden update = and_so (part_of known part) (λ p. and_so (stream_of known golden) (λ g. and_so (stream_of known update) (λ u. image_for update p g u)))
 
+-- ---- boots
+
+-- whether a boot ended without a start
+abbrev pub has_failed : BootEnd → Bool
+has_failed boot_end.Started = false
+has_failed boot_end.Stopped = true
+has_failed boot_end.Loop = true
+
+-- the text is that of the boot of a part from a flash of these bytes
+pub record BootsAs (part : PartData) (flash : List ℕ) (answer : Answer) : Type 0 where
+  pub last : Trial
+  pub older : List Trial
+  pub end : BootEnd
+  pub leads : LeadsToEnd part flash (last ∷ older) end
+  pub stopped : answer.stopped ≡ has_failed end
+  pub text : answer.text ≡ boot_text part (reverse (map tried (last ∷ older))) end last
+
+-- the boot of a part from a flash of this name, which is no larger than a flash may be; where its bytes aren't known, of any
+abbrev pub FlashBoots : List ℕ → PartData → Option (List ℕ) → Result Answer Event → Type 0
+FlashBoots name part None (Ok answer) = Unit {0}
+FlashBoots name part None (Err event) = event ≡ too_large name
+FlashBoots name part (Some flash) (Ok answer) = (length flash ≤ flash_limit) × (AreBytes flash → BootsAs part flash answer)
+FlashBoots name part (Some flash) (Err event) = (flash_limit < length flash) × (event ≡ too_large name)
+
+-- `boot PART FLASH`: the boot of the part from the flash
+abbrev pub BootedAs : List ℕ → Result PartData Event → Option (List ℕ) → Result Answer Event → Type 0
+BootedAs name (Err event) flash end = Err event ≡ end
+BootedAs name (Ok part) flash end = FlashBoots name part flash end
+
+-- the event of a boot that came to no end
+abbrev pub boot_event : List ℕ → BootFault → Event
+boot_event name fault.Failed = read_fault name
+boot_event name fault.TooLarge = too_large name
+boot_event name fault.NoMemory = no_memory
+
 -- a form comes to this end, each form one case
 abbrev pub Gives : Known → Asked → Result Answer Event → Type 0
 Gives known (Listing stream) end = listed known stream ≡ end
@@ -312,6 +355,7 @@ Gives known (PlanningRead part far n) end = PlannedRead part far n (part_of know
 Gives known (Generating part seed) end = gen_made known part seed ≡ end
 Gives known (Imaging part golden update) end = imaged known part golden update ≡ end
 Gives known (Debugging part stream script) end = DebuggedAs script (debug_inputs known part stream script) end
+Gives known (Booting part flash) end = BootedAs flash (part_of known part) known.flash end
 
 -- the words come to this end: words without a form are a wrong usage
 abbrev pub IsOutcome : Known → Option Asked → Result Answer Event → Type 0
@@ -323,11 +367,6 @@ abbrev pub with_inputs : Option (List ℕ → Option (List ℕ)) → Option (Lis
 with_inputs None flash = None
 with_inputs (Some inputs) flash = Some (record { inputs = inputs; flash = flash })
 
--- what is known where both are needed
-abbrev pub with_both : Option (List ℕ → Option (List ℕ)) → Option (List ℕ) → Option Known
-with_both inputs None = None
-with_both inputs (Some flash) = with_inputs inputs (Some flash)
-
--- what a form needs to be known: the flash's bytes only where it names the flash
+-- what is known of all that a form reads: the flash's bytes only where they are told
 abbrev pub known_of : Option Asked → Option (List ℕ → Option (List ℕ)) → Option (List ℕ) → Option Known
-known_of form inputs flash = if names_flash form then with_both inputs flash else with_inputs inputs flash
+known_of form inputs flash = with_inputs inputs flash

@@ -1,15 +1,16 @@
--- What a planned stream that was written does on a device at rest (this project's choice).
-use Rattle.std.specs.Prelude.{◌≡◌, ℕ, List, Option, None, Some, Result, Ok, Err}
+-- What a planned stream that was written does on a device at rest, and what a boot that started has been through (this project's choice).
+use Rattle.std.specs.Prelude.{◌≡◌, ℕ, List, false, Option, Some, Result, Ok}
 use Rattle.x7_words.specs.Word.{AreBytes}
 use Rattle.x7_part.specs.Part.{PartData}
 use Rattle.x7_memory.specs.Planned.{PlanData}
 use Rattle.x7_frames.specs.FramesText.{IsPlanOf}
 use Rattle.x7_engine.specs.declared.kept.Kept.{Kept}
 use Rattle.x7_engine.specs.Rest.{AtRest}
+use Rattle.x7_boot.specs.Checked.{HasChecked}
 use Rattle.x7_effects.specs.Played.{PlaysFull, PlaysPartial, PlaysRead}
 use Rattle.x7_tool.specs.Event.{Event}
-use Rattle.x7_tool.specs.Form.{Asked, PlanningFull, PlanningPartial, PlanningRead}
-use Rattle.x7_tool.specs.Outcome.{Answer, Known, PlanTexts, part_of, plan_texts}
+use Rattle.x7_tool.specs.Form.{Asked, Booting, PlanningFull, PlanningPartial, PlanningRead}
+use Rattle.x7_tool.specs.Outcome.{Answer, BootsAs, Known, PlanTexts, part_of, plan_texts}
 
 -- The stream of `plan full`: after any bytes at rest it leaves the plan of the frames text over zeros and ends startup, and the device is at rest again.
 pub record PromisesFull (known : Known) (part frames stream : List ℕ) : Type 0 where
@@ -33,9 +34,21 @@ pub record PromisesRead (known : Known) (part : List ℕ) (far n : ℕ) (stream 
   pub read : part_of known part ≡ Ok device
   pub plays : (kept : Kept) (bytes : List ℕ) → AreBytes bytes → AtRest device kept bytes → PlaysRead device kept bytes stream far n
 
+-- a boot from a flash of these bytes; where it started, the last attempt made its checks
+pub record StartsChecked (part : PartData) (flash : List ℕ) (answer : Answer) : Type 0 where
+  pub boot : BootsAs part flash answer
+  pub checked : answer.stopped ≡ false → HasChecked part boot.last.kept boot.last.bytes
+
+-- The text of `boot`: over a flash that tells its bytes it tells of a start only where the last attempt made its checks.
+pub record PromisesStart (known : Known) (part : List ℕ) (answer : Answer) : Type 0 where
+  pub device : PartData
+  pub read : part_of known part ≡ Ok device
+  pub starts : (flash : List ℕ) → known.flash ≡ Some flash → AreBytes flash → StartsChecked device flash answer
+
 -- what a whole text promises where all that its form needs is known
 abbrev pub Promise : Option Known → Option Asked → Result Answer Event → Type 0
 Promise (Some known) (Some (PlanningFull part frames)) (Ok answer) = PromisesFull known part frames answer.text
 Promise (Some known) (Some (PlanningPartial part frames)) (Ok answer) = PromisesPartial known part frames answer.text
 Promise (Some known) (Some (PlanningRead part far n)) (Ok answer) = PromisesRead known part far n answer.text
+Promise (Some known) (Some (Booting part flash)) (Ok answer) = PromisesStart known part answer
 Promise known form end = Unit {0}

@@ -9,8 +9,8 @@ use Rattle.x7_tool.specs.declared.form.Form.TheVariants as form
 use Rattle.x7_tool.specs.declared.refusal.Refusal.{Refusal}
 use Rattle.x7_tool.specs.declared.refusal.Why.{Why}
 use Rattle.x7_tool.specs.declared.refusal.Why.TheVariants as why
-use Rattle.x7_tool.specs.Event.{Event, Cause, Want, Fault, Absence, Break, Contents, cause_of, line_of, usage, write_fault}
-use Rattle.x7_tool.specs.Form.{Asked, Assembling, Debugging, FromMcs, Imaging, Listing, PlanningFull, PlanningRead, Playing, ToMcs, PlanningPartial, Generating}
+use Rattle.x7_tool.specs.Event.{Event, Cause, Want, Fault, Absence, Break, Contents, cause_of, line_of, missing, read_fault, usage, write_fault}
+use Rattle.x7_tool.specs.Form.{Asked, Assembling, Booting, Debugging, FromMcs, Imaging, Listing, PlanningFull, PlanningRead, Playing, ToMcs, PlanningPartial, Generating, flash_names, names_of}
 use Rattle.x7_tool.specs.Outcome.{Answer, Known, Gives, IsOutcome}
 use Rattle.x7_tool.specs.Message.{event_of}
 
@@ -27,6 +27,7 @@ asked_by (form.PlanRead part far n) = PlanningRead part.now far n
 asked_by (form.Gen part seed) = Generating part.now seed
 asked_by (form.Image part golden update) = Imaging part.now golden.now update.now
 asked_by (form.Debug part stream script) = Debugging part.now stream.now script.now
+asked_by (form.Boot part flash) = Booting part.now flash.now
 
 abbrev pub asked : Option Form → Option Asked
 asked None = None
@@ -40,6 +41,10 @@ Among (first ∷ names) name = (name ≡ first) ⊎ Among names name
 -- the name is one of these, and the count rose
 abbrev pub RisesFor : List (List ℕ) → ℕ → ℕ → List ℕ → Type 0
 RisesFor names old new name = Among names name × HasRisen old new
+
+-- the name is that of an input of the form, whose count rose, or of its flash, whose own count rose
+abbrev pub RisesIn : Option Asked → ℕ → ℕ → ℕ → ℕ → List ℕ → Type 0
+RisesIn form inputs inputs_now flash flash_now name = RisesFor (names_of form) inputs inputs_now name ⊎ RisesFor (flash_names form) flash flash_now name
 
 -- what a call's result says: a value, or the event of a refusal
 abbrev pub seen : {A B : Type 0} → (A → B) → Result A Refusal → Result B Event
@@ -90,6 +95,10 @@ IsCausedBy known Fails Lacks Due got = IsFree Fails Lacks got ⊎ IsDue known Du
 -- the same where a function of the known contents says what is due
 abbrev pub IsCaused : {A : Type 0} → Option Known → (List ℕ → Type 0) → (List ℕ → Type 0) → (Known → Result A Event) → Result A Event → Type 0
 IsCaused known Fails Lacks due got = IsCausedBy known Fails Lacks (λ t result. due t ≡ result) got
+
+-- a flash was not attached: its name isn't there, or the flash failed
+abbrev pub IsUnattached : List ℕ → ℕ → ℕ → ℕ → ℕ → Event → Type 0
+IsUnattached name faults faults_now absences absences_now event = ((event ≡ missing name) × HasRisen absences absences_now) ⊎ ((event ≡ read_fault name) × HasRisen faults faults_now)
 
 -- ---- a whole command
 

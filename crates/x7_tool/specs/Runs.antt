@@ -8,11 +8,11 @@ use Rattle.x7_tool.specs.Event.{Event, Cause, Wording, Want, Fault, Absence, Bre
 use Rattle.x7_words.specs.Word.{AreBytes}
 use Rattle.x7_listing.specs.StreamListing.{stream_listing}
 use Rattle.x7_mcs.specs.Text.{mcs_text}
-use Rattle.x7_tool.specs.Form.{Asked, Assembling, FromMcs, names_of, names_flash}
+use Rattle.x7_tool.specs.Form.{Asked, Assembling, FromMcs, names_flash}
 use Rattle.x7_tool.specs.Message.{final_status}
 use Rattle.x7_tool.specs.Outcome.{Answer, Known, IsOutcome, flash_limit, known_of, stream_limit, text_limit}
 use Rattle.x7_tool.specs.Promise.{Promise}
-use Rattle.x7_tool.specs.Run.{Agrees, GetsPrefix, Leaves, RisesFor, Says, Shows}
+use Rattle.x7_tool.specs.Run.{Agrees, GetsPrefix, Leaves, RisesIn, Says, Shows}
 
 -- a flash: its bytes where they are known, its size, whether it is attached, and its counts
 pub record FlashState : Type 0 where
@@ -37,16 +37,16 @@ pub record Outside : Type 0 where
 abbrev pub known_in : Option Asked → Outside → Option Known
 known_in form o = known_of form o.inputs o.flash.bytes
 
--- a name of the form, and a read failed or a name was missing
+-- a name of the form, and a read of it failed or the name was missing
 abbrev pub Fails : Option Asked → Outside → Outside → List ℕ → Type 0
-Fails form old new = RisesFor (names_of form) old.faults new.faults
+Fails form old new = RisesIn form old.faults new.faults old.flash.faults new.flash.faults
 
 abbrev pub Lacks : Option Asked → Outside → Outside → List ℕ → Type 0
-Lacks form old new = RisesFor (names_of form) old.absences new.absences
+Lacks form old new = RisesIn form old.absences new.absences old.flash.absences new.flash.absences
 
--- no count rose
-abbrev pub IsQuiet : Outside → Outside → Type 0
-IsQuiet old new = ¬ HasRisen old.faults new.faults × ¬ HasRisen old.absences new.absences × ¬ HasRisen old.out_faults new.out_faults
+-- nothing that the form names failed or was missing, and the output didn't fail
+abbrev pub IsQuiet : Option Asked → Outside → Outside → Type 0
+IsQuiet form old new = ((name : List ℕ) → ¬ Fails form old new name) × ((name : List ℕ) → ¬ Lacks form old new name) × ¬ HasRisen old.out_faults new.out_faults
 
 -- what a cause says of an event
 abbrev pub CausedBy : Cause → Option Known → Option Asked → Outside → Outside → Event → Type 0
@@ -72,7 +72,7 @@ abbrev pub Wrote : Option Asked → Outside → Outside → Result Answer Event 
 Wrote form old new (Ok answer) = new.out ≡ appended old.out answer.text
 Wrote form old new (Err event) = LeftBy (cause_of event) form old new event
 
--- the flash is untouched by a form that doesn't name it, and unwritten by the others
+-- the flash is untouched by a form that doesn't name it, and its bytes stay under the others
 abbrev pub KeepsFlash : Bool → FlashState → FlashState → Type 0
 KeepsFlash false old new = new ≡ old
 KeepsFlash true old new = new.bytes ≡ old.bytes
@@ -85,10 +85,10 @@ HasText o name text = (contents : List ℕ → Option (List ℕ)) × ((o.inputs 
 abbrev pub LeadsBack : Status → Result Answer Event → List ℕ → Type 0
 LeadsBack s end bytes = (s ≡ status.NoMemory) ⊎ (end ≡ Ok (record { stopped = false; text = bytes }))
 
--- texts lead back, where no count rose: the listing of a stream assembles to the stream, its header included, and the flash text of an image gives the image
+-- texts lead back, where nothing failed: the listing of a stream assembles to the stream, its header included, and the flash text of an image gives the image
 abbrev pub Back : Option Asked → Outside → Outside → Status → Result Answer Event → Type 0
-Back (Some (Assembling name)) old new s end = (bytes text : List ℕ) → AreBytes bytes → length bytes ≤ stream_limit → stream_listing bytes ≡ Ok text → HasText old name text → IsQuiet old new → LeadsBack s end bytes
-Back (Some (FromMcs name)) old new s end = (bytes : List ℕ) → AreBytes bytes → length bytes ≤ flash_limit → length (mcs_text bytes) ≤ text_limit → HasText old name (mcs_text bytes) → IsQuiet old new → LeadsBack s end bytes
+Back (Some (Assembling name)) old new s end = (bytes text : List ℕ) → AreBytes bytes → length bytes ≤ stream_limit → stream_listing bytes ≡ Ok text → HasText old name text → IsQuiet (Some (Assembling name)) old new → LeadsBack s end bytes
+Back (Some (FromMcs name)) old new s end = (bytes : List ℕ) → AreBytes bytes → length bytes ≤ flash_limit → length (mcs_text bytes) ≤ text_limit → HasText old name (mcs_text bytes) → IsQuiet (Some (FromMcs name)) old new → LeadsBack s end bytes
 Back form old new s end = Unit {0}
 
 -- a run of the command that the words ask for
@@ -103,8 +103,8 @@ pub record Runs (form : Option Asked) (old new : Outside) (s : Status) : Type 0 
   pub wrote : Wrote form old new end
   -- messages got nothing after a whole text, and else the event's one line, or a prefix of it where they failed
   pub said : Says (HasRisen old.err_faults new.err_faults) old.err new.err end
-  -- where all that the form needs is known and no count rose, the end is the outcome, or want of memory
-  pub outcome : (known : Known) → known_in form old ≡ Some known → IsQuiet old new → (s ≡ status.NoMemory) ⊎ IsOutcome known form end
+  -- where all that the form needs is known and nothing failed, the end is the outcome, or want of memory
+  pub outcome : (known : Known) → known_in form old ≡ Some known → IsQuiet form old new → (s ≡ status.NoMemory) ⊎ IsOutcome known form end
   -- words without a form are a wrong usage
   pub no_form : form ≡ None → s ≡ status.Usage
   -- what other forms wrote leads back

@@ -1,6 +1,6 @@
 //! The forms of the command line.
 ghost use Rattle.std.specs.Prelude.{◌≡◌, map, string_bytes};
-ghost use Rattle.x7_tool.specs.Form.{Assembling, FromMcs, Imaging, Listing, PlanningFull, ToMcs, debug_form, form_of, gen_form, number_in, one_name, plan_form, plan_read_form, play_form, three_names, two_names, word_in, PlanningPartial};
+ghost use Rattle.x7_tool.specs.Form.{Assembling, Booting, FromMcs, Imaging, Listing, PlanningFull, ToMcs, debug_form, form_of, gen_form, number_in, one_name, plan_form, plan_read_form, play_form, three_names, two_names, word_in, PlanningPartial};
 ghost use Rattle.x7_tool.specs.Run.{asked};
 
 use x7_text::{decimal_below, word_of_hex};
@@ -82,6 +82,13 @@ pub enum Form<'w> {
         stream: &'w str,
         /// The script's name.
         script: &'w str,
+    },
+    /// `boot PART FLASH`: which image a device starts from a flash.
+    Boot {
+        /// The part file's name.
+        part: &'w str,
+        /// The flash's name.
+        flash: &'w str,
     },
 }
 
@@ -254,6 +261,19 @@ fn debug_form(names: &[String]) -> Option<Form<'_>>
     }
 }
 
+/// `boot PART FLASH`.
+fn boot_form(names: &[String]) -> Option<Form<'_>>
+    ensures { asked result ≡ two_names Booting (map string_bytes names.now) }
+{
+    match names {
+        [part, flash] => Some(Form::Boot {
+            part: part.as_str(),
+            flash: flash.as_str(),
+        }),
+        _ => None,
+    }
+}
+
 /// `image PART GOLDEN UPDATE`.
 fn image_form(names: &[String]) -> Option<Form<'_>>
     ensures { asked result ≡ three_names Imaging (map string_bytes names.now) }
@@ -285,6 +305,7 @@ pub fn words_of(words: &Vec<String>) -> Option<Form<'_>>
         "gen" => gen_form(names),
         "image" => image_form(names),
         "debug" => debug_form(names),
+        "boot" => boot_form(names),
         _ => None,
     }
 }

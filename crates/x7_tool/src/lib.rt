@@ -4,6 +4,7 @@
 mod asm;
 mod bad_input;
 mod bad_part;
+mod boot;
 mod debug;
 mod form;
 mod front;
@@ -24,6 +25,7 @@ mod text;
 mod top;
 
 pub use bad_input::InputFault;
+pub use boot::boot_text;
 pub use form::{Form, words_of};
 pub use generate::gen_text;
 pub use refusal::Why;

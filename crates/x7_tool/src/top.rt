@@ -1,15 +1,16 @@
 //! The top call.
-ghost use Rattle.std.specs.Prelude.{◌≡◌, map, string_bytes, IfErr, Result};
+ghost use Rattle.std.specs.Prelude.{◌≡◌, map, string_bytes, IfErr, Result, false};
 ghost use Rattle.x7_words.specs.Count.{HasRisen};
 ghost use Rattle.x7_tool.specs.Event.{Event, status_of};
 ghost use Rattle.x7_tool.specs.Ahead.{StaysNear};
-ghost use Rattle.x7_tool.specs.Form.{form_of, names_of};
+ghost use Rattle.x7_tool.specs.Form.{form_of, names_flash};
 ghost use Rattle.x7_tool.specs.Message.{event_of, final_status};
 ghost use Rattle.x7_tool.specs.Outcome.{Answer, known_of};
-ghost use Rattle.x7_tool.specs.Run.{Ends, EndsAs, RisesFor, Says, seen};
+ghost use Rattle.x7_tool.specs.Run.{Ends, EndsAs, RisesIn, Says, seen};
 ghost use Rattle.x7_tool.specs.Runs.{Runs};
 
 use crate::asm::asm;
+use crate::boot::boot;
 use crate::debug::debug;
 use crate::form::{Form, words_of};
 use crate::generate::generate;
@@ -32,10 +33,11 @@ fn answer<'w, I: Inputs, O: Sink, F: Flash>(
     flash: &mut F,
     out: &mut O,
 ) -> Result<bool, Refusal<'w>>
-    ensures ends { let form = form_of (map string_bytes words.now.items) in EndsAs (known_of form (I.contents inputs.old) (F.bytes flash.old)) (RisesFor (names_of form) (I.faults inputs.old) (I.faults inputs.new)) (RisesFor (names_of form) (I.absences inputs.old) (I.absences inputs.new)) form
+    ensures ends { let form = form_of (map string_bytes words.now.items) in EndsAs (known_of form (I.contents inputs.old) (F.bytes flash.old)) (RisesIn form (I.faults inputs.old) (I.faults inputs.new) (F.faults flash.old) (F.faults flash.new)) (RisesIn form (I.absences inputs.old) (I.absences inputs.new) (F.absences flash.old) (F.absences flash.new)) form
         (HasRisen (O.faults out.old) (O.faults out.new)) (O.written out.old) (O.written out.new) (seen (λ stopped. stopped) result) }
     ensures near { IfErr result (λ r. StaysNear (status_of (event_of r)) (form_of (map string_bytes words.now.items)) (I.contents inputs.old) (I.rest inputs.new) (O.written out.old) (O.written out.new)) }
-    ensures flash { flash.new ≡ flash.old }
+    ensures flash { names_flash (form_of (map string_bytes words.now.items)) ≡ false → flash.new ≡ flash.old }
+    ensures same { F.bytes flash.new ≡ F.bytes flash.old }
 {
     match words_of(words) {
         None => Err(Refusal::unnamed(Why::Usage)),
@@ -71,6 +73,10 @@ fn answer<'w, I: Inputs, O: Sink, F: Flash>(
                 script,
             },
         ) => put_whole(debug(alloc, inputs, part, stream, script), out),
+        Some(Form::Boot { part, flash: name }) => put_whole(
+            boot(alloc, inputs, flash, part, name),
+            out,
+        ),
     }
 }
 
@@ -84,10 +90,11 @@ fn carry_out<I: Inputs, O: Sink, E: Sink, F: Flash>(
     err: &mut E,
 ) -> Status
     ensures ends { let form = form_of (map string_bytes words.now.items) in (end : Result Answer Event) × ((result ≡ final_status end)
-        × Ends (known_of form (I.contents inputs.old) (F.bytes flash.old)) (RisesFor (names_of form) (I.faults inputs.old) (I.faults inputs.new)) (RisesFor (names_of form) (I.absences inputs.old) (I.absences inputs.new)) form (HasRisen (O.faults out.old) (O.faults out.new)) (O.written out.old) (O.written out.new) end
+        × Ends (known_of form (I.contents inputs.old) (F.bytes flash.old)) (RisesIn form (I.faults inputs.old) (I.faults inputs.new) (F.faults flash.old) (F.faults flash.new)) (RisesIn form (I.absences inputs.old) (I.absences inputs.new) (F.absences flash.old) (F.absences flash.new)) form (HasRisen (O.faults out.old) (O.faults out.new)) (O.written out.old) (O.written out.new) end
         × Says (HasRisen (E.faults err.old) (E.faults err.new)) (E.written err.old) (E.written err.new) end) }
     ensures near { StaysNear result (form_of (map string_bytes words.now.items)) (I.contents inputs.old) (I.rest inputs.new) (O.written out.old) (O.written out.new) }
-    ensures flash { flash.new ≡ flash.old }
+    ensures flash { names_flash (form_of (map string_bytes words.now.items)) ≡ false → flash.new ≡ flash.old }
+    ensures same { F.bytes flash.new ≡ F.bytes flash.old }
 {
     match answer(alloc, words, inputs, flash, out) {
         Ok(stopped) => Status::of_text(stopped),

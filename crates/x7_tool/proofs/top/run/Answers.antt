@@ -1,4 +1,4 @@
-use Rattle.std.proofs.Common.{◌≡◌, ap, map, string_bytes}
+use Rattle.std.proofs.Common.{◌≡◌, false, ap, map, string_bytes}
 use Rattle.x7_tool.specs.Form.{form_of, names_flash}
 use Rattle.x7_tool.specs.Runs.{FlashState}
 use Rattle.x7_tool.proofs.RunLemmas.{flash_kept, runs}
@@ -14,8 +14,8 @@ returns-clause-runs g c =
     let form = form_of (map string_bytes c.args.words.now.items) in
     let before : FlashState = record { bytes = f.bytes c.args.flash.now; extent = f.extent c.args.flash.now; attached = f.attached c.args.flash.now; faults = f.faults c.args.flash.now; absences = f.absences c.args.flash.now } in
     let after : FlashState = record { bytes = f.bytes c.carry_out.new.flash; extent = f.extent c.carry_out.new.flash; attached = f.attached c.carry_out.new.flash; faults = f.faults c.carry_out.new.flash; absences = f.absences c.carry_out.new.flash } in
-    let same : after ≡ before = ap (λ x. record { bytes = f.bytes x; extent = f.extent x; attached = f.attached x; faults = f.faults x; absences = f.absences x }) c.carry_out.ensures.flash in
+    let untouched : names_flash form ≡ false → after ≡ before = λ none. ap (λ x. record { bytes = f.bytes x; extent = f.extent x; attached = f.attached x; faults = f.faults x; absences = f.absences x }) (c.carry_out.ensures.flash none) in
     runs form
     (record { inputs = i.contents c.args.inputs.now; faults = i.faults c.args.inputs.now; absences = i.absences c.args.inputs.now; flash = before; out = o.written c.args.out.now; out_faults = o.faults c.args.out.now; err = e.written c.args.err.now; err_faults = e.faults c.args.err.now })
     (record { inputs = i.contents c.carry_out.new.inputs; faults = i.faults c.carry_out.new.inputs; absences = i.absences c.carry_out.new.inputs; flash = after; out = o.written c.carry_out.new.out; out_faults = o.faults c.carry_out.new.out; err = e.written c.carry_out.new.err; err_faults = e.faults c.carry_out.new.err })
-    c.carry_out.result r.0 r.1.0 r.1.1 r.1.2 (flash_kept (names_flash form) before after same)
+    c.carry_out.result r.0 r.1.0 r.1.1 r.1.2 (flash_kept (names_flash form) before after untouched c.carry_out.ensures.same)

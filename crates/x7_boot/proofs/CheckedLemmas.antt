@@ -1,0 +1,77 @@
+-- An attempt that started made its checks.
+use Rattle.std.proofs.Common.{◌≡◌, ◌==◌, ◌+◌, ◌<◌, inl, inr, ℕ, Bool, true, false, List, ◌∷◌, drop, take, length, Option, None, Some, refl, ap, sym, subst, ◌∙◌, take-append-drop, arith}
+use Rattle.std.specs.Prelude.{if◌then◌else◌, nat_le, ◌||◌}
+use Rattle.std.proofs.lemmas.Bool.Decides.{nat_tests}
+use Rattle.x7_words.specs.Word.{AreBytes}
+use Rattle.x7_words.proofs.ListLemmas.{all_back, all_front}
+use Rattle.x7_packets.specs.History.{Write}
+use Rattle.x7_part.specs.Part.{PartData}
+use Rattle.x7_engine.specs.Kept.{is_fallback}
+use Rattle.x7_engine.specs.State.{line_by, state_of, stop_in}
+use Rattle.x7_engine.specs.Values.{cause_of}
+use Rattle.x7_engine.specs.declared.kept.Kept.{Kept}
+use Rattle.x7_engine.specs.declared.stop.Stop.{Stop}
+use Rattle.x7_engine.specs.declared.stop.Stop.TheVariants as stop
+use Rattle.x7_engine.proofs.CheckedLemmas.{check_equals, idcode_matches, lines_before, phase_started}
+use Rattle.x7_regs.specs.declared.boot_status.Cause.{Cause}
+use Rattle.x7_boot.specs.Attempt.{IsTrial, Trial, ending_at, ending_by, failed_by}
+use Rattle.x7_boot.specs.Boot.{LeadsToEnd, end_state, forbids_fallback, next_by}
+use Rattle.x7_boot.specs.Checked.{HasChecked}
+use Rattle.x7_boot.specs.declared.attempt.Ending.{Ending}
+use Rattle.x7_boot.specs.declared.attempt.Ending.TheVariants as ending
+use Rattle.x7_boot.specs.declared.boots.BootEnd.{BootEnd}
+use Rattle.x7_boot.specs.declared.boots.BootEnd.TheVariants as boot_end
+use Rattle.x7_boot.specs.declared.next.Next.TheVariants.{Again, Ends}
+
+-- a stop is no start
+no_cause_starts : (c : Option Cause) → failed_by c ≡ Some ending.Started → ⊥
+no_cause_starts None e = absurd (cc)
+no_cause_starts (Some c) e = absurd (cc)
+
+no_stop_starts : (o : Option Stop) → ending_by o ≡ Some ending.Started → ⊥
+no_stop_starts None e = absurd (cc)
+no_stop_starts (Some stop.Iprog) e = absurd (cc)
+no_stop_starts (Some (stop.Fault f)) e = no_cause_starts (cause_of (Some f) false) e
+
+starts_by : (b : Bool) (o : Option Stop) → (if b then Some ending.Started else ending_by o) ≡ Some ending.Started → b ≡ true
+starts_by true o e = refl
+starts_by false o e = absurd (no_stop_starts o e)
+
+seven_is_late : (n : ℕ) → (n == 7) ≡ true → 0 < n
+seven_is_late n e = grind (arith, e, nat_tests)
+
+started_late : (part : PartData) (kept : Kept) (bytes : List ℕ) → ending_at part kept bytes ≡ Some ending.Started → 0 < (state_of part kept false bytes).phase
+started_late part kept bytes e = seven_is_late (state_of part kept false bytes).phase (starts_by ((state_of part kept false bytes).phase == 7) (line_by (stop_in part kept bytes)) e)
+
+checked : (part : PartData) (kept : Kept) (bytes : List ℕ) → AreBytes bytes → 0 < (state_of part kept false bytes).phase → HasChecked part kept bytes
+checked part kept bytes fits late = record {
+  started = phase_started part kept false bytes fits late;
+  checks = λ w place older s l. check_equals part kept older w (lines_before part kept bytes (Write 0 w) place older fits s l);
+  idcodes = λ w place older s l. idcode_matches part kept older w (lines_before part kept bytes (Write 12 w) place older fits s l);
+}
+
+pub start_checked : (part : PartData) (flash : List ℕ) (t : Trial) → AreBytes flash → IsTrial part flash t → t.ending ≡ ending.Started → HasChecked part t.kept t.bytes
+start_checked part flash t fits (inl first) is =
+    let behind : AreBytes (drop t.address flash) = all_back (λ b. b < 256) (take t.address flash) (drop t.address flash) (subst AreBytes (sym (take-append-drop t.address flash)) fits) in
+    let here : AreBytes t.bytes = all_front (λ b. b < 256) t.bytes first.rest (subst AreBytes first.taken behind) in
+    checked part t.kept t.bytes here (started_late part t.kept t.bytes (first.ends ∙ ap Some is))
+start_checked part flash t fits (inr out) is = let failed : t.ending ≡ ending.Failed _ = out.failed in absurd (cc)
+
+-- ---- the last attempt of a boot that started
+
+iprog_ends : (b : Bool) (kept : Kept) (address : ℕ) → Ends boot_end.Started ≡ (if b then Ends boot_end.Loop else Again kept address) → ⊥
+iprog_ends true kept address e = absurd (cc)
+iprog_ends false kept address e = absurd (cc)
+
+failed_ends : (b : Bool) (kept : Kept) (address : ℕ) → Ends boot_end.Started ≡ (if b then Ends boot_end.Stopped else Again kept address) → ⊥
+failed_ends true kept address e = absurd (cc)
+failed_ends false kept address e = absurd (cc)
+
+started_by : (part : PartData) (number : ℕ) (t : Trial) (e : Ending) → Ends boot_end.Started ≡ next_by part number t e → e ≡ ending.Started
+started_by part number t ending.Started h = refl
+started_by part number t ending.Iprog h = absurd (iprog_ends (nat_le 16 number) _ _ h)
+started_by part number t (ending.Failed cause) h = absurd (failed_ends (is_fallback t.kept.kind || forbids_fallback (end_state part t).ctl0) _ _ h)
+
+pub last_checked : (part : PartData) (flash : List ℕ) (last : Trial) (older : List Trial) (end : BootEnd) → AreBytes flash → LeadsToEnd part flash (last ∷ older) end → end ≡ boot_end.Started → HasChecked part last.kept last.bytes
+last_checked part flash last older end fits leads is =
+    start_checked part flash last fits leads.1 (started_by part (length older + 1) last last.ending (sym (ap Ends is) ∙ leads.2))

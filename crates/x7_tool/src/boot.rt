@@ -1,0 +1,252 @@
+//! The command `boot`: which image a device starts from a flash, and why not another.
+ghost use Rattle.std.specs.Prelude.{◌≡◌, ◌++◌, ◌⊎◌, ◌≤◌, ℕ, List, [], ◌∷◌, Some, codes, decimal, length, IfErr, IfOk, OnOk, true};
+ghost use Rattle.x7_words.specs.Flash.{WhereTold};
+ghost use Rattle.x7_text.specs.Digits.{hex_word};
+ghost use Rattle.x7_part.specs.Part.{PartData};
+ghost use Rattle.x7_boot.specs.Attempt.{IsDeviceOf, Trial};
+ghost use Rattle.x7_boot.specs.Boot.{IsBoot};
+ghost use Rattle.x7_engine.specs.Standing.{NoWordDue};
+ghost use Rattle.x7_tool.specs.BootText.{attempt_text, attempts_text, boot_end_text, boot_head, boot_text, cause_text, ending_text, kind_text};
+ghost use Rattle.x7_tool.specs.Form.{Booting};
+ghost use Rattle.x7_tool.specs.Event.{no_memory};
+ghost use Rattle.x7_tool.specs.Message.{event_of};
+ghost use Rattle.x7_tool.specs.Outcome.{BootsAs, FlashBoots, Gives, boot_event, has_failed, with_inputs};
+ghost use Rattle.x7_tool.specs.Play.{whole_of};
+ghost use Rattle.x7_tool.specs.Run.{IsCausedBy, IsFree, IsUnattached, RisesFor, RisesIn, seen};
+
+use crate::play::read_part;
+use crate::refusal::{Refusal, Why};
+use crate::reports::{put_number, put_text, report};
+use crate::text::Text;
+use std::alloc::Global;
+use x7_boot::{BootEnd, BootFault, Booted, Ending, Tried};
+use x7_part::Part;
+use x7_regs::{Cause, Kind};
+use x7_text::{hex_of_word, make_room, put_decimal};
+use x7_words::{Flash, Inputs, NoMemory, SelectFault};
+
+/// What began an attempt, in a word.
+fn kind_words(kind: Kind) -> &'static [u8]
+    ensures { result.now ≡ kind_text kind }
+{
+    match kind {
+        Kind::Bench => b"bench",
+        Kind::Power => b"power",
+        Kind::Iprog => b"iprog",
+        Kind::Fallback => b"fallback",
+    }
+}
+
+/// What an attempt failed by, in a word.
+fn cause_words(cause: Cause) -> &'static [u8]
+    ensures { result.now ≡ cause_text cause }
+{
+    match cause {
+        Cause::Watchdog => b"watchdog",
+        Cause::Id => b"id",
+        Cause::Crc => b"crc",
+        Cause::Wrap => b"wrap",
+    }
+}
+
+/// How an attempt ended, in a word.
+fn ending_words(ending: Ending) -> &'static [u8]
+    ensures { result.now ≡ ending_text ending }
+{
+    match ending {
+        Ending::Started => b"started",
+        Ending::Iprog => b"iprog",
+        Ending::Failed(cause) => cause_words(cause),
+    }
+}
+
+/// How a boot ended, as a line.
+fn end_line(end: BootEnd) -> &'static [u8]
+    ensures { result.now ≡ boot_end_text end }
+{
+    match end {
+        BootEnd::Started => b"end started\n",
+        BootEnd::Stopped => b"end stopped\n",
+        BootEnd::Loop => b"end loop\n",
+    }
+}
+
+/// Appends a number in decimal.
+fn put_count(text: &mut Vec<u8>, number: u64) -> Result<(), NoMemory>
+    ensures { OnOk result (text.new.items ≡ text.old.items ++ decimal number) }
+{
+    make_room(text, 20)?;
+    put_decimal(text, number);
+    Ok(())
+}
+
+/// Appends the line of the attempt of this number.
+#[tactic(auto, unfolding(crate::specs::BootText::attempt_text))]
+fn put_attempt(text: &mut Vec<u8>, number: u64, tried: &Tried) -> Result<(), NoMemory>
+    ensures { OnOk result (text.new.items ≡ text.old.items ++ attempt_text number tried.now) }
+{
+    put_text(text, b"attempt ")?;
+    put_count(text, number)?;
+    put_text(text, b" ")?;
+    put_text(text, kind_words(tried.kind))?;
+    put_text(text, b" ")?;
+    put_text(text, &hex_of_word(tried.address))?;
+    put_text(text, b" ")?;
+    put_text(text, ending_words(tried.ending))?;
+    put_text(text, b"\n")
+}
+
+/// Appends the lines of attempts, numbered from 1.
+fn put_attempts(text: &mut Vec<u8>, attempts: &[Tried]) -> Result<(), NoMemory>
+    ensures { OnOk result (text.new.items ≡ text.old.items ++ attempts_text 0 attempts.now) }
+{
+    let mut number = 0u64;
+    let mut rest = attempts;
+    'lines: loop {
+        let [first, more @ ..] = rest else {
+            return Ok(());
+        };
+        number += 1;
+        put_attempt(text, number, first)?;
+        rest = more;
+    }
+}
+
+/// Appends the lines before the report of a boot.
+#[tactic(auto, unfolding(crate::specs::BootText::boot_head))]
+fn put_head(
+    text: &mut Vec<u8>,
+    name: &str,
+    attempts: &[Tried],
+    end: BootEnd,
+) -> Result<(), NoMemory>
+    ensures { OnOk result (text.new.items ≡ text.old.items ++ boot_head name.now attempts.now end) }
+{
+    put_text(text, b"boot ")?;
+    put_text(text, name.as_bytes())?;
+    put_text(text, b"\n")?;
+    put_attempts(text, attempts)?;
+    put_text(text, end_line(end))
+}
+
+/// The text of a boot (this project's choice): `boot NAME`; for each attempt `attempt N KIND ADDRESS ENDING`; `end` and how
+/// the boot ended; and the report of the device, as the last attempt left it.
+#[tactic(auto, unfolding(crate::specs::BootText::boot_text))]
+pub fn boot_text(alloc: Global, booted: &Booted) -> Result<Vec<u8>, NoMemory>
+    ensures { IfOk result (λ text. (part : PartData) (last : Trial) → IsDeviceOf part booted.now.device last → NoWordDue booted.now.device
+        → text.items ≡ boot_text part booted.now.attempts booted.now.end last) }
+{
+    let device = booted.device();
+    let mut text = Vec::new(alloc);
+    put_head(
+        &mut text,
+        device.part().name(),
+        booted.attempts(),
+        booted.end(),
+    )?;
+    let report = report(alloc, device, &[])?;
+    put_text(&mut text, &report)?;
+    Ok(text)
+}
+
+/// Whether a boot ended without a start.
+fn has_failed(end: BootEnd) -> bool
+    ensures { result ≡ has_failed end }
+{
+    match end {
+        BootEnd::Started => false,
+        BootEnd::Stopped | BootEnd::Loop => true,
+    }
+}
+
+/// The text of a boot, and whether it ended without a start.
+fn text_of<'w>(alloc: Global, booted: &Booted) -> Result<Text, Refusal<'w>>
+    ensures ok { IfOk result (λ text. (part : PartData) (flash : List ℕ) → IsBoot part flash booted.now → NoWordDue booted.now.device → BootsAs part flash (whole_of text)) }
+    ensures err { IfErr result (λ r. event_of r ≡ no_memory) }
+{
+    match boot_text(alloc, booted) {
+        Ok(text) => Ok(Text {
+            stopped: has_failed(booted.end()),
+            text,
+        }),
+        Err(_) => Err(Refusal::unnamed(Why::NoMemory)),
+    }
+}
+
+/// Why a boot came to no end.
+fn refusal_of<'w>(name: &'w str, fault: BootFault) -> Refusal<'w>
+    ensures { event_of result ≡ boot_event name.now fault }
+{
+    match fault {
+        BootFault::Failed => Refusal {
+            reason: Why::ReadFault,
+            name,
+        },
+        BootFault::TooLarge => Refusal {
+            reason: Why::TooLarge,
+            name,
+        },
+        BootFault::NoMemory => Refusal::unnamed(Why::NoMemory),
+    }
+}
+
+/// Attaches the flash of this name.
+fn attach<'w, F: Flash>(flash: &mut F, name: &'w str) -> Result<(), Refusal<'w>>
+    ensures attached { OnOk result (F.attached flash.new ≡ true) }
+    ensures err { IfErr result (λ r. IsUnattached name.now (F.faults flash.old) (F.faults flash.new) (F.absences flash.old) (F.absences flash.new) (event_of r)) }
+    ensures same { F.bytes flash.new ≡ F.bytes flash.old }
+    ensures told { WhereTold (F.bytes flash.new) (λ all. F.extent flash.new ≡ length all) }
+    ensures faults { F.faults flash.old ≤ F.faults flash.new }
+{
+    match flash.attach(name) {
+        Ok(()) => Ok(()),
+        Err(SelectFault::Missing) => Err(Refusal {
+            reason: Why::Missing,
+            name,
+        }),
+        Err(SelectFault::Failed) => Err(Refusal {
+            reason: Why::ReadFault,
+            name,
+        }),
+    }
+}
+
+/// Boots a part from the flash of this name.
+fn boot_from<'w, F: Flash>(
+    alloc: Global,
+    part: &Part,
+    flash: &mut F,
+    name: &'w str,
+) -> Result<Text, Refusal<'w>>
+    ensures due { IsFree (RisesFor (name.now ∷ []) (F.faults flash.old) (F.faults flash.new)) (RisesFor (name.now ∷ []) (F.absences flash.old) (F.absences flash.new)) (seen whole_of result)
+        ⊎ FlashBoots name.now part.now (F.bytes flash.old) (seen whole_of result) }
+    ensures same { F.bytes flash.new ≡ F.bytes flash.old }
+{
+    match attach(flash, name) {
+        Ok(()) => (),
+        Err(refusal) => return Err(refusal),
+    }
+    match x7_boot::boot(alloc, part, flash) {
+        Ok(booted) => text_of(alloc, &booted),
+        Err(fault) => Err(refusal_of(name, fault)),
+    }
+}
+
+/// The text of `boot PART FLASH`.
+pub(crate) fn boot<'w, I: Inputs, F: Flash>(
+    alloc: Global,
+    inputs: &mut I,
+    flash: &mut F,
+    part: &'w str,
+    name: &'w str,
+) -> Result<Text, Refusal<'w>>
+    ensures due { let form = Some (Booting part.now name.now) in IsCausedBy (with_inputs (I.contents inputs.old) (F.bytes flash.old))
+        (RisesIn form (I.faults inputs.old) (I.faults inputs.new) (F.faults flash.old) (F.faults flash.new)) (RisesIn form (I.absences inputs.old) (I.absences inputs.new) (F.absences flash.old) (F.absences flash.new))
+        (λ known end. Gives known (Booting part.now name.now) end) (seen whole_of result) }
+    ensures same { F.bytes flash.new ≡ F.bytes flash.old }
+{
+    match read_part(alloc, inputs, part) {
+        Ok(part) => boot_from(alloc, &part, flash, name),
+        Err(refusal) => Err(refusal),
+    }
+}
