@@ -132,6 +132,7 @@ returns-in-Some-Image-clause-near g c = elsewhere _ (Imaging c.in-Some-Image.par
 
 pub returns-in-Some-Debug-clause-near : goal.returns-in-Some-Debug-clause-near
 returns-in-Some-Debug-clause-near g c = elsewhere _ (Debugging c.in-Some-Debug.part.now c.in-Some-Debug.stream.now c.in-Some-Debug.script.now) _ _ _ _ c.put_whole-in-Some-Debug.result (sym c.words_of.ensures ∙ ap asked c.in-Some-Debug.is ∙ ap (λ f. Some (asked_by f)) c.in-Some-Debug.field-0-is) tt
+
 pub returns-in-Some-Boot-clause-ends : goal.returns-in-Some-Boot-clause-ends
 returns-in-Some-Boot-clause-ends g c =
     let i = g.I.Inputs in
@@ -140,6 +141,7 @@ returns-in-Some-Boot-clause-ends g c =
     text_ends _ (Booting c.in-Some-Boot.part.now c.in-Some-Boot.name.now) _
     (λ x. RisesIn x (i.faults c.args.inputs.now) (i.faults now.inputs) (f.faults c.args.flash.now) (f.faults now.flash)) (λ x. RisesIn x (i.absences c.args.inputs.now) (i.absences now.inputs) (f.absences c.args.flash.now) (f.absences now.flash))
     _ _ _ (seen whole_of c.boot.result) _ (sym c.words_of.ensures ∙ ap asked c.in-Some-Boot.is ∙ ap (λ f. Some (asked_by f)) c.in-Some-Boot.field-0-is) tt c.boot.ensures.due c.put_whole-in-Some-Boot.ensures
+
 -- a boot names its flash
 pub returns-in-Some-Boot-clause-flash : goal.returns-in-Some-Boot-clause-flash
 returns-in-Some-Boot-clause-flash g c = λ none.
