@@ -1,6 +1,6 @@
 //! The commands of a page: x7 itself, and the few others that a page needs to show its files.
 //!
-//! `./x7 WORD..`, `cat FILE`, `cmp FILE FILE`, `sed 's/OLD/NEW/' FILE`; then, each at most once and in this order, `| grep TEXT`
+//! `x7 WORD..`, `cat FILE`, `cmp FILE FILE`, `sed 's/OLD/NEW/' FILE`; then, each at most once and in this order, `| grep TEXT`
 //! or `| head -n N` (whose status is 0), `> FILE`, `; echo $?`.
 use crate::fault::Fault;
 use crate::named::Named;
@@ -58,7 +58,7 @@ fn outside(alloc: Global, files: &[Named], words: &str) -> Result<Outside, Fault
     Ok(given)
 }
 
-/// `./x7 WORD..`.
+/// `x7 WORD..`.
 fn x7(alloc: Global, files: &[Named], words: &str) -> Result<Output, Fault> {
     let outside = outside(alloc, files, words)?;
     let turn = Turn {
@@ -132,7 +132,7 @@ fn sed(alloc: Global, files: &[Named], rest: &str) -> Result<Output, Fault> {
 fn executed(alloc: Global, files: &[Named], command: &str) -> Result<Output, Fault> {
     let (name, rest) = first_word(command);
     match name {
-        "./x7" => x7(alloc, files, rest),
+        "x7" => x7(alloc, files, rest),
         "cat" => cat(alloc, files, rest),
         "cmp" => cmp(alloc, files, rest),
         "sed" => sed(alloc, files, rest),
