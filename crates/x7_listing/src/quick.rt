@@ -6,7 +6,7 @@ ghost use Rattle.x7_listing.specs.Assembling.{TakesFirst, TakesLines};
 use crate::assembler::ASM_LIMIT;
 use crate::reading::{access_at, put_command, put_digits, put_word};
 use std::simd::prelude::*;
-use x7_text::{block_of_hex, data_line, put, put_byte_row};
+use x7_text::{data_line, put, put_byte_row};
 use x7_words::{NoMemory, is_same};
 
 /// The lines of eight no-ops.
@@ -54,8 +54,9 @@ fn two_eights(text: &[u8], one: usize, other: usize) -> u8x16
 
 /// What stands where a full `data` line has its digits.
 #[inline(always)]
-fn row_digits(text: &[u8]) -> [u8; 64]
+fn row_digits(text: &[u8]) -> u8x64
     requires { 77 ≤ length text.now }
+    ensures { length result ≡ 64 }
 {
     let (a, b) = (two_eights(text, 5, 14), two_eights(text, 23, 32));
     let (c, d) = (two_eights(text, 41, 50), two_eights(text, 59, 68));
@@ -81,7 +82,29 @@ fn row_digits(text: &[u8]) -> [u8; 64]
             46, 47, 48, 49, 50, 51, 52, 53, 54, 55, 56, 57, 58, 59, 60, 61, 62, 63,
         ],
     )
-    .to_array()
+}
+
+/// The bytes of 64 digits. Of what is no digit it gives any.
+#[inline(always)]
+fn bytes_of_digits(digits: u8x64) -> [u8; 32]
+    requires { length digits ≡ 64 }
+{
+    let numbers = (digits & u8x64::splat(15)) + (digits >> 6) * u8x64::splat(9);
+    let high = numbers.shuffle(
+        numbers,
+        [
+            0, 2, 4, 6, 8, 10, 12, 14, 16, 18, 20, 22, 24, 26, 28, 30, 32, 34, 36, 38, 40, 42, 44,
+            46, 48, 50, 52, 54, 56, 58, 60, 62,
+        ],
+    );
+    let low = numbers.shuffle(
+        numbers,
+        [
+            1, 3, 5, 7, 9, 11, 13, 15, 17, 19, 21, 23, 25, 27, 29, 31, 33, 35, 37, 39, 41, 43, 45,
+            47, 49, 51, 53, 55, 57, 59, 61, 63,
+        ],
+    );
+    ((high << 4) + low).to_array()
 }
 
 /// Appends these bytes, if their full `data` line begins the text.
@@ -107,10 +130,7 @@ fn put_data(out: &mut Vec<u8>, text: &[u8]) -> Option<Taken>
     ensures takes { MatchOption result (out.new.items ≡ out.old.items) (λ taken. TakesFirst text.now out.old.items out.new.items taken.size taken.count) }
     ensures room { StaysWithin out.old out.new 32 }
 {
-    match block_of_hex(&row_digits(text)) {
-        Some(bytes) => put_row(out, text, &bytes),
-        None => None,
-    }
+    put_row(out, text, &bytes_of_digits(row_digits(text)))
 }
 
 /// Appends the bytes of a full `bytes` line, if one begins the text.
