@@ -11,6 +11,7 @@ pub mod PlayerLemmas
 pub mod PromiseLemmas
 pub mod ReadLemmas
 pub mod ReportLemmas
+pub mod LinesLemmas
 pub mod RunLemmas
 pub mod TurnLemmas
 pub mod FlashLemmas

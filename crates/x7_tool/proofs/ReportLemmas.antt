@@ -59,7 +59,7 @@ lines_same m n [] same = refl
 lines_same m n (x ∷ fars) same = ap (λ (o : Option (List ℕ)). line_of x o ++ flat_map (λ far. line_of far (m far)) fars) (same x) ∙ ap (λ t. line_of x (n x) ++ t) (lines_same m n fars same)
 
 -- maps that have the same frames are shown alike
-frames_same : (m n : FrameMap) (fars : List ℕ) → AreSame m n → frames_text m fars ≡ frames_text n fars
+pub frames_same : (m n : FrameMap) (fars : List ℕ) → AreSame m n → frames_text m fars ≡ frames_text n fars
 unfolding frames_text
 frames_same m n fars same =
     ap (λ (xs : List ℕ). codes "frames " ++ decimal (length xs) ++ codes "\n" ++ flat_map (λ far. line_of far (m far)) xs) (shown_same m n fars same)

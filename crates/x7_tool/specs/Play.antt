@@ -72,6 +72,10 @@ whole_of t = record { stopped = t.stopped; text = t.text.items }
 abbrev pub text_of_image : List ℕ → Answer
 text_of_image image = record { stopped = false; text = mcs_text image }
 
+-- the report of a play as its answer
+abbrev pub text_of_play : Answer → Answer
+text_of_play answer = answer
+
 -- the event of a part file that gave no part
 abbrev pub part_event : List ℕ → PartFault → Event
 part_event name part.NoMemory = no_memory

@@ -43,6 +43,10 @@ abbrev pub line_of : ℕ → Option (List ℕ) → List ℕ
 line_of far None = []
 line_of far (Some words) = frame_text far words
 
+-- the lines of the frames at these addresses
+abbrev pub lines_text : FrameMap → List ℕ → List ℕ
+lines_text memory fars = flat_map (λ far. line_of far (memory far)) fars
+
 -- the number of the frames shown, and their lines in number order of their addresses
 unfoldable pub frames_text : FrameMap → List ℕ → List ℕ
 frames_text memory fars = codes "frames " ++ decimal (length (shown memory fars)) ++ codes "\n" ++ flat_map (λ far. line_of far (memory far)) (shown memory fars)

@@ -14,6 +14,7 @@ mod list;
 mod mcs;
 mod plan;
 mod play;
+mod play_text;
 mod player;
 mod read;
 mod refusal;

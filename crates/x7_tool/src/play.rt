@@ -4,14 +4,14 @@ ghost use Rattle.x7_words.specs.Input.{AtEnd};
 ghost use Rattle.x7_tool.specs.Message.{event_of};
 ghost use Rattle.x7_tool.specs.Event.{no_memory};
 ghost use Rattle.x7_tool.specs.Outcome.{data_of, part_of as part_due, played, read_of, stream_limit, with_inputs};
-ghost use Rattle.x7_tool.specs.Play.{HasPlayed, MayPlay, PlaysOn, part_event, whole_of};
+ghost use Rattle.x7_tool.specs.Play.{HasPlayed, MayPlay, PlaysOn, part_event, text_of_play};
 ghost use Rattle.x7_tool.specs.Turn.{ReadsRest, UnreadRest};
 ghost use Rattle.x7_tool.specs.Run.{IsCaused, RisesFor, seen};
 
+use crate::play_text::PlayText;
 use crate::player::Player;
 use crate::read::{STREAM_LIMIT, data_start, next_turn, open, read_whole, skip_rest};
 use crate::refusal::{Refusal, Why};
-use crate::text::Text;
 use std::alloc::Global;
 use x7_part::{Part, PartFault, part_of};
 use x7_words::Inputs;
@@ -181,9 +181,9 @@ pub(crate) fn play<'w, I: Inputs>(
     inputs: &mut I,
     part: &'w str,
     streams: &'w [String],
-) -> Result<Text, Refusal<'w>>
+) -> Result<PlayText, Refusal<'w>>
     ensures { (flash : Option (List ℕ)) → IsCaused (with_inputs (I.contents inputs.old) flash) (RisesFor (part.now ∷ map string_bytes streams.now) (I.faults inputs.old) (I.faults inputs.new)) (RisesFor (part.now ∷ map string_bytes streams.now) (I.absences inputs.old) (I.absences inputs.new))
-        (λ known. played known part.now (map string_bytes streams.now)) (seen whole_of result) }
+        (λ known. played known part.now (map string_bytes streams.now)) (seen text_of_play result) }
 {
     let part = match read_part(alloc, inputs, part) {
         Ok(part) => part,

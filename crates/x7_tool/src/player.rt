@@ -4,11 +4,10 @@ ghost use Rattle.x7_part.specs.Part.{PartData};
 ghost use Rattle.x7_tool.specs.Event.{no_memory, too_many_reads};
 ghost use Rattle.x7_tool.specs.Message.{event_of};
 ghost use Rattle.x7_tool.specs.Outcome.{reported};
-ghost use Rattle.x7_tool.specs.Play.{HasPlayed, HasPlayedBy, MayPlay, MayPlayBy, PlaysOn, whole_of};
+ghost use Rattle.x7_tool.specs.Play.{HasPlayed, HasPlayedBy, MayPlay, MayPlayBy, PlaysOn, text_of_play};
 
+use crate::play_text::PlayText;
 use crate::refusal::{Refusal, Why};
-use crate::reports::report;
-use crate::text::Text;
 use std::alloc::Global;
 use x7_engine::{Device, Fed, ReadBuf};
 use x7_part::Part;
@@ -114,10 +113,10 @@ impl Player {
         &self.device
     }
 
-    /// The whole text of the play, or that too many words were read out.
-    pub(crate) fn text<'w>(&self, alloc: Global) -> Result<Text, Refusal<'w>>
-        ensures ok { IfOk result (λ text. (part : PartData) (bytes : List ℕ) → HasPlayed part bytes self.now → reported part bytes ≡ Ok (whole_of text)) }
-        ensures err { IfErr result (λ r. (event_of r ≡ no_memory) ⊎ ((event_of r ≡ too_many_reads) × ((part : PartData) (bytes : List ℕ) → HasPlayed part bytes self.now → reported part bytes ≡ Err too_many_reads))) }
+    /// The text of the play, ready to be written, or that too many words were read out.
+    pub(crate) fn text<'w>(self, alloc: Global) -> Result<PlayText, Refusal<'w>>
+        ensures ok { IfOk result (λ text. (part : PartData) (bytes : List ℕ) → HasPlayed part bytes self → reported part bytes ≡ Ok (text_of_play text)) }
+        ensures err { IfErr result (λ r. (event_of r ≡ no_memory) ⊎ ((event_of r ≡ too_many_reads) × ((part : PartData) (bytes : List ℕ) → HasPlayed part bytes self → reported part bytes ≡ Err too_many_reads))) }
     {
         if self.over {
             return Err(Refusal {
@@ -125,11 +124,9 @@ impl Player {
                 name: "reads",
             });
         }
-        match report(alloc, &self.device, &self.reads) {
-            Ok(text) => Ok(Text {
-                stopped: self.device.fault().is_some(),
-                text,
-            }),
+        let stopped = self.device.fault().is_some();
+        match PlayText::new(alloc, self.device, &self.reads, stopped) {
+            Ok(text) => Ok(text),
             Err(_) => Err(Refusal::unnamed(Why::NoMemory)),
         }
     }

@@ -99,7 +99,11 @@ fn is_shown_at(part: &Part, memory: &Memory, far: u32) -> bool
 }
 
 /// The addresses of the frames that have a word other than 0, in number order.
-fn shown_frames(alloc: Global, part: &Part, memory: &Memory) -> Result<Vec<u32>, NoMemory>
+pub(crate) fn shown_frames(
+    alloc: Global,
+    part: &Part,
+    memory: &Memory,
+) -> Result<Vec<u32>, NoMemory>
     requires { AreFramesOf part.now memory.now }
     ensures { IfOk result (λ fars. fars.items ≡ shown (frame_at part.now memory.now) (addresses_in part.now)) }
 {
@@ -157,6 +161,24 @@ fn put_frames(
     put_text(text, b"frames ")?;
     put_number(text, fars.len() as u64)?;
     put_frame_lines(text, part, memory, &fars)
+}
+
+/// What a report has before the lines of its frames, of which it shows so many.
+pub(crate) fn report_head(
+    alloc: Global,
+    device: &Device,
+    reads: &[u32],
+    count: usize,
+) -> Result<Vec<u8>, NoMemory>
+    ensures { IfOk result (λ text. (part : PartData) (kept : Kept) (wrapped : Bool) (bytes : List ℕ) → DeviceStandsFor part kept wrapped device.now bytes → NoWordDue device.now
+        → text.items ≡ state_text part.name (state_of part kept wrapped bytes) ++ reads_text reads.now ++ codes "frames " ++ decimal count ++ codes "\n") }
+{
+    let mut text = Vec::new(alloc);
+    put_state(&mut text, device.part().name(), &device.state())?;
+    put_reads(&mut text, reads)?;
+    put_text(&mut text, b"frames ")?;
+    put_number(&mut text, count as u64)?;
+    Ok(text)
 }
 
 /// The report of a device and of the words that it read out (this project's choice): `part NAME`; `taken N`, the bytes

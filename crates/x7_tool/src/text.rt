@@ -3,9 +3,10 @@ ghost use Rattle.std.specs.Prelude.{◌≡◌, OnErr, OnOk};
 ghost use Rattle.x7_words.specs.Count.{HasRisen};
 ghost use Rattle.x7_words.specs.Sink.{appended, PutsFront};
 ghost use Rattle.x7_tool.specs.Outcome.{Answer};
-ghost use Rattle.x7_tool.specs.Play.{text_of_image, whole_of};
+ghost use Rattle.x7_tool.specs.Play.{text_of_image, text_of_play, whole_of};
 ghost use Rattle.x7_tool.specs.Run.{Puts, seen};
 
+use crate::play_text::PlayText;
 use crate::refusal::{Refusal, Why};
 use x7_mcs::McsText;
 use x7_words::{Failed, Sink, write_all};
@@ -55,6 +56,19 @@ impl Ready for McsText {
 
     fn write<O: Sink>(&mut self, out: &mut O) -> Result<(), Failed> {
         McsText::write(self, out)
+    }
+}
+
+/// The report of a play, whose frames' lines are made as they are written.
+impl Ready for PlayText {
+    ghost answer = { text_of_play };
+
+    fn is_stopped(&self) -> bool {
+        PlayText::is_stopped(self)
+    }
+
+    fn write<O: Sink>(&mut self, out: &mut O) -> Result<(), Failed> {
+        PlayText::write(self, out)
     }
 }
 

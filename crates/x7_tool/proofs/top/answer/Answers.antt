@@ -3,7 +3,7 @@ use Rattle.x7_words.specs.Count.{HasRisen}
 use Rattle.x7_tool.specs.Form.{Asked, Assembling, Booting, Debugging, FromMcs, Imaging, Listing, PlanningFull, PlanningRead, Playing, ToMcs, form_of, PlanningPartial, Generating}
 use Rattle.x7_tool.specs.Message.{event_of}
 use Rattle.x7_tool.specs.Outcome.{known_of}
-use Rattle.x7_tool.specs.Play.{whole_of, text_of_image}
+use Rattle.x7_tool.specs.Play.{whole_of, text_of_image, text_of_play}
 use Rattle.x7_tool.specs.Run.{Ends, RisesIn, asked, asked_by, seen}
 use Rattle.x7_tool.specs.Ahead.{StaysNear}
 use Rattle.x7_tool.specs.Event.{status_of}
@@ -44,7 +44,7 @@ returns-in-Err-clause-ends g c =
 pub returns-in-Some-Play-clause-ends : goal.returns-in-Some-Play-clause-ends
 returns-in-Some-Play-clause-ends g c =
     let flash = g.F.Flash.bytes c.args.flash.now in
-    ready_ends _ (Playing c.in-Some-Play.part.now (map string_bytes c.in-Some-Play.streams.now)) _ flash _ _ _ _ _ _ _ _ _ (seen whole_of c.play.result) _
+    ready_ends _ (Playing c.in-Some-Play.part.now (map string_bytes c.in-Some-Play.streams.now)) _ flash _ _ _ _ _ _ _ _ _ (seen text_of_play c.play.result) _
     (sym c.words_of.ensures ∙ ap asked c.in-Some-Play.is ∙ ap (λ f. Some (asked_by f)) c.in-Some-Play.field-0-is) tt (c.play.ensures flash) c.put_whole.ensures
 
 pub returns-in-Some-Asm-clause-ends : goal.returns-in-Some-Asm-clause-ends
