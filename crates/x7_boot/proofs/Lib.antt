@@ -2,6 +2,7 @@ pub mod BootedLemmas
 pub mod CheckedLemmas
 pub mod ImageLemmas
 pub mod OneBootLemmas
+pub mod PageLemmas
 pub mod PhaseLemmas
 pub mod TookLemmas
 pub mod TrialLemmas

@@ -20,7 +20,6 @@ use Rattle.x7_engine.specs.Values.{cause_of}
 use Rattle.x7_engine.proofs.BootLemmas.{may_wrap, none_due_at_first}
 use Rattle.x7_engine.proofs.StateLemmas.{stop_is_final-state, stop_is_final-stop}
 use Rattle.x7_boot.specs.Attempt.{Feeds, IsReady, NoneBefore, StepsTo, Took, Trial, Tries, ending_at, ending_by, failed_by}
-use Rattle.x7_boot.specs.Pages.{page_end}
 use Rattle.x7_boot.specs.declared.attempt.Ending.{Ending}
 use Rattle.x7_boot.specs.declared.attempt.Ending.TheVariants.{Started, Iprog, Failed}
 use Rattle.x7_boot.specs.declared.attempt.Step.{Step}
@@ -274,15 +273,6 @@ tries_out part kept address all d wrapped at f past w =
 
 -- ---- the same where the bytes of the flash are known or not
 
-pub page_known : (known told : Option (List ℕ)) (page items : List ℕ) (at stop : ℕ) → told ≡ known → page ≡ items → length items ≡ stop - at → at ≤ stop → WhereTold told (λ all. items ≡ slice_range all at stop)
-    → WhereTold known (λ all. page ≡ slice_range all at (at + length page))
-page_known None told page items at stop e f l m w = tt
-page_known (Some all) told page items at stop e f l m w =
-    let here : items ≡ slice_range all at stop = subst (λ (o : Option (List ℕ)). WhereTold o (λ a. items ≡ slice_range a at stop)) e w in
-    let long : length page ≡ length items = ap length f in
-    let end : stop ≡ at + length page = omega (arith, l, m, long) in
-    f ∙ here ∙ ap (λ (n : ℕ). slice_range all at n) end
-
 pub known_out : (part : PartData) (kept : Kept) (address : ℕ) (known : Option (List ℕ)) (d wrapped : DeviceState) (at size : ℕ) (e : Ending) → (f : Feeds part kept address known d at) → size ≤ at
     → WhereTold known (λ all. size ≡ length all) → DeviceStandsFor part kept true wrapped f.bytes → e ≡ Failed Wrap → WhereTold known (λ all. AreBytes all → Tries part kept address all wrapped e)
 known_out part kept address None d wrapped at size e f past told w is = tt
@@ -306,7 +296,3 @@ pub stops_here : (part : PartData) (kept : Kept) (d : DeviceState) (bytes page :
 stops_here part kept d bytes page step boots t is =
     let steps : StepsTo part kept (bytes ++ take t.count page) Stops = subst (λ (s : Step). StepsTo part kept (bytes ++ take t.count page) s) is t.steps in
     ends_here part kept d (bytes ++ take t.count page) boots t.stands steps.1 t.due
-
--- a place stands before the end of its page
-pub within_page : (at extent : ℕ) → at < extent → at ≤ page_end at extent
-within_page at extent l = grind arith

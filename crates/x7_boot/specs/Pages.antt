@@ -1,6 +1,34 @@
 -- Pages of a flash (this project's choice).
-use Rattle.std.specs.Prelude.{ℕ, ◌+◌, ◌*◌, ◌/◌, min}
+use Rattle.std.specs.Prelude.{◌≡◌, ℕ, ◌+◌, ◌-◌, ◌*◌, ◌/◌, ◌<◌, min, List, length, slice_range, Option, IsSome, Contains, Vec, nat_eq}
+use Rattle.std.specs.declared.alloc.Global.{Global}
+use Rattle.std.specs.Map.{lookup}
+use Rattle.x7_words.specs.Flash.{WhereTold}
+
+-- the bytes of a page, but of a last one that is shorter
+abbrev pub page_size : ℕ
+page_size = 4096
 
 -- where the page of a place ends: at the next multiple of 4,096, or at the flash's end
 abbrev pub page_end : ℕ → ℕ → ℕ
-page_end at extent = min ((at / 4096 + 1) * 4096) extent
+page_end at extent = min ((at / page_size + 1) * page_size) extent
+
+-- these are the bytes of a flash from a place to the end of its page
+pub record IsRest (known : Option (List ℕ)) (extent at : ℕ) (bytes : List ℕ) : Type 0 where
+  pub long : length bytes ≡ page_end at extent - at
+  pub told : WhereTold known (λ all. bytes ≡ slice_range all at (page_end at extent))
+
+-- pages under their numbers
+abbrev pub Pages : Type 0
+Pages = List (ℕ × Vec ℕ Global)
+
+-- each is the whole page of its number
+abbrev pub ArePages : Option (List ℕ) → ℕ → Pages → Type 0
+ArePages known extent pages = (page : ℕ × Vec ℕ Global) → Contains pages page → IsRest known extent (page.0 * page_size) page.1.items
+
+-- the page of a place of a flash is among pages of it
+pub record HasPage (pages : Pages) (at : ℕ) : Type 0 where
+  pub known : Option (List ℕ)
+  pub extent : ℕ
+  pub are : ArePages known extent pages
+  pub within : at < extent
+  pub there : IsSome (lookup (nat_eq (at / page_size)) pages)

@@ -8,6 +8,7 @@ ghost use Rattle.x7_boot.specs.Boot.{BootedState, IsBoot};
 ghost use Rattle.x7_boot.specs.Image.{flash_limit};
 
 use crate::attempt::Ending;
+use crate::cache::PageCache;
 use crate::fault::BootFault;
 use crate::layout::FLASH_LIMIT;
 use crate::next::{Next, next_of};
@@ -111,15 +112,14 @@ pub fn boot<F: Flash>(alloc: Global, part: &Part, flash: &mut F) -> Result<Boote
         return Err(BootFault::NoMemory);
     };
     let mut attempts = Vec::new(alloc);
-    let mut page = Vec::new(alloc);
+    let Ok(mut pages) = PageCache::new(alloc) else {
+        return Err(BootFault::NoMemory);
+    };
     let mut keep = AT_POWER;
     let mut address = 0;
     let mut number = 0;
     'attempts: loop {
-        let ending = match try_once(&mut device, flash, &mut page, keep, address) {
-            Ok(ending) => ending,
-            Err(fault) => return Err(fault),
-        };
+        let ending = try_once(&mut device, flash, &mut pages, keep, address)?;
         let Ok(()) = attempts.push(Tried {
             kind: keep.kind,
             address,

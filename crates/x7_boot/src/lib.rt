@@ -3,6 +3,7 @@
 
 mod attempt;
 mod boots;
+mod cache;
 mod fault;
 mod law;
 mod layout;

@@ -8,7 +8,7 @@ use crate::fault::BootFault;
 use x7_words::Flash;
 
 /// The bytes of a page.
-const PAGE: u64 = 4_096;
+pub(crate) const PAGE: u64 = 4_096;
 
 /// Reads from a place to the end of its page.
 pub(crate) fn read_page<F: Flash>(

@@ -9,11 +9,13 @@ ghost use Rattle.x7_part.specs.Part.{PartData};
 ghost use Rattle.x7_engine.specs.declared.kept.Kept.{Kept as KeptData};
 ghost use Rattle.x7_engine.specs.Standing.{DeviceStandsFor, MayWrap, NoWordDue, with_wrap};
 ghost use Rattle.x7_boot.specs.Attempt.{Tries};
+ghost use Rattle.x7_boot.specs.Pages.{ArePages};
 ghost use Rattle.x7_boot.specs.declared.attempt.Ending.TheVariants as ending;
 
 use crate::attempt::{Ending, Step, take_page};
+use crate::cache::PageCache;
 use crate::fault::BootFault;
-use crate::pages::read_page;
+use crate::pages::PAGE;
 use x7_engine::{Device, Kept};
 use x7_regs::Cause;
 use x7_words::Flash;
@@ -34,13 +36,15 @@ fn run_out(device: &mut Device) -> Ending
 pub(crate) fn try_once<F: Flash>(
     device: &mut Device,
     flash: &mut F,
-    page: &mut Vec<u8>,
+    pages: &mut PageCache,
     keep: Kept,
     address: u32,
 ) -> Result<Ending, BootFault>
     requires attached { F.attached flash.old ≡ true }
     requires limit { F.extent flash.old ≤ 134217728 }
     requires boots { keep.kind ≡ Bench → ⊥ }
+    requires pages { ArePages (F.bytes flash.old) (F.extent flash.old) pages.old.pages.entries }
+    ensures pages { ArePages (F.bytes flash.old) (F.extent flash.old) pages.new.pages.entries }
     ensures tried { IfOk result (λ ending. WhereTold (F.bytes flash.old) (λ all. AreBytes all → Tries device.old.part keep address all device.new ending)) }
     ensures part { IfOk result (λ ending. device.new.part ≡ device.old.part) }
     ensures due { IfOk result (λ ending. NoWordDue device.new) }
@@ -59,10 +63,11 @@ pub(crate) fn try_once<F: Flash>(
         if at >= size {
             return Ok(run_out(device));
         }
-        match read_page(flash, at, page) {
+        match pages.load(flash, at / PAGE) {
             Ok(()) => (),
             Err(fault) => return Err(fault),
         }
+        let page = pages.rest_of_page(at);
         match take_page(device, page) {
             Step::Goes => at += page.len() as u64,
             Step::Ends(ending) => return Ok(ending),

@@ -1,21 +1,23 @@
-use Rattle.std.proofs.Common.{◌∙◌, arith}
+use Rattle.std.proofs.Common.{◌∙◌, sym, arith}
 use Rattle.x7_boot.proofs.BootedLemmas.{attempts_next, boot_ends, led_next}
+use Rattle.x7_boot.proofs.PageLemmas.{pages_of}
 use Rattle.x7_boot.proofs.boots.boot.Goals as goal
 
 pub attempts-preserved : goal.attempts-preserved
 attempts-preserved g c =
     let f = g.F.Flash in
     let i = c.attempts.invariant in
-    let t = c.in-Ok-try_once.ensures in
+    let t = c.in_ok-ending.ensures in
     let next = c.next_of.ensures in
     record {
-      led = led_next c.args.part.now c.attempts.device.part c.attempts.keep c.in-Again.kept c.attempts.address c.in-Again.place (f.bytes c.args.flash.now) (f.bytes c.attempts.flash) c.try_once.new.device c.in-Ok-try_once.ending
+      led = led_next c.args.part.now c.attempts.device.part c.attempts.keep c.in-Again.kept c.attempts.address c.in-Again.place (f.bytes c.args.flash.now) (f.bytes c.attempts.flash) c.try_once.new.device c.in_ok-ending.ending
           c.attempts.attempts.items c.push.new.self.items c.attempts.number c.next_of.result i.same i.part i.led t.tried next.table c.in-Again.is c.in-Ok-push.ensures.items;
       part = t.part ∙ i.part;
       boots = next.boots c.in-Again.kept c.in-Again.place c.in-Again.is;
       number = attempts_next c.attempts.keep.kind c.in-Again.kept.kind c.attempts.number (next.fallback c.in-Again.kept c.in-Again.place c.in-Again.is) (next.few c.in-Again.kept c.in-Again.place c.in-Again.is) i.room;
       room = next.few c.in-Again.kept c.in-Again.place c.in-Again.is;
       limit = i.limit;
+      pages = pages_of (f.bytes c.args.flash.now) (f.bytes c.attempts.flash) (f.extent c.args.flash.now) (f.extent c.attempts.flash) c.try_once.new.pages.pages.entries i.same i.extent c.try_once.ensures.pages;
       attached = t.attached ∙ i.attached;
       extent = t.extent ∙ i.extent;
       same = t.same ∙ i.same;
@@ -27,6 +29,12 @@ pub returns-in-Ends-clause-booted : goal.returns-in-Ends-clause-booted
 returns-in-Ends-clause-booted g c =
     let f = g.F.Flash in
     let i = c.attempts.invariant in
-    let t = c.in-Ok-try_once.ensures in
-    boot_ends c.args.part.now c.attempts.device.part c.attempts.keep c.attempts.address (f.bytes c.args.flash.now) (f.bytes c.attempts.flash) c.try_once.new.device c.in-Ok-try_once.ending
+    let t = c.in_ok-ending.ensures in
+    boot_ends c.args.part.now c.attempts.device.part c.attempts.keep c.attempts.address (f.bytes c.args.flash.now) (f.bytes c.attempts.flash) c.try_once.new.device c.in_ok-ending.ending
     c.attempts.attempts.items c.push.new.self.items c.attempts.number c.next_of.result c.in-Ends.end i.same i.part i.led t.tried c.next_of.ensures.table c.in-Ends.is c.in-Ok-push.ensures.items
+
+pub try_once-requires-clause-pages : goal.try_once-requires-clause-pages
+try_once-requires-clause-pages g c =
+    let f = g.F.Flash in
+    let i = c.attempts.invariant in
+    pages_of (f.bytes c.attempts.flash) (f.bytes c.args.flash.now) (f.extent c.attempts.flash) (f.extent c.args.flash.now) c.attempts.pages.pages.entries (sym i.same) (sym i.extent) i.pages

@@ -5,6 +5,7 @@ use Rattle.x7_regs.specs.declared.boot_status.Kind.TheVariants.{Bench}
 use Rattle.x7_engine.specs.Kept.{is_fallback}
 use Rattle.x7_boot.specs.Boot.{Led}
 use Rattle.x7_boot.specs.Image.{flash_limit}
+use Rattle.x7_boot.specs.Pages.{ArePages}
 use Rattle.x7_boot.proofs.boots.boot.Given as goal
 
 abbrev pub invariant-attempts : goal.invariant-attempts
@@ -17,6 +18,7 @@ invariant-attempts g l =
       number : l.number ≤ 16;
       room : is_fallback l.keep.kind ≡ false → l.number < 16;
       limit : f.extent l.fn.flash ≤ flash_limit;
+      pages : ArePages (f.bytes l.fn.flash) (f.extent l.fn.flash) l.pages.pages.entries;
       attached : f.attached l.flash ≡ f.attached l.fn.flash;
       extent : f.extent l.flash ≡ f.extent l.fn.flash;
       same : f.bytes l.flash ≡ f.bytes l.fn.flash;

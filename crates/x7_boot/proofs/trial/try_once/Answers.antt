@@ -1,8 +1,7 @@
-use Rattle.std.proofs.Common.{◌≡◌, ◌+◌, ◌<◌, ◌≤◌, ℕ, length, slice_range, sym, subst, refl, ap, ◌∙◌, arith}
-use Rattle.x7_words.specs.Flash.{WhereTold}
+use Rattle.std.proofs.Common.{◌+◌, ◌<◌, ℕ, length, sym, subst, refl, ◌∙◌, arith}
 use Rattle.x7_boot.specs.Attempt.{Feeds}
-use Rattle.x7_boot.specs.Pages.{page_end}
-use Rattle.x7_boot.proofs.TrialLemmas.{ends_here, feeds_first, feeds_on, known_ended, known_out, known_stopped, page_known, stops_here, within_page}
+use Rattle.x7_boot.proofs.PageLemmas.{pages_of, rest_fits, rest_goes, rest_told}
+use Rattle.x7_boot.proofs.TrialLemmas.{ends_here, feeds_first, feeds_on, feeds_ready, known_ended, known_out, known_stopped, stops_here}
 use Rattle.x7_boot.proofs.trial.try_once.Goals as goal
 
 pub pages-init : goal.pages-init
@@ -13,6 +12,7 @@ pages-init g c = record {
   extent = refl;
   same = refl;
   faults = omega arith;
+  kept = c.requires.pages;
   absences = refl;
   size = c.size-size.ensures.extent;
 }
@@ -29,15 +29,16 @@ returns-then-at-size-clause-tried g c =
 pub pages-preserved : goal.pages-preserved
 pages-preserved g c =
     let f = c.pages.invariant.feeds in
-    let e : c.size-size.result ≡ g.F.Flash.extent c.pages.flash = c.pages.invariant.size ∙ sym c.pages.invariant.extent in
-    let below : c.pages.at < c.size-size.result = omega (arith, c.if-at-size.false) in
-    let inside : c.pages.at ≤ page_end c.pages.at (g.F.Flash.extent c.pages.flash) = within_page c.pages.at (g.F.Flash.extent c.pages.flash) (omega (arith, e, below)) in
-    let told = page_known (g.F.Flash.bytes c.args.flash.now) (g.F.Flash.bytes c.pages.flash) c.deref.result.now c.read_page.new.page.items c.pages.at (page_end c.pages.at (g.F.Flash.extent c.pages.flash)) c.pages.invariant.same c.deref.ensures.value c.in-Ok.ensures.length inside c.in-Ok.ensures.read in
+    let known = g.F.Flash.bytes c.args.flash.now in
+    let extent = g.F.Flash.extent c.args.flash.now in
+    let below : c.pages.at < extent = omega (arith, c.if-at-size.false, c.pages.invariant.size) in
+    let are = pages_of known (g.F.Flash.bytes c.pages.flash) extent (g.F.Flash.extent c.pages.flash) c.load.new.self.pages.entries c.pages.invariant.same c.pages.invariant.extent c.load.ensures.pages in
+    let told = rest_told known extent c.pages.at c.rest_of_page-page.result.now below (c.rest_of_page-page.ensures known extent are below) in
     let t = c.take_page.ensures c.args.device.now.part c.args.keep f.bytes f.stands f.going f.open_end in
-    let long : c.len.result ≡ length c.deref.result.now = c.len.ensures ∙ sym c.deref.ensures.len in
     record {
-      feeds = feeds_on c.args.device.now.part c.args.keep c.args.address (g.F.Flash.bytes c.args.flash.now) c.pages.device c.take_page.new.device c.deref.result.now c.pages.at (c.pages.at + c.len.result) c.take_page.result (ap (λ (n : ℕ). c.pages.at + n) (sym long)) f
-          (subst (λ (m : ℕ). WhereTold (g.F.Flash.bytes c.args.flash.now) (λ all. c.deref.result.now ≡ slice_range all c.pages.at (c.pages.at + m))) (sym long) told) t c.in-Goes.is;
+      feeds = feeds_on c.args.device.now.part c.args.keep c.args.address (g.F.Flash.bytes c.args.flash.now) c.pages.device c.take_page.new.device c.rest_of_page-page.result.now c.pages.at (c.pages.at + length c.rest_of_page-page.result.now) c.take_page.result refl f
+          told t c.in-Goes.is;
+      kept = are;
       attached = c.in-Ok.ensures.attached ∙ c.pages.invariant.attached;
       extent = c.in-Ok.ensures.extent ∙ c.pages.invariant.extent;
       same = c.in-Ok.ensures.same ∙ c.pages.invariant.same;
@@ -49,25 +50,52 @@ pages-preserved g c =
 pub returns-in-Ends-clause-tried : goal.returns-in-Ends-clause-tried
 returns-in-Ends-clause-tried g c =
     let f = c.pages.invariant.feeds in
-    let e : c.size-size.result ≡ g.F.Flash.extent c.pages.flash = c.pages.invariant.size ∙ sym c.pages.invariant.extent in
-    let below : c.pages.at < c.size-size.result = omega (arith, c.if-at-size.false) in
-    let inside : c.pages.at ≤ page_end c.pages.at (g.F.Flash.extent c.pages.flash) = within_page c.pages.at (g.F.Flash.extent c.pages.flash) (omega (arith, e, below)) in
-    let told = page_known (g.F.Flash.bytes c.args.flash.now) (g.F.Flash.bytes c.pages.flash) c.deref.result.now c.read_page.new.page.items c.pages.at (page_end c.pages.at (g.F.Flash.extent c.pages.flash)) c.pages.invariant.same c.deref.ensures.value c.in-Ok.ensures.length inside c.in-Ok.ensures.read in
+    let known = g.F.Flash.bytes c.args.flash.now in
+    let extent = g.F.Flash.extent c.args.flash.now in
+    let below : c.pages.at < extent = omega (arith, c.if-at-size.false, c.pages.invariant.size) in
+    let are = pages_of known (g.F.Flash.bytes c.pages.flash) extent (g.F.Flash.extent c.pages.flash) c.load.new.self.pages.entries c.pages.invariant.same c.pages.invariant.extent c.load.ensures.pages in
+    let told = rest_told known extent c.pages.at c.rest_of_page-page.result.now below (c.rest_of_page-page.ensures known extent are below) in
     let t = c.take_page.ensures c.args.device.now.part c.args.keep f.bytes f.stands f.going f.open_end in
-    known_ended c.args.device.now.part c.args.keep c.args.address (g.F.Flash.bytes c.args.flash.now) c.pages.device c.take_page.new.device c.deref.result.now c.pages.at c.take_page.result c.in-Ends.ending f told t c.in-Ends.is
+    known_ended c.args.device.now.part c.args.keep c.args.address (g.F.Flash.bytes c.args.flash.now) c.pages.device c.take_page.new.device c.rest_of_page-page.result.now c.pages.at c.take_page.result c.in-Ends.ending f told t c.in-Ends.is
 
 pub run_out-requires-in-Stops : goal.run_out-requires-in-Stops
 run_out-requires-in-Stops g c =
     let f = c.pages.invariant.feeds in
-    stops_here c.args.device.now.part c.args.keep c.take_page.new.device f.bytes c.deref.result.now c.take_page.result c.requires.boots (c.take_page.ensures c.args.device.now.part c.args.keep f.bytes f.stands f.going f.open_end) c.in-Stops.is
+    stops_here c.args.device.now.part c.args.keep c.take_page.new.device f.bytes c.rest_of_page-page.result.now c.take_page.result c.requires.boots (c.take_page.ensures c.args.device.now.part c.args.keep f.bytes f.stands f.going f.open_end) c.in-Stops.is
 
 pub returns-in-Stops-clause-tried : goal.returns-in-Stops-clause-tried
 returns-in-Stops-clause-tried g c =
     let f = c.pages.invariant.feeds in
-    let e : c.size-size.result ≡ g.F.Flash.extent c.pages.flash = c.pages.invariant.size ∙ sym c.pages.invariant.extent in
-    let below : c.pages.at < c.size-size.result = omega (arith, c.if-at-size.false) in
-    let inside : c.pages.at ≤ page_end c.pages.at (g.F.Flash.extent c.pages.flash) = within_page c.pages.at (g.F.Flash.extent c.pages.flash) (omega (arith, e, below)) in
-    let told = page_known (g.F.Flash.bytes c.args.flash.now) (g.F.Flash.bytes c.pages.flash) c.deref.result.now c.read_page.new.page.items c.pages.at (page_end c.pages.at (g.F.Flash.extent c.pages.flash)) c.pages.invariant.same c.deref.ensures.value c.in-Ok.ensures.length inside c.in-Ok.ensures.read in
+    let known = g.F.Flash.bytes c.args.flash.now in
+    let extent = g.F.Flash.extent c.args.flash.now in
+    let below : c.pages.at < extent = omega (arith, c.if-at-size.false, c.pages.invariant.size) in
+    let are = pages_of known (g.F.Flash.bytes c.pages.flash) extent (g.F.Flash.extent c.pages.flash) c.load.new.self.pages.entries c.pages.invariant.same c.pages.invariant.extent c.load.ensures.pages in
+    let told = rest_told known extent c.pages.at c.rest_of_page-page.result.now below (c.rest_of_page-page.ensures known extent are below) in
     let t = c.take_page.ensures c.args.device.now.part c.args.keep f.bytes f.stands f.going f.open_end in
-    known_stopped c.args.device.now.part c.args.keep c.args.address (g.F.Flash.bytes c.args.flash.now) c.pages.device c.take_page.new.device c.run_out-in-Stops.new.device c.deref.result.now c.pages.at c.take_page.result c.run_out-in-Stops.result f told t c.in-Stops.is
+    known_stopped c.args.device.now.part c.args.keep c.args.address (g.F.Flash.bytes c.args.flash.now) c.pages.device c.take_page.new.device c.run_out-in-Stops.new.device c.rest_of_page-page.result.now c.pages.at c.take_page.result c.run_out-in-Stops.result f told t c.in-Stops.is
     (c.run_out-in-Stops.ensures.stands c.args.device.now.part c.args.keep _ t.stands) c.run_out-in-Stops.ensures.ending
+
+pub returns-then-at-size-clause-pages : goal.returns-then-at-size-clause-pages
+returns-then-at-size-clause-pages g c = c.pages.invariant.kept
+
+pub load-requires-clause-pages : goal.load-requires-clause-pages
+load-requires-clause-pages g c =
+    pages_of (g.F.Flash.bytes c.pages.flash) (g.F.Flash.bytes c.args.flash.now) (g.F.Flash.extent c.pages.flash) (g.F.Flash.extent c.args.flash.now) c.pages.pages.pages.entries (sym c.pages.invariant.same) (sym c.pages.invariant.extent) c.pages.invariant.kept
+
+pub take_page-requires : goal.take_page-requires
+take_page-requires g c =
+    let known = g.F.Flash.bytes c.args.flash.now in
+    let extent = g.F.Flash.extent c.args.flash.now in
+    let below : c.pages.at < extent = omega (arith, c.if-at-size.false, c.pages.invariant.size) in
+    let are = pages_of known (g.F.Flash.bytes c.pages.flash) extent (g.F.Flash.extent c.pages.flash) c.load.new.self.pages.entries c.pages.invariant.same c.pages.invariant.extent c.load.ensures.pages in
+    feeds_ready c.args.device.now.part c.args.keep c.args.address known c.pages.device c.pages.at (length c.rest_of_page-page.result.now)
+    (rest_fits known extent c.pages.at c.rest_of_page-page.result.now below c.requires.limit (c.rest_of_page-page.ensures known extent are below)) c.pages.invariant.feeds
+
+pub pages-smaller : goal.pages-smaller
+pages-smaller g c =
+    let known = g.F.Flash.bytes c.args.flash.now in
+    let extent = g.F.Flash.extent c.args.flash.now in
+    let below : c.pages.at < extent = omega (arith, c.if-at-size.false, c.pages.invariant.size) in
+    let are = pages_of known (g.F.Flash.bytes c.pages.flash) extent (g.F.Flash.extent c.pages.flash) c.load.new.self.pages.entries c.pages.invariant.same c.pages.invariant.extent c.load.ensures.pages in
+    let some = rest_goes known extent c.pages.at c.rest_of_page-page.result.now below (c.rest_of_page-page.ensures known extent are below) in
+    omega (arith, some, c.if-at-size.false)

@@ -1,0 +1,133 @@
+-- Lemmas on the pages of a flash that are kept, and on the rest of a page.
+use Rattle.std.proofs.Common.{◌≡◌, ◌+◌, ◌-◌, ◌*◌, ◌/◌, ◌%◌, ◌^◌, ◌<◌, ◌≤◌, ℕ, Bool, true, List, [], length, take, drop, slice_range, Option, None, Some, IsSome, is_some, Vec, nat_eq, min, refl, ap, sym, subst, ◌∙◌, drop-drop, length-drop, inl, inr, arith}
+use Rattle.std.proofs.lemmas.List.{drop-take, take_rest}
+use Rattle.std.specs.Map.{lookup, lookup_entry}
+use Rattle.std.specs.declared.alloc.Global.{Global}
+use Rattle.lru.specs.LruCache.{LruCache, lru_cache, promoted, put_entries}
+use Rattle.lru.proofs.CallerLemmas.{Contains-lookup, Contains-lookup_entry, Contains-promoted, Contains-put_entries, Contains-take}
+use Rattle.lru.proofs.Splits.{Contains-nil}
+use Rattle.x7_words.specs.Flash.{WhereTold}
+use Rattle.x7_boot.specs.Pages.{ArePages, HasPage, IsRest, Pages, page_end, page_size}
+
+-- ---- pages that are kept
+
+pub no_pages : (known : Option (List ℕ)) (extent : ℕ) → ArePages known extent []
+no_pages known extent page c = absurd (Contains-nil page c)
+
+pages_promoted : (known : Option (List ℕ)) (extent : ℕ) (test : ℕ → Bool) (pages : Pages) → ArePages known extent pages → ArePages known extent (promoted test pages)
+pages_promoted known extent test pages are page c = are page (Contains-promoted test pages page c)
+
+pub pages_on_promote : (known : Option (List ℕ)) (extent : ℕ) (test : ℕ → Bool) (cache new : LruCache ℕ (Vec ℕ Global)) → new ≡ lru_cache (promoted test cache.entries) cache.cap → ArePages known extent cache.entries → ArePages known extent new.entries
+pages_on_promote known extent test cache new e are = subst (λ (k : LruCache ℕ (Vec ℕ Global)). ArePages known extent k.entries) (sym e) (pages_promoted known extent test cache.entries are)
+
+pub pages_taken : (known : Option (List ℕ)) (extent n : ℕ) (pages : Pages) → ArePages known extent pages → ArePages known extent (take n pages)
+pages_taken known extent n pages are page c = are page (Contains-take n pages page c)
+
+same_number : (a b : ℕ) → nat_eq a b ≡ true → b ≡ a
+same_number a b e = grind arith
+
+-- with one more
+pub pages_put : (known : Option (List ℕ)) (extent : ℕ) (cache : LruCache ℕ (Vec ℕ Global)) (number : ℕ) (bytes : Vec ℕ Global) → ArePages known extent cache.entries → IsRest known extent (number * page_size) bytes.items
+    → ArePages known extent (put_entries nat_eq cache number bytes)
+pages_put known extent cache number bytes are here page c = elim (Contains-put_entries nat_eq cache number bytes page c) [
+  | inl was ↦ are page was
+  | inr new ↦
+      let key : page.0 ≡ number = elim new.1 [
+        | inl e ↦ e
+        | inr other ↦ same_number number page.0 other.2
+      ] in
+      subst (λ (n : ℕ). IsRest known extent (n * page_size) page.1.items) (sym key) (subst (λ (b : Vec ℕ Global). IsRest known extent (number * page_size) b.items) (sym new.0) here)
+]
+
+-- a page that was there is there
+pub there_promoted : (test : ℕ → Bool) (pages : Pages) → is_some (lookup test pages) ≡ true → IsSome (lookup test (promoted test pages))
+there_promoted test pages e = by (lookup_entry test pages) refl
+  where
+    by : (o : Option (ℕ × Vec ℕ Global)) → lookup_entry test pages ≡ o → IsSome (lookup test (promoted test pages))
+    by None h = rw h e
+    by (Some page) h = rw h (rw (Contains-lookup_entry test pages page h).1 refl)
+
+-- ---- the rest of a page
+
+start_of : (page : ℕ) → page * page_size / page_size ≡ page
+start_of page = grind arith
+
+-- a place stands before the end of its page
+pub within_page : (at extent : ℕ) → at < extent → at < page_end at extent
+within_page at extent l = grind arith
+
+pub begins_within : (at extent : ℕ) → at < extent → at / page_size * page_size < extent
+begins_within at extent l = omega (arith, l)
+
+told_from : (known : Option (List ℕ)) (bytes : List ℕ) (start more at end stop : ℕ) → start + more ≡ at → end ≡ stop → at ≤ stop → WhereTold known (λ all. bytes ≡ slice_range all start end)
+    → WhereTold known (λ all. drop more bytes ≡ slice_range all at stop)
+told_from None bytes start more at end stop e f l w = tt
+told_from (Some all) bytes start more at end stop e f l w =
+    let long : end - start ≡ more + (stop - at) = omega (arith, e, f, l) in
+    ap (drop more) (w ∙ ap (λ (n : ℕ). take n (drop start all)) long) ∙ drop-take more (stop - at) (drop start all)
+    ∙ ap (take (stop - at)) (drop-drop more start all ∙ ap (λ (n : ℕ). drop n all) e)
+
+-- the rest of a page from a place in it
+pub rest_from : (known : Option (List ℕ)) (extent at : ℕ) (bytes : List ℕ) → at < extent → IsRest known extent (at / page_size * page_size) bytes → IsRest known extent at (drop (at % page_size) bytes)
+rest_from known extent at bytes within r =
+    let page : ℕ = at / page_size in
+    let end : page_end (page * page_size) extent ≡ page_end at extent = ap (λ (n : ℕ). min ((n + 1) * page_size) extent) (start_of page) in
+    let sum : page * page_size + at % page_size ≡ at = omega arith in
+    let inside : at < page_end at extent = within_page at extent within in
+    record {
+      long = let l : length (drop (at % page_size) bytes) ≡ length bytes - at % page_size = length-drop (at % page_size) bytes in
+          let m : length bytes ≡ page_end (page * page_size) extent - page * page_size = r.long in
+          omega (arith, l, m, end, sum);
+      told = told_from known bytes (page * page_size) (at % page_size) at (page_end (page * page_size) extent) (page_end at extent) sum end (omega (arith, inside)) r.told;
+    }
+
+-- the page of a place, among those that are kept
+pub page_among : (known : Option (List ℕ)) (extent at : ℕ) (pages : Pages) (page : Vec ℕ Global) → ArePages known extent pages → lookup (nat_eq (at / page_size)) pages ≡ Some page → IsRest known extent (at / page_size * page_size) page.items
+page_among known extent at pages page are e =
+    let c = Contains-lookup (nat_eq (at / page_size)) pages page e in
+    subst (λ (n : ℕ). IsRest known extent (n * page_size) page.items) (same_number (at / page_size) c.0 c.2) (are (c.0, page) c.1)
+
+-- what a look-up gives, as the rest of the place's page
+pub rest_among : (known : Option (List ℕ)) (extent at : ℕ) (pages : Pages) (page : Vec ℕ Global) (bytes : List ℕ) → ArePages known extent pages → at < extent → lookup (nat_eq (at / page_size)) pages ≡ Some page → bytes ≡ page.items
+    → IsRest known extent at (take (length bytes - at % page_size) (drop (at % page_size) bytes))
+rest_among known extent at pages page bytes are within e f =
+    let whole : take (length bytes - at % page_size) (drop (at % page_size) bytes) ≡ drop (at % page_size) bytes = take_rest bytes (at % page_size) in
+    subst (IsRest known extent at) (sym (whole ∙ ap (drop (at % page_size)) f)) (rest_from known extent at page.items within (page_among known extent at pages page are e))
+
+pub place_in : (at : ℕ) (pages : Pages) (page : Vec ℕ Global) (bytes : List ℕ) → HasPage pages at → lookup (nat_eq (at / page_size)) pages ≡ Some page → bytes ≡ page.items → at % page_size ≤ length bytes
+place_in at pages page bytes has e f =
+    let r = page_among has.known has.extent at pages page has.are e in
+    let long : length page.items ≡ page_end (at / page_size * page_size) has.extent - at / page_size * page_size = r.long in
+    let end : page_end (at / page_size * page_size) has.extent ≡ page_end at has.extent = ap (λ (n : ℕ). min ((n + 1) * page_size) has.extent) (start_of (at / page_size)) in
+    let inside : at < page_end at has.extent = within_page at has.extent has.within in
+    let same : length bytes ≡ length page.items = ap length f in
+    omega (arith, long, end, inside, same)
+
+-- ---- in an attempt
+
+pub pages_of : (known told : Option (List ℕ)) (extent size : ℕ) (pages : Pages) → told ≡ known → size ≡ extent → ArePages told size pages → ArePages known extent pages
+pages_of known told extent size pages e f are page c =
+    subst (λ (k : Option (List ℕ)). IsRest k extent (page.0 * page_size) page.1.items) e (subst (λ (n : ℕ). IsRest told n (page.0 * page_size) page.1.items) f (are page c))
+
+pub rest_told : (known : Option (List ℕ)) (extent at : ℕ) (page : List ℕ) → at < extent → IsRest known extent at page → WhereTold known (λ all. page ≡ slice_range all at (at + length page))
+rest_told known extent at page within r =
+    let inside : at < page_end at extent = within_page at extent within in
+    let long : length page ≡ page_end at extent - at = r.long in
+    let end : page_end at extent ≡ at + length page = omega (arith, long, inside) in
+    subst (λ (n : ℕ). WhereTold known (λ all. page ≡ slice_range all at n)) end r.told
+
+pub rest_goes : (known : Option (List ℕ)) (extent at : ℕ) (page : List ℕ) → at < extent → IsRest known extent at page → 0 < length page
+rest_goes known extent at page within r =
+    let inside : at < page_end at extent = within_page at extent within in
+    let long : length page ≡ page_end at extent - at = r.long in
+    omega (arith, long, inside)
+
+pub rest_fits : (known : Option (List ℕ)) (extent at : ℕ) (page : List ℕ) → at < extent → extent ≤ 134217728 → IsRest known extent at page → at + length page ≤ 2 ^ 63
+rest_fits known extent at page within limit r =
+    let inside : at < page_end at extent = within_page at extent within in
+    let long : length page ≡ page_end at extent - at = r.long in
+    let most : page_end at extent ≤ extent = end_within at extent in
+    omega (arith, long, inside, most, limit)
+  where
+    end_within : (at extent : ℕ) → page_end at extent ≤ extent
+    end_within at extent = grind arith
