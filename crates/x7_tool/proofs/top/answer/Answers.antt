@@ -86,7 +86,7 @@ returns-in-Some-PlanRead-clause-ends g c =
 pub returns-in-Some-Gen-clause-ends : goal.returns-in-Some-Gen-clause-ends
 returns-in-Some-Gen-clause-ends g c =
     let flash = g.F.Flash.bytes c.args.flash.now in
-    ready_ends _ (Generating c.in-Some-Gen.part.now c.in-Some-Gen.seed) _ flash _ _ _ _ _ _ _ (seen whole_of c.generate.result) _
+    ready_ends _ (Generating c.in-Some-Gen.part.now c.in-Some-Gen.seed) _ flash _ _ _ _ _ _ _ _ _ (seen whole_of c.generate.result) _
     (sym c.words_of.ensures ∙ ap asked c.in-Some-Gen.is ∙ ap (λ f. Some (asked_by f)) c.in-Some-Gen.field-0-is) tt (c.generate.ensures flash) c.put_whole-in-Some-Gen.ensures
 
 pub returns-in-Some-Image-clause-ends : goal.returns-in-Some-Image-clause-ends
@@ -130,6 +130,9 @@ returns-in-Some-PlanRead-clause-near g c = elsewhere _ (PlanningRead c.in-Some-P
 pub returns-in-Some-Image-clause-near : goal.returns-in-Some-Image-clause-near
 returns-in-Some-Image-clause-near g c = elsewhere _ (Imaging c.in-Some-Image.part.now c.in-Some-Image.golden.now c.in-Some-Image.update.now) _ _ _ _ c.put_whole-in-Some-Image.result (sym c.words_of.ensures ∙ ap asked c.in-Some-Image.is ∙ ap (λ f. Some (asked_by f)) c.in-Some-Image.field-0-is) tt
 
+pub returns-in-Some-Gen-clause-near : goal.returns-in-Some-Gen-clause-near
+returns-in-Some-Gen-clause-near g c = elsewhere _ (Generating c.in-Some-Gen.part.now c.in-Some-Gen.seed) _ _ _ _ c.put_whole-in-Some-Gen.result (sym c.words_of.ensures ∙ ap asked c.in-Some-Gen.is ∙ ap (λ f. Some (asked_by f)) c.in-Some-Gen.field-0-is) tt
+
 pub returns-in-Some-Debug-clause-near : goal.returns-in-Some-Debug-clause-near
 returns-in-Some-Debug-clause-near g c = elsewhere _ (Debugging c.in-Some-Debug.part.now c.in-Some-Debug.stream.now c.in-Some-Debug.script.now) _ _ _ _ c.put_whole-in-Some-Debug.result (sym c.words_of.ensures ∙ ap asked c.in-Some-Debug.is ∙ ap (λ f. Some (asked_by f)) c.in-Some-Debug.field-0-is) tt
 
@@ -141,6 +144,9 @@ returns-in-Some-Boot-clause-ends g c =
     text_ends _ (Booting c.in-Some-Boot.part.now c.in-Some-Boot.name.now) _
     (λ x. RisesIn x (i.faults c.args.inputs.now) (i.faults now.inputs) (f.faults c.args.flash.now) (f.faults now.flash)) (λ x. RisesIn x (i.absences c.args.inputs.now) (i.absences now.inputs) (f.absences c.args.flash.now) (f.absences now.flash))
     _ _ _ (seen whole_of c.boot.result) _ (sym c.words_of.ensures ∙ ap asked c.in-Some-Boot.is ∙ ap (λ f. Some (asked_by f)) c.in-Some-Boot.field-0-is) tt c.boot.ensures.due c.put_whole-in-Some-Boot.ensures
+
+pub returns-in-Some-Boot-clause-near : goal.returns-in-Some-Boot-clause-near
+returns-in-Some-Boot-clause-near g c = elsewhere _ (Booting c.in-Some-Boot.part.now c.in-Some-Boot.name.now) _ _ _ _ c.put_whole-in-Some-Boot.result (sym c.words_of.ensures ∙ ap asked c.in-Some-Boot.is ∙ ap (λ f. Some (asked_by f)) c.in-Some-Boot.field-0-is) tt
 
 -- a boot names its flash
 pub returns-in-Some-Boot-clause-flash : goal.returns-in-Some-Boot-clause-flash
