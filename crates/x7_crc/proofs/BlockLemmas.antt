@@ -58,6 +58,11 @@ spread4 m n o v a b c =
     ∙ ap (λ t. bit_xor t (advanced 37 c)) (spread3 m n v a (advanced o b)
     ∙ ap (bit_xor (bit_xor (advanced (m + 37) v) (advanced (n + 37) a))) (sym (advanced-add o 37 b)))
 
+first_of_five : (a b c d e : ℕ) → bit_xor a (bit_xor (bit_xor (bit_xor b c) d) e) ≡ bit_xor (bit_xor (bit_xor (bit_xor a b) c) d) e
+first_of_five a b c d e =
+    sym (xor_assoc a (bit_xor (bit_xor b c) d) e)
+    ∙ ap (λ t. bit_xor t e) (sym (xor_assoc a (bit_xor b c) d) ∙ ap (λ t. bit_xor t d) (sym (xor_assoc a b c)))
+
 -- four writes
 pub four_writes : (v register a b c d none : ℕ) → v < 2 ^ 32 → register < 2 ^ 5 → a < 2 ^ 32 → b < 2 ^ 32 → c < 2 ^ 32 → d < 2 ^ 32 →
     none ≡ check_after 0 (writes_to register (0 ∷ 0 ∷ 0 ∷ 0 ∷ [])) →
@@ -86,6 +91,15 @@ four_writes v register a b c d none h k ha hb hc hd e =
     next_check 0 register 0 (0 ∷ 0 ∷ 0 ∷ []) (lit< tt) ∙ next_check z1 register 0 (0 ∷ 0 ∷ []) (fits 0 0) ∙ next_check z2 register 0 (0 ∷ []) (fits z1 0) in
     ap (bit_xor (bit_xor (bit_xor (bit_xor (advanced 148 (bit_xor v a)) (advanced 111 b)) (advanced 74 c)) (advanced 37 d))) (e ∙ whole0)
     ∙ sym (whole ∙ e4)
+
+-- the same, as the code adds them
+pub four_at_once : (v register a b c d none : ℕ) → v < 2 ^ 32 → register < 2 ^ 5 → a < 2 ^ 32 → b < 2 ^ 32 → c < 2 ^ 32 → d < 2 ^ 32 →
+    none ≡ check_after 0 (writes_to register (0 ∷ 0 ∷ 0 ∷ 0 ∷ [])) →
+    bit_xor (advanced 148 (bit_xor v a)) (bit_xor (bit_xor (bit_xor (advanced 111 b) (advanced 74 c)) (advanced 37 d)) none)
+    ≡ check_after v (writes_to register (a ∷ b ∷ c ∷ d ∷ []))
+four_at_once v register a b c d none h k ha hb hc hd e =
+    first_of_five (advanced 148 (bit_xor v a)) (advanced 111 b) (advanced 74 c) (advanced 37 d) none
+    ∙ four_writes v register a b c d none h k ha hb hc hd e
 
 -- four writes of 0, one by one
 pub four_zeros : (register one two three four : ℕ) → one ≡ check_after 0 ((register, 0) ∷ []) → two ≡ check_after one ((register, 0) ∷ []) →

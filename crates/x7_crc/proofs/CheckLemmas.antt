@@ -81,12 +81,6 @@ check_after-linear v register word h k l =
 pub check_of-more : (v : ℕ) (writes more : List (ℕ × ℕ)) → v ≡ check_of writes → check_after v more ≡ check_of (writes ++ more)
 check_of-more v writes more e = ap (λ x. check_after x more) e ∙ sym (check_after-append 0 writes more (lit< tt))
 
--- the two parts of a write, as the code takes them
-pub check_after_parts : (v register word first second : ℕ) → v < 2 ^ 32 → first ≡ shifted_all v (low_bits 32 word) →
-    second ≡ shifted_all first (low_bits 5 register) → second ≡ check_after v ((register, word) ∷ [])
-check_after_parts v register word first second h e f =
-    f ∙ ap (λ x. shifted_all x (low_bits 5 register)) e ∙ sym (check_after-write v register word h)
-
 -- ---- the words of a slice, by its chunks
 
 pub words_by_chunks : (n : ℕ) (bs : List ℕ) → length bs / 4 ≡ n → words_of_bytes bs ≡ map word_of_bytes (first_chunks 4 n bs)

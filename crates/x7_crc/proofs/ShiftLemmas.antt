@@ -1,8 +1,8 @@
 -- The shift register divides: after some bits it holds the remainder.
-use Rattle.std.proofs.Common.{◌≡◌, ◌==◌, ℕ, zero, suc, ◌+◌, ◌*◌, ◌/◌, ◌%◌, ◌^◌, ◌<◌, Bool, List, [], ◌∷◌, ◌++◌, length, bit_xor, bit_and, refl, sym, ap, ◌∙◌, arith, lit<, inl, inr, ◌⊎◌}
+use Rattle.std.proofs.Common.{◌≡◌, ◌==◌, ℕ, zero, suc, ◌+◌, ◌*◌, ◌/◌, ◌%◌, ◌^◌, ◌<◌, Bool, List, [], ◌∷◌, ◌++◌, length, bit_xor, refl, sym, ap, ◌∙◌, arith, lit<, inl, inr, ◌⊎◌}
 use Rattle.std.proofs.Math.Nat.{pow-suc, add-zero, zero-add, mul-one, zero-mul, mul_comm, mul_assoc}
 use Rattle.std.specs.Int.Bits.{xor_assoc, xor_self, xor_zero_l, xor_zero_r}
-use Rattle.std.proofs.lemmas.Nat.{pow-add, pow_pos, mul-add-lt, xor_comm, xor_shr, xor_mod, xor_block, xor_lt, and_mask}
+use Rattle.std.proofs.lemmas.Nat.{pow-add, pow_pos, mul-add-lt, xor_comm, xor_shr, xor_mod, xor_block, xor_lt}
 use Rattle.x7_crc.specs.Polynomial.{digit, from_highest, product, IsRemainder, mirrored, remainder}
 use Rattle.x7_crc.specs.RunningCheck.{generator, low_bits, dividend}
 use Rattle.x7_crc.specs.ShiftRegister.{shifted, shifted_all, advanced}
@@ -129,19 +129,6 @@ divided-shifted v bits h =
     let same : remainder generator 32 (length bits) (dividend v bits) ≡ mirrored 32 (shifted_all v bits) =
     one_remainder (dividend v bits) generator _ _ (omega arith) (omega arith) long (shifted_all-divides v bits h) in
     ap (mirrored 32) same ∙ mirrored-twice 32 (shifted_all v bits) (shifted_all_lt v bits h)
-
--- ---- bits of a number
-
-pub low_bits_more : (n m w : ℕ) → n ≡ suc m → low_bits n w ≡ (w % 2 == 1) ∷ low_bits m (w / 2)
-unfolding low_bits
-low_bits_more n m w e = rw e refl
-
-pub low_bits_none : (n w : ℕ) → n ≡ 0 → low_bits n w ≡ []
-unfolding low_bits
-low_bits_none n w e = rw e refl
-
-pub low_bit : (w : ℕ) → bit_and w 1 ≡ w % 2
-low_bit w = and_mask w 1
 
 -- ---- the register is linear
 

@@ -1,56 +1,11 @@
-//! The running check (UG470, cyclic redundancy check): of one write a bit at a time, of many words by tables.
+//! The running check (UG470, cyclic redundancy check): of one write, and of whole words to one register.
 ghost use Rattle.std.specs.Prelude.{◌≡◌, ◌<◌, ◌%◌, ◌++◌, List, [], ◌∷◌, bit_xor, length, ℕ};
-ghost use Rattle.x7_crc.specs.RunningCheck.{check_after, check_of, low_bits, writes_to};
-ghost use Rattle.x7_crc.specs.ShiftRegister.{shifted, shifted_all};
+ghost use Rattle.x7_crc.specs.RunningCheck.{check_after, check_of, writes_to};
 ghost use Rattle.std.specs.List.{flat_map};
 ghost use Rattle.x7_words.specs.Word.{words_of_bytes};
 
 use crate::table::{check_of_zeros, fold_by_tables, fold_four};
 use x7_words::word_of;
-
-/// The polynomial of CRC-32C, the coefficient of x^31 lowest (this project's choice).
-const POLYNOMIAL: u32 = 0x82F6_3B78;
-
-/// The check after one more bit.
-fn shift(check: u32, bit: bool) -> u32
-    ensures { result ≡ shifted check bit }
-{
-    let lowest = check & 1 == 1;
-    let half = check >> 1;
-    if lowest != bit {
-        half ^ POLYNOMIAL
-    } else {
-        half
-    }
-}
-
-/// The check after the 32 bits of a word, from the lowest.
-#[tactic(auto, using(crate::proofs::ShiftLemmas::low_bits_more, crate::proofs::ShiftLemmas::low_bits_none, crate::proofs::ShiftLemmas::low_bit))]
-fn shift_word(before: u32, word: u32) -> u32
-    ensures { result ≡ shifted_all before (low_bits 32 word) }
-{
-    let mut check = before;
-    let mut rest = word;
-    for _ in 0..32u32 {
-        check = shift(check, rest & 1 == 1);
-        rest >>= 1;
-    }
-    check
-}
-
-/// The check after the five bits of a register's number, from the lowest.
-#[tactic(auto, using(crate::proofs::ShiftLemmas::low_bits_more, crate::proofs::ShiftLemmas::low_bits_none, crate::proofs::ShiftLemmas::low_bit))]
-fn shift_register(before: u32, register: u8) -> u32
-    ensures { result ≡ shifted_all before (low_bits 5 register) }
-{
-    let mut check = before;
-    let mut rest = register;
-    for _ in 0..5u32 {
-        check = shift(check, rest & 1 == 1);
-        rest >>= 1;
-    }
-    check
-}
 
 /// The check after one more write, of a word to the register with this number, for any check before it. A check begins
 /// as 0.
@@ -60,7 +15,7 @@ pub fn fold(prev: u32, reg: u8, word: u32) -> u32
     ensures last { (writes : List (ℕ × ℕ)) → prev ≡ check_of writes → result ≡ check_of (writes ++ (reg, word) ∷ []) }
     ensures linear { result ≡ check_after 0 ((reg, bit_xor word prev) ∷ []) }
 {
-    shift_register(shift_word(prev, word), reg)
+    fold_by_tables(prev, reg, word)
 }
 
 /// The check after writes of whole words to one register, in order, for any check before them.

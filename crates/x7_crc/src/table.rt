@@ -34,8 +34,9 @@ pub(crate) fn fold_four(
 ) -> u32
     ensures { (reg : ℕ) → reg < 32 → zeros ≡ check_after 0 (writes_to reg (0 ∷ 0 ∷ 0 ∷ 0 ∷ [])) → result ≡ check_after prev (writes_to reg (first ∷ second ∷ third ∷ last ∷ [])) }
 {
-    let early = advance_first(prev ^ first) ^ advance_second(second);
-    early ^ advance_third(third) ^ advance_last(last) ^ zeros
+    // what doesn't wait for the check before comes first
+    let late = advance_second(second) ^ advance_third(third) ^ advance_last(last) ^ zeros;
+    advance_first(prev ^ first) ^ late
 }
 
 /// The check after the bits of four writes, all 0.
