@@ -2,7 +2,9 @@
 use Rattle.std.proofs.Common.{◌≡◌, ℕ, zero, suc, ◌+◌, ◌-◌, ◌*◌, ◌/◌, ◌%◌, ◌<◌, ◌≤◌, List, [], ◌∷◌, ◌++◌, length, get_or, set, take, drop, map, Option, Some, None, refl, sym, ap, ◌∙◌, arith, append_assoc, append-nil, length-append, true, lt-ltb}
 use Rattle.std.proofs.lemmas.List.{length-take-le, drop-drop, drop_all, take_all}
 use Rattle.std.proofs.lemmas.Option.{none-some}
+use Rattle.std.proofs.Math.Nat.{zero-add}
 use Rattle.x7_words.specs.Word.{word_of_bytes, words_of_bytes}
+use Rattle.x7_words.proofs.WordLemmas.{words_of_bytes-append}
 use Rattle.x7_part.specs.Part.{PartData}
 use Rattle.x7_part.specs.declared.slot.Slot.TheVariants.{End}
 use Rattle.x7_memory.specs.FrameMap.{FrameMap, AreSame}
@@ -133,6 +135,30 @@ whole part p q old new command base run source given frame s begins wide slot e 
           (write_allowed part m command base (onto f.front run) source given w.stands (λ a b. lt-ltb 0 (length (slots_from part p.base)) (omega arith)) (λ full. slot)) refl);
     }
 
+-- ---- frames one after the other
+
+-- the same of whatever the pipeline stood for
+abbrev pub Went : PartData → PipelineData → PipelineData → FrameMap → FrameMap → List ℕ → Type 0
+Went part p q old new words =
+    (command : Command) (base : ℕ) (run : List ℕ) (source : Option (List ℕ)) (given : ℕ) → StandsFor part p command base run source given →
+    Whole part q old new command base run source given words
+
+onto_more : (first second run : List ℕ) → onto (first ++ second) run ≡ onto second (onto first run)
+onto_more [] second run = refl
+onto_more (w ∷ first) second run = onto_more first second (w ∷ run)
+
+pub went_more : (part : PartData) (p q r : PipelineData) (old middle new : FrameMap) (first second all : List ℕ) → all ≡ first ++ second →
+    Went part p q old middle first → Went part q r middle new second → Went part p r old new all
+went_more part p q r old middle new first second all e before later command base run source given s =
+    let a : Whole part q old middle command base run source given first = before command base run source given s in
+    let b : Whole part r middle new command base (onto first run) source given second = later command base (onto first run) source given a.stands in
+    let same : onto all run ≡ onto second (onto first run) = ap (λ t. onto t run) e ∙ onto_more first second run in
+    record {
+      stands = rw same b.stands;
+      lands = rw same (lands_more part base run (onto first run) (onto second (onto first run)) old middle new a.lands b.lands);
+      passes = ap (λ t. (written part base run t).fault) e ∙ ap (λ (x : Written). x.fault) (written_some part base run first second a.passes) ∙ b.passes;
+    }
+
 -- one word
 pub passes_one : (part : PartData) (base w : ℕ) (run : List ℕ) → None ≡ write_fault part base run → (written part base run (w ∷ [])).fault ≡ None
 passes_one part base w run e = passes_next part base w run [] e (ap (λ (x : Written). x.fault) (written_end part base (w ∷ run)))
@@ -162,6 +188,16 @@ words_from at n bs e h =
     let split : words_of_bytes (drop at bs) ≡ words_of_bytes (take (n / 4 * 4) (drop at bs)) ++ words_of_bytes (drop (n / 4 * 4) (drop at bs)) = words_apart (n / 4) (drop at bs) (omega arith) in
     split ∙ ap (λ m. words_of_bytes (take m (drop at bs)) ++ words_of_bytes (drop m (drop at bs))) k
     ∙ ap (λ t. words_of_bytes (take n (drop at bs)) ++ words_of_bytes t) (drop-drop n at bs)
+
+take_sum : (at n : ℕ) (bs : List ℕ) → at + n ≤ length bs → take (at + n) bs ≡ take at bs ++ take n (drop at bs)
+take_sum zero n bs h = rw (zero-add n) refl
+take_sum (suc at) n [] h = absurd (omega arith)
+take_sum (suc at) n (b ∷ bs) h = let e : suc at + n ≡ suc (at + n) = omega arith in rw e (ap (λ t. b ∷ t) (take_sum at n bs (omega arith)))
+
+pub words_taken : (at n : ℕ) (bs : List ℕ) → at % 4 ≡ 0 → at + n ≤ length bs → words_of_bytes (take (at + n) bs) ≡ words_of_bytes (take at bs) ++ words_of_bytes (take n (drop at bs))
+words_taken at n bs e h =
+    let long : length (take at bs) ≡ at = length-take-le at bs (omega arith) in
+    ap words_of_bytes (take_sum at n bs h) ∙ words_of_bytes-append (at / 4) (take at bs) (take n (drop at bs)) (omega arith)
 
 -- ---- words written over words
 

@@ -18,7 +18,7 @@ ghost use Rattle.x7_pipeline.specs.Pipeline.{PipelineData, StandsFor, IsPipeline
 mod saved;
 
 use crate::fault::RunFault;
-use crate::place::{far_at, is_base, slot_at, slot_count, slot_read};
+use crate::place::{far_at, is_base, slot_count, slot_read};
 pub use saved::Saved;
 use std::alloc::Global;
 use std::marker::Model;
@@ -209,7 +209,7 @@ impl Pipeline {
         (at / 4, None)
     }
 
-    /// Writes the whole frame that comes next, where none has begun, or else the next word. It gives the number of bytes.
+    /// Writes the whole frames that come next, where none has begun, or else the next word. It gives the number of bytes.
     fn write_some(
         &mut self,
         bytes: &[u8],
@@ -236,8 +236,7 @@ impl Pipeline {
     {
         let size = 4 * self.width as usize;
         if size <= bytes.len() && self.takes_frame(part) {
-            self.write_frame(&bytes[..size], part, memory);
-            return Ok(size);
+            return Ok(self.write_frames(bytes, part, memory));
         }
         let word = word_of([bytes[0], bytes[1], bytes[2], bytes[3]]);
         match self.write(word, part, memory) {
@@ -254,20 +253,56 @@ impl Pipeline {
         self.rest.is_empty() && self.frame_count < slot_count(part, self.base)
     }
 
+    /// Writes the whole frames that come next, up to the last one that has a slot. The first one has. It gives the number of
+    /// bytes.
+    fn write_frames(&mut self, bytes: &[u8], part: &Part, memory: &mut Memory) -> usize
+        requires part { IsPipelineOf part.now self.old }
+        requires memory { AreFramesOf part.now memory.old }
+        requires begins { self.old.rest ≡ [] }
+        requires frame { 4 * self.old.width ≤ length bytes.now }
+        requires slot { self.old.frame_count < length (slots_from part.now self.old.base) }
+        ensures words { (1 ≤ result / 4) × (result % 4 ≡ 0) × (result ≤ length bytes.now) }
+        ensures stands { (command : Command) (base : ℕ) (run : List ℕ) (source : Option (List ℕ)) (given : ℕ) →
+            StandsFor part.now self.old command base run source given → StandsFor part.now self.new command base (onto (words_of_bytes (take result bytes.now)) run) source given }
+        ensures lands { (command : Command) (base : ℕ) (run : List ℕ) (source : Option (List ℕ)) (given : ℕ) →
+            StandsFor part.now self.old command base run source given →
+            Lands part.now base run (onto (words_of_bytes (take result bytes.now)) run) (frame_at part.now memory.old) (frame_at part.now memory.new) }
+        ensures passes { (command : Command) (base : ℕ) (run : List ℕ) (source : Option (List ℕ)) (given : ℕ) →
+            StandsFor part.now self.old command base run source given → (written part.now base run (words_of_bytes (take result bytes.now))).fault ≡ None }
+        ensures part { IsPipelineOf part.now self.new }
+        ensures memory { AreFramesOf part.now memory.new }
+    {
+        let size = 4 * self.width as usize;
+        let slots = slot_count(part, self.base);
+        self.write_frame(&bytes[..size], part, memory);
+        let mut at = size;
+        'frames: while self.has_next(size, bytes.len() - at, slots) {
+            self.write_frame(&bytes[at..at + size], part, memory);
+            at += size;
+        }
+        at
+    }
+
+    /// Whether a whole frame is left, and has one of so many slots.
+    fn has_next(&self, size: usize, left: usize, slots: u64) -> bool
+        ensures { IsTrue result → (size ≤ left) × (self.now.frame_count < slots) }
+    {
+        size <= left && self.frame_count < slots
+    }
+
     /// Puts the newest whole frame, and holds the next one.
     fn write_frame(&mut self, bytes: &[u8], part: &Part, memory: &mut Memory)
         requires part { IsPipelineOf part.now self.old }
         requires memory { AreFramesOf part.now memory.old }
         requires frame { length bytes.now ≡ 4 * self.old.width }
         requires slot { self.old.frame_count < length (slots_from part.now self.old.base) }
+        requires few { length (slots_from part.now self.old.base) < 2 ^ 31 }
         ensures held { self.new ≡ record self.old { newest = Some (words_of_bytes bytes.now); frame_count = self.old.frame_count + 1 } }
         ensures none { self.old.newest ≡ None → memory.new ≡ memory.old }
         ensures put { (frame : List ℕ) → self.old.newest ≡ Some frame →
             AreSame (frame_at part.now memory.new) (put_over (at_slot (slice_index_or (slots_from part.now self.old.base) (self.old.frame_count - 1) Slot.End) frame []) (frame_at part.now memory.old)) }
         ensures memory { AreFramesOf part.now memory.new }
     {
-        // a part has fewer slots than the count has room for
-        let _slots = slot_count(part, self.base);
         self.put_held(part, memory);
         hold(&mut self.held, bytes);
         self.frame_count += 1;
@@ -314,10 +349,11 @@ impl Pipeline {
         self.frame_count == 0 && self.rest.is_empty() && !is_base(part, self.base)
     }
 
-    /// Puts the newest whole frame, where there is one and its slot is an address.
+    /// Puts the newest whole frame, where there is one and its slot is an address. The base is one.
     fn put_held(&self, part: &Part, memory: &mut Memory)
         requires part { IsPipelineOf part.now self.now }
         requires memory { AreFramesOf part.now memory.old }
+        requires slot { self.now.frame_count < length (slots_from part.now self.now.base) }
         ensures none { self.now.newest ≡ None → memory.new ≡ memory.old }
         ensures put { (frame : List ℕ) → self.now.newest ≡ Some frame →
             AreSame (frame_at part.now memory.new) (put_over (at_slot (slice_index_or (slots_from part.now self.now.base) (self.now.frame_count - 1) Slot.End) frame []) (frame_at part.now memory.old)) }
@@ -326,7 +362,7 @@ impl Pipeline {
         if self.frame_count == 0 {
             return;
         }
-        if let Slot::Frame(far) = slot_at(part, self.base, self.frame_count - 1) {
+        if let Slot::Frame(far) = part.slot_after(self.base, self.frame_count - 1) {
             memory.put(part, far, &self.held);
         }
     }

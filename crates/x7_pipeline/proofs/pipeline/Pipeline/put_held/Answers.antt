@@ -1,11 +1,17 @@
-use Rattle.std.proofs.Common.{◌≡◌, ◌-◌, ◌∙◌, ap, refl, get_or}
+use Rattle.std.proofs.Common.{◌≡◌, ◌-◌, ◌∙◌, ap, refl, get_or, length, arith}
+use Rattle.std.proofs.lemmas.Bool.{lt-ltb}
 use Rattle.x7_memory.specs.Frames.{frame_at}
 use Rattle.x7_part.specs.declared.slot.Slot.TheVariants.{End}
 use Rattle.x7_pipeline.specs.Runs.{slots_from}
 use Rattle.x7_pipeline.specs.Pipeline.{PipelineData}
-use Rattle.x7_pipeline.proofs.SlotLemmas.{slot_address}
+use Rattle.x7_pipeline.proofs.SlotLemmas.{has_address, slot_address}
 use Rattle.x7_pipeline.proofs.StateLemmas.{put_frame, put_no_frame, kept_is, kept_none}
 use Rattle.x7_pipeline.proofs.pipeline.Pipeline.put_held.Goals as goal
+
+pub slot_after-requires : goal.slot_after-requires
+slot_after-requires c =
+    let slot = c.requires.slot in
+    record { address = rw (ap (λ (v : PipelineData). v.base) c.self.view_is) (has_address c.args.part.now c.args.self.now.base (lt-ltb 0 (length (slots_from c.args.part.now c.args.self.now.base)) (omega arith))) }
 
 pub put-requires-clause-address : goal.put-requires-clause-address
 put-requires-clause-address c = slot_address c.args.part.now c.self.inside.base (c.self.inside.frame_count - 1) c.in-Frame.far c.in-Frame.ensures
@@ -27,6 +33,6 @@ returns-in_default c =
     let slot = ap (λ (v : PipelineData). get_or (slots_from c.args.part.now v.base) (v.frame_count - 1) End) c.self.view_is in
     record {
       none = λ e. refl;
-      put = λ frame e. put_no_frame _ frame (frame_at c.args.part.now c.args.memory.now) (frame_at c.args.part.now c.args.memory.now) (λ far is. c.in_default.not-Frame far (c.slot_at.ensures ∙ slot ∙ is)) (λ a. refl);
+      put = λ frame e. put_no_frame _ frame (frame_at c.args.part.now c.args.memory.now) (frame_at c.args.part.now c.args.memory.now) (λ far is. c.in_default.not-Frame far (c.slot_after.ensures ∙ slot ∙ is)) (λ a. refl);
       memory = c.requires.memory;
     }
