@@ -8,9 +8,10 @@ ghost use Rattle.x7_engine.specs.Text.{bit_text, end_text, fault_text, frame_tex
 
 use crate::fault::Fault;
 use crate::regs::{End, Regs};
+use std::simd::prelude::*;
 use x7_regs::{Reg, name_of};
 use x7_text::{hex_of_block, hex_of_word, make_room, put, put_decimal};
-use x7_words::{NoMemory, bytes_of};
+use x7_words::NoMemory;
 
 /// Appends a name and the digits of a word.
 fn put_named_word(out: &mut Vec<u8>, name: &[u8], word: u32)
@@ -181,22 +182,22 @@ fn put_word(out: &mut Vec<u8>, word: u32)
 
 /// The bytes of eight words, the highest of each first.
 #[inline(always)]
+fn turned(words: u32x8) -> u8x32
+    requires { length words ≡ 8 }
+    ensures { result ≡ flat_map bytes_of_word words }
+{
+    words.to_le_bytes().swizzle([
+        3, 2, 1, 0, 7, 6, 5, 4, 11, 10, 9, 8, 15, 14, 13, 12, 19, 18, 17, 16, 23, 22, 21, 20, 27,
+        26, 25, 24, 31, 30, 29, 28,
+    ])
+}
+
+/// The same in arrays.
+#[inline(always)]
 fn bytes_of_words(words: &[u32; 8]) -> [u8; 32]
     ensures { result ≡ flat_map bytes_of_word words.now }
 {
-    let [a, b, c, d, e, f, g, h] = *words;
-    let [a0, a1, a2, a3] = bytes_of(a);
-    let [b0, b1, b2, b3] = bytes_of(b);
-    let [c0, c1, c2, c3] = bytes_of(c);
-    let [d0, d1, d2, d3] = bytes_of(d);
-    let [e0, e1, e2, e3] = bytes_of(e);
-    let [f0, f1, f2, f3] = bytes_of(f);
-    let [g0, g1, g2, g3] = bytes_of(g);
-    let [h0, h1, h2, h3] = bytes_of(h);
-    [
-        a0, a1, a2, a3, b0, b1, b2, b3, c0, c1, c2, c3, d0, d1, d2, d3, e0, e1, e2, e3, f0, f1, f2,
-        f3, g0, g1, g2, g3, h0, h1, h2, h3,
-    ]
+    turned(u32x8::from_array(*words)).to_array()
 }
 
 /// Appends the digits of eight words.
