@@ -1,5 +1,5 @@
 -- How far a lister's text is behind the bytes that it took.
-use Rattle.std.proofs.Common.{◌≡◌, ◌==◌, ℕ, suc, ◌+◌, ◌*◌, ◌-◌, ◌<◌, ◌≤◌, Bool, true, false, if◌then◌else◌, List, [], ◌∷◌, ◌++◌, length, map, take, refl, ap, sym, subst, ◌∙◌, append_assoc, arith, length-append, codes, flat_map, decimal}
+use Rattle.std.proofs.Common.{◌≡◌, ◌==◌, ℕ, suc, ◌+◌, ◌*◌, ◌-◌, ◌<◌, ◌≤◌, Bool, true, false, if◌then◌else◌, List, [], ◌∷◌, ◌++◌, length, map, take, refl, ap, sym, subst, ◌∙◌, append_assoc, append-nil, arith, length-append, codes, flat_map, decimal}
 use Rattle.std.specs.List.{AllByRecursion}
 use Rattle.std.proofs.lemmas.List.{length-map, length-take-le}
 use Rattle.x7_words.specs.Word.{bytes_of_word}
@@ -16,10 +16,13 @@ use Rattle.x7_regs.specs.Register.{reg_name}
 use Rattle.x7_text.proofs.LineLemmas.{bytes_closed}
 use Rattle.x7_listing.specs.HeadLine.{command_line, head_line, head_text, line_text}
 use Rattle.x7_listing.specs.Listing.{packets_text, session_text}
-use Rattle.x7_listing.specs.Telling.{ListerStandsFor, ListerState, payload_told, word_next, word_told, words_told}
+use Rattle.x7_listing.specs.Telling.{GapTold, ListerStandsFor, ListerState, Told, ToldAt, payload_told, word_next, word_told, words_told}
+use Rattle.x7_listing.specs.Taking.{TakerStandsFor}
+use Rattle.x7_packets.specs.declared.cutter.Mode.{Mode}
+use Rattle.x7_packets.specs.declared.cutter.Mode.TheVariants as mode
 use Rattle.x7_listing.specs.declared.line.HeadLine.{HeadLine}
 use Rattle.x7_listing.specs.declared.line.HeadLine.TheVariants as line
-use Rattle.x7_listing.proofs.FrontLemmas.{Front, session_over, sure_of, sure_place, sure_text, told_behind}
+use Rattle.x7_listing.proofs.FrontLemmas.{Front, place_sure, session_over, sure_of, sure_place, sure_text, told_behind}
 
 -- the text of bytes has at least a byte for each
 bytes_long : (i : ℕ) (xs : List ℕ) → length xs ≤ length (open_text 32 (codes "bytes ") hex_byte i xs)
@@ -111,3 +114,26 @@ few_held l given before bytes s =
     let t = s.tells in
     let r = t.cut.reading in
     omega (arith, ap length (told_behind l given before bytes s), length-append (before ++ flat_map session_text t.sessions) (sure_place t.at), length-append before (flat_map session_text t.sessions), ap length r.joined, length-append (flat_map session_bytes t.sessions) (place_bytes t.at), sessions_long t.sessions r.each, place_long t.at r.ends)
+
+-- a sync word is not told yet: it stands in the gap's bytes, of which all but those that are held are told
+due_long : (all start : List ℕ) (line : ℕ) (held gap : List ℕ) → GapTold all start line held (gap ++ sync_bytes) → length start + length (gap ++ sync_bytes) ≤ length all + 4
+due_long all start line held gap t =
+    omega (arith, ap length t.split, length-append t.front held, t.few, ap length t.told, length-append start (open_text 32 (codes "bytes ") hex_byte 0 t.front), bytes_long 0 t.front)
+
+told_long : (synced : Bool) (line : ℕ) (held all start : List ℕ) (place : Place) (m : Mode) → ToldAt synced line held all start place m → IsPlace place → length start + length (place_bytes place) ≤ length all + 4
+told_long false line held all start (Searching gap) m t p =
+    omega (arith, ap length t.split, length-append t.front held, t.few, ap length t.told, length-append start (open_text 32 (codes "bytes ") hex_byte 0 t.front), bytes_long 0 t.front)
+told_long false line held all start (Synced gap packets tail) m t p =
+    let bytes : place_bytes (Synced gap packets tail) ≡ gap ++ sync_bytes = rw (t.1, t.2) (append-nil (gap ++ sync_bytes ++ []) ∙ append-nil (gap ++ sync_bytes)) in
+    omega (arith, due_long all start line held gap t.3, ap length bytes)
+told_long true line held all start place m t p = omega (arith, ap length (told_sure_at line held all start place m t), length-append start (sure_place place), place_long place p)
+  where
+    told_sure_at : (line : ℕ) (held all start : List ℕ) (place : Place) (m : Mode) → ToldAt true line held all start place m → all ≡ start ++ sure_place place
+    told_sure_at line held all start (Searching gap) m t = place_sure true line held all start (Searching gap) mode.Searching (λ e. let f : mode.Searching ≡ mode.Due = e in cc) t
+    told_sure_at line held all start (Synced gap packets tail) m t = place_sure true line held all start (Synced gap packets tail) m t.0 t
+
+-- a lister that takes runs is at most four bytes behind too
+pub few_taken : (l : ListerState) (given before bytes : List ℕ) (due : Mode) → TakerStandsFor l given before bytes due → length before + length bytes ≤ length (given ++ l.text) + 4
+few_taken l given before bytes due t =
+    let r = t.reading in
+    omega (arith, told_long l.synced l.line l.held (given ++ l.text) (before ++ flat_map session_text t.sessions) t.at due t.told r.ends, length-append before (flat_map session_text t.sessions), ap length r.joined, length-append (flat_map session_bytes t.sessions) (place_bytes t.at), sessions_long t.sessions r.each)

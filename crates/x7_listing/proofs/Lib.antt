@@ -21,3 +21,4 @@ pub mod StreamLemmas
 pub mod TakeLemmas
 pub mod NearLemmas
 pub mod AtOnceLemmas
+pub mod TakingLemmas

@@ -8,3 +8,4 @@ pub mod Listed
 pub mod Listing
 pub mod StreamListing
 pub mod Telling
+pub mod Taking

@@ -10,6 +10,8 @@ ghost use Rattle.x7_listing.specs.BitLine.{bit_text, IsHeld};
 ghost use Rattle.x7_listing.specs.Listing.{IsListing, listing_of};
 ghost use Rattle.x7_listing.specs.StreamListing.{stream_listing};
 ghost use Rattle.x7_header.specs.Header.{Contents};
+ghost use Rattle.x7_packets.specs.declared.cutter.Mode.{Mode};
+ghost use Rattle.x7_listing.specs.Taking.{TakerStandsFor};
 ghost use Rattle.x7_listing.specs.Telling.{ListerStandsFor, ListerState};
 
 /// A list of bytes has at most one listing.
@@ -26,6 +28,12 @@ pub fn told_is_a_front()
 /// A lister's text is never more than four bytes behind the bytes that it took.
 pub fn few_bytes_are_held()
     ensures { (l : ListerState) (given before bytes : List ℕ) → ListerStandsFor l given before bytes
+        → length before + length bytes ≤ length (given ++ l.text) + 4 }
+{}
+
+/// The same of a lister that takes runs.
+pub fn few_bytes_of_runs_are_held()
+    ensures { (l : ListerState) (given before bytes : List ℕ) (due : Mode) → TakerStandsFor l given before bytes due
         → length before + length bytes ≤ length (given ++ l.text) + 4 }
 {}
 

@@ -1,6 +1,11 @@
 //! A lister of streams that come in pieces.
 ghost use Rattle.std.specs.Prelude.{◌≡◌, ℕ, ◌+◌, ◌*◌, ◌≤◌, List, [], ◌++◌, OnOk, OnErr, length, take, vec_len, vec_capacity};
+ghost use Rattle.x7_packets.specs.declared.cutter.Mode.{Mode};
+ghost use Rattle.x7_packets.specs.declared.cutter.Mode.TheVariants as mode;
+ghost use Rattle.x7_listing.specs.Taking.{TakerStandsFor};
 ghost use Rattle.x7_listing.specs.Telling.{Finished, ListerStandsFor, Rests, Tells};
+
+mod taking;
 
 use crate::at_once::{put_idle, put_write};
 use crate::pen::{Pen, new_pen, put_end, put_run};
@@ -60,6 +65,7 @@ impl Lister {
     pub fn new(alloc: Global) -> Lister
         ensures cleared { result.text ≡ [] }
         ensures begins { ListerStandsFor result [] [] [] }
+        ensures takes { TakerStandsFor result [] [] [] mode.Searching }
     {
         Lister {
             cutter: Cutter::new(),
@@ -79,6 +85,7 @@ impl Lister {
     pub fn clear_text(&mut self)
         ensures cleared { self.new.text ≡ [] }
         ensures given { (given before bytes : List ℕ) → ListerStandsFor self.old given before bytes → ListerStandsFor self.new (given ++ self.old.text) before bytes }
+        ensures taken { (given before bytes : List ℕ) (due : Mode) → TakerStandsFor self.old given before bytes due → TakerStandsFor self.new (given ++ self.old.text) before bytes due }
     {
         self.text.clear();
     }

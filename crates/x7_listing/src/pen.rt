@@ -3,7 +3,7 @@ ghost use Rattle.std.specs.Prelude.{◌≡◌, ℕ, ◌+◌, ◌*◌, ◌/◌, �
 ghost use Rattle.x7_words.specs.Word.{words_of_bytes};
 ghost use Rattle.x7_packets.specs.Packet.{payload_steps};
 ghost use Rattle.x7_packets.specs.Reading.{IsReading, Place, Session, tail_of};
-ghost use Rattle.x7_packets.specs.Cutting.{IsRun, run_bytes};
+ghost use Rattle.x7_packets.specs.Cutting.{IsNeed, IsRun, run_bytes};
 ghost use Rattle.x7_packets.specs.declared.cutter.Mode.{Mode};
 ghost use Rattle.x7_packets.specs.declared.cutter.Mode.TheVariants as mode;
 ghost use Rattle.x7_text.specs.Appends.{Appends};
@@ -56,6 +56,7 @@ pub(crate) fn in_session(line: usize) -> Pen
     requires { line < 8 }
     ensures synced { result.synced ≡ true }
     ensures line { result.line ≡ line }
+    ensures held { take result.count result.held ≡ [] }
 {
     Pen {
         synced: true,
@@ -193,6 +194,7 @@ pub(crate) fn put_run(text: &mut Vec<u8>, pen: Pen, run: Cut) -> Pen
     ensures room { vec_capacity text.old ≤ vec_capacity text.new }
     ensures told { (given : List ℕ) → Writes run.entry pen.synced pen.line (take pen.count pen.held) (given ++ text.old.items)
         result.synced result.line (take result.count result.held) (given ++ text.new.items) }
+    ensures held { (IsNeed run.entry → ⊥) → result.synced ≡ true → take result.count result.held ≡ [] }
 {
     match run {
         Cut::Need => pen,

@@ -15,3 +15,4 @@ pub mod AppendedLemmas
 pub mod EndedLemmas
 pub mod OnceLemmas
 pub mod AtOnceLemmas
+pub mod RunningLemmas

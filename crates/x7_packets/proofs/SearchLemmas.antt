@@ -45,18 +45,24 @@ none_found gap bytes n o = record { none = λ front back e. nowhere gap bytes fr
 pub passed : (gap bytes : List ℕ) (i : ℕ) → i < length bytes → gap ++ take (i + 1) bytes ≡ (gap ++ take i bytes) ++ get_or bytes i 0 ∷ []
 passed gap bytes i h = ap (λ t. gap ++ t) (take_more bytes i 0 h) ∙ sym (append_assoc gap (take i bytes) (get_or bytes i 0 ∷ []))
 
--- a search in the first three bytes that found the sync word
-pub found_in_seam : (gap bytes : List ℕ) (r : Option ℕ) (m : LastThree) → is_some r ≡ true → IfSome r (λ n. (0 < n) × (n ≤ length (take 3 bytes))) → Searched gap (take 3 bytes) r m → Searched gap bytes r m
-found_in_seam gap bytes None m e w s = absurd (cc)
-found_in_seam gap bytes (Some n) m e w s =
-    let few : n ≤ 3 = omega (arith, w.1, length-take 3 bytes) in
-    let same : take n (take 3 bytes) ≡ take n bytes = take-take n 3 bytes few in
+-- a search in the first bytes that found the sync word
+pub found_near : (gap bytes : List ℕ) (near : ℕ) (r : Option ℕ) (m : LastThree) → is_some r ≡ true → IfSome r (λ n. (0 < n) × (n ≤ length (take near bytes))) → Searched gap (take near bytes) r m → Searched gap bytes r m
+found_near gap bytes near None m e w s = absurd (cc)
+found_near gap bytes near (Some n) m e w s =
+    let few : n ≤ near = omega (arith, w.1, length-take near bytes) in
+    let same : take n (take near bytes) ≡ take n bytes = take-take n near bytes few in
     (s.0, ap (λ t. gap ++ t) (sym same) ∙ s.1, s.2)
 
--- a search in the first three bytes that found none
-pub none_in_seam : (gap bytes : List ℕ) (r : Option ℕ) (m : LastThree) → is_some r ≡ false → Searched gap (take 3 bytes) r m → HasNoSync (gap ++ take 3 bytes)
-none_in_seam gap bytes None m e s = s.0
-none_in_seam gap bytes (Some n) m e s = absurd (cc)
+-- a search in the first bytes, three at least, that found none
+pub none_near : (gap bytes : List ℕ) (near : ℕ) (r : Option ℕ) (m : LastThree) → 3 ≤ near → is_some r ≡ false → Searched gap (take near bytes) r m → HasNoSync (gap ++ take 3 bytes)
+none_near gap bytes near None m h e s =
+    let parts : take near bytes ≡ take 3 bytes ++ drop 3 (take near bytes) = sym (take-append-drop 3 (take near bytes)) ∙ ap (λ t. t ++ drop 3 (take near bytes)) (take-take 3 near bytes h) in
+    record {
+      none = λ front back w. s.0.none front (back ++ drop 3 (take near bytes)) (
+          ap (λ t. gap ++ t) parts ∙ sym (append_assoc gap (take 3 bytes) (drop 3 (take near bytes)))
+          ∙ ap (λ t. t ++ drop 3 (take near bytes)) w ∙ append_assoc (front ++ sync_bytes) back (drop 3 (take near bytes)));
+    }
+none_near gap bytes near (Some n) m h e s = absurd (cc)
 
 -- the sync word stands in a front of the bytes as it stands in them
 occurs_in_front : (bytes : List ℕ) (n k : ℕ) → OccursAt (take n bytes) sync_bytes k → (k + 4 ≤ n) × OccursAt bytes sync_bytes k

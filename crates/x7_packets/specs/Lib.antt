@@ -12,3 +12,6 @@ pub mod Nops
 pub mod Appended
 pub mod AtOnce
 pub mod Ended
+pub mod PacketsState
+pub mod Run
+pub mod Running

@@ -120,6 +120,14 @@ impl Cutter {
         &self.kept[..self.count]
     }
 
+    /// What it keeps is the tail of the bytes taken. For proofs alone: it does nothing.
+    #[inline(always)]
+    pub(crate) fn keeps_the_tail(&self)
+        ensures { (bytes : List ℕ) (sessions : List Session) (place : Place) → CutterStandsFor self.now bytes sessions place → self.now.kept ≡ tail_of place }
+    {
+        let _ = &self.mode;
+    }
+
     /// Whether the bytes taken end in a session. It begins just behind its sync word, before that is told.
     pub fn is_synced(&self) -> bool
         ensures synced { (bytes : List ℕ) (sessions : List Session) (place : Place) → CutterStandsFor self.now bytes sessions place → result ≡ is_synced place }

@@ -8,6 +8,7 @@ mod header;
 mod laws;
 mod machine;
 mod nops;
+mod stream;
 mod sync;
 #[cfg(test)]
 mod tests;
@@ -24,4 +25,5 @@ pub use laws::{
     words_enter,
 };
 pub use machine::Machine;
+pub use stream::{Packets, Run};
 pub use sync::Matcher;

@@ -9,6 +9,10 @@ use std::marker::Model;
 /// The sync word's bytes (UG470, sync word).
 const SYNC: [u8; 4] = [0xAA, 0x99, 0x55, 0x66];
 
+/// How many bytes are searched byte by byte, before the searcher of long gaps is made: more than a short gap between two
+/// sessions has.
+const NEAR: usize = 16;
+
 /// Whether four bytes are the sync word.
 fn is_sync(bytes: [u8; 4]) -> bool
     ensures { IsTrue result ↔ (bytes ≡ sync_bytes) }
@@ -69,12 +73,12 @@ impl Matcher {
         ensures within { IfSome result (λ n. (0 < n) × (n ≤ length bytes.now)) }
         ensures found { (gap : List ℕ) → MatcherStandsFor self.old gap → HasNoSync gap → Searched gap bytes.now result self.new }
     {
-        if bytes.len() < 4 {
+        if bytes.len() < NEAR {
             return self.search_bytewise(bytes);
         }
-        let seam = self.search_bytewise(&bytes[..3]);
-        if seam.is_some() {
-            return seam;
+        let near = self.search_bytewise(&bytes[..NEAR]);
+        if near.is_some() {
+            return near;
         }
         match memmem::find(bytes, &SYNC) {
             Some(at) => Some(at + 4),

@@ -1,0 +1,10 @@
+use Rattle.std.proofs.Common.{refl, ap, ◌∙◌, take}
+use Rattle.x7_listing.proofs.TakingLemmas.{last_kept}
+use Rattle.x7_listing.proofs.lister.taking.put_last.Goals as goal
+
+pub returns : goal.returns
+returns c = record {
+  told = λ given before bytes sessions place m t d r k.
+      let kept = last_kept c.args.pen.synced c.args.pen.line c.args.pen.count c.args.pen.held _ before bytes sessions place m t d r k in
+      c.put_end.ensures.told given before bytes sessions place m t d r (ap (λ n. take n c.args.pen.held) c.tail_len.ensures ∙ kept);
+}

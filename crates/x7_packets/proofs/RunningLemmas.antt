@@ -1,0 +1,654 @@
+-- Lemmas on specs/Running.
+use Rattle.std.proofs.Common.{Option, ◌≡◌, ◌≢◌, ℕ, ◌+◌, ◌*◌, ◌-◌, ◌<◌, ◌≤◌, ◌↔◌, Bool, true, false, List, [], ◌∷◌, ◌++◌, length, take, drop, Bor, inl, inr, refl, ap, sym, subst, ◌∙◌, append_assoc, append-nil, arith, length-append, length-take, if◌then◌else◌, ◌⊎◌, suc}
+use Rattle.std.specs.Bool.{⊤}
+use Rattle.std.proofs.lemmas.List.{drop-drop, drop-take, length-take-le, take-append-drop, take-take, take_all, take_at, drop_all}
+use Rattle.x7_words.specs.Input.{AtEnd, preceded}
+use Rattle.x7_words.proofs.InputLemmas.{preceded-nil, preceded-preceded}
+use Rattle.x7_words.specs.Word.{words_of_bytes}
+use Rattle.x7_packets.specs.SyncWord.{sync_bytes}
+use Rattle.x7_packets.specs.Packet.{Packet, ended, payload_steps}
+use Rattle.x7_packets.specs.Reading.{Place, Searching, Synced, Session, IsPlace, IsReading, tail_of}
+use Rattle.x7_packets.specs.Cutting.{Adds, CompletesNone, CutterState, CutterStandsFor, Cuts, Goes, IsLent, IsNeed, IsRun, Longer, Turns, Went, between, calls_left, run_bytes}
+use Rattle.x7_packets.specs.declared.header.Step.{Step}
+use Rattle.x7_packets.specs.declared.cutter.Cut.{Cut}
+use Rattle.x7_packets.specs.declared.cutter.Cut.TheVariants as cut
+use Rattle.x7_packets.specs.declared.cutter.Mode.{Mode}
+use Rattle.x7_packets.specs.declared.cutter.Mode.TheVariants as mode
+use Rattle.x7_packets.specs.declared.stream.Found.{Found}
+use Rattle.x7_packets.specs.declared.stream.Found.TheVariants as found
+use Rattle.x7_packets.specs.declared.stream.Run.{Run}
+use Rattle.x7_packets.specs.declared.stream.Run.TheVariants as run
+use Rattle.x7_packets.specs.PacketsState.{PacketsState}
+use Rattle.x7_packets.specs.Run.{FitsRun, IsNext, RunAdds, cut_of, is_last, told_bytes}
+use Rattle.x7_packets.specs.Running.{Fills, GivesRun, GivesUp, IsCutOff, IsFound, IsLast, IsRunOf, PacketsStandFor, Reads, SameDue, Steps, Tells, filled, untold, with_tail}
+
+-- how many reads there are at most until a word is whole
+abbrev pub turns_left : List ℕ → List ℕ → ℕ
+turns_left kept [] = 2 * (4 - length kept) + 1
+turns_left kept (b ∷ left) = 2 * (4 - length kept)
+
+-- ---- places and their tails
+
+tail_of_with : (gap : List ℕ) (packets : List Packet) (tail t : List ℕ) → tail_of (with_tail t (Synced gap packets tail)) ≡ t
+tail_of_with gap packets tail t = refl
+
+with_own_tail : (place : Place) → with_tail (tail_of place) place ≡ place
+with_own_tail (Searching gap) = refl
+with_own_tail (Synced gap packets tail) = refl
+
+with_tail_twice : (t u : List ℕ) (place : Place) → with_tail t (with_tail u place) ≡ with_tail t place
+with_tail_twice t u (Searching gap) = refl
+with_tail_twice t u (Synced gap packets tail) = refl
+
+bare_is : (place : Place) → tail_of place ≡ [] → with_tail [] place ≡ place
+bare_is (Searching gap) e = refl
+bare_is (Synced gap packets tail) e = ap (Synced gap packets) (sym e)
+
+-- ---- what a run adds, whatever bytes are kept behind the words before it
+
+longer_bare : {gap : List ℕ} {packets : List Packet} {more : List (ℕ × Step)} {sessions new_sessions : List Session} {new : Place} (b : Bool) (l : Longer gap packets more sessions new_sessions new) → ended l.all ≡ b → tail_of new ≡ []
+longer_bare true l e = ap tail_of (l.ends e).1
+longer_bare false l e = ap tail_of (l.goes_on e).1
+
+pub bare_after : (c : Cut) (sessions : List Session) (place : Place) (new_sessions : List Session) (new : Place) → (IsNeed c → ⊥) → Adds c sessions place new_sessions new → tail_of new ≡ []
+bare_after cut.Need sessions place ns n never a = absurd (never tt)
+bare_after (cut.Skip bytes) sessions (Searching gap) ns n never a = elim a.1 [
+  | inl e ↦ ap tail_of e
+  | inr f ↦ ap tail_of f.2
+]
+bare_after (cut.Skip bytes) sessions (Synced gap packets tail) ns n never a = absurd a
+bare_after cut.Sync sessions (Searching gap) ns n never a = absurd a
+bare_after cut.Sync sessions (Synced gap packets tail) ns n never a = ap tail_of a.3
+bare_after (cut.Head w step) sessions (Searching gap) ns n never a = absurd a
+bare_after (cut.Head w step) sessions (Synced gap packets tail) ns n never a = longer_bare (ended a.all) a refl
+bare_after (cut.Word register w) sessions (Searching gap) ns n never a = absurd a
+bare_after (cut.Word register w) sessions (Synced gap packets tail) ns n never a = longer_bare (ended a.all) a refl
+bare_after (cut.Body register bytes) sessions (Searching gap) ns n never a = absurd a
+bare_after (cut.Body register bytes) sessions (Synced gap packets tail) ns n never a = longer_bare (ended a.all) a refl
+
+adds_bare : (c : Cut) (t : List ℕ) (sessions : List Session) (place : Place) (new_sessions : List Session) (new : Place) → (IsNeed c → ⊥) → tail_of place ≡ [] → Adds c sessions (with_tail t place) new_sessions new → Adds c sessions place new_sessions new
+adds_bare cut.Need t sessions place ns n never e a = absurd (never tt)
+adds_bare (cut.Skip bytes) t sessions (Searching gap) ns n never e a = a
+adds_bare (cut.Skip bytes) t sessions (Synced gap packets tail) ns n never e a = absurd a
+adds_bare cut.Sync t sessions (Searching gap) ns n never e a = absurd a
+adds_bare cut.Sync t sessions (Synced gap packets tail) ns n never e a = (a.0, e, a.2, a.3)
+adds_bare (cut.Head w step) t sessions (Searching gap) ns n never e a = absurd a
+adds_bare (cut.Head w step) t sessions (Synced gap packets tail) ns n never e a = a
+adds_bare (cut.Word register w) t sessions (Searching gap) ns n never e a = absurd a
+adds_bare (cut.Word register w) t sessions (Synced gap packets tail) ns n never e a = a
+adds_bare (cut.Body register bytes) t sessions (Searching gap) ns n never e a = absurd a
+adds_bare (cut.Body register bytes) t sessions (Synced gap packets tail) ns n never e a = a
+
+-- ---- a run that is cut, and the same run as it is lent
+
+-- the run tells what was cut
+record Same (c : Cut) (r : Run) : Type 0 where
+  bytes : told_bytes r ≡ run_bytes c
+  adds : (sessions new_sessions : List Session) (place new : Place) → Adds c sessions place new_sessions new → RunAdds r sessions place new_sessions new
+  turns : (old new : Mode) (place : Place) → Turns c old new place → Turns (cut_of r) old new place
+  is : IsRun c → FitsRun r
+  goes_on : is_last r ≡ false
+
+skip_alike : (a b : Bor (List ℕ)) (sessions new_sessions : List Session) (place new : Place) → b.now ≡ a.now → Adds (cut.Skip a) sessions place new_sessions new → Adds (cut.Skip b) sessions place new_sessions new
+skip_alike a b sessions ns (Searching gap) new e h = subst (λ t. (ns ≡ sessions) × ((new ≡ Searching (gap ++ t)) ⊎ ((front : List ℕ) × (gap ++ t ≡ front ++ sync_bytes) × (new ≡ Synced front [] [])))) (sym e) h
+skip_alike a b sessions ns (Synced gap packets tail) new e h = absurd h
+
+skip_turns : (a b : Bor (List ℕ)) (old new : Mode) (place : Place) → Turns (cut.Skip a) old new place → Turns (cut.Skip b) old new place
+skip_turns a b old new (Searching gap) h = h
+skip_turns a b old new (Synced gap packets tail) h = h
+
+body_alike : (register : ℕ) (a b : Bor (List ℕ)) (sessions new_sessions : List Session) (place new : Place) → b.now ≡ a.now → Adds (cut.Body register a) sessions place new_sessions new → Adds (cut.Body register b) sessions place new_sessions new
+body_alike register a b sessions ns (Searching gap) new e h = absurd h
+body_alike register a b sessions ns (Synced gap packets tail) new e h = subst (λ t. Longer gap packets (payload_steps register (words_of_bytes t)) sessions ns new) (sym e) h
+
+same_skip : (a b : Bor (List ℕ)) → b.now ≡ a.now → Same (cut.Skip a) (run.Skip b)
+same_skip a b e = record {
+  bytes = e;
+  adds = λ sessions ns place new h. skip_alike a b sessions ns place new e h;
+  turns = λ old new place h. skip_turns a b old new place h;
+  is = λ h. rw e h;
+  goes_on = refl;
+}
+
+same_body : (register : ℕ) (a b : Bor (List ℕ)) → b.now ≡ a.now → Same (cut.Body register a) (run.Body register b)
+same_body register a b e = record {
+  bytes = e;
+  adds = λ sessions ns place new h. body_alike register a b sessions ns place new e h;
+  turns = λ old new place h. h;
+  is = λ h. rw e h;
+  goes_on = refl;
+}
+
+-- the bytes that a run lends are those that were cut
+abbrev Lends : Cut → List ℕ → Type 0
+Lends (cut.Skip bytes) all = bytes.now ≡ all
+Lends (cut.Body register bytes) all = bytes.now ≡ all
+Lends c all = ⊤
+
+same_run : (f : Found) (c : Cut) (r : Run) (bytes kept : List ℕ) → IsFound f c → IsRunOf f bytes kept r → Lends c bytes → Same c r
+same_run found.Skip c r bytes kept i l h =
+    let there : Lends (cut.Skip i.0) bytes = subst (λ x. Lends x bytes) i.1 h in
+    rw (i.1, l.1) (same_skip i.0 l.0 (l.2 ∙ sym there))
+same_run found.Sync c r bytes kept i l h = rw (i, l) (record { bytes = refl; adds = λ s ns p n x. x; turns = λ o n p x. x; is = λ x. x; goes_on = refl })
+same_run (found.Head w step) c r bytes kept i l h = rw (i, l) (record { bytes = refl; adds = λ s ns p n x. x; turns = λ o n p x. x; is = λ x. x; goes_on = refl })
+same_run (found.Word register w) c r bytes kept i l h = rw (i, l) (record { bytes = refl; adds = λ s ns p n x. x; turns = λ o n p x. x; is = λ x. x; goes_on = refl })
+same_run (found.Body register) c r bytes kept i l h =
+    let there : Lends (cut.Body register i.0) bytes = subst (λ x. Lends x bytes) i.1 h in
+    rw (i.1, l.1) (same_body register i.0 l.0 (l.2 ∙ sym there))
+same_run found.Tail c r bytes kept i l h = absurd i
+same_run found.End c r bytes kept i l h = absurd i
+
+-- a run that is found is no want of bytes
+found_needs_none : (f : Found) (c : Cut) → IsFound f c → IsNeed c → ⊥
+found_needs_none found.Skip c i n = let h : IsNeed (cut.Skip i.0) = subst IsNeed i.1 n in h
+found_needs_none found.Sync c i n = let h : IsNeed cut.Sync = subst IsNeed i n in h
+found_needs_none (found.Head w step) c i n = let h : IsNeed (cut.Head w step) = subst IsNeed i n in h
+found_needs_none (found.Word register w) c i n = let h : IsNeed (cut.Word register w) = subst IsNeed i n in h
+found_needs_none (found.Body register) c i n = let h : IsNeed (cut.Body register i.0) = subst IsNeed i.1 n in h
+found_needs_none found.Tail c i n = i
+found_needs_none found.End c i n = i
+
+-- ---- one call of the cutter
+
+-- a call of the cutter on all bytes that are left
+pub cuts_whole : (c n : CutterState) (rest : List ℕ) (count : ℕ) (r : Cut) → Goes r (length rest - count) (calls_left c (length rest - 0)) (calls_left n (length rest - count))
+    → (IsNeed r ↔ CompletesNone c c.mode (length rest - 0)) → c.kept ++ between rest 0 count ≡ run_bytes r ++ n.kept → IsRun r → IsLent c (length rest - 0) r
+    → ((bytes : List ℕ) (sessions : List Session) (place : Place) → CutterStandsFor c bytes sessions place → Went c n (bytes ++ between rest 0 count) sessions place r)
+    → Cuts c n rest count r
+cuts_whole c n rest count r g nd j i l a =
+    let all : length rest - 0 ≡ length rest = omega arith in
+    let from : count - 0 ≡ count = omega arith in
+    record {
+      goes = subst (λ (m : ℕ). Goes r (length rest - count) (calls_left c m) (calls_left n (length rest - count))) all g;
+      need = subst (λ (m : ℕ). IsNeed r ↔ CompletesNone c c.mode m) all nd;
+      joined = subst (λ (m : ℕ). c.kept ++ take m rest ≡ run_bytes r ++ n.kept) from j;
+      run = i;
+      lent = subst (λ (m : ℕ). IsLent c m r) all l;
+      adds = λ bytes sessions place s. subst (λ (m : ℕ). Went c n (bytes ++ take m rest) sessions place r) from (a bytes sessions place s);
+    }
+
+-- bytes taken of those from one place to another
+pub within_piece : (items piece : List ℕ) (at end n : ℕ) → piece ≡ items → at ≤ end → n ≤ length (between piece at end) → at + n ≤ end
+within_piece items piece at end n e h l = omega (arith, h, l, length-take (end - at) (drop at piece))
+
+-- what is left of a buffer behind bytes that were taken, and these bytes
+pub left_behind : (items : List ℕ) (at end n : ℕ) → at + n ≤ end → between items (at + n) end ≡ drop n (between items at end)
+left_behind items at end n h =
+    let parts : end - at ≡ n + (end - (at + n)) = omega (arith, h) in
+    sym (ap (λ k. drop n (take k (drop at items))) parts ∙ drop-take n (end - (at + n)) (drop at items) ∙ ap (take (end - (at + n))) (drop-drop n at items))
+
+pub taken_of : (items : List ℕ) (at end n : ℕ) → at + n ≤ end → between items at (at + n) ≡ take n (between items at end)
+taken_of items at end n h =
+    let count : at + n - at ≡ n = omega arith in
+    ap (λ k. take k (drop at items)) count ∙ sym (take-take n (end - at) (drop at items) (omega (arith, h)))
+
+-- where no byte is kept before and after it, a run's bytes are those that were taken
+lends : (old new : CutterState) (left taken : List ℕ) (count : ℕ) (c : Cut) (sessions new_sessions : List Session) (place new_place : Place) → IsLent old count c → Adds c sessions place new_sessions new_place
+    → old.kept ≡ tail_of place → new.kept ≡ [] → old.kept ++ taken ≡ run_bytes c ++ new.kept → Lends c taken
+lends old new left taken count (cut.Skip b) sessions ns (Searching gap) np l a k none j = sym (append-nil b.now) ∙ ap (λ t. b.now ++ t) (sym none) ∙ sym j ∙ ap (λ t. t ++ taken) k
+lends old new left taken count (cut.Skip b) sessions ns (Synced gap packets tail) np l a k none j = absurd a
+lends old new left taken count (cut.Body register b) sessions ns place np l a k none j = sym (append-nil b.now) ∙ ap (λ t. b.now ++ t) (sym none) ∙ sym j ∙ ap (λ t. t ++ taken) l.0
+lends old new left taken count cut.Need sessions ns place np l a k none j = tt
+lends old new left taken count cut.Sync sessions ns place np l a k none j = tt
+lends old new left taken count (cut.Head w step) sessions ns place np l a k none j = tt
+lends old new left taken count (cut.Word register w) sessions ns place np l a k none j = tt
+
+same_due_turns : (c : Cut) (old now new : Mode) (place : Place) → SameDue old now → Turns c now new place → Turns c old new place
+same_due_turns cut.Need old now new place s t = (λ e. t.0 (s.0 e), t.1)
+same_due_turns (cut.Skip bytes) old now new (Searching gap) s t = t
+same_due_turns (cut.Skip bytes) old now new (Synced gap packets tail) s t = t
+same_due_turns cut.Sync old now new place s t = (s.1 t.0, t.1)
+same_due_turns (cut.Head w step) old now new place s t = (λ e. t.0 (s.0 e), t.1)
+same_due_turns (cut.Word register w) old now new place s t = (λ e. t.0 (s.0 e), t.1)
+same_due_turns (cut.Body register bytes) old now new place s t = (λ e. t.0 (s.0 e), t.1)
+
+-- the cutter's place with what it keeps after bytes more of no whole word
+need_place : (c : Cut) (sessions new_sessions : List Session) (place new : Place) (kept new_kept : List ℕ) → IsNeed c → Adds c sessions (with_tail kept place) new_sessions new → new_kept ≡ tail_of new → (new_sessions ≡ sessions) × (new ≡ with_tail new_kept place)
+need_place cut.Need sessions ns (Searching gap) new kept nk n a k = (a.0, a.1)
+need_place cut.Need sessions ns (Synced gap packets tail) new kept nk n a k = (a.0, a.2 ∙ ap (Synced gap packets) (sym (k ∙ ap tail_of a.2)))
+need_place (cut.Skip bytes) sessions ns place new kept nk n a k = absurd n
+need_place cut.Sync sessions ns place new kept nk n a k = absurd n
+need_place (cut.Head w step) sessions ns place new kept nk n a k = absurd n
+need_place (cut.Word register w) sessions ns place new kept nk n a k = absurd n
+need_place (cut.Body register bytes) sessions ns place new kept nk n a k = absurd n
+
+need_tells_none : (c : Cut) → IsNeed c → run_bytes c ≡ []
+need_tells_none cut.Need n = refl
+need_tells_none (cut.Skip bytes) n = absurd n
+need_tells_none cut.Sync n = absurd n
+need_tells_none (cut.Head w step) n = absurd n
+need_tells_none (cut.Word register w) n = absurd n
+need_tells_none (cut.Body register bytes) n = absurd n
+
+need_turns : (c : Cut) (old new : Mode) (place : Place) → IsNeed c → Turns c old new place → (old ≡ mode.Due → ⊥) × (new ≡ mode.Due → ⊥)
+need_turns cut.Need old new place n t = t
+need_turns (cut.Skip bytes) old new place n t = absurd n
+need_turns cut.Sync old new place n t = absurd n
+need_turns (cut.Head w step) old new place n t = absurd n
+need_turns (cut.Word register w) old new place n t = absurd n
+need_turns (cut.Body register bytes) old new place n t = absurd n
+
+untold_on : (p : PacketsState) → p.done ≡ false → untold p ≡ p.cutter.kept
+untold_on p e = rw e refl
+
+tail_on : (place : Place) (done : Bool) (kept : List ℕ) → done ≡ false → tail_of place ≡ (if done then kept else []) → tail_of place ≡ []
+tail_on place true kept e h = absurd (cc)
+tail_on place false kept e h = h
+
+-- the bytes left are the ones taken and the others
+parted : (told kept left : List ℕ) (n : ℕ) → told ++ (kept ++ left) ≡ ((told ++ kept) ++ take n left) ++ drop n left
+parted told kept left n = ap (λ t. told ++ (kept ++ t)) (sym (take-append-drop n left)) ∙ simp append_assoc
+
+-- after a call that needs more bytes the reader stands for the same bytes
+pub needs : (old new : PacketsState) (bytes told : List ℕ) (s : Steps old new false) → old.done ≡ false → PacketsStandFor old bytes told
+    → PacketsStandFor new bytes told × (old.cutter.mode ≡ mode.Due → ⊥) × (new.cutter.mode ≡ mode.Due → ⊥)
+needs old new bytes told s on p =
+    let none : untold old ≡ old.cutter.kept = untold_on old on in
+    let still : new.done ≡ false = s.done ∙ on in
+    let w : Went old.cutter new.cutter ((told ++ untold old) ++ take s.count old.left) p.sessions (with_tail old.cutter.kept p.place) s.run = s.cuts.adds _ p.sessions _ p.cutter in
+    let k : new.cutter.kept ≡ tail_of w.new_place = s.kept _ w.new_sessions w.new_place w.stands in
+    let at : (w.new_sessions ≡ p.sessions) × (w.new_place ≡ with_tail new.cutter.kept p.place) = need_place s.run p.sessions w.new_sessions p.place w.new_place old.cutter.kept new.cutter.kept s.is w.adds k in
+    let t : (old.cutter.mode ≡ mode.Due → ⊥) × (new.cutter.mode ≡ mode.Due → ⊥) = need_turns s.run old.cutter.mode new.cutter.mode w.new_place s.is w.turns in
+    let joined : old.cutter.kept ++ take s.count old.left ≡ new.cutter.kept = s.cuts.joined ∙ ap (λ x. x ++ new.cutter.kept) (need_tells_none s.run s.is) in
+    let taken : (told ++ untold old) ++ take s.count old.left ≡ told ++ untold new = ap (λ x. (told ++ x) ++ take s.count old.left) none ∙ append_assoc told old.cutter.kept (take s.count old.left) ∙ ap (λ x. told ++ x) (joined ∙ sym (untold_on new still)) in
+    let stands : CutterStandsFor new.cutter (told ++ untold new) p.sessions (with_tail new.cutter.kept p.place) = rw (← taken, ← at.0, ← at.1) w.stands in (
+      record {
+        sessions = p.sessions;
+        place = p.place;
+        split = p.split ∙ parted told (untold old) old.left s.count ∙ ap (λ x. x ++ drop s.count old.left) taken ∙ append_assoc told (untold new) (drop s.count old.left) ∙ ap (λ x. told ++ (untold new ++ x)) (sym s.left);
+        reading = p.reading;
+        tail = tail_on p.place old.done old.cutter.kept on p.tail ∙ rw still refl;
+        cutter = stands;
+        kept = k ∙ ap tail_of at.1;
+        all = λ e. absurd (let f : false ≡ true = sym still ∙ e in cc);
+        count = s.taken ∙ p.count;
+      },
+      t.0,
+      t.1,
+    )
+
+-- after a call that gave a run the reader stands for the same bytes, of which the run's are told
+pub runs : (old new : PacketsState) (bytes told : List ℕ) (r : Run) (s : Steps old new true) → old.done ≡ false → IsLast new r → PacketsStandFor old bytes told
+    → PacketsStandFor new bytes (told ++ told_bytes r) × IsNext told old.cutter.mode r new.cutter.mode × (is_last r ≡ false)
+runs old new bytes told r s on last p =
+    let never : IsNeed s.run → ⊥ = found_needs_none new.found s.run s.is in
+    let none : untold old ≡ old.cutter.kept = untold_on old on in
+    let still : new.done ≡ false = s.done ∙ on in
+    let w : Went old.cutter new.cutter ((told ++ untold old) ++ take s.count old.left) p.sessions (with_tail old.cutter.kept p.place) s.run = s.cuts.adds _ p.sessions _ p.cutter in
+    let k : new.cutter.kept ≡ tail_of w.new_place = s.kept _ w.new_sessions w.new_place w.stands in
+    let bare : tail_of w.new_place ≡ [] = bare_after s.run p.sessions (with_tail old.cutter.kept p.place) w.new_sessions w.new_place never w.adds in
+    let empty : new.cutter.kept ≡ [] = k ∙ bare in
+    let l : Lends s.run (take s.count old.left) = lends old.cutter new.cutter old.left (take s.count old.left) (length old.left) s.run p.sessions w.new_sessions (with_tail old.cutter.kept p.place) w.new_place s.cuts.lent w.adds p.kept empty s.cuts.joined in
+    let same : Same s.run r = same_run new.found s.run r new.bytes new.cutter.kept s.is last (subst (λ t. Lends s.run t) (sym s.bytes) l) in
+    let now : List ℕ = told ++ told_bytes r in
+    let joined : old.cutter.kept ++ take s.count old.left ≡ told_bytes r = s.cuts.joined ∙ ap (λ t. run_bytes s.run ++ t) empty ∙ append-nil (run_bytes s.run) ∙ sym same.bytes in
+    let taken : (told ++ untold old) ++ take s.count old.left ≡ now = ap (λ x. (told ++ x) ++ take s.count old.left) none ∙ append_assoc told old.cutter.kept (take s.count old.left) ∙ ap (λ x. told ++ x) joined in
+    let nothing : untold new ≡ [] = untold_on new still ∙ empty in
+    let all : (told ++ untold old) ++ take s.count old.left ≡ now ++ untold new = taken ∙ sym (append-nil now) ∙ ap (λ x. now ++ x) (sym nothing) in
+    let own : with_tail new.cutter.kept w.new_place ≡ w.new_place = ap (λ t. with_tail t w.new_place) k ∙ with_own_tail w.new_place in
+    let stands : CutterStandsFor new.cutter (now ++ untold new) w.new_sessions w.new_place = subst (λ x. CutterStandsFor new.cutter x w.new_sessions w.new_place) all w.stands in
+    let after : IsReading now w.new_sessions w.new_place = subst (λ x. IsReading x w.new_sessions w.new_place) taken w.stands.reading in (
+      record {
+        sessions = w.new_sessions;
+        place = w.new_place;
+        split = p.split ∙ parted told (untold old) old.left s.count ∙ ap (λ x. x ++ drop s.count old.left) all ∙ append_assoc now (untold new) (drop s.count old.left) ∙ ap (λ x. now ++ (untold new ++ x)) (sym s.left);
+        reading = after;
+        tail = bare ∙ rw still refl;
+        cutter = subst (λ x. CutterStandsFor new.cutter (now ++ untold new) w.new_sessions x) (sym own) stands;
+        kept = k ∙ ap tail_of (sym own);
+        all = λ e. absurd (let f : false ≡ true = sym still ∙ e in cc);
+        count = s.taken ∙ p.count;
+      },
+      record {
+        sessions = p.sessions;
+        place = p.place;
+        new_sessions = w.new_sessions;
+        new_place = w.new_place;
+        before = p.reading;
+        after = after;
+        adds = same.adds p.sessions w.new_sessions p.place w.new_place (adds_bare s.run old.cutter.kept p.sessions p.place w.new_sessions w.new_place never (tail_on p.place old.done old.cutter.kept on p.tail) w.adds);
+        turns = same.turns old.cutter.mode new.cutter.mode w.new_place w.turns;
+        is = same.is s.cuts.run;
+      },
+      same.goes_on,
+    )
+
+-- ---- one read more
+
+-- a call that needs more bytes took all that were left
+need_goes : (c : Cut) (a b d : ℕ) → IsNeed c → Goes c a b d → a ≡ 0
+need_goes cut.Need a b d n g = g
+need_goes (cut.Skip bytes) a b d n g = absurd n
+need_goes cut.Sync a b d n g = absurd n
+need_goes (cut.Head w step) a b d n g = absurd n
+need_goes (cut.Word register w) a b d n g = absurd n
+need_goes (cut.Body register bytes) a b d n g = absurd n
+
+all_dropped : (n : ℕ) (xs : List ℕ) → length xs - n ≡ 0 → drop n xs ≡ []
+all_dropped n xs h = drop_all n xs (omega (arith, h))
+
+pub needs_all : (old new : PacketsState) (s : Steps old new false) → new.left ≡ []
+needs_all old new s = s.left ∙ all_dropped s.count old.left (need_goes s.run _ _ _ s.is s.cuts.goes)
+
+-- the reader stands for the bytes of a piece more
+pub fills : (old : PacketsState) (bytes told piece : List ℕ) → old.left ≡ [] → old.done ≡ false → PacketsStandFor old bytes told → PacketsStandFor (filled old piece) (bytes ++ piece) told
+fills old bytes told piece none on p = record {
+  sessions = p.sessions;
+  place = p.place;
+  split = ap (λ t. t ++ piece) (p.split ∙ ap (λ t. told ++ (untold old ++ t)) none) ∙ simp (append_assoc, append-nil);
+  reading = p.reading;
+  tail = p.tail;
+  cutter = p.cutter;
+  kept = p.kept;
+  all = λ e. absurd (let f : false ≡ true = sym on ∙ e in cc);
+  count = ap (λ t. t + length piece) p.count ∙ sym (length-append bytes piece);
+}
+
+-- no more reads than these are left
+pub turns_most : (kept left : List ℕ) → turns_left kept left ≤ 9
+turns_most kept [] = omega arith
+turns_most kept (b ∷ left) = omega arith
+
+turns_fall : (kept left new piece : List ℕ) → 0 < length piece → length new ≡ length kept + length left → (0 < length left → length kept + length left < 4) → turns_left new piece < turns_left kept left
+turns_fall kept left new [] s e h = absurd (omega arith)
+turns_fall kept [] new (b ∷ piece) s e h = omega (arith, e)
+turns_fall kept (c ∷ left) new (b ∷ piece) s e h = let few : length kept + suc (length left) < 4 = h (omega arith) in omega (arith, e, few)
+
+few_left : (c : CutterState) (m : Mode) (left : ℕ) → CompletesNone c m left → 0 < left → length c.kept + left < 4
+few_left c mode.Searching left h s = absurd (omega (arith, h))
+few_left c mode.Due left h s = absurd h
+few_left c mode.Synced left h s = h
+
+pub turns_go : (old new : PacketsState) (s : Steps old new false) (piece : List ℕ) → 0 < length piece → turns_left new.cutter.kept piece < turns_left old.cutter.kept old.left
+turns_go old new s piece some =
+    let none : length old.left - s.count ≡ 0 = need_goes s.run _ _ _ s.is s.cuts.goes in
+    let whole : take s.count old.left ≡ old.left = take_all s.count old.left (omega (arith, none)) in
+    let joined : old.cutter.kept ++ old.left ≡ new.cutter.kept = ap (λ t. old.cutter.kept ++ t) (sym whole) ∙ s.cuts.joined ∙ ap (λ x. x ++ new.cutter.kept) (need_tells_none s.run s.is) in
+    turns_fall old.cutter.kept old.left new.cutter.kept piece some (ap length (sym joined) ∙ length-append old.cutter.kept old.left) (few_left old.cutter old.cutter.mode (length old.left) (s.cuts.need.0 s.is))
+
+same_due : (old now new : Mode) → SameDue old now → (now ≡ mode.Due → ⊥) → (new ≡ mode.Due → ⊥) → SameDue old new
+same_due old now new s n m = (λ e. absurd (n (s.0 e)), λ e. absurd (m e))
+
+-- after a call that needs more bytes, and a read
+pub reads_on : (first old new : PacketsState) (more piece : List ℕ) (s : Steps old new false) → old.done ≡ false → Reads first old more → Reads first (filled new piece) (more ++ piece)
+reads_on first old new more piece s on r = record {
+  count = ap (λ t. t + length piece) (s.taken ∙ r.count) ∙ omega (arith, length-append more piece);
+  stands = λ bytes told p.
+      let h = r.stands bytes told p in
+      let n = needs old new (bytes ++ more) told s on h.0 in (
+        subst (λ t. PacketsStandFor (filled new piece) t told) (append_assoc bytes more piece) (fills new (bytes ++ more) told piece (needs_all old new s) (s.done ∙ on) n.0),
+        same_due first.cutter.mode old.cutter.mode new.cutter.mode h.1 n.1 n.2,
+      );
+}
+
+pub reads_none : (p : PacketsState) → Reads p p []
+reads_none p = record {
+  count = omega arith;
+  stands = λ bytes told s. (subst (λ t. PacketsStandFor p t told) (sym (append-nil bytes)) s, (λ e. e, λ e. e));
+}
+
+-- ---- what a call tells
+
+next_same : (told : List ℕ) (old now new : Mode) (r : Run) → SameDue old now → IsNext told now r new → IsNext told old r new
+next_same told old now new r s n = record {
+  sessions = n.sessions;
+  place = n.place;
+  new_sessions = n.new_sessions;
+  new_place = n.new_place;
+  before = n.before;
+  after = n.after;
+  adds = n.adds;
+  turns = same_due_turns (cut_of r) old now new n.new_place s n.turns;
+  is = n.is;
+}
+
+not_last : (r : Run) → is_last r ≡ false → is_last r ≡ true → ⊥
+not_last r e f = let h : false ≡ true = sym e ∙ f in cc
+
+-- a run that tells nothing of the end; whether it is one shows in its kind alone
+kind_goes_on : (f : Found) (c : Cut) (r : Run) (bytes kept : List ℕ) → IsFound f c → IsRunOf f bytes kept r → is_last r ≡ false
+kind_goes_on found.Skip c r bytes kept i l = ap is_last l.1
+kind_goes_on found.Sync c r bytes kept i l = ap is_last l
+kind_goes_on (found.Head w step) c r bytes kept i l = ap is_last l
+kind_goes_on (found.Word register w) c r bytes kept i l = ap is_last l
+kind_goes_on (found.Body register) c r bytes kept i l = ap is_last l.1
+kind_goes_on found.Tail c r bytes kept i l = absurd i
+kind_goes_on found.End c r bytes kept i l = absurd i
+
+pub tells_run : (first old new : PacketsState) (more : List ℕ) (r : Run) (s : Steps old new true) → old.done ≡ false → old.failed ≡ false → IsLast new r → Reads first old more → Tells first new more r
+tells_run first old new more r s on good last reads =
+    let goes : is_last r ≡ false = kind_goes_on new.found s.run r new.bytes new.cutter.kept s.is last in
+    record {
+      count = s.taken ∙ reads.count;
+      stands = λ bytes told p.
+          let h = reads.stands bytes told p in
+          let t = runs old new (bytes ++ more) told r s on last h.0 in
+          (t.0, next_same told first.cutter.mode old.cutter.mode new.cutter.mode r h.1 t.1);
+      all = λ e. absurd (not_last r goes e);
+      done = s.done ∙ on ∙ sym goes;
+      good = s.failed ∙ good;
+    }
+
+pub run_is_not_last : (old new : PacketsState) (r : Run) (s : Steps old new true) → IsLast new r → is_last r ≡ true → ⊥
+run_is_not_last old new r s last = not_last r (kind_goes_on new.found s.run r new.bytes new.cutter.kept s.is last)
+
+-- ---- the end
+
+tail_adds : (bytes : Bor (List ℕ)) (kept : List ℕ) (sessions : List Session) (place : Place) → bytes.now ≡ kept → 0 < length kept → kept ≡ tail_of (with_tail kept place) → tail_of place ≡ [] → RunAdds (run.Tail bytes) sessions place sessions (with_tail kept place)
+tail_adds bytes kept sessions (Searching gap) e s k b = absurd (omega (arith, ap length k))
+tail_adds bytes kept sessions (Synced gap packets tail) e s k b = (refl, b, ap (Synced gap packets) (sym e))
+
+short_tail : (kept : List ℕ) (place : Place) → IsPlace (with_tail kept place) → kept ≡ tail_of (with_tail kept place) → length kept < 4
+short_tail kept (Searching gap) p k = omega (arith, ap length k)
+short_tail kept (Synced gap packets tail) p k = p.3
+
+-- the reader stands for its bytes, all told, once it is done
+ends_tail : (p : PacketsState) (bytes told : List ℕ) (lent : Bor (List ℕ)) → p.done ≡ false → p.left ≡ [] → 0 < length p.cutter.kept → lent.now ≡ p.cutter.kept → (p.cutter.mode ≡ mode.Due → ⊥) → PacketsStandFor p bytes told
+    → PacketsStandFor (record p { found = found.Tail; done = true }) bytes (told ++ lent.now) × IsNext told p.cutter.mode (run.Tail lent) p.cutter.mode × (told ++ lent.now ≡ bytes)
+ends_tail p bytes told lent on none some e due s =
+    let keeps : untold p ≡ p.cutter.kept = untold_on p on in
+    let bare : tail_of s.place ≡ [] = tail_on s.place p.done p.cutter.kept on s.tail in
+    let now : told ++ untold p ≡ told ++ lent.now = ap (λ t. told ++ t) (keeps ∙ sym e) in
+    let after : IsReading (told ++ lent.now) s.sessions (with_tail p.cutter.kept s.place) = subst (λ t. IsReading t s.sessions (with_tail p.cutter.kept s.place)) now s.cutter.reading in
+    let all : bytes ≡ told ++ lent.now = s.split ∙ ap (λ t. told ++ (untold p ++ t)) none ∙ ap (λ t. told ++ t) (append-nil (untold p)) ∙ now in
+    let twice : with_tail p.cutter.kept (with_tail p.cutter.kept s.place) ≡ with_tail p.cutter.kept s.place = with_tail_twice p.cutter.kept p.cutter.kept s.place in
+    let stands : CutterStandsFor p.cutter ((told ++ lent.now) ++ []) s.sessions (with_tail p.cutter.kept s.place) = subst (λ t. CutterStandsFor p.cutter t s.sessions (with_tail p.cutter.kept s.place)) (now ∙ sym (append-nil (told ++ lent.now))) s.cutter in (
+      record {
+        sessions = s.sessions;
+        place = with_tail p.cutter.kept s.place;
+        split = all ∙ sym (append-nil (told ++ lent.now)) ∙ ap (λ t. (told ++ lent.now) ++ t) (sym none);
+        reading = after;
+        tail = sym s.kept;
+        cutter = subst (λ t. CutterStandsFor p.cutter ((told ++ lent.now) ++ []) s.sessions t) (sym twice) stands;
+        kept = s.kept ∙ ap tail_of (sym twice);
+        all = λ d. (none, due);
+        count = s.count;
+      },
+      record {
+        sessions = s.sessions;
+        place = s.place;
+        new_sessions = s.sessions;
+        new_place = with_tail p.cutter.kept s.place;
+        before = s.reading;
+        after = after;
+        adds = tail_adds lent p.cutter.kept s.sessions s.place e some s.kept bare;
+        turns = (due, due);
+        is = (omega (arith, some, ap length e), omega (arith, short_tail p.cutter.kept s.place s.cutter.reading.ends s.kept, ap length e));
+      },
+      sym all,
+    )
+
+-- the end, of a reader that has no byte more to tell
+ends_none : (p : PacketsState) (bytes told : List ℕ) → p.left ≡ [] → untold p ≡ [] → (p.cutter.mode ≡ mode.Due → ⊥) → (s : PacketsStandFor p bytes told) → tail_of s.place ≡ p.cutter.kept
+    → PacketsStandFor (record p { found = found.End; done = true }) bytes (told ++ []) × IsNext told p.cutter.mode run.End p.cutter.mode × (told ++ [] ≡ bytes)
+ends_none p bytes told none nothing due s own =
+    let now : told ++ untold p ≡ told ++ [] = ap (λ t. told ++ t) nothing in
+    let all : bytes ≡ told ++ [] = s.split ∙ ap (λ t. told ++ (untold p ++ t)) none ∙ ap (λ t. told ++ t) (append-nil (untold p)) ∙ now in
+    let after : IsReading (told ++ []) s.sessions s.place = subst (λ t. IsReading t s.sessions s.place) (sym (append-nil told)) s.reading in (
+      record {
+        sessions = s.sessions;
+        place = s.place;
+        split = all ∙ sym (append-nil (told ++ [])) ∙ ap (λ t. (told ++ []) ++ t) (sym none);
+        reading = after;
+        tail = own;
+        cutter = subst (λ t. CutterStandsFor p.cutter t s.sessions (with_tail p.cutter.kept s.place)) (now ∙ sym (append-nil (told ++ []))) s.cutter;
+        kept = s.kept;
+        all = λ d. (none, due);
+        count = s.count;
+      },
+      record {
+        sessions = s.sessions;
+        place = s.place;
+        new_sessions = s.sessions;
+        new_place = s.place;
+        before = s.reading;
+        after = after;
+        adds = (refl, refl);
+        turns = (due, due);
+        is = tt;
+      },
+      sym all,
+    )
+
+-- what a reader is when it was told that the input ended
+record Ends (old new : PacketsState) (r : Run) : Type 0 where
+  pub last : is_last r ≡ true
+  pub done : new.done ≡ true
+  pub failed : new.failed ≡ old.failed
+  pub taken : new.taken ≡ old.taken
+  pub stands : (bytes told : List ℕ) → (old.cutter.mode ≡ mode.Due → ⊥) → PacketsStandFor old bytes told
+      → PacketsStandFor new bytes (told ++ told_bytes r) × IsNext told old.cutter.mode r new.cutter.mode × (told ++ told_bytes r ≡ bytes)
+
+tail_ends : (p : PacketsState) (lent : Bor (List ℕ)) → p.done ≡ false → p.left ≡ [] → 0 < length p.cutter.kept → lent.now ≡ p.cutter.kept → Ends p (record p { found = found.Tail; done = true }) (run.Tail lent)
+tail_ends p lent on none some e = record { last = refl; done = refl; failed = refl; taken = refl; stands = λ bytes told due s. ends_tail p bytes told lent on none some e due s }
+
+none_ends : (p : PacketsState) → p.left ≡ [] → untold p ≡ [] → ((bytes told : List ℕ) (s : PacketsStandFor p bytes told) → tail_of s.place ≡ p.cutter.kept) → Ends p (record p { found = found.End; done = true }) run.End
+none_ends p none nothing own = record { last = refl; done = refl; failed = refl; taken = refl; stands = λ bytes told due s. ends_none p bytes told none nothing due s (own bytes told s) }
+
+-- the end behind bytes of no whole word, or behind none
+finishes : (p new : PacketsState) (r : Run) (kept : List ℕ) → p.cutter.kept ≡ kept → p.done ≡ false → p.left ≡ []
+    → (p.cutter.kept ≢ [] → new ≡ record p { found = found.Tail; done = true }) → (p.cutter.kept ≡ [] → new ≡ record p { found = found.End; done = true }) → IsLast new r → Ends p new r
+finishes p new r [] k on none tail end last =
+    let is : new ≡ record p { found = found.End; done = true } = end k in
+    let at : r ≡ run.End = subst (λ (x : PacketsState). IsLast x r) is last in
+    rw (is, at) (none_ends p none (untold_on p on ∙ k) (λ bytes told s. tail_on s.place p.done p.cutter.kept on s.tail ∙ sym k))
+finishes p new r (x ∷ xs) k on none tail end last =
+    let is : new ≡ record p { found = found.Tail; done = true } = tail (λ e. absurd (let f : x ∷ xs ≡ [] = sym k ∙ e in cc)) in
+    let at : (lent : Bor (List ℕ)) × (r ≡ run.Tail lent) × (lent.now ≡ p.cutter.kept) = subst (λ (x : PacketsState). IsLast x r) is last in
+    rw (is, at.1) (tail_ends p at.0 on none (omega (arith, ap length k)) at.2)
+
+-- after a call that needs more bytes, and a read that gave none
+pub tells_end : (first old now new : PacketsState) (more : List ℕ) (r : Run) (s : Steps old now false) → old.done ≡ false → old.failed ≡ false → Reads first old more
+    → (now.cutter.kept ≢ [] → new ≡ record (filled now []) { found = found.Tail; done = true }) → (now.cutter.kept ≡ [] → new ≡ record (filled now []) { found = found.End; done = true })
+    → IsLast new r → Tells first new more r × (is_last r ≡ true)
+tells_end first old now new more r s on good reads tail end last =
+    let e : Ends (filled now []) new r = finishes (filled now []) new r now.cutter.kept refl (s.done ∙ on) refl tail end last in (
+      record {
+        count = e.taken ∙ (let z : now.taken + 0 ≡ now.taken = omega arith in z) ∙ s.taken ∙ reads.count;
+        stands = λ bytes told p.
+            let h = reads.stands bytes told p in
+            let n = needs old now (bytes ++ more) told s on h.0 in
+            let f = fills now (bytes ++ more) told [] (needs_all old now s) (s.done ∙ on) n.0 in
+            let t = e.stands ((bytes ++ more) ++ []) told n.2 f in (
+              subst (λ x. PacketsStandFor new x (told ++ told_bytes r)) (append-nil (bytes ++ more)) t.0,
+              next_same told first.cutter.mode now.cutter.mode new.cutter.mode r (same_due first.cutter.mode old.cutter.mode now.cutter.mode h.1 n.1 n.2) t.1,
+            );
+        all = λ _ bytes told p.
+            let h = reads.stands bytes told p in
+            let n = needs old now (bytes ++ more) told s on h.0 in
+            let f = fills now (bytes ++ more) told [] (needs_all old now s) (s.done ∙ on) n.0 in
+            (e.stands ((bytes ++ more) ++ []) told n.2 f).2 ∙ append-nil (bytes ++ more);
+        done = e.done ∙ sym e.last;
+        good = e.failed ∙ s.failed ∙ good;
+      },
+      e.last,
+    )
+
+own_tail : (place : Place) (done : Bool) (kept : List ℕ) → done ≡ true → tail_of place ≡ (if done then kept else []) → tail_of place ≡ kept
+own_tail place true kept e h = h
+own_tail place false kept e h = absurd (cc)
+
+untold_off : (p : PacketsState) → p.done ≡ true → untold p ≡ []
+untold_off p e = rw e refl
+
+-- the end is told again
+again : (p : PacketsState) → p.done ≡ true → p.failed ≡ false → Tells p (record p { found = found.End; done = true }) [] run.End
+again p off good = record {
+  count = omega arith;
+  stands = λ bytes told s.
+      let due = s.all off in
+      let t = ends_none p bytes told due.0 (untold_off p off) due.1 s (own_tail s.place p.done p.cutter.kept off s.tail) in
+      (subst (λ x. PacketsStandFor (record p { found = found.End; done = true }) x (told ++ [])) (sym (append-nil bytes)) t.0, t.1);
+  all = λ _ bytes told s.
+      let due = s.all off in
+      (ends_none p bytes told due.0 (untold_off p off) due.1 s (own_tail s.place p.done p.cutter.kept off s.tail)).2 ∙ sym (append-nil bytes);
+  done = refl;
+  good = good;
+}
+
+pub gives_again : (p : PacketsState) (rest : Option (List ℕ)) (r : Run) → p.done ≡ true → p.failed ≡ false → AtEnd rest → r ≡ run.End → GivesRun p (record p { found = found.End }) rest rest r
+gives_again p rest r off good end at =
+    let same : record p { found = found.End } ≡ record p { found = found.End; done = true } = ap (λ (d : Bool). record p { found = found.End; done = d }) off in
+    rw (same, at) (record { more = []; taken = sym (preceded-nil rest); tells = again p off good; end = λ _. end })
+
+-- a read that gave none, and then the end
+pub gives_end : (first old now mid new : PacketsState) (more piece : List ℕ) (rest rest_mid rest_now : Option (List ℕ)) (r : Run) (s : Steps old now false) → old.done ≡ false → old.failed ≡ false → Reads first old more
+    → rest ≡ preceded more rest_mid → rest_mid ≡ preceded piece rest_now → mid ≡ filled now piece → piece ≡ [] → AtEnd rest_now
+    → (mid.cutter.kept ≢ [] → new ≡ record mid { found = found.Tail; done = true }) → (mid.cutter.kept ≡ [] → new ≡ record mid { found = found.End; done = true })
+    → IsLast new r → GivesRun first new rest rest_now r
+gives_end first old now mid new more piece rest rest_mid rest_now r s on good reads t u is none end tail no_tail last =
+    let at : mid ≡ filled now [] = is ∙ ap (filled now) none in
+    let by_tail : now.cutter.kept ≢ [] → new ≡ record (filled now []) { found = found.Tail; done = true } = subst (λ (m : PacketsState). m.cutter.kept ≢ [] → new ≡ record m { found = found.Tail; done = true }) at tail in
+    let by_none : now.cutter.kept ≡ [] → new ≡ record (filled now []) { found = found.End; done = true } = subst (λ (m : PacketsState). m.cutter.kept ≡ [] → new ≡ record m { found = found.End; done = true }) at no_tail in
+    record {
+      more = more;
+      taken = t ∙ ap (preceded more) (u ∙ ap (λ (p : List ℕ). preceded p rest_now) none ∙ preceded-nil rest_now);
+      tells = (tells_end first old now new more r s on good reads by_tail by_none last).0;
+      end = λ _. end;
+    }
+
+-- a read that failed
+pub gives_up : (first old now new : PacketsState) (more : List ℕ) (s : Steps old now false) → old.done ≡ false → Reads first old more → new ≡ record now { bytes = []; failed = true } → GivesUp first new
+gives_up first old now new more s on reads e = rw e (record {
+  more = more;
+  reads = record {
+    count = s.taken ∙ reads.count;
+    stands = λ bytes told p.
+        let h = reads.stands bytes told p in
+        let n = needs old now (bytes ++ more) told s on h.0 in
+        let k = n.0 in (
+          record { sessions = k.sessions; place = k.place; split = k.split; reading = k.reading; tail = k.tail; cutter = k.cutter; kept = k.kept; all = k.all; count = k.count },
+          same_due first.cutter.mode old.cutter.mode now.cutter.mode h.1 n.1 n.2,
+        );
+  };
+  failed = refl;
+})
+
+-- how many reads are left after one more
+pub room_on : (old now new : PacketsState) (s : Steps old now false) (piece : List ℕ) (limit : ℕ) → new ≡ filled now piece → 0 < length piece → length piece < 65537
+    → old.taken + 65536 * turns_left old.cutter.kept old.left ≤ limit → new.taken + 65536 * turns_left new.cutter.kept new.left ≤ limit
+room_on old now new s piece limit e some most room = rw e (omega (arith, s.taken, most, room, turns_go old now s piece some))
+
+-- a reader that has told nothing yet
+pub starts : (p : PacketsState) (first : List ℕ) → CutterStandsFor p.cutter [] [] (Searching []) → p.cutter.kept ≡ [] → p.left ≡ first → p.done ≡ false → p.taken ≡ length first → PacketsStandFor p first []
+starts p first c k l on t = record {
+  sessions = [];
+  place = Searching [];
+  split = sym (ap (λ u. u ++ p.left) (untold_on p on ∙ k) ∙ l);
+  reading = c.reading;
+  tail = rw on refl;
+  cutter = subst (λ u. CutterStandsFor p.cutter u [] (Searching [])) (sym (untold_on p on ∙ k)) c;
+  kept = k;
+  all = λ e. absurd (let f : false ≡ true = sym on ∙ e in cc);
+  count = t;
+}
+
+-- the bytes that a buffer begins with
+pub first_of : (items first : List ℕ) → take (length first) items ≡ first → between items 0 (length first) ≡ first
+first_of items first e = let n : length first - 0 ≡ length first = omega arith in ap (λ (k : ℕ). take k items) n ∙ e
+
+-- a buffer of these bytes that was made longer begins with them
+pub begins : (first old rest new : List ℕ) (n : ℕ) → old ≡ first → new ≡ take n old ++ rest → length first ≤ n → take (length first) new ≡ first
+begins first old rest new n e f h =
+    let all : new ≡ first ++ rest = f ∙ ap (λ t. take n t ++ rest) e ∙ ap (λ t. t ++ rest) (take_all n first h) in
+    ap (take (length first)) all ∙ take_at first rest (length first) refl

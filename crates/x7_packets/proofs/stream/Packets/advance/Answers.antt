@@ -1,0 +1,76 @@
+use Rattle.std.proofs.Common.{◌≡◌, Bool, true, false, [], ◌++◌, length, refl, ap, sym, subst, ◌∙◌, ◌<◌, ◌+◌, arith}
+use Rattle.x7_words.specs.Input.{preceded}
+use Rattle.x7_words.proofs.InputLemmas.{preceded-nil, preceded-preceded}
+use Rattle.x7_packets.specs.PacketsState.{PacketsState}
+use Rattle.x7_packets.specs.Running.{Reads, Steps}
+use Rattle.x7_packets.proofs.RunningLemmas.{gives_again, gives_end, gives_up, reads_none, reads_on, room_on, run_is_not_last, tells_run, turns_most}
+use Rattle.x7_packets.proofs.stream.Packets.advance.Goals as goal
+
+pub returns-then-self-clause-err : goal.returns-then-self-clause-err
+returns-then-self-clause-err g c = record { more = []; reads = reads_none c.args.self.now; failed = sym (ap (λ (p : PacketsState). p.failed) c.self.view_is) ∙ c.if-self.true }
+
+pub returns-then-self-2-clause-ok : goal.returns-then-self-2-clause-ok
+returns-then-self-2-clause-ok g c = λ r e.
+    let end = c.requires.end (sym (ap (λ (p : PacketsState). p.done) c.self.view_is) ∙ c.if-self-2.true) in
+    rw (← c.self.view_is) (gives_again _ _ r c.if-self-2.true c.if-self.false end e)
+
+pub loop-self-init : goal.loop-self-init
+loop-self-init g c =
+    let good : c.args.self.now.failed ≡ false = sym (ap (λ (p : PacketsState). p.failed) c.self.view_is) ∙ c.if-self.false in
+    record {
+      selected = c.requires.selected good;
+      map = refl;
+      faults = omega arith;
+      absences = omega arith;
+      good = good;
+      on = sym (ap (λ (p : PacketsState). p.done) c.self.view_is) ∙ c.if-self-2.false;
+      reads = ([], sym (preceded-nil (g.I.Inputs.rest c.args.inputs.now)), reads_none c.args.self.now);
+      room = omega (arith, turns_most c.args.self.now.cutter.kept c.args.self.now.left);
+    }
+
+pub returns-then-step-clause-ok : goal.returns-then-step-clause-ok
+returns-then-step-clause-ok g c = λ r last.
+    let i = c.loop-self.invariant in
+    let s : Steps c.loop-self.self c.step.new.self true = subst (λ (b : Bool). Steps c.loop-self.self c.step.new.self b) c.if-step.true c.step.ensures in
+    record {
+      more = i.reads.0;
+      taken = i.reads.1;
+      tells = tells_run c.args.self.now c.loop-self.self c.step.new.self i.reads.0 r s i.on i.good last i.reads.2;
+      end = λ e. absurd (run_is_not_last c.loop-self.self c.step.new.self r s last e);
+    }
+
+pub returns-in-Err-clause-err : goal.returns-in-Err-clause-err
+returns-in-Err-clause-err g c =
+    let i = c.loop-self.invariant in
+    let s : Steps c.loop-self.self c.step.new.self false = subst (λ (b : Bool). Steps c.loop-self.self c.step.new.self b) c.if-step.false c.step.ensures in
+    gives_up c.args.self.now c.loop-self.self c.step.new.self c.fill.new.self i.reads.0 s i.on i.reads.2 c.in-Err.ensures.err
+
+pub returns-then-not-more-clause-ok : goal.returns-then-not-more-clause-ok
+returns-then-not-more-clause-ok g c = λ r last.
+    let i = c.loop-self.invariant in
+    let s : Steps c.loop-self.self c.step.new.self false = subst (λ (b : Bool). Steps c.loop-self.self c.step.new.self b) c.if-step.false c.step.ensures in
+    let f = c.in-Ok.ensures.ok in
+    let end = f.end c.if-not-more.true in
+    gives_end c.args.self.now c.loop-self.self c.step.new.self c.fill.new.self c.finish.new.self i.reads.0 f.piece _ _ _ r s i.on i.good i.reads.2 i.reads.1 f.taken f.is end.0 end.1 c.finish.ensures.kept c.finish.ensures.none last
+
+pub loop-self-preserved : goal.loop-self-preserved
+loop-self-preserved g c =
+    let i = c.loop-self.invariant in
+    let s : Steps c.loop-self.self c.step.new.self false = subst (λ (b : Bool). Steps c.loop-self.self c.step.new.self b) c.if-step.false c.step.ensures in
+    let f = c.in-Ok.ensures.ok in
+    let o = c.in-Ok.ensures in
+    let some : 0 < length f.piece = f.some c.if-not-more.false in
+    record {
+      selected = o.selected;
+      map = o.map ∙ i.map;
+      faults = omega (arith, i.faults, o.faults);
+      absences = omega (arith, i.absences, o.absences);
+      good = ap (λ (p : PacketsState). p.failed) f.is ∙ s.failed ∙ i.good;
+      on = ap (λ (p : PacketsState). p.done) f.is ∙ s.done ∙ i.on;
+      reads = (
+        i.reads.0 ++ f.piece,
+        i.reads.1 ∙ ap (preceded i.reads.0) f.taken ∙ preceded-preceded i.reads.0 f.piece (g.I.Inputs.rest c.fill.new.inputs),
+        subst (λ (p : PacketsState). Reads c.args.self.now p (i.reads.0 ++ f.piece)) (sym f.is) (reads_on c.args.self.now c.loop-self.self c.step.new.self i.reads.0 f.piece s i.on i.reads.2),
+      );
+      room = room_on c.loop-self.self c.step.new.self c.fill.new.self s f.piece (c.args.self.now.taken + 589824) f.is some f.most i.room;
+    }

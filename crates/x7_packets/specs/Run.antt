@@ -1,0 +1,55 @@
+-- The runs of a stream, as they come one after another (this project's choice).
+use Rattle.std.specs.Prelude.{◌≡◌, ℕ, ◌<◌, List, [], ◌++◌, length, Bool, true, false}
+use Rattle.x7_packets.specs.Reading.{Place, Searching, Synced, Session, IsReading}
+use Rattle.x7_packets.specs.Cutting.{Adds, IsRun, Turns, run_bytes}
+use Rattle.x7_packets.specs.declared.cutter.Cut.{Cut}
+use Rattle.x7_packets.specs.declared.cutter.Cut.TheVariants as cut
+use Rattle.x7_packets.specs.declared.cutter.Mode.{Mode}
+use Rattle.x7_packets.specs.declared.cutter.Mode.TheVariants as mode
+use Rattle.x7_packets.specs.declared.stream.Run.{Run}
+use Rattle.x7_packets.specs.declared.stream.Run.TheVariants as run
+
+-- a run as a cutter's; the tail and the end complete none
+abbrev pub cut_of : Run → Cut
+cut_of (run.Skip bytes) = cut.Skip bytes
+cut_of run.Sync = cut.Sync
+cut_of (run.Head w step) = cut.Head w step
+cut_of (run.Word register w) = cut.Word register w
+cut_of (run.Body register bytes) = cut.Body register bytes
+cut_of (run.Tail bytes) = cut.Need
+cut_of run.End = cut.Need
+
+-- the bytes that a run tells
+abbrev pub told_bytes : Run → List ℕ
+told_bytes (run.Tail bytes) = bytes.now
+told_bytes r = run_bytes (cut_of r)
+
+-- nothing but the end comes after it
+abbrev pub is_last : Run → Bool
+is_last (run.Tail bytes) = true
+is_last run.End = true
+is_last r = false
+
+-- what a run adds to the reading of the bytes told before it: the tail are bytes of no whole word, and the end adds nothing
+abbrev pub RunAdds : Run → List Session → Place → List Session → Place → Type 0
+RunAdds (run.Tail bytes) sessions (Searching gap) new_sessions new = ⊥
+RunAdds (run.Tail bytes) sessions (Synced gap packets tail) new_sessions new = (new_sessions ≡ sessions) × (tail ≡ []) × (new ≡ Synced gap packets bytes.now)
+RunAdds run.End sessions place new_sessions new = (new_sessions ≡ sessions) × (new ≡ place)
+RunAdds r sessions place new_sessions new = Adds (cut_of r) sessions place new_sessions new
+
+-- what a run is apart from the reading: the tail has one to three bytes
+abbrev pub FitsRun : Run → Type 0
+FitsRun (run.Tail bytes) = (0 < length bytes.now) × (length bytes.now < 4)
+FitsRun r = IsRun (cut_of r)
+
+-- The run is what comes next behind these bytes, a sync word being due to be told or not before and after it.
+pub record IsNext (bytes : List ℕ) (old : Mode) (r : Run) (new : Mode) : Type 0 where
+  pub sessions : List Session
+  pub place : Place
+  pub new_sessions : List Session
+  pub new_place : Place
+  pub before : IsReading bytes sessions place
+  pub after : IsReading (bytes ++ told_bytes r) new_sessions new_place
+  pub adds : RunAdds r sessions place new_sessions new_place
+  pub turns : Turns (cut_of r) old new new_place
+  pub is : FitsRun r

@@ -1,0 +1,132 @@
+-- Packets over an input: what a reader of them stands for, and what each run that it lends tells (this project's choice).
+use Rattle.std.specs.Prelude.{◌≡◌, ℕ, ◌+◌, ◌<◌, ◌↔◌, List, [], ◌++◌, length, take, drop, Bool, true, false, if◌then◌else◌, ⊤, Option, None, Some, Result, Ok, Err}
+use Rattle.std.specs.Borrow.{Bor, Fml, MutBor}
+use Rattle.std.specs.Io.BufRead.{Rests}
+use Rattle.x7_words.specs.Input.{AtEnd, preceded}
+use Rattle.x7_words.specs.declared.input.Failed.{Failed}
+use Rattle.x7_packets.specs.Reading.{Place, Searching, Synced, Session, IsReading, tail_of}
+use Rattle.x7_packets.specs.Cutting.{Adds, CutterState, CutterStandsFor, Cuts, IsNeed, IsRun, Turns, run_bytes}
+use Rattle.x7_packets.specs.declared.cutter.Cut.{Cut}
+use Rattle.x7_packets.specs.declared.cutter.Cut.TheVariants as cut
+use Rattle.x7_packets.specs.declared.cutter.Mode.{Mode}
+use Rattle.x7_packets.specs.declared.cutter.Mode.TheVariants as mode
+use Rattle.x7_packets.specs.declared.stream.Found.{Found}
+use Rattle.x7_packets.specs.declared.stream.Found.TheVariants as found
+use Rattle.x7_packets.specs.declared.stream.Run.{Run}
+use Rattle.x7_packets.specs.declared.stream.Run.TheVariants as run
+use Rattle.x7_packets.specs.contracts.stream.Packets.{the_row}
+use Rattle.x7_packets.specs.PacketsState.{PacketsState}
+use Rattle.x7_packets.specs.Run.{IsNext, is_last, told_bytes}
+
+-- the place with these bytes of no whole word
+abbrev pub with_tail : List ℕ → Place → Place
+with_tail tail (Searching gap) = Searching gap
+with_tail tail (Synced gap packets old) = Synced gap packets tail
+
+-- the bytes that the cutter took and that no run told yet
+abbrev pub untold : PacketsState → List ℕ
+untold p = if p.done then [] else p.cutter.kept
+
+-- The reader stands for these bytes: those that its runs told, those that its cutter keeps, and those that it has not taken.
+pub record PacketsStandFor (p : PacketsState) (bytes told : List ℕ) : Type 0 where
+  pub sessions : List Session
+  pub place : Place
+  pub split : bytes ≡ told ++ (untold p ++ p.left)
+  pub reading : IsReading told sessions place
+  pub tail : tail_of place ≡ (if p.done then p.cutter.kept else [])
+  pub cutter : CutterStandsFor p.cutter (told ++ untold p) sessions (with_tail p.cutter.kept place)
+  pub kept : p.cutter.kept ≡ tail_of (with_tail p.cutter.kept place)
+  pub all : p.done ≡ true → (p.left ≡ []) × (p.cutter.mode ≡ mode.Due → ⊥)
+  pub count : p.taken ≡ length bytes
+
+-- what a run is that was cut
+abbrev pub IsFound : Found → Cut → Type 0
+IsFound found.Skip c = (bytes : Bor (List ℕ)) × (c ≡ cut.Skip bytes)
+IsFound found.Sync c = c ≡ cut.Sync
+IsFound (found.Head w step) c = c ≡ cut.Head w step
+IsFound (found.Word register w) c = c ≡ cut.Word register w
+IsFound (found.Body register) c = (bytes : Bor (List ℕ)) × (c ≡ cut.Body register bytes)
+IsFound f c = ⊥
+
+-- the run that was found, where these are its bytes in the buffer, and these the ones that the cutter keeps
+abbrev pub IsRunOf : Found → List ℕ → List ℕ → Run → Type 0
+IsRunOf found.Skip bytes kept r = (lent : Bor (List ℕ)) × (r ≡ run.Skip lent) × (lent.now ≡ bytes)
+IsRunOf found.Sync bytes kept r = r ≡ run.Sync
+IsRunOf (found.Head w step) bytes kept r = r ≡ run.Head w step
+IsRunOf (found.Word register w) bytes kept r = r ≡ run.Word register w
+IsRunOf (found.Body register) bytes kept r = (lent : Bor (List ℕ)) × (r ≡ run.Body register lent) × (lent.now ≡ bytes)
+IsRunOf found.Tail bytes kept r = (lent : Bor (List ℕ)) × (r ≡ run.Tail lent) × (lent.now ≡ kept)
+IsRunOf found.End bytes kept r = r ≡ run.End
+
+-- the run is the last one that was found
+abbrev pub IsLast : PacketsState → Run → Type 0
+IsLast p r = IsRunOf p.found p.bytes p.cutter.kept r
+
+-- whether a run was cut of the bytes that are left
+abbrev pub IsCutOff : Bool → Found → Cut → Type 0
+IsCutOff true f c = IsFound f c
+IsCutOff false f c = IsNeed c
+
+-- one call of the cutter on the bytes that are left
+pub record Steps (old new : PacketsState) (any : Bool) : Type 0 where
+  pub run : Cut
+  pub count : ℕ
+  pub cuts : Cuts old.cutter new.cutter old.left count run
+  pub kept : (bytes : List ℕ) (sessions : List Session) (place : Place) → CutterStandsFor new.cutter bytes sessions place → new.cutter.kept ≡ tail_of place
+  pub left : new.left ≡ drop count old.left
+  pub bytes : new.bytes ≡ take count old.left
+  pub is : IsCutOff any new.found run
+  pub done : new.done ≡ old.done
+  pub failed : new.failed ≡ old.failed
+  pub taken : new.taken ≡ old.taken
+
+-- a reader whose bytes were all taken, with a piece more
+abbrev pub filled : PacketsState → List ℕ → PacketsState
+filled p piece = record p { left = piece; bytes = []; taken = p.taken + length piece }
+
+-- one read: a piece of some bytes, or the end of the input
+pub record Fills (old new : PacketsState) (rest rest_now : Option (List ℕ)) (any : Bool) : Type 0 where
+  pub piece : List ℕ
+  pub taken : rest ≡ preceded piece rest_now
+  pub is : new ≡ filled old piece
+  pub most : length piece < 65537
+  pub some : any ≡ true → 0 < length piece
+  pub end : any ≡ false → (piece ≡ []) × AtEnd rest_now
+
+-- a sync word is due to be told in both, or in neither
+abbrev pub SameDue : Mode → Mode → Type 0
+SameDue old new = (old ≡ mode.Due) ↔ (new ≡ mode.Due)
+
+-- the reader took more bytes of the input, and told none
+pub record Reads (old new : PacketsState) (more : List ℕ) : Type 0 where
+  pub count : new.taken ≡ old.taken + length more
+  pub stands : (bytes told : List ℕ) → PacketsStandFor old bytes told → PacketsStandFor new (bytes ++ more) told × SameDue old.cutter.mode new.cutter.mode
+
+-- the reader took more bytes of the input, and told those of a run
+pub record Tells (old new : PacketsState) (more : List ℕ) (r : Run) : Type 0 where
+  pub count : new.taken ≡ old.taken + length more
+  pub stands : (bytes told : List ℕ) → PacketsStandFor old bytes told → PacketsStandFor new (bytes ++ more) (told ++ told_bytes r) × IsNext told old.cutter.mode r new.cutter.mode
+  pub all : is_last r ≡ true → (bytes told : List ℕ) → PacketsStandFor old bytes told → told ++ told_bytes r ≡ bytes ++ more
+  pub done : new.done ≡ is_last r
+  pub good : new.failed ≡ false
+
+-- the call gave a run: the tail and the end only where the input's rest, if it is told, is empty
+pub record GivesRun (old new : PacketsState) (rest rest_now : Option (List ℕ)) (r : Run) : Type 0 where
+  pub more : List ℕ
+  pub taken : rest ≡ preceded more rest_now
+  pub tells : Tells old new more r
+  pub end : is_last r ≡ true → AtEnd rest_now
+
+-- the call failed: what it took before that still counts
+pub record GivesUp (old new : PacketsState) : Type 0 where
+  pub more : List ℕ
+  pub reads : Reads old new more
+  pub failed : new.failed ≡ true
+
+abbrev pub Gives : PacketsState → PacketsState → Option (List ℕ) → Option (List ℕ) → Result Run Failed → Type 0
+Gives old new rest rest_now (Ok r) = GivesRun old new rest rest_now r
+Gives old new rest rest_now (Err e) = GivesUp old new
+
+-- what the reader is when the run that it lends is given back
+abbrev pub GivesNext : MutBor PacketsState → Option (List ℕ) → Option (List ℕ) → Result Run Failed → Fml
+GivesNext p rest rest_now result = Rests the_row p (λ new. Gives p.now new rest rest_now result)

@@ -1,0 +1,267 @@
+//! Packets over an input: its runs, one after another, lent out of one buffer.
+ghost use Rattle.std.specs.Prelude.{◌≡◌, ◌≢◌, ◌≤◌, ◌<◌, ◌+◌, ◌^◌, ◌⊎◌, ◌↔◌, ℕ, List, [], length, take, vec_len, true, false, IfNone, IfOk, IfSome, OnErr, OnOk};
+ghost use Rattle.x7_words.specs.Count.{HasRisen};
+ghost use Rattle.x7_words.specs.Input.{AtEnd, preceded};
+ghost use Rattle.x7_packets.specs.Cutting.{IsNeed};
+ghost use Rattle.x7_packets.specs.PacketsState.{PacketsState};
+ghost use Rattle.x7_packets.specs.Running.{Fills, GivesRun, GivesUp, IsFound, IsLast, PacketsStandFor, Steps};
+
+use crate::cutter::{Cut, Cutter};
+use crate::header::Step;
+use std::alloc::Global;
+use std::marker::Model;
+use x7_words::{Failed, Inputs, NoMemory};
+
+/// How many bytes are read at once.
+const PIECE: usize = 65_536;
+
+/// A run of a stream.
+#[derive(Clone, Copy, Debug)]
+pub enum Run<'b> {
+    /// One or more bytes taken while searching, the sync word's bytes included.
+    Skip(&'b [u8]),
+    /// The last four bytes taken while searching were the sync word.
+    Sync,
+    /// A word in a header's place, and its step.
+    Head(u32, Step),
+    /// A payload word whose bytes came in two reads, with its register.
+    Word(u8, u32),
+    /// Payload words of one packet, with their register: a positive multiple of four bytes, four for CMD.
+    Body(u8, &'b [u8]),
+    /// One to three bytes of no whole word, at the end of a stream.
+    Tail(&'b [u8]),
+    /// The stream has no more bytes.
+    End,
+}
+
+/// What the last run is. The bytes that it lends stand in the buffer; those of the tail are the ones that the cutter keeps.
+#[derive(Clone, Copy)]
+pub(crate) enum Found {
+    Skip,
+    Sync,
+    Head(u32, Step),
+    Word(u8, u32),
+    Body(u8),
+    Tail,
+    End,
+}
+
+/// What a run is that was cut; `None` where the piece was used up.
+fn found_of(cut: Cut) -> Option<Found>
+    ensures some { IfSome result (λ found. IsFound found cut.entry) }
+    ensures none { IfNone result (IsNeed cut.entry) }
+{
+    match cut {
+        Cut::Need => None,
+        Cut::Skip(_) => Some(Found::Skip),
+        Cut::Sync => Some(Found::Sync),
+        Cut::Head(w, step) => Some(Found::Head(w, step)),
+        Cut::Word(register, w) => Some(Found::Word(register, w)),
+        Cut::Body(register, _) => Some(Found::Body(register)),
+    }
+}
+
+/// A buffer that begins with these bytes.
+fn buffer_of(alloc: Global, first: &[u8]) -> Result<Vec<u8>, NoMemory>
+    requires { length first.now ≤ 65536 }
+    ensures items { IfOk result (λ buffer. take (length first.now) buffer.items ≡ first.now) }
+    ensures len { IfOk result (λ buffer. vec_len buffer ≡ 65536) }
+{
+    let mut buffer = Vec::from_slice(alloc, first)?;
+    buffer.resize(PIECE, 0)?;
+    Ok(buffer)
+}
+
+/// The packets of a stream that is read where it must be. Its runs are lent out of one buffer.
+#[derive(Drop)]
+pub struct Packets {
+    cutter: Cutter,
+    buffer: Vec<u8>,
+    // The last run's bytes end where those begin that the cutter has not taken.
+    start: usize,
+    at: usize,
+    end: usize,
+    found: Found,
+    done: bool,
+    failed: bool,
+    taken: u64,
+}
+
+impl Model for Packets {
+    ghost use Rattle.std.specs.Prelude.{◌≡◌, ◌≤◌, vec_len};
+    ghost use Rattle.x7_packets.specs.Cutting.{between};
+    ghost use Rattle.x7_packets.specs.PacketsState.{PacketsState};
+
+    ghost Value = { PacketsState };
+
+    ghost view = { λ p. record { cutter = p.cutter; left = between p.buffer.items p.at p.end; found = p.found; bytes = between p.buffer.items p.start p.at; done = p.done; failed = p.failed; taken = p.taken } };
+
+    ghost invariant = { λ p. (p.start ≤ p.at) × (p.at ≤ p.end) × (p.end ≤ vec_len p.buffer) × (vec_len p.buffer ≡ 65536) };
+}
+
+impl Packets {
+    ghost use Rattle.std.specs.Borrow.{sem};
+    ghost use Rattle.x7_packets.specs.Running.{GivesNext};
+
+    /// The packets of these bytes and then of what an input gives.
+    pub fn new(alloc: Global, first: &[u8]) -> Result<Packets, NoMemory>
+        requires { length first.now ≤ 65536 }
+        ensures ok { IfOk result (λ p. PacketsStandFor p first.now []) }
+        ensures fresh { IfOk result (λ p. (p.done ≡ false) × (p.failed ≡ false)) }
+    {
+        let buffer = buffer_of(alloc, first)?;
+        let cutter = Cutter::new();
+        cutter.keeps_the_tail();
+        Ok(Packets {
+            cutter,
+            buffer,
+            start: 0,
+            at: 0,
+            end: first.len(),
+            found: Found::End,
+            done: false,
+            failed: false,
+            taken: first.len() as u64,
+        })
+    }
+
+    /// How many bytes were taken, the first ones included, also after a failed read.
+    pub fn taken(&self) -> u64
+        ensures is { result ≡ self.now.taken }
+        ensures count { (bytes told : List ℕ) → PacketsStandFor self.now bytes told → result ≡ length bytes }
+    {
+        self.taken
+    }
+
+    /// The next run. It reads where it must, and no more once the tail or the end was given; the end is then given again.
+    /// After a failed read it fails from then on.
+    pub fn next_run<'b, I: Inputs>(&'b mut self, inputs: &mut I) -> Result<Run<'b>, Failed>
+        requires selected { self.old.failed ≡ false → I.selected inputs.old ≡ true }
+        requires end { self.old.done ≡ true → AtEnd (I.rest inputs.old) }
+        requires count { self.old.taken ≤ 2 ^ 63 }
+        ensures* next { sem 𝓛 (GivesNext self.entry (I.rest inputs.old) (I.rest inputs.new) result) }
+        ensures failed { OnErr result ((self.old.failed ≡ true) ⊎ HasRisen (I.faults inputs.old) (I.faults inputs.new)) }
+        ensures selected { OnOk result (I.selected inputs.new ≡ true) }
+        ensures stays { self.old.failed ≡ true → OnOk result ⊥ }
+        ensures ended { self.old.done ≡ true → inputs.new ≡ inputs.old }
+        ensures map { I.contents inputs.new ≡ I.contents inputs.old }
+        ensures faults { I.faults inputs.old ≤ I.faults inputs.new }
+        ensures absences { I.absences inputs.old ≤ I.absences inputs.new }
+    {
+        self.advance(inputs)?;
+        Ok(self.run())
+    }
+
+    /// Finds the next run.
+    fn advance<I: Inputs>(&mut self, inputs: &mut I) -> Result<(), Failed>
+        requires selected { self.old.failed ≡ false → I.selected inputs.old ≡ true }
+        requires end { self.old.done ≡ true → AtEnd (I.rest inputs.old) }
+        requires count { self.old.taken ≤ 2 ^ 63 }
+        ensures ok { OnOk result ((r : Run) → IsLast self.new r → GivesRun self.old self.new (I.rest inputs.old) (I.rest inputs.new) r) }
+        ensures err { OnErr result (GivesUp self.old self.new) }
+        ensures failed { OnErr result ((self.old.failed ≡ true) ⊎ HasRisen (I.faults inputs.old) (I.faults inputs.new)) }
+        ensures selected { OnOk result (I.selected inputs.new ≡ true) }
+        ensures stays { self.old.failed ≡ true → OnOk result ⊥ }
+        ensures ended { self.old.done ≡ true → inputs.new ≡ inputs.old }
+        ensures map { I.contents inputs.new ≡ I.contents inputs.old }
+        ensures faults { I.faults inputs.old ≤ I.faults inputs.new }
+        ensures absences { I.absences inputs.old ≤ I.absences inputs.new }
+    {
+        if self.failed {
+            return Err(Failed);
+        }
+        if self.done {
+            self.found = Found::End;
+            return Ok(());
+        }
+        loop {
+            if self.step() {
+                return Ok(());
+            }
+            let more = match self.fill(inputs) {
+                Ok(more) => more,
+                Err(failed) => return Err(failed),
+            };
+            if !more {
+                self.finish();
+                return Ok(());
+            }
+        }
+    }
+
+    /// The last run that was found.
+    fn run(&self) -> Run<'_>
+        ensures { IsLast self.now result }
+    {
+        let bytes = &self.buffer[self.start..self.at];
+        match self.found {
+            Found::Skip => Run::Skip(bytes),
+            Found::Sync => Run::Sync,
+            Found::Head(w, step) => Run::Head(w, step),
+            Found::Word(register, w) => Run::Word(register, w),
+            Found::Body(register) => Run::Body(register, bytes),
+            Found::Tail => Run::Tail(self.cutter.kept()),
+            Found::End => Run::End,
+        }
+    }
+
+    /// Cuts the bytes that are left, and says whether a run was found.
+    fn step(&mut self) -> bool
+        ensures { Steps self.old self.new result }
+    {
+        let mut count = 0;
+        let found = found_of(self.cutter.cut(&self.buffer[self.at..self.end], &mut count));
+        self.cutter.keeps_the_tail();
+        self.start = self.at;
+        self.at += count;
+        match found {
+            Some(found) => {
+                self.found = found;
+                true
+            }
+            None => false,
+        }
+    }
+
+    /// Reads a piece once more, and says whether the input gave some bytes.
+    fn fill<I: Inputs>(&mut self, inputs: &mut I) -> Result<bool, Failed>
+        requires selected { I.selected inputs.old ≡ true }
+        requires none { self.old.left ≡ [] }
+        requires count { self.old.taken + 65536 < 2 ^ 64 }
+        ensures ok { IfOk result (λ any. Fills self.old self.new (I.rest inputs.old) (I.rest inputs.new) any) }
+        ensures err { OnErr result (self.new ≡ record self.old { bytes = []; failed = true }) }
+        ensures failed { OnErr result (HasRisen (I.faults inputs.old) (I.faults inputs.new)) }
+        ensures selected { OnOk result (I.selected inputs.new ≡ true) }
+        ensures map { I.contents inputs.new ≡ I.contents inputs.old }
+        ensures faults { I.faults inputs.old ≤ I.faults inputs.new }
+        ensures absences { I.absences inputs.old ≤ I.absences inputs.new }
+    {
+        self.start = 0;
+        self.at = 0;
+        self.end = 0;
+        match inputs.read(&mut self.buffer) {
+            Ok(count) => {
+                self.end = count;
+                self.taken += count as u64;
+                Ok(count > 0)
+            }
+            Err(failed) => {
+                self.failed = true;
+                Err(failed)
+            }
+        }
+    }
+
+    /// Ends the runs: with the bytes of no whole word that the cutter keeps, or with none.
+    fn finish(&mut self)
+        ensures kept { self.old.cutter.kept ≢ [] → self.new ≡ record self.old { found = Found.Tail; done = true } }
+        ensures none { self.old.cutter.kept ≡ [] → self.new ≡ record self.old { found = Found.End; done = true } }
+    {
+        self.done = true;
+        self.found = if self.cutter.kept().is_empty() {
+            Found::End
+        } else {
+            Found::Tail
+        };
+    }
+}
