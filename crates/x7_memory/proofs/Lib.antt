@@ -5,3 +5,4 @@ pub mod ZeroLemmas
 pub mod PlanLemmas
 pub mod MapLemmas
 pub mod DraftLemmas
+pub mod RowLemmas

@@ -1,14 +1,12 @@
 -- Rows of a plan by their addresses.
-use Rattle.std.proofs.Common.{◌≡◌, ℕ, zero, suc, ◌+◌, ◌-◌, ◌<◌, ◌≤◌, inl, inr, List, [], ◌∷◌, length, get_or, eq-eqb, ne_eqb, Option, Some, None, ◌^◌, Result, Ok, Err, IfOk, IfErr, refl, sym, ap, subst, ◌∙◌, ◌==◌, if◌then◌else◌, arith}
+use Rattle.std.proofs.Common.{◌≡◌, ℕ, zero, suc, ◌+◌, ◌-◌, ◌<◌, ◌≤◌, inl, inr, List, [], ◌∷◌, length, get_or, eq-eqb, ne_eqb, Option, Some, None, ◌^◌, refl, sym, ap, subst, ◌∙◌, ◌==◌, if◌then◌else◌, arith}
 use Rattle.std.specs.Prelude.{All, Contains}
 use Rattle.std.specs.List.{insert}
-use Rattle.std.specs.List.Sorted.{IsSearchInRange, IsBinarySearchResult, IsNonDecreasingBy, IsPermutation}
-use Rattle.std.specs.Ordering.{nat_cmp, ordering_index}
-use Rattle.std.proofs.lemmas.Bool.Decides.{eqb_tells, nat_tests}
-use Rattle.std.proofs.lemmas.Cmp.{ranked}
+use Rattle.std.specs.List.Sorted.{IsPermutation}
+use Rattle.std.proofs.lemmas.Bool.Decides.{eqb_tells}
 use Rattle.std.proofs.lemmas.List.{get_or-map, length-map}
 use Rattle.std.proofs.lemmas.List.Edits.{length-insert, get_or-insert_below, get_or-insert_at, get_or-insert_above}
-use Rattle.std.proofs.lemmas.List.Sorted.{IsNonDecreasingBy-from_default, All-permutation, IsPermutation-sym}
+use Rattle.std.proofs.lemmas.List.Sorted.{All-permutation, IsPermutation-sym}
 use Rattle.std.proofs.lemmas.List.Elements.{All-nil, All-cons, All-head, All-tail}
 use Rattle.std.proofs.lemmas.Option.{none-some, same_Some}
 use Rattle.std.proofs.lemmas.Bool.{cases_order}
@@ -165,22 +163,3 @@ gap_unlisted rows far i gap has =
 
 pub gap_none : (rows : List PlanRow) (far i : ℕ) → IsGap rows far i → planned rows far ≡ None
 gap_none rows far i gap = planned_none rows far (gap_free rows far i gap)
-
--- ---- a search by halves
-
-module _ (rows : List PlanRow) (order : AreInOrder rows) (far : ℕ) where
-  comparisons_rise : IsNonDecreasingBy (λ row. ordering_index (nat_cmp row.far far)) rows
-  comparisons_rise = IsNonDecreasingBy-from_default (λ row. ordering_index (nat_cmp row.far far)) rows no_row (λ i j le inside.
-      let rise : (get_or rows i no_row).far ≤ (get_or rows j no_row).far = grind (arith, order i j no_row, λ (same : i ≡ j). ap (λ k. (get_or rows k no_row).far) same) in
-      grind (arith, nat_tests))
-
-  pub searched : (r : Result ℕ ℕ) → IsSearchInRange r (length rows) → IsBinarySearchResult (λ row. nat_cmp row.far far) rows r → (IfOk r (IsPlace rows far)) × (IfErr r (IsGap rows far))
-  searched (Ok at) inside equal = (record { inside = inside; same = λ d. ranked _ far _ (sym (equal d)) }, tt)
-  searched (Err at) inside parted = (
-    tt,
-    record {
-      inside = inside;
-      smaller = λ j d lt. ranked _ far _ (sym ((parted comparisons_rise).0 j d (omega arith) lt));
-      greater = λ j d le lt. ranked _ far _ (sym ((parted comparisons_rise).1 j d le lt));
-    },
-  )

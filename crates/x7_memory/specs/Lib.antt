@@ -4,3 +4,4 @@ pub mod Planned
 pub mod Places
 pub mod Flat
 pub mod Stored
+pub mod Rows

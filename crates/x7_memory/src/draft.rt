@@ -1,20 +1,17 @@
 //! Frames as they come, which become a plan at once.
-ghost use Rattle.std.specs.Prelude.{◌≡◌, [], ◌∷◌, ◌++◌, length, IsPermutation, OnOk, OnErr};
-ghost use Rattle.std.specs.List.Sorted.{IsNonDecreasingBy};
+ghost use Rattle.std.specs.Prelude.{◌≡◌, [], ◌∷◌, ◌++◌, length, IsPermutation, IfOk, OnOk, OnErr};
 ghost use Rattle.x7_memory.specs.Planned.{IsPlan, AreApart};
 
-use crate::plan::{Plan, Row};
-use std::alloc::{AllocError, Global};
+use crate::plan::Plan;
+use crate::rows::Rows;
+use std::alloc::Global;
 use std::marker::Model;
 use x7_words::NoMemory;
 
 /// Frames of one width in the order in which they came. They are put in order once, when all have come.
 #[derive(Drop)]
 pub struct Draft {
-    alloc: Global,
-    /// The words of a frame.
-    width: u32,
-    rows: Vec<Row>,
+    rows: Rows,
 }
 
 impl Model for Draft {
@@ -22,9 +19,9 @@ impl Model for Draft {
 
     ghost Value = { PlanData };
 
-    ghost view = { λ draft. record { width = draft.width; rows = draft.rows.items } };
+    ghost view = { λ draft. draft.rows };
 
-    ghost invariant = { λ draft. IsDraft record { width = draft.width; rows = draft.rows.items } };
+    ghost invariant = { λ draft. IsDraft draft.rows };
 }
 
 impl Draft {
@@ -34,9 +31,18 @@ impl Draft {
         ensures empty { result.rows ≡ [] }
     {
         Draft {
-            alloc,
-            width: words,
-            rows: Vec::new(alloc),
+            rows: Rows::new(alloc, words),
+        }
+    }
+
+    /// A draft of no frame, for frames of so many words, with room for so many frames.
+    pub fn with_room(alloc: Global, words: u32, frames: usize) -> Result<Draft, NoMemory>
+        ensures width { IfOk result (λ draft. draft.width ≡ words) }
+        ensures empty { IfOk result (λ draft. draft.rows ≡ []) }
+    {
+        match Rows::with_room(alloc, words, frames) {
+            Ok(rows) => Ok(Draft { rows }),
+            Err(_) => Err(NoMemory),
         }
     }
 
@@ -47,20 +53,10 @@ impl Draft {
         ensures width { self.new.width ≡ self.old.width }
         ensures failed { OnErr result (self.new ≡ self.old) }
     {
-        match self.pushed(far, words) {
+        match self.rows.push(far, words) {
             Ok(()) => Ok(()),
             Err(_) => Err(NoMemory),
         }
-    }
-
-    fn pushed(&mut self, far: u32, words: &[u32]) -> Result<(), AllocError>
-        requires width { length words.now ≡ self.old.width }
-        ensures added { OnOk result (self.new.rows ≡ self.old.rows ++ record { far = far; words = words.now } ∷ []) }
-        ensures width { self.new.width ≡ self.old.width }
-        ensures failed { OnErr result (self.new ≡ self.old) }
-    {
-        let words = Vec::from_slice(self.alloc, words)?;
-        Ok(self.rows.push(Row { far, words })?)
     }
 
     /// The plan of the frames, no two of which may have one address. It takes no memory.
@@ -71,15 +67,7 @@ impl Draft {
         ensures plan { IsPlan result }
     {
         let mut rows = self.rows;
-        sort(&mut rows);
-        Plan::of_rows(self.alloc, self.width, rows)
+        rows.sort();
+        Plan::of_rows(rows)
     }
-}
-
-/// Puts rows in number order of their addresses.
-fn sort(rows: &mut Vec<Row>)
-    ensures sorted { IsNonDecreasingBy (λ row. row.far) rows.new.items }
-    ensures same { IsPermutation rows.old.items rows.new.items }
-{
-    rows.sort_unstable_by_key(|row| row.far);
 }

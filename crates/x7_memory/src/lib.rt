@@ -5,6 +5,7 @@ mod draft;
 mod laws;
 mod memory;
 mod plan;
+mod rows;
 #[cfg(test)]
 mod tests;
 

@@ -4,38 +4,23 @@ ghost use Rattle.std.specs.List.{insert};
 ghost use Rattle.x7_memory.specs.Planned.{PlanRow, PlanData, IsPlan, HasMore, planned, planned_addresses};
 ghost use Rattle.x7_memory.specs.Places.{IsPlace, IsGap};
 
+use crate::rows::Rows;
 use std::alloc::{AllocError, Global};
 use std::marker::Model;
 use x7_words::NoMemory;
 
-/// A frame and its address.
-#[derive(Drop)]
-pub(crate) struct Row {
-    pub(crate) far: u32,
-    pub(crate) words: Vec<u32>,
-}
-
-impl Model for Row {
-    ghost Value = { PlanRow };
-
-    ghost view = { λ row. record { far = row.far; words = row.words.items } };
-}
-
 /// Frames of one width, in number order of their addresses.
 #[derive(Drop)]
 pub struct Plan {
-    alloc: Global,
-    /// The words of a frame.
-    width: u32,
-    rows: Vec<Row>,
+    rows: Rows,
 }
 
 impl Model for Plan {
     ghost Value = { PlanData };
 
-    ghost view = { λ plan. record { width = plan.width; rows = plan.rows.items } };
+    ghost view = { λ plan. plan.rows };
 
-    ghost invariant = { λ plan. IsPlan record { width = plan.width; rows = plan.rows.items } };
+    ghost invariant = { λ plan. IsPlan plan.rows };
 }
 
 impl Plan {
@@ -45,18 +30,16 @@ impl Plan {
         ensures empty { result.rows ≡ [] }
     {
         Plan {
-            alloc,
-            width: words,
-            rows: Vec::new(alloc),
+            rows: Rows::new(alloc, words),
         }
     }
 
-    /// The plan of these rows.
-    pub(crate) fn of_rows(alloc: Global, width: u32, rows: Vec<Row>) -> Plan
-        requires { IsPlan record { width = width; rows = rows.items } }
-        ensures { result ≡ record { width = width; rows = rows.items } }
+    /// The plan of rows in order.
+    pub(crate) fn of_rows(rows: Rows) -> Plan
+        requires { IsPlan rows }
+        ensures { result ≡ rows }
     {
-        Plan { alloc, width, rows }
+        Plan { rows }
     }
 
     /// Plans a frame. It is false, and changes nothing, where the address has one.
@@ -84,7 +67,7 @@ impl Plan {
         ensures found { IfOk result (IsPlace self.now.rows far) }
         ensures gap { IfErr result (IsGap self.now.rows far) }
     {
-        self.rows.binary_search_by_key(&far, |row| row.far)
+        self.rows.search(far)
     }
 
     /// Adds a row where its address goes.
@@ -95,8 +78,7 @@ impl Plan {
         ensures width { self.new.width ≡ self.old.width }
         ensures failed { OnErr result (self.new ≡ self.old) }
     {
-        let words = Vec::from_slice(self.alloc, words)?;
-        Ok(self.rows.insert(place, Row { far, words })?)
+        Ok(self.rows.insert(place, far, words)?)
     }
 
     /// The frame that is planned for an address.
@@ -107,7 +89,7 @@ impl Plan {
         ensures nothing { IfNone result (planned self.now.rows far ≡ None) }
     {
         match self.search(far) {
-            Ok(place) => Some(&self.rows[place].words),
+            Ok(place) => Some(self.rows.words(place)),
             Err(_) => None,
         }
     }
@@ -126,7 +108,6 @@ impl Plan {
         ensures width { IfSome result (λ row. length row.1.now ≡ self.now.width) }
         ensures none { IfNone result (length self.now.rows ≤ i) }
     {
-        let row = self.rows.get(i)?;
-        Some((row.far, row.words.as_slice()))
+        self.rows.get(i)
     }
 }

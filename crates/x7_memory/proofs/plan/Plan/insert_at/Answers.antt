@@ -1,4 +1,4 @@
-use Rattle.std.proofs.Common.{◌∙◌, ap, sym, subst, length, arith}
+use Rattle.std.proofs.Common.{◌∙◌, ap, sym, subst, arith}
 use Rattle.x7_words.specs.Word.{AreWords}
 use Rattle.x7_memory.specs.Places.{IsGap}
 use Rattle.x7_memory.proofs.PlanLemmas.{plan_insert, words_by_place}
@@ -7,7 +7,8 @@ use Rattle.x7_memory.proofs.plan.Plan.insert_at.Goals as goal
 pub invariant_of-self-2 : goal.invariant_of-self-2
 invariant_of-self-2 c =
     let gap = subst (λ plan. IsGap plan.rows c.args.far c.args.place) (sym c.self.view_is) c.requires.gap in
-    let width = ap length c.in_ok-words.ensures.items ∙ c.requires.width ∙ sym (ap (λ plan. plan.width) c.self.view_is) in
-    let fits : AreWords c.in_ok-words.words.items = rw c.in_ok-words.ensures.items (words_by_place c.args.words.now (λ i h. (c.type_inv.words i).fits)) in
+    let width = c.requires.width ∙ ap (λ plan. plan.width) (sym c.self.view_is) in
+    let fits : AreWords c.args.words.now = words_by_place c.args.words.now (λ i h. (c.type_inv.words i).fits) in
     let far = c.ranges.far.fits in
-    rw c.in_ok-insert.ensures.items (plan_insert c.self.inside.width c.self.inside.rows.items record { far = c.args.far; words = c.in_ok-words.words.items } c.args.place c.self.invariant gap width record { far = omega arith; words = fits })
+    rw (c.insert.ensures.width, c.in_ok-insert.ensures.added)
+    (plan_insert c.self.inside.rows.width c.self.inside.rows.rows record { far = c.args.far; words = c.args.words.now } c.args.place c.self.invariant gap width record { far = omega arith; words = fits })

@@ -1,0 +1,20 @@
+-- Rows as their fields hold them: the words of all frames in one list, and each row's address and place in it.
+use Rattle.std.specs.Prelude.{ℕ, ◌+◌, ◌≤◌, List, length, map, take, drop, All}
+use Rattle.x7_memory.specs.declared.rows.Row.{Row}
+use Rattle.x7_memory.specs.declared.rows.Rows.TheInside.{Inside}
+use Rattle.x7_memory.specs.Planned.{PlanRow, PlanData, IsDraft}
+
+-- a row with the words from its place on
+abbrev pub row_in : ℕ → List ℕ → Row → PlanRow
+row_in width words row = record { far = row.far; words = take width (drop row.start words) }
+
+abbrev pub rows_in : ℕ → List ℕ → List Row → List PlanRow
+rows_in width words rows = map (row_in width words) rows
+
+abbrev pub rows_seen : Inside → PlanData
+rows_seen kept = record { width = kept.width; rows = rows_in kept.width kept.words.items kept.rows.items }
+
+-- each row's words are there, and have 32 bits
+pub record AreKept (width : ℕ) (words : List ℕ) (rows : List Row) : Type 0 where
+  pub inside : All (λ row. row.start + width ≤ length words) rows
+  pub draft : IsDraft record { width = width; rows = rows_in width words rows }

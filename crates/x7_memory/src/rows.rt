@@ -1,0 +1,135 @@
+//! Rows of one width: the words of all frames in one vector, and where each row's stand in it.
+ghost use Rattle.std.specs.Prelude.{◌≡◌, [], ◌∷◌, ◌++◌, ◌<◌, ◌≤◌, length, slice_index_or, IsPermutation, IfOk, IfErr, IfSome, IfNone, OnOk, OnErr};
+ghost use Rattle.std.specs.List.{insert};
+ghost use Rattle.std.specs.List.Sorted.{IsNonDecreasingBy};
+ghost use Rattle.x7_memory.specs.Planned.{PlanRow, AreInOrder};
+ghost use Rattle.x7_memory.specs.Places.{IsPlace, IsGap};
+
+use std::alloc::{AllocError, Global};
+use std::marker::Model;
+
+/// The address of a frame, and where its words begin.
+#[derive(Clone, Copy)]
+struct Row {
+    far: u32,
+    start: usize,
+}
+
+/// Frames of one width and their addresses, in some order.
+#[derive(Drop)]
+pub(crate) struct Rows {
+    /// The words of a frame.
+    width: u32,
+    /// The words of all frames, in the order in which they came.
+    words: Vec<u32>,
+    rows: Vec<Row>,
+}
+
+impl Model for Rows {
+    ghost use Rattle.x7_memory.specs.Planned.{PlanData};
+    ghost use Rattle.x7_memory.specs.Rows.{rows_seen, AreKept};
+
+    ghost Value = { PlanData };
+
+    ghost view = { rows_seen };
+
+    ghost invariant = { λ kept. AreKept kept.width kept.words.items kept.rows.items };
+}
+
+impl Rows {
+    /// No row.
+    pub(crate) fn new(alloc: Global, width: u32) -> Rows
+        ensures width { result.width ≡ width }
+        ensures empty { result.rows ≡ [] }
+    {
+        Rows {
+            width,
+            words: Vec::new(alloc),
+            rows: Vec::new(alloc),
+        }
+    }
+
+    /// No row, with room for so many.
+    pub(crate) fn with_room(alloc: Global, width: u32, count: usize) -> Result<Rows, AllocError>
+        ensures width { IfOk result (λ rows. rows.width ≡ width) }
+        ensures empty { IfOk result (λ rows. rows.rows ≡ []) }
+    {
+        let words = Vec::with_capacity(alloc, count.saturating_mul(width as usize))?;
+        Ok(Rows {
+            width,
+            words,
+            rows: Vec::with_capacity(alloc, count)?,
+        })
+    }
+
+    /// Adds a row behind the others.
+    pub(crate) fn push(&mut self, far: u32, words: &[u32]) -> Result<(), AllocError>
+        requires width { length words.now ≡ self.old.width }
+        ensures added { OnOk result (self.new.rows ≡ self.old.rows ++ record { far = far; words = words.now } ∷ []) }
+        ensures width { self.new.width ≡ self.old.width }
+        ensures failed { OnErr result (self.new ≡ self.old) }
+    {
+        self.insert(self.len(), far, words)
+    }
+
+    /// Adds a row at a place, and moves those from there on behind it.
+    pub(crate) fn insert(&mut self, place: usize, far: u32, words: &[u32]) -> Result<(), AllocError>
+        requires place { place ≤ length self.old.rows }
+        requires width { length words.now ≡ self.old.width }
+        ensures added { OnOk result (self.new.rows ≡ insert self.old.rows place record { far = far; words = words.now }) }
+        ensures width { self.new.width ≡ self.old.width }
+        ensures failed { OnErr result (self.new ≡ self.old) }
+    {
+        let start = self.words.len();
+        self.words.extend_from_slice(words)?;
+        Ok(self.rows.insert(place, Row { far, start })?)
+    }
+
+    /// Where an address is among rows in order, or where it would go.
+    pub(crate) fn search(&self, far: u32) -> Result<usize, usize>
+        requires { AreInOrder self.now.rows }
+        ensures found { IfOk result (IsPlace self.now.rows far) }
+        ensures gap { IfErr result (IsGap self.now.rows far) }
+    {
+        self.rows.binary_search_by_key(&far, |row| row.far)
+    }
+
+    /// Puts the rows in number order of their addresses.
+    pub(crate) fn sort(&mut self)
+        ensures sorted { IsNonDecreasingBy (λ row. row.far) self.new.rows }
+        ensures same { IsPermutation self.old.rows self.new.rows }
+        ensures width { self.new.width ≡ self.old.width }
+    {
+        self.rows.sort_unstable_by_key(|row| row.far);
+    }
+
+    /// The number of rows.
+    pub(crate) fn len(&self) -> usize
+        ensures { result ≡ length self.now.rows }
+    {
+        self.rows.len()
+    }
+
+    /// The i-th row, from 0 on.
+    pub(crate) fn get(&self, i: usize) -> Option<(u32, &[u32])>
+        ensures found { IfSome result (λ row. (i < length self.now.rows) × ((d : PlanRow) → slice_index_or self.now.rows i d ≡ record { far = row.0; words = row.1.now })) }
+        ensures width { IfSome result (λ row. length row.1.now ≡ self.now.width) }
+        ensures none { IfNone result (length self.now.rows ≤ i) }
+    {
+        let row = self.rows.get(i)?;
+        Some((
+            row.far,
+            &self.words[row.start..row.start + self.width as usize],
+        ))
+    }
+
+    /// The words of the i-th row.
+    pub(crate) fn words(&self, i: usize) -> &[u32]
+        requires { i < length self.now.rows }
+        ensures value { (d : PlanRow) → result.now ≡ (slice_index_or self.now.rows i d).words }
+        ensures width { length result.now ≡ self.now.width }
+    {
+        let start = self.rows[i].start;
+        &self.words[start..start + self.width as usize]
+    }
+}
