@@ -26,3 +26,4 @@ pub mod ReadbackLemmas
 pub mod FullLemmas
 pub mod PlannerLemmas
 pub mod LawLemmas
+pub mod InTurnLemmas

@@ -57,7 +57,7 @@ slots_same : (part : PartData) (m k : FrameMap) (places : List Slot) → AreSame
 slots_same part m k [] e = refl
 slots_same part m k (s ∷ places) e = ap (λ t. t ++ flat_map (slot_words part m) places) (slot_same part m k s e) ∙ ap (λ t. slot_words part k s ++ t) (slots_same part m k places e)
 
-along_same : (part : PartData) (m k : FrameMap) (far n : ℕ) → AreSame m k → words_along part m far n ≡ words_along part k far n
+pub along_same : (part : PartData) (m k : FrameMap) (far n : ℕ) → AreSame m k → words_along part m far n ≡ words_along part k far n
 along_same part m k far n e = ap (λ t. replicate (frame_words part) 0 ++ t) (slots_same part m k (take n (slots_from part far)) e)
 
 -- ---- a read that isn't refused

@@ -1,11 +1,13 @@
 //! What planned streams do on a device at rest. The functions do nothing: their contracts are the laws.
-ghost use Rattle.std.specs.Prelude.{◌≡◌, ℕ, List, []};
+ghost use Rattle.std.specs.Prelude.{◌≡◌, ◌++◌, ℕ, List, []};
 ghost use Rattle.x7_planner.specs.Partial.{AreLongest, WritesOnce, joined_runs, pairs_in, partial_stream, runs_of, stretches_of};
-ghost use Rattle.x7_effects.specs.Played.{PlaysFull, PlaysPartial, PlaysRead};
+ghost use Rattle.x7_effects.specs.Played.{IsPlanFor, PlaysBoth, PlaysFull, PlaysPartial, PlaysRead, ReadsBack};
 ghost use Rattle.x7_engine.specs.Kept.{on_the_bench};
 ghost use Rattle.x7_engine.specs.Rest.{AtRest};
+ghost use Rattle.x7_engine.specs.State.{memory_in};
 ghost use Rattle.x7_engine.specs.declared.kept.Kept.{Kept};
-ghost use Rattle.x7_memory.specs.Planned.{AreInOrder, IsPlan, PlanData, PlanRow};
+ghost use Rattle.x7_memory.specs.FrameMap.{override};
+ghost use Rattle.x7_memory.specs.Planned.{AreInOrder, IsPlan, PlanData, PlanRow, planned, total};
 ghost use Rattle.x7_part.specs.Part.{PartData, frame_words};
 ghost use Rattle.x7_part.specs.PartRange.{IsPart};
 ghost use Rattle.x7_planner.specs.Full.{full_stream};
@@ -42,4 +44,16 @@ pub fn partial_streams_write_once()
 pub fn read_streams_play()
     ensures { (part : PartData) (kept : Kept) (bytes : List ℕ) (address n : ℕ) → AreBytes bytes → AtRest part kept bytes → IsPart part → CanRead part address n
         → PlaysRead part kept bytes (read_stream part address n) address n }
+{}
+
+/// Streams one after another, from a device at rest on: a read stream behind a full one reads the plan over zeros back, and
+/// behind a partial one the plan over what was there before; a partial stream behind a full one leaves the later plan over
+/// the earlier one, and startup stays ended.
+pub fn streams_play_in_turn()
+    ensures full { (part : PartData) (kept : Kept) (bytes : List ℕ) (plan : PlanData) (far n : ℕ) → AreBytes bytes → AtRest part kept bytes → IsPart part → IsPlanFor part plan → CanRead part far n
+        → ReadsBack part kept bytes (bytes ++ full_stream part plan) (total part plan) far n }
+    ensures partial { (part : PartData) (kept : Kept) (bytes : List ℕ) (plan : PlanData) (far n : ℕ) → AreBytes bytes → AtRest part kept bytes → IsPart part → IsPlanFor part plan → CanRead part far n
+        → ReadsBack part kept bytes (bytes ++ partial_stream part plan.rows) (override (memory_in part kept bytes) (planned plan.rows)) far n }
+    ensures both { (part : PartData) (kept : Kept) (bytes : List ℕ) (plan later : PlanData) → AreBytes bytes → AtRest part kept bytes → IsPart part → IsPlanFor part plan → IsPlanFor part later
+        → PlaysBoth part kept ((bytes ++ full_stream part plan) ++ partial_stream part later.rows) plan later }
 {}

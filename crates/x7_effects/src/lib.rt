@@ -5,4 +5,5 @@ mod law;
 
 pub use law::{
     full_streams_play, partial_streams_play, partial_streams_write_once, read_streams_play,
+    streams_play_in_turn,
 };

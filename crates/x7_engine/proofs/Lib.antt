@@ -23,3 +23,4 @@ pub mod StateLemmas
 pub mod TimeoutLemmas
 pub mod TurnLemmas
 pub mod UndoLemmas
+pub mod WrapLemmas

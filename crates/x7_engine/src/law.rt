@@ -1,8 +1,9 @@
 //! Laws of the definitions, for the proofs of crates above.
-ghost use Rattle.std.specs.Prelude.{◌≡◌, ◌+◌, ◌-◌, ◌<◌, ◌≤◌, ◌++◌, ◌↔◌, ℕ, Bool, IsTrue, List, [], None, Some, length};
+ghost use Rattle.std.specs.Prelude.{◌≡◌, ◌+◌, ◌-◌, ◌^◌, ◌<◌, ◌≤◌, ◌++◌, ◌↔◌, ℕ, Bool, IsTrue, List, [], None, Some, false, length, true};
 ghost use Rattle.x7_words.specs.Word.{AreBytes};
 ghost use Rattle.x7_packets.specs.History.{Access, AllFit, History, Placed, Write, history_of, last_word};
 ghost use Rattle.x7_part.specs.Part.{PartData};
+ghost use Rattle.x7_regs.specs.declared.boot_status.Kind.TheVariants.{Bench};
 ghost use Rattle.x7_regs.specs.declared.register.Reg.TheVariants.{Cor0, Crc, Idcode};
 ghost use Rattle.x7_regs.specs.Register.{number_of};
 ghost use Rattle.x7_startup.specs.Calls.{Begun, IsPhaseOf};
@@ -15,9 +16,10 @@ ghost use Rattle.x7_engine.specs.Registers.{HasMaskedBits, has_ghigh, is_clearan
 ghost use Rattle.x7_engine.specs.Rest.{AtRest, GoesOn};
 ghost use Rattle.x7_engine.specs.Sequence.{Begins, HasGhigh, IsPending};
 ghost use Rattle.x7_engine.specs.Startup.{phase_of, startup_progress};
-ghost use Rattle.x7_engine.specs.State.{history_taken, memory_in, reads_of, state_of, stop_in, taken_of};
-ghost use Rattle.x7_engine.specs.Stops.{Stopped, line_at};
+ghost use Rattle.x7_engine.specs.State.{history_taken, line_by, memory_in, reads_of, state_of, stop_in, taken_of};
+ghost use Rattle.x7_engine.specs.Stops.{Stopped, fault_of, line_at};
 ghost use Rattle.x7_engine.specs.Timeout.{before_byte, fires_at};
+ghost use Rattle.x7_engine.specs.Values.{cause_of};
 ghost use Rattle.x7_engine.specs.Watching.{fires};
 ghost use Rattle.x7_engine.specs.declared.kept.Kept.{Kept};
 
@@ -97,4 +99,12 @@ pub fn rest_lasts()
 /// The words that further bytes read out come after those read out so far.
 pub fn reads_grow()
     ensures { (part : PartData) (kept : Kept) (bytes more : List ℕ) → AreBytes (bytes ++ more) → (rest : List ℕ) × (reads_of part kept (bytes ++ more) ≡ reads_of part kept bytes ++ rest) }
+{}
+
+/// The end of the flash shows in BOOTSTS alone: where no fault that a fallback follows ended the attempt of a boot, by the
+/// wrap bit.
+pub fn wraps_show_in_bootsts()
+    ensures alone { (part : PartData) (kept : Kept) (bytes : List ℕ) → state_of part kept true bytes ≡ record (state_of part kept false bytes) { bootsts = (state_of part kept true bytes).bootsts } }
+    ensures bit { (part : PartData) (kept : Kept) (bytes : List ℕ) → (kept.kind ≡ Bench → ⊥) → cause_of (fault_of (line_by (stop_in part kept bytes))) false ≡ None
+        → (state_of part kept true bytes).bootsts ≡ (state_of part kept false bytes).bootsts + 2 ^ 6 }
 {}

@@ -29,7 +29,7 @@ pub use kept::Kept;
 pub use law::{
     checks_before_startup, controls_take_masked_bits, phases_are_the_greatest_begun, reads_grow,
     rest_lasts, shutdowns_and_ghigh, startup_begins, stops_are_final, stops_are_first,
-    watchdog_fires,
+    watchdog_fires, wraps_show_in_bootsts,
 };
 pub use read_buffer::ReadBuf;
 pub use regs::{End, Regs};

@@ -1,6 +1,6 @@
 //! Words read out of a device.
 ghost use Rattle.std.specs.Prelude.{◌≡◌, ◌≤◌, ◌<◌, ◌-◌, ◌∷◌, [], false, length, replicate, IfOk, IsTrue, Some, None};
-ghost use Rattle.x7_engine.specs.ReadBuffer.{IsFull, with_words};
+ghost use Rattle.x7_engine.specs.ReadBuffer.{HoldsFew, IsFull, with_words};
 
 use std::alloc::Global;
 use std::marker::Model;
@@ -50,7 +50,8 @@ impl ReadBuf {
 
     /// The words gathered since it was made or cleared.
     pub fn words(&self) -> &[u32]
-        ensures { result.now ≡ self.now.words }
+        ensures now { result.now ≡ self.now.words }
+        ensures few { HoldsFew self.now.most result.now }
     {
         match &self.held {
             Some(words) => words.as_slice(),

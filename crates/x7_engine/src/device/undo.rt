@@ -1,8 +1,9 @@
 //! A device goes back over bytes that it took.
-ghost use Rattle.std.specs.Prelude.{◌≡◌, ◌≤◌, ◌+◌, ◌++◌, ◌^◌, ℕ, Bool, List, length, take, IfOk};
+ghost use Rattle.std.specs.Prelude.{◌≡◌, ◌≤◌, ◌+◌, ◌++◌, ◌^◌, ℕ, Bool, List, length, max, take, IfOk, IsSome};
 ghost use Rattle.x7_part.specs.Part.{PartData};
 ghost use Rattle.x7_flow.specs.Standing.{FramesFit};
 ghost use Rattle.x7_engine.specs.Standing.{Answers, DeviceStandsFor, DeviceState, NoWordDue, fed_of, taken_in};
+ghost use Rattle.x7_engine.specs.State.{stop_in};
 ghost use Rattle.x7_engine.specs.Undo.{AreEqual, Back, IsUndoOf, Keeps, dropping};
 ghost use Rattle.x7_engine.specs.declared.kept.Kept.{Kept as KeptData};
 
@@ -93,6 +94,8 @@ impl Device {
         ensures fed_before { self.new.fed_before ≡ self.old.fed_before }
         ensures keeps { Keeps undo.new self.old }
         ensures back { (part : PartData) (kept : KeptData) (wrapped : Bool) (bytes : List ℕ) → DeviceStandsFor part kept wrapped self.old bytes → Back undo.new self.new self.old }
+        ensures stopped { (part : PartData) (kept : KeptData) (wrapped : Bool) (bytes : List ℕ) → DeviceStandsFor part kept wrapped self.old bytes → IsSome (stop_in part kept bytes)
+            → (self.new ≡ self.old) × (taken_in (length piece.now) result ≡ 0) }
         ensures undo { IsUndoOf self.old.part undo.new }
     {
         self.save(undo);
@@ -110,6 +113,8 @@ impl Device {
         ensures answer { (part : PartData) (kept : KeptData) (wrapped : Bool) (bytes : List ℕ) → DeviceStandsFor part kept wrapped self.old bytes
             → Answers part kept self.new (bytes ++ take (taken_in (length piece.now) result) piece.now) dropping result }
         ensures fed_before { self.new.fed_before ≡ self.old.fed_before }
+        ensures stopped { (part : PartData) (kept : KeptData) (wrapped : Bool) (bytes : List ℕ) → DeviceStandsFor part kept wrapped self.old bytes → IsSome (stop_in part kept bytes)
+            → (self.new ≡ self.old) × (taken_in (length piece.now) result ≡ 0) }
     {
         let mut read = ReadBuf::dropping();
         self.feed(piece, &mut read)
@@ -132,6 +137,7 @@ impl Device {
             → DeviceStandsFor part kept wrapped old bytes → DeviceStandsFor part kept wrapped self.old (bytes ++ more) → AreEqual self.new old }
         ensures part { self.new.part ≡ self.old.part }
         ensures fed { undo.now.taken ≤ self.old.taken → fed_of self.new ≡ fed_of self.old }
+        ensures counts { fed_of self.new ≡ max (fed_of self.old) undo.now.taken }
     {
         self.frames_fit();
         self.go_back(undo);
@@ -143,6 +149,7 @@ impl Device {
         ensures back { (old : DeviceState) → Back undo.now self.old old → AreEqual self.new old }
         ensures part { self.new.part ≡ self.old.part }
         ensures fed { undo.now.taken ≤ self.old.taken → fed_of self.new ≡ fed_of self.old }
+        ensures counts { fed_of self.new ≡ max (fed_of self.old) undo.now.taken }
     {
         self.fed_before = self.fed().saturating_sub(undo.taken);
         self.cutter = undo.cutter.copy();

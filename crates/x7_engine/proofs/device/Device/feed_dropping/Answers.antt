@@ -8,3 +8,6 @@ returns-clause-answer c = λ part kept wrapped bytes s.
     let piece : List ℕ = c.args.piece.now in
     let reads = c.feed.ensures.reads part kept wrapped bytes s in
     answers_dropping part kept c.feed.new.self (bytes ++ take (taken_in (length piece) c.feed.result) piece) reads.0 c.dropping-read.result c.feed.new.read c.feed.result c.dropping-read.ensures reads.1 (c.feed.ensures.answer part kept wrapped bytes s)
+
+pub returns-clause-stopped : goal.returns-clause-stopped
+returns-clause-stopped c = λ part kept wrapped bytes s e. let same = c.feed.ensures.stopped part kept wrapped bytes s e in (same.0, same.2)

@@ -10,3 +10,6 @@ returns-clause-back c = λ part kept wrapped bytes s.
     let taken : ℕ = taken_in (length piece) c.feed_dropping-fed.result in
     let few : length (take taken piece) ≤ 4 = omega (arith, length-take taken piece, c.requires.few) in
     leads_back part kept wrapped c.save.new.undo c.args.self.now c.feed_dropping-fed.new.self bytes (take taken piece) c.save.ensures.keeps c.frames_fit.ensures c.requires.none_due few s (c.feed_dropping-fed.ensures.stands part kept wrapped bytes s)
+
+pub returns-clause-stopped : goal.returns-clause-stopped
+returns-clause-stopped c = λ part kept wrapped bytes s e. c.feed_dropping-fed.ensures.stopped part kept wrapped bytes s e
