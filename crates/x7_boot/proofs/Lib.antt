@@ -1,8 +1,14 @@
 pub mod BootedLemmas
 pub mod CheckedLemmas
+pub mod FirstSlotLemmas
+pub mod FullTrialLemmas
+pub mod ImageBootLemmas
 pub mod ImageLemmas
+pub mod LeastLemmas
 pub mod OneBootLemmas
 pub mod PageLemmas
 pub mod PhaseLemmas
+pub mod SlotLemmas
+pub mod StartLemmas
 pub mod TookLemmas
 pub mod TrialLemmas

@@ -2,5 +2,6 @@ pub mod Attempt
 pub mod Boot
 pub mod Checked
 pub mod Image
+pub mod ImageBoot
 pub mod Pages
 pub mod Phases

@@ -1,0 +1,221 @@
+-- The slots of an image's first sector: where their sync word stands, and where they lead.
+use Rattle.std.proofs.Common.{◌≡◌, ◌==◌, ◌+◌, ◌-◌, ◌*◌, ◌/◌, ◌%◌, ◌^◌, ◌<◌, ◌≤◌, ◌⊎◌, inl, inr, ℕ, zero, suc, false, List, [], ◌∷◌, ◌++◌, drop, length, length-append, replicate, refl, ap, sym, subst, ◌∙◌, append_assoc, arith}
+use Rattle.std.proofs.lemmas.Bool.Decides.{nat_tests}
+use Rattle.std.proofs.Math.Nat.{le-max_right, max-eq_left, max-eq_right}
+use Rattle.std.proofs.lemmas.Bool.{cases_lt}
+use Rattle.std.proofs.lemmas.List.{length-replicate}
+use Rattle.std.proofs.Math.Seq.{drop-append_seam}
+use Rattle.std.specs.List.{repeat}
+use Rattle.x7_words.specs.Word.{AreBytes}
+use Rattle.x7_words.proofs.ListLemmas.{all-append}
+use Rattle.x7_packets.specs.Appended.{LacksFirst}
+use Rattle.x7_packets.specs.SyncWord.{HasNoSync, sync_bytes}
+use Rattle.x7_packets.proofs.SyncLemmas.{none_empty}
+use Rattle.x7_boot.specs.Image.{closed_slot, closed_slots, filled_to, first_sector, image_of, image_size, flash_limit, open_slot, sector_from, slot, update_place}
+
+-- ---- no sync word in the closed slots
+
+-- a byte more before bytes without a sync word, where none begins at it
+none_at : (x : ℕ) (bytes : List ℕ) → ((back : List ℕ) → x ∷ bytes ≡ sync_bytes ++ back → ⊥) → HasNoSync bytes → HasNoSync (x ∷ bytes)
+none_at x bytes here none = record { none = by }
+  where
+    by : (front back : List ℕ) → x ∷ bytes ≡ front ++ sync_bytes ++ back → ⊥
+    by [] back e = here back e
+    by (y ∷ front) back e = none.none front back (let rest : bytes ≡ front ++ sync_bytes ++ back = cc in rest)
+
+-- it isn't the first byte of the sync word
+other_first : (x : ℕ) (bytes : List ℕ) → (x == 0xAA) ≡ false → HasNoSync bytes → HasNoSync (x ∷ bytes)
+other_first x bytes other = none_at x bytes (λ back e. let same : x ≡ 0xAA = cc in grind (arith, nat_tests, same, other))
+
+-- the byte behind it isn't the second one, or the next isn't the third
+other_second : (x y : ℕ) (bytes : List ℕ) → y < 0x99 → HasNoSync (y ∷ bytes) → HasNoSync (x ∷ y ∷ bytes)
+other_second x y bytes l = none_at x (y ∷ bytes) (λ back e. let same : y ≡ 0x99 = cc in omega (arith, l, same))
+
+other_third : (x y z : ℕ) (bytes : List ℕ) → z < 0x55 → HasNoSync (y ∷ z ∷ bytes) → HasNoSync (x ∷ y ∷ z ∷ bytes)
+other_third x y z bytes l = none_at x (y ∷ z ∷ bytes) (λ back e. let same : z ≡ 0x55 = cc in omega (arith, l, same))
+
+-- bytes without its first byte before bytes without a sync word
+none_behind : (bytes rest : List ℕ) → LacksFirst bytes → HasNoSync rest → HasNoSync (bytes ++ rest)
+none_behind [] rest l none = none
+none_behind (x ∷ bytes) rest l none = other_first x (bytes ++ rest) l.0 (none_behind bytes rest l.1 none)
+
+-- a slot whose start address is of whole pages of 256, and far below AA000000
+slot_none : (start : ℕ) (rest : List ℕ) → start % 256 ≡ 0 → start < 0xAA000000 → HasNoSync rest → HasNoSync (closed_slot start ++ rest)
+unfolding slot
+slot_none start rest whole low none =
+    let high : (start / 2 ^ 24 % 256 == 0xAA) ≡ false = grind (arith, nat_tests, low) in
+    let end : ℕ = start % 256 in
+    let last : (end == 0xAA) ≡ false = grind (arith, nat_tests, whole) in
+    let tail : List ℕ = 0x30 ∷ 0 ∷ 0x80 ∷ 1 ∷ 0 ∷ 0 ∷ 0 ∷ 15 ∷ 0x30 ∷ 0 ∷ 0x80 ∷ 1 ∷ 0 ∷ 0 ∷ 0 ∷ 13 ∷ [] in
+    let behind : HasNoSync (end ∷ (tail ++ rest)) =
+    other_first end (tail ++ rest) last (none_behind tail rest (refl, (refl, (refl, (refl, (refl, (refl, (refl, (refl, (refl, (refl, (refl, (refl, (refl, (refl, (refl, (refl, tt)))))))))))))))) none) in
+    let third : HasNoSync (start / 2 ^ 8 % 256 ∷ end ∷ (tail ++ rest)) = other_second (start / 2 ^ 8 % 256) end (tail ++ rest) (omega (arith, whole)) behind in
+    let second : HasNoSync (start / 2 ^ 16 % 256 ∷ start / 2 ^ 8 % 256 ∷ end ∷ (tail ++ rest)) = other_third (start / 2 ^ 16 % 256) (start / 2 ^ 8 % 256) end (tail ++ rest) (omega (arith, whole)) third in
+    let word : HasNoSync (start / 2 ^ 24 % 256 ∷ start / 2 ^ 16 % 256 ∷ start / 2 ^ 8 % 256 ∷ end ∷ (tail ++ rest)) = other_first (start / 2 ^ 24 % 256) _ high second in
+    none_behind (255 ∷ 255 ∷ 255 ∷ 255 ∷ 32 ∷ 0 ∷ 0 ∷ 0 ∷ 0x30 ∷ 2 ∷ 0 ∷ 1 ∷ []) _ (refl, (refl, (refl, (refl, (refl, (refl, (refl, (refl, (refl, (refl, (refl, (refl, tt)))))))))))) word
+
+slots_none : (n start : ℕ) → start % 256 ≡ 0 → start < 0xAA000000 → HasNoSync (repeat n (closed_slot start))
+slots_none zero start whole low = none_empty
+slots_none (suc n) start whole low = slot_none start (repeat n (closed_slot start)) whole low (slots_none n start whole low)
+
+pub closed_none : (start : ℕ) → start % 256 ≡ 0 → start < 0xAA000000 → HasNoSync (closed_slots start)
+unfolding closed_slots
+closed_none start whole low = slots_none 2047 start whole low
+
+-- ---- bytes
+
+slot_fits : (switch start : ℕ) → AreBytes (slot switch start)
+unfolding slot
+slot_fits switch start = (
+  omega arith,
+  (
+    omega arith,
+    (
+      omega arith,
+      (
+        omega arith,
+        (
+          omega arith,
+          (
+            omega arith,
+            (
+              omega arith,
+              (
+                omega arith,
+                (
+                  omega arith,
+                  (
+                    omega arith,
+                    (
+                      omega arith,
+                      (
+                        omega arith,
+                        (
+                          omega arith,
+                          (
+                            omega arith,
+                            (
+                              omega arith,
+                              (
+                                omega arith,
+                                (
+                                  omega arith,
+                                  (
+                                    omega arith,
+                                    (
+                                      omega arith,
+                                      (
+                                        omega arith,
+                                        (
+                                          omega arith,
+                                          (
+                                            omega arith,
+                                            (
+                                              omega arith,
+                                              (
+                                                omega arith,
+                                                (omega arith, (omega arith, (omega arith, (omega arith, (omega arith, (omega arith, (omega arith, (omega arith, tt)))))))),
+                                              ),
+                                            ),
+                                          ),
+                                        ),
+                                      ),
+                                    ),
+                                  ),
+                                ),
+                              ),
+                            ),
+                          ),
+                        ),
+                      ),
+                    ),
+                  ),
+                ),
+              ),
+            ),
+          ),
+        ),
+      ),
+    ),
+  ),
+)
+
+repeat_fits : (n : ℕ) (bytes : List ℕ) → AreBytes bytes → AreBytes (repeat n bytes)
+repeat_fits zero bytes f = tt
+repeat_fits (suc n) bytes f = all-append (λ b. b < 256) bytes (repeat n bytes) f (repeat_fits n bytes f)
+
+closed_fits : (start : ℕ) → AreBytes (closed_slots start)
+unfolding closed_slots
+closed_fits start = repeat_fits 2047 (closed_slot start) (slot_fits 0xFFFFFFFF start)
+
+pub sector_fits : (start : ℕ) → AreBytes (first_sector start)
+sector_fits start = all-append (λ b. b < 256) (open_slot start) (closed_slots start) (slot_fits 0xAA995566 start) (closed_fits start)
+
+-- ---- places
+
+-- the update begins a sector, behind the first sector and the golden stream
+pub place_whole : (golden : ℕ) → update_place golden % 65536 ≡ 0
+place_whole golden = elim (cases_lt (sector_from (65536 + golden)) 131072) [
+  | inl l ↦ ap (λ (n : ℕ). n % 65536) (max-eq_left (let m : sector_from (65536 + golden) ≤ 131072 = omega (arith, l) in m))
+  | inr l ↦ ap (λ (n : ℕ). n % 65536) (max-eq_right l) ∙ omega arith
+]
+
+pub place_behind : (golden : ℕ) → 65536 + golden ≤ update_place golden
+place_behind golden = let m : sector_from (65536 + golden) ≤ update_place golden = le-max_right 131072 (sector_from (65536 + golden)) in omega (arith, m)
+
+pub size_behind : (golden update : ℕ) → update_place golden + update ≤ image_size golden update
+size_behind golden update = omega arith
+
+-- its start address is of whole pages of 256, and small, in either unit
+pub start_whole : (unit place : ℕ) → (unit ≡ 1) ⊎ (unit ≡ 256) → place % 65536 ≡ 0 → place / unit % 256 ≡ 0
+start_whole unit place (inl e) whole = ap (λ (u : ℕ). place / u % 256) e ∙ omega (arith, whole)
+start_whole unit place (inr e) whole = ap (λ (u : ℕ). place / u % 256) e ∙ omega (arith, whole)
+
+pub start_small : (unit place : ℕ) → (unit ≡ 1) ⊎ (unit ≡ 256) → place ≤ flash_limit → place / unit ≤ flash_limit
+start_small unit place (inl e) l = subst (λ (u : ℕ). place / u ≤ flash_limit) (sym e) (omega (arith, l))
+start_small unit place (inr e) l = subst (λ (u : ℕ). place / u ≤ flash_limit) (sym e) (omega (arith, l))
+
+-- ---- what stands where
+
+repeat_long : (n : ℕ) (bytes : List ℕ) → length (repeat n bytes) ≡ n * length bytes
+repeat_long zero bytes = omega arith
+repeat_long (suc n) bytes =
+    let more : length (repeat n bytes) ≡ n * length bytes = repeat_long n bytes in
+    length-append bytes (repeat n bytes) ∙ grind (arith, more)
+
+pub slot_long : (switch start : ℕ) → length (slot switch start) ≡ 32
+unfolding slot
+slot_long switch start = refl
+
+closed_long : (start : ℕ) → length (closed_slots start) ≡ 65504
+unfolding closed_slots
+closed_long start = repeat_long 2047 (closed_slot start) ∙ ap (λ (n : ℕ). 2047 * n) (slot_long 0xFFFFFFFF start)
+
+pub sector_long : (start : ℕ) → length (first_sector start) ≡ 65536
+sector_long start = length-append (open_slot start) (closed_slots start) ∙ omega (arith, slot_long 0xAA995566 start, closed_long start)
+
+-- an image begins with its first sector and the golden stream
+pub image_begins : (unit : ℕ) (golden update : List ℕ) → (more : List ℕ) × (image_of unit golden update ≡ (first_sector (update_place (length golden) / unit) ++ golden) ++ more)
+unfolding image_of
+image_begins unit golden update =
+    let front : List ℕ = first_sector (update_place (length golden) / unit) ++ golden in
+    let gap : List ℕ = replicate (update_place (length golden) - length front) 255 in
+    let size : ℕ = image_size (length golden) (length update) in
+    let end : List ℕ = replicate (size - length (filled_to (update_place (length golden)) front ++ update)) 255 in
+    (gap ++ (update ++ end), append_assoc (front ++ gap) update end ∙ append_assoc front gap (update ++ end))
+
+-- and has the update at its place
+pub image_has : (unit : ℕ) (golden update : List ℕ) → (end : List ℕ) × (drop (update_place (length golden)) (image_of unit golden update) ≡ update ++ end)
+unfolding image_of
+image_has unit golden update =
+    let place : ℕ = update_place (length golden) in
+    let front : List ℕ = first_sector (place / unit) ++ golden in
+    let size : ℕ = image_size (length golden) (length update) in
+    let end : List ℕ = replicate (size - length (filled_to place front ++ update)) 255 in
+    let long : length front ≡ 65536 + length golden = length-append (first_sector (place / unit)) golden ∙ ap (λ (n : ℕ). n + length golden) (sector_long (place / unit)) in
+    let filled : length (filled_to place front) ≡ place = length-append front (replicate (place - length front) 255) ∙ omega (arith, length-replicate {A = ℕ} (place - length front) 255, long, place_behind (length golden)) in (
+      end,
+      ap (drop place) (append_assoc (filled_to place front) update end)
+          ∙ ap (λ (n : ℕ). drop n (filled_to place front ++ (update ++ end))) (sym filled)
+          ∙ drop-append_seam (filled_to place front) (update ++ end),
+    )

@@ -1,0 +1,14 @@
+use Rattle.x7_boot.proofs.ImageBootLemmas.{boot_falls_back, boot_has_full, boot_starts, boot_stops}
+use Rattle.x7_boot.proofs.image_law.images_boot.Goals as goal
+
+pub returns-clause-falls_back : goal.returns-clause-falls_back
+returns-clause-falls_back c = boot_falls_back
+
+pub returns-clause-stops : goal.returns-clause-stops
+returns-clause-stops c = boot_stops
+
+pub returns-clause-starts : goal.returns-clause-starts
+returns-clause-starts c = boot_starts
+
+pub returns-clause-full : goal.returns-clause-full
+returns-clause-full c = boot_has_full

@@ -1,0 +1,25 @@
+//! What a boot from an image of a golden and an update stream comes to. The function does nothing: its contract is the law.
+ghost use Rattle.std.specs.Prelude.{◌≡◌, List, ℕ, true, false};
+ghost use Rattle.x7_part.specs.Part.{PartData};
+ghost use Rattle.x7_regs.specs.declared.boot_status.Cause.{Cause};
+ghost use Rattle.x7_memory.specs.Planned.{PlanData};
+ghost use Rattle.x7_planner.specs.Full.{full_stream};
+ghost use Rattle.x7_boot.specs.Attempt.{Trial};
+ghost use Rattle.x7_boot.specs.Boot.{BootedState};
+ghost use Rattle.x7_boot.specs.ImageBoot.{BootsImage, EndsAtUpdate, FallsBack, IsPlanFor, StartsUpdate, UpdateEnds, UpdateFails};
+ghost use Rattle.x7_boot.specs.declared.attempt.Ending.TheVariants as ending;
+ghost use Rattle.x7_boot.specs.declared.boots.BootEnd.TheVariants as boot_end;
+
+/// From the image of a plan's full stream and an update of any bytes a boot falls back to that stream where the update fails,
+/// and starts; where the update starts it ends there, and where CTL0 forbids a fallback it stops. An update that is a full
+/// stream itself starts with the memory of its plan.
+pub fn images_boot()
+    ensures falls_back { (part : PartData) (golden : PlanData) (update : List ℕ) (b : BootedState) (t : Trial) (cause : Cause) → (boots : BootsImage part golden update b)
+        → UpdateFails part golden update t cause false → FallsBack part golden cause b.attempts b.end boots.boot.last }
+    ensures stops { (part : PartData) (golden : PlanData) (update : List ℕ) (b : BootedState) (t : Trial) (cause : Cause) → (boots : BootsImage part golden update b)
+        → UpdateFails part golden update t cause true → EndsAtUpdate part golden t boot_end.Stopped b.attempts b.end boots.boot.last }
+    ensures starts { (part : PartData) (golden : PlanData) (update : List ℕ) (b : BootedState) (t : Trial) → (boots : BootsImage part golden update b)
+        → UpdateEnds part golden update t ending.Started → EndsAtUpdate part golden t boot_end.Started b.attempts b.end boots.boot.last }
+    ensures full { (part : PartData) (golden update : PlanData) (b : BootedState) → (boots : BootsImage part golden (full_stream part update) b)
+        → IsPlanFor part update → StartsUpdate part golden update b.attempts b.end boots.boot.last }
+{}
