@@ -1,11 +1,11 @@
 //! One line.
-ghost use Rattle.std.specs.Prelude.{◌≡◌, ℕ, ◌+◌, ◌*◌, ◌%◌, ◌^◌, ◌<◌, ◌≤◌, List, [], ◌++◌, length, Some, None, MatchBool, MatchOption, vec_len, vec_capacity};
+ghost use Rattle.std.specs.Prelude.{◌≡◌, ℕ, ◌+◌, ◌*◌, ◌%◌, ◌^◌, ◌<◌, ◌≤◌, List, ◌++◌, length, take, Some, None, MatchBool, MatchOption, vec_capacity};
 ghost use Rattle.x7_text.specs.EitherCase.{pairs};
-ghost use Rattle.x7_words.specs.Word.{words_of_bytes};
+ghost use Rattle.x7_words.specs.Word.{AreBytes, words_of_bytes};
 ghost use Rattle.x7_memory.specs.Planned.{PlanRow};
 ghost use Rattle.x7_frames.specs.FramesText.{frame_head, means_nothing, IsFrameLine};
 
-use x7_text::word_of_hex;
+use x7_text::{block_of_hex, word_of_hex};
 use x7_words::{is_same, word_of};
 
 /// The most bytes of a frame.
@@ -47,8 +47,47 @@ fn parts_of(line: &[u8], digit_count: usize) -> Option<Parts<'_>>
     })
 }
 
+/// Writes the bytes of a block from `at` on.
+#[inline(always)]
+fn write_block(bytes: &mut [u8], at: usize, block: &[u8])
+    requires inside { at + 32 ≤ length bytes.old }
+    requires block { length block.now ≡ 32 }
+    ensures items { take (at + 32) bytes.new ≡ take at bytes.old ++ block.now }
+    ensures fit { AreBytes block.now }
+    ensures long { length bytes.new ≡ length bytes.old }
+{
+    bytes[at..at + 32].copy_from_slice(block);
+}
+
+/// Reads the blocks of 64 upper-case digits that stand first, and gives the number of their bytes.
+fn read_blocks(bytes: &mut [u8], digits: &[u8]) -> usize
+    requires { length digits.now ≡ 2 * length bytes.old }
+    ensures value { pairs (take (2 * result) digits.now) ≡ Some (take result bytes.new) }
+    ensures within { result ≤ length bytes.old }
+    ensures long { length bytes.new ≡ length bytes.old }
+{
+    let (blocks, _) = digits.as_chunks::<64>();
+    for (k, block) in blocks.iter().enumerate() {
+        let Some(read) = block_of_hex(block) else {
+            return 32 * k;
+        };
+        write_block(bytes, 32 * k, &read);
+    }
+    32 * blocks.len()
+}
+
 /// Reads the bytes of digits of either case. `false`: one of them is no digit.
 fn read_digits(bytes: &mut [u8], digits: &[u8]) -> bool
+    requires { length digits.now ≡ 2 * length bytes.old }
+    ensures value { MatchBool result (pairs digits.now ≡ Some bytes.new) (pairs digits.now ≡ None) }
+    ensures long { length bytes.new ≡ length bytes.old }
+{
+    let read = read_blocks(bytes, digits);
+    read_others(&mut bytes[read..], &digits[2 * read..])
+}
+
+/// Reads the bytes of digits of either case, pair by pair.
+fn read_others(bytes: &mut [u8], digits: &[u8]) -> bool
     requires { length digits.now ≡ 2 * length bytes.old }
     ensures value { MatchBool result (pairs digits.now ≡ Some bytes.new) (pairs digits.now ≡ None) }
     ensures long { length bytes.new ≡ length bytes.old }

@@ -1,5 +1,5 @@
 //! The plan of a text, line by line.
-ghost use Rattle.std.specs.Prelude.{◌≡◌, ◌≢◌, ℕ, ◌+◌, ◌≤◌, ◌⊎◌, List, [], length, Ok, Err, IfOk, IfErr, OnOk, MatchResult, vec_capacity};
+ghost use Rattle.std.specs.Prelude.{◌≡◌, ◌+◌, ◌≤◌, ◌⊎◌, [], Ok, Err, IfOk, IfErr, OnOk, MatchResult, vec_capacity};
 ghost use Rattle.x7_part.specs.Part.{frame_words};
 ghost use Rattle.x7_memory.specs.Planned.{PlanData};
 ghost use Rattle.x7_frames.specs.FramesText.{IsPlanOf, FitsPart, plan_text};
@@ -8,7 +8,7 @@ ghost use Rattle.x7_frames.specs.declared.fault.FramesFault.{FramesFault};
 
 use crate::fault::FramesFault;
 use crate::line::{means_nothing, read_frame};
-use std::alloc::{AllocError, Global};
+use std::alloc::Global;
 use x7_memory::{Draft, Plan};
 use x7_part::Part;
 use x7_text::first_line;
@@ -25,17 +25,24 @@ struct Reading {
 }
 
 impl Reading {
-    /// Nothing was read yet.
-    fn new(alloc: Global, part: &Part) -> Result<Reading, AllocError>
+    /// Nothing was read yet of a text of so many bytes: there is room for as many lines as it can have.
+    fn new(alloc: Global, part: &Part, size: usize) -> Result<Reading, NoMemory>
         ensures rows { IfOk result (λ reading. reading.draft.rows ≡ []) }
         ensures width { IfOk result (λ reading. reading.draft.width ≡ frame_words part.now) }
         ensures marks { IfOk result (λ reading. HasMarks part.now [] reading.marks.items) }
         ensures room { IfOk result (λ reading. frame_words part.now ≤ vec_capacity reading.frame) }
     {
-        let frame = Vec::with_capacity(alloc, part.words() as usize)?;
+        let width = part.words() as usize;
+        let draft = Draft::with_room(alloc, part.words(), size / (8 * width + 15))?;
+        let Ok(marks) = vec![in alloc; false; part.frames() as usize] else {
+            return Err(NoMemory);
+        };
+        let Ok(frame) = Vec::with_capacity(alloc, width) else {
+            return Err(NoMemory);
+        };
         Ok(Reading {
-            draft: Draft::new(alloc, part.words()),
-            marks: vec![in alloc; false; part.frames() as usize]?,
+            draft,
+            marks,
             frame,
         })
     }
@@ -85,7 +92,7 @@ pub fn plan_of(alloc: Global, text: &[u8], part: &Part) -> Result<Plan, FramesFa
 fn read_text(alloc: Global, text: &[u8], part: &Part) -> Result<Plan, FramesFault>
     ensures { MatchResult result (λ plan. IsPlanOf part.now text.now (Ok plan)) (λ fault. (fault ≡ FramesFault.NoMemory) ⊎ IsPlanOf part.now text.now (Err fault)) }
 {
-    let Ok(mut reading) = Reading::new(alloc, part) else {
+    let Ok(mut reading) = Reading::new(alloc, part, text.len()) else {
         return Err(FramesFault::NoMemory);
     };
     let mut rest = text;
