@@ -3,6 +3,5 @@ pub mod CheckedLemmas
 pub mod ImageLemmas
 pub mod OneBootLemmas
 pub mod PageLemmas
-pub mod PhaseLemmas
 pub mod TookLemmas
 pub mod TrialLemmas

@@ -3,4 +3,3 @@ pub mod Boot
 pub mod Checked
 pub mod Image
 pub mod Pages
-pub mod Phases

@@ -12,6 +12,7 @@ pub mod FirstStopLemmas
 pub mod FrameLemmas
 pub mod MaskLemmas
 pub mod PassLemmas
+pub mod PhaseLemmas
 pub mod PlainLemmas
 pub mod ReadsLemmas
 pub mod RestLemmas
@@ -23,3 +24,4 @@ pub mod StateLemmas
 pub mod TimeoutLemmas
 pub mod TurnLemmas
 pub mod UndoLemmas
+pub mod UntilLemmas
