@@ -7,7 +7,6 @@ pub mod ImageLemmas
 pub mod LeastLemmas
 pub mod OneBootLemmas
 pub mod PageLemmas
-pub mod PhaseLemmas
 pub mod SlotLemmas
 pub mod StartLemmas
 pub mod TookLemmas

@@ -68,14 +68,13 @@ IsTrial part flash t = EndsFirst part (drop t.address flash) t ⊎ RunsOut part 
 abbrev pub IsDeviceOf : PartData → DeviceState → Trial → Type 0
 IsDeviceOf part d t = DeviceStandsFor part t.kept t.wrapped d t.bytes
 
--- what a feed does to an attempt: whether startup has ended by then comes first, then its answer
-abbrev pub step_by : Bool → Fed → Option Cause → Step
-step_by true answer cause = Ends Started
-step_by false (fed.Iprog n) cause = Ends Iprog
-step_by false (fed.Stopped n) (Some cause) = Ends (Failed cause)
-step_by false (fed.Stopped n) None = Stops
-step_by false fed.All cause = Goes
-step_by false (fed.ReadFull n) cause = Goes
+-- what a feed does to an attempt in which startup hasn't ended by then
+abbrev pub step_by : Fed → Option Cause → Step
+step_by (fed.Iprog n) cause = Ends Iprog
+step_by (fed.Stopped n) (Some cause) = Ends (Failed cause)
+step_by (fed.Stopped n) None = Stops
+step_by fed.All cause = Goes
+step_by (fed.ReadFull n) cause = Goes
 
 -- what the bytes of a piece, behind those taken before, did to an attempt that nothing had ended
 abbrev pub StepsTo : PartData → Kept → List ℕ → Step → Type 0
@@ -102,13 +101,6 @@ pub record IsReady (d : DeviceState) (more : ℕ) : Type 0 where
   pub going : stop_in part kept bytes ≡ None
   pub open_end : ending_at part kept bytes ≡ None
   pub fits : length bytes + more ≤ 2 ^ 63
-
--- a device took the first bytes of a page, behind those taken before, and nothing ended its attempt
-pub record Passed (part : PartData) (kept : Kept) (d : DeviceState) (bytes page : List ℕ) (at : ℕ) : Type 0 where
-  pub stands : DeviceStandsFor part kept false d (bytes ++ take at page)
-  pub going : stop_in part kept (bytes ++ take at page) ≡ None
-  pub open_end : ending_at part kept (bytes ++ take at page) ≡ None
-  pub none : (k : ℕ) → k < at → ending_at part kept (bytes ++ take k page) ≡ None
 
 -- an attempt with this kept, at this address, over a flash of these bytes, ended so and left the device
 pub record Tries (part : PartData) (kept : Kept) (address : ℕ) (flash : List ℕ) (d : DeviceState) (ending : Ending) : Type 0 where

@@ -4,4 +4,3 @@ pub mod Checked
 pub mod Image
 pub mod ImageBoot
 pub mod Pages
-pub mod Phases

@@ -82,6 +82,25 @@ pub told_on : (part : PartData) (kept : Kept) (wrapped : Bool) (d e : DeviceStat
     → DeviceStandsFor part kept wrapped d (bytes ++ take from piece) → told_of part kept e (bytes ++ take to piece) ≡ told_of part kept d (bytes ++ take from piece)
 told_on part kept wrapped d e bytes piece from to l f s = sym (ap (told_of part kept e) (taken_more bytes piece from to l)) ∙ f (bytes ++ take from piece) s
 
+-- the words told so far, and those that were given now
+pub now_told : (part : PartData) (kept : Kept) (wrapped : Bool) (d e : DeviceState) (first read next : ReadBufState) (taken told : List ℕ) → Gives part kept wrapped d e taken read next
+    → ((more : List ℕ) × (read ≡ with_words first more) × (told_of part kept d taken ≡ told ++ more))
+    → (more : List ℕ) × (next ≡ with_words first more) × (told_of part kept e taken ≡ told ++ more)
+now_told part kept wrapped d e first read next taken told g m = (
+  m.0 ++ g.more,
+  g.read_is ∙ ap (λ (b : ReadBufState). with_words b g.more) m.1 ∙ words_append first m.0 g.more,
+  g.told_are ∙ ap (λ t. t ++ g.more) m.2 ∙ append_assoc told m.0 g.more,
+)
+
+-- and then a run more is taken
+pub read_here : (part : PartData) (kept : Kept) (wrapped : Bool) (old new next : DeviceState) (first read last : ReadBufState) (bytes piece told : List ℕ) (from to : ℕ) → Gives part kept wrapped old new (bytes ++ take from piece) read last → from ≤ to
+    → ((b : List ℕ) → DeviceStandsFor part kept wrapped new b → told_of part kept next (b ++ between piece from to) ≡ told_of part kept new b)
+    → ((more : List ℕ) × (read ≡ with_words first more) × (told_of part kept old (bytes ++ take from piece) ≡ told ++ more))
+    → (more : List ℕ) × (last ≡ with_words first more) × (told_of part kept next (bytes ++ take to piece) ≡ told ++ more)
+read_here part kept wrapped old new next first read last bytes piece told from to g f t m =
+    let now : (more : List ℕ) × (last ≡ with_words first more) × (told_of part kept new (bytes ++ take from piece) ≡ told ++ more) = now_told part kept wrapped old new first read last (bytes ++ take from piece) told g m in
+    (now.0, now.1, told_on part kept wrapped new next bytes piece from to f t g.stands ∙ now.2)
+
 -- what is answered for a stop
 pub taken_by_stop : (line : Stop) (n at : ℕ) → taken_in n (fed_by line at) ≡ at
 taken_by_stop (stop.Fault f) n at = refl

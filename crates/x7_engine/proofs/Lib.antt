@@ -12,6 +12,7 @@ pub mod FirstStopLemmas
 pub mod FrameLemmas
 pub mod MaskLemmas
 pub mod PassLemmas
+pub mod PhaseLemmas
 pub mod PlainLemmas
 pub mod ReadsLemmas
 pub mod RestLemmas
@@ -23,4 +24,9 @@ pub mod StateLemmas
 pub mod TimeoutLemmas
 pub mod TurnLemmas
 pub mod UndoLemmas
+<<<<<<< HEAD
 pub mod WrapLemmas
+||||||| 5667ccb
+=======
+pub mod UntilLemmas
+>>>>>>> 11664cac6361c151351d26932a411b630883e666

@@ -39,7 +39,7 @@ pub passed : (part : PartData) (kept : Kept) (wrapped : Bool) (d e : DeviceState
     → count ≡ length cut → cut ≡ more ++ rest → length rest ≡ left → (e.registers.stop ≡ None → left ≡ 0)
     → ((line : Stop) → e.registers.stop ≡ Some line → (line ≡ stop.Fault fault.Watchdog) × (left < count))
     → e.cutter ≡ d.cutter → e.part ≡ d.part → e.wrapped ≡ d.wrapped → e.taken ≡ d.taken + length more → due_count e.registers.due ≡ 0
-    → DeviceStandsFor part kept wrapped e (bytes ++ more) × (reads_of part kept (bytes ++ more) ≡ reads_of part kept bytes)
+    → DeviceStandsFor part kept wrapped e (bytes ++ more) × (reads_of part kept (bytes ++ more) ≡ reads_of part kept bytes) × (history_of (bytes ++ more) ≡ history_of bytes)
 passed part kept wrapped d e bytes cut more rest count left s going quiet idles stands k j l g f c p y t due =
     let none : stop_in part kept bytes ≡ None = s.stop_is ∙ ap (stopped_at (length bytes)) going in
     let h : History = history_of bytes in
@@ -83,6 +83,7 @@ passed part kept wrapped d e bytes cut more rest count left s going quiet idles 
         at_rest = λ line o. due;
       },
       told,
+      front,
     )
 
 -- the words told stay where none is due before or after

@@ -2,6 +2,7 @@ pub mod Checked
 pub mod Clock
 pub mod FirstStop
 pub mod Kept
+pub mod Phases
 pub mod ReadBuffer
 pub mod Readout
 pub mod Registers
@@ -17,3 +18,4 @@ pub mod Timeout
 pub mod Values
 pub mod Watching
 pub mod Undo
+pub mod UntilStarted

@@ -19,6 +19,7 @@ mod stop;
 #[cfg(test)]
 mod tests;
 mod text;
+mod until_started;
 mod value;
 mod words;
 
@@ -34,3 +35,4 @@ pub use law::{
 pub use read_buffer::ReadBuf;
 pub use regs::{End, Regs};
 pub use text::{end_words, frame_line, phase_line, put_frame, reg_lines};
+pub use until_started::UntilStarted;

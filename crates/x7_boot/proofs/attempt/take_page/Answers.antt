@@ -1,31 +1,38 @@
-use Rattle.std.proofs.Common.{subst}
+use Rattle.std.proofs.Common.{◌++◌, List, ℕ, false, Option, length, take, sym, ap, subst, ◌∙◌, refl}
+use Rattle.x7_regs.specs.declared.boot_status.Cause.{Cause}
+use Rattle.x7_engine.specs.ReadBuffer.{ReadBufState}
+use Rattle.x7_engine.specs.State.{line_by, stop_in}
+use Rattle.x7_engine.specs.Stops.{fault_of}
+use Rattle.x7_engine.specs.UntilStarted.{taken_until}
+use Rattle.x7_engine.specs.Values.{cause_of}
+use Rattle.x7_engine.specs.declared.fault.Fault.{Fault}
+use Rattle.x7_engine.specs.declared.until_started.UntilStarted.{UntilStarted}
 use Rattle.x7_boot.specs.Attempt.{Took}
 use Rattle.x7_boot.specs.declared.attempt.Step.{Step}
-use Rattle.x7_boot.proofs.TookLemmas.{not_goes-ends, not_goes-stops, page_passed, page_ready, page_took}
+use Rattle.x7_boot.proofs.TookLemmas.{page_took, ready_fits, step_until}
 use Rattle.x7_boot.proofs.attempt.take_page.Goals as goal
 
-pub returns-then-end-page : goal.returns-then-end-page
-returns-then-end-page c =
-    page_took c.args.device.now c.pieces.device c.take_piece-step.new.device c.args.page.now c.pieces.at c.piece_end-end.result c.take_piece-step.result
-    c.piece_end-end.ensures.order c.piece_end-end.ensures.within c.piece_end-end.ensures.few c.pieces.invariant.passed c.take_piece-step.ensures (λ _. c.if-end-page.true)
+pub feed_until_started-requires : goal.feed_until_started-requires
+feed_until_started-requires c = ready_fits c.args.device.now (length c.args.page.now) c.requires
 
-pub returns-in-Ends : goal.returns-in-Ends
-returns-in-Ends c =
-    λ part kept bytes s going none. subst (λ (x : Step). Took part kept c.take_piece-step.new.device bytes c.args.page.now x) c.in-Ends.is
-    (page_took c.args.device.now c.pieces.device c.take_piece-step.new.device c.args.page.now c.pieces.at c.piece_end-end.result c.take_piece-step.result
-    c.piece_end-end.ensures.order c.piece_end-end.ensures.within c.piece_end-end.ensures.few c.pieces.invariant.passed c.take_piece-step.ensures
-    (λ e. absurd (not_goes-ends c.in-Ends.ending c.take_piece-step.result c.in-Ends.is e)) part kept bytes s going none)
+pub returns-in-Started : goal.returns-in-Started
+returns-in-Started c = λ part kept bytes s going none.
+    let fed = c.feed_until_started.ensures in
+    let all : List ℕ = bytes ++ take (taken_until (length c.args.page.now) c.feed_until_started.result) c.args.page.now in
+    let cause : Option Cause = cause_of (fault_of (line_by (stop_in part kept all))) false in
+    let dropping = ap (λ (r : ReadBufState). r.most) (fed.reads part kept false bytes s).1 ∙ ap (λ (r : ReadBufState). r.most) c.dropping-read.ensures in
+    subst (λ (r : UntilStarted). Took part kept c.feed_until_started.new.self bytes c.args.page.now (step_until r cause)) c.in-Started.is
+    (page_took part kept c.feed_until_started.new.self bytes c.args.page.now c.feed_until_started.new.read c.feed_until_started.result cause fed.within
+    (fed.stands part kept false bytes s) (fed.first part kept false bytes s) dropping (fed.answer part kept false bytes s) (fed.started part kept false bytes s) refl)
 
-pub returns-in-Stops : goal.returns-in-Stops
-returns-in-Stops c =
-    λ part kept bytes s going none. subst (λ (x : Step). Took part kept c.take_piece-step.new.device bytes c.args.page.now x) c.in-Stops.is
-    (page_took c.args.device.now c.pieces.device c.take_piece-step.new.device c.args.page.now c.pieces.at c.piece_end-end.result c.take_piece-step.result
-    c.piece_end-end.ensures.order c.piece_end-end.ensures.within c.piece_end-end.ensures.few c.pieces.invariant.passed c.take_piece-step.ensures
-    (λ e. absurd (not_goes-stops c.take_piece-step.result c.in-Stops.is e)) part kept bytes s going none)
-
-pub pieces-preserved : goal.pieces-preserved
-pieces-preserved c = record {
-  within = c.piece_end-end.ensures.within;
-  ready = page_ready c.pieces.device c.take_piece-step.new.device c.args.page.now c.pieces.at c.piece_end-end.result c.take_piece-step.result c.piece_end-end.ensures.order c.piece_end-end.ensures.within c.piece_end-end.ensures.few c.pieces.invariant.ready c.take_piece-step.ensures c.in-Goes.is;
-  passed = page_passed c.args.device.now c.pieces.device c.take_piece-step.new.device c.args.page.now c.pieces.at c.piece_end-end.result c.take_piece-step.result c.piece_end-end.ensures.order c.piece_end-end.ensures.within c.piece_end-end.ensures.few c.pieces.invariant.passed c.take_piece-step.ensures c.in-Goes.is;
-}
+pub returns : goal.returns
+returns c = λ part kept bytes s going none.
+    let fed = c.feed_until_started.ensures in
+    let all : List ℕ = bytes ++ take (taken_until (length c.args.page.now) c.feed_until_started.result) c.args.page.now in
+    let stands = fed.stands part kept false bytes s in
+    let cause = c.cause_in.ensures ∙ ap (λ (f : Option Fault). cause_of f false) (c.fault.ensures part kept false all stands) in
+    let dropping = ap (λ (r : ReadBufState). r.most) (fed.reads part kept false bytes s).1 ∙ ap (λ (r : ReadBufState). r.most) c.dropping-read.ensures in
+    subst (λ (x : Step). Took part kept c.feed_until_started.new.self bytes c.args.page.now x) (sym c.step_of.ensures)
+    (subst (λ (r : UntilStarted). Took part kept c.feed_until_started.new.self bytes c.args.page.now (step_until r c.cause_in.result)) c.in-Fed.is
+    (page_took part kept c.feed_until_started.new.self bytes c.args.page.now c.feed_until_started.new.read c.feed_until_started.result c.cause_in.result fed.within
+    stands (fed.first part kept false bytes s) dropping (fed.answer part kept false bytes s) (fed.started part kept false bytes s) cause))

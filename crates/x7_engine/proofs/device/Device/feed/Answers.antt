@@ -1,15 +1,11 @@
-use Rattle.std.proofs.Common.{◌≡◌, ◌≤◌, ◌++◌, ℕ, true, false, Option, List, length, take, sym, ap, subst, ◌∙◌, append_assoc, append-nil, refl, [], arith, Bool}
+use Rattle.std.proofs.Common.{◌≡◌, ◌++◌, ℕ, true, false, Option, List, length, take, sym, ap, subst, ◌∙◌, append-nil, refl, [], arith}
 use Rattle.std.specs.Option.{is_some}
-use Rattle.x7_packets.specs.Cutting.{between}
-use Rattle.x7_part.specs.Part.{PartData}
 use Rattle.x7_engine.specs.declared.fed.Fed.{Fed}
 use Rattle.x7_engine.specs.declared.stop.Stop.{Stop}
-use Rattle.x7_engine.specs.declared.kept.Kept.{Kept}
-use Rattle.x7_engine.specs.Readout.{Gives}
-use Rattle.x7_engine.specs.ReadBuffer.{ReadBufState, with_words}
+use Rattle.x7_engine.specs.ReadBuffer.{with_words}
 use Rattle.x7_engine.specs.Standing.{Answers, DeviceStandsFor, DeviceState, fed_by, taken_in, told_of}
 use Rattle.x7_engine.specs.Stops.{stopped_at}
-use Rattle.x7_engine.proofs.FeedLemmas.{answers_stop, stands_on, taken_by_stop, told_on, words_append, words_none}
+use Rattle.x7_engine.proofs.FeedLemmas.{answers_stop, now_told, read_here, stands_on, taken_by_stop, words_none}
 use Rattle.x7_engine.proofs.device.Device.feed.Goals as goal
 
 pub runs-init : goal.runs-init
@@ -42,16 +38,6 @@ returns-in-Some-clause-reads c = λ part kept wrapped bytes s.
     let told = c.runs.invariant.reads part kept wrapped bytes s in
     (told.0, told.1, ap (λ (k : ℕ). told_of part kept c.runs.self (bytes ++ take k piece)) count ∙ told.2)
 
--- the words told so far, and those that were given now
-now_told : (part : PartData) (kept : Kept) (wrapped : Bool) (d e : DeviceState) (first read next : ReadBufState) (taken told : List ℕ) → Gives part kept wrapped d e taken read next
-    → ((more : List ℕ) × (read ≡ with_words first more) × (told_of part kept d taken ≡ told ++ more))
-    → (more : List ℕ) × (next ≡ with_words first more) × (told_of part kept e taken ≡ told ++ more)
-now_told part kept wrapped d e first read next taken told g m = (
-  m.0 ++ g.more,
-  g.read_is ∙ ap (λ (b : ReadBufState). with_words b g.more) m.1 ∙ words_append first m.0 g.more,
-  g.told_are ∙ ap (λ t. t ++ g.more) m.2 ∙ append_assoc told m.0 g.more,
-)
-
 pub returns-then-not-give-clause-stands : goal.returns-then-not-give-clause-stands
 returns-then-not-give-clause-stands c = λ part kept wrapped bytes s.
     (c.give.ensures.given part kept wrapped (bytes ++ take c.runs.at c.args.piece.now) (c.runs.invariant.stands part kept wrapped bytes s)).stands
@@ -61,15 +47,6 @@ returns-then-not-give-clause-reads c = λ part kept wrapped bytes s.
     let taken : List ℕ = bytes ++ take c.runs.at c.args.piece.now in
     now_told part kept wrapped c.runs.self c.give.new.self c.args.read.now c.runs.read c.give.new.read taken (told_of part kept c.args.self.now bytes)
     (c.give.ensures.given part kept wrapped taken (c.runs.invariant.stands part kept wrapped bytes s)) (c.runs.invariant.reads part kept wrapped bytes s)
-
--- and then a run more is taken
-read_here : (part : PartData) (kept : Kept) (wrapped : Bool) (old new next : DeviceState) (first read last : ReadBufState) (bytes piece told : List ℕ) (from to : ℕ) → Gives part kept wrapped old new (bytes ++ take from piece) read last → from ≤ to
-    → ((b : List ℕ) → DeviceStandsFor part kept wrapped new b → told_of part kept next (b ++ between piece from to) ≡ told_of part kept new b)
-    → ((more : List ℕ) × (read ≡ with_words first more) × (told_of part kept old (bytes ++ take from piece) ≡ told ++ more))
-    → (more : List ℕ) × (last ≡ with_words first more) × (told_of part kept next (bytes ++ take to piece) ≡ told ++ more)
-read_here part kept wrapped old new next first read last bytes piece told from to g f t m =
-    let now : (more : List ℕ) × (last ≡ with_words first more) × (told_of part kept new (bytes ++ take from piece) ≡ told ++ more) = now_told part kept wrapped old new first read last (bytes ++ take from piece) told g m in
-    (now.0, now.1, told_on part kept wrapped new next bytes piece from to f t g.stands ∙ now.2)
 
 pub returns-then-turn-clause-stands : goal.returns-then-turn-clause-stands
 returns-then-turn-clause-stands c = λ part kept wrapped bytes s.

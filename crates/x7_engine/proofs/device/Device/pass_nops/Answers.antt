@@ -1,6 +1,7 @@
 use Rattle.std.proofs.Common.{◌≡◌, ◌+◌, ◌-◌, ◌≤◌, ◌++◌, ℕ, Bool, List, length, take, drop, refl, sym, ap, subst, ◌∙◌, arith, length-drop}
 use Rattle.std.proofs.lemmas.List.{take_rest}
 use Rattle.x7_packets.specs.Cutting.{between}
+use Rattle.x7_packets.specs.History.{history_of}
 use Rattle.x7_packets.specs.Nops.{Idles}
 use Rattle.x7_part.specs.Part.{PartData}
 use Rattle.x7_engine.specs.declared.kept.Kept.{Kept}
@@ -26,7 +27,7 @@ device_after c = record {
 
 passed_here : (c : goal.After-self-1) (kept : Kept) (wrapped : Bool) (bytes : List ℕ) → (let part : PartData = c.self.inside.part in DeviceStandsFor part kept wrapped c.args.self.now bytes
     → (let more : List ℕ = between c.args.piece.now c.args.at.now (c.args.at.now + (c.nops-count.result - c.tick-left.result)) in
-    DeviceStandsFor part kept wrapped (device_after c) (bytes ++ more) × (reads_of part kept (bytes ++ more) ≡ reads_of part kept bytes)))
+    DeviceStandsFor part kept wrapped (device_after c) (bytes ++ more) × (reads_of part kept (bytes ++ more) ≡ reads_of part kept bytes) × (history_of (bytes ++ more) ≡ history_of bytes)))
 passed_here c kept wrapped bytes s =
     let piece : List ℕ = c.args.piece.now in
     let from : ℕ = c.args.at.now in
@@ -69,3 +70,8 @@ returns-clause-told c = λ part kept wrapped bytes s.
     (ap due_count c.tick-left.ensures.due ∙ ap (λ (d : DeviceState). due_count d.registers.due) c.self.view_is ∙ c.requires.none_due)
     (subst (λ (p : PartData). reads_of p kept (bytes ++ more) ≡ reads_of p kept bytes) here
     (passed_here c kept wrapped bytes (subst (λ (p : PartData). DeviceStandsFor p kept wrapped c.args.self.now bytes) (sym here) s)).1)
+
+pub returns-clause-quiet : goal.returns-clause-quiet
+returns-clause-quiet c = λ part kept wrapped bytes s.
+    let here : c.self.inside.part ≡ part = ap (λ (d : DeviceState). d.part) c.self.view_is ∙ s.part_is in
+    (passed_here c kept wrapped bytes (subst (λ (p : PartData). DeviceStandsFor p kept wrapped c.args.self.now bytes) (sym here) s)).2

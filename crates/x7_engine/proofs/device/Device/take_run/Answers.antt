@@ -2,10 +2,11 @@ use Rattle.std.proofs.Common.{◌≡◌, ◌+◌, ◌-◌, ◌≤◌, ◌++◌, 
 use Rattle.x7_packets.specs.Cutting.{between}
 use Rattle.x7_part.specs.Part.{PartData}
 use Rattle.x7_engine.specs.declared.kept.Kept.{Kept}
-use Rattle.x7_engine.specs.Standing.{DeviceStandsFor, DeviceState, registers_in, words_left}
+use Rattle.x7_engine.specs.Standing.{DeviceStandsFor, DeviceState, IsCutterOf, registers_in, words_left}
 use Rattle.x7_engine.specs.State.{history_taken, reads_of}
 use Rattle.x7_engine.proofs.DeviceLemmas.{between_front, holds_run, length_between, told_by, turned}
 use Rattle.x7_engine.proofs.FrameLemmas.{none_due}
+use Rattle.x7_engine.proofs.UntilLemmas.{front_commands, run_commands}
 use Rattle.x7_engine.proofs.device.Device.take_run.Goals as goal
 
 pub run-left-requires-clause-holds : goal.run-left-requires-clause-holds
@@ -67,3 +68,17 @@ returns-clause-told c = λ part kept wrapped bytes s.
     (turned_here c kept wrapped bytes (subst (λ (p : PartData). DeviceStandsFor p kept wrapped c.args.self.now bytes) (sym here) s)).1 in
     told_by part kept (device_after c) (bytes ++ more) (reads_of part kept bytes) (history_taken part kept (bytes ++ more)) reads
     ∙ sym (told_by part kept c.args.self.now bytes (reads_of part kept bytes) [] (none_due (reads_of part kept bytes) part [] c.args.self.now.registers.due c.requires.none_due))
+
+pub returns-clause-commands : goal.returns-clause-commands
+returns-clause-commands c = λ part kept wrapped bytes s.
+    let piece : List ℕ = c.args.piece.now in
+    let from : ℕ = c.args.at.now in
+    let at : ℕ = c.cut-run.new.at in
+    let left : ℕ = c.run-left.result in
+    let inside : DeviceStandsFor part kept wrapped (device_before c) bytes = subst (λ (d : DeviceState). DeviceStandsFor part kept wrapped d bytes) (sym c.self.view_is) s in
+    let cutter : IsCutterOf c.self.inside.cutter bytes = inside.cutter_is (ap (λ (d : DeviceState). d.registers.stop) c.self.view_is ∙ c.requires.going) in
+    let some : left ≤ at - from = c.run-left.ensures.within in
+    let onward : from ≤ at = c.cut-run.ensures.forward in
+    front_commands bytes (between piece from at) (between piece from (at - left)) (drop (at - left - from) (between piece from at)) (between_front piece from at left (omega (arith, some, onward)))
+    (run_commands c.self.inside.cutter c.cut-run.new.self bytes (between piece from at) cutter.sessions cutter.place c.cut-run.result (length piece - from) cutter.stands
+    (c.cut-run.ensures.adds bytes cutter.sessions cutter.place cutter.stands) c.cut-run.ensures.run c.cut-run.ensures.lent)

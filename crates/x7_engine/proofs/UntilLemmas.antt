@@ -1,0 +1,334 @@
+-- Lemmas on specs/UntilStarted: in a turn startup begins at the last byte at the soonest, and where it has begun, it ends some bytes later at the soonest.
+use Rattle.std.proofs.Common.{◌≡◌, ◌==◌, ◌+◌, ◌-◌, ◌/◌, ◌<◌, ◌≤◌, ◌⊎◌, inl, inr, ℕ, Bool, true, false, if◌then◌else◌, Option, None, Some, List, [], ◌∷◌, ◌++◌, length, take, drop, refl, ap, sym, subst, ◌∙◌, append_assoc, append-nil, arith, length-append}
+use Rattle.std.specs.Option.{is_some}
+use Rattle.std.specs.Prelude.{◌&&◌, ◌||◌, not, nat_lt}
+use Rattle.std.proofs.Math.Seq.{take-add, take-append_seam}
+use Rattle.std.proofs.lemmas.Bool.{cases_lt}
+use Rattle.std.proofs.lemmas.List.{drop-take, length-drop, length-take-le, take-append-drop, take-take}
+use Rattle.x7_words.specs.Word.{AreBytes, words_of_bytes}
+use Rattle.x7_words.proofs.ListLemmas.{all_front}
+use Rattle.x7_packets.specs.declared.cutter.Cut.{Cut}
+use Rattle.x7_packets.specs.declared.cutter.Cut.TheVariants.{Body, Head, Need, Skip, Sync, Word}
+use Rattle.x7_packets.specs.declared.header.Step.TheVariants as step
+use Rattle.x7_packets.specs.Cutting.{CutterState, CutterStandsFor, IsLent, IsRun, Went, between, run_steps}
+use Rattle.x7_packets.specs.History.{Access, Bad, History, Placed, Read, Write, command_held, entered_all, entry, executes, history_of, is_command, last_word, next_word, until, writes}
+use Rattle.x7_packets.specs.Packet.{payload_steps}
+use Rattle.x7_packets.specs.Reading.{Place, Session}
+use Rattle.x7_packets.proofs.GrowthLemmas.{front_of, placed_of, placed_within, until_placed}
+use Rattle.x7_packets.proofs.HistoryLemmas.{cut_enters, kept_all, next_word-is}
+use Rattle.x7_part.specs.Part.{PartData}
+use Rattle.x7_startup.specs.Calls.{Call, Arm, Desync, DropBack, Progress, NotBegun, Begun, StandsFor, cor0_of, progress_of}
+use Rattle.x7_startup.proofs.CallLemmas.{further, progress_arm, progress_bytes, progress_drop}
+use Rattle.x7_engine.specs.declared.fed.Fed.{Fed}
+use Rattle.x7_engine.specs.declared.kept.Kept.{Kept}
+use Rattle.x7_engine.specs.declared.stop.Stop.{Stop}
+use Rattle.x7_engine.specs.declared.until_started.UntilStarted.{UntilStarted}
+use Rattle.x7_engine.specs.declared.until_started.UntilStarted.TheVariants as until
+use Rattle.x7_engine.specs.Phases.{soonest}
+use Rattle.x7_engine.specs.Registers.{takes_shutdown}
+use Rattle.x7_engine.specs.ReadBuffer.{ReadBufState}
+use Rattle.x7_engine.specs.Standing.{Answers, DeviceStandsFor, DeviceState, EndsWords, NoWordDue, taken_in, told_of}
+use Rattle.x7_engine.specs.Startup.{phase_by, phase_of, startup_call, startup_calls, startup_progress}
+use Rattle.x7_engine.specs.State.{history_by, history_taken, state_of, stop_in, taken_by, taken_of}
+use Rattle.x7_engine.specs.Stops.{Stopped, stopped_at}
+use Rattle.x7_engine.specs.UntilStarted.{AnswersUntil, CommandsLast, HasNotBegun, NoneStarted, WritesNoCommand, has_started, says_started, taken_until}
+use Rattle.x7_engine.proofs.ClockLemmas.{last_of}
+use Rattle.x7_engine.proofs.DeviceLemmas.{ends_words, length_between}
+use Rattle.x7_engine.proofs.FeedLemmas.{taken_more}
+use Rattle.x7_engine.proofs.PhaseLemmas.{phase_later}
+use Rattle.x7_engine.proofs.StateLemmas.{no_stop_before, stop_is_final-stop, taken_is}
+use Rattle.x7_engine.proofs.TurnLemmas.{front_until, step_until}
+
+-- ---- accesses that write no CMD begin no startup
+
+-- a write to another register executes no DESYNC
+no_desync : (h : History) (access : Access) → writes 4 access ≡ false → executes 13 h access ≡ false
+no_desync h (Read r n) e = refl
+no_desync h (Bad w) e = refl
+no_desync h (Write r w) e = rw e (by (r == 1) (command_held h == 13) (command_held h == 15) refl)
+  where
+    by : (one x y : Bool) → (command_held h == 13) ≡ x → is_command 13 (if one && not (x || y) then Some (command_held h) else None) ≡ false
+    by false x y f = refl
+    by true true y f = refl
+    by true false true f = refl
+    by true false false f = f
+
+-- bytes begin none
+bytes_begin_none : (k : ℕ) (p : Progress) → p ≡ NotBegun → further k p ≡ NotBegun
+bytes_begin_none k p e = ap (further k) e
+
+none_before_bytes : (k : ℕ) (p : Progress) → further k p ≡ NotBegun → p ≡ NotBegun
+none_before_bytes k NotBegun e = refl
+none_before_bytes k (Begun c m) e = absurd (cc)
+
+unbegun_at_any : (h : History) (n m : ℕ) → startup_progress h n ≡ NotBegun → startup_progress h m ≡ NotBegun
+unbegun_at_any [] n m e = progress_bytes [] m
+unbegun_at_any (x ∷ h) n m e =
+    let calls : List Call = startup_calls h x.place ++ startup_call h x.access in
+    progress_bytes calls (m - x.place) ∙ bytes_begin_none (m - x.place) (progress_of calls) (none_before_bytes (n - x.place) (progress_of calls) (sym (progress_bytes calls (n - x.place)) ∙ e))
+
+-- a call of such an access
+called : (calls : List Call) (arms drops desyncs : Bool) (d : ℕ) → desyncs ≡ false → progress_of calls ≡ NotBegun
+    → progress_of (calls ++ (if arms then Arm ∷ [] else if drops then DropBack ∷ [] else if desyncs then Desync d ∷ [] else [])) ≡ NotBegun
+called calls true drops desyncs d e p = progress_arm calls ∙ p
+called calls false true desyncs d e p = progress_drop calls
+called calls false false true d e p = absurd (cc)
+called calls false false false d e p = ap progress_of (append-nil calls) ∙ p
+
+unbegun_later : (newer h : History) → WritesNoCommand newer → ((n : ℕ) → startup_progress h n ≡ NotBegun) → (m : ℕ) → startup_progress (newer ++ h) m ≡ NotBegun
+unbegun_later [] h w f m = f m
+unbegun_later (x ∷ newer) h w f m =
+    let old : History = newer ++ h in
+    let calls : List Call = startup_calls old x.place ++ startup_call old x.access in
+    let here : progress_of calls ≡ NotBegun =
+    called (startup_calls old x.place) (executes 5 old x.access) (takes_shutdown old x.access) (executes 13 old x.access) (last_word 9 0 old) (no_desync old x.access w.0) (unbegun_later newer h w.1 f x.place) in
+    progress_bytes calls (m - x.place) ∙ bytes_begin_none (m - x.place) (progress_of calls) here
+
+-- ---- the accesses of a run
+
+-- newer accesses that write no CMD
+abbrev IsQuieter : History → History → Type 0
+IsQuieter h all = (newer : History) × (all ≡ newer ++ h) × WritesNoCommand newer
+
+-- those of them up to a byte
+quieter_until : (m : ℕ) (newer h : History) → until m h ≡ h → WritesNoCommand newer → IsQuieter h (until m (newer ++ h))
+quieter_until m [] h e w = ([], e, tt)
+quieter_until m (x ∷ newer) h e w = by (nat_lt m x.place) (quieter_until m newer h e w.1)
+  where
+    by : (b : Bool) → IsQuieter h (until m (newer ++ h)) → IsQuieter h (if b then until m (newer ++ h) else x ∷ (newer ++ h))
+    by true q = q
+    by false q = (x ∷ newer, refl, w)
+
+-- the writes of a register other than CMD
+quieter_body : (register from : ℕ) (ws : List ℕ) (h : History) → (register == 4) ≡ false → IsQuieter h (entered_all from (payload_steps register ws) h)
+quieter_body register from ws h e =
+    kept_all (IsQuieter h) register (λ x w place q. (entry (Write register w) place ∷ q.0, ap (λ t. entry (Write register w) place ∷ t) q.1, (e, q.2))) from ws h ([], refl, tt)
+
+quieter_run : (run : Cut) (from n count m : ℕ) (h : History) → Placed n h → n ≤ m → m < n + count → IsRun run → EndsWords run from n count → IsQuieter h (until m (entered_all from (run_steps run) h))
+quieter_run Need from n count m h p l k r e = ([], until_placed m h (placed_within n m h l p), tt)
+quieter_run (Skip bs) from n count m h p l k r e = ([], until_placed m h (placed_within n m h l p), tt)
+quieter_run Sync from n count m h p l k r e = ([], until_placed m h (placed_within n m h l p), tt)
+quieter_run (Head w s) from n count m h p l k r e = ([], step_until n m (from + 4) s h p l (omega (arith, k, e.1)), tt)
+quieter_run (Word register w) from n count m h p l k r e = ([], step_until n m (from + 4) (step.Payload register w) h p l (omega (arith, k, e.1)), tt)
+quieter_run (Body register bs) from n count m h p l k r e = by (register == 4) refl
+  where
+    all : History
+    all = entered_all from (payload_steps register (words_of_bytes bs.now)) h
+
+    here : until m h ≡ h
+    here = until_placed m h (placed_within n m h l p)
+
+    by : (b : Bool) → (register == 4) ≡ b → IsQuieter h (until m all)
+    by true f =
+        let is : register ≡ 4 = grind (arith, f) in
+        let one : length bs.now ≡ 4 = r.3 is in
+        ([], front_until from 0 m (payload_steps register (words_of_bytes bs.now)) h (omega arith) (omega (arith, k, e.0, e.1, one)) ∙ here, tt)
+    by false f =
+        let q : IsQuieter h all = quieter_body register from (words_of_bytes bs.now) h f in
+        subst (λ (x : History). IsQuieter h (until m x)) (sym q.1) (quieter_until m q.0 h here q.2)
+
+pub run_commands : (c n : CutterState) (bytes cut : List ℕ) (sessions : List Session) (place : Place) (run : Cut) (left : ℕ) → CutterStandsFor c bytes sessions place → Went c n (bytes ++ cut) sessions place run → IsRun run → IsLent c left run
+    → CommandsLast bytes cut
+run_commands c n bytes cut sessions place run left s w r i = λ k l.
+    let from : ℕ = next_word sessions place in
+    let all : History = entered_all from (run_steps run) (history_of bytes) in
+    let whole : history_of (bytes ++ cut) ≡ all = cut_enters c n bytes cut sessions place run from s w (next_word-is bytes sessions place s.reading) in
+    let joined : (bytes ++ take k cut) ++ drop k cut ≡ bytes ++ cut = append_assoc bytes (take k cut) (drop k cut) ∙ ap (λ (t : List ℕ). bytes ++ t) (take-append-drop k cut) in
+    let fits : AreBytes ((bytes ++ take k cut) ++ drop k cut) = subst AreBytes (sym joined) w.stands.reading.fits in
+    let here : AreBytes bytes = all_front (λ b. b < 256) bytes cut w.stands.reading.fits in
+    let m : ℕ = length (bytes ++ take k cut) in
+    let front : history_of (bytes ++ take k cut) ≡ until m all = sym (front_of (bytes ++ take k cut) (drop k cut) fits) ∙ ap (until m) (ap history_of joined ∙ whole) in
+    let few : length (take k cut) ≡ k = length-take-le k cut (omega (arith, l)) in
+    let count : m ≡ length bytes + k = omega (arith, length-append bytes (take k cut), few) in
+    let q : IsQuieter (history_of bytes) (until m all) =
+    quieter_run run from (length bytes) (length cut) m (history_of bytes) (placed_of bytes here) (omega (arith, count)) (omega (arith, count, l)) r (ends_words c n bytes cut sessions place run left s w r i) in
+    (q.0, front ∙ q.1, q.2)
+
+-- the front of such bytes
+pub front_commands : (bytes cut more rest : List ℕ) → cut ≡ more ++ rest → CommandsLast bytes cut → CommandsLast bytes more
+front_commands bytes cut more rest e f = λ k l.
+    let longer : length cut ≡ length more + length rest = ap length e ∙ length-append more rest in
+    let same : take k cut ≡ take k more = ap (take k) e ∙ take_front k more rest (omega (arith, l)) in
+    subst (λ (t : List ℕ). IsQuieter (history_of bytes) (history_of (bytes ++ t))) same (f k (omega (arith, l, longer)))
+  where
+    take_front : (k : ℕ) (a b : List ℕ) → k ≤ length a → take k (a ++ b) ≡ take k a
+    take_front k a b l =
+        let all : take (length a) (a ++ b) ≡ a = take-append_seam a b in
+        sym (take-take k (length a) (a ++ b) l) ∙ ap (take k) all
+
+-- bytes that enter no access
+pub quiet_commands : (bytes more : List ℕ) → AreBytes (bytes ++ more) → history_of (bytes ++ more) ≡ history_of bytes → CommandsLast bytes more
+quiet_commands bytes more fits e = λ k l.
+    let joined : (bytes ++ take k more) ++ drop k more ≡ bytes ++ more = append_assoc bytes (take k more) (drop k more) ∙ ap (λ (t : List ℕ). bytes ++ t) (take-append-drop k more) in
+    let here : AreBytes bytes = all_front (λ b. b < 256) bytes more fits in
+    let m : ℕ = length (bytes ++ take k more) in
+    let front : history_of (bytes ++ take k more) ≡ until m (history_of bytes) =
+    sym (front_of (bytes ++ take k more) (drop k more) (subst AreBytes (sym joined) fits)) ∙ ap (until m) (ap history_of joined ∙ e) in
+    ([], front ∙ until_placed m (history_of bytes) (placed_within (length bytes) m (history_of bytes) (omega (arith, length-append bytes (take k more))) (placed_of bytes here)), tt)
+
+-- and then bytes of a run
+pub then_commands : (bytes quiet more : List ℕ) → AreBytes (bytes ++ quiet) → history_of (bytes ++ quiet) ≡ history_of bytes → CommandsLast (bytes ++ quiet) more → CommandsLast bytes (quiet ++ more)
+then_commands bytes quiet more fits e f = λ k l. elim (cases_lt k (length quiet)) [
+  | inl before ↦
+      let same : take k (quiet ++ more) ≡ take k quiet = ap (take k) refl ∙ front k before in
+      subst (λ (t : List ℕ). IsQuieter (history_of bytes) (history_of (bytes ++ t))) (sym same) (quiet_commands bytes quiet fits e k before)
+  | inr behind ↦
+      let j : ℕ = k - length quiet in
+      let sum : length quiet + j ≡ k = omega (arith, behind) in
+      let all : length (quiet ++ more) ≡ length quiet + length more = length-append quiet more in
+      let q : IsQuieter (history_of (bytes ++ quiet)) (history_of ((bytes ++ quiet) ++ take j more)) = f j (omega (arith, l, all, behind)) in
+      let place : (bytes ++ quiet) ++ take j more ≡ bytes ++ take k (quiet ++ more) =
+      append_assoc bytes quiet (take j more) ∙ ap (λ (t : List ℕ). bytes ++ t) (sym (back j) ∙ ap (λ (i : ℕ). take i (quiet ++ more)) sum) in
+      (q.0, ap history_of (sym place) ∙ q.1 ∙ ap (λ (h : History). q.0 ++ h) e, q.2)
+]
+  where
+    front : (k : ℕ) → k < length quiet → take k (quiet ++ more) ≡ take k quiet
+    front k l = let all : take (length quiet) (quiet ++ more) ≡ quiet = take-append_seam quiet more in sym (take-take k (length quiet) (quiet ++ more) (omega (arith, l))) ∙ ap (take k) all
+
+    drop_past : (a b : List ℕ) → drop (length a) (a ++ b) ≡ b
+    drop_past [] b = refl
+    drop_past (x ∷ a) b = drop_past a b
+
+    take_past : (a b : List ℕ) (j : ℕ) → take (length a + j) (a ++ b) ≡ a ++ take j b
+    take_past a b j = take-add (length a) j (a ++ b) ∙ ap (λ (t : List ℕ). t ++ take j (drop (length a) (a ++ b))) (take-append_seam a b) ∙ ap (λ (t : List ℕ). a ++ take j t) (drop_past a b)
+
+    back : (j : ℕ) → take (length quiet + j) (quiet ++ more) ≡ quiet ++ take j more
+    back j = take_past quiet more j
+
+-- ---- startup hasn't ended before the last byte of a turn
+
+-- the phase where nothing stopped the device
+pub phase_going : (part : PartData) (kept : Kept) (wrapped : Bool) (bytes : List ℕ) → stop_in part kept bytes ≡ None → (state_of part kept wrapped bytes).phase ≡ phase_of part (history_of bytes) (length bytes)
+phase_going part kept wrapped bytes none = ap (λ (o : Option Stopped). phase_by part (startup_progress (history_by o (history_of bytes)) (taken_by o (length bytes)))) none
+
+-- no stop comes before the last byte taken
+pub going_before : (part : PartData) (kept : Kept) (wrapped : Bool) (d : DeviceState) (bytes more : List ℕ) → DeviceStandsFor part kept wrapped d (bytes ++ more) → 0 < length more → stop_in part kept bytes ≡ None
+going_before part kept wrapped d bytes more s some = by (stop_in part kept bytes) refl
+  where
+    at_last : (o : Option Stop) (t : Stopped) → stopped_at (length (bytes ++ more)) o ≡ Some t → t.place ≡ length (bytes ++ more)
+    at_last None t e = absurd (cc)
+    at_last (Some line) t e = cc
+
+    by : (o : Option Stopped) → stop_in part kept bytes ≡ o → stop_in part kept bytes ≡ None
+    by None e = e
+    by (Some t) e =
+        let stays : stop_in part kept (bytes ++ more) ≡ Some t = stop_is_final-stop part kept bytes more t s.fits e in
+        let last : t.place ≡ length (bytes ++ more) = at_last d.registers.stop t (sym s.stop_is ∙ stays) in
+        let count : length (bytes ++ more) ≡ length bytes + length more = length-append bytes more in
+        no_stop_before part kept bytes more t s.fits stays (omega (arith, last, count, some))
+
+below_seven : (p : ℕ) → p < 7 → (p == 7) ≡ false
+below_seven p l = grind arith
+
+not_seven : (p : ℕ) → p ≤ 7 → (p == 7) ≡ false → p < 7
+not_seven p l e = grind arith
+
+pub none_started : (part : PartData) (kept : Kept) (wrapped : Bool) (d : DeviceState) (bytes more : List ℕ) → stop_in part kept bytes ≡ None → DeviceStandsFor part kept wrapped d (bytes ++ more) → has_started part kept bytes ≡ false
+    → CommandsLast bytes more → HasNotBegun part kept bytes ⊎ (length more ≤ soonest (state_of part kept wrapped bytes).phase) → NoneStarted part kept bytes more (length more)
+none_started part kept wrapped d bytes more going s not f b = λ k l.
+    let front : List ℕ = take k more in
+    let few : length front ≡ k = length-take-le k more (omega (arith, l)) in
+    let left : length (drop k more) ≡ length more - k = length-drop k more in
+    let joined : (bytes ++ front) ++ drop k more ≡ bytes ++ more = append_assoc bytes front (drop k more) ∙ ap (λ (t : List ℕ). bytes ++ t) (take-append-drop k more) in
+    let all : DeviceStandsFor part kept wrapped d ((bytes ++ front) ++ drop k more) = subst (DeviceStandsFor part kept wrapped d) (sym joined) s in
+    let none : stop_in part kept (bytes ++ front) ≡ None = going_before part kept wrapped d (bytes ++ front) (drop k more) all (omega (arith, left, l)) in
+    let fits : AreBytes (bytes ++ front) = all_front (λ b. b < 256) (bytes ++ front) (drop k more) all.fits in
+    let now : (state_of part kept false (bytes ++ front)).phase ≡ phase_of part (history_of (bytes ++ front)) (length (bytes ++ front)) = phase_going part kept false (bytes ++ front) none in
+    let low : phase_of part (history_of (bytes ++ front)) (length (bytes ++ front)) < 7 = elim b [
+      | inl unbegun ↦
+          let first : startup_progress (history_of bytes) (length bytes) ≡ NotBegun = subst (λ (o : Option Stopped). startup_progress (history_by o (history_of bytes)) (taken_by o (length bytes)) ≡ NotBegun) going unbegun in
+          let q = f k l in
+          let still : startup_progress (history_of (bytes ++ front)) (length (bytes ++ front)) ≡ NotBegun =
+          ap (λ (h : History). startup_progress h (length (bytes ++ front))) q.1
+          ∙ unbegun_later q.0 (history_of bytes) q.2 (λ n. unbegun_at_any (history_of bytes) (length bytes) n first) (length (bytes ++ front)) in
+          let zero_is : phase_of part (history_of (bytes ++ front)) (length (bytes ++ front)) ≡ 0 = ap (phase_by part) still in
+          omega (arith, zero_is)
+      | inr soon ↦
+          let later : phase_of part (history_of (bytes ++ front)) (length (bytes ++ front)) ≤ phase_of part (history_of bytes) (length bytes) + (length front + 3) / 4 = phase_later part bytes front fits in
+          let first : (state_of part kept wrapped bytes).phase ≡ phase_of part (history_of bytes) (length bytes) = phase_going part kept wrapped bytes going in
+          let most : (state_of part kept false bytes).phase ≤ 7 = last_of part (startup_progress (history_taken part kept bytes) (taken_of part kept bytes)) in
+          let below : (state_of part kept wrapped bytes).phase < 7 = not_seven (state_of part kept false bytes).phase most not in
+          omega (arith, later, first, below, few, soon, l)
+    ] in
+    below_seven (state_of part kept false (bytes ++ front)).phase (subst (λ (p : ℕ). p < 7) (sym now) low)
+
+-- ---- turns of a piece
+
+-- a part of a piece's front is that part of the piece
+pub between_in_front : (piece : List ℕ) (end from to : ℕ) → from ≤ to → to ≤ end → between (take end piece) from to ≡ between piece from to
+between_in_front piece end from to l m =
+    let sum : from + (end - from) ≡ end = omega (arith, l, m) in
+    let few : to - from ≤ end - from = omega (arith, l, m) in
+    ap (λ (k : ℕ). between (take k piece) from to) (sym sum)
+    ∙ ap (take (to - from)) (drop-take from (end - from) piece)
+    ∙ take-take (to - from) (end - from) (drop from piece) few
+
+-- so is a part of the slice that a turn is given
+slice_long : (piece : List ℕ) (end : ℕ) → end ≤ length piece → length (take end piece) ≡ end
+slice_long piece end l = length-take-le end piece l
+
+pub in_slice : (piece : List ℕ) (end from to : ℕ) → end ≤ length piece → from ≤ to → to ≤ length (take end piece) → between (take end piece) from to ≡ between piece from to
+in_slice piece end from to m l k = between_in_front piece end from to l (omega (arith, k, slice_long piece end m))
+
+pub turn_stands : (part : PartData) (kept : Kept) (wrapped : Bool) (d : DeviceState) (bytes piece : List ℕ) (end from to : ℕ) → end ≤ length piece → from ≤ to → to ≤ length (take end piece)
+    → DeviceStandsFor part kept wrapped d (bytes ++ between (take end piece) from to) → DeviceStandsFor part kept wrapped d (bytes ++ between piece from to)
+turn_stands part kept wrapped d bytes piece end from to m l k s = subst (λ (t : List ℕ). DeviceStandsFor part kept wrapped d (bytes ++ t)) (in_slice piece end from to m l k) s
+
+pub turn_told : (part : PartData) (kept : Kept) (d e : DeviceState) (bytes piece : List ℕ) (end from to : ℕ) → end ≤ length piece → from ≤ to → to ≤ length (take end piece)
+    → told_of part kept e (bytes ++ between (take end piece) from to) ≡ told_of part kept d bytes → told_of part kept e (bytes ++ between piece from to) ≡ told_of part kept d bytes
+turn_told part kept d e bytes piece end from to m l k t = subst (λ (b : List ℕ). told_of part kept e (bytes ++ b) ≡ told_of part kept d bytes) (in_slice piece end from to m l k) t
+
+pub turn_first : (part : PartData) (kept : Kept) (wrapped : Bool) (d e : DeviceState) (bytes piece : List ℕ) (end from to : ℕ) → end ≤ length piece → from ≤ to → to ≤ length (take end piece) → d.registers.stop ≡ None
+    → DeviceStandsFor part kept wrapped d bytes → DeviceStandsFor part kept wrapped e (bytes ++ between (take end piece) from to) → CommandsLast bytes (between (take end piece) from to)
+    → HasNotBegun part kept bytes ⊎ (end ≤ from + soonest (state_of part kept wrapped bytes).phase) → has_started part kept bytes ≡ false → NoneStarted part kept bytes (between piece from to) (to - from)
+turn_first part kept wrapped d e bytes piece end from to m l k going s after f b not =
+    let more : List ℕ = between piece from to in
+    let most : to ≤ end = omega (arith, k, slice_long piece end m) in
+    let count : length more ≡ to - from = length_between piece from to l (omega (arith, most, m)) in
+    let same : between (take end piece) from to ≡ more = in_slice piece end from to m l k in
+    let soon : HasNotBegun part kept bytes ⊎ (length more ≤ soonest (state_of part kept wrapped bytes).phase) = elim b [ inl unbegun ↦ inl unbegun | inr few ↦ inr (omega (arith, few, count, most)) ] in
+    subst (NoneStarted part kept bytes more) count
+    (none_started part kept wrapped e bytes more (s.stop_is ∙ ap (stopped_at (length bytes)) going) (turn_stands part kept wrapped e bytes piece end from to m l k after) not (subst (CommandsLast bytes) same f) soon)
+
+-- nothing before, and nothing in a turn more
+pub none_on : (part : PartData) (kept : Kept) (bytes piece : List ℕ) (from to : ℕ) → from ≤ to → NoneStarted part kept bytes piece from → NoneStarted part kept (bytes ++ take from piece) (between piece from to) (to - from) → NoneStarted part kept bytes piece to
+none_on part kept bytes piece from to l f g = λ k m. elim (cases_lt k from) [
+  | inl before ↦ f k before
+  | inr behind ↦
+      let j : ℕ = k - from in
+      let here : take j (between piece from to) ≡ between piece from k = take-take j (to - from) (drop from piece) (omega (arith, m, behind)) in
+      let all : (bytes ++ take from piece) ++ take j (between piece from to) ≡ bytes ++ take k piece = ap (λ (t : List ℕ). (bytes ++ take from piece) ++ t) here ∙ taken_more bytes piece from k behind in
+      subst (λ (t : List ℕ). has_started part kept t ≡ false) all (g j (omega (arith, m, behind)))
+]
+
+-- ---- what a device keeps of it
+
+-- startup that the device keeps as not begun hasn't begun
+pub unbegun : (part : PartData) (kept : Kept) (wrapped : Bool) (d : DeviceState) (bytes : List ℕ) → DeviceStandsFor part kept wrapped d bytes → is_some d.registers.clock.startup.begun ≡ false → HasNotBegun part kept bytes
+unbegun part kept wrapped d bytes s e =
+    let n : ℕ = taken_of part kept bytes in
+    let stands : StandsFor part.lock part.matched d.registers.clock.startup (startup_calls (history_taken part kept bytes) n) =
+    subst (λ (k : ℕ). StandsFor part.lock part.matched d.registers.clock.startup (startup_calls (history_taken part kept bytes) k)) (sym (taken_is part kept wrapped d bytes s)) s.registers_are.clock.startup in
+    by (startup_progress (history_taken part kept bytes) n) (ap is_some (sym stands.stores.begun_is) ∙ e)
+  where
+    by : (p : Progress) → is_some (cor0_of p) ≡ false → p ≡ NotBegun
+    by NotBegun f = refl
+    by (Begun c m) f = absurd (cc)
+
+-- ---- what is answered at a place of a piece
+
+taken_answer : (b : Bool) (answer : Fed) (length at : ℕ) → taken_in length answer ≡ at → taken_until length (if b then until.Started at else until.Fed answer) ≡ at
+taken_answer true answer length at e = refl
+taken_answer false answer length at e = e
+
+pub count_is : (r : UntilStarted) (b : Bool) (answer : Fed) (length at : ℕ) → r ≡ (if b then until.Started at else until.Fed answer) → taken_in length answer ≡ at → taken_until length r ≡ at
+count_is r b answer length at e f = ap (taken_until length) e ∙ taken_answer b answer length at f
+
+pub says_answer : (b : Bool) (answer : Fed) (at : ℕ) → says_started (if b then until.Started at else until.Fed answer) ≡ b
+says_answer true answer at = refl
+says_answer false answer at = refl
+
+pub answers_until : (part : PartData) (kept : Kept) (d : DeviceState) (bytes : List ℕ) (read : ReadBufState) (b : Bool) (answer : Fed) (at : ℕ) → NoWordDue d → Answers part kept d bytes read answer
+    → AnswersUntil part kept d bytes read (if b then until.Started at else until.Fed answer)
+answers_until part kept d bytes read true answer at due a = due
+answers_until part kept d bytes read false answer at due a = a

@@ -1,0 +1,176 @@
+use Rattle.std.proofs.Common.{◌≡◌, ◌++◌, ℕ, true, false, Option, List, length, take, sym, ap, subst, ◌∙◌, append-nil, refl, [], arith}
+use Rattle.std.specs.Option.{is_some}
+use Rattle.x7_engine.specs.declared.fed.Fed.TheVariants as fed
+use Rattle.x7_engine.specs.declared.stop.Stop.{Stop}
+use Rattle.x7_engine.specs.declared.until_started.UntilStarted.TheVariants as until
+use Rattle.x7_engine.specs.ReadBuffer.{with_words}
+use Rattle.x7_engine.specs.Standing.{Answers, DeviceStandsFor, DeviceState, taken_in, told_of}
+use Rattle.x7_engine.specs.Stops.{stopped_at}
+use Rattle.x7_engine.specs.UntilStarted.{AnswersUntil, NoneStarted, has_started, says_started, taken_until}
+use Rattle.x7_engine.proofs.FeedLemmas.{answers_stop, now_told, read_here, stands_on, taken_by_stop, words_none}
+use Rattle.x7_engine.proofs.UntilLemmas.{answers_until, count_is, none_on, says_answer}
+use Rattle.x7_engine.proofs.device.Device.feed_until_started.Goals as goal
+
+pub runs-init : goal.runs-init
+runs-init c = record {
+  within = omega arith;
+  fed_before = refl;
+  fits = omega (arith, c.requires);
+  stands = λ part kept wrapped bytes s. subst (λ (b : List ℕ). DeviceStandsFor part kept wrapped c.args.self.now b) (sym (append-nil bytes)) s;
+  first = λ part kept wrapped bytes s k l. absurd (omega (arith, l));
+  reads = λ part kept wrapped bytes s. ([], words_none c.args.read.now, ap (told_of part kept c.args.self.now) (append-nil bytes) ∙ sym (append-nil (told_of part kept c.args.self.now bytes)));
+  stopped = λ e. (refl, refl, refl);
+}
+
+-- ---- a stop
+
+stop_count : (c : goal.After-answer) → taken_until (length c.args.piece.now) c.answer.result ≡ c.runs.at
+stop_count c =
+    count_is c.answer.result c.started.result c.stopped.result (length c.args.piece.now) c.runs.at c.answer.ensures
+    (ap (taken_in (length c.args.piece.now)) c.stopped.ensures ∙ taken_by_stop c.in-Some.stop (length c.args.piece.now) c.runs.at)
+
+pub returns-in-Some-clause-stands : goal.returns-in-Some-clause-stands
+returns-in-Some-clause-stands c = λ part kept wrapped bytes s.
+    subst (λ (k : ℕ). DeviceStandsFor part kept wrapped c.runs.self (bytes ++ take k c.args.piece.now)) (sym (stop_count c)) (c.runs.invariant.stands part kept wrapped bytes s)
+
+pub returns-in-Some-clause-first : goal.returns-in-Some-clause-first
+returns-in-Some-clause-first c = λ part kept wrapped bytes s. subst (NoneStarted part kept bytes c.args.piece.now) (sym (stop_count c)) (c.runs.invariant.first part kept wrapped bytes s)
+
+pub returns-in-Some-clause-started : goal.returns-in-Some-clause-started
+returns-in-Some-clause-started c = λ part kept wrapped bytes s due.
+    ap says_started c.answer.ensures ∙ says_answer c.started.result c.stopped.result c.runs.at
+    ∙ c.started.ensures part kept wrapped (bytes ++ take c.runs.at c.args.piece.now) (c.runs.invariant.stands part kept wrapped bytes s)
+    ∙ ap (λ (k : ℕ). has_started part kept (bytes ++ take k c.args.piece.now)) (sym (stop_count c))
+
+pub returns-in-Some-clause-answer : goal.returns-in-Some-clause-answer
+returns-in-Some-clause-answer c = λ part kept wrapped bytes s.
+    let piece : List ℕ = c.args.piece.now in
+    let here : DeviceStandsFor part kept wrapped c.runs.self (bytes ++ take c.runs.at piece) = c.runs.invariant.stands part kept wrapped bytes s in
+    let answers : Answers part kept c.runs.self (bytes ++ take c.runs.at piece) c.runs.read c.stopped.result =
+    subst (Answers part kept c.runs.self (bytes ++ take c.runs.at piece) c.runs.read) (sym c.stopped.ensures) (answers_stop part kept wrapped c.runs.self (bytes ++ take c.runs.at piece) c.runs.read c.in-Some.stop c.runs.at here c.in-Some.ensures) in
+    subst (λ (k : ℕ). AnswersUntil part kept c.runs.self (bytes ++ take k piece) c.runs.read c.answer.result) (sym (stop_count c))
+    (subst (AnswersUntil part kept c.runs.self (bytes ++ take c.runs.at piece) c.runs.read) (sym c.answer.ensures)
+    (answers_until part kept c.runs.self (bytes ++ take c.runs.at piece) c.runs.read c.started.result c.stopped.result c.runs.at (here.at_rest c.in-Some.stop (sym c.in-Some.ensures)) answers))
+
+pub returns-in-Some-clause-reads : goal.returns-in-Some-clause-reads
+returns-in-Some-clause-reads c = λ part kept wrapped bytes s.
+    let told = c.runs.invariant.reads part kept wrapped bytes s in
+    (told.0, told.1, ap (λ (k : ℕ). told_of part kept c.runs.self (bytes ++ take k c.args.piece.now)) (stop_count c) ∙ told.2)
+
+-- ---- words due
+
+pub returns-then-not-give-clause-stands : goal.returns-then-not-give-clause-stands
+returns-then-not-give-clause-stands c = λ part kept wrapped bytes s.
+    (c.give.ensures.given part kept wrapped (bytes ++ take c.runs.at c.args.piece.now) (c.runs.invariant.stands part kept wrapped bytes s)).stands
+
+pub returns-then-not-give-clause-reads : goal.returns-then-not-give-clause-reads
+returns-then-not-give-clause-reads c = λ part kept wrapped bytes s.
+    let taken : List ℕ = bytes ++ take c.runs.at c.args.piece.now in
+    now_told part kept wrapped c.runs.self c.give.new.self c.args.read.now c.runs.read c.give.new.read taken (told_of part kept c.args.self.now bytes)
+    (c.give.ensures.given part kept wrapped taken (c.runs.invariant.stands part kept wrapped bytes s)) (c.runs.invariant.reads part kept wrapped bytes s)
+
+-- ---- startup has ended
+
+pub returns-then-started-clause-stands : goal.returns-then-started-clause-stands
+returns-then-started-clause-stands c = λ part kept wrapped bytes s.
+    (c.give.ensures.given part kept wrapped (bytes ++ take c.runs.at c.args.piece.now) (c.runs.invariant.stands part kept wrapped bytes s)).stands
+
+pub returns-then-started-clause-started : goal.returns-then-started-clause-started
+returns-then-started-clause-started c = λ part kept wrapped bytes s due.
+    let taken : List ℕ = bytes ++ take c.runs.at c.args.piece.now in
+    sym c.if-started.true ∙ c.started-in-runs.ensures part kept wrapped taken (c.give.ensures.given part kept wrapped taken (c.runs.invariant.stands part kept wrapped bytes s)).stands
+
+pub returns-then-started-clause-reads : goal.returns-then-started-clause-reads
+returns-then-started-clause-reads c = λ part kept wrapped bytes s.
+    let taken : List ℕ = bytes ++ take c.runs.at c.args.piece.now in
+    now_told part kept wrapped c.runs.self c.give.new.self c.args.read.now c.runs.read c.give.new.read taken (told_of part kept c.args.self.now bytes)
+    (c.give.ensures.given part kept wrapped taken (c.runs.invariant.stands part kept wrapped bytes s)) (c.runs.invariant.reads part kept wrapped bytes s)
+
+-- ---- the piece is used up
+
+pub returns-then-turn_until_started-clause-stands : goal.returns-then-turn_until_started-clause-stands
+returns-then-turn_until_started-clause-stands c = λ part kept wrapped bytes s.
+    let piece : List ℕ = c.args.piece.now in
+    let at : ℕ = c.turn_until_started.new.at in
+    let used = c.turn_until_started.ensures.used_up c.if-turn_until_started.true in
+    let count : taken_until (length piece) c.answer-then-turn_until_started.result ≡ at = count_is c.answer-then-turn_until_started.result c.started-then-turn_until_started.result fed.All (length piece) at c.answer-then-turn_until_started.ensures (sym used.0) in
+    subst (λ (k : ℕ). DeviceStandsFor part kept wrapped c.turn_until_started.new.self (bytes ++ take k piece)) (sym count)
+    (stands_on part kept wrapped c.give.new.self c.turn_until_started.new.self bytes piece c.runs.at at c.turn_until_started.ensures.forward (c.turn_until_started.ensures.stands part kept wrapped)
+    (c.give.ensures.given part kept wrapped (bytes ++ take c.runs.at piece) (c.runs.invariant.stands part kept wrapped bytes s)).stands)
+
+pub returns-then-turn_until_started-clause-first : goal.returns-then-turn_until_started-clause-first
+returns-then-turn_until_started-clause-first c = λ part kept wrapped bytes s.
+    let piece : List ℕ = c.args.piece.now in
+    let at : ℕ = c.turn_until_started.new.at in
+    let used = c.turn_until_started.ensures.used_up c.if-turn_until_started.true in
+    let count : taken_until (length piece) c.answer-then-turn_until_started.result ≡ at = count_is c.answer-then-turn_until_started.result c.started-then-turn_until_started.result fed.All (length piece) at c.answer-then-turn_until_started.ensures (sym used.0) in
+    let taken : List ℕ = bytes ++ take c.runs.at piece in
+    let given = c.give.ensures.given part kept wrapped taken (c.runs.invariant.stands part kept wrapped bytes s) in
+    let not : has_started part kept taken ≡ false = sym (c.started-in-runs.ensures part kept wrapped taken given.stands) ∙ c.if-started.false in
+    subst (NoneStarted part kept bytes piece) (sym count)
+    (none_on part kept bytes piece c.runs.at at c.turn_until_started.ensures.forward (c.runs.invariant.first part kept wrapped bytes s) (c.turn_until_started.ensures.first part kept wrapped taken given.stands not))
+
+pub returns-then-turn_until_started-clause-started : goal.returns-then-turn_until_started-clause-started
+returns-then-turn_until_started-clause-started c = λ part kept wrapped bytes s due.
+    let piece : List ℕ = c.args.piece.now in
+    let at : ℕ = c.turn_until_started.new.at in
+    let used = c.turn_until_started.ensures.used_up c.if-turn_until_started.true in
+    let count : taken_until (length piece) c.answer-then-turn_until_started.result ≡ at = count_is c.answer-then-turn_until_started.result c.started-then-turn_until_started.result fed.All (length piece) at c.answer-then-turn_until_started.ensures (sym used.0) in
+    let taken : List ℕ = bytes ++ take c.runs.at piece in
+    let given = c.give.ensures.given part kept wrapped taken (c.runs.invariant.stands part kept wrapped bytes s) in
+    let here : DeviceStandsFor part kept wrapped c.turn_until_started.new.self (bytes ++ take at piece) =
+    stands_on part kept wrapped c.give.new.self c.turn_until_started.new.self bytes piece c.runs.at at c.turn_until_started.ensures.forward (c.turn_until_started.ensures.stands part kept wrapped) given.stands in
+    ap says_started c.answer-then-turn_until_started.ensures ∙ says_answer c.started-then-turn_until_started.result fed.All at
+    ∙ c.started-then-turn_until_started.ensures part kept wrapped (bytes ++ take at piece) here
+    ∙ ap (λ (k : ℕ). has_started part kept (bytes ++ take k piece)) (sym count)
+
+pub returns-then-turn_until_started-clause-answer : goal.returns-then-turn_until_started-clause-answer
+returns-then-turn_until_started-clause-answer c = λ part kept wrapped bytes s.
+    let piece : List ℕ = c.args.piece.now in
+    let at : ℕ = c.turn_until_started.new.at in
+    let all : List ℕ = bytes ++ take at piece in
+    let used = c.turn_until_started.ensures.used_up c.if-turn_until_started.true in
+    let count : taken_until (length piece) c.answer-then-turn_until_started.result ≡ at = count_is c.answer-then-turn_until_started.result c.started-then-turn_until_started.result fed.All (length piece) at c.answer-then-turn_until_started.ensures (sym used.0) in
+    let taken : List ℕ = bytes ++ take c.runs.at piece in
+    let given = c.give.ensures.given part kept wrapped taken (c.runs.invariant.stands part kept wrapped bytes s) in
+    let here : DeviceStandsFor part kept wrapped c.turn_until_started.new.self all =
+    stands_on part kept wrapped c.give.new.self c.turn_until_started.new.self bytes piece c.runs.at at c.turn_until_started.ensures.forward (c.turn_until_started.ensures.stands part kept wrapped) given.stands in
+    subst (λ (k : ℕ). AnswersUntil part kept c.turn_until_started.new.self (bytes ++ take k piece) c.give.new.read c.answer-then-turn_until_started.result) (sym count)
+    (subst (AnswersUntil part kept c.turn_until_started.new.self all c.give.new.read) (sym c.answer-then-turn_until_started.ensures)
+    (answers_until part kept c.turn_until_started.new.self all c.give.new.read c.started-then-turn_until_started.result fed.All at used.2 (here.stop_is ∙ ap (stopped_at (length all)) used.1, used.2)))
+
+pub returns-then-turn_until_started-clause-reads : goal.returns-then-turn_until_started-clause-reads
+returns-then-turn_until_started-clause-reads c = λ part kept wrapped bytes s.
+    let piece : List ℕ = c.args.piece.now in
+    let at : ℕ = c.turn_until_started.new.at in
+    let used = c.turn_until_started.ensures.used_up c.if-turn_until_started.true in
+    let count : taken_until (length piece) c.answer-then-turn_until_started.result ≡ at = count_is c.answer-then-turn_until_started.result c.started-then-turn_until_started.result fed.All (length piece) at c.answer-then-turn_until_started.ensures (sym used.0) in
+    let told : (more : List ℕ) × (c.give.new.read ≡ with_words c.args.read.now more) × (told_of part kept c.turn_until_started.new.self (bytes ++ take at piece) ≡ told_of part kept c.args.self.now bytes ++ more) =
+    read_here part kept wrapped c.runs.self c.give.new.self c.turn_until_started.new.self c.args.read.now c.runs.read c.give.new.read bytes piece (told_of part kept c.args.self.now bytes) c.runs.at at
+    (c.give.ensures.given part kept wrapped (bytes ++ take c.runs.at piece) (c.runs.invariant.stands part kept wrapped bytes s)) c.turn_until_started.ensures.forward (c.turn_until_started.ensures.told part kept wrapped) (c.runs.invariant.reads part kept wrapped bytes s) in
+    (told.0, told.1, ap (λ (k : ℕ). told_of part kept c.turn_until_started.new.self (bytes ++ take k piece)) count ∙ told.2)
+
+-- ---- a turn more
+
+pub runs-preserved : goal.runs-preserved
+runs-preserved c =
+    let piece : List ℕ = c.args.piece.now in
+    let at : ℕ = c.turn_until_started.new.at in
+    let same : c.give.new.self.taken ≡ c.runs.self.taken = c.give.ensures.taken in
+    record {
+      within = c.turn_until_started.ensures.within;
+      fed_before = c.turn_until_started.ensures.fed_before ∙ c.give.ensures.fed_before ∙ c.runs.invariant.fed_before;
+      fits = omega (arith, same, c.turn_until_started.ensures.taken, c.turn_until_started.ensures.forward, c.turn_until_started.ensures.within, c.runs.invariant.fits);
+      stands = λ part kept wrapped bytes s.
+          stands_on part kept wrapped c.give.new.self c.turn_until_started.new.self bytes piece c.runs.at at c.turn_until_started.ensures.forward (c.turn_until_started.ensures.stands part kept wrapped)
+          (c.give.ensures.given part kept wrapped (bytes ++ take c.runs.at piece) (c.runs.invariant.stands part kept wrapped bytes s)).stands;
+      first = λ part kept wrapped bytes s.
+          let taken : List ℕ = bytes ++ take c.runs.at piece in
+          let given = c.give.ensures.given part kept wrapped taken (c.runs.invariant.stands part kept wrapped bytes s) in
+          let not : has_started part kept taken ≡ false = sym (c.started-in-runs.ensures part kept wrapped taken given.stands) ∙ c.if-started.false in
+          none_on part kept bytes piece c.runs.at at c.turn_until_started.ensures.forward (c.runs.invariant.first part kept wrapped bytes s) (c.turn_until_started.ensures.first part kept wrapped taken given.stands not);
+      reads = λ part kept wrapped bytes s.
+          read_here part kept wrapped c.runs.self c.give.new.self c.turn_until_started.new.self c.args.read.now c.runs.read c.give.new.read bytes piece (told_of part kept c.args.self.now bytes) c.runs.at at
+          (c.give.ensures.given part kept wrapped (bytes ++ take c.runs.at piece) (c.runs.invariant.stands part kept wrapped bytes s)) c.turn_until_started.ensures.forward (c.turn_until_started.ensures.told part kept wrapped) (c.runs.invariant.reads part kept wrapped bytes s);
+      stopped = λ e. absurd (let none : true ≡ false = sym e ∙ ap (λ (d : DeviceState). is_some d.registers.stop) (sym (c.runs.invariant.stopped e).0) ∙ sym (ap (λ (o : Option Stop). is_some o) c.in_default.ensures) in cc);
+    }

@@ -1,0 +1,50 @@
+-- Feeding up to the end of startup: the bytes taken are those up to the least one at which startup has ended (this project's choice).
+use Rattle.std.specs.Prelude.{◌≡◌, ℕ, ◌<◌, ◌==◌, ◌++◌, Bool, true, false, List, [], ◌∷◌, length, take}
+use Rattle.x7_packets.specs.History.{History, history_of, writes}
+use Rattle.x7_part.specs.Part.{PartData}
+use Rattle.x7_regs.specs.declared.register.Reg.TheVariants.{Cmd}
+use Rattle.x7_regs.specs.Register.{number_of}
+use Rattle.x7_startup.specs.Calls.{NotBegun}
+use Rattle.x7_engine.specs.declared.kept.Kept.{Kept}
+use Rattle.x7_engine.specs.declared.until_started.UntilStarted.{UntilStarted}
+use Rattle.x7_engine.specs.declared.until_started.UntilStarted.TheVariants as until
+use Rattle.x7_engine.specs.ReadBuffer.{ReadBufState}
+use Rattle.x7_engine.specs.Standing.{Answers, DeviceState, NoWordDue, taken_in}
+use Rattle.x7_engine.specs.Startup.{startup_progress}
+use Rattle.x7_engine.specs.State.{history_taken, state_of, taken_of}
+
+-- startup has ended at these bytes
+abbrev pub has_started : PartData → Kept → List ℕ → Bool
+has_started part kept bytes = (state_of part kept false bytes).phase == 7
+
+-- startup hasn't begun at these bytes
+abbrev pub HasNotBegun : PartData → Kept → List ℕ → Type 0
+HasNotBegun part kept bytes = startup_progress (history_taken part kept bytes) (taken_of part kept bytes) ≡ NotBegun
+
+-- startup hasn't ended at fewer than so many bytes of a piece
+abbrev pub NoneStarted : PartData → Kept → List ℕ → List ℕ → ℕ → Type 0
+NoneStarted part kept bytes piece count = (k : ℕ) → k < count → has_started part kept (bytes ++ take k piece) ≡ false
+
+-- what is answered: the bytes taken of a piece of so many
+abbrev pub taken_until : ℕ → UntilStarted → ℕ
+taken_until length (until.Started n) = n
+taken_until length (until.Fed answer) = taken_in length answer
+
+-- whether it says that startup has ended
+abbrev pub says_started : UntilStarted → Bool
+says_started (until.Started n) = true
+says_started (until.Fed answer) = false
+
+-- that no word is due, where startup has ended, and else what a feed answers
+abbrev pub AnswersUntil : PartData → Kept → DeviceState → List ℕ → ReadBufState → UntilStarted → Type 0
+AnswersUntil part kept d bytes read (until.Started n) = NoWordDue d
+AnswersUntil part kept d bytes read (until.Fed answer) = Answers part kept d bytes read answer
+
+-- no access of this history writes CMD
+abbrev pub WritesNoCommand : History → Type 0
+WritesNoCommand [] = Unit {0}
+WritesNoCommand (e ∷ h) = (writes (number_of Cmd) e.access ≡ false) × WritesNoCommand h
+
+-- of the bytes behind others none but the last ends a write to CMD
+abbrev pub CommandsLast : List ℕ → List ℕ → Type 0
+CommandsLast bytes more = (k : ℕ) → k < length more → (newer : History) × (history_of (bytes ++ take k more) ≡ newer ++ history_of bytes) × WritesNoCommand newer

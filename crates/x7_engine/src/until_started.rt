@@ -1,0 +1,14 @@
+//! What a feed up to the end of startup answers.
+
+use crate::fed::Fed;
+
+/// What a feed up to the end of startup came to.
+#[derive(Clone, Copy, Debug, PartialEq, Eq)]
+pub enum UntilStarted {
+    /// Startup has ended, at the last of so many bytes taken of this piece, or before this call where the number is 0. No
+    /// word is due.
+    Started(usize),
+    /// It hasn't, and this is what a feed answers. Where a word is due, startup may have ended at the last byte taken: the
+    /// next call says so.
+    Fed(Fed),
+}
