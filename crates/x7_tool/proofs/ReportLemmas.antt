@@ -1,8 +1,12 @@
 -- Lemmas on the frames of a report.
-use Rattle.std.proofs.Common.{◌≡◌, ◌==◌, ◌&&◌, ◌≤◌, ◌<◌, ◌+◌, ℕ, Bool, true, false, if◌then◌else◌, not, Option, codes, decimal, List, [], ◌∷◌, ◌++◌, length, take, drop, slice_index, get_or, refl, ap, sym, ◌∙◌, append_assoc, append-nil}
+use Rattle.std.proofs.Common.{◌≡◌, ◌==◌, ◌&&◌, ◌≤◌, ◌<◌, ◌+◌, ℕ, Bool, true, false, if◌then◌else◌, not, Option, codes, decimal, List, [], ◌∷◌, ◌++◌, length, take, drop, slice_index, get_or, bit_or, refl, ap, sym, ◌∙◌, append_assoc, append-nil, arith, inl, inr, ◌⊎◌}
+use Rattle.std.proofs.Math.Nat.{eq-zero-or-pos}
+use Rattle.std.specs.Int.Bits.{or_zero_l}
+use Rattle.std.proofs.lemmas.Nat.{le_or_l}
+use Rattle.std.proofs.lemmas.Bool.{ne_eqb}
 use Rattle.std.specs.List.{flat_map}
 use Rattle.std.proofs.lemmas.Grind.{flat_map-append}
-use Rattle.std.proofs.lemmas.List.{take-append-drop, take_more}
+use Rattle.std.proofs.lemmas.List.{take_more}
 use Rattle.x7_part.specs.AddressOrder.{addresses_in}
 use Rattle.x7_part.specs.Part.{PartData}
 use Rattle.x7_memory.specs.FrameMap.{AreSame, FrameMap}
@@ -18,24 +22,28 @@ blank-append (x ∷ xs) ys = by (x == 0) (is_blank xs) (is_blank ys) (is_blank (
     by true a b c e = e
     by false a b c e = refl
 
--- a word more of blank ones
-blank_more : (words : List ℕ) (i w : ℕ) → take (i + 1) words ≡ take i words ++ w ∷ [] → is_blank (take i words) ≡ true → is_blank (take (i + 1) words) ≡ (w == 0 && true)
-blank_more words i w e b = ap is_blank e ∙ blank-append (take i words) (w ∷ []) ∙ ap (λ (x : Bool). x && (w == 0 && true)) b
+and_true : (b : Bool) → b ≡ (b && true)
+and_true true = refl
+and_true false = refl
 
--- the word there, and the words behind it
-pub word_tells : (words : List ℕ) (i : ℕ) (b : Bool) → i < length words → is_blank (take i words) ≡ true → (get_or words i 0 == 0) ≡ b → is_blank (take (i + 1) words) ≡ b
-word_tells words i b l t e = blank_more words i (get_or words i 0) (take_more words i 0 l) t ∙ ap (λ (x : Bool). x && true) e ∙ same b
-  where
-    same : (b : Bool) → (b && true) ≡ b
-    same true = refl
-    same false = refl
+-- an or of numbers is 0 where both are
+or_blank : (a w : ℕ) → (bit_or a w == 0) ≡ ((a == 0) && (w == 0 && true))
+or_blank a w = elim (eq-zero-or-pos a) [
+  | inl e ↦ rw e (ap (λ (n : ℕ). n == 0) (or_zero_l w) ∙ and_true (w == 0))
+  | inr h ↦ let more : a ≤ bit_or a w = le_or_l a w in
+      ne_eqb (bit_or a w) 0 (λ e. omega arith) ∙ sym (ap (λ (b : Bool). b && (w == 0 && true)) (ne_eqb a 0 (λ e. omega arith)))
+]
 
--- a word other than 0
-not_blank : (front rest : List ℕ) → is_blank front ≡ false → is_blank (front ++ rest) ≡ false
-not_blank front rest e = blank-append front rest ∙ ap (λ (x : Bool). x && is_blank rest) e
+-- one word more
+pub word_taken : (words : List ℕ) (i any : ℕ) → i < length words → (any == 0) ≡ is_blank (take i words) → (bit_or any (get_or words i 0) == 0) ≡ is_blank (take (i + 1) words)
+word_taken words i any h e =
+    or_blank any (get_or words i 0) ∙ ap (λ (b : Bool). b && (get_or words i 0 == 0 && true)) e
+    ∙ sym (ap is_blank (take_more words i 0 h) ∙ blank-append (take i words) (get_or words i 0 ∷ []))
 
-pub front_tells : (words : List ℕ) (i : ℕ) → is_blank (take i words) ≡ false → is_blank words ≡ false
-front_tells words i e = ap is_blank (sym (take-append-drop i words)) ∙ not_blank (take i words) (drop i words) e
+-- a word other than 0 at the front
+pub first_tells : (words : List ℕ) (word : ℕ) → 0 < length words → word ≡ get_or words 0 0 → (word == 0) ≡ false → is_blank words ≡ false
+first_tells [] word h e t = absurd (omega (arith, h))
+first_tells (x ∷ xs) word h e t = ap (λ (b : Bool). b && is_blank xs) (ap (λ (n : ℕ). n == 0) (sym e) ∙ t)
 
 pub shown-append : (memory : FrameMap) (xs ys : List ℕ) → shown memory (xs ++ ys) ≡ shown memory xs ++ shown memory ys
 shown-append memory [] ys = refl

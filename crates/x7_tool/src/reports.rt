@@ -75,16 +75,25 @@ fn put_reads(text: &mut Vec<u8>, reads: &[u32]) -> Result<(), NoMemory>
     put_data(text, reads)
 }
 
+/// Whether all words are 0.
+fn are_zeros(words: &[u32]) -> bool
+    ensures { result ≡ is_blank words.now }
+{
+    let mut any = 0;
+    for word in words {
+        any |= *word;
+    }
+    any == 0
+}
+
 /// Whether all words of a frame are 0.
 fn is_blank_frame(words: &[u32]) -> bool
     ensures { result ≡ is_blank words.now }
 {
-    for word in words {
-        if *word != 0 {
-            return false;
-        }
+    match words.first() {
+        Some(word) if *word != 0 => false,
+        _ => are_zeros(words),
     }
-    true
 }
 
 /// Whether the frame at an address has a word other than 0.
