@@ -24,9 +24,5 @@ pub mod StateLemmas
 pub mod TimeoutLemmas
 pub mod TurnLemmas
 pub mod UndoLemmas
-<<<<<<< HEAD
-pub mod WrapLemmas
-||||||| 5667ccb
-=======
 pub mod UntilLemmas
->>>>>>> 11664cac6361c151351d26932a411b630883e666
+pub mod WrapLemmas
