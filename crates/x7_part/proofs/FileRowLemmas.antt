@@ -3,10 +3,6 @@ use Rattle.std.proofs.Common.{◌≡◌, ℕ, zero, suc, ◌+◌, ◌^◌, ◌�
 use Rattle.std.specs.Prelude.{if◌then◌else◌, nat_lt, Result, Ok, Err, IsPermutation}
 use Rattle.std.specs.Str.{is_utf8}
 use Rattle.std.specs.List.{AllByRecursion}
-use Rattle.std.specs.List.Sorted.{IsNonDecreasingBy}
-use Rattle.std.proofs.lemmas.List.{length-map}
-use Rattle.std.proofs.lemmas.List.Elements.{All-from_recursion}
-use Rattle.std.proofs.lemmas.List.Sorted.{IsPermutation-refl, IsPermutation-sym, IsPermutation-cons, IsPermutation-trans, IsPermutation-middle}
 use Rattle.std.proofs.lemmas.Option.{same_Some}
 use Rattle.toml.specs.Data.{Members}
 use Rattle.toml.specs.Parse.{parse_document}
@@ -14,44 +10,13 @@ use Rattle.x7_part.specs.declared.fault.PartFault.{PartFault}
 use Rattle.x7_part.specs.declared.fault.PartFault.TheVariants.{Toml}
 use Rattle.x7_part.specs.FrameAddress.{AreRows, AreWidths, IsRow, row, row_address, row_low}
 use Rattle.x7_part.specs.Part.{FieldWidths, PartData, RowData}
-use Rattle.x7_part.specs.PartChecks.{value_fault}
 use Rattle.x7_part.specs.PartFile.{fault_of, part_from, part_in, part_of_table, part_unless}
 use Rattle.x7_part.specs.PartRange.{IsPart}
-use Rattle.x7_part.specs.PartRows.{frames_fault, in_order, put_in, same_row_fault, IsBefore, RowsRise}
-use Rattle.x7_part.specs.PartValues.{items, part_with, row_of, rows_of, tables}
-use Rattle.x7_part.specs.declared.fault.PartKey.TheVariants as key
-use Rattle.x7_part.proofs.PassLemmas.{all_pass, all_rows, made, nones}
-use Rattle.x7_part.proofs.SortLemmas.{from_least, ordered_rises, Rising}
+use Rattle.x7_part.specs.PartRows.{IsBefore, RowsRise}
+use Rattle.x7_part.specs.PartValues.{top_values, settings_of, rows_of}
+use Rattle.x7_part.proofs.PassLemmas.{made_is}
+use Rattle.x7_part.proofs.SortLemmas.{from_least, ordered_same}
 use Rattle.x7_part.proofs.WidthLemmas.{before_of, some_weight}
-
--- ---- put in order
-
-put_same : (far : FieldWidths) (r : RowData) (rows : List RowData) → IsPermutation (r ∷ rows) (put_in far r rows)
-put_same far r [] = IsPermutation-refl (r ∷ [])
-put_same far r (s ∷ rows) = by (nat_lt (row_address far s) (row_address far r)) (put_same far r rows)
-  where
-    by : (b : Bool) → IsPermutation (r ∷ rows) (put_in far r rows) → IsPermutation (r ∷ s ∷ rows) (if b then s ∷ put_in far r rows else r ∷ s ∷ rows)
-    by true same =
-        IsPermutation-trans (r ∷ s ∷ rows) (s ∷ r ∷ rows) (s ∷ put_in far r rows) (IsPermutation-sym (s ∷ r ∷ rows) (r ∷ s ∷ rows) (IsPermutation-middle (s ∷ []) r rows))
-        (IsPermutation-cons s (r ∷ rows) (put_in far r rows) same)
-    by false same = IsPermutation-refl (r ∷ s ∷ rows)
-
-pub ordered_same : (far : FieldWidths) (rows : List RowData) → IsPermutation rows (in_order far rows)
-unfolding in_order
-ordered_same far [] = IsPermutation-refl []
-ordered_same far (r ∷ rows) =
-    IsPermutation-trans (r ∷ rows) (r ∷ in_order far rows) (put_in far r (in_order far rows)) (IsPermutation-cons r rows (in_order far rows) (ordered_same far rows)) (put_same far r (in_order far rows))
-
-rising_sorted : (far : FieldWidths) (rows : List RowData) → Rising far rows → IsNonDecreasingBy (row_address far) rows
-unfolding Rising
-rising_sorted far [] h i j d k l = absurd (omega (arith, l))
-rising_sorted far (r ∷ rows) h zero zero d k l = omega arith
-rising_sorted far (r ∷ rows) h zero (suc j) d k l = All-from_recursion (λ s. row_address far r ≤ row_address far s) rows h.0 j d (omega (arith, l))
-rising_sorted far (r ∷ rows) h (suc i) zero d k l = absurd (omega (arith, k))
-rising_sorted far (r ∷ rows) h (suc i) (suc j) d k l = rising_sorted far rows h.1 i j d (omega (arith, k)) (omega (arith, l))
-
-pub ordered_sorted : (far : FieldWidths) (rows : List RowData) → IsNonDecreasingBy (row_address far) (in_order far rows)
-ordered_sorted far rows = rising_sorted far (in_order far rows) (ordered_rises far rows)
 
 -- ---- rows of a part rise
 
@@ -101,16 +66,6 @@ gives : (text : List ℕ) (part : PartData) → part_in text ≡ Ok part → Giv
 unfolding part_in
 gives text part e = by_utf8 text part (is_utf8 text) e
 
-made_is : (table : Members) → fault_of table ≡ None → IsPart (part_from table)
-unfolding fault_of part_from
-made_is table e =
-    let rows = rows_of table in
-    let far = (part_with table []).far in
-    let none = nones (value_fault table ∷ same_row_fault [] rows ∷ frames_fault (part_with table rows) ∷ []) e in
-    let pass = all_pass table none.0 in
-    let count : length rows ≡ length (tables (items key.Row table)) = length-map (tables (items key.Row table)) row_of in
-    (made table far rows (in_order far rows) refl pass.top (all_rows _ pass.each) none.1.0 (omega (arith, count, pass.some)) (omega (arith, count, pass.few)) none.1.1.0 (ordered_same far rows) (ordered_sorted far rows)).is
-
 pub text_is : (text : List ℕ) (part : PartData) → part_in text ≡ Ok part → IsPart part
 unfolding GivesPart
 text_is text part e = let (table, p, f, same) = gives text part e in subst IsPart same (made_is table f)
@@ -120,4 +75,4 @@ unfolding GivesPart part_from
 text_rows text table part p e =
     let (other, q, f, same) = gives text part e in
     let one : other ≡ table = same_Some other table (sym q ∙ p) in
-    subst (λ x. IsPermutation (rows_of x) part.rows) one (subst (λ x. IsPermutation (rows_of other) x) (ap (λ x. x.rows) same) (ordered_same (part_with other []).far (rows_of other)))
+    subst (λ x. IsPermutation (rows_of x) part.rows) one (subst (λ x. IsPermutation (rows_of other) x) (ap (λ x. x.rows) same) (ordered_same (settings_of (top_values other)).far (rows_of other)))

@@ -1,18 +1,27 @@
--- Values that passed their checks.
-use Rattle.std.proofs.Common.{◌≡◌, ℕ, ◌≤◌, ℤ, pos, negsuc, List, [], ◌∷◌, ◌++◌, append_assoc, ◌+◌, length, map, true, false, inl, inr, ◌&&◌, nat_le, leb-true, refl, sym, ap, ◌∙◌, arith}
-use Rattle.std.specs.Prelude.{All, int_le, ◌⊎◌}
+-- Values that passed the checks of their ranges.
+use Rattle.std.proofs.Common.{◌≡◌, ℕ, ◌+◌, ◌≤◌, ◌%◌, ◌==◌, ◌||◌, ℤ, pos, negsuc, List, [], ◌∷◌, length, map, Bool, Option, None, Some, true, false, inl, inr, ◌&&◌, nat_le, leb-true, refl, sym, ◌∙◌, arith}
+use Rattle.std.specs.Prelude.{All, int_le, unwrap_or, ◌⊎◌}
+use Rattle.std.specs.List.{AllByRecursion}
 use Rattle.std.proofs.lemmas.Bool.{and_parts, false≢true}
+use Rattle.std.proofs.lemmas.Bool.Decides.{eqb_tells}
 use Rattle.std.proofs.lemmas.List.{length-map}
-use Rattle.std.proofs.lemmas.List.Elements.{All-cons, All-nil, All-head, All-tail}
-use Rattle.toml.specs.Data.{Members}
+use Rattle.std.proofs.lemmas.List.Elements.{All-cons, All-nil}
+use Rattle.x7_part.specs.declared.fault.PartFault.{PartFault}
+use Rattle.x7_part.specs.declared.fault.PartFault.TheVariants.{Range}
 use Rattle.x7_part.specs.declared.fault.PartKey.TheVariants as key
-use Rattle.x7_part.specs.Part.{RowData}
+use Rattle.x7_part.specs.PartKey.{in_row}
 use Rattle.x7_part.specs.FrameAddress.{IsRow, AreWidths}
-use Rattle.x7_part.specs.PartValues.{natural, number_or, numbers, items, row_of, widths_of}
-use Rattle.x7_part.specs.PartChecks.{is_in, is_long, are_in, are_widths}
-use Rattle.x7_part.specs.InRange.{IsRowInRange}
+use Rattle.x7_part.specs.PartValues.{RowValues, natural, row_of, widths_of}
+use Rattle.x7_part.specs.PartChecks.{unless, first_of, rows_fault, behind, is_in, is_long, are_printed, is_name, is_odd, is_unit, are_in, are_minors, are_widths, are_widths_or_none, row_range_fault}
+use Rattle.x7_part.proofs.OrderLemmas.{unless_none, first_none}
+
+-- where no check finds a fault, none of them does
+pub nones : (checks : List (Option PartFault)) → first_of checks ≡ None → AllByRecursion (λ o. o ≡ None) checks
+nones [] e = tt
+nones (o ∷ checks) e = let p = first_none o checks e in (p.0, nones checks p.1)
 
 pub in_range : (low high : ℕ) (z : ℤ) → is_in low high z ≡ true → (low ≤ natural z) × (natural z ≤ high)
+unfolding is_in
 in_range low high (pos n) h =
     let p = and_parts (int_le (pos low) (pos n)) (int_le (pos n) (pos high)) h in
     (leb-true low n p.0, leb-true n high p.1)
@@ -20,70 +29,110 @@ in_range low high (negsuc n) h =
     let p = and_parts (int_le (pos low) (negsuc n)) (int_le (negsuc n) (pos high)) h in
     absurd (false≢true p.0)
 
+pub name_in : (bs : List ℕ) → is_name bs ≡ true → (is_long 1 64 (length bs) ≡ true) × (are_printed bs ≡ true)
+unfolding is_name
+name_in bs h = and_parts (is_long 1 64 (length bs)) (are_printed bs) h
+
 pub long_in : (low high n : ℕ) → is_long low high n ≡ true → (low ≤ n) × (n ≤ high)
 long_in low high n h = let p = and_parts (nat_le low n) (nat_le n high) h in (leb-true low n p.0, leb-true n high p.1)
 
--- widths in range, or none given
-pub widths_are : (zs : List ℤ) → (zs ≡ []) ⊎ (are_widths zs ≡ true) → AreWidths (widths_of zs)
-widths_are [] h = record { minor = (omega arith, omega arith); column = (omega arith, omega arith); row = (omega arith, omega arith); half = refl; block = (omega arith, omega arith); sum = omega arith }
-widths_are (a ∷ b ∷ c ∷ d ∷ e ∷ []) (inr h) =
+pub printed : (bs : List ℕ) → are_printed bs ≡ true → All (λ b. (0x21 ≤ b) × (b ≤ 0x7E)) bs
+printed [] e = All-nil (λ b. (0x21 ≤ b) × (b ≤ 0x7E))
+printed (b ∷ bs) e =
+    let p = and_parts (nat_le 0x21 b && nat_le b 0x7E) (are_printed bs) e in
+    let q = and_parts (nat_le 0x21 b) (nat_le b 0x7E) p.0 in
+    All-cons (λ b. (0x21 ≤ b) × (b ≤ 0x7E)) b bs (leb-true 0x21 b q.0, leb-true b 0x7E q.1) (printed bs p.1)
+
+is_one : (n : ℕ) → (n == 1) ≡ true → n ≡ 1
+is_one n e = elim (eqb_tells n 1) [ inl y ↦ y.1 | inr n' ↦ absurd (false≢true (sym n'.0 ∙ e)) ]
+
+pub odd_in : (z : ℤ) → is_odd z ≡ true → (natural z ≤ 4294967295) × (natural z % 2 ≡ 1)
+unfolding is_odd
+odd_in z h =
+    let p = and_parts (is_in 1 4294967295 z) (natural z % 2 == 1) h in ((in_range 1 4294967295 z p.0).1, is_one (natural z % 2) p.1)
+
+or_cases : (a b : Bool) → (a || b) ≡ true → (a ≡ true) ⊎ (b ≡ true)
+or_cases true b h = inl refl
+or_cases false b h = inr h
+
+one_number : (n : ℕ) (z : ℤ) → is_in n n z ≡ true → natural z ≡ n
+one_number n z h = let r = in_range n n z h in let low = r.0 in let high = r.1 in omega arith
+
+pub unit_in : (z : ℤ) → is_unit z ≡ true → (natural z ≡ 1) ⊎ (natural z ≡ 256)
+unfolding is_unit
+unit_in z h = elim (or_cases (is_in 1 1 z) (is_in 256 256 z) h) [ inl first ↦ inl (one_number 1 z first) | inr second ↦ inr (one_number 256 z second) ]
+
+widths_are : (zs : List ℤ) → are_widths zs ≡ true → AreWidths (widths_of zs)
+widths_are [] h = absurd (false≢true h)
+widths_are (a ∷ []) h = absurd (false≢true h)
+widths_are (a ∷ b ∷ []) h = absurd (false≢true h)
+widths_are (a ∷ b ∷ c ∷ []) h = absurd (false≢true h)
+widths_are (a ∷ b ∷ c ∷ d ∷ []) h = absurd (false≢true h)
+widths_are (a ∷ b ∷ c ∷ d ∷ e ∷ f ∷ zs) h = absurd (false≢true h)
+widths_are (a ∷ b ∷ c ∷ d ∷ e ∷ []) h =
     let p = and_parts ((is_in 7 12 a && is_in 10 12 b) && (is_in 5 8 c && is_in 1 1 d)) (is_in 2 3 e && nat_le (natural a + natural b + natural c + natural d + natural e) 32) h in
     let q = and_parts (is_in 7 12 a && is_in 10 12 b) (is_in 5 8 c && is_in 1 1 d) p.0 in
     let r = and_parts (is_in 7 12 a) (is_in 10 12 b) q.0 in
     let s = and_parts (is_in 5 8 c) (is_in 1 1 d) q.1 in
     let t = and_parts (is_in 2 3 e) (nat_le (natural a + natural b + natural c + natural d + natural e) 32) p.1 in
-    let one = in_range 1 1 d s.1 in
     record {
       minor = in_range 7 12 a r.0;
       column = in_range 10 12 b r.1;
       row = in_range 5 8 c s.0;
-      half = (let low = one.0 in let high = one.1 in omega arith);
+      half = one_number 1 d s.1;
       block = in_range 2 3 e t.0;
       sum = leb-true (natural a + natural b + natural c + natural d + natural e) 32 t.1;
     }
-widths_are (a ∷ b ∷ c ∷ d ∷ e ∷ []) (inl h) = absurd (omega (arith, ap length h))
-widths_are (a ∷ []) (inl h) = absurd (omega (arith, ap length h))
-widths_are (a ∷ []) (inr h) = absurd (false≢true h)
-widths_are (a ∷ b ∷ []) (inl h) = absurd (omega (arith, ap length h))
-widths_are (a ∷ b ∷ []) (inr h) = absurd (false≢true h)
-widths_are (a ∷ b ∷ c ∷ []) (inl h) = absurd (omega (arith, ap length h))
-widths_are (a ∷ b ∷ c ∷ []) (inr h) = absurd (false≢true h)
-widths_are (a ∷ b ∷ c ∷ d ∷ []) (inl h) = absurd (omega (arith, ap length h))
-widths_are (a ∷ b ∷ c ∷ d ∷ []) (inr h) = absurd (false≢true h)
-widths_are (a ∷ b ∷ c ∷ d ∷ e ∷ f ∷ zs) (inl h) = absurd (omega (arith, ap length h))
-widths_are (a ∷ b ∷ c ∷ d ∷ e ∷ f ∷ zs) (inr h) = absurd (false≢true h)
 
-pub usual_widths : (zs : List ℤ) → (zs ≡ []) ⊎ (are_widths zs ≡ true) → are_widths zs ≡ false → record { minor = 7; column = 10; row = 5; half = 1; block = 3 } ≡ widths_of zs
-usual_widths zs (inl e) f = rw e refl
-usual_widths zs (inr h) f = absurd (false≢true (sym f ∙ h))
+-- widths in range, or the usual ones
+pub far_is : (given : Option (List ℤ)) → are_widths_or_none given ≡ true → AreWidths (widths_of (unwrap_or given []))
+unfolding are_widths_or_none
+far_is None h = record { minor = (omega arith, omega arith); column = (omega arith, omega arith); row = (omega arith, omega arith); half = refl; block = (omega arith, omega arith); sum = omega arith }
+far_is (Some zs) h = widths_are zs h
 
-pub minors_in : (zs : List ℤ) → are_in 1 128 zs ≡ true → All (λ n. (1 ≤ n) × (n ≤ 128)) (map natural zs)
+minors_in : (zs : List ℤ) → are_in 1 128 zs ≡ true → All (λ n. (1 ≤ n) × (n ≤ 128)) (map natural zs)
 minors_in [] h = All-nil (λ n. (1 ≤ n) × (n ≤ 128))
 minors_in (z ∷ zs) h =
     let p = and_parts (is_in 1 128 z) (are_in 1 128 zs) h in
     All-cons (λ n. (1 ≤ n) × (n ≤ 128)) (natural z) (map natural zs) (in_range 1 128 z p.0) (minors_in zs p.1)
 
-pub row_is : (t : Members) → IsRowInRange t → IsRow (row_of t)
-row_is t is =
-    let zs = numbers (items key.Minors t) in
+-- the numbers of minors of a row
+pub record Minors (minors : List ℕ) : Type 0 where
+  pub some : 1 ≤ length minors
+  pub columns : length minors ≤ 1024
+  pub each : All (λ n. (1 ≤ n) × (n ≤ 128)) minors
+
+pub minors_are : (zs : List ℤ) (fault : PartFault) → unless (are_minors zs) fault ≡ None → Minors (map natural zs)
+minors_are zs fault e =
+    let m = and_parts (is_long 1 1024 (length zs)) (are_in 1 128 zs) (unless_none (are_minors zs) fault e) in
+    let many = long_in 1 1024 (length zs) m.0 in
     let l = length-map zs natural in
     record {
-      block = (in_range 0 2 (number_or 0 key.Block t) is.block).1;
-      half = (in_range 0 1 (number_or 0 key.Half t) is.half).1;
-      row = (in_range 0 31 (number_or 0 key.Row t) is.row).1;
-      some = (let s = (long_in 1 1024 (length zs) is.columns).0 in omega arith);
-      columns = (let s = (long_in 1 1024 (length zs) is.columns).1 in omega arith);
-      minors = minors_in zs is.minors;
+      some = (let s = many.0 in omega arith);
+      columns = (let s = many.1 in omega arith);
+      each = minors_in zs m.1;
     }
 
--- one row more
-pub rows_more : (made new all : List RowData) (r : RowData) (t : Members) (here more : List Members) →
-    here ≡ t ∷ more → r ≡ row_of t → new ≡ made ++ r ∷ [] → made ++ map row_of here ≡ all → new ++ map row_of more ≡ all
-rows_more made new all r t here more e same is before =
-    rw is (append_assoc made (r ∷ []) (map row_of more) ∙ ap (λ x. made ++ x ∷ map row_of more) same ∙ ap (λ l. made ++ map row_of l) (sym e) ∙ before)
+row_is : (n : ℕ) (v : RowValues) → row_range_fault n v ≡ None → IsRow (row_of v)
+row_is n v e =
+    let none = nones (
+    unless (is_in 0 2 v.block) (Range (in_row n key.Block))
+    ∷ unless (is_in 0 1 v.half) (Range (in_row n key.Half))
+    ∷ unless (is_in 0 31 v.row) (Range (in_row n key.Row))
+    ∷ unless (are_minors v.minors) (Range (in_row n key.Minors))
+    ∷ []) e in
+    let m = minors_are v.minors (Range (in_row n key.Minors)) none.1.1.1.0 in
+    record {
+      block = (in_range 0 2 v.block (unless_none (is_in 0 2 v.block) (Range (in_row n key.Block)) none.0)).1;
+      half = (in_range 0 1 v.half (unless_none (is_in 0 1 v.half) (Range (in_row n key.Half)) none.1.0)).1;
+      row = (in_range 0 31 v.row (unless_none (is_in 0 31 v.row) (Range (in_row n key.Row)) none.1.1.0)).1;
+      some = m.some;
+      columns = m.columns;
+      minors = m.each;
+    }
 
-pub first_in_range : (t : Members) (here more : List Members) → here ≡ t ∷ more → All IsRowInRange here → IsRowInRange t
-first_in_range t here more e all = All-head IsRowInRange t more (rw e at all)
-
-pub later_in_range : (t : Members) (here more : List Members) → here ≡ t ∷ more → All IsRowInRange here → All IsRowInRange more
-later_in_range t here more e all = All-tail IsRowInRange t more (rw e at all)
+pub rows_are : (n : ℕ) (vs : List RowValues) → rows_fault row_range_fault n vs ≡ None → All IsRow (map row_of vs)
+rows_are n [] e = All-nil IsRow
+rows_are n (v ∷ vs) e =
+    let p = nones (row_range_fault n v ∷ rows_fault row_range_fault (behind n) vs ∷ []) e in
+    All-cons IsRow (row_of v) (map row_of vs) (row_is n v p.0) (rows_are (behind n) vs p.1.0)

@@ -1,10 +1,11 @@
 -- Rows in the order of their numbers: sorted rows are the one list that has them in order.
-use Rattle.std.proofs.Common.{◌≡◌, ℕ, ◌+◌, ◌^◌, ◌≤◌, ◌<◌, List, [], ◌∷◌, Bool, true, false, refl, ap, ap₂, sym, ◌∙◌, arith, inl, inr, ◌⊎◌}
+use Rattle.std.proofs.Common.{◌≡◌, ℕ, zero, suc, ◌+◌, ◌^◌, ◌≤◌, ◌<◌, List, [], ◌∷◌, Bool, true, false, refl, ap, ap₂, sym, ◌∙◌, arith, inl, inr, ◌⊎◌}
 use Rattle.std.specs.Prelude.{if◌then◌else◌, nat_lt, nat_eq, IsPermutation}
 use Rattle.std.specs.List.{AllByRecursion, sum_by}
+use Rattle.std.specs.List.Sorted.{IsNonDecreasingBy}
 use Rattle.std.proofs.lemmas.Bool.Decides.{nat_tests}
 use Rattle.std.proofs.lemmas.List.Elements.{All-from_recursion, recursion_from_All}
-use Rattle.std.proofs.lemmas.List.Sorted.{All-permutation, IsPermutation-sym, sum_by-IsPermutation}
+use Rattle.std.proofs.lemmas.List.Sorted.{All-permutation, IsPermutation-refl, IsPermutation-sym, IsPermutation-cons, IsPermutation-trans, IsPermutation-middle, sum_by-IsPermutation}
 use Rattle.std.proofs.lemmas.List.Sums.{sum_by-cons}
 use Rattle.x7_part.specs.FrameAddress.{AreRows, row, row_address, row_low}
 use Rattle.x7_part.specs.Part.{FieldWidths, RowData}
@@ -159,3 +160,32 @@ sorted_is far rows sorted least same strict =
     same_rows far (in_order far rows) sorted least strict (ordered_rises far rows)
     (ordered_all far (λ r. In r sorted) rows (recursion_from_All (λ r. In r sorted) rows (All-permutation (λ r. In r sorted) sorted rows (IsPermutation-sym rows sorted same) (All-from_recursion (λ r. In r sorted) sorted (all_in sorted sorted (λ r h. h))))))
     (λ a. ordered_many far a rows ∙ many_is far a rows ∙ sym (sum_by-IsPermutation (at far a) rows sorted same) ∙ sym (many_is far a sorted))
+
+-- ---- put in order
+
+put_same : (far : FieldWidths) (r : RowData) (rows : List RowData) → IsPermutation (r ∷ rows) (put_in far r rows)
+put_same far r [] = IsPermutation-refl (r ∷ [])
+put_same far r (s ∷ rows) = by (nat_lt (row_address far s) (row_address far r)) (put_same far r rows)
+  where
+    by : (b : Bool) → IsPermutation (r ∷ rows) (put_in far r rows) → IsPermutation (r ∷ s ∷ rows) (if b then s ∷ put_in far r rows else r ∷ s ∷ rows)
+    by true same =
+        IsPermutation-trans (r ∷ s ∷ rows) (s ∷ r ∷ rows) (s ∷ put_in far r rows) (IsPermutation-sym (s ∷ r ∷ rows) (r ∷ s ∷ rows) (IsPermutation-middle (s ∷ []) r rows))
+        (IsPermutation-cons s (r ∷ rows) (put_in far r rows) same)
+    by false same = IsPermutation-refl (r ∷ s ∷ rows)
+
+pub ordered_same : (far : FieldWidths) (rows : List RowData) → IsPermutation rows (in_order far rows)
+unfolding in_order
+ordered_same far [] = IsPermutation-refl []
+ordered_same far (r ∷ rows) =
+    IsPermutation-trans (r ∷ rows) (r ∷ in_order far rows) (put_in far r (in_order far rows)) (IsPermutation-cons r rows (in_order far rows) (ordered_same far rows)) (put_same far r (in_order far rows))
+
+rising_sorted : (far : FieldWidths) (rows : List RowData) → Rising far rows → IsNonDecreasingBy (row_address far) rows
+unfolding Rising
+rising_sorted far [] h i j d k l = absurd (omega (arith, l))
+rising_sorted far (r ∷ rows) h zero zero d k l = omega arith
+rising_sorted far (r ∷ rows) h zero (suc j) d k l = All-from_recursion (λ s. row_address far r ≤ row_address far s) rows h.0 j d (omega (arith, l))
+rising_sorted far (r ∷ rows) h (suc i) zero d k l = absurd (omega (arith, k))
+rising_sorted far (r ∷ rows) h (suc i) (suc j) d k l = rising_sorted far rows h.1 i j d (omega (arith, k)) (omega (arith, l))
+
+pub ordered_sorted : (far : FieldWidths) (rows : List RowData) → IsNonDecreasingBy (row_address far) (in_order far rows)
+ordered_sorted far rows = rising_sorted far (in_order far rows) (ordered_rises far rows)

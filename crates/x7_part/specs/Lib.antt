@@ -8,5 +8,4 @@ pub mod PartKey
 pub mod PartValues
 pub mod PartChecks
 pub mod PartRows
-pub mod InRange
 pub mod PartFile

@@ -1,19 +1,13 @@
 -- The checks of a part file's keys and values, in their order (this project's choice).
-use Rattle.std.specs.Prelude.{ℕ, ◌+◌, ◌-◌, ◌^◌, ◌%◌, min, ℤ, pos, List, [], ◌∷◌, length, Bool, true, false, not, ◌&&◌, ◌||◌, ◌==◌, nat_le, Option, Some, None, is_some, bytes_eq, int_le, Result, Ok, Err}
-use Rattle.toml.specs.Data.{Data, Items, no_items, item, Members, no_members, member, as_str, as_integer, as_array, as_table}
-use Rattle.x7_part.specs.declared.fault.PartKey.{PartKey}
+use Rattle.std.specs.Prelude.{ℕ, ◌≡◌, ◌⊎◌, ◌+◌, ◌-◌, ◌^◌, ◌%◌, min, ℤ, pos, List, [], ◌∷◌, length, Bool, true, false, not, ◌&&◌, ◌||◌, ◌==◌, nat_le, Option, Some, None, is_some, int_le, Result, Ok, Err}
+use Rattle.toml.specs.Data.{Data, Items, no_items, item, Members, as_str, as_integer, array, as_table}
 use Rattle.x7_part.specs.declared.fault.PartKey.TheVariants as key
 use Rattle.x7_part.specs.declared.fault.Which.{Which}
 use Rattle.x7_part.specs.declared.fault.PartFault.{PartFault}
-use Rattle.x7_part.specs.declared.fault.PartFault.TheVariants.{Key, Range}
-use Rattle.x7_part.specs.declared.rule.Kind.{Kind}
-use Rattle.x7_part.specs.declared.rule.Kind.TheVariants as kind
-use Rattle.x7_part.specs.declared.rule.KeyRule.{KeyRule}
-use Rattle.x7_part.specs.declared.rule.Check.{Check}
-use Rattle.x7_part.specs.declared.rule.Check.TheVariants as check
-use Rattle.x7_part.specs.PartKey.{name_of, top_rules, row_rules}
+use Rattle.x7_part.specs.declared.fault.PartFault.TheVariants.{Key, Range, NoMemory}
+use Rattle.x7_part.specs.PartKey.{top, in_row}
 use Rattle.x7_part.specs.FrameAddress.{address_width}
-use Rattle.x7_part.specs.PartValues.{under, text_of, number_of, items_of, items, numbers, count, tables, natural, widths_of}
+use Rattle.x7_part.specs.PartValues.{under, row_tables, RowValues, TopValues, natural, widths_of}
 
 -- ---- faults in order
 
@@ -28,52 +22,117 @@ first_of [] = None
 first_of (Some fault ∷ checks) = Some fault
 first_of (None ∷ checks) = first_of checks
 
--- the fault that a check tells
+-- the fault that a call tells
 abbrev pub told : {T : Type 0} → Result T PartFault → Option PartFault
 told (Ok done) = None
 told (Err fault) = Some fault
 
--- a key of the top table, or of a row
-abbrev pub at : Option ℕ → PartKey → Which
-at row k = record { row = row; key = k }
+-- a call that takes memory tells this fault or none; want of memory has no cause
+abbrev pub Tells : {T : Type 0} → Option PartFault → Result T PartFault → Type 0
+Tells due (Ok done) = due ≡ None
+Tells due (Err fault) = (fault ≡ NoMemory) ⊎ (due ≡ Some fault)
+
+-- the number of the row behind row n; a number past 32 bits is told as the last of 32 bits
+abbrev pub behind : ℕ → ℕ
+behind n = min (n + 1) (2 ^ 32 - 1)
+
+-- the first fault that a check finds in the rows, which count from n
+abbrev pub rows_fault : {R : Type 0} → (ℕ → R → Option PartFault) → ℕ → List R → Option PartFault
+rows_fault check n [] = None
+rows_fault check n (row ∷ rows) = first_of (check n row ∷ rows_fault check (behind n) rows ∷ [])
 
 -- ---- types
 
--- each item is a table, or a whole number
-abbrev pub are_tables : Items → Bool
-are_tables no_items = true
-are_tables (item d ds) = is_some (as_table d) && are_tables ds
-
+-- each item is a whole number, or a table
 abbrev pub are_wholes : Items → Bool
 are_wholes no_items = true
 are_wholes (item d ds) = is_some (as_integer d) && are_wholes ds
 
--- a value has the type of a kind: a text, a whole number, a list of whole numbers or of tables
-abbrev pub has_type : Kind → Data → Bool
-has_type (kind.Text low high) d = is_some (as_str d)
-has_type (kind.Whole low high) d = is_some (as_integer d)
-has_type kind.Odd d = is_some (as_integer d)
-has_type (kind.OneOf low high) d = is_some (as_integer d)
-has_type kind.Widths d = is_some (as_array d) && are_wholes (items_of d)
-has_type kind.Minors d = is_some (as_array d) && are_wholes (items_of d)
-has_type (kind.Tables low high) d = is_some (as_array d) && are_tables (items_of d)
+abbrev pub are_tables : Items → Bool
+are_tables no_items = true
+are_tables (item d ds) = is_some (as_table d) && are_tables ds
+
+-- a value is a text, a whole number, a list of whole numbers, or a list of tables
+abbrev pub is_text : Data → Bool
+is_text d = is_some (as_str d)
+
+abbrev pub is_whole : Data → Bool
+is_whole d = is_some (as_integer d)
+
+abbrev pub is_list_of_wholes : Data → Bool
+is_list_of_wholes (array ds) = are_wholes ds
+is_list_of_wholes _ = false
+
+abbrev pub is_list_of_tables : Data → Bool
+is_list_of_tables (array ds) = are_tables ds
+is_list_of_tables _ = false
+
+-- what stands under a key that has to be there is of the type, or what stands under one that may be left out
+abbrev pub has : (Data → Bool) → Option Data → Bool
+has type None = false
+has type (Some d) = type d
+
+abbrev pub may_have : (Data → Bool) → Option Data → Bool
+may_have type None = true
+may_have type (Some d) = type d
+
+-- the first key of a row that is missing or has a value of another type
+abbrev pub row_type_fault : ℕ → Members → Option PartFault
+row_type_fault n t = first_of (
+    unless (has is_whole (under key.Block t)) (Key (in_row n key.Block))
+    ∷ unless (has is_whole (under key.Half t)) (Key (in_row n key.Half))
+    ∷ unless (has is_whole (under key.Row t)) (Key (in_row n key.Row))
+    ∷ unless (has is_list_of_wholes (under key.Minors t)) (Key (in_row n key.Minors))
+    ∷ [])
+
+-- and that of a part file, at the top and then row by row
+unfoldable pub type_fault : Members → Option PartFault
+type_fault t = first_of (
+    unless (has is_text (under key.Name t)) (Key (top key.Name))
+    ∷ unless (has is_whole (under key.Idcode t)) (Key (top key.Idcode))
+    ∷ unless (may_have is_whole (under key.Mode t)) (Key (top key.Mode))
+    ∷ unless (may_have is_whole (under key.BusWidth t)) (Key (top key.BusWidth))
+    ∷ unless (may_have is_whole (under key.Lock t)) (Key (top key.Lock))
+    ∷ unless (may_have is_whole (under key.Match t)) (Key (top key.Match))
+    ∷ unless (may_have is_whole (under key.FrameWords t)) (Key (top key.FrameWords))
+    ∷ unless (may_have is_list_of_wholes (under key.Far t)) (Key (top key.Far))
+    ∷ unless (may_have is_whole (under key.StartUnit t)) (Key (top key.StartUnit))
+    ∷ unless (has is_list_of_tables (under key.Row t)) (Key (top key.Row))
+    ∷ rows_fault row_type_fault 1 (row_tables t)
+    ∷ [])
+
+-- ---- unknown keys
+
+abbrev pub row_other_fault : ℕ → RowValues → Option PartFault
+row_other_fault n v = unless v.known (Key (in_row n key.Other))
+
+-- an unknown key, at the top and then row by row
+unfoldable pub other_fault : TopValues → Option PartFault
+other_fault v = first_of (unless v.known (Key (top key.Other)) ∷ rows_fault row_other_fault 1 v.rows ∷ [])
 
 -- ---- ranges
 
-abbrev pub is_in : ℕ → ℕ → ℤ → Bool
+unfoldable pub is_in : ℕ → ℕ → ℤ → Bool
 is_in low high z = int_le (pos low) z && int_le z (pos high)
 
 abbrev pub is_long : ℕ → ℕ → ℕ → Bool
 is_long low high n = nat_le low n && nat_le n high
 
--- printed bytes
+-- printed bytes, and 1 to 64 of them
 abbrev pub are_printed : List ℕ → Bool
 are_printed [] = true
 are_printed (b ∷ bs) = (nat_le 0x21 b && nat_le b 0x7E) && are_printed bs
 
-abbrev pub are_in : ℕ → ℕ → List ℤ → Bool
-are_in low high [] = true
-are_in low high (z ∷ zs) = is_in low high z && are_in low high zs
+unfoldable pub is_name : List ℕ → Bool
+is_name bs = is_long 1 64 (length bs) && are_printed bs
+
+-- an odd number of 32 bits
+unfoldable pub is_odd : ℤ → Bool
+is_odd z = is_in 1 4294967295 z && (natural z % 2 == 1)
+
+-- 1 or 256
+unfoldable pub is_unit : ℤ → Bool
+is_unit z = is_in 1 1 z || is_in 256 256 z
 
 -- the widths of the five fields of an address, each in range, of 32 bits together
 abbrev pub are_widths : List ℤ → Bool
@@ -82,74 +141,48 @@ are_widths (minor ∷ column ∷ row ∷ half ∷ block ∷ []) =
     && (is_in 2 3 block && nat_le (address_width (widths_of (minor ∷ column ∷ row ∷ half ∷ block ∷ []))) 32)
 are_widths _ = false
 
--- a value is in the range of its kind: a text's length, a number, an odd number of 32 bits, one of two numbers, widths, the
--- numbers of minors of 1 to 1024 columns, or the number of tables
-abbrev pub is_within : Kind → Data → Bool
-is_within (kind.Text low high) d = is_long low high (length (text_of d)) && are_printed (text_of d)
-is_within (kind.Whole low high) d = is_in low high (number_of d)
-is_within kind.Odd d = is_in 1 4294967295 (number_of d) && (natural (number_of d) % 2 == 1)
-is_within (kind.OneOf low high) d = is_in low low (number_of d) || is_in high high (number_of d)
-is_within kind.Widths d = are_widths (numbers (items_of d))
-is_within kind.Minors d = is_long 1 1024 (length (numbers (items_of d))) && are_in 1 128 (numbers (items_of d))
-is_within (kind.Tables low high) d = is_long low high (count (items_of d))
+unfoldable pub are_widths_or_none : Option (List ℤ) → Bool
+are_widths_or_none None = true
+are_widths_or_none (Some zs) = are_widths zs
 
--- ---- one table
+-- the numbers of minors of 1 to 1024 columns, each from 1 to 128
+abbrev pub are_in : ℕ → ℕ → List ℤ → Bool
+are_in low high [] = true
+are_in low high (z ∷ zs) = is_in low high z && are_in low high zs
 
--- what stands under a rule's key passes the test; nothing may stand there where it isn't required
-abbrev pub passes : (Data → Bool) → Bool → Option Data → Bool
-passes test required None = not required
-passes test required (Some d) = test d
+abbrev pub are_minors : List ℤ → Bool
+are_minors zs = is_long 1 1024 (length zs) && are_in 1 128 zs
 
-abbrev pub has_rule_type : KeyRule → Members → Bool
-has_rule_type r t = passes (has_type r.kind) r.required (under r.key t)
+-- the first value of a row that is out of range
+abbrev pub row_range_fault : ℕ → RowValues → Option PartFault
+row_range_fault n v = first_of (
+    unless (is_in 0 2 v.block) (Range (in_row n key.Block))
+    ∷ unless (is_in 0 1 v.half) (Range (in_row n key.Half))
+    ∷ unless (is_in 0 31 v.row) (Range (in_row n key.Row))
+    ∷ unless (are_minors v.minors) (Range (in_row n key.Minors))
+    ∷ [])
 
-abbrev pub has_rule_range : KeyRule → Members → Bool
-has_rule_range r t = passes (is_within r.kind) r.required (under r.key t)
+-- the first number of the top table that is out of range
+unfoldable pub number_range_fault : TopValues → Option PartFault
+number_range_fault v = first_of (
+    unless (is_odd v.idcode) (Range (top key.Idcode))
+    ∷ unless (is_in 0 7 v.mode) (Range (top key.Mode))
+    ∷ unless (is_in 0 3 v.bus_width) (Range (top key.BusWidth))
+    ∷ unless (is_in 0 65535 v.lock) (Range (top key.Lock))
+    ∷ unless (is_in 0 65535 v.matched) (Range (top key.Match))
+    ∷ unless (is_in 2 255 v.words) (Range (top key.FrameWords))
+    ∷ unless (are_widths_or_none v.far) (Range (top key.Far))
+    ∷ unless (is_unit v.start_unit) (Range (top key.StartUnit))
+    ∷ [])
 
--- one of the keys is written so
-abbrev pub is_known : List KeyRule → List ℕ → Bool
-is_known [] name = false
-is_known (r ∷ rules) name = bytes_eq name (name_of r.key) || is_known rules name
+-- the first value of the top table that is out of range: the name, the numbers, how many rows there are
+unfoldable pub top_range_fault : TopValues → Option PartFault
+top_range_fault v = first_of (
+    unless (is_name v.name) (Range (top key.Name))
+    ∷ number_range_fault v
+    ∷ unless (is_long 1 192 (length v.rows)) (Range (top key.Row))
+    ∷ [])
 
-abbrev pub has_only : List KeyRule → Members → Bool
-has_only rules no_members = true
-has_only rules (member name d ms) = is_known rules name && has_only rules ms
-
--- the first key that is missing or has a value of another type
-abbrev pub type_fault : Option ℕ → List KeyRule → Members → Option PartFault
-type_fault row [] t = None
-type_fault row (r ∷ rules) t = first_of (unless (has_rule_type r t) (Key (at row r.key)) ∷ type_fault row rules t ∷ [])
-
--- an unknown key
-abbrev pub other_fault : Option ℕ → List KeyRule → Members → Option PartFault
-other_fault row rules t = unless (has_only rules t) (Key (at row key.Other))
-
--- the first key whose value is out of range
-abbrev pub range_fault : Option ℕ → List KeyRule → Members → Option PartFault
-range_fault row [] t = None
-range_fault row (r ∷ rules) t = first_of (unless (has_rule_range r t) (Range (at row r.key)) ∷ range_fault row rules t ∷ [])
-
--- the fault that one check finds in a table
-unfoldable pub table_fault : Check → Option ℕ → List KeyRule → Members → Option PartFault
-table_fault check.Types row rules t = type_fault row rules t
-table_fault check.Others row rules t = other_fault row rules t
-table_fault check.Ranges row rules t = range_fault row rules t
-
--- ---- the top table and its rows
-
--- the number of the row behind row n; a number past 32 bits is told as the last of 32 bits
-abbrev pub behind : ℕ → ℕ
-behind n = min (n + 1) (2 ^ 32 - 1)
-
--- the first fault that a check finds in the rows, which count from n
-abbrev pub rows_fault : Check → ℕ → List Members → Option PartFault
-rows_fault what n [] = None
-rows_fault what n (row ∷ rows) = first_of (table_fault what (Some n) row_rules row ∷ rows_fault what (behind n) rows ∷ [])
-
--- the fault that a check finds, at the top first and then row by row
-unfoldable pub check_fault : Check → Members → Option PartFault
-check_fault what part = first_of (table_fault what None top_rules part ∷ rows_fault what 1 (tables (items key.Row part)) ∷ [])
-
--- types, unknown keys and ranges, in this order
-unfoldable pub value_fault : Members → Option PartFault
-value_fault part = first_of (check_fault check.Types part ∷ check_fault check.Others part ∷ check_fault check.Ranges part ∷ [])
+-- and that of a part file, at the top and then row by row
+unfoldable pub range_fault : TopValues → Option PartFault
+range_fault v = first_of (top_range_fault v ∷ rows_fault row_range_fault 1 v.rows ∷ [])

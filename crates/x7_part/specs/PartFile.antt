@@ -6,18 +6,19 @@ use Rattle.toml.specs.Data.{Members}
 use Rattle.x7_part.specs.declared.fault.PartFault.{PartFault}
 use Rattle.x7_part.specs.declared.fault.PartFault.TheVariants.{Toml}
 use Rattle.x7_part.specs.Part.{PartData}
-use Rattle.x7_part.specs.PartValues.{part_with, rows_of}
-use Rattle.x7_part.specs.PartChecks.{first_of, value_fault}
+use Rattle.x7_part.specs.PartValues.{top_values, settings_of, part_with, rows_of}
+use Rattle.x7_part.specs.PartChecks.{first_of, type_fault, other_fault, range_fault}
 use Rattle.x7_part.specs.PartRows.{same_row_fault, frames_fault, in_order}
 
--- the first fault of a part file's table
+-- the first fault of a part file's table: types, unknown keys, ranges, the same row twice, too many frames
 unfoldable pub fault_of : Members → Option PartFault
-fault_of table =
-    first_of (value_fault table ∷ same_row_fault [] (rows_of table) ∷ frames_fault (part_with table (rows_of table)) ∷ [])
+fault_of t =
+    let v = top_values t in
+    first_of (type_fault t ∷ other_fault v ∷ range_fault v ∷ same_row_fault [] (rows_of t) ∷ frames_fault (part_with v (rows_of t)) ∷ [])
 
 -- the part of a table: its rows stand in number order
 unfoldable pub part_from : Members → PartData
-part_from table = part_with table (in_order (part_with table []).far (rows_of table))
+part_from t = part_with (top_values t) (in_order (settings_of (top_values t)).far (rows_of t))
 
 -- the part of a table in which the checks found this fault or none
 abbrev pub part_unless : Members → Option PartFault → Result PartData PartFault

@@ -1,10 +1,9 @@
--- The keys of a part file, and what each holds (this project's choice).
-use Rattle.std.specs.Prelude.{ℕ, List, [], ◌∷◌, Bool, true, false, codes}
+-- The keys of a part file (this project's choice).
+use Rattle.std.specs.Prelude.{ℕ, List, [], ◌∷◌, Bool, true, false, ◌&&◌, ◌||◌, bytes_eq, codes, Option, None, Some}
+use Rattle.toml.specs.Data.{Members, no_members, member}
 use Rattle.x7_part.specs.declared.fault.PartKey.{PartKey}
 use Rattle.x7_part.specs.declared.fault.PartKey.TheVariants as key
-use Rattle.x7_part.specs.declared.rule.Kind.{Kind}
-use Rattle.x7_part.specs.declared.rule.Kind.TheVariants as kind
-use Rattle.x7_part.specs.declared.rule.KeyRule.{KeyRule}
+use Rattle.x7_part.specs.declared.fault.Which.{Which}
 
 -- the key as it is written
 abbrev pub name_of : PartKey → List ℕ
@@ -23,30 +22,27 @@ name_of key.Half = codes "half"
 name_of key.Minors = codes "minors"
 name_of key.Other = codes "other"
 
--- a key, what it holds, and whether it has to be there
-abbrev pub rule : PartKey → Kind → Bool → KeyRule
-rule k what required = record { key = k; kind = what; required = required }
+-- a key of the top table, and of row n
+abbrev pub top : PartKey → Which
+top k = record { row = None; key = k }
 
--- the keys of the top table in the order of the checks
-abbrev pub top_rules : List KeyRule
-top_rules =
-    rule key.Name (kind.Text 1 64) true
-    ∷ rule key.Idcode kind.Odd true
-    ∷ rule key.Mode (kind.Whole 0 7) false
-    ∷ rule key.BusWidth (kind.Whole 0 3) false
-    ∷ rule key.Lock (kind.Whole 0 65535) false
-    ∷ rule key.Match (kind.Whole 0 65535) false
-    ∷ rule key.FrameWords (kind.Whole 2 255) false
-    ∷ rule key.Far kind.Widths false
-    ∷ rule key.StartUnit (kind.OneOf 1 256) false
-    ∷ rule key.Row (kind.Tables 1 192) true
-    ∷ []
+abbrev pub in_row : ℕ → PartKey → Which
+in_row n k = record { row = Some n; key = k }
 
--- and those of a row
-abbrev pub row_rules : List KeyRule
-row_rules =
-    rule key.Block (kind.Whole 0 2) true
-    ∷ rule key.Half (kind.Whole 0 1) true
-    ∷ rule key.Row (kind.Whole 0 31) true
-    ∷ rule key.Minors kind.Minors true
-    ∷ []
+-- the keys of the top table, and those of a row
+abbrev pub top_keys : List PartKey
+top_keys =
+    key.Name ∷ key.Idcode ∷ key.Mode ∷ key.BusWidth ∷ key.Lock ∷ key.Match ∷ key.FrameWords ∷ key.Far ∷ key.StartUnit ∷ key.Row ∷ []
+
+abbrev pub row_keys : List PartKey
+row_keys = key.Block ∷ key.Half ∷ key.Row ∷ key.Minors ∷ []
+
+-- one of the keys is written so
+abbrev pub is_known : List PartKey → List ℕ → Bool
+is_known [] name = false
+is_known (k ∷ keys) name = bytes_eq name (name_of k) || is_known keys name
+
+-- a table has no other keys
+abbrev pub has_only : List PartKey → Members → Bool
+has_only keys no_members = true
+has_only keys (member name d ms) = is_known keys name && has_only keys ms

@@ -1,49 +1,95 @@
--- What the TOML table of a part file holds (this project's choice).
-use Rattle.std.specs.Prelude.{ℕ, suc, ℤ, pos, List, [], ◌∷◌, map, Option, unwrap_or, option_and_then, unsigned_abs}
+-- The values of a part file, each of its type, and the numbers of a part that they stand for (this project's choice).
+use Rattle.std.specs.Prelude.{ℕ, ℤ, pos, List, [], ◌∷◌, map, Bool, Option, None, Some, option_map, unwrap_or, option_and_then, unsigned_abs}
 use Rattle.toml.specs.Data.{Data, table, Items, no_items, item, Members, get_member, as_str, as_integer, as_array}
 use Rattle.x7_part.specs.declared.fault.PartKey.{PartKey}
 use Rattle.x7_part.specs.declared.fault.PartKey.TheVariants as key
-use Rattle.x7_part.specs.PartKey.{name_of}
+use Rattle.x7_part.specs.declared.settings.Settings.{Settings}
+use Rattle.x7_part.specs.PartKey.{name_of, has_only, top_keys, row_keys}
 use Rattle.x7_part.specs.Part.{FieldWidths, RowData, PartData}
+
+-- ---- one value
 
 -- the value under a key
 abbrev pub under : PartKey → Members → Option Data
 under k t = get_member (name_of k) t
 
--- the text, the number and the items that a value is, else none
-abbrev pub text_of : Data → List ℕ
-text_of d = unwrap_or (as_str d) []
-
-abbrev pub number_of : Data → ℤ
-number_of d = unwrap_or (as_integer d) (pos 0)
-
-abbrev pub items_of : Data → Items
-items_of d = unwrap_or (as_array d) no_items
-
--- the text, the number and the items under a key; where there is none, no text, this number and no item
+-- the text under a key, no text where there is none
 abbrev pub text : PartKey → Members → List ℕ
 text k t = unwrap_or (option_and_then as_str (under k t)) []
 
+-- the number under a key, this one where there is none
 abbrev pub number_or : ℕ → PartKey → Members → ℤ
 number_or usual k t = unwrap_or (option_and_then as_integer (under k t)) (pos usual)
 
-abbrev pub items : PartKey → Members → Items
-items k t = unwrap_or (option_and_then as_array (under k t)) no_items
+-- the numbers of items, 0 for what is no number
+abbrev pub numbers : Items → List ℤ
+numbers no_items = []
+numbers (item d ds) = unwrap_or (as_integer d) (pos 0) ∷ numbers ds
 
--- the tables among items, in order
+-- the numbers of the list under a key, where there is a list
+abbrev pub numbers_under : PartKey → Members → Option (List ℤ)
+numbers_under k t = option_map numbers (option_and_then as_array (under k t))
+
+-- the tables among items
 abbrev pub tables : Items → List Members
 tables no_items = []
 tables (item (table t) ds) = t ∷ tables ds
 tables (item _ ds) = tables ds
 
-abbrev pub count : Items → ℕ
-count no_items = 0
-count (item d ds) = suc (count ds)
+-- the tables of the rows
+abbrev pub row_tables : Members → List Members
+row_tables t = tables (unwrap_or (option_and_then as_array (under key.Row t)) no_items)
 
--- the numbers of items, 0 for what is no number
-abbrev pub numbers : Items → List ℤ
-numbers no_items = []
-numbers (item d ds) = number_of d ∷ numbers ds
+-- ---- the values of a table
+
+-- a row's values, and whether it has these keys alone
+pub record RowValues : Type 0 where
+  pub block : ℤ
+  pub half : ℤ
+  pub row : ℤ
+  pub minors : List ℤ
+  pub known : Bool
+
+-- the top table's values, and whether it has these keys alone
+pub record TopValues : Type 0 where
+  pub name : List ℕ
+  pub idcode : ℤ
+  pub mode : ℤ
+  pub bus_width : ℤ
+  pub lock : ℤ
+  pub matched : ℤ
+  pub words : ℤ
+  pub far : Option (List ℤ)
+  pub start_unit : ℤ
+  pub rows : List RowValues
+  pub known : Bool
+
+abbrev pub row_values : Members → RowValues
+row_values t = record {
+  block = number_or 0 key.Block t;
+  half = number_or 0 key.Half t;
+  row = number_or 0 key.Row t;
+  minors = unwrap_or (numbers_under key.Minors t) [];
+  known = has_only row_keys t;
+}
+
+-- a frame has 101 words where the file doesn't say (UG470, frame data)
+abbrev pub top_values : Members → TopValues
+top_values t = record {
+  name = text key.Name t;
+  idcode = number_or 0 key.Idcode t;
+  mode = number_or 0 key.Mode t;
+  bus_width = number_or 0 key.BusWidth t;
+  lock = number_or 0 key.Lock t;
+  matched = number_or 0 key.Match t;
+  words = number_or 101 key.FrameWords t;
+  far = numbers_under key.Far t;
+  start_unit = number_or 1 key.StartUnit t;
+  rows = map row_values (row_tables t);
+  known = has_only top_keys t;
+}
+
+-- ---- what they stand for
 
 -- a number that isn't negative
 abbrev pub natural : ℤ → ℕ
@@ -55,30 +101,40 @@ widths_of (minor ∷ column ∷ row ∷ half ∷ block ∷ []) =
     record { minor = natural minor; column = natural column; row = natural row; half = natural half; block = natural block }
 widths_of _ = record { minor = 7; column = 10; row = 5; half = 1; block = 3 }
 
--- a row's values
-abbrev pub row_of : Members → RowData
-row_of t = record {
-  block = natural (number_or 0 key.Block t);
-  half = natural (number_or 0 key.Half t);
-  row = natural (number_or 0 key.Row t);
-  minors = map natural (numbers (items key.Minors t));
+abbrev pub row_of : RowValues → RowData
+row_of v = record { block = natural v.block; half = natural v.half; row = natural v.row; minors = map natural v.minors }
+
+abbrev pub settings_of : TopValues → Settings
+settings_of v = record {
+  idcode = natural v.idcode;
+  mode = natural v.mode;
+  bus_width = natural v.bus_width;
+  lock = natural v.lock;
+  matched = natural v.matched;
+  words = natural v.words;
+  far = widths_of (unwrap_or v.far []);
+  start_unit = natural v.start_unit;
 }
 
--- a part with these rows, and else the top table's values; a frame has 101 words where the file doesn't say (UG470, frame data)
-abbrev pub part_with : Members → List RowData → PartData
-part_with part rows = record {
-  name = text key.Name part;
-  idcode = natural (number_or 0 key.Idcode part);
-  mode = natural (number_or 0 key.Mode part);
-  bus_width = natural (number_or 0 key.BusWidth part);
-  lock = natural (number_or 0 key.Lock part);
-  matched = natural (number_or 0 key.Match part);
-  words = natural (number_or 101 key.FrameWords part);
-  far = widths_of (numbers (items key.Far part));
-  start_unit = natural (number_or 1 key.StartUnit part);
+-- a part of this name, with these settings and rows
+abbrev pub part_data : List ℕ → Settings → List RowData → PartData
+part_data name s rows = record {
+  name = name;
+  idcode = s.idcode;
+  mode = s.mode;
+  bus_width = s.bus_width;
+  lock = s.lock;
+  matched = s.matched;
+  words = s.words;
+  far = s.far;
+  start_unit = s.start_unit;
   rows = rows;
 }
 
+-- the part of a top table's values with these rows
+abbrev pub part_with : TopValues → List RowData → PartData
+part_with v rows = part_data v.name (settings_of v) rows
+
 -- the rows in the file's order
 abbrev pub rows_of : Members → List RowData
-rows_of part = map row_of (tables (items key.Row part))
+rows_of t = map row_of (top_values t).rows

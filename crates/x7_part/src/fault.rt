@@ -1,9 +1,9 @@
 //! The keys of a part file, and why a part file is refused.
 ghost use Rattle.std.specs.Prelude.{◌≡◌};
-ghost use Rattle.x7_part.specs.PartKey.{name_of};
+ghost use Rattle.x7_part.specs.PartKey.{name_of, top, in_row};
 ghost use Rattle.x7_part.specs.declared.fault.PartFault.TheVariants.{NoMemory};
 
-use std::alloc::AllocError;
+use std::alloc::{AllocError, AllocFailed};
 use std::fmt;
 use thiserror::Error;
 
@@ -57,6 +57,25 @@ pub struct Which {
     pub key: PartKey,
 }
 
+impl Which {
+    /// A key of the top table.
+    pub(crate) fn top(key: PartKey) -> Which
+        ensures { result ≡ top key }
+    {
+        Which { row: None, key }
+    }
+
+    /// A key of a row.
+    pub(crate) fn in_row(row: u32, key: PartKey) -> Which
+        ensures { result ≡ in_row row key }
+    {
+        Which {
+            row: Some(row),
+            key,
+        }
+    }
+}
+
 impl fmt::Display for Which {
     fn fmt<W: fmt::Write>(&self, f: &mut fmt::Formatter<W>) -> fmt::Result {
         match self.row {
@@ -93,6 +112,14 @@ impl From<AllocError> for PartFault {
     ghost from_gives = { λ _ fault. fault ≡ NoMemory };
 
     fn from(_error: AllocError) -> PartFault {
+        PartFault::NoMemory
+    }
+}
+
+impl<T: Drop> From<AllocFailed<T>> for PartFault {
+    ghost from_gives = { λ _ fault. fault ≡ NoMemory };
+
+    fn from(_failed: AllocFailed<T>) -> PartFault {
         PartFault::NoMemory
     }
 }

@@ -2,20 +2,20 @@
 #![tactic(auto)]
 
 mod address;
-mod checks;
 mod column;
 mod fault;
-mod kind;
+mod keys;
 mod law;
-mod lookup;
 mod parse;
 mod part;
+mod ranges;
 mod row;
-mod rule;
+mod settings;
 mod slot;
 mod table;
 #[cfg(test)]
 mod tests;
+mod types;
 mod values;
 
 pub use fault::{PartFault, PartKey, Which};

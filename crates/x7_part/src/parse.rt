@@ -8,12 +8,12 @@ ghost use Rattle.x7_part.specs.PartRows.{same_row_fault, frames_fault, has_few_f
 ghost use Rattle.x7_part.specs.PartFile.{part_in};
 ghost use Rattle.x7_part.specs.declared.fault.PartFault.{PartFault};
 
-use crate::checks::{check_values, require};
-use crate::fault::{PartFault, PartKey};
-use crate::lookup::items;
+use crate::fault::PartFault;
 use crate::part::Part;
-use crate::row::{Row, check_same_rows, frame_count};
-use crate::values::{USUAL_WORDS, rows_of, value_or};
+use crate::ranges::require;
+use crate::row::{Row, check_same_rows, frame_count, rows_in};
+use crate::settings::settings_in;
+use crate::values::{check_known, values_of};
 use std::alloc::Global;
 use toml::Table;
 
@@ -73,10 +73,10 @@ pub fn part_of(alloc: Global, text: &[u8]) -> Result<Part, PartFault>
     ensures part { IfOk result (λ part. part_in text.now ≡ Ok part) }
     ensures fault { IfErr result (λ fault. (fault ≡ PartFault.NoMemory) ⊎ (part_in text.now ≡ Err fault)) }
 {
-    let table = table_in(alloc, text)?;
-    check_values(&table)?;
-    let rows = rows_of(alloc, items(&table, PartKey::Row))?;
-    let words = value_or(USUAL_WORDS, &table, PartKey::FrameWords, 255);
-    check_rows(words, &rows)?;
-    Ok(Part::of_table(alloc, &table, rows)?)
+    let values = values_of(alloc, &table_in(alloc, text)?)?;
+    check_known(&values)?;
+    let settings = settings_in(&values)?;
+    let rows = rows_in(alloc, &values.rows)?;
+    check_rows(u32::from(settings.words), &rows)?;
+    Ok(Part::of(alloc, values.name, settings, rows)?)
 }

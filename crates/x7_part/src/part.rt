@@ -4,39 +4,26 @@ ghost use Rattle.x7_part.specs.AddressOrder.{addresses, addresses_in, Follows, I
 ghost use Rattle.x7_part.specs.Columns.{table_of as columns_of};
 ghost use Rattle.x7_part.specs.FrameAddress.{IsAddressOf, IsRow, far_width};
 ghost use Rattle.x7_part.specs.Part.{PartData, frame_words};
-ghost use Rattle.toml.specs.View.{table_view};
-ghost use Rattle.x7_part.specs.PartValues.{part_with};
-ghost use Rattle.x7_part.specs.PartRows.{same_row_fault, frames_fault, in_order};
-ghost use Rattle.x7_part.specs.InRange.{IsTopInRange};
+ghost use Rattle.x7_part.specs.PartValues.{part_data};
+ghost use Rattle.x7_part.specs.PartRows.{same_row_fault, in_order};
 ghost use Rattle.x7_part.specs.PartRange.{IsPart};
 ghost use Rattle.x7_part.specs.Slots.{slots_in, from};
 ghost use Rattle.x7_part.specs.declared.slot.Slot.{Slot};
 
-use crate::address::Fields;
 use crate::column::{self, Column};
-use crate::fault::PartKey;
-use crate::lookup::text;
 use crate::row::{self, Row};
+use crate::settings::Settings;
 use crate::slot::Slot;
 use crate::table::table_of;
-use crate::values::{USUAL_WORDS, fields, value_or};
 use std::alloc::{AllocError, Global};
 use std::marker::Model;
-use toml::Table;
 use x7_words::NoMemory;
 
 /// A part: what its file says, with its rows in number order, and the table of its columns.
 #[derive(Drop)]
 pub struct Part {
     name: String,
-    idcode: u32,
-    mode: u8,
-    bus_width: u8,
-    lock: u16,
-    matched: u16,
-    words: u8,
-    far: Fields,
-    start_unit: u16,
+    settings: Settings,
     rows: Vec<Row>,
     columns: Vec<Column>,
 }
@@ -44,36 +31,30 @@ pub struct Part {
 impl Model for Part {
     ghost Value = { PartData };
 
-    ghost view = { λ p. record { name = string_bytes p.name; idcode = p.idcode; mode = p.mode; bus_width = p.bus_width; lock = p.lock; matched = p.matched; words = p.words; far = p.far; start_unit = p.start_unit; rows = p.rows.items } };
+    ghost view = { λ p. part_data (string_bytes p.name) p.settings p.rows.items };
 
-    ghost invariant = { λ p. (p.columns.items ≡ columns_of p.far 0 0 p.rows.items) × IsPart record { name = string_bytes p.name; idcode = p.idcode; mode = p.mode; bus_width = p.bus_width; lock = p.lock; matched = p.matched; words = p.words; far = p.far; start_unit = p.start_unit; rows = p.rows.items } };
+    ghost invariant = { λ p. (p.columns.items ≡ columns_of p.settings.far 0 0 p.rows.items) × IsPart (part_data (string_bytes p.name) p.settings p.rows.items) };
 }
 
 impl Part {
-    /// The part of a table with these rows, whose checks found nothing.
-    pub(crate) fn of_table(alloc: Global, table: &Table, rows: Vec<Row>) -> Result<Part, AllocError>
-        requires top { IsTopInRange (table_view table.now) }
+    /// The part of this name with these settings and rows, none of which stands twice.
+    pub(crate) fn of(
+        alloc: Global,
+        name: String,
+        settings: Settings,
+        rows: Vec<Row>,
+    ) -> Result<Part, AllocError>
         requires rows { All IsRow rows.items }
         requires apart { same_row_fault [] rows.items ≡ None }
-        requires some { 1 ≤ length rows.items }
-        requires few { length rows.items ≤ 192 }
-        requires frames { frames_fault (part_with (table_view table.now) rows.items) ≡ None }
-        ensures { IfOk result (λ part. part ≡ part_with (table_view table.now) (in_order part.far rows.items)) }
+        requires part { IsPart (part_data (string_bytes name) settings (in_order settings.far rows.items)) }
+        ensures { IfOk result (λ part. part ≡ part_data (string_bytes name) settings (in_order settings.far rows.items)) }
     {
-        let far = fields(table);
         let mut rows = rows;
-        row::in_order(&mut rows, far);
-        let columns = table_of(alloc, far, &rows)?;
+        row::in_order(&mut rows, settings.far);
+        let columns = table_of(alloc, settings.far, &rows)?;
         Ok(Part {
-            name: String::from_str(alloc, text(table, PartKey::Name))?,
-            idcode: value_or(0, table, PartKey::Idcode, 4_294_967_295),
-            mode: value_or(0, table, PartKey::Mode, 7) as u8,
-            bus_width: value_or(0, table, PartKey::BusWidth, 3) as u8,
-            lock: value_or(0, table, PartKey::Lock, 65_535) as u16,
-            matched: value_or(0, table, PartKey::Match, 65_535) as u16,
-            words: value_or(USUAL_WORDS, table, PartKey::FrameWords, 255) as u8,
-            far,
-            start_unit: value_or(1, table, PartKey::StartUnit, 256) as u16,
+            name,
+            settings,
             rows,
             columns,
         })
@@ -94,14 +75,7 @@ impl Part {
     {
         Ok(Part {
             name: String::from_str(alloc, self.name.as_str())?,
-            idcode: self.idcode,
-            mode: self.mode,
-            bus_width: self.bus_width,
-            lock: self.lock,
-            matched: self.matched,
-            words: self.words,
-            far: self.far,
-            start_unit: self.start_unit,
+            settings: self.settings,
             rows: row::copy_of(alloc, &self.rows)?,
             columns: self.columns.as_slice().to_vec(alloc)?,
         })
@@ -119,7 +93,7 @@ impl Part {
         ensures value { result ≡ self.now.idcode }
         ensures odd { result % 2 ≡ 1 }
     {
-        self.idcode
+        self.settings.idcode
     }
 
     /// The mode pins, as STAT shows them.
@@ -127,7 +101,7 @@ impl Part {
         ensures value { result ≡ self.now.mode }
         ensures range { result ≤ 7 }
     {
-        self.mode
+        self.settings.mode
     }
 
     /// The bus width, as STAT shows it.
@@ -135,21 +109,21 @@ impl Part {
         ensures value { result ≡ self.now.bus_width }
         ensures range { result ≤ 3 }
     {
-        self.bus_width
+        self.settings.bus_width
     }
 
     /// The ticks that startup waits for the clocks to lock.
     pub fn lock(&self) -> u16
         ensures { result ≡ self.now.lock }
     {
-        self.lock
+        self.settings.lock
     }
 
     /// The ticks that startup waits for the impedance to match.
     pub fn matched(&self) -> u16
         ensures { result ≡ self.now.matched }
     {
-        self.matched
+        self.settings.matched
     }
 
     /// The words of a frame (UG470, frame data).
@@ -158,7 +132,7 @@ impl Part {
         ensures least { 2 ≤ result }
         ensures most { result ≤ 255 }
     {
-        u32::from(self.words)
+        u32::from(self.settings.words)
     }
 
     /// The width of an address in bits (UG470, frame address register).
@@ -167,7 +141,7 @@ impl Part {
         ensures least { 25 ≤ result }
         ensures most { result ≤ 32 }
     {
-        self.far.width()
+        self.settings.far.width()
     }
 
     /// The bytes of the flash that one step of the start address in WBSTAR stands for.
@@ -175,7 +149,7 @@ impl Part {
         ensures value { result ≡ self.now.start_unit }
         ensures either { (result ≡ 1) ⊎ (result ≡ 256) }
     {
-        u32::from(self.start_unit)
+        u32::from(self.settings.start_unit)
     }
 
     /// The number of its frames, which is that of its addresses.

@@ -1,15 +1,16 @@
 //! Rows of a part.
-ghost use Rattle.std.specs.Prelude.{◌≡◌, ◌≤◌, [], length, sum, IfOk, IsPermutation};
+ghost use Rattle.std.specs.Prelude.{◌≡◌, ◌≤◌, [], None, map, length, sum, All, IfOk};
 ghost use Rattle.std.specs.List.{sum_by};
-ghost use Rattle.std.specs.List.Sorted.{IsNonDecreasingBy};
-ghost use Rattle.x7_part.specs.FrameAddress.{row_address, IsRow};
-ghost use Rattle.x7_part.specs.PartChecks.{told};
-ghost use Rattle.x7_part.specs.PartRows.{is_same, has_same, same_row_fault};
+ghost use Rattle.x7_part.specs.FrameAddress.{row_address, AreWidths, IsRow};
+ghost use Rattle.x7_part.specs.PartChecks.{told, Tells, rows_fault, row_range_fault};
+ghost use Rattle.x7_part.specs.PartRows.{is_same, has_same, same_row_fault, in_order};
+ghost use Rattle.x7_part.specs.PartValues.{row_of};
 ghost use Rattle.x7_part.specs.Part.{RowData};
 
 use crate::address::Fields;
-use crate::checks::require;
-use crate::fault::PartFault;
+use crate::fault::{PartFault, PartKey, Which};
+use crate::ranges::{minors, require, within};
+use crate::values::RowValues;
 use std::alloc::{AllocError, Global};
 use std::marker::Model;
 
@@ -72,6 +73,37 @@ impl Row {
     }
 }
 
+/// A row of these values, or the first of them that is out of range.
+fn row_in(alloc: Global, number: u32, values: &RowValues) -> Result<Row, PartFault>
+    ensures fault { Tells (row_range_fault number values.now) result }
+    ensures value { IfOk result (λ row. row ≡ row_of values.now) }
+{
+    Ok(Row {
+        block: within(values.block, 0, 2, Which::in_row(number, PartKey::Block))? as u8,
+        half: within(values.half, 0, 1, Which::in_row(number, PartKey::Half))? as u8,
+        row: within(values.row, 0, 31, Which::in_row(number, PartKey::Row))? as u8,
+        minors: minors(
+            alloc,
+            &values.minors,
+            Which::in_row(number, PartKey::Minors),
+        )?,
+    })
+}
+
+/// The rows of these values, which count from 1, or the first value that is out of range.
+pub fn rows_in(alloc: Global, values: &[RowValues]) -> Result<Vec<Row>, PartFault>
+    ensures fault { Tells (rows_fault row_range_fault 1 values.now) result }
+    ensures value { IfOk result (λ rows. rows.items ≡ map row_of values.now) }
+{
+    let mut rows = Vec::with_capacity(alloc, values.len())?;
+    let mut number = 1u32;
+    for row in values {
+        rows.push(row_in(alloc, number, row)?)?;
+        number = number.saturating_add(1);
+    }
+    Ok(rows)
+}
+
 /// Whether one of the rows has the same block type, half and row.
 fn has_same(row: &Row, rows: &[Row]) -> bool
     ensures { result ≡ has_same row.now rows.now }
@@ -108,10 +140,12 @@ pub fn frame_count(rows: &[Row]) -> u32
     frames
 }
 
-/// Puts the rows in number order.
+/// Puts rows in number order, no two of which are the same.
 pub fn in_order(rows: &mut Vec<Row>, far: Fields)
-    ensures sorted { IsNonDecreasingBy (row_address far) rows.new.items }
-    ensures same { IsPermutation rows.old.items rows.new.items }
+    requires widths { AreWidths far }
+    requires rows { All IsRow rows.old.items }
+    requires apart { same_row_fault [] rows.old.items ≡ None }
+    ensures { rows.new.items ≡ in_order far rows.old.items }
 {
     rows.sort_unstable_by_key(|row| row.address(far));
 }

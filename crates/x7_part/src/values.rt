@@ -1,88 +1,129 @@
-//! The values of a part file that passed its checks, as a part keeps them.
-ghost use Rattle.std.specs.Prelude.{◌≡◌, ◌≤◌, ℕ, true, map, All, IfOk};
-ghost use Rattle.toml.specs.View.{table_view, items_view};
-ghost use Rattle.x7_part.specs.PartValues.{natural, number_or, numbers, items, tables, widths_of, row_of};
-ghost use Rattle.x7_part.specs.PartChecks.{is_in, are_in};
-ghost use Rattle.x7_part.specs.InRange.{IsRowInRange, IsTopInRange};
-ghost use Rattle.x7_part.specs.declared.fault.PartKey.TheVariants as key;
+//! The values of a part file, each of its type, and no range of them looked at.
+ghost use Rattle.std.specs.Prelude.{◌≡◌, map, option_map, string_bytes, IfOk};
+ghost use Rattle.toml.specs.View.{table_view};
+ghost use Rattle.x7_part.specs.PartValues.{RowValues as RowData, TopValues, row_values, top_values, row_tables};
+ghost use Rattle.x7_part.specs.PartChecks.{told, Tells, rows_fault, row_type_fault, row_other_fault, type_fault, other_fault};
 
-use crate::address::Fields;
-use crate::fault::PartKey;
-use crate::kind::widths_in;
-use crate::lookup::{items, number_of, number_or};
-use crate::row::Row;
-use std::alloc::{AllocError, Global};
-use toml::{Table, Value};
+use crate::fault::{PartFault, PartKey, Which};
+use crate::keys::{ROW_KEYS, TOP_KEYS, has_only};
+use crate::ranges::require;
+use crate::types::{number, number_or, numbers, rows, text};
+use std::alloc::Global;
+use std::marker::Model;
+use toml::Table;
 
 /// The words of a frame where a part file doesn't say (UG470, frame data).
-pub const USUAL_WORDS: u32 = 101;
+const USUAL_WORDS: u32 = 101;
 
-/// A number that lies between 0 and `high`.
-fn natural(number: i64, high: u32) -> u32
-    requires { is_in 0 high number ≡ true }
-    ensures value { result ≡ natural number }
-    ensures range { result ≤ high }
-{
-    number.unsigned_abs() as u32
+/// A row's values, and whether the row has these keys alone.
+#[derive(Drop)]
+pub struct RowValues {
+    pub block: i64,
+    pub half: i64,
+    pub row: i64,
+    pub minors: Vec<i64>,
+    pub known: bool,
 }
 
-/// The number under a key, `usual` where there is none, which lies between 0 and `high`.
-pub fn value_or(usual: u32, table: &Table, key: PartKey, high: u32) -> u32
-    requires { is_in 0 high (number_or usual key (table_view table.now)) ≡ true }
-    ensures value { result ≡ natural (number_or usual key (table_view table.now)) }
-    ensures range { result ≤ high }
-{
-    natural(number_or(usual, table, key), high)
+impl Model for RowValues {
+    ghost Value = { RowData };
+
+    ghost view = { λ v. record { block = v.block; half = v.half; row = v.row; minors = v.minors.items; known = v.known } };
 }
 
-/// The fields of an address.
-pub fn fields(table: &Table) -> Fields
-    requires { IsTopInRange (table_view table.now) }
-    ensures { result ≡ widths_of (numbers (items key.Far (table_view table.now))) }
-{
-    match widths_in(items(table, PartKey::Far)) {
-        Some(fields) => fields,
-        None => Fields::usual(),
-    }
+/// The top table's values, and whether it has these keys alone. A number that is left out has its usual value.
+#[derive(Drop)]
+pub struct Values {
+    pub name: String,
+    pub idcode: i64,
+    pub mode: i64,
+    pub bus_width: i64,
+    pub lock: i64,
+    pub matched: i64,
+    pub words: i64,
+    pub far: Option<Vec<i64>>,
+    pub start_unit: i64,
+    pub rows: Vec<RowValues>,
+    pub known: bool,
 }
 
-/// The numbers of minors of a row's columns.
-#[tactic(auto, using(crate::proofs::FileLemmas::items_more))]
-fn minors_of(alloc: Global, items: &[Value]) -> Result<Vec<u8>, AllocError>
-    requires { are_in 1 128 (numbers (items_view items.now)) ≡ true }
-    ensures { IfOk result (λ minors. minors.items ≡ map natural (numbers (items_view items.now))) }
-{
-    let mut minors = Vec::with_capacity(alloc, items.len())?;
-    for item in items {
-        minors.push(natural(number_of(item), 128) as u8)?;
-    }
-    Ok(minors)
+impl Model for Values {
+    ghost Value = { TopValues };
+
+    ghost view = { λ v. record { name = string_bytes v.name; idcode = v.idcode; mode = v.mode; bus_width = v.bus_width; lock = v.lock; matched = v.matched; words = v.words; far = option_map (λ zs. zs.items) v.far; start_unit = v.start_unit; rows = v.rows.items; known = v.known } };
 }
 
-/// A row.
-fn row_of(alloc: Global, row: &Table) -> Result<Row, AllocError>
-    requires { IsRowInRange (table_view row.now) }
-    ensures { IfOk result (λ made. made ≡ row_of (table_view row.now)) }
+/// A row's values, or the first of its keys that is missing or of another type.
+fn row_values(alloc: Global, number_of_row: u32, row: &Table) -> Result<RowValues, PartFault>
+    ensures fault { Tells (row_type_fault number_of_row (table_view row.now)) result }
+    ensures value { IfOk result (λ values. values ≡ row_values (table_view row.now)) }
 {
-    Ok(Row {
-        block: value_or(0, row, PartKey::Block, 2) as u8,
-        half: value_or(0, row, PartKey::Half, 1) as u8,
-        row: value_or(0, row, PartKey::Row, 31) as u8,
-        minors: minors_of(alloc, items(row, PartKey::Minors))?,
+    let minors = Which::in_row(number_of_row, PartKey::Minors);
+    Ok(RowValues {
+        block: number(row, Which::in_row(number_of_row, PartKey::Block))?,
+        half: number(row, Which::in_row(number_of_row, PartKey::Half))?,
+        row: number(row, Which::in_row(number_of_row, PartKey::Row))?,
+        minors: match numbers(alloc, row, minors)? {
+            Some(numbers) => numbers,
+            None => return Err(PartFault::Key(minors)),
+        },
+        known: has_only(&ROW_KEYS, row),
     })
 }
 
-/// The rows in the file's order.
-pub fn rows_of(alloc: Global, rows: &[Value]) -> Result<Vec<Row>, AllocError>
-    requires { All IsRowInRange (tables (items_view rows.now)) }
-    ensures { IfOk result (λ made. made.items ≡ map row_of (tables (items_view rows.now))) }
+/// The values of rows, which count from 1.
+fn rows_values(alloc: Global, rows: &[&Table]) -> Result<Vec<RowValues>, PartFault>
+    ensures fault { Tells (rows_fault row_type_fault 1 (map (λ t. table_view t.now) rows.now)) result }
+    ensures value { IfOk result (λ made. made.items ≡ map row_values (map (λ t. table_view t.now) rows.now)) }
 {
     let mut made = Vec::with_capacity(alloc, rows.len())?;
-    for value in rows {
-        let Some(row) = value.as_table() else {
-            continue;
-        };
-        made.push(row_of(alloc, row)?)?;
+    let mut number = 1u32;
+    for row in rows {
+        made.push(row_values(alloc, number, row)?)?;
+        number = number.saturating_add(1);
     }
     Ok(made)
+}
+
+/// The values of a part file, or the first key that is missing or of another type.
+#[tactic(auto, unfolding(crate::specs::PartChecks::type_fault))]
+pub fn values_of(alloc: Global, table: &Table) -> Result<Values, PartFault>
+    ensures fault { Tells (type_fault (table_view table.now)) result }
+    ensures value { IfOk result (λ values. values ≡ top_values (table_view table.now)) }
+{
+    Ok(Values {
+        name: text(alloc, table, Which::top(PartKey::Name))?,
+        idcode: number(table, Which::top(PartKey::Idcode))?,
+        mode: number_or(0, table, Which::top(PartKey::Mode))?,
+        bus_width: number_or(0, table, Which::top(PartKey::BusWidth))?,
+        lock: number_or(0, table, Which::top(PartKey::Lock))?,
+        matched: number_or(0, table, Which::top(PartKey::Match))?,
+        words: number_or(USUAL_WORDS, table, Which::top(PartKey::FrameWords))?,
+        far: numbers(alloc, table, Which::top(PartKey::Far))?,
+        start_unit: number_or(1, table, Which::top(PartKey::StartUnit))?,
+        rows: rows_values(alloc, &rows(alloc, table)?)?,
+        known: has_only(&TOP_KEYS, table),
+    })
+}
+
+/// An unknown key, at the top and then row by row.
+#[tactic(auto, unfolding(crate::specs::PartChecks::other_fault))]
+pub fn check_known(values: &Values) -> Result<(), PartFault>
+    ensures { told result ≡ other_fault values.now }
+{
+    require(values.known, PartFault::Key(Which::top(PartKey::Other)))?;
+    check_known_rows(&values.rows)
+}
+
+/// An unknown key of the rows, which count from 1.
+fn check_known_rows(rows: &[RowValues]) -> Result<(), PartFault>
+    ensures { told result ≡ rows_fault row_other_fault 1 rows.now }
+{
+    let mut number = 1u32;
+    for row in rows {
+        let other = Which::in_row(number, PartKey::Other);
+        require(row.known, PartFault::Key(other))?;
+        number = number.saturating_add(1);
+    }
+    Ok(())
 }

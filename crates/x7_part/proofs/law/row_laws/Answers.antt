@@ -1,4 +1,5 @@
-use Rattle.x7_part.proofs.FileRowLemmas.{ordered_same, ordered_sorted, part_rises, text_is, text_rows}
+use Rattle.x7_part.proofs.FileRowLemmas.{part_rises, text_is, text_rows}
+use Rattle.x7_part.proofs.SortLemmas.{ordered_same, ordered_sorted}
 use Rattle.x7_part.proofs.law.row_laws.Goals as goal
 
 pub returns-clause-file : goal.returns-clause-file

@@ -1,7 +1,15 @@
-use Rattle.std.proofs.Common.{rules}
+use Rattle.std.proofs.Common.{rules, sym}
 use Rattle.std.proofs.lemmas.List.Sorted.{IsNonDecreasingBy-from_sort_by_key}
 use Rattle.x7_part.specs.FrameAddress.{row_address}
+use Rattle.x7_part.proofs.OrderLemmas.{ordered}
+use Rattle.x7_part.proofs.SortLemmas.{sorted_is}
 use Rattle.x7_part.proofs.row.in_order.Goals as goal
 
-pub returns-clause-sorted : goal.returns-clause-sorted
-returns-clause-sorted c = IsNonDecreasingBy-from_sort_by_key (row_address c.args.far) _ c.sort_unstable_by_key.ensures.sorted (λ a r q k. search rules)
+pub returns : goal.returns
+returns c =
+    let far = c.args.far in
+    let rows = c.args.rows.now.items in
+    let sorted = c.sort_unstable_by_key.new.self.items in
+    let same = c.sort_unstable_by_key.ensures.permutation in
+    let rising = IsNonDecreasingBy-from_sort_by_key (row_address far) sorted c.sort_unstable_by_key.ensures.sorted (λ a r q k. search rules) in
+    sym (sorted_is far rows sorted 0 same (ordered far rows sorted c.requires.widths c.requires.rows c.requires.apart same rising))

@@ -1,0 +1,48 @@
+//! The keys that a part file's tables may have.
+ghost use Rattle.std.specs.Prelude.{◌≡◌};
+ghost use Rattle.toml.specs.View.{table_view};
+ghost use Rattle.x7_part.specs.PartKey.{is_known, has_only};
+
+use crate::fault::PartKey;
+use toml::Table;
+
+/// The keys of the top table.
+pub const TOP_KEYS: [PartKey; 10] = [
+    PartKey::Name,
+    PartKey::Idcode,
+    PartKey::Mode,
+    PartKey::BusWidth,
+    PartKey::Lock,
+    PartKey::Match,
+    PartKey::FrameWords,
+    PartKey::Far,
+    PartKey::StartUnit,
+    PartKey::Row,
+];
+
+/// The keys of a row.
+pub const ROW_KEYS: [PartKey; 4] = [PartKey::Block, PartKey::Half, PartKey::Row, PartKey::Minors];
+
+/// Whether one of the keys is written so.
+fn is_known(keys: &[PartKey], name: &str) -> bool
+    ensures { result ≡ is_known keys.now name.now }
+{
+    for key in keys {
+        if name == key.name() {
+            return true;
+        }
+    }
+    false
+}
+
+/// Whether the table has no other key.
+pub fn has_only(keys: &[PartKey], table: &Table) -> bool
+    ensures { result ≡ has_only keys.now (table_view table.now) }
+{
+    'members: for (name, _value) in table.iter() {
+        if !is_known(keys, name.as_str()) {
+            return false;
+        }
+    }
+    true
+}

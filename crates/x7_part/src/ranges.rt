@@ -1,0 +1,119 @@
+//! The ranges of a part file's values: each judges a value and gives the number of a part that it stands for.
+ghost use Rattle.std.specs.Prelude.{◌≡◌, ◌≤◌, map, length, string_bytes, IfOk, Some};
+ghost use Rattle.x7_part.specs.PartValues.{natural, widths_of};
+ghost use Rattle.x7_part.specs.PartChecks.{told, Tells, unless, is_in, is_long, are_printed, is_name, is_odd, is_unit, are_in, are_widths, are_minors};
+ghost use Rattle.x7_part.specs.declared.fault.PartFault.TheVariants.{Range};
+
+use crate::address::Fields;
+use crate::fault::{PartFault, Which};
+use std::alloc::Global;
+
+/// The fault, unless the test holds.
+pub fn require(holds: bool, fault: PartFault) -> Result<(), PartFault>
+    ensures { told result ≡ unless holds fault }
+{
+    if holds { Ok(()) } else { Err(fault) }
+}
+
+/// Whether a length lies in the range.
+pub fn is_long(length: usize, low: usize, high: usize) -> bool
+    ensures { result ≡ is_long low high length }
+{
+    low <= length && length <= high
+}
+
+/// Whether each byte is a printed one.
+fn are_printed(bytes: &[u8]) -> bool
+    ensures { result ≡ are_printed bytes.now }
+{
+    for byte in bytes {
+        if *byte < 0x21 || *byte > 0x7E {
+            return false;
+        }
+    }
+    true
+}
+
+/// Whether a text can be a name.
+#[tactic(auto, unfolding(crate::specs::PartChecks::is_name))]
+pub fn is_name(text: &str) -> bool
+    ensures { result ≡ is_name text.now }
+{
+    is_long(text.len(), 1, 64) && are_printed(text.as_bytes())
+}
+
+/// A number in the range.
+#[tactic(auto, unfolding(crate::specs::PartChecks::is_in))]
+pub fn within(number: i64, low: u32, high: u32, at: Which) -> Result<u32, PartFault>
+    ensures fault { told result ≡ unless (is_in low high number) (Range at) }
+    ensures value { IfOk result (λ n. n ≡ natural number) }
+    ensures range { IfOk result (λ n. (low ≤ n) × (n ≤ high)) }
+{
+    if i64::from(low) <= number && number <= i64::from(high) {
+        Ok(number.unsigned_abs() as u32)
+    } else {
+        Err(PartFault::Range(at))
+    }
+}
+
+/// An odd number of 32 bits.
+#[tactic(auto, unfolding(crate::specs::PartChecks::is_odd))]
+pub fn odd(number: i64, at: Which) -> Result<u32, PartFault>
+    ensures fault { told result ≡ unless (is_odd number) (Range at) }
+    ensures value { IfOk result (λ n. n ≡ natural number) }
+{
+    let odd = within(number, 1, 4_294_967_295, at)?;
+    require(odd % 2 == 1, PartFault::Range(at))?;
+    Ok(odd)
+}
+
+/// 1 or 256.
+#[tactic(auto, unfolding(crate::specs::PartChecks::is_unit, crate::specs::PartChecks::is_in))]
+pub fn unit(number: i64, at: Which) -> Result<u16, PartFault>
+    ensures fault { told result ≡ unless (is_unit number) (Range at) }
+    ensures value { IfOk result (λ n. n ≡ natural number) }
+{
+    if number == 1 {
+        Ok(1)
+    } else if number == 256 {
+        Ok(256)
+    } else {
+        Err(PartFault::Range(at))
+    }
+}
+
+/// The widths of the fields of an address, each in its range, with 32 bits together.
+#[tactic(auto, unfolding(crate::specs::PartChecks::is_in))]
+pub fn widths(numbers: &[i64], at: Which) -> Result<Fields, PartFault>
+    ensures fault { told result ≡ unless (are_widths numbers.now) (Range at) }
+    ensures value { IfOk result (λ far. far ≡ widths_of numbers.now) }
+{
+    let [minor, column, row, half, block] = numbers else {
+        return Err(PartFault::Range(at));
+    };
+    let fields = Fields::of(
+        within(*minor, 7, 12, at)? as u8,
+        within(*column, 10, 12, at)? as u8,
+        within(*row, 5, 8, at)? as u8,
+        within(*half, 1, 1, at)? as u8,
+        within(*block, 2, 3, at)? as u8,
+    );
+    match fields {
+        Some(fields) => Ok(fields),
+        None => Err(PartFault::Range(at)),
+    }
+}
+
+/// The numbers of minors of a row's columns.
+#[tactic(auto, unfolding(crate::specs::PartChecks::is_in))]
+pub fn minors(alloc: Global, numbers: &[i64], at: Which) -> Result<Vec<u8>, PartFault>
+    ensures fault { Tells (unless (are_minors numbers.now) (Range at)) result }
+    ensures value { IfOk result (λ minors. minors.items ≡ map natural numbers.now) }
+{
+    require(is_long(numbers.len(), 1, 1024), PartFault::Range(at))?;
+    let mut minors = Vec::with_capacity(alloc, numbers.len())?;
+    for number in numbers {
+        minors.push(within(*number, 1, 128, at)? as u8)?;
+    }
+    Ok(minors)
+}

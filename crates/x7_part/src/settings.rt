@@ -1,0 +1,67 @@
+//! What a part file's top table says of a part, but for its name and its rows.
+ghost use Rattle.std.specs.Prelude.{◌≡◌, [], option_map, unwrap_or, IfOk};
+ghost use Rattle.x7_part.specs.PartValues.{settings_of, widths_of};
+ghost use Rattle.x7_part.specs.PartChecks.{told, unless, are_widths_or_none, number_range_fault, top_range_fault};
+ghost use Rattle.x7_part.specs.declared.fault.PartFault.TheVariants.{Range};
+
+use crate::address::Fields;
+use crate::fault::{PartFault, PartKey, Which};
+use crate::ranges::{is_long, is_name, odd, require, unit, widths, within};
+use crate::values::Values;
+
+/// The numbers of a part, each in its range.
+#[derive(Clone, Copy, Drop)]
+pub struct Settings {
+    pub idcode: u32,
+    pub mode: u8,
+    pub bus_width: u8,
+    pub lock: u16,
+    pub matched: u16,
+    pub words: u8,
+    pub far: Fields,
+    pub start_unit: u16,
+}
+
+/// The widths of the fields of an address, those of the 7 series where they aren't given.
+#[tactic(auto, unfolding(crate::specs::PartChecks::are_widths_or_none))]
+fn fields_in(widths_given: &Option<Vec<i64>>, at: Which) -> Result<Fields, PartFault>
+    ensures fault { told result ≡ unless (are_widths_or_none (option_map (λ zs. zs.items) widths_given.now)) (Range at) }
+    ensures value { IfOk result (λ far. far ≡ widths_of (unwrap_or (option_map (λ zs. zs.items) widths_given.now) [])) }
+{
+    match widths_given {
+        Some(numbers) => widths(numbers, at),
+        None => Ok(Fields::usual()),
+    }
+}
+
+/// The settings of a top table, or the first number that is out of range.
+#[tactic(auto, unfolding(crate::specs::PartChecks::number_range_fault))]
+fn numbers_in(values: &Values) -> Result<Settings, PartFault>
+    ensures fault { told result ≡ number_range_fault values.now }
+    ensures value { IfOk result (λ settings. settings ≡ settings_of values.now) }
+{
+    Ok(Settings {
+        idcode: odd(values.idcode, Which::top(PartKey::Idcode))?,
+        mode: within(values.mode, 0, 7, Which::top(PartKey::Mode))? as u8,
+        bus_width: within(values.bus_width, 0, 3, Which::top(PartKey::BusWidth))? as u8,
+        lock: within(values.lock, 0, 65_535, Which::top(PartKey::Lock))? as u16,
+        matched: within(values.matched, 0, 65_535, Which::top(PartKey::Match))? as u16,
+        words: within(values.words, 2, 255, Which::top(PartKey::FrameWords))? as u8,
+        far: fields_in(&values.far, Which::top(PartKey::Far))?,
+        start_unit: unit(values.start_unit, Which::top(PartKey::StartUnit))?,
+    })
+}
+
+/// The settings of a top table, or its first value that is out of range.
+#[tactic(auto, unfolding(crate::specs::PartChecks::top_range_fault))]
+pub fn settings_in(values: &Values) -> Result<Settings, PartFault>
+    ensures fault { told result ≡ top_range_fault values.now }
+    ensures value { IfOk result (λ settings. settings ≡ settings_of values.now) }
+{
+    let name = PartFault::Range(Which::top(PartKey::Name));
+    require(is_name(&values.name), name)?;
+    let settings = numbers_in(values)?;
+    let rows = PartFault::Range(Which::top(PartKey::Row));
+    require(is_long(values.rows.len(), 1, 192), rows)?;
+    Ok(settings)
+}
