@@ -1,5 +1,5 @@
 -- What the first sector of an image does to an attempt: its open slot leads one at power to the update, and leaves a fallback at rest.
-use Rattle.std.proofs.Common.{◌≡◌, ◌&&◌, ◌+◌, ◌%◌, ◌^◌, ◌<◌, ◌≤◌, inl, inr, ℕ, Bool, true, false, not, Option, None, Some, List, [], ◌∷◌, ◌++◌, drop, take, length, refl, ap, sym, subst, ◌∙◌, take-append-drop, length-take-le, arith}
+use Rattle.std.proofs.Common.{◌≡◌, ◌&&◌, ◌%◌, ◌^◌, ◌<◌, ◌≤◌, inl, inr, ℕ, Bool, true, false, not, Option, None, Some, List, [], ◌∷◌, ◌++◌, drop, take, length, refl, ap, sym, subst, ◌∙◌, take-append-drop, length-take-le, arith}
 use Rattle.std.proofs.lemmas.List.{take-append-le}
 use Rattle.x7_words.specs.Word.{AreBytes}
 use Rattle.x7_packets.specs.ByHand.{reading_of}

@@ -2,8 +2,9 @@
 use Rattle.std.proofs.Common.{◌≡◌, ◌==◌, ◌&&◌, ◌||◌, ◌+◌, ◌/◌, ◌%◌, ◌^◌, ◌<◌, ◌≤◌, ◌⊎◌, inl, inr, ℕ, suc, Bool, true, false, if◌then◌else◌, Option, None, Some, List, [], ◌∷◌, ◌++◌, drop, take, length, map, reverse, refl, ap, sym, subst, ◌∙◌, append_assoc, arith}
 use Rattle.std.proofs.Math.Seq.{take-length, take_all}
 use Rattle.std.proofs.lemmas.Bool.{cases_lt}
+use Rattle.std.proofs.lemmas.List.{reverse-append}
 use Rattle.x7_words.specs.Word.{AreBytes}
-use Rattle.x7_words.proofs.ListLemmas.{all-append}
+use Rattle.x7_words.proofs.ListLemmas.{all-append, map-append}
 use Rattle.x7_packets.specs.History.{History, history_of, last_word, until}
 use Rattle.x7_part.specs.Part.{PartData}
 use Rattle.x7_regs.specs.BootStatus.{boot_status_of}
@@ -29,7 +30,7 @@ use Rattle.x7_engine.specs.declared.stop.Stop.TheVariants as stop
 use Rattle.x7_boot.specs.Attempt.{IsTrial, NoneBefore, Trial, ending_at, ending_by, failed_by}
 use Rattle.x7_boot.specs.Boot.{BootedState, IsBoot, LeadsTo, LeadsToEnd, at_power, end_state, forbids_fallback, next_by, start_address, tried}
 use Rattle.x7_boot.specs.Image.{first_sector, flash_limit, image_size}
-use Rattle.x7_boot.specs.ImageBoot.{BootsImage, EndsAtUpdate, FallsBack, HasImage, IsPlanFor, StartsUpdate, UpdateEnds, UpdateFails, golden_image, kept_at_update, place_behind, through_update}
+use Rattle.x7_boot.specs.ImageBoot.{BootsImage, EndsAtUpdate, FallsBack, HasImage, IsPlanFor, StartsUpdate, TriesUpdate, UpdateEnds, UpdateFails, golden_image, kept_at_update, place_behind, through_update}
 use Rattle.x7_boot.specs.declared.attempt.Ending.{Ending}
 use Rattle.x7_boot.specs.declared.attempt.Ending.TheVariants as ending
 use Rattle.x7_boot.specs.declared.boots.BootEnd.{BootEnd}
@@ -39,7 +40,7 @@ use Rattle.x7_boot.specs.declared.next.Next.{Next}
 use Rattle.x7_boot.specs.declared.next.Next.TheVariants.{Again, Ends}
 use Rattle.x7_boot.proofs.FirstSlotLemmas.{power_behind, power_bytes, power_ends, power_first, power_history, power_stop, sector_history, sector_never, sector_rest, sector_rests}
 use Rattle.x7_boot.proofs.FullTrialLemmas.{StartsWith, full_starts, full_stream_fits, iprog_later}
-use Rattle.x7_boot.proofs.OneBootLemmas.{one_chain}
+use Rattle.x7_boot.proofs.OneBootLemmas.{GoesThrough, goes_through, one_chain}
 use Rattle.x7_boot.proofs.SlotLemmas.{image_begins, image_has, place_whole, sector_fits, size_behind, start_small, start_whole}
 
 -- ---- the start address
@@ -327,6 +328,27 @@ update_stops part golden update t cause last older end image fails led =
     ap (λ (b : Bool). if is_fallback t.kept.kind || b then Ends boot_end.Stopped else again) fails.forbids ∙ ap (λ (b : Bool). if b then Ends boot_end.Stopped else again) (or_true (is_fallback t.kept.kind)) in
     at_update part golden update t (ending.Failed cause) boot_end.Stopped last older end image fails.ended next led
 
+-- ---- each boot tries the update
+
+tries_update : (part : PartData) (golden : PlanData) (update : List ℕ) (trials : List Trial) (end : BootEnd) → HasImage part golden update → LeadsToEnd part (golden_image part golden update) trials end
+    → TriesUpdate part golden update (reverse (map tried trials))
+tries_update part golden update trials end image led =
+    let flash : List ℕ = golden_image part golden update in
+    let start : ℕ = start_of part golden in
+    let place : ℕ = place_behind part golden in
+    let g : GoesThrough part flash trials (power start ∷ []) (kept_at_update start) place = goes_through part flash trials (power start ∷ []) end (kept_at_update start) place led (update_leads part golden update image) in
+    let t : Trial = g.trial in
+    let first : Tried = record { kind = Power; address = 0; ending = ending.Iprog } in
+    record {
+      trial = t;
+      ended = record { is = g.is; kept = g.kept_is; address = g.address_is; ends = refl };
+      more = reverse (map tried g.newer);
+      attempts_are = ap (λ (l : List Trial). reverse (map tried l)) g.split
+          ∙ ap reverse (map-append tried g.newer (t ∷ power start ∷ []))
+          ∙ reverse-append (map tried g.newer) (tried t ∷ first ∷ [])
+          ∙ ap (λ (x : Tried). first ∷ x ∷ reverse (map tried g.newer)) (told t start place t.ending g.kept_is g.address_is refl);
+    }
+
 -- ---- the same of a boot
 
 pub boot_falls_back : (part : PartData) (golden : PlanData) (update : List ℕ) (b : BootedState) (t : Trial) (cause : Cause) → (boots : BootsImage part golden update b) → UpdateFails part golden update t cause false
@@ -351,3 +373,8 @@ pub boot_has_full : (part : PartData) (golden update : PlanData) (b : BootedStat
 boot_has_full part golden update b boots for =
     let is : IsBoot part (golden_image part golden (full_stream part update)) b = boots.boot in
     subst (λ (a : List Tried). StartsUpdate part golden update a b.end is.last) (sym is.attempts) (full_update_starts part golden update is.last is.older b.end boots.image for is.leads)
+
+pub boot_tries : (part : PartData) (golden : PlanData) (update : List ℕ) (b : BootedState) → BootsImage part golden update b → TriesUpdate part golden update b.attempts
+boot_tries part golden update b boots =
+    let is : IsBoot part (golden_image part golden update) b = boots.boot in
+    subst (λ (a : List Tried). TriesUpdate part golden update a) (sym is.attempts) (tries_update part golden update (is.last ∷ is.older) b.end boots.image is.leads)

@@ -132,3 +132,45 @@ pub one_boot : (part : PartData) (flash : List ℕ) (a b : BootedState) → IsBo
 one_boot part flash a b x y =
     let same : (x.last ∷ x.older ≡ y.last ∷ y.older) × (a.end ≡ b.end) = one_chain part flash (x.last ∷ x.older) (y.last ∷ y.older) a.end b.end x.leads y.leads in
     (x.attempts ∙ ap (λ (l : List Trial). reverse (map tried l)) same.0 ∙ sym y.attempts, same.1)
+
+-- ---- what stands on a chain
+
+-- a chain to an end goes through the attempt to which fewer attempts lead
+pub record GoesThrough (part : PartData) (flash : List ℕ) (trials older : List Trial) (kept : Kept) (address : ℕ) : Type 0 where
+  pub newer : List Trial
+  pub trial : Trial
+  pub split : trials ≡ newer ++ trial ∷ older
+  pub is : IsTrial part flash trial
+  pub kept_is : trial.kept ≡ kept
+  pub address_is : trial.address ≡ address
+
+more_through : (part : PartData) (flash : List ℕ) (t : Trial) (trials older : List Trial) (kept : Kept) (address : ℕ) → GoesThrough part flash trials older kept address → GoesThrough part flash (t ∷ trials) older kept address
+more_through part flash t trials older kept address g =
+    record { newer = t ∷ g.newer; trial = g.trial; split = ap (λ (l : List Trial). t ∷ l) g.split; is = g.is; kept_is = g.kept_is; address_is = g.address_is }
+
+through_longer : (part : PartData) (flash : List ℕ) (b older : List Trial) (y : Next) (kept : Kept) (address : ℕ) → LeadsTo part flash b y → LeadsTo part flash older (Again kept address) → length older < length b → GoesThrough part flash b older kept address
+through_longer part flash [] older y kept address q p l = absurd (omega (arith, l))
+through_longer part flash (t ∷ b) older y kept address q p l = elim (cases_lt (length older) (length b)) [
+  | inl k ↦ more_through part flash t b older kept address (through_longer part flash b older (Again t.kept t.address) kept address q.0 p k)
+  | inr k ↦ (let long : length b ≡ length older = omega (arith, k, l) in
+      let same : (b ≡ older) × (Again t.kept t.address ≡ Again kept address) = chain_same part flash b older (Again t.kept t.address) (Again kept address) long q.0 p in
+      record {
+        newer = [];
+        trial = t;
+        split = ap (λ (u : List Trial). t ∷ u) same.0;
+        is = q.1;
+        kept_is = kept_next t.kept kept t.address address same.1;
+        address_is = address_next t.kept kept t.address address same.1;
+      })
+]
+
+pub goes_through : (part : PartData) (flash : List ℕ) (b older : List Trial) (e : BootEnd) (kept : Kept) (address : ℕ) → LeadsToEnd part flash b e → LeadsTo part flash older (Again kept address) → GoesThrough part flash b older kept address
+goes_through part flash b older e kept address q p = elim (cases_lt (length older) (length b)) [
+  | inl l ↦ through_longer part flash b older (Ends e) kept address q p l
+  | inr l ↦ absurd (elim (cases_lt (length b) (length older)) [
+    | inl k ↦ no_shorter part flash b older e (Again kept address) q p k
+    | inr k ↦ (let long : length b ≡ length older = omega (arith, k, l) in
+        let same : (b ≡ older) × (Ends e ≡ Again kept address) = chain_same part flash b older (Ends e) (Again kept address) long q p in
+        let both : Ends e ≡ Again kept address = same.1 in absurd (cc))
+  ])
+]

@@ -151,6 +151,22 @@ closed_fits start = repeat_fits 2047 (closed_slot start) (slot_fits 0xFFFFFFFF s
 pub sector_fits : (start : ℕ) → AreBytes (first_sector start)
 sector_fits start = all-append (λ b. b < 256) (open_slot start) (closed_slots start) (slot_fits 0xAA995566 start) (closed_fits start)
 
+fill_fits : (n : ℕ) → AreBytes (replicate n 255)
+fill_fits zero = tt
+fill_fits (suc n) = (omega arith, fill_fits n)
+
+-- an image of bytes
+pub image_fits : (unit : ℕ) (golden update : List ℕ) → AreBytes golden → AreBytes update → AreBytes (image_of unit golden update)
+unfolding image_of
+image_fits unit golden update g u =
+    let start : ℕ = update_place (length golden) / unit in
+    let front : List ℕ = first_sector start ++ golden in
+    let filled : List ℕ = filled_to (update_place (length golden)) front in
+    let size : ℕ = image_size (length golden) (length update) in
+    let front_fits : AreBytes front = all-append (λ b. b < 256) (first_sector start) golden (sector_fits start) g in
+    let filled_fits : AreBytes filled = all-append (λ b. b < 256) front (replicate (update_place (length golden) - length front) 255) front_fits (fill_fits (update_place (length golden) - length front)) in
+    all-append (λ b. b < 256) (filled ++ update) (replicate (size - length (filled ++ update)) 255) (all-append (λ b. b < 256) filled update filled_fits u) (fill_fits (size - length (filled ++ update)))
+
 -- ---- places
 
 -- the update begins a sector, behind the first sector and the golden stream

@@ -68,6 +68,13 @@ pub record UpdateFails (part : PartData) (golden : PlanData) (update : List ℕ)
 abbrev pub through_update : ℕ → Ending → List Tried → List Tried
 through_update place e more = record { kind = Power; address = 0; ending = ending.Iprog } ∷ record { kind = Iprog; address = place; ending = e } ∷ more
 
+-- the second attempt of the boot is that at the update
+pub record TriesUpdate (part : PartData) (golden : PlanData) (update : List ℕ) (attempts : List Tried) : Type 0 where
+  pub trial : Trial
+  pub ended : UpdateEnds part golden update trial trial.ending
+  pub more : List Tried
+  pub attempts_are : attempts ≡ through_update (place_behind part golden) trial.ending more
+
 -- The boot starts with the update: with the memory of its plan over zeros, and BOOTSTS tells of an attempt by IPROG, after one at power.
 pub record StartsUpdate (part : PartData) (golden update : PlanData) (attempts : List Tried) (end : BootEnd) (last : Trial) : Type 0 where
   pub attempts_are : attempts ≡ through_update (place_behind part golden) ending.Started []

@@ -6,14 +6,15 @@ ghost use Rattle.x7_memory.specs.Planned.{PlanData};
 ghost use Rattle.x7_planner.specs.Full.{full_stream};
 ghost use Rattle.x7_boot.specs.Attempt.{Trial};
 ghost use Rattle.x7_boot.specs.Boot.{BootedState};
-ghost use Rattle.x7_boot.specs.ImageBoot.{BootsImage, EndsAtUpdate, FallsBack, IsPlanFor, StartsUpdate, UpdateEnds, UpdateFails};
+ghost use Rattle.x7_boot.specs.ImageBoot.{BootsImage, EndsAtUpdate, FallsBack, IsPlanFor, StartsUpdate, TriesUpdate, UpdateEnds, UpdateFails};
 ghost use Rattle.x7_boot.specs.declared.attempt.Ending.TheVariants as ending;
 ghost use Rattle.x7_boot.specs.declared.boots.BootEnd.TheVariants as boot_end;
 
-/// From the image of a plan's full stream and an update of any bytes a boot falls back to that stream where the update fails,
-/// and starts; where the update starts it ends there, and where CTL0 forbids a fallback it stops. An update that is a full
-/// stream itself starts with the memory of its plan.
+/// From the image of a plan's full stream and an update of any bytes a boot tries the update, and falls back to that stream
+/// where it fails, and starts; where the update starts it ends there, and where CTL0 forbids a fallback it stops. An update
+/// that is a full stream itself starts with the memory of its plan.
 pub fn images_boot()
+    ensures tries { (part : PartData) (golden : PlanData) (update : List ℕ) (b : BootedState) → BootsImage part golden update b → TriesUpdate part golden update b.attempts }
     ensures falls_back { (part : PartData) (golden : PlanData) (update : List ℕ) (b : BootedState) (t : Trial) (cause : Cause) → (boots : BootsImage part golden update b)
         → UpdateFails part golden update t cause false → FallsBack part golden cause b.attempts b.end boots.boot.last }
     ensures stops { (part : PartData) (golden : PlanData) (update : List ℕ) (b : BootedState) (t : Trial) (cause : Cause) → (boots : BootsImage part golden update b)

@@ -1,5 +1,5 @@
 -- What planned streams do, by what was known when they were written.
-use Rattle.std.proofs.Common.{◌≡◌, ◌∙◌, ℕ, List, false, Option, None, Some, Result, Ok, Err, ap, refl, subst, sym}
+use Rattle.std.proofs.Common.{◌≡◌, ◌∙◌, ℕ, List, ◌∷◌, map, reverse, false, Option, None, Some, Result, Ok, Err, ap, refl, subst, sym}
 use Rattle.x7_words.specs.Word.{AreBytes}
 use Rattle.std.specs.Prelude.{Contains}
 use Rattle.std.proofs.lemmas.List.Sorted.{All-permutation}
@@ -11,13 +11,22 @@ use Rattle.x7_part.specs.declared.fault.PartFault.{PartFault}
 use Rattle.x7_part.proofs.FileRowLemmas.{text_is}
 use Rattle.x7_boot.specs.declared.boots.BootEnd.{BootEnd}
 use Rattle.x7_boot.specs.declared.boots.BootEnd.TheVariants as boot_end
+use Rattle.x7_boot.specs.Attempt.{Trial}
+use Rattle.x7_boot.specs.Boot.{tried}
+use Rattle.x7_boot.specs.ImageBoot.{FallsBack, HasImage, IsPlanFor, StartsUpdate, UpdateFails, golden_image}
 use Rattle.x7_boot.proofs.CheckedLemmas.{last_checked}
+use Rattle.x7_boot.proofs.FullTrialLemmas.{full_stream_fits}
+use Rattle.x7_boot.proofs.ImageBootLemmas.{full_update_starts, update_falls_back}
+use Rattle.x7_boot.proofs.SlotLemmas.{image_fits}
+use Rattle.x7_memory.specs.Planned.{PlanData}
+use Rattle.x7_planner.specs.Full.{full_stream}
+use Rattle.x7_regs.specs.declared.boot_status.Cause.{Cause}
 use Rattle.x7_effects.specs.Played.{PlaysFull, PlaysPartial, PlaysRead}
 use Rattle.x7_effects.proofs.LawLemmas.{full_law, partial_law, read_law}
 use Rattle.x7_tool.specs.Event.{Event}
 use Rattle.x7_tool.specs.Form.{Asked, Assembling, Booting, Debugging, FromMcs, Imaging, Listing, PlanningFull, PlanningPartial, PlanningRead, Playing, ToMcs, Generating}
 use Rattle.x7_tool.specs.Outcome.{Answer, BootedAs, BootsAs, FlashBoots, has_failed, Known, PlanTexts, PlannedFull, PlannedPartial, PlannedRead, and_so, part_by, part_limit, part_of, plan_texts, text_limit, whole_in}
-use Rattle.x7_tool.specs.Promise.{Promise, PromisesFull, PromisesPartial, PromisesRead, PromisesStart, StartsChecked}
+use Rattle.x7_tool.specs.Promise.{FallsBackAs, HoldsImage, Promise, PromisesFull, PromisesPartial, PromisesRead, PromisesStart, StartsChecked, StartsUpdateAs}
 use Rattle.x7_tool.specs.Run.{Agrees}
 
 -- ---- the part that was read is a part
@@ -100,12 +109,34 @@ boots_told name part told flash answer e h fits =
     let here : FlashBoots name part (Some flash) (Ok answer) = subst (λ (f : Option (List ℕ)). FlashBoots name part f (Ok answer)) e h in
     here.1 fits
 
+-- ---- from the image of a golden plan and an update
+
+falls_back_as : (part : PartData) (golden : PlanData) (update : List ℕ) (t : Trial) (cause : Cause) (answer : Answer) → HasImage part golden update → UpdateFails part golden update t cause false → BootsAs part (golden_image part golden update) answer
+    → FallsBackAs part golden cause answer
+falls_back_as part golden update t cause answer image fails b =
+    let back : FallsBack part golden cause (reverse (map tried (b.last ∷ b.older))) b.end b.last = update_falls_back part golden update t cause b.last b.older b.end image fails b.leads in
+    record { attempts = reverse (map tried (b.last ∷ b.older)); end = b.end; last = b.last; falls_back = back; text = b.text; started = b.stopped ∙ ap has_failed back.started }
+
+starts_update_as : (part : PartData) (golden update : PlanData) (answer : Answer) → HasImage part golden (full_stream part update) → IsPlanFor part update → BootsAs part (golden_image part golden (full_stream part update)) answer
+    → StartsUpdateAs part golden update answer
+starts_update_as part golden update answer image for b =
+    let starts : StartsUpdate part golden update (reverse (map tried (b.last ∷ b.older))) b.end b.last = full_update_starts part golden update b.last b.older b.end image for b.leads in
+    record { attempts = reverse (map tried (b.last ∷ b.older)); end = b.end; last = b.last; starts = starts; text = b.text; started = b.stopped ∙ ap has_failed starts.started }
+
+image_told : (known : Known) (name : List ℕ) (part : PartData) (golden : PlanData) (update : List ℕ) (answer : Answer) → FlashBoots name part known.flash (Ok answer) → HoldsImage known part golden update → BootsAs part (golden_image part golden update) answer
+image_told known name part golden update answer h holds =
+    let stream : List ℕ = full_stream part golden in
+    let fits : AreBytes (golden_image part golden update) = image_fits part.start_unit stream update (full_stream_fits part golden holds.image.is_part holds.image.plan) holds.bytes in
+    boots_told name part known.flash (golden_image part golden update) answer holds.told h fits
+
 start_promised : (known : Known) (part flash : List ℕ) (read : Result PartData Event) (answer : Answer) → part_of known part ≡ read → BootedAs flash read known.flash (Ok answer) → PromisesStart known part answer
 start_promised known part flash (Err event) answer e p = absurd (cc)
 start_promised known part flash (Ok device) answer e p = record {
   device = device;
   read = e;
   starts = λ all is fits. starts_checked device all answer fits (boots_told flash device known.flash all answer is p fits);
+  falls_back = λ golden update t cause holds fails. falls_back_as device golden update t cause answer holds.image fails (image_told known flash device golden update answer p holds);
+  full = λ golden update holds for. starts_update_as device golden update answer holds.image for (image_told known flash device golden (full_stream device update) answer p holds);
 }
 
 pub promised : (known : Option Known) (form : Option Asked) (answer : Answer) → Agrees known form (Ok answer) → Promise known form (Ok answer)

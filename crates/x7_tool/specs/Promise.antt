@@ -6,8 +6,15 @@ use Rattle.x7_memory.specs.Planned.{PlanData}
 use Rattle.x7_frames.specs.FramesText.{IsPlanOf}
 use Rattle.x7_engine.specs.declared.kept.Kept.{Kept}
 use Rattle.x7_engine.specs.Rest.{AtRest}
+use Rattle.x7_regs.specs.declared.boot_status.Cause.{Cause}
+use Rattle.x7_planner.specs.Full.{full_stream}
+use Rattle.x7_boot.specs.Attempt.{Trial}
 use Rattle.x7_boot.specs.Checked.{HasChecked}
+use Rattle.x7_boot.specs.ImageBoot.{FallsBack, HasImage, IsPlanFor, StartsUpdate, UpdateFails, golden_image}
+use Rattle.x7_boot.specs.declared.boots.BootEnd.{BootEnd}
+use Rattle.x7_boot.specs.declared.boots.Tried.{Tried}
 use Rattle.x7_effects.specs.Played.{PlaysFull, PlaysPartial, PlaysRead}
+use Rattle.x7_tool.specs.BootText.{boot_text}
 use Rattle.x7_tool.specs.Event.{Event}
 use Rattle.x7_tool.specs.Form.{Asked, Booting, PlanningFull, PlanningPartial, PlanningRead}
 use Rattle.x7_tool.specs.Outcome.{Answer, BootsAs, Known, PlanTexts, part_of, plan_texts}
@@ -39,11 +46,37 @@ pub record StartsChecked (part : PartData) (flash : List ℕ) (answer : Answer) 
   pub boot : BootsAs part flash answer
   pub checked : answer.stopped ≡ false → HasChecked part boot.last.kept boot.last.bytes
 
--- The text of `boot`: over a flash that tells its bytes it tells of a start only where the last attempt made its checks.
+-- the flash is known to be the image of a golden plan's stream and an update
+pub record HoldsImage (known : Known) (part : PartData) (golden : PlanData) (update : List ℕ) : Type 0 where
+  pub told : known.flash ≡ Some (golden_image part golden update)
+  pub image : HasImage part golden update
+  pub bytes : AreBytes update
+
+-- the text of a boot that falls back to the golden stream and starts, with the memory of its plan and this cause in BOOTSTS
+pub record FallsBackAs (part : PartData) (golden : PlanData) (cause : Cause) (answer : Answer) : Type 0 where
+  pub attempts : List Tried
+  pub end : BootEnd
+  pub last : Trial
+  pub falls_back : FallsBack part golden cause attempts end last
+  pub text : answer.text ≡ boot_text part attempts end last
+  pub started : answer.stopped ≡ false
+
+-- the text of a boot that starts with an update, with the memory of its plan
+pub record StartsUpdateAs (part : PartData) (golden update : PlanData) (answer : Answer) : Type 0 where
+  pub attempts : List Tried
+  pub end : BootEnd
+  pub last : Trial
+  pub starts : StartsUpdate part golden update attempts end last
+  pub text : answer.text ≡ boot_text part attempts end last
+  pub started : answer.stopped ≡ false
+
+-- The text of `boot`: over a flash that tells its bytes it tells of a start only where the last attempt made its checks. Over an image whose update fails it tells of the fallback and its start, where CTL0 allows that, and of the start of an update that is a full stream.
 pub record PromisesStart (known : Known) (part : List ℕ) (answer : Answer) : Type 0 where
   pub device : PartData
   pub read : part_of known part ≡ Ok device
   pub starts : (flash : List ℕ) → known.flash ≡ Some flash → AreBytes flash → StartsChecked device flash answer
+  pub falls_back : (golden : PlanData) (update : List ℕ) (t : Trial) (cause : Cause) → HoldsImage known device golden update → UpdateFails device golden update t cause false → FallsBackAs device golden cause answer
+  pub full : (golden update : PlanData) → HoldsImage known device golden (full_stream device update) → IsPlanFor device update → StartsUpdateAs device golden update answer
 
 -- what a whole text promises where all that its form needs is known
 abbrev pub Promise : Option Known → Option Asked → Result Answer Event → Type 0

@@ -1,4 +1,4 @@
-use Rattle.x7_boot.proofs.ImageBootLemmas.{boot_falls_back, boot_has_full, boot_starts, boot_stops}
+use Rattle.x7_boot.proofs.ImageBootLemmas.{boot_falls_back, boot_has_full, boot_starts, boot_stops, boot_tries}
 use Rattle.x7_boot.proofs.image_law.images_boot.Goals as goal
 
 pub returns-clause-falls_back : goal.returns-clause-falls_back
@@ -12,3 +12,6 @@ returns-clause-starts c = boot_starts
 
 pub returns-clause-full : goal.returns-clause-full
 returns-clause-full c = boot_has_full
+
+pub returns-clause-tries : goal.returns-clause-tries
+returns-clause-tries c = boot_tries
