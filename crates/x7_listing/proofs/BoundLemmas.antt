@@ -16,7 +16,7 @@ use Rattle.x7_regs.specs.Register.{reg_name}
 use Rattle.x7_text.proofs.LineLemmas.{bytes_closed}
 use Rattle.x7_listing.specs.HeadLine.{command_line, head_line, head_text, line_text}
 use Rattle.x7_listing.specs.Listing.{packets_text, session_text}
-use Rattle.x7_listing.specs.Telling.{GapTold, ListerStandsFor, ListerState, Told, ToldAt, payload_told, word_next, word_told, words_told}
+use Rattle.x7_listing.specs.Telling.{GapTold, ListerStandsFor, ListerState, ToldAt, payload_told, word_next, word_told, words_told}
 use Rattle.x7_listing.specs.Taking.{TakerStandsFor}
 use Rattle.x7_packets.specs.declared.cutter.Mode.{Mode}
 use Rattle.x7_packets.specs.declared.cutter.Mode.TheVariants as mode

@@ -22,3 +22,4 @@ pub mod TakeLemmas
 pub mod NearLemmas
 pub mod AtOnceLemmas
 pub mod TakingLemmas
+pub mod TakingRunsLemmas

@@ -1,9 +1,9 @@
 -- Lemmas on specs/Taking.
-use Rattle.std.proofs.Common.{◌≡◌, ℕ, zero, suc, ◌+◌, ◌<◌, ◌≤◌, Bool, true, false, List, [], ◌++◌, length, take, min, Bor, if◌then◌else◌, refl, ap, sym, subst, ◌∙◌, append-nil, arith, length-take}
+use Rattle.std.proofs.Common.{◌≡◌, ℕ, zero, suc, ◌+◌, ◌<◌, Bool, true, false, List, [], ◌++◌, length, take, min, Bor, if◌then◌else◌, refl, ap, sym, subst, ◌∙◌, append-nil, arith}
 use Rattle.std.proofs.lemmas.List.{take-take, take_all}
 use Rattle.std.specs.List.{flat_map}
-use Rattle.x7_packets.specs.Reading.{Place, Searching, Synced, Session, IsReading, IsPlace, tail_of}
-use Rattle.x7_packets.specs.Cutting.{Adds, CutterState, CutterStandsFor, IsNeed, IsRun, Turns}
+use Rattle.x7_packets.specs.Reading.{Place, Searching, Synced, Session, IsReading, tail_of}
+use Rattle.x7_packets.specs.Cutting.{Adds, CutterStandsFor, IsNeed, IsRun}
 use Rattle.x7_packets.specs.Run.{FitsRun, IsNext, RunAdds, cut_of, is_last, told_bytes}
 use Rattle.x7_packets.specs.declared.cutter.Cut.{Cut}
 use Rattle.x7_packets.specs.declared.cutter.Mode.{Mode}

@@ -9,3 +9,4 @@ pub mod Listing
 pub mod StreamListing
 pub mod Telling
 pub mod Taking
+pub mod TakingRuns

@@ -13,6 +13,7 @@ mod pen;
 mod quick;
 mod reading;
 mod rows;
+mod runs;
 #[cfg(test)]
 mod tests;
 
@@ -25,3 +26,4 @@ pub use laws::{
 };
 pub use line::HeadLine;
 pub use lister::Lister;
+pub use runs::{RunsFault, take_runs};

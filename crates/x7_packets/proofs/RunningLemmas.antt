@@ -1,14 +1,14 @@
 -- Lemmas on specs/Running.
 use Rattle.std.proofs.Common.{Option, ◌≡◌, ◌≢◌, ℕ, ◌+◌, ◌*◌, ◌-◌, ◌<◌, ◌≤◌, ◌↔◌, Bool, true, false, List, [], ◌∷◌, ◌++◌, length, take, drop, Bor, inl, inr, refl, ap, sym, subst, ◌∙◌, append_assoc, append-nil, arith, length-append, length-take, if◌then◌else◌, ◌⊎◌, suc}
 use Rattle.std.specs.Bool.{⊤}
-use Rattle.std.proofs.lemmas.List.{drop-drop, drop-take, length-take-le, take-append-drop, take-take, take_all, take_at, drop_all}
+use Rattle.std.proofs.lemmas.List.{drop-drop, drop-take, take-append-drop, take-take, take_all, take_at, drop_all}
 use Rattle.x7_words.specs.Input.{AtEnd, preceded}
-use Rattle.x7_words.proofs.InputLemmas.{preceded-nil, preceded-preceded}
+use Rattle.x7_words.proofs.InputLemmas.{preceded-nil}
 use Rattle.x7_words.specs.Word.{words_of_bytes}
 use Rattle.x7_packets.specs.SyncWord.{sync_bytes}
 use Rattle.x7_packets.specs.Packet.{Packet, ended, payload_steps}
 use Rattle.x7_packets.specs.Reading.{Place, Searching, Synced, Session, IsPlace, IsReading, tail_of}
-use Rattle.x7_packets.specs.Cutting.{Adds, CompletesNone, CutterState, CutterStandsFor, Cuts, Goes, IsLent, IsNeed, IsRun, Longer, Turns, Went, between, calls_left, run_bytes}
+use Rattle.x7_packets.specs.Cutting.{Adds, AtPlace, CompletesNone, CutterState, CutterStandsFor, Cuts, Goes, IsLent, IsNeed, IsRun, Longer, Turns, Went, between, calls_left, run_bytes}
 use Rattle.x7_packets.specs.declared.header.Step.{Step}
 use Rattle.x7_packets.specs.declared.cutter.Cut.{Cut}
 use Rattle.x7_packets.specs.declared.cutter.Cut.TheVariants as cut
@@ -20,7 +20,7 @@ use Rattle.x7_packets.specs.declared.stream.Run.{Run}
 use Rattle.x7_packets.specs.declared.stream.Run.TheVariants as run
 use Rattle.x7_packets.specs.PacketsState.{PacketsState}
 use Rattle.x7_packets.specs.Run.{FitsRun, IsNext, RunAdds, cut_of, is_last, told_bytes}
-use Rattle.x7_packets.specs.Running.{Fills, GivesRun, GivesUp, IsCutOff, IsFound, IsLast, IsRunOf, PacketsStandFor, Reads, SameDue, Steps, Tells, filled, untold, with_tail}
+use Rattle.x7_packets.specs.Running.{GivesRun, GivesUp, IsFound, IsLast, IsRunOf, PacketsStandFor, Reads, SameDue, Steps, Tells, filled, untold, with_tail}
 
 -- how many reads there are at most until a word is whole
 abbrev pub turns_left : List ℕ → List ℕ → ℕ
@@ -652,3 +652,12 @@ pub begins : (first old rest new : List ℕ) (n : ℕ) → old ≡ first → new
 begins first old rest new n e f h =
     let all : new ≡ first ++ rest = f ∙ ap (λ t. take n t ++ rest) e ∙ ap (λ t. t ++ rest) (take_all n first h) in
     ap (take (length first)) all ∙ take_at first rest (length first) refl
+
+-- a cutter that took no byte is searching
+pub searches : (c : CutterState) → CutterStandsFor c [] [] (Searching []) → c.mode ≡ mode.Searching
+searches c s = by_mode c.mode s.at
+  where
+    by_mode : (m : Mode) → AtPlace c m (Searching []) → m ≡ mode.Searching
+    by_mode mode.Searching a = refl
+    by_mode mode.Due a = absurd a
+    by_mode mode.Synced a = absurd a

@@ -1,11 +1,11 @@
 -- Packets over an input: what a reader of them stands for, and what each run that it lends tells (this project's choice).
-use Rattle.std.specs.Prelude.{◌≡◌, ℕ, ◌+◌, ◌<◌, ◌↔◌, List, [], ◌++◌, length, take, drop, Bool, true, false, if◌then◌else◌, ⊤, Option, None, Some, Result, Ok, Err}
+use Rattle.std.specs.Prelude.{◌≡◌, ℕ, ◌+◌, ◌<◌, ◌↔◌, List, [], ◌++◌, length, take, drop, Bool, true, false, if◌then◌else◌, Option, Result, Ok, Err}
 use Rattle.std.specs.Borrow.{Bor, Fml, MutBor}
 use Rattle.std.specs.Io.BufRead.{Rests}
 use Rattle.x7_words.specs.Input.{AtEnd, preceded}
 use Rattle.x7_words.specs.declared.input.Failed.{Failed}
 use Rattle.x7_packets.specs.Reading.{Place, Searching, Synced, Session, IsReading, tail_of}
-use Rattle.x7_packets.specs.Cutting.{Adds, CutterState, CutterStandsFor, Cuts, IsNeed, IsRun, Turns, run_bytes}
+use Rattle.x7_packets.specs.Cutting.{CutterStandsFor, Cuts, IsNeed}
 use Rattle.x7_packets.specs.declared.cutter.Cut.{Cut}
 use Rattle.x7_packets.specs.declared.cutter.Cut.TheVariants as cut
 use Rattle.x7_packets.specs.declared.cutter.Mode.{Mode}

@@ -3,6 +3,7 @@ ghost use Rattle.std.specs.Prelude.{◌≡◌, ◌≢◌, ◌≤◌, ◌<◌, �
 ghost use Rattle.x7_words.specs.Count.{HasRisen};
 ghost use Rattle.x7_words.specs.Input.{AtEnd, preceded};
 ghost use Rattle.x7_packets.specs.Cutting.{IsNeed};
+ghost use Rattle.x7_packets.specs.declared.cutter.Mode.TheVariants as mode;
 ghost use Rattle.x7_packets.specs.PacketsState.{PacketsState};
 ghost use Rattle.x7_packets.specs.Running.{Fills, GivesRun, GivesUp, IsFound, IsLast, PacketsStandFor, Steps};
 
@@ -107,7 +108,7 @@ impl Packets {
     pub fn new(alloc: Global, first: &[u8]) -> Result<Packets, NoMemory>
         requires { length first.now ≤ 65536 }
         ensures ok { IfOk result (λ p. PacketsStandFor p first.now []) }
-        ensures fresh { IfOk result (λ p. (p.done ≡ false) × (p.failed ≡ false)) }
+        ensures fresh { IfOk result (λ p. (p.done ≡ false) × (p.failed ≡ false) × (p.cutter.mode ≡ mode.Searching)) }
     {
         let buffer = buffer_of(alloc, first)?;
         let cutter = Cutter::new();

@@ -1,4 +1,3 @@
-use Rattle.std.proofs.Common.{refl}
 use Rattle.x7_packets.proofs.RunningLemmas.{begins}
 use Rattle.x7_packets.proofs.stream.buffer_of.Goals as goal
 

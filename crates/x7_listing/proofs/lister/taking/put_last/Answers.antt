@@ -1,4 +1,4 @@
-use Rattle.std.proofs.Common.{refl, ap, ◌∙◌, take}
+use Rattle.std.proofs.Common.{ap, ◌∙◌, take}
 use Rattle.x7_listing.proofs.TakingLemmas.{last_kept}
 use Rattle.x7_listing.proofs.lister.taking.put_last.Goals as goal
 

@@ -1,4 +1,4 @@
-use Rattle.std.proofs.Common.{refl, ap, ◌∙◌}
+use Rattle.std.proofs.Common.{refl}
 use Rattle.x7_listing.proofs.TakingLemmas.{takes_cut, takes_end, takes_tail}
 use Rattle.x7_listing.proofs.lister.taking.put_next.Goals as goal
 

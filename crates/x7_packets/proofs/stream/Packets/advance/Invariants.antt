@@ -1,4 +1,4 @@
-use Rattle.std.proofs.Common.{◌≡◌, ℕ, List, [], ◌≤◌, ◌+◌, ◌*◌, ◌-◌, ◌^◌, true, false, length}
+use Rattle.std.proofs.Common.{◌≡◌, ℕ, List, ◌≤◌, ◌+◌, ◌*◌, true, false}
 use Rattle.x7_words.specs.Input.{preceded}
 use Rattle.x7_packets.specs.Running.{Reads}
 use Rattle.x7_packets.proofs.RunningLemmas.{turns_left}

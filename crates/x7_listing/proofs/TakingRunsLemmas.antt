@@ -1,0 +1,96 @@
+-- Lemmas on specs/TakingRuns.
+use Rattle.std.proofs.Common.{◌≡◌, ℕ, true, false, List, [], ◌++◌, Option, Result, Ok, Err, refl, ap, sym, subst, ◌∙◌, append_assoc, append-nil}
+use Rattle.std.specs.Result.{OnOk, is_err}
+use Rattle.x7_words.specs.Input.{AtEnd, preceded}
+use Rattle.x7_words.proofs.InputLemmas.{preceded-nil, preceded-preceded}
+use Rattle.x7_packets.specs.PacketsState.{PacketsState}
+use Rattle.x7_packets.specs.Run.{FitsRun, IsNext, is_last, told_bytes}
+use Rattle.x7_packets.specs.Running.{GivesRun, PacketsStandFor}
+use Rattle.x7_packets.specs.declared.cutter.Mode.{Mode}
+use Rattle.x7_packets.specs.declared.stream.Run.{Run}
+use Rattle.x7_packets.specs.declared.stream.Run.TheVariants as run
+use Rattle.x7_listing.specs.Taking.{EndsRuns, TakerStandsFor, TakesRun}
+use Rattle.x7_listing.specs.TakingRuns.{TakesRuns}
+use Rattle.x7_listing.specs.Telling.{ListerState}
+
+-- some runs were taken, and not the end
+pub record TakesSome (p q : PacketsState) (l n : ListerState) (rest rest_now : Option (List ℕ)) : Type 0 where
+  pub more : List ℕ
+  pub taken : rest ≡ preceded more rest_now
+  pub tells : (bytes told : List ℕ) → PacketsStandFor p bytes told → (said : List ℕ) × PacketsStandFor q (bytes ++ more) (told ++ said)
+      × ((given before : List ℕ) → TakerStandsFor l given before told p.cutter.mode → TakerStandsFor n given before (told ++ said) q.cutter.mode)
+
+pub takes_none : (p : PacketsState) (l : ListerState) (rest : Option (List ℕ)) → TakesSome p p l l rest rest
+takes_none p l rest = record {
+  more = [];
+  taken = sym (preceded-nil rest);
+  tells = λ bytes told s. (
+    [],
+    subst (λ b. PacketsStandFor p b (told ++ [])) (sym (append-nil bytes)) (subst (λ t. PacketsStandFor p bytes t) (sym (append-nil told)) s),
+    λ given before t. subst (λ x. TakerStandsFor l given before x p.cutter.mode) (sym (append-nil told)) t,
+  );
+}
+
+-- the runs that were taken, of a reader and a lister that stand for something
+pub not_ended : (p q : PacketsState) (l n : ListerState) (rest rest_now : Option (List ℕ)) → TakesSome p q l n rest rest_now → TakesRuns p q l n rest rest_now false
+not_ended p q l n rest rest_now s = record {
+  more = s.more;
+  taken = s.taken;
+  tells = λ bytes told given before a b. let h = s.tells bytes told a in (h.0, h.1, h.2 given before b);
+}
+
+-- the next run fits
+pub next_fits : (p q new : PacketsState) (l n : ListerState) (rest mid now : Option (List ℕ)) (r : Run) → ((bytes told : List ℕ) × PacketsStandFor p bytes told) → TakesSome p q l n rest mid → GivesRun q new mid now r → FitsRun r
+next_fits p q new l n rest mid now r s runs gives =
+    let h = runs.tells s.0 s.1 s.2 in
+    (gives.tells.stands (s.0 ++ runs.more) (s.1 ++ h.0) h.1).1.is
+
+goes_on : (r : Run) (l : ListerState) (given before bytes : List ℕ) (due : Mode) → (r ≡ run.End → ⊥) → TakesRun r l given before bytes due → TakerStandsFor l given before bytes due
+goes_on (run.Skip x) l given before bytes due e t = t
+goes_on run.Sync l given before bytes due e t = t
+goes_on (run.Head w step) l given before bytes due e t = t
+goes_on (run.Word register w) l given before bytes due e t = t
+goes_on (run.Body register x) l given before bytes due e t = t
+goes_on (run.Tail x) l given before bytes due e t = t
+goes_on run.End l given before bytes due e t = absurd (e refl)
+
+-- what one take says
+abbrev pub TakesOne : Run → ListerState → ListerState → Type 0
+TakesOne r l n = (given before bytes : List ℕ) (due next : Mode) → TakerStandsFor l given before bytes due → IsNext bytes due r next → TakesRun r n given before (bytes ++ told_bytes r) next
+
+-- one run more, which is not the end
+pub takes_more : (p q new : PacketsState) (l m n : ListerState) (rest mid now : Option (List ℕ)) (r : Run) → (r ≡ run.End → ⊥) → TakesSome p q l m rest mid → GivesRun q new mid now r → TakesOne r m n → TakesSome p new l n rest now
+takes_more p q new l m n rest mid now r on runs gives takes = record {
+  more = runs.more ++ gives.more;
+  taken = runs.taken ∙ ap (preceded runs.more) gives.taken ∙ preceded-preceded runs.more gives.more now;
+  tells = λ bytes told s.
+      let h = runs.tells bytes told s in
+      let g = gives.tells.stands (bytes ++ runs.more) (told ++ h.0) h.1 in
+      let all : (told ++ h.0) ++ told_bytes r ≡ told ++ (h.0 ++ told_bytes r) = append_assoc told h.0 (told_bytes r) in (
+        h.0 ++ told_bytes r,
+        subst (λ b. PacketsStandFor new b (told ++ (h.0 ++ told_bytes r))) (append_assoc bytes runs.more gives.more) (subst (λ t. PacketsStandFor new ((bytes ++ runs.more) ++ gives.more) t) all g.0),
+        λ given before t. subst (λ x. TakerStandsFor n given before x new.cutter.mode) all (goes_on r n given before ((told ++ h.0) ++ told_bytes r) new.cutter.mode on (takes given before (told ++ h.0) q.cutter.mode new.cutter.mode (h.2 given before t) g.1)),
+      );
+}
+
+-- the end
+pub takes_all : (p q new : PacketsState) (l m n : ListerState) (rest mid now : Option (List ℕ)) (r : Run) → r ≡ run.End → TakesSome p q l m rest mid → GivesRun q new mid now r → TakesOne r m n → TakesRuns p new l n rest now true
+takes_all p q new l m n rest mid now r e runs gives takes = record {
+  more = runs.more ++ gives.more;
+  taken = runs.taken ∙ ap (preceded runs.more) gives.taken ∙ preceded-preceded runs.more gives.more now;
+  tells = λ bytes told given before s t.
+      let h = runs.tells bytes told s in
+      let g = gives.tells.stands (bytes ++ runs.more) (told ++ h.0) h.1 in
+      let all : (told ++ h.0) ++ told_bytes r ≡ bytes ++ (runs.more ++ gives.more) = gives.tells.all (ap is_last e) (bytes ++ runs.more) (told ++ h.0) h.1 ∙ append_assoc bytes runs.more gives.more in
+      let one : TakesRun run.End n given before ((told ++ h.0) ++ told_bytes r) new.cutter.mode = subst (λ x. TakesRun x n given before ((told ++ h.0) ++ told_bytes r) new.cutter.mode) e (takes given before (told ++ h.0) q.cutter.mode new.cutter.mode (h.2 given before t) g.1) in
+      (subst (λ x. EndsRuns n given before x) all one, gives.end (ap is_last e));
+}
+
+-- behind the tail or the end the input has no more
+pub end_after : {p q : PacketsState} {rest now : Option (List ℕ)} (r : Run) → GivesRun p q rest now r → q.done ≡ true → AtEnd now
+end_after r gives e = gives.end (sym gives.tells.done ∙ e)
+
+-- what an answer says that is no error
+pub from_ok : {A E : Type 0} {P : Type 0} (r : Result A E) → is_err r ≡ false → OnOk r P → P
+from_ok (Ok x) e h = h
+from_ok (Err x) e h = absurd (let f : true ≡ false = e in cc)

@@ -1,0 +1,62 @@
+//! An input listed by its runs.
+ghost use Rattle.std.specs.Prelude.{◌≡◌, ◌≤◌, ℕ, List, false, true, IfOk, IsErrOf, OnOk};
+ghost use Rattle.x7_words.specs.Count.{HasRisen};
+ghost use Rattle.x7_words.specs.Input.{AtEnd};
+ghost use Rattle.x7_packets.specs.Running.{PacketsStandFor};
+ghost use Rattle.x7_listing.specs.TakingRuns.{TakesRuns};
+
+use crate::lister::Lister;
+use x7_packets::{Packets, Run};
+use x7_words::Inputs;
+
+/// Why runs were not taken.
+#[derive(Clone, Copy, Debug, Drop, PartialEq, Eq)]
+pub enum RunsFault {
+    /// A read failed.
+    Failed,
+    /// There was no memory for the text.
+    NoMemory,
+}
+
+/// The most bytes of which a reader gives a next run.
+const MOST_TAKEN: u64 = 1 << 63;
+
+/// Takes runs of an open input until the lister's text has so many bytes or more, or the end was taken; says whether it
+/// was. Of an input of more than 2^63 bytes it takes no more.
+pub fn take_runs<I: Inputs>(
+    lister: &mut Lister,
+    packets: &mut Packets,
+    inputs: &mut I,
+    most: usize,
+) -> Result<bool, RunsFault>
+    requires selected { I.selected inputs.old ≡ true }
+    requires good { packets.old.failed ≡ false }
+    requires end { packets.old.done ≡ true → AtEnd (I.rest inputs.old) }
+    requires stands { (bytes told : List ℕ) × PacketsStandFor packets.old bytes told }
+    ensures taken { IfOk result (λ ended. TakesRuns packets.old packets.new lister.old lister.new (I.rest inputs.old) (I.rest inputs.new) ended) }
+    ensures failed { IsErrOf result RunsFault.Failed → HasRisen (I.faults inputs.old) (I.faults inputs.new) }
+    ensures selected { OnOk result (I.selected inputs.new ≡ true) }
+    ensures map { I.contents inputs.new ≡ I.contents inputs.old }
+    ensures faults { I.faults inputs.old ≤ I.faults inputs.new }
+    ensures absences { I.absences inputs.old ≤ I.absences inputs.new }
+{
+    for _ in 0..u64::MAX {
+        if lister.text().len() >= most {
+            return Ok(false);
+        }
+        if packets.taken() > MOST_TAKEN {
+            return Ok(false);
+        }
+        let run = match packets.next_run(inputs) {
+            Ok(run) => run,
+            Err(_) => return Err(RunsFault::Failed),
+        };
+        if lister.take(&run).is_err() {
+            return Err(RunsFault::NoMemory);
+        }
+        if let Run::End = run {
+            return Ok(true);
+        }
+    }
+    Ok(false)
+}
