@@ -1,6 +1,6 @@
 -- The first fault of a part file, and the part of one in which no check finds a fault.
-use Rattle.std.proofs.Common.{◌≡◌, ℕ, ◌+◌, ◌*◌, ◌≤◌, ◌&&◌, nat_le, leb-true, List, [], ◌∷◌, length, map, Bool, true, false, Option, Some, None, inl, inr, refl, sym, ap, subst, ◌∙◌, arith}
-use Rattle.std.specs.Prelude.{◌⊎◌, All, unwrap_or, Result, Ok, Err, IsUtf8, if◌then◌else◌, IsErr, IsErrAnd, IfErr}
+use Rattle.std.proofs.Common.{◌≡◌, ℕ, ◌+◌, ◌*◌, ◌≤◌, nat_le, leb-true, List, [], ◌∷◌, length, map, Bool, true, false, Option, Some, None, inl, inr, refl, sym, ap, subst, ◌∙◌, arith}
+use Rattle.std.specs.Prelude.{◌⊎◌, All, Result, Ok, Err, IsUtf8, if◌then◌else◌, IsErr, IsErrAnd, IfErr}
 use Rattle.std.specs.Str.{is_utf8}
 use Rattle.std.specs.List.{sum_by, sum}
 use Rattle.std.proofs.lemmas.Bool.{and_parts, false≢true}
@@ -17,7 +17,7 @@ use Rattle.x7_part.specs.Part.{RowData, PartData}
 use Rattle.x7_part.specs.PartRange.{IsPart}
 use Rattle.x7_part.specs.FrameAddress.{IsRow}
 use Rattle.x7_part.specs.declared.settings.Settings.{Settings}
-use Rattle.x7_part.specs.AddressOrder.{addresses, addresses_in}
+use Rattle.x7_part.specs.AddressOrder.{addresses}
 use Rattle.x7_part.specs.PartValues.{RowValues, TopValues, top_values, settings_of, row_of, rows_of, part_data, part_with}
 use Rattle.x7_part.specs.PartChecks.{told, unless, first_of, rows_fault, is_in, is_long, is_name, is_odd, is_unit, are_widths_or_none, row_range_fault, type_fault, other_fault, number_range_fault, top_range_fault, range_fault}
 use Rattle.x7_part.specs.PartRows.{same_row_fault, has_few_frames, frames_fault, in_order}

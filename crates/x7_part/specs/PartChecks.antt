@@ -1,8 +1,7 @@
 -- The checks of a part file's keys and values, in their order (this project's choice).
-use Rattle.std.specs.Prelude.{ℕ, ◌≡◌, ◌⊎◌, ◌+◌, ◌-◌, ◌^◌, ◌%◌, min, ℤ, pos, List, [], ◌∷◌, length, Bool, true, false, not, ◌&&◌, ◌||◌, ◌==◌, nat_le, Option, Some, None, is_some, int_le, Result, Ok, Err}
+use Rattle.std.specs.Prelude.{ℕ, ◌≡◌, ◌⊎◌, ◌+◌, ◌-◌, ◌^◌, ◌%◌, min, ℤ, pos, List, [], ◌∷◌, length, Bool, true, false, ◌&&◌, ◌||◌, ◌==◌, nat_le, Option, Some, None, is_some, int_le, Result, Ok, Err}
 use Rattle.toml.specs.Data.{Data, Items, no_items, item, Members, as_str, as_integer, array, as_table}
 use Rattle.x7_part.specs.declared.fault.PartKey.TheVariants as key
-use Rattle.x7_part.specs.declared.fault.Which.{Which}
 use Rattle.x7_part.specs.declared.fault.PartFault.{PartFault}
 use Rattle.x7_part.specs.declared.fault.PartFault.TheVariants.{Key, Range, NoMemory}
 use Rattle.x7_part.specs.PartKey.{top, in_row}

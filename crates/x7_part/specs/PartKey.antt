@@ -1,5 +1,5 @@
 -- The keys of a part file (this project's choice).
-use Rattle.std.specs.Prelude.{ℕ, List, [], ◌∷◌, Bool, true, false, ◌&&◌, ◌||◌, bytes_eq, codes, Option, None, Some}
+use Rattle.std.specs.Prelude.{ℕ, List, [], ◌∷◌, Bool, true, false, ◌&&◌, ◌||◌, bytes_eq, codes, None, Some}
 use Rattle.toml.specs.Data.{Members, no_members, member}
 use Rattle.x7_part.specs.declared.fault.PartKey.{PartKey}
 use Rattle.x7_part.specs.declared.fault.PartKey.TheVariants as key

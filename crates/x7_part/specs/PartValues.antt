@@ -1,5 +1,5 @@
 -- The values of a part file, each of its type, and the numbers of a part that they stand for (this project's choice).
-use Rattle.std.specs.Prelude.{ℕ, ℤ, pos, List, [], ◌∷◌, map, Bool, Option, None, Some, option_map, unwrap_or, option_and_then, unsigned_abs}
+use Rattle.std.specs.Prelude.{ℕ, ℤ, pos, List, [], ◌∷◌, map, Bool, Option, option_map, unwrap_or, option_and_then, unsigned_abs}
 use Rattle.toml.specs.Data.{Data, table, Items, no_items, item, Members, get_member, as_str, as_integer, as_array}
 use Rattle.x7_part.specs.declared.fault.PartKey.{PartKey}
 use Rattle.x7_part.specs.declared.fault.PartKey.TheVariants as key

@@ -1,7 +1,7 @@
 //! The ranges of a part file's values: each judges a value and gives the number of a part that it stands for.
-ghost use Rattle.std.specs.Prelude.{◌≡◌, ◌≤◌, map, length, string_bytes, IfOk, Some};
+ghost use Rattle.std.specs.Prelude.{◌≡◌, ◌≤◌, map, length, IfOk, Some};
 ghost use Rattle.x7_part.specs.PartValues.{natural, widths_of};
-ghost use Rattle.x7_part.specs.PartChecks.{told, Tells, unless, is_in, is_long, are_printed, is_name, is_odd, is_unit, are_in, are_widths, are_minors};
+ghost use Rattle.x7_part.specs.PartChecks.{told, Tells, unless, is_in, is_long, are_printed, is_name, is_odd, is_unit, are_widths, are_minors};
 ghost use Rattle.x7_part.specs.declared.fault.PartFault.TheVariants.{Range};
 
 use crate::address::Fields;

@@ -2,7 +2,7 @@
 ghost use Rattle.std.specs.Prelude.{◌≡◌, ◌<◌, ◌≤◌, ◌+◌, ◌*◌, ◌^◌, ◌++◌, ◌==◌, if◌then◌else◌, length, IfOk, OnOk};
 ghost use Rattle.x7_part.specs.AddressOrder.{addresses};
 ghost use Rattle.x7_part.specs.Columns.{row_columns, table_of as columns_of};
-ghost use Rattle.x7_part.specs.FrameAddress.{row_address, AreRows, IsRow};
+ghost use Rattle.x7_part.specs.FrameAddress.{AreRows};
 
 use crate::address::Fields;
 use crate::column::Column;

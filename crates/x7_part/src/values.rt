@@ -1,7 +1,7 @@
 //! The values of a part file, each of its type, and no range of them looked at.
 ghost use Rattle.std.specs.Prelude.{◌≡◌, map, option_map, string_bytes, IfOk};
 ghost use Rattle.toml.specs.View.{table_view};
-ghost use Rattle.x7_part.specs.PartValues.{RowValues as RowData, TopValues, row_values, top_values, row_tables};
+ghost use Rattle.x7_part.specs.PartValues.{RowValues as RowData, TopValues, row_values, top_values};
 ghost use Rattle.x7_part.specs.PartChecks.{told, Tells, rows_fault, row_type_fault, row_other_fault, type_fault, other_fault};
 
 use crate::fault::{PartFault, PartKey, Which};
