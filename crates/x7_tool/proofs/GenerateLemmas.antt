@@ -1,17 +1,21 @@
 -- Lemmas on plans that are made from a number, and on sums of words.
 use Rattle.std.proofs.Common.{codes, ◌≡◌, ◌+◌, ◌%◌, ◌^◌, ◌<◌, ◌≤◌, ℕ, zero, suc, Bool, true, false, if◌then◌else◌, List, [], ◌∷◌, ◌++◌, length, get_or, drop, Option, refl, ap, sym, subst, ◌∙◌, append_assoc, append-nil, arith}
-use Rattle.std.specs.Prelude.{nat_lt, unwrap_or, IsPermutation, Contains}
-use Rattle.std.specs.List.{sum}
+use Rattle.std.specs.Prelude.{nat_lt, unwrap_or, All, IsPermutation, Contains}
+use Rattle.std.specs.List.{range_with_len, sum}
 use Rattle.std.proofs.lemmas.Bool.Decides.{nat_tests}
 use Rattle.std.proofs.Math.ListN.{drop_of_length-le}
-use Rattle.std.proofs.lemmas.List.{drop_more}
-use Rattle.std.proofs.lemmas.List.FromFn.{map-range_with_len_more}
+use Rattle.std.proofs.lemmas.List.{drop_more, get_or-map, length-map}
+use Rattle.std.proofs.lemmas.List.FromFn.{length-range_with_len, map-range_with_len_more}
 use Rattle.x7_part.specs.AddressOrder.{Rises, addresses_in, rise}
 use Rattle.x7_part.specs.Part.{PartData, frame_words}
 use Rattle.x7_memory.specs.FrameMap.{AreSame, FrameMap}
-use Rattle.x7_memory.specs.Planned.{AreApart, AreInOrder, IsPlan, PlanData, PlanRow}
+use Rattle.x7_memory.specs.Planned.{AreApart, AreInOrder, IsPlan, IsPlanRow, PlanData, PlanRow, total}
+use Rattle.x7_memory.proofs.PlanLemmas.{words_by_place}
+use Rattle.x7_part.proofs.RowLemmas.{part_rises}
+use Rattle.x7_words.specs.Word.{AreWords}
+use Rattle.x7_effects.proofs.FrameLemmas.{address_small}
 use Rattle.x7_frames.proofs.OneLemmas.{same-order}
-use Rattle.std.proofs.lemmas.List.Elements.{All-contains_itself}
+use Rattle.std.proofs.lemmas.List.Elements.{All-cons, All-contains_itself, All-head, All-nil, All-tail}
 use Rattle.std.proofs.lemmas.List.Sorted.{All-permutation, IsPermutation-sym}
 use Rattle.x7_memory.specs.Frames.{frame_at}
 use Rattle.x7_part.specs.PartRange.{IsPart}
@@ -22,7 +26,7 @@ use Rattle.x7_engine.specs.ReadBuffer.{ReadBufState}
 use Rattle.x7_engine.specs.Standing.{DeviceState, NoWordDue}
 use Rattle.x7_engine.specs.State.{memory_in, reads_of, state_of}
 use Rattle.x7_effects.proofs.LawLemmas.{new_law}
-use Rattle.x7_tool.specs.Generated.{count_line, counted, gen_text, generated, head_line, next_number, played_summary, row_by, rows_after, sum_line, summary_text, words_sum}
+use Rattle.x7_tool.specs.Generated.{count_line, counted, gen_text, generated, head_line, next_number, planned_summary, played_summary, row_by, rows_after, sum_line, summary_text, words_sum}
 use Rattle.x7_tool.specs.Outcome.{reads_limit}
 use Rattle.x7_tool.specs.Play.{HasPlayedBy, Plays}
 
@@ -162,3 +166,48 @@ pub gen_is : (part : PartData) (seed planned : ℕ) (plan : PlanData) (stream te
 unfolding gen_text
 gen_is part seed planned plan stream text p n s t =
     t ∙ ap (λ (k : ℕ). played_summary part seed k stream) (n ∙ ap (λ (x : PlanData). length x.rows) p) ∙ ap (played_summary part seed (length (generated part seed).rows)) (s ∙ ap (full_stream part) p)
+
+-- ---- what was planned, from the part alone
+
+counted_long : (width n : ℕ) → length (counted width n) ≡ width
+counted_long width n = length-map (range_with_len 0 width) (λ i. (n + i) % 2 ^ 32) ∙ length-range_with_len 0 width
+
+counted_fits : (width n : ℕ) → AreWords (counted width n)
+counted_fits width n = words_by_place (counted width n) (λ i h.
+    let long = length-map (range_with_len 0 width) (λ i. (n + i) % 2 ^ 32) in
+    let at = get_or-map (λ i. (n + i) % 2 ^ 32) (range_with_len 0 width) i 0 0 (omega (arith, h, long)) in
+    omega (arith, at))
+
+each_by : (b : Bool) (P : PlanRow → Type 0) (row : PlanRow) (rest : List PlanRow) → P row → All P rest → All P ((if b then [] else row ∷ []) ++ rest)
+each_by true P row rest p all = all
+each_by false P row rest p all = All-cons P row rest p all
+
+rows_each : (P : PlanRow → Type 0) (width x : ℕ) (fars : List ℕ) → All (λ far. (n : ℕ) → P record { far = far; words = counted width n }) fars → All P (rows_after width x fars)
+rows_each P width x [] all = All-nil P
+rows_each P width x (far ∷ fars) all =
+    each_by (nat_lt (next_number x) (2 ^ 31)) P record { far = far; words = counted width (next_number x) } (rows_after width (next_number x) fars)
+    (All-head (λ (a : ℕ). (n : ℕ) → P record { far = a; words = counted width n }) far fars all (next_number x))
+    (rows_each P width (next_number x) fars (All-tail (λ (a : ℕ). (n : ℕ) → P record { far = a; words = counted width n }) far fars all))
+
+generated_plan : (part : PartData) (seed : ℕ) → IsPart part → IsPlan (generated part seed)
+generated_plan part seed is = record {
+  order = rows_order (frame_words part) seed 0 (addresses_in part) (part_rises part.far part.rows is.far is.rows);
+  width = rows_each (λ row. length row.words ≡ frame_words part) (frame_words part) seed (addresses_in part) (λ i d h n. counted_long (frame_words part) n);
+  each = rows_each IsPlanRow (frame_words part) seed (addresses_in part)
+      (λ i d h n. record { far = address_small part (get_or (addresses_in part) i d) is (All-contains_itself (addresses_in part) i d h); words = counted_fits (frame_words part) n });
+}
+
+generated_addressed : (part : PartData) (seed : ℕ) → AreAddressed part (generated part seed).rows
+generated_addressed part seed =
+    rows_each (λ row. Contains (addresses_in part) row.far) (frame_words part) seed (addresses_in part) (λ i d h n. All-contains_itself (addresses_in part) i d h)
+
+-- the full stream of a seed's plan leaves the plan over zeros, and phase 7
+pub planned_is : (part : PartData) (seed : ℕ) (text : List ℕ) → IsPart part → text ≡ gen_text part seed → text ≡ planned_summary part seed
+unfolding gen_text
+planned_is part seed text is e =
+    let plan = generated part seed in
+    let stream = full_stream part plan in
+    let sums = words_sum (memory_in part on_the_bench stream) (addresses_in part) % 2 ^ 32 in
+    let law = new_law part plan is (generated_plan part seed is) refl (generated_addressed part seed) in
+    e ∙ ap (λ (n : ℕ). summary_text part.name seed (length plan.rows) (length stream) n sums) (law.phase false)
+    ∙ ap (λ (n : ℕ). summary_text part.name seed (length plan.rows) (length stream) 7 (n % 2 ^ 32)) (sum_same (memory_in part on_the_bench stream) (total part plan) (addresses_in part) law.memory)

@@ -16,3 +16,4 @@ pub mod RunLemmas
 pub mod TurnLemmas
 pub mod FlashLemmas
 pub mod FormLemmas
+pub mod PlanLemmas

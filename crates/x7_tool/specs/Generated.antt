@@ -5,7 +5,7 @@ use Rattle.x7_text.specs.Digits.{hex_word}
 use Rattle.x7_part.specs.AddressOrder.{addresses_in}
 use Rattle.x7_part.specs.Part.{PartData, frame_words}
 use Rattle.x7_memory.specs.FrameMap.{FrameMap}
-use Rattle.x7_memory.specs.Planned.{PlanData, PlanRow}
+use Rattle.x7_memory.specs.Planned.{PlanData, PlanRow, total}
 use Rattle.x7_planner.specs.Full.{full_stream}
 use Rattle.x7_engine.specs.Kept.{on_the_bench}
 use Rattle.x7_engine.specs.State.{memory_in, state_of}
@@ -59,3 +59,8 @@ played_summary part seed planned stream =
 -- the text of `gen`
 unfoldable pub gen_text : PartData → ℕ → List ℕ
 gen_text part seed = played_summary part seed (length (generated part seed).rows) (full_stream part (generated part seed))
+
+-- the same by what was planned: the length of the plan's full stream, phase 7, and the sum of the words of the plan over zeros
+abbrev pub planned_summary : PartData → ℕ → List ℕ
+planned_summary part seed =
+    summary_text part.name seed (length (generated part seed).rows) (length (full_stream part (generated part seed))) 7 (words_sum (total part (generated part seed)) (addresses_in part) % 2 ^ 32)

@@ -6,7 +6,7 @@ ghost use Rattle.x7_part.specs.Part.{PartData};
 ghost use Rattle.x7_memory.specs.Frames.{AreFramesOf, frame_at};
 ghost use Rattle.x7_engine.specs.Kept.{on_the_bench};
 ghost use Rattle.x7_engine.specs.State.{reads_of};
-ghost use Rattle.x7_tool.specs.Generated.{count_line, counted, gen_text, head_line, sum_line, generated, next_number, played_summary, row_by, summary_text, words_sum};
+ghost use Rattle.x7_tool.specs.Generated.{count_line, counted, gen_text, head_line, sum_line, generated, next_number, planned_summary, played_summary, row_by, summary_text, words_sum};
 ghost use Rattle.x7_tool.specs.Event.{no_memory};
 ghost use Rattle.x7_tool.specs.Message.{event_of};
 ghost use Rattle.x7_tool.specs.Outcome.{gen_answer, gen_made, reads_limit, with_inputs};
@@ -68,7 +68,7 @@ fn generated(alloc: Global, part: &Part, seed: u32) -> Result<Plan, NoMemory>
     let Ok(mut frame) = vec![in alloc; 0u32; part.words() as usize] else {
         return Err(NoMemory);
     };
-    let mut draft = Draft::new(alloc, part.words());
+    let mut draft = Draft::with_room(alloc, part.words(), part.frames() as usize)?;
     let mut n = seed;
     for rank in 0..part.frames() {
         let Some(far) = part.address(rank) else {
@@ -205,7 +205,8 @@ fn summarized(
 /// The summary of the full stream of a seed's plan, played on a new device (this project's choice): `gen NAME SEED`; `planned N`,
 /// the planned frames; `stream N`, its bytes; `phase P`; `sum W`, the sum of all words of the memory modulo 2^32.
 pub fn gen_text(alloc: Global, part: &Part, seed: u32) -> Result<Vec<u8>, NoMemory>
-    ensures { IfOk result (λ text. text.items ≡ gen_text part.now seed) }
+    ensures text { IfOk result (λ text. text.items ≡ gen_text part.now seed) }
+    ensures planned { IfOk result (λ text. text.items ≡ planned_summary part.now seed) }
 {
     let plan = generated(alloc, part, seed)?;
     let _frames = part.frames();

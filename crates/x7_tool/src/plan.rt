@@ -78,21 +78,23 @@ fn planner_refusal<'w>(name: &'w str, fault: PlanFault) -> Refusal<'w>
     }
 }
 
-/// The full stream of the plan of a frames text.
-fn full_text<'w>(alloc: Global, texts: &PlanTexts, frames: &'w str) -> Result<Text, Refusal<'w>>
-    ensures ok { IfOk result (λ text. PlannedFull frames.now (Ok (texts_of texts.now)) (Ok (whole_of text))) }
-    ensures err { IfErr result (λ r. (event_of r ≡ no_memory) ⊎ PlannedFull frames.now (Ok (texts_of texts.now)) (Err (event_of r))) }
+/// The full stream of the plan of a frames text, which is held no longer than its plan is made.
+fn full_text<'w>(alloc: Global, texts: PlanTexts, frames: &'w str) -> Result<Text, Refusal<'w>>
+    ensures ok { IfOk result (λ text. PlannedFull frames.now (Ok (texts_of texts)) (Ok (whole_of text))) }
+    ensures err { IfErr result (λ r. (event_of r ≡ no_memory) ⊎ PlannedFull frames.now (Ok (texts_of texts)) (Err (event_of r))) }
 {
-    let plan = match plan_of(alloc, &texts.text, &texts.part) {
+    let PlanTexts { part, text } = texts;
+    let plan = match plan_of(alloc, &text, &part) {
         Ok(plan) => plan,
         Err(fault) => return Err(frames_refusal(frames, fault)),
     };
-    match full(alloc, &texts.part, &plan) {
+    drop(text);
+    match full(alloc, &part, &plan) {
         Ok(text) => Ok(Text {
             stopped: false,
             text,
         }),
-        Err(_) => Err(Refusal::unnamed(Why::NoMemory)),
+        Err(fault) => Err(planner_refusal(frames, fault)),
     }
 }
 
@@ -110,7 +112,7 @@ pub(crate) fn plan_full<'w, I: Inputs>(
         Ok(texts) => texts,
         Err(refusal) => return Err(refusal),
     };
-    full_text(alloc, &texts, frames)
+    full_text(alloc, texts, frames)
 }
 
 /// The partial stream of the plan of a frames text.
