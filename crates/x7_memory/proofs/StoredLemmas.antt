@@ -1,12 +1,12 @@
 -- A memory by its fields.
-use Rattle.std.proofs.Common.{◌≡◌, ℕ, suc, ◌+◌, ◌-◌, ◌*◌, ◌<◌, ◌≤◌, List, [], ◌∷◌, ◌++◌, length, get_or, set, take, drop, replicate, All, refl, sym, ap, ◌∙◌, arith}
+use Rattle.std.proofs.Common.{◌≡◌, ℕ, suc, ◌+◌, ◌-◌, ◌*◌, ◌<◌, ◌≤◌, List, [], ◌∷◌, ◌++◌, length, get_or, set, take, drop, replicate, All, refl, sym, ap, ◌∙◌, arith, append-nil}
 use Rattle.std.proofs.Math.Nat.{mul-le-mul, mul-le-mul_left, mul-suc}
 use Rattle.std.proofs.lemmas.Bool.{cases_lt}
 use Rattle.std.proofs.Common.{inl, inr}
 use Rattle.std.specs.Prelude.{vec_capacity}
-use Rattle.std.proofs.lemmas.List.{length-take-le, length-drop, length-append, length-replicate, drop-drop, drop_at, take-append-le, drop-append-le, take-replicate, drop-replicate}
+use Rattle.std.proofs.lemmas.List.{length-take-le, length-drop, length-append, length-replicate, drop-drop, drop_at, take-append-le, drop-append-le, take-replicate, drop-replicate, take_all, drop_all}
 use Rattle.x7_memory.specs.declared.memory.Memory.TheInside.{Inside}
-use Rattle.x7_memory.specs.Flat.{cut, filled}
+use Rattle.x7_memory.specs.Flat.{cut, filled, put_over, with_zeros}
 use Rattle.x7_memory.specs.Stored.{seen, HasRoom}
 use Rattle.x7_memory.proofs.FlatLemmas.{cut_length, cut_at, cut_set, cut_widths, frame_end, filled_length, filled_more, filled_over}
 
@@ -75,6 +75,16 @@ over_length a ws new h =
     let all : length (take a ws ++ (new ++ drop (a + length new) ws)) ≡ length (take a ws) + length (new ++ drop (a + length new) ws) =
     length-append (take a ws) (new ++ drop (a + length new) ws) in
     omega arith
+
+-- a frame that is appended
+pub appended : (ws new : List ℕ) (a : ℕ) → a ≡ length ws → ws ++ new ≡ put_over a new (with_zeros (a + length new) ws)
+appended ws new a e =
+    let k = a + length new in
+    let more = with_zeros k ws in
+    let long : length more ≡ length ws + (k - length ws) = more_length ws k in
+    let front : take a more ≡ ws = take-append-le a ws (replicate (k - length ws) 0) (omega arith) ∙ take_all a ws (omega arith) in
+    let back : drop k more ≡ [] = drop_all k more (omega arith) in
+    sym (ap (λ t. t ++ (new ++ drop k more)) front ∙ ap (λ t. ws ++ (new ++ t)) back ∙ ap (λ t. ws ++ t) (append-nil new))
 
 -- a frame that is put
 pub put_frame : (m : Inside) (rank : ℕ) (more over new : List ℕ) → HasRoom m → IsRank m rank → length new ≡ m.width →

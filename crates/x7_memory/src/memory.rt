@@ -1,7 +1,8 @@
 //! The frames of a device.
-ghost use Rattle.std.specs.Prelude.{◌≡◌, ℕ, ◌<◌, ◌≤◌, ◌+◌, ◌-◌, ◌++◌, ◌==◌, if◌then◌else◌, List, length, take, drop, replicate, slice_set, slice_index_or, vec_capacity, All, Contains, Some, None, IfSome, IfNone, IfOk};
+ghost use Rattle.std.specs.Prelude.{◌≡◌, ℕ, ◌<◌, ◌≤◌, ◌+◌, ◌-◌, ◌++◌, ◌==◌, if◌then◌else◌, List, length, take, drop, slice_set, slice_index_or, vec_len, vec_capacity, All, Contains, Some, None, IfSome, IfNone, IfOk};
 ghost use Rattle.x7_part.specs.AddressOrder.{addresses_in};
 ghost use Rattle.x7_part.specs.Part.{PartData, frame_words};
+ghost use Rattle.x7_memory.specs.Flat.{put_over, with_zeros};
 ghost use Rattle.x7_memory.specs.Frames.{frame_at, zero_frames, AreFramesOf};
 
 use std::alloc::Global;
@@ -100,8 +101,7 @@ impl Memory {
         ensures { self.new ≡ slice_set self.old rank words.now }
     {
         let start = self.width * rank;
-        fill(&mut self.words, start + self.width);
-        write_over(&mut self.words, start, words);
+        put_words(&mut self.words, start, words);
     }
 
     /// Makes all frames zeros.
@@ -131,10 +131,36 @@ impl Memory {
     }
 }
 
+/// Puts a frame from a place on, behind zeros where there are fewer words, for which there is room.
+fn put_words(words: &mut Vec<u32>, start: usize, frame: &[u32])
+    requires { start + length frame.now ≤ vec_capacity words.old }
+    ensures items { words.new.items ≡ put_over start frame.now (with_zeros (start + length frame.now) words.old.items) }
+    ensures room { vec_capacity words.old ≤ vec_capacity words.new }
+{
+    if start == words.len() {
+        append(words, frame);
+        return;
+    }
+    fill(words, start + frame.len());
+    write_over(words, start, frame);
+}
+
+/// Appends a frame for which there is room.
+fn append(words: &mut Vec<u32>, frame: &[u32])
+    requires { vec_len words.old + length frame.now ≤ vec_capacity words.old }
+    ensures items { words.new.items ≡ words.old.items ++ frame.now }
+    ensures room { vec_capacity words.old ≤ vec_capacity words.new }
+{
+    match words.extend_from_slice(frame) {
+        Ok(()) => (),
+        Err(_) => (),
+    }
+}
+
 /// Appends zeros where there are fewer than so many words, for which there is room.
 fn fill(words: &mut Vec<u32>, count: usize)
     requires room { count ≤ vec_capacity words.old }
-    ensures items { words.new.items ≡ words.old.items ++ replicate (count - length words.old.items) 0 }
+    ensures items { words.new.items ≡ with_zeros count words.old.items }
     ensures room { vec_capacity words.old ≤ vec_capacity words.new }
 {
     if count <= words.len() {
@@ -149,7 +175,7 @@ fn fill(words: &mut Vec<u32>, count: usize)
 /// Writes a frame over the words from a place on.
 fn write_over(words: &mut Vec<u32>, start: usize, frame: &[u32])
     requires { start + length frame.now ≤ length words.old.items }
-    ensures items { words.new.items ≡ take start words.old.items ++ (frame.now ++ drop (start + length frame.now) words.old.items) }
+    ensures items { words.new.items ≡ put_over start frame.now words.old.items }
     ensures room { vec_capacity words.new ≡ vec_capacity words.old }
 {
     words[start..start + frame.len()].copy_from_slice(frame);

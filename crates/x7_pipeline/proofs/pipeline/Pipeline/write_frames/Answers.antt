@@ -1,4 +1,4 @@
-use Rattle.std.proofs.Common.{◌≡◌, ◌+◌, ◌-◌, ◌*◌, ◌<◌, ◌≤◌, ◌∙◌, ap, sym, arith, Some, drop, length, take}
+use Rattle.std.proofs.Common.{◌≡◌, ◌+◌, ◌-◌, ◌*◌, ◌∙◌, ap, sym, arith, Some, drop, length, take}
 use Rattle.std.proofs.lemmas.List.{length-drop}
 use Rattle.x7_words.specs.Word.{words_of_bytes}
 use Rattle.x7_memory.specs.Frames.{frame_at}

@@ -1,4 +1,4 @@
-use Rattle.std.proofs.Common.{◌≡◌, ◌≤◌, ◌-◌, ◌*◌, ◌%◌, [], take, length}
+use Rattle.std.proofs.Common.{◌≡◌, ◌≤◌, ◌-◌, ◌%◌, [], take, length}
 use Rattle.x7_words.specs.Word.{words_of_bytes}
 use Rattle.x7_memory.specs.Frames.{frame_at, AreFramesOf}
 use Rattle.x7_pipeline.specs.Pipeline.{IsPipelineOf}
