@@ -253,11 +253,13 @@ gen_answer part seed = record { stopped = false; text = gen_text part seed }
 abbrev pub gen_made : Known → List ℕ → ℕ → Result Answer Event
 gen_made known part seed = and_so (part_of known part) (λ p. Ok (gen_answer p seed))
 
--- ---- debug
+-- ---- streams of a limit of their own
 
--- the data of the stream of this name
+-- the data of a stream that has a limit of its own, which comes before its header
 abbrev pub stream_data : Known → List ℕ → Result (List ℕ) Event
 stream_data known name = and_so (whole_in known stream_limit name) (data_in name)
+
+-- ---- debug
 
 -- the most bytes of a script
 abbrev pub script_limit : ℕ
@@ -293,10 +295,6 @@ DebuggedAs name (Ok d) (Err event) = (fault : ScriptFault) × (IsScriptOf d.scri
 
 -- ---- images
 
--- the data of a stream that has a limit of its own, which comes before its header
-abbrev pub stream_of : Known → List ℕ → Result (List ℕ) Event
-stream_of known name = and_so (whole_in known stream_limit name) (data_in name)
-
 -- the image of two streams for a part, where it is no larger than a flash may be
 abbrev pub image_for : List ℕ → PartData → List ℕ → List ℕ → Result Answer Event
 image_for name part golden update =
@@ -305,7 +303,7 @@ image_for name part golden update =
 
 -- `image PART GOLDEN UPDATE`: the flash image of both streams' data
 abbrev pub imaged : Known → List ℕ → List ℕ → List ℕ → Result Answer Event
-imaged known part golden update = and_so (part_of known part) (λ p. and_so (stream_of known golden) (λ g. and_so (stream_of known update) (λ u. image_for update p g u)))
+imaged known part golden update = and_so (part_of known part) (λ p. and_so (stream_data known golden) (λ g. and_so (stream_data known update) (λ u. image_for update p g u)))
 
 -- ---- boots
 

@@ -11,7 +11,7 @@ use Rattle.x7_tool.specs.declared.refusal.Why.{Why}
 use Rattle.x7_tool.specs.declared.refusal.Why.TheVariants as why
 use Rattle.x7_tool.specs.Event.{Event, Cause, Want, Fault, Absence, Break, Contents, cause_of, line_of, missing, read_fault, usage, write_fault}
 use Rattle.x7_tool.specs.Form.{Asked, Assembling, Booting, Debugging, FromMcs, Imaging, Listing, PlanningFull, PlanningRead, Playing, ToMcs, PlanningPartial, Generating, flash_names, names_of}
-use Rattle.x7_tool.specs.Outcome.{Answer, Known, Gives, IsOutcome}
+use Rattle.x7_tool.specs.Outcome.{Answer, Known, Gives, IsOutcome, with_inputs}
 use Rattle.x7_tool.specs.Message.{event_of}
 
 -- what a form of the code asks for
@@ -95,6 +95,14 @@ IsCausedBy known Fails Lacks Due got = IsFree Fails Lacks got ⊎ IsDue known Du
 -- the same where a function of the known contents says what is due
 abbrev pub IsCaused : {A : Type 0} → Option Known → (List ℕ → Type 0) → (List ℕ → Type 0) → (Known → Result A Event) → Result A Event → Type 0
 IsCaused known Fails Lacks due got = IsCausedBy known Fails Lacks (λ t result. due t ≡ result) got
+
+-- whatever the flash holds, the result has a cause: it is due by what the inputs hold, or it names one of these inputs, whose count rose
+abbrev pub AnswersBy : {A : Type 0} → List (List ℕ) → Option (List ℕ → Option (List ℕ)) → ℕ → ℕ → ℕ → ℕ → (Known → Result A Event → Type 0) → Result A Event → Type 0
+AnswersBy names contents faults faults_now absences absences_now Due got = (flash : Option (List ℕ)) → IsCausedBy (with_inputs contents flash) (RisesFor names faults faults_now) (RisesFor names absences absences_now) Due got
+
+-- the same where a function of what is known says what is due
+abbrev pub AnswersAs : {A : Type 0} → List (List ℕ) → Option (List ℕ → Option (List ℕ)) → ℕ → ℕ → ℕ → ℕ → (Known → Result A Event) → Result A Event → Type 0
+AnswersAs names contents faults faults_now absences absences_now due got = (flash : Option (List ℕ)) → IsCaused (with_inputs contents flash) (RisesFor names faults faults_now) (RisesFor names absences absences_now) due got
 
 -- a flash was not attached: its name isn't there, or the flash failed
 abbrev pub IsUnattached : List ℕ → ℕ → ℕ → ℕ → ℕ → Event → Type 0

@@ -2,9 +2,9 @@
 ghost use Rattle.std.specs.Prelude.{◌≡◌, ℕ, ◌+◌, ◌^◌, ◌<◌, ◌≤◌, List, [], ◌∷◌, ◌++◌, length, Option, Ok, Err, IfOk, IfErr};
 ghost use Rattle.x7_listing.specs.Assembling.{AssemblerStandsFor};
 ghost use Rattle.x7_tool.specs.Message.{event_of};
-ghost use Rattle.x7_tool.specs.Outcome.{AssembledAs, asm_event, text_limit, whole_in, with_inputs};
+ghost use Rattle.x7_tool.specs.Outcome.{AssembledAs, asm_event, text_limit, whole_in};
 ghost use Rattle.x7_tool.specs.Play.{whole_of};
-ghost use Rattle.x7_tool.specs.Run.{IsCaused, IsCausedBy, RisesFor, seen};
+ghost use Rattle.x7_tool.specs.Run.{AnswersAs, AnswersBy, seen};
 ghost use Rattle.x7_tool.specs.Turn.{IsFed};
 
 use crate::bad_input::InputFault;
@@ -51,9 +51,9 @@ fn feed_whole<'w, I: Inputs>(
 ) -> Result<Option<AsmFault>, Refusal<'w>>
     requires new { AssemblerStandsFor assembler.old [] }
     ensures ok { IfOk result (λ found. (text : List ℕ) × (length text ≤ text_limit) × IsFed found assembler.new text
-        × ((flash : Option (List ℕ)) → IsCaused (with_inputs (I.contents inputs.old) flash) (RisesFor (name.now ∷ []) (I.faults inputs.old) (I.faults inputs.new)) (RisesFor (name.now ∷ []) (I.absences inputs.old) (I.absences inputs.new))
+        × (AnswersAs (name.now ∷ []) (I.contents inputs.old) (I.faults inputs.old) (I.faults inputs.new) (I.absences inputs.old) (I.absences inputs.new)
         (λ known. whole_in known text_limit name.now) (Ok text))) }
-    ensures err { IfErr result (λ r. (flash : Option (List ℕ)) → IsCaused (with_inputs (I.contents inputs.old) flash) (RisesFor (name.now ∷ []) (I.faults inputs.old) (I.faults inputs.new)) (RisesFor (name.now ∷ []) (I.absences inputs.old) (I.absences inputs.new))
+    ensures err { IfErr result (λ r. AnswersAs (name.now ∷ []) (I.contents inputs.old) (I.faults inputs.old) (I.faults inputs.new) (I.absences inputs.old) (I.absences inputs.new)
         (λ known. whole_in known text_limit name.now) (Err (event_of r))) }
 {
     match open(inputs, name) {
@@ -82,7 +82,7 @@ pub(crate) fn asm<'w, I: Inputs>(
     inputs: &mut I,
     name: &'w str,
 ) -> Result<Text, Refusal<'w>>
-    ensures { (flash : Option (List ℕ)) → IsCausedBy (with_inputs (I.contents inputs.old) flash) (RisesFor (name.now ∷ []) (I.faults inputs.old) (I.faults inputs.new)) (RisesFor (name.now ∷ []) (I.absences inputs.old) (I.absences inputs.new))
+    ensures { AnswersBy (name.now ∷ []) (I.contents inputs.old) (I.faults inputs.old) (I.faults inputs.new) (I.absences inputs.old) (I.absences inputs.new)
         (λ known end. AssembledAs name.now (whole_in known text_limit name.now) end) (seen whole_of result) }
 {
     let mut assembler = Assembler::new(alloc);

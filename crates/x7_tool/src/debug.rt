@@ -1,18 +1,19 @@
 //! The command `debug`.
-ghost use Rattle.std.specs.Prelude.{◌≡◌, ◌⊎◌, ◌≤◌, ℕ, List, [], ◌∷◌, Option, Ok, Err, IfErr, IfOk};
+ghost use Rattle.std.specs.Prelude.{◌≡◌, ◌⊎◌, ◌≤◌, ℕ, [], ◌∷◌, Ok, Err, IfErr, IfOk};
 ghost use Rattle.x7_debug.specs.Script.{IsScriptOf};
 ghost use Rattle.x7_debug.specs.declared.fault.ScriptFault.{ScriptFault as FaultData};
 ghost use Rattle.x7_tool.specs.Debug.{given_of};
 ghost use Rattle.x7_tool.specs.Message.{event_of};
 ghost use Rattle.x7_tool.specs.Event.{no_memory};
-ghost use Rattle.x7_tool.specs.Outcome.{DebuggedAs, debug_inputs, script_event, stream_data, with_inputs};
+ghost use Rattle.x7_tool.specs.Outcome.{DebuggedAs, debug_inputs, script_event};
 ghost use Rattle.x7_tool.specs.Play.{whole_of};
-ghost use Rattle.x7_tool.specs.Run.{IsCaused, IsCausedBy, RisesFor, seen};
+ghost use Rattle.x7_tool.specs.Run.{AnswersAs, AnswersBy, seen};
 
 use crate::bad_input::InputFault;
 use crate::play::read_part;
-use crate::read::{STREAM_LIMIT, data_start, read_whole};
+use crate::read::read_whole;
 use crate::refusal::{Refusal, Why};
+use crate::stream::read_data;
 use crate::text::Text;
 use std::alloc::Global;
 use x7_debug::{ScriptFault, Session, script_of, transcript};
@@ -43,32 +44,6 @@ fn refusal_of<'w>(name: &'w str, fault: ScriptFault) -> Refusal<'w>
     }
 }
 
-/// The data of a stream: what follows its header, where it has one.
-fn read_data<'w, I: Inputs>(
-    alloc: Global,
-    inputs: &mut I,
-    name: &'w str,
-) -> Result<Vec<u8>, Refusal<'w>>
-    ensures due { (flash : Option (List ℕ)) → IsCaused (with_inputs (I.contents inputs.old) flash) (RisesFor (name.now ∷ []) (I.faults inputs.old) (I.faults inputs.new)) (RisesFor (name.now ∷ []) (I.absences inputs.old) (I.absences inputs.new))
-        (λ known. stream_data known name.now) (seen (λ bytes. bytes.items) result) }
-    ensures map { I.contents inputs.new ≡ I.contents inputs.old }
-    ensures faults { I.faults inputs.old ≤ I.faults inputs.new }
-    ensures absences { I.absences inputs.old ≤ I.absences inputs.new }
-{
-    let mut bytes = match read_whole(alloc, inputs, name, STREAM_LIMIT) {
-        Ok(bytes) => bytes,
-        Err(refusal) => return Err(refusal),
-    };
-    let start = match data_start(name, &bytes) {
-        Ok(start) => start,
-        Err(refusal) => return Err(refusal),
-    };
-    match bytes.split_off(start) {
-        Ok(data) => Ok(data),
-        Err(_) => Err(Refusal::unnamed(Why::NoMemory)),
-    }
-}
-
 /// Reads the inputs in the order of the words.
 fn read_given<'w, I: Inputs>(
     alloc: Global,
@@ -77,7 +52,7 @@ fn read_given<'w, I: Inputs>(
     stream: &'w str,
     script: &'w str,
 ) -> Result<Given, Refusal<'w>>
-    ensures { (flash : Option (List ℕ)) → IsCaused (with_inputs (I.contents inputs.old) flash) (RisesFor (part.now ∷ stream.now ∷ script.now ∷ []) (I.faults inputs.old) (I.faults inputs.new)) (RisesFor (part.now ∷ stream.now ∷ script.now ∷ []) (I.absences inputs.old) (I.absences inputs.new))
+    ensures { AnswersAs (part.now ∷ stream.now ∷ script.now ∷ []) (I.contents inputs.old) (I.faults inputs.old) (I.faults inputs.new) (I.absences inputs.old) (I.absences inputs.new)
         (λ known. debug_inputs known part.now stream.now script.now) (seen given_of result) }
 {
     let part = match read_part(alloc, inputs, part) {
@@ -132,7 +107,7 @@ pub(crate) fn debug<'w, I: Inputs>(
     stream: &'w str,
     script: &'w str,
 ) -> Result<Text, Refusal<'w>>
-    ensures { (flash : Option (List ℕ)) → IsCausedBy (with_inputs (I.contents inputs.old) flash) (RisesFor (part.now ∷ stream.now ∷ script.now ∷ []) (I.faults inputs.old) (I.faults inputs.new)) (RisesFor (part.now ∷ stream.now ∷ script.now ∷ []) (I.absences inputs.old) (I.absences inputs.new))
+    ensures { AnswersBy (part.now ∷ stream.now ∷ script.now ∷ []) (I.contents inputs.old) (I.faults inputs.old) (I.faults inputs.new) (I.absences inputs.old) (I.absences inputs.new)
         (λ known end. DebuggedAs script.now (debug_inputs known part.now stream.now script.now) end) (seen whole_of result) }
 {
     match read_given(alloc, inputs, part, stream, script) {

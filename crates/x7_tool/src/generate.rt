@@ -1,5 +1,5 @@
 //! The command `gen`: a plan that is made from a number, its stream played on a new device, and what came of it.
-ghost use Rattle.std.specs.Prelude.{◌≡◌, ◌⊎◌, ◌≤◌, ◌++◌, ◌%◌, ◌^◌, ℕ, List, [], ◌∷◌, Option, length, IfOk, IfErr, OnOk, unwrap_or};
+ghost use Rattle.std.specs.Prelude.{◌≡◌, ◌⊎◌, ◌≤◌, ◌++◌, ◌%◌, ◌^◌, ℕ, [], ◌∷◌, length, IfOk, IfErr, OnOk, unwrap_or};
 ghost use Rattle.std.specs.List.{sum};
 ghost use Rattle.x7_part.specs.AddressOrder.{addresses_in};
 ghost use Rattle.x7_part.specs.Part.{PartData};
@@ -9,9 +9,9 @@ ghost use Rattle.x7_engine.specs.State.{reads_of};
 ghost use Rattle.x7_tool.specs.Generated.{count_line, counted, gen_text, head_line, sum_line, generated, next_number, planned_summary, played_summary, row_by, summary_text, words_sum};
 ghost use Rattle.x7_tool.specs.Event.{no_memory};
 ghost use Rattle.x7_tool.specs.Message.{event_of};
-ghost use Rattle.x7_tool.specs.Outcome.{gen_answer, gen_made, reads_limit, with_inputs};
+ghost use Rattle.x7_tool.specs.Outcome.{gen_answer, gen_made, reads_limit};
 ghost use Rattle.x7_tool.specs.Play.{HasPlayed, whole_of};
-ghost use Rattle.x7_tool.specs.Run.{IsCaused, RisesFor, seen};
+ghost use Rattle.x7_tool.specs.Run.{AnswersAs, seen};
 
 use crate::play::read_part;
 use crate::player::Player;
@@ -240,7 +240,7 @@ pub(crate) fn generate<'w, I: Inputs>(
     name: &'w str,
     seed: u32,
 ) -> Result<Text, Refusal<'w>>
-    ensures { (flash : Option (List ℕ)) → IsCaused (with_inputs (I.contents inputs.old) flash) (RisesFor (name.now ∷ []) (I.faults inputs.old) (I.faults inputs.new)) (RisesFor (name.now ∷ []) (I.absences inputs.old) (I.absences inputs.new))
+    ensures { AnswersAs (name.now ∷ []) (I.contents inputs.old) (I.faults inputs.old) (I.faults inputs.new) (I.absences inputs.old) (I.absences inputs.new)
         (λ known. gen_made known name.now seed) (seen whole_of result) }
 {
     let part = match read_part(alloc, inputs, name) {

@@ -1,51 +1,20 @@
 //! The command `image`: the flash image of a golden and an update stream.
-ghost use Rattle.std.specs.Prelude.{◌≡◌, ◌⊎◌, ◌≤◌, ℕ, List, [], ◌∷◌, Option, Ok, Err, IfOk, IfErr, drop, length};
+ghost use Rattle.std.specs.Prelude.{◌≡◌, ◌⊎◌, ◌≤◌, ℕ, [], ◌∷◌, Ok, Err, IfOk, IfErr, drop, length};
 ghost use Rattle.x7_tool.specs.Message.{event_of};
 ghost use Rattle.x7_tool.specs.Event.{no_memory};
-ghost use Rattle.x7_tool.specs.Outcome.{image_for, imaged, stream_of, with_inputs};
+ghost use Rattle.x7_tool.specs.Outcome.{image_for, imaged};
 ghost use Rattle.x7_tool.specs.Play.{whole_of};
-ghost use Rattle.x7_tool.specs.Streamed.{data_from};
-ghost use Rattle.x7_tool.specs.Run.{IsCaused, RisesFor, seen};
+ghost use Rattle.x7_tool.specs.Run.{AnswersAs, seen};
 
 use crate::bad_input::InputFault;
 use crate::play::read_part;
-use crate::read::{STREAM_LIMIT, data_start, read_whole};
 use crate::refusal::{Refusal, Why};
+use crate::stream::read_stream;
 use crate::text::Text;
 use std::alloc::Global;
 use x7_boot::ImageFault;
 use x7_part::Part;
 use x7_words::Inputs;
-
-/// A stream that was read whole, and where its data begin.
-#[derive(Drop)]
-pub(crate) struct Stream {
-    pub(crate) bytes: Vec<u8>,
-    pub(crate) start: usize,
-}
-
-/// A stream of its own limit, which is judged before its header.
-fn read_stream<'w, I: Inputs>(
-    alloc: Global,
-    inputs: &mut I,
-    name: &'w str,
-) -> Result<Stream, Refusal<'w>>
-    ensures due { (flash : Option (List ℕ)) → IsCaused (with_inputs (I.contents inputs.old) flash) (RisesFor (name.now ∷ []) (I.faults inputs.old) (I.faults inputs.new)) (RisesFor (name.now ∷ []) (I.absences inputs.old) (I.absences inputs.new))
-        (λ known. stream_of known name.now) (seen data_from result) }
-    ensures within { IfOk result (λ stream. stream.start ≤ length stream.bytes.items) }
-    ensures map { I.contents inputs.new ≡ I.contents inputs.old }
-    ensures faults { I.faults inputs.old ≤ I.faults inputs.new }
-    ensures absences { I.absences inputs.old ≤ I.absences inputs.new }
-{
-    let bytes = match read_whole(alloc, inputs, name, STREAM_LIMIT) {
-        Ok(bytes) => bytes,
-        Err(refusal) => return Err(refusal),
-    };
-    match data_start(name, &bytes) {
-        Ok(start) => Ok(Stream { bytes, start }),
-        Err(refusal) => Err(refusal),
-    }
-}
 
 /// The image of the data of two streams, of which the update has this name.
 fn image_text<'w>(
@@ -79,7 +48,7 @@ pub(crate) fn image<'w, I: Inputs>(
     golden: &'w str,
     update: &'w str,
 ) -> Result<Text, Refusal<'w>>
-    ensures { (flash : Option (List ℕ)) → IsCaused (with_inputs (I.contents inputs.old) flash) (RisesFor (part.now ∷ golden.now ∷ update.now ∷ []) (I.faults inputs.old) (I.faults inputs.new)) (RisesFor (part.now ∷ golden.now ∷ update.now ∷ []) (I.absences inputs.old) (I.absences inputs.new))
+    ensures { AnswersAs (part.now ∷ golden.now ∷ update.now ∷ []) (I.contents inputs.old) (I.faults inputs.old) (I.faults inputs.new) (I.absences inputs.old) (I.absences inputs.new)
         (λ known. imaged known part.now golden.now update.now) (seen whole_of result) }
 {
     let part = match read_part(alloc, inputs, part) {

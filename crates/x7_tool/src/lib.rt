@@ -20,6 +20,7 @@ mod read;
 mod refusal;
 mod reports;
 mod status;
+mod stream;
 #[cfg(test)]
 mod tests;
 mod text;

@@ -1,9 +1,9 @@
 //! The commands `mcs` and `unmcs`: flash images as Intel HEX texts, and back.
-ghost use Rattle.std.specs.Prelude.{◌≡◌, ℕ, List, [], ◌∷◌, Option};
+ghost use Rattle.std.specs.Prelude.{◌≡◌, ℕ, [], ◌∷◌};
 ghost use Rattle.x7_tool.specs.Message.{event_of};
-ghost use Rattle.x7_tool.specs.Outcome.{mcs_event, mcs_read, mcs_written, with_inputs};
+ghost use Rattle.x7_tool.specs.Outcome.{mcs_event, mcs_read, mcs_written};
 ghost use Rattle.x7_tool.specs.Play.{text_of_image, whole_of};
-ghost use Rattle.x7_tool.specs.Run.{IsCaused, RisesFor, seen};
+ghost use Rattle.x7_tool.specs.Run.{AnswersAs, seen};
 
 use crate::bad_input::InputFault;
 use crate::read::{TEXT_LIMIT, read_whole};
@@ -37,7 +37,7 @@ pub(crate) fn mcs<'w, I: Inputs>(
     inputs: &mut I,
     image: &'w str,
 ) -> Result<McsText, Refusal<'w>>
-    ensures { (flash : Option (List ℕ)) → IsCaused (with_inputs (I.contents inputs.old) flash) (RisesFor (image.now ∷ []) (I.faults inputs.old) (I.faults inputs.new)) (RisesFor (image.now ∷ []) (I.absences inputs.old) (I.absences inputs.new))
+    ensures { AnswersAs (image.now ∷ []) (I.contents inputs.old) (I.faults inputs.old) (I.faults inputs.new) (I.absences inputs.old) (I.absences inputs.new)
         (λ known. mcs_written known image.now) (seen text_of_image result) }
 {
     let bytes = match read_whole(alloc, inputs, image, FLASH_LIMIT) {
@@ -56,7 +56,7 @@ pub(crate) fn unmcs<'w, I: Inputs>(
     inputs: &mut I,
     name: &'w str,
 ) -> Result<Text, Refusal<'w>>
-    ensures { (flash : Option (List ℕ)) → IsCaused (with_inputs (I.contents inputs.old) flash) (RisesFor (name.now ∷ []) (I.faults inputs.old) (I.faults inputs.new)) (RisesFor (name.now ∷ []) (I.absences inputs.old) (I.absences inputs.new))
+    ensures { AnswersAs (name.now ∷ []) (I.contents inputs.old) (I.faults inputs.old) (I.faults inputs.new) (I.absences inputs.old) (I.absences inputs.new)
         (λ known. mcs_read known name.now) (seen whole_of result) }
 {
     let text = match read_whole(alloc, inputs, name, TEXT_LIMIT) {

@@ -1,12 +1,12 @@
 //! The commands `plan full`, `plan partial` and `plan read`: streams for plans.
-ghost use Rattle.std.specs.Prelude.{◌≡◌, ◌⊎◌, ◌≤◌, ℕ, List, [], ◌∷◌, Option, Ok, Err, IfOk, IfErr};
+ghost use Rattle.std.specs.Prelude.{◌≡◌, ◌⊎◌, ◌≤◌, ℕ, [], ◌∷◌, Ok, Err, IfOk, IfErr};
 ghost use Rattle.x7_part.specs.Part.{PartData};
 ghost use Rattle.x7_tool.specs.Message.{event_of};
 ghost use Rattle.x7_tool.specs.Event.{no_memory};
-ghost use Rattle.x7_tool.specs.Outcome.{PlannedFull, PlannedPartial, PlannedRead, frames_event, part_of, plan_texts, planner_event, with_inputs};
+ghost use Rattle.x7_tool.specs.Outcome.{PlannedFull, PlannedPartial, PlannedRead, frames_event, part_of, plan_texts, planner_event};
 ghost use Rattle.x7_tool.specs.Planned.{texts_of};
 ghost use Rattle.x7_tool.specs.Play.{whole_of};
-ghost use Rattle.x7_tool.specs.Run.{IsCaused, IsCausedBy, RisesFor, seen};
+ghost use Rattle.x7_tool.specs.Run.{AnswersAs, AnswersBy, seen};
 
 use crate::bad_input::InputFault;
 use crate::play::read_part;
@@ -33,7 +33,7 @@ fn read_texts<'w, I: Inputs>(
     part: &'w str,
     frames: &'w str,
 ) -> Result<PlanTexts, Refusal<'w>>
-    ensures { (flash : Option (List ℕ)) → IsCaused (with_inputs (I.contents inputs.old) flash) (RisesFor (part.now ∷ frames.now ∷ []) (I.faults inputs.old) (I.faults inputs.new)) (RisesFor (part.now ∷ frames.now ∷ []) (I.absences inputs.old) (I.absences inputs.new))
+    ensures { AnswersAs (part.now ∷ frames.now ∷ []) (I.contents inputs.old) (I.faults inputs.old) (I.faults inputs.new) (I.absences inputs.old) (I.absences inputs.new)
         (λ known. plan_texts known part.now frames.now) (seen texts_of result) }
 {
     let part = match read_part(alloc, inputs, part) {
@@ -105,7 +105,7 @@ pub(crate) fn plan_full<'w, I: Inputs>(
     part: &'w str,
     frames: &'w str,
 ) -> Result<Text, Refusal<'w>>
-    ensures { (flash : Option (List ℕ)) → IsCausedBy (with_inputs (I.contents inputs.old) flash) (RisesFor (part.now ∷ frames.now ∷ []) (I.faults inputs.old) (I.faults inputs.new)) (RisesFor (part.now ∷ frames.now ∷ []) (I.absences inputs.old) (I.absences inputs.new))
+    ensures { AnswersBy (part.now ∷ frames.now ∷ []) (I.contents inputs.old) (I.faults inputs.old) (I.faults inputs.new) (I.absences inputs.old) (I.absences inputs.new)
         (λ known end. PlannedFull frames.now (plan_texts known part.now frames.now) end) (seen whole_of result) }
 {
     let texts = match read_texts(alloc, inputs, part, frames) {
@@ -140,7 +140,7 @@ pub(crate) fn plan_partial<'w, I: Inputs>(
     part: &'w str,
     frames: &'w str,
 ) -> Result<Text, Refusal<'w>>
-    ensures { (flash : Option (List ℕ)) → IsCausedBy (with_inputs (I.contents inputs.old) flash) (RisesFor (part.now ∷ frames.now ∷ []) (I.faults inputs.old) (I.faults inputs.new)) (RisesFor (part.now ∷ frames.now ∷ []) (I.absences inputs.old) (I.absences inputs.new))
+    ensures { AnswersBy (part.now ∷ frames.now ∷ []) (I.contents inputs.old) (I.faults inputs.old) (I.faults inputs.new) (I.absences inputs.old) (I.absences inputs.new)
         (λ known end. PlannedPartial frames.now (plan_texts known part.now frames.now) end) (seen whole_of result) }
 {
     let texts = match read_texts(alloc, inputs, part, frames) {
@@ -178,7 +178,7 @@ pub(crate) fn plan_read<'w, I: Inputs>(
     far: u32,
     n: u32,
 ) -> Result<Text, Refusal<'w>>
-    ensures { (flash : Option (List ℕ)) → IsCausedBy (with_inputs (I.contents inputs.old) flash) (RisesFor (name.now ∷ []) (I.faults inputs.old) (I.faults inputs.new)) (RisesFor (name.now ∷ []) (I.absences inputs.old) (I.absences inputs.new))
+    ensures { AnswersBy (name.now ∷ []) (I.contents inputs.old) (I.faults inputs.old) (I.faults inputs.new) (I.absences inputs.old) (I.absences inputs.new)
         (λ known end. PlannedRead name.now far n (part_of known name.now) end) (seen whole_of result) }
 {
     let part = match read_part(alloc, inputs, name) {

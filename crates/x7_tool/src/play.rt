@@ -1,12 +1,12 @@
 //! The command `play`.
-ghost use Rattle.std.specs.Prelude.{◌≡◌, ℕ, List, [], ◌∷◌, ◌++◌, ◌+◌, ◌<◌, ◌≤◌, ◌⊎◌, true, length, map, string_bytes, Option, Ok, Err, IfErr, IfOk};
+ghost use Rattle.std.specs.Prelude.{◌≡◌, ℕ, List, [], ◌∷◌, ◌++◌, ◌+◌, ◌<◌, ◌≤◌, ◌⊎◌, true, length, map, string_bytes, Ok, Err, IfErr, IfOk};
 ghost use Rattle.x7_words.specs.Input.{AtEnd};
 ghost use Rattle.x7_tool.specs.Message.{event_of};
 ghost use Rattle.x7_tool.specs.Event.{no_memory};
-ghost use Rattle.x7_tool.specs.Outcome.{data_of, part_of as part_due, played, read_of, stream_limit, with_inputs};
+ghost use Rattle.x7_tool.specs.Outcome.{data_of, part_of as part_due, played, read_of, stream_limit};
 ghost use Rattle.x7_tool.specs.Play.{HasPlayed, MayPlay, PlaysOn, part_event, text_of_play};
 ghost use Rattle.x7_tool.specs.Turn.{ReadsRest, UnreadRest};
-ghost use Rattle.x7_tool.specs.Run.{IsCaused, RisesFor, seen};
+ghost use Rattle.x7_tool.specs.Run.{AnswersAs, seen};
 
 use crate::play_text::PlayText;
 use crate::player::Player;
@@ -41,7 +41,7 @@ pub(crate) fn read_part<'w, I: Inputs>(
     inputs: &mut I,
     name: &'w str,
 ) -> Result<Part, Refusal<'w>>
-    ensures due { (flash : Option (List ℕ)) → IsCaused (with_inputs (I.contents inputs.old) flash) (RisesFor (name.now ∷ []) (I.faults inputs.old) (I.faults inputs.new)) (RisesFor (name.now ∷ []) (I.absences inputs.old) (I.absences inputs.new))
+    ensures due { AnswersAs (name.now ∷ []) (I.contents inputs.old) (I.faults inputs.old) (I.faults inputs.new) (I.absences inputs.old) (I.absences inputs.new)
         (λ known. part_due known name.now) (seen (λ part. part) result) }
     ensures map { I.contents inputs.new ≡ I.contents inputs.old }
     ensures faults { I.faults inputs.old ≤ I.faults inputs.new }
@@ -109,9 +109,9 @@ fn play_stream<'w, I: Inputs>(
     requires buffer { length piece.old ≡ 266240 }
     requires may { MayPlay player.old limit }
     ensures ok { IfOk result (λ left. (bytes : List ℕ) × (length bytes + left ≤ limit) × PlaysOn player.old player.new bytes
-        × ((flash : Option (List ℕ)) → IsCaused (with_inputs (I.contents inputs.old) flash) (RisesFor (name.now ∷ []) (I.faults inputs.old) (I.faults inputs.new)) (RisesFor (name.now ∷ []) (I.absences inputs.old) (I.absences inputs.new))
+        × (AnswersAs (name.now ∷ []) (I.contents inputs.old) (I.faults inputs.old) (I.faults inputs.new) (I.absences inputs.old) (I.absences inputs.new)
         (λ known. read_of known limit name.now) (Ok (record { bytes = bytes; room = left })))) }
-    ensures err { IfErr result (λ r. (flash : Option (List ℕ)) → IsCaused (with_inputs (I.contents inputs.old) flash) (RisesFor (name.now ∷ []) (I.faults inputs.old) (I.faults inputs.new)) (RisesFor (name.now ∷ []) (I.absences inputs.old) (I.absences inputs.new))
+    ensures err { IfErr result (λ r. AnswersAs (name.now ∷ []) (I.contents inputs.old) (I.faults inputs.old) (I.faults inputs.new) (I.absences inputs.old) (I.absences inputs.new)
         (λ known. read_of known limit name.now) (Err (event_of r))) }
     ensures length { length piece.new ≡ length piece.old }
     ensures map { I.contents inputs.new ≡ I.contents inputs.old }
@@ -150,9 +150,9 @@ fn play_streams<'w, I: Inputs>(
     streams: &'w [String],
 ) -> Result<Player, Refusal<'w>>
     ensures ok { IfOk result (λ player. (bytes : List ℕ) × HasPlayed part.now bytes player
-        × ((flash : Option (List ℕ)) → IsCaused (with_inputs (I.contents inputs.old) flash) (RisesFor (map string_bytes streams.now) (I.faults inputs.old) (I.faults inputs.new)) (RisesFor (map string_bytes streams.now) (I.absences inputs.old) (I.absences inputs.new))
+        × (AnswersAs (map string_bytes streams.now) (I.contents inputs.old) (I.faults inputs.old) (I.faults inputs.new) (I.absences inputs.old) (I.absences inputs.new)
         (λ known. data_of known stream_limit (map string_bytes streams.now)) (Ok bytes))) }
-    ensures err { IfErr result (λ r. (flash : Option (List ℕ)) → IsCaused (with_inputs (I.contents inputs.old) flash) (RisesFor (map string_bytes streams.now) (I.faults inputs.old) (I.faults inputs.new)) (RisesFor (map string_bytes streams.now) (I.absences inputs.old) (I.absences inputs.new))
+    ensures err { IfErr result (λ r. AnswersAs (map string_bytes streams.now) (I.contents inputs.old) (I.faults inputs.old) (I.faults inputs.new) (I.absences inputs.old) (I.absences inputs.new)
         (λ known. data_of known stream_limit (map string_bytes streams.now)) (Err (event_of r))) }
     ensures map { I.contents inputs.new ≡ I.contents inputs.old }
     ensures faults { I.faults inputs.old ≤ I.faults inputs.new }
@@ -182,7 +182,7 @@ pub(crate) fn play<'w, I: Inputs>(
     part: &'w str,
     streams: &'w [String],
 ) -> Result<PlayText, Refusal<'w>>
-    ensures { (flash : Option (List ℕ)) → IsCaused (with_inputs (I.contents inputs.old) flash) (RisesFor (part.now ∷ map string_bytes streams.now) (I.faults inputs.old) (I.faults inputs.new)) (RisesFor (part.now ∷ map string_bytes streams.now) (I.absences inputs.old) (I.absences inputs.new))
+    ensures { AnswersAs (part.now ∷ map string_bytes streams.now) (I.contents inputs.old) (I.faults inputs.old) (I.faults inputs.new) (I.absences inputs.old) (I.absences inputs.new)
         (λ known. played known part.now (map string_bytes streams.now)) (seen text_of_play result) }
 {
     let part = match read_part(alloc, inputs, part) {

@@ -1,13 +1,13 @@
 //! Reading an input in turns.
-ghost use Rattle.std.specs.Prelude.{◌≡◌, ◌+◌, ◌-◌, ◌<◌, ◌≤◌, ◌∷◌, [], ℕ, List, Option, drop, length, map, string_bytes, take, true, false, vec_len, IfErr, IfOk, OnOk};
+ghost use Rattle.std.specs.Prelude.{◌≡◌, ◌+◌, ◌-◌, ◌<◌, ◌≤◌, ◌∷◌, [], ℕ, List, drop, length, map, string_bytes, take, true, false, vec_len, IfErr, IfOk, OnOk};
 ghost use Rattle.x7_words.specs.Count.{HasRisen};
 ghost use Rattle.x7_words.specs.Input.{AtEnd, Selects, preceded};
 ghost use Rattle.x7_words.specs.Word.{AreBytes};
 ghost use Rattle.x7_tool.specs.Message.{event_of};
 ghost use Rattle.x7_tool.specs.Event.{read_fault};
-ghost use Rattle.x7_tool.specs.Outcome.{data_in, put_before, whole_in, with_inputs};
+ghost use Rattle.x7_tool.specs.Outcome.{data_in, put_before, whole_in};
 ghost use Rattle.x7_tool.specs.Turn.{ReadsRest, Unopened, Unread, UnreadRest};
-ghost use Rattle.x7_tool.specs.Run.{IsCaused, RisesFor, seen};
+ghost use Rattle.x7_tool.specs.Run.{AnswersAs, seen};
 
 use crate::bad_input::InputFault;
 use crate::refusal::{Refusal, Why};
@@ -140,7 +140,7 @@ pub(crate) fn read_onto<'w, I: Inputs>(
     limit: usize,
     onto: &mut Vec<u8>,
 ) -> Result<(), Refusal<'w>>
-    ensures due { (flash : Option (List ℕ)) → IsCaused (with_inputs (I.contents inputs.old) flash) (RisesFor (name.now ∷ []) (I.faults inputs.old) (I.faults inputs.new)) (RisesFor (name.now ∷ []) (I.absences inputs.old) (I.absences inputs.new))
+    ensures due { AnswersAs (name.now ∷ []) (I.contents inputs.old) (I.faults inputs.old) (I.faults inputs.new) (I.absences inputs.old) (I.absences inputs.new)
         (λ known. put_before onto.old.items (whole_in known limit name.now)) (seen (λ _. onto.new.items) result) }
     ensures within { OnOk result (vec_len onto.new ≤ vec_len onto.old + limit) }
     ensures longer { OnOk result (vec_len onto.old ≤ vec_len onto.new) }
@@ -177,7 +177,7 @@ pub(crate) fn read_whole<'w, I: Inputs>(
     name: &'w str,
     limit: usize,
 ) -> Result<Vec<u8>, Refusal<'w>>
-    ensures due { (flash : Option (List ℕ)) → IsCaused (with_inputs (I.contents inputs.old) flash) (RisesFor (name.now ∷ []) (I.faults inputs.old) (I.faults inputs.new)) (RisesFor (name.now ∷ []) (I.absences inputs.old) (I.absences inputs.new))
+    ensures due { AnswersAs (name.now ∷ []) (I.contents inputs.old) (I.faults inputs.old) (I.faults inputs.new) (I.absences inputs.old) (I.absences inputs.new)
         (λ known. whole_in known limit name.now) (seen (λ whole. whole.items) result) }
     ensures within { IfOk result (λ whole. vec_len whole ≤ limit) }
     ensures map { I.contents inputs.new ≡ I.contents inputs.old }

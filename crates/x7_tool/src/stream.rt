@@ -1,0 +1,62 @@
+//! Streams that are read whole, each of a limit of its own.
+ghost use Rattle.std.specs.Prelude.{◌≡◌, ◌≤◌, ℕ, [], ◌∷◌, IfOk, length};
+ghost use Rattle.x7_tool.specs.Outcome.{stream_data};
+ghost use Rattle.x7_tool.specs.Run.{AnswersAs, seen};
+ghost use Rattle.x7_tool.specs.Streamed.{data_from};
+
+use crate::read::{STREAM_LIMIT, data_start, read_whole};
+use crate::refusal::{Refusal, Why};
+use std::alloc::Global;
+use x7_words::Inputs;
+
+/// A stream that was read whole, and where its data begin.
+#[derive(Drop)]
+pub(crate) struct Stream {
+    pub(crate) bytes: Vec<u8>,
+    pub(crate) start: usize,
+}
+
+/// A stream of its own limit, which is judged before its header.
+pub(crate) fn read_stream<'w, I: Inputs>(
+    alloc: Global,
+    inputs: &mut I,
+    name: &'w str,
+) -> Result<Stream, Refusal<'w>>
+    ensures due { AnswersAs (name.now ∷ []) (I.contents inputs.old) (I.faults inputs.old) (I.faults inputs.new) (I.absences inputs.old) (I.absences inputs.new)
+        (λ known. stream_data known name.now) (seen data_from result) }
+    ensures within { IfOk result (λ stream. stream.start ≤ length stream.bytes.items) }
+    ensures map { I.contents inputs.new ≡ I.contents inputs.old }
+    ensures faults { I.faults inputs.old ≤ I.faults inputs.new }
+    ensures absences { I.absences inputs.old ≤ I.absences inputs.new }
+{
+    let bytes = match read_whole(alloc, inputs, name, STREAM_LIMIT) {
+        Ok(bytes) => bytes,
+        Err(refusal) => return Err(refusal),
+    };
+    match data_start(name, &bytes) {
+        Ok(start) => Ok(Stream { bytes, start }),
+        Err(refusal) => Err(refusal),
+    }
+}
+
+/// The data of a stream, alone: what follows its header, where it has one.
+pub(crate) fn read_data<'w, I: Inputs>(
+    alloc: Global,
+    inputs: &mut I,
+    name: &'w str,
+) -> Result<Vec<u8>, Refusal<'w>>
+    ensures due { AnswersAs (name.now ∷ []) (I.contents inputs.old) (I.faults inputs.old) (I.faults inputs.new) (I.absences inputs.old) (I.absences inputs.new)
+        (λ known. stream_data known name.now) (seen (λ bytes. bytes.items) result) }
+    ensures map { I.contents inputs.new ≡ I.contents inputs.old }
+    ensures faults { I.faults inputs.old ≤ I.faults inputs.new }
+    ensures absences { I.absences inputs.old ≤ I.absences inputs.new }
+{
+    let mut stream = match read_stream(alloc, inputs, name) {
+        Ok(stream) => stream,
+        Err(refusal) => return Err(refusal),
+    };
+    match stream.bytes.split_off(stream.start) {
+        Ok(data) => Ok(data),
+        Err(_) => Err(Refusal::unnamed(Why::NoMemory)),
+    }
+}
