@@ -25,9 +25,10 @@ use Rattle.x7_effects.specs.Played.{PlaysFull, PlaysPartial, PlaysRead}
 use Rattle.x7_effects.proofs.LawLemmas.{full_law, partial_law, read_law}
 use Rattle.x7_tool.specs.Event.{Event}
 use Rattle.x7_tool.specs.Form.{Asked, Assembling, Booting, Debugging, FromMcs, Imaging, Listing, PlanningFull, PlanningPartial, PlanningRead, Playing, ToMcs, Generating}
-use Rattle.x7_tool.specs.Outcome.{Answer, BootedAs, BootsAs, FlashBoots, has_failed, Known, PlanTexts, PlannedFull, PlannedPartial, PlannedRead, and_so, part_by, part_limit, part_of, plan_texts, text_limit, whole_in}
-use Rattle.x7_tool.specs.Promise.{FallsBackAs, HoldsImage, Promise, PromisesFull, PromisesPartial, PromisesRead, PromisesStart, StartsChecked, StartsUpdateAs}
+use Rattle.x7_tool.specs.Outcome.{Answer, BootedAs, BootsAs, FlashBoots, has_failed, Known, PlanTexts, PlannedFull, PlannedPartial, PlannedRead, and_so, gen_answer, part_by, part_limit, part_of, plan_texts, text_limit, whole_in}
+use Rattle.x7_tool.specs.Promise.{FallsBackAs, HoldsImage, Promise, PromisesFull, PromisesPartial, PromisesRead, PromisesStart, StartsChecked, StartsUpdateAs, PromisesSummary}
 use Rattle.x7_tool.specs.Run.{Agrees}
+use Rattle.x7_tool.proofs.GenerateLemmas.{planned_is}
 
 -- ---- the part that was read is a part
 
@@ -93,6 +94,15 @@ read_promised known part far n (Ok device) answer e p = record {
       subst (λ (stream : List ℕ). PlaysRead device kept bytes stream far n) (sym p.2) (read_law device kept bytes far n fits rests (part_is known part device e) p.1);
 }
 
+summary_promised : (known : Known) (part : List ℕ) (seed : ℕ) (read : Result PartData Event) (answer : Answer) → part_of known part ≡ read → and_so read (λ p. Ok (gen_answer p seed)) ≡ Ok answer → PromisesSummary known part seed answer.text
+unfolding value_or
+summary_promised known part seed (Err event) answer e p = absurd (cc)
+summary_promised known part seed (Ok device) answer e p = record {
+  device = device;
+  read = e;
+  played = planned_is device seed answer.text (part_is known part device e) (ap (λ (r : Result Answer Event). let a : Answer = value_or answer r in a.text) (sym p));
+}
+
 has_started : (end : BootEnd) → has_failed end ≡ false → end ≡ boot_end.Started
 has_started boot_end.Started e = refl
 has_started boot_end.Stopped e = absurd (cc)
@@ -150,7 +160,7 @@ promised (Some known) (Some (FromMcs text)) answer a = tt
 promised (Some known) (Some (PlanningFull part frames)) answer a = full_promised known part frames (plan_texts known part frames) answer refl a
 promised (Some known) (Some (PlanningPartial part frames)) answer a = partial_promised known part frames (plan_texts known part frames) answer refl a
 promised (Some known) (Some (PlanningRead part far n)) answer a = read_promised known part far n (part_of known part) answer refl a
-promised (Some known) (Some (Generating part seed)) answer a = tt
+promised (Some known) (Some (Generating part seed)) answer a = summary_promised known part seed (part_of known part) answer refl a
 promised (Some known) (Some (Debugging part stream script)) answer a = tt
 promised (Some known) (Some (Imaging part golden update)) answer a = tt
 promised (Some known) (Some (Booting part flash)) answer a = start_promised known part flash (part_of known part) answer refl a

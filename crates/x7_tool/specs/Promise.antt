@@ -16,7 +16,8 @@ use Rattle.x7_boot.specs.declared.boots.Tried.{Tried}
 use Rattle.x7_effects.specs.Played.{PlaysFull, PlaysPartial, PlaysRead}
 use Rattle.x7_tool.specs.BootText.{boot_text}
 use Rattle.x7_tool.specs.Event.{Event}
-use Rattle.x7_tool.specs.Form.{Asked, Booting, PlanningFull, PlanningPartial, PlanningRead}
+use Rattle.x7_tool.specs.Generated.{planned_summary}
+use Rattle.x7_tool.specs.Form.{Asked, Booting, Generating, PlanningFull, PlanningPartial, PlanningRead}
 use Rattle.x7_tool.specs.Outcome.{Answer, BootsAs, Known, PlanTexts, part_of, plan_texts}
 
 -- The stream of `plan full`: after any bytes at rest it leaves the plan of the frames text over zeros and ends startup, and the device is at rest again.
@@ -40,6 +41,12 @@ pub record PromisesRead (known : Known) (part : List ℕ) (far n : ℕ) (stream 
   pub device : PartData
   pub read : part_of known part ≡ Ok device
   pub plays : (kept : Kept) (bytes : List ℕ) → AreBytes bytes → AtRest device kept bytes → PlaysRead device kept bytes stream far n
+
+-- The text of `gen`: the full stream of the seed's plan left the plan over zeros and ended startup.
+pub record PromisesSummary (known : Known) (part : List ℕ) (seed : ℕ) (text : List ℕ) : Type 0 where
+  pub device : PartData
+  pub read : part_of known part ≡ Ok device
+  pub played : text ≡ planned_summary device seed
 
 -- a boot from a flash of these bytes; where it started, the last attempt made its checks
 pub record StartsChecked (part : PartData) (flash : List ℕ) (answer : Answer) : Type 0 where
@@ -83,5 +90,6 @@ abbrev pub Promise : Option Known → Option Asked → Result Answer Event → T
 Promise (Some known) (Some (PlanningFull part frames)) (Ok answer) = PromisesFull known part frames answer.text
 Promise (Some known) (Some (PlanningPartial part frames)) (Ok answer) = PromisesPartial known part frames answer.text
 Promise (Some known) (Some (PlanningRead part far n)) (Ok answer) = PromisesRead known part far n answer.text
+Promise (Some known) (Some (Generating part seed)) (Ok answer) = PromisesSummary known part seed answer.text
 Promise (Some known) (Some (Booting part flash)) (Ok answer) = PromisesStart known part answer
 Promise known form end = Unit {0}
