@@ -3,10 +3,12 @@ ghost use Rattle.std.specs.Prelude.{◌<◌};
 
 use crate::laws::{one_listing, told_is_a_front};
 use crate::lister::Lister;
+use crate::runs::take_runs;
 use std::alloc::Global;
 use std::process::Abort;
 use std::test::Fail;
-use x7_words::NoMemory;
+use x7_packets::Packets;
+use x7_words::{Failed, Inputs, MemoryInputs, NoMemory};
 
 /// A lister that has listed a stream in pieces of this many bytes.
 fn listed(alloc: Global, stream: &[u8], length: usize) -> Result<Lister, NoMemory>
@@ -36,13 +38,40 @@ fn joined(alloc: Global, stream: &[u8], length: usize) -> Result<Vec<u8>, Fail>
     Ok(text)
 }
 
-/// The stream has this listing in pieces of any length, whether or not the text is cleared behind each.
+/// The listing of a stream by its runs, of which the first bytes come before those that an input gives in pieces of this
+/// many bytes.
+fn listed_by_runs(alloc: Global, stream: &[u8], first: usize, length: usize) -> Result<Lister, Fail>
+    requires length { 0 < length }
+{
+    let first = first.min(stream.len()).min(13);
+    let mut inputs = MemoryInputs::new(alloc);
+    inputs.put("stream", &stream[first..])?;
+    inputs.piece(length);
+    inputs.select("stream")?;
+    let mut packets = Packets::new(alloc, &stream[..first])?;
+    let mut lister = Lister::new(alloc);
+    let ended = take_runs(&mut lister, &mut packets, &mut inputs, usize::MAX)?;
+    if !ended {
+        return Err(Failed.into());
+    }
+    Ok(lister)
+}
+
+/// The stream has this listing in pieces of any length, whether or not the text is cleared behind each, and by its runs.
 fn assert_listing(rt: &impl Abort, alloc: Global, stream: &[u8], want: &[u8]) -> Result<(), Fail> {
     for length in [1, 3, 4, 7, 4096] {
         let lister = listed(alloc, stream, length)?;
         assert_eq!(rt; lister.text(), want, "in pieces of {length}");
         let text = joined(alloc, stream, length)?;
         assert_eq!(rt; text.as_slice(), want, "cleared behind pieces of {length}");
+        for first in [0, 2, 13] {
+            let lister = listed_by_runs(alloc, stream, first, length)?;
+            assert_eq!(rt;
+                lister.text(),
+                want,
+                "by runs, {first} bytes first, in pieces of {length}"
+            );
+        }
     }
     Ok(())
 }
