@@ -266,7 +266,7 @@ other_more bytes more place (after, prefix, h, w) =
       },
     )
 
-header_cut : (bytes : List ℕ) (r : Result (Contents × ℕ) HeaderFault) → AreBytes bytes → EndsInHeader bytes → header_at bytes ≡ r → header_at bytes ≡ Err (fault.Cut (length bytes))
+pub header_cut : (bytes : List ℕ) (r : Result (Contents × ℕ) HeaderFault) → AreBytes bytes → EndsInHeader bytes → header_at bytes ≡ r → header_at bytes ≡ Err (fault.Cut (length bytes))
 header_cut bytes (Ok x) f w e =
     let t = header_takes bytes x f e in
     let more = drop x.1 bytes in

@@ -1,3 +1,4 @@
 pub mod CutLemmas
 pub mod HeaderLemmas
 pub mod StepLemmas
+pub mod WaitLemmas

@@ -1,5 +1,5 @@
 -- Reading a header from left to right by its layout, with the first fault that is met (not in UG470: the layout that the vendor's tool writes).
-use Rattle.std.specs.Prelude.{◌≡◌, ℕ, ◌+◌, ◌-◌, ◌*◌, List, [], ◌∷◌, length, take, drop, Result, Ok, Err, nat_le, nat_eq, ◌==◌, if◌then◌else◌}
+use Rattle.std.specs.Prelude.{◌≡◌, ℕ, ◌+◌, ◌-◌, ◌*◌, ◌<◌, List, [], ◌∷◌, ◌++◌, length, take, drop, Result, Ok, Err, nat_le, nat_eq, ◌==◌, if◌then◌else◌}
 use Rattle.std.specs.List.{starts_with}
 use Rattle.x7_words.specs.Word.{word_of_bytes}
 use Rattle.x7_header.specs.Header.{fixed_bytes, Kind, Field, layout, Contents}
@@ -47,6 +47,18 @@ text_size (letter ∷ high ∷ []) = 3
 text_size (letter ∷ []) = 3
 text_size [] = 3
 
+-- how many bytes of the part that is being read a field of text lacks of which this is a prefix: of its letter, of its count, of its text
+abbrev pub text_lacks : List ℕ → ℕ
+text_lacks [] = 1
+text_lacks (letter ∷ []) = 2
+text_lacks (letter ∷ high ∷ []) = 1
+text_lacks (letter ∷ high ∷ low ∷ bytes) = high * 256 + low - length bytes
+
+-- the same of a field of a number: of its letter, of its four bytes
+abbrev pub number_lacks : List ℕ → ℕ
+number_lacks [] = 1
+number_lacks (letter ∷ bytes) = 4 - length bytes
+
 -- what each of the fields holds, and what follows them
 unfoldable pub fields_at : ℕ → List Field → List ℕ → Result (List (List ℕ) × List ℕ) HeaderFault
 fields_at total [] bytes = Ok ([], bytes)
@@ -75,3 +87,14 @@ unfoldable pub header_at : List ℕ → Result (Contents × ℕ) HeaderFault
 header_at bytes = do
   after ← fixed_at bytes
   layout_at (length bytes) after
+
+-- ---- bytes that wait for so many more: with fewer the input ends inside the field, the fields or the header that they begin
+
+abbrev pub FieldWaits : Field → List ℕ → ℕ → Type 0
+FieldWaits field bytes count = (total : ℕ) (more : List ℕ) → length more < count → field_at total field (bytes ++ more) ≡ Err (fault.Cut total)
+
+abbrev pub LayoutWaits : List ℕ → ℕ → Type 0
+LayoutWaits bytes count = (total : ℕ) (more : List ℕ) → length more < count → layout_at total (bytes ++ more) ≡ Err (fault.Cut total)
+
+abbrev pub HeaderWaits : List ℕ → ℕ → Type 0
+HeaderWaits bytes count = (more : List ℕ) → length more < count → header_at (bytes ++ more) ≡ Err (fault.Cut (length (bytes ++ more)))

@@ -4,6 +4,7 @@
 mod fault;
 mod field;
 mod header;
+mod progress;
 mod reading;
 #[cfg(test)]
 mod tests;
@@ -12,5 +13,6 @@ mod writing;
 pub use fault::HeaderFault;
 pub use field::{behind_fixed_bytes, number_field, size_of_text_field, text_field};
 pub use header::Head;
+pub use progress::wanted;
 pub use reading::header_of;
 pub use writing::write_header;

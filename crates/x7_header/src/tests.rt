@@ -1,7 +1,7 @@
 //! What no clause says: headers as the vendor's tool writes them, and that one is written while memory is left.
 use crate::{
     Head, HeaderFault, behind_fixed_bytes, header_of, number_field, size_of_text_field, text_field,
-    write_header,
+    wanted, write_header,
 };
 use std::test::Fail;
 
@@ -148,4 +148,25 @@ fn a_header_in_pieces(rt: HostRuntime) {
         number_field(&SMALL[55..60], b'e', 60),
         Ok((15, b"".as_slice()))
     );
+}
+
+#[test]
+fn how_much_of_a_header_to_read_next(rt: HostRuntime) {
+    // how many bytes were read, how many to read next
+    let cases = [
+        (0, 13), // the fixed bytes
+        (5, 8),
+        (13, 1), // a letter
+        (14, 2), // its count
+        (15, 1),
+        (16, 4), // its text
+        (18, 2),
+        (20, 1), // a letter
+        (55, 1),
+        (56, 4), // the number
+        (59, 1),
+    ];
+    for (count, next) in cases {
+        assert_eq!(rt; wanted(&SMALL[..count]), next);
+    }
 }

@@ -5,16 +5,17 @@ use Rattle.x7_words.specs.Sink.{appended, PutsFront}
 use Rattle.x7_words.proofs.SinkLemmas.{appended-appended, appended-nil}
 use Rattle.x7_listing.specs.Telling.{ListerState}
 use Rattle.x7_listing.proofs.BoundLemmas.{few_held}
+use Rattle.x7_listing.specs.StreamListing.{stream_listing}
 use Rattle.x7_tool.specs.declared.bad_input.InputFault.TheVariants as input
-use Rattle.x7_tool.specs.Ahead.{IsLonger, IsNear, most_ahead, NearFor, StaysNear}
+use Rattle.x7_tool.specs.Ahead.{IsLonger, IsNear, IsSoon, most_ahead, NearFor, SoonFor, StaysNear}
 use Rattle.x7_tool.specs.declared.refusal.Refusal.{Refusal}
 use Rattle.x7_tool.specs.declared.status.Status.{Status}
 use Rattle.x7_tool.specs.declared.status.Status.TheVariants as status
 use Rattle.x7_tool.specs.Message.{event_of, text_status}
 use Rattle.x7_tool.specs.Event.{Event, status_of, bad_input, missing, no_memory, read_fault, too_large, write_fault}
 use Rattle.x7_tool.specs.Form.{Asked, Listing}
-use Rattle.x7_tool.specs.Turn.{Lists, Unfronted, Unopened, Unread}
-use Rattle.x7_tool.proofs.Causes.{known_all}
+use Rattle.x7_tool.specs.Turn.{IsBadFront, Lists, Unfronted, Unopened, Unread}
+use Rattle.x7_tool.proofs.Causes.{known_all, may_follow}
 
 pub same_now : (old : Option (List ℕ)) → IsLonger old old
 same_now old = ([], sym (appended-nil old))
@@ -61,6 +62,21 @@ turn_near contents stream taken piece line sent l rest old mid new s close few t
     let told : length (t.given ++ l.text) ≡ length t.given = ap (λ (x : List ℕ). length (t.given ++ x)) t.clear ∙ ap length (append-nil t.given) in
     omega (arith, few, close, held, told, ap length all, length-append (before ++ line ++ t.given) m.0, length-append (before ++ line) t.given, length-append before line, length-append taken piece))
 
+-- ---- what the refusal of a header finds
+
+same_place : (m n : ℕ) (r : Result (List ℕ) ℕ) → r ≡ Err m → r ≡ Err n → m ≡ n
+same_place m n r a b = let e : Err m ≡ r = sym a in cc
+
+pub bad_soon : (contents : Option (List ℕ → Option (List ℕ))) (stream name : List ℕ) (r0 rest : Option (List ℕ)) (event : Event) → Selects contents stream r0 → IsBadFront r0 rest name event → IsSoon contents stream rest
+bad_soon contents stream name r0 rest event s b inputs bytes left place c i r l =
+    let sel : Selects contents stream (preceded b.bytes rest) = subst (λ (k : Option (List ℕ)). Selects contents stream k) b.taken s in
+    let t = known_all inputs stream b.bytes rest (subst (λ (k : Option (List ℕ → Option (List ℕ))). Selects k stream (preceded b.bytes rest)) c sel) in
+    let tail : left ≡ t.0 = let e = t.1.0 in cc in
+    let whole : bytes ≡ b.bytes ++ t.0 = let e = t.1.1 in cc in
+    let refused = b.refused t.0 (may_follow b.last rest t.0 t.1.0 b.end) in
+    let same = same_place place b.place (stream_listing (b.bytes ++ t.0)) (ap stream_listing (sym whole) ∙ l) refused in
+    omega (arith, b.soon, same, ap length whole, ap length tail, length-append b.bytes t.0)
+
 -- ---- by the event
 
 module _ (contents : Option (List ℕ → Option (List ℕ))) (stream : List ℕ) (rest old new : Option (List ℕ)) where
@@ -71,10 +87,10 @@ module _ (contents : Option (List ℕ → Option (List ℕ))) (stream : List ℕ
   unopened_near map name f0 f1 a0 a1 event (inl h) = as_event event (missing name) h.0 tt
   unopened_near map name f0 f1 a0 a1 event (inr h) = as_event event (read_fault name) h.0 tt
 
-  pub unfronted_near : (r0 r1 : Option (List ℕ)) (name : List ℕ) (f0 f1 : ℕ) (event : Event) → Unfronted r0 r1 name f0 f1 event → StaysNear (status_of event) (Some (Listing stream)) contents rest old new
-  unfronted_near r0 r1 name f0 f1 event (inl h) = as_event event no_memory h tt
-  unfronted_near r0 r1 name f0 f1 event (inr (inl h)) = as_event event (read_fault name) h.0 tt
-  unfronted_near r0 r1 name f0 f1 event (inr (inr h)) = as_event event (bad_input name (input.Byte h.place)) h.is tt
+  pub unfronted_near : (r0 : Option (List ℕ)) (name : List ℕ) (f0 f1 : ℕ) (event : Event) → Selects contents stream r0 → Unfronted r0 rest name f0 f1 event → StaysNear (status_of event) (Some (Listing stream)) contents rest old new
+  unfronted_near r0 name f0 f1 event s (inl h) = as_event event no_memory h tt
+  unfronted_near r0 name f0 f1 event s (inr (inl h)) = as_event event (read_fault name) h.0 tt
+  unfronted_near r0 name f0 f1 event s (inr (inr h)) = as_event event (bad_input name (input.Byte h.place)) h.is (bad_soon contents stream name r0 rest event s h)
 
   pub unread_near : (r0 r1 : Option (List ℕ)) (name : List ℕ) (left most f0 f1 : ℕ) (event : Event) → Unread r0 r1 name left most f0 f1 event → StaysNear (status_of event) (Some (Listing stream)) contents rest old new
   unread_near r0 r1 name left most f0 f1 event (inl h) = as_event event (read_fault name) h.0 tt
@@ -86,22 +102,22 @@ module _ (contents : Option (List ℕ → Option (List ℕ))) (stream : List ℕ
 
 -- ---- of the whole command
 
-any_status : (s : Status) (form : Option Asked) (contents : Option (List ℕ → Option (List ℕ))) (rest old new : Option (List ℕ)) → NearFor form contents rest old new → StaysNear s form contents rest old new
-any_status status.Done form contents rest old new h = tt
-any_status status.Stopped form contents rest old new h = tt
-any_status status.Usage form contents rest old new h = tt
-any_status status.Missing form contents rest old new h = tt
-any_status status.BadPart form contents rest old new h = tt
-any_status status.BadInput form contents rest old new h = tt
-any_status status.ReadFault form contents rest old new h = tt
-any_status status.WriteFault form contents rest old new h = h
-any_status status.NoMemory form contents rest old new h = tt
-any_status status.TooLarge form contents rest old new h = tt
+any_status : (s : Status) (form : Option Asked) (contents : Option (List ℕ → Option (List ℕ))) (rest old new : Option (List ℕ)) → NearFor form contents rest old new → SoonFor form contents rest → StaysNear s form contents rest old new
+any_status status.Done form contents rest old new h k = tt
+any_status status.Stopped form contents rest old new h k = tt
+any_status status.Usage form contents rest old new h k = tt
+any_status status.Missing form contents rest old new h k = tt
+any_status status.BadPart form contents rest old new h k = tt
+any_status status.BadInput form contents rest old new h k = k
+any_status status.ReadFault form contents rest old new h k = tt
+any_status status.WriteFault form contents rest old new h k = h
+any_status status.NoMemory form contents rest old new h k = tt
+any_status status.TooLarge form contents rest old new h k = tt
 
-pub elsewhere : {A : Type 0} (form : Option Asked) (f : Asked) (contents : Option (List ℕ → Option (List ℕ))) (rest old new : Option (List ℕ)) (r : Result A Refusal) → form ≡ Some f → NearFor (Some f) contents rest old new
+pub elsewhere : {A : Type 0} (form : Option Asked) (f : Asked) (contents : Option (List ℕ → Option (List ℕ))) (rest old new : Option (List ℕ)) (r : Result A Refusal) → form ≡ Some f → NearFor (Some f) contents rest old new → SoonFor (Some f) contents rest
     → IfErr r (λ x. StaysNear (status_of (event_of x)) form contents rest old new)
-elsewhere form f contents rest old new (Ok a) e h = tt
-elsewhere form f contents rest old new (Err x) e h = any_status (status_of (event_of x)) form contents rest old new (subst (λ (k : Option Asked). NearFor k contents rest old new) (sym e) h)
+elsewhere form f contents rest old new (Ok a) e h k = tt
+elsewhere form f contents rest old new (Err x) e h k = any_status (status_of (event_of x)) form contents rest old new (subst (λ (a : Option Asked). NearFor a contents rest old new) (sym e) h) (subst (λ (a : Option Asked). SoonFor a contents rest) (sym e) k)
 
 pub text_near : (b : Bool) (s : Status) (form : Option Asked) (contents : Option (List ℕ → Option (List ℕ))) (rest old new : Option (List ℕ)) → s ≡ text_status b → StaysNear s form contents rest old new
 text_near true s form contents rest old new e = subst (λ (k : Status). StaysNear k form contents rest old new) (sym e) tt

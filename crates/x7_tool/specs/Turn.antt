@@ -1,8 +1,9 @@
 -- Inputs that are read, and a listing that is written, turn by turn.
-use Rattle.std.specs.Prelude.{◌≡◌, ◌<◌, ◌≤◌, ◌⊎◌, ◌++◌, ℕ, Bool, true, List, [], Option, None, Some, Ok, Err, drop, length, ◌+◌}
+use Rattle.std.specs.Prelude.{◌≡◌, ◌≢◌, ◌<◌, ◌≤◌, ◌⊎◌, ◌++◌, ℕ, Bool, true, List, [], Option, None, Some, Ok, Err, drop, length, ◌+◌}
 use Rattle.x7_words.specs.Count.{HasRisen}
 use Rattle.x7_words.specs.Input.{AtEnd, Lacks, preceded}
 use Rattle.x7_words.specs.Sink.{appended}
+use Rattle.x7_header.specs.Header.{Contents, HasOtherLetterAt, HaveHeader, fixed_bytes, header_bytes}
 use Rattle.x7_tool.specs.Event.{Event, bad_input, missing, no_memory, read_fault, too_large}
 use Rattle.x7_tool.specs.declared.bad_input.InputFault.TheVariants as input
 use Rattle.x7_listing.specs.Assembly.{IsAsm}
@@ -53,6 +54,20 @@ pub record ListsStream (l : ListerState) (first now : Option (List ℕ)) (bytes 
 abbrev pub MayFollow : Bool → List ℕ → Type 0
 MayFollow last rest = last ≡ true → rest ≡ []
 
+-- the data begin at this byte: behind a header, or at the first byte where there is none
+abbrev pub BeginAt : List ℕ → ℕ → Type 0
+BeginAt bytes start =
+    ((x : Contents) × HaveHeader x × (bytes ≡ header_bytes x ++ drop start bytes) × (start ≡ length (header_bytes x)))
+    ⊎ ((start ≡ 0) × ((rest : List ℕ) → bytes ≢ fixed_bytes ++ rest))
+
+-- no byte is held behind a header, and where there is none, no more than are needed to know it
+abbrev pub HoldsFew : List ℕ → ℕ → Type 0
+HoldsFew bytes start = (start ≡ length bytes) ⊎ ((start ≡ 0) × (length bytes ≤ 13))
+
+-- a header is refused at this byte: the bytes end there inside it, or another letter stands there
+abbrev pub RefusedAt : List ℕ → ℕ → Type 0
+RefusedAt bytes place = (place ≡ length bytes) ⊎ HasOtherLetterAt bytes place
+
 -- the first bytes of a stream, where its header is judged: its line or nothing, and where the data begin
 abbrev pub IsFront : List ℕ → Bool → List ℕ → ℕ → Type 0
 IsFront bytes last line start = (rest : List ℕ) → MayFollow last rest → stream_listing (bytes ++ rest) ≡ Ok (line ++ listing_of (drop start bytes ++ rest))
@@ -63,6 +78,7 @@ pub record FrontRead (bytes line : List ℕ) (start : ℕ) (last : Bool) (rest r
   pub end : last ≡ true → AtEnd rest_now
   pub within : start ≤ length bytes
   pub few : length bytes ≤ 327706
+  pub holds_few : HoldsFew bytes start
   pub front : IsFront bytes last line start
 
 -- the first bytes of a stream whose header is refused at this byte
@@ -78,6 +94,8 @@ pub record IsBadFront (rest rest_now : Option (List ℕ)) (name : List ℕ) (eve
   pub taken : rest ≡ preceded bytes rest_now
   pub end : last ≡ true → AtEnd rest_now
   pub refused : IsRefused bytes last place
+  -- none behind the byte at which the header is refused
+  pub soon : length bytes ≤ place + 1
 
 -- a stream's front was not read: want of memory, the inputs failed, or the header is refused
 abbrev pub Unfronted : Option (List ℕ) → Option (List ℕ) → List ℕ → ℕ → ℕ → Event → Type 0

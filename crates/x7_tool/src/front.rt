@@ -1,15 +1,16 @@
 //! The beginning of a stream that is listed, up to where its header is judged.
 ghost use Rattle.std.specs.Prelude.{◌≡◌, ◌≤◌, ◌⊎◌, ℕ, List, length, true, false, IfErr, IfOk, MatchOption, OnOk};
+ghost use Rattle.x7_header.specs.Header.{EndsInHeader};
 ghost use Rattle.x7_tool.specs.Event.{bad_input, no_memory};
 ghost use Rattle.x7_tool.specs.Message.{event_of};
-ghost use Rattle.x7_tool.specs.Turn.{FrontRead, IsFront, IsRefused, Unfronted};
+ghost use Rattle.x7_tool.specs.Turn.{BeginAt, FrontRead, IsFront, IsRefused, RefusedAt, Unfronted};
 ghost use Rattle.x7_tool.specs.declared.bad_input.InputFault.TheVariants as input;
 
 use crate::bad_input::InputFault;
 use crate::read::{STREAM_LIMIT, TURN, next_turn};
 use crate::refusal::{Refusal, Why};
 use std::alloc::Global;
-use x7_header::{HeaderFault, header_of};
+use x7_header::{HeaderFault, header_of, wanted};
 use x7_listing::header_line;
 use x7_words::Inputs;
 
@@ -38,9 +39,10 @@ fn judge<'w>(
     last: bool,
 ) -> Result<Option<Judged>, Refusal<'w>>
     requires long { last ≡ false → 13 ≤ length bytes.now }
-    ensures judged { IfOk result (λ found. MatchOption found ((last ≡ false) × (length bytes.now ≤ 262170))
+    ensures judged { IfOk result (λ found. MatchOption found ((last ≡ false) × (length bytes.now ≤ 262170) × EndsInHeader bytes.now)
         (λ judged. (judged.start ≤ length bytes.now) × IsFront bytes.now last judged.line.items judged.start)) }
-    ensures refused { IfErr result (λ r. (event_of r ≡ no_memory) ⊎ ((place : ℕ) × (event_of r ≡ bad_input name.now (input.Byte place)) × IsRefused bytes.now last place)) }
+    ensures begin { IfOk result (λ found. MatchOption found (Unit {0}) (λ judged. BeginAt bytes.now judged.start)) }
+    ensures refused { IfErr result (λ r. (event_of r ≡ no_memory) ⊎ ((place : ℕ) × (event_of r ≡ bad_input name.now (input.Byte place)) × IsRefused bytes.now last place × RefusedAt bytes.now place)) }
 {
     match header_of(bytes) {
         Ok(head) => match header_line(alloc, &head) {
@@ -73,7 +75,8 @@ pub(crate) struct Front {
     pub(crate) last: bool,
 }
 
-/// Reads turns of the open input until its header is judged.
+/// Reads the first bytes of the open input until its header is judged, field by field: none behind a header, nor behind a
+/// wrong letter.
 pub(crate) fn read_front<'w, I: Inputs>(
     alloc: Global,
     inputs: &mut I,
@@ -90,7 +93,9 @@ pub(crate) fn read_front<'w, I: Inputs>(
     let mut bytes = Vec::new(alloc);
     let mut piece = [0u8; TURN];
     loop {
-        let turn = match next_turn(inputs, stream, STREAM_LIMIT - bytes.len(), &mut piece) {
+        let count = wanted(&bytes).min(TURN);
+        let left = STREAM_LIMIT - bytes.len();
+        let turn = match next_turn(inputs, stream, left, &mut piece[..count]) {
             Ok(turn) => turn,
             Err(refusal) => return Err(refusal),
         };

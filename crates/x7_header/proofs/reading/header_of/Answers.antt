@@ -1,8 +1,7 @@
-use Rattle.std.proofs.Common.{◌<◌, List, ℕ, length, sym, subst, arith}
-use Rattle.x7_words.specs.Word.{AreBytes}
+use Rattle.std.proofs.Common.{◌<◌, arith}
 use Rattle.x7_words.proofs.ListLemmas.{all_from_places}
 use Rattle.x7_header.specs.Header.{contents_of}
-use Rattle.x7_header.specs.Reading.{Gives, header_at}
+use Rattle.x7_header.specs.Reading.{header_at}
 use Rattle.x7_header.proofs.CutLemmas.{is_cut}
 use Rattle.x7_header.proofs.HeaderLemmas.{header_after, header_none, is_found, is_only, is_other, is_raw, is_short}
 use Rattle.x7_header.proofs.StepLemmas.{gives_fault}

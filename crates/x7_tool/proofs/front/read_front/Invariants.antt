@@ -1,4 +1,5 @@
-use Rattle.std.proofs.Common.{◌≡◌, ◌≤◌, ◌-◌, length, true}
+use Rattle.std.proofs.Common.{◌≡◌, ◌≤◌, ◌<◌, ◌-◌, length, true}
+use Rattle.x7_header.specs.Header.{EndsInHeader}
 use Rattle.x7_words.specs.Input.{preceded}
 use Rattle.x7_tool.proofs.front.read_front.Given as goal
 
@@ -12,6 +13,7 @@ invariant-loop-turn g l =
       absences : i.absences l.fn.inputs ≤ i.absences l.inputs;
       piece : length l.piece ≡ 65536;
       few : length l.bytes.items ≤ 262170;
+      waiting : 0 < length l.bytes.items → EndsInHeader l.bytes.items;
       taken : i.rest l.fn.inputs ≡ preceded l.bytes.items (i.rest l.inputs);
     }
 

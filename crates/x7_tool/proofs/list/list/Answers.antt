@@ -263,7 +263,7 @@ returns-in-Err-clause-near g c =
 
 pub returns-in-Err-read_front-clause-near : goal.returns-in-Err-read_front-clause-near
 returns-in-Err-read_front-clause-near g c =
-    unfronted_near (g.I.Inputs.contents c.args.inputs.now) c.args.stream.now (g.I.Inputs.rest c.read_front.new.inputs) (g.O.Sink.written c.args.out.now) (g.O.Sink.written c.args.out.now) _ _ c.args.stream.now _ _ (event_of c.in-Err-read_front.refusal) c.in-Err-read_front.ensures.err
+    unfronted_near (g.I.Inputs.contents c.args.inputs.now) c.args.stream.now (g.I.Inputs.rest c.read_front.new.inputs) (g.O.Sink.written c.args.out.now) (g.O.Sink.written c.args.out.now) (g.I.Inputs.rest c.open.new.inputs) c.args.stream.now _ _ (event_of c.in-Err-read_front.refusal) c.in-Ok.ensures.found c.in-Err-read_front.ensures.err
 
 pub returns-in-Err-put_front-clause-near : goal.returns-in-Err-put_front-clause-near
 returns-in-Err-put_front-clause-near g c =

@@ -107,34 +107,34 @@ returns-in-Err-clause-near g c =
     subst (λ (f : Option Asked). StaysNear (status_of (event_of c.in-Err.refusal)) f (g.I.Inputs.contents c.args.inputs.now) (g.I.Inputs.rest c.list.new.inputs) (g.O.Sink.written c.args.out.now) (g.O.Sink.written c.list.new.out)) (sym form) c.in-Err.ensures.near
 
 pub returns-in-Some-Play-clause-near : goal.returns-in-Some-Play-clause-near
-returns-in-Some-Play-clause-near g c = elsewhere _ (Playing c.in-Some-Play.part.now (map string_bytes c.in-Some-Play.streams.now)) _ _ _ _ c.put_whole.result (sym c.words_of.ensures ∙ ap asked c.in-Some-Play.is ∙ ap (λ f. Some (asked_by f)) c.in-Some-Play.field-0-is) tt
+returns-in-Some-Play-clause-near g c = elsewhere _ (Playing c.in-Some-Play.part.now (map string_bytes c.in-Some-Play.streams.now)) _ _ _ _ c.put_whole.result (sym c.words_of.ensures ∙ ap asked c.in-Some-Play.is ∙ ap (λ f. Some (asked_by f)) c.in-Some-Play.field-0-is) tt tt
 
 pub returns-in-Some-Asm-clause-near : goal.returns-in-Some-Asm-clause-near
-returns-in-Some-Asm-clause-near g c = elsewhere _ (Assembling c.in-Some-Asm.text.now) _ _ _ _ c.put_whole-in-Some-Asm.result (sym c.words_of.ensures ∙ ap asked c.in-Some-Asm.is ∙ ap (λ f. Some (asked_by f)) c.in-Some-Asm.field-0-is) tt
+returns-in-Some-Asm-clause-near g c = elsewhere _ (Assembling c.in-Some-Asm.text.now) _ _ _ _ c.put_whole-in-Some-Asm.result (sym c.words_of.ensures ∙ ap asked c.in-Some-Asm.is ∙ ap (λ f. Some (asked_by f)) c.in-Some-Asm.field-0-is) tt tt
 
 pub returns-in-Some-Mcs-clause-near : goal.returns-in-Some-Mcs-clause-near
-returns-in-Some-Mcs-clause-near g c = elsewhere _ (ToMcs c.in-Some-Mcs.image.now) _ _ _ _ c.put_whole-in-Some-Mcs.result (sym c.words_of.ensures ∙ ap asked c.in-Some-Mcs.is ∙ ap (λ f. Some (asked_by f)) c.in-Some-Mcs.field-0-is) tt
+returns-in-Some-Mcs-clause-near g c = elsewhere _ (ToMcs c.in-Some-Mcs.image.now) _ _ _ _ c.put_whole-in-Some-Mcs.result (sym c.words_of.ensures ∙ ap asked c.in-Some-Mcs.is ∙ ap (λ f. Some (asked_by f)) c.in-Some-Mcs.field-0-is) tt tt
 
 pub returns-in-Some-Unmcs-clause-near : goal.returns-in-Some-Unmcs-clause-near
-returns-in-Some-Unmcs-clause-near g c = elsewhere _ (FromMcs c.in-Some-Unmcs.text.now) _ _ _ _ c.put_whole-in-Some-Unmcs.result (sym c.words_of.ensures ∙ ap asked c.in-Some-Unmcs.is ∙ ap (λ f. Some (asked_by f)) c.in-Some-Unmcs.field-0-is) tt
+returns-in-Some-Unmcs-clause-near g c = elsewhere _ (FromMcs c.in-Some-Unmcs.text.now) _ _ _ _ c.put_whole-in-Some-Unmcs.result (sym c.words_of.ensures ∙ ap asked c.in-Some-Unmcs.is ∙ ap (λ f. Some (asked_by f)) c.in-Some-Unmcs.field-0-is) tt tt
 
 pub returns-in-Some-PlanFull-clause-near : goal.returns-in-Some-PlanFull-clause-near
-returns-in-Some-PlanFull-clause-near g c = elsewhere _ (PlanningFull c.in-Some-PlanFull.part.now c.in-Some-PlanFull.frames.now) _ _ _ _ c.put_whole-in-Some-PlanFull.result (sym c.words_of.ensures ∙ ap asked c.in-Some-PlanFull.is ∙ ap (λ f. Some (asked_by f)) c.in-Some-PlanFull.field-0-is) tt
+returns-in-Some-PlanFull-clause-near g c = elsewhere _ (PlanningFull c.in-Some-PlanFull.part.now c.in-Some-PlanFull.frames.now) _ _ _ _ c.put_whole-in-Some-PlanFull.result (sym c.words_of.ensures ∙ ap asked c.in-Some-PlanFull.is ∙ ap (λ f. Some (asked_by f)) c.in-Some-PlanFull.field-0-is) tt tt
 
 pub returns-in-Some-PlanPartial-clause-near : goal.returns-in-Some-PlanPartial-clause-near
-returns-in-Some-PlanPartial-clause-near g c = elsewhere _ (PlanningPartial c.in-Some-PlanPartial.part.now c.in-Some-PlanPartial.frames.now) _ _ _ _ c.put_whole-in-Some-PlanPartial.result (sym c.words_of.ensures ∙ ap asked c.in-Some-PlanPartial.is ∙ ap (λ f. Some (asked_by f)) c.in-Some-PlanPartial.field-0-is) tt
+returns-in-Some-PlanPartial-clause-near g c = elsewhere _ (PlanningPartial c.in-Some-PlanPartial.part.now c.in-Some-PlanPartial.frames.now) _ _ _ _ c.put_whole-in-Some-PlanPartial.result (sym c.words_of.ensures ∙ ap asked c.in-Some-PlanPartial.is ∙ ap (λ f. Some (asked_by f)) c.in-Some-PlanPartial.field-0-is) tt tt
 
 pub returns-in-Some-PlanRead-clause-near : goal.returns-in-Some-PlanRead-clause-near
-returns-in-Some-PlanRead-clause-near g c = elsewhere _ (PlanningRead c.in-Some-PlanRead.part.now c.in-Some-PlanRead.far c.in-Some-PlanRead.n) _ _ _ _ c.put_whole-in-Some-PlanRead.result (sym c.words_of.ensures ∙ ap asked c.in-Some-PlanRead.is ∙ ap (λ f. Some (asked_by f)) c.in-Some-PlanRead.field-0-is) tt
+returns-in-Some-PlanRead-clause-near g c = elsewhere _ (PlanningRead c.in-Some-PlanRead.part.now c.in-Some-PlanRead.far c.in-Some-PlanRead.n) _ _ _ _ c.put_whole-in-Some-PlanRead.result (sym c.words_of.ensures ∙ ap asked c.in-Some-PlanRead.is ∙ ap (λ f. Some (asked_by f)) c.in-Some-PlanRead.field-0-is) tt tt
 
 pub returns-in-Some-Image-clause-near : goal.returns-in-Some-Image-clause-near
-returns-in-Some-Image-clause-near g c = elsewhere _ (Imaging c.in-Some-Image.part.now c.in-Some-Image.golden.now c.in-Some-Image.update.now) _ _ _ _ c.put_whole-in-Some-Image.result (sym c.words_of.ensures ∙ ap asked c.in-Some-Image.is ∙ ap (λ f. Some (asked_by f)) c.in-Some-Image.field-0-is) tt
+returns-in-Some-Image-clause-near g c = elsewhere _ (Imaging c.in-Some-Image.part.now c.in-Some-Image.golden.now c.in-Some-Image.update.now) _ _ _ _ c.put_whole-in-Some-Image.result (sym c.words_of.ensures ∙ ap asked c.in-Some-Image.is ∙ ap (λ f. Some (asked_by f)) c.in-Some-Image.field-0-is) tt tt
 
 pub returns-in-Some-Gen-clause-near : goal.returns-in-Some-Gen-clause-near
-returns-in-Some-Gen-clause-near g c = elsewhere _ (Generating c.in-Some-Gen.part.now c.in-Some-Gen.seed) _ _ _ _ c.put_whole-in-Some-Gen.result (sym c.words_of.ensures ∙ ap asked c.in-Some-Gen.is ∙ ap (λ f. Some (asked_by f)) c.in-Some-Gen.field-0-is) tt
+returns-in-Some-Gen-clause-near g c = elsewhere _ (Generating c.in-Some-Gen.part.now c.in-Some-Gen.seed) _ _ _ _ c.put_whole-in-Some-Gen.result (sym c.words_of.ensures ∙ ap asked c.in-Some-Gen.is ∙ ap (λ f. Some (asked_by f)) c.in-Some-Gen.field-0-is) tt tt
 
 pub returns-in-Some-Debug-clause-near : goal.returns-in-Some-Debug-clause-near
-returns-in-Some-Debug-clause-near g c = elsewhere _ (Debugging c.in-Some-Debug.part.now c.in-Some-Debug.stream.now c.in-Some-Debug.script.now) _ _ _ _ c.put_whole-in-Some-Debug.result (sym c.words_of.ensures ∙ ap asked c.in-Some-Debug.is ∙ ap (λ f. Some (asked_by f)) c.in-Some-Debug.field-0-is) tt
+returns-in-Some-Debug-clause-near g c = elsewhere _ (Debugging c.in-Some-Debug.part.now c.in-Some-Debug.stream.now c.in-Some-Debug.script.now) _ _ _ _ c.put_whole-in-Some-Debug.result (sym c.words_of.ensures ∙ ap asked c.in-Some-Debug.is ∙ ap (λ f. Some (asked_by f)) c.in-Some-Debug.field-0-is) tt tt
 
 pub returns-in-Some-Boot-clause-ends : goal.returns-in-Some-Boot-clause-ends
 returns-in-Some-Boot-clause-ends g c =
@@ -146,7 +146,7 @@ returns-in-Some-Boot-clause-ends g c =
     _ _ _ (seen whole_of c.boot.result) _ (sym c.words_of.ensures ∙ ap asked c.in-Some-Boot.is ∙ ap (λ f. Some (asked_by f)) c.in-Some-Boot.field-0-is) tt c.boot.ensures.due c.put_whole-in-Some-Boot.ensures
 
 pub returns-in-Some-Boot-clause-near : goal.returns-in-Some-Boot-clause-near
-returns-in-Some-Boot-clause-near g c = elsewhere _ (Booting c.in-Some-Boot.part.now c.in-Some-Boot.name.now) _ _ _ _ c.put_whole-in-Some-Boot.result (sym c.words_of.ensures ∙ ap asked c.in-Some-Boot.is ∙ ap (λ f. Some (asked_by f)) c.in-Some-Boot.field-0-is) tt
+returns-in-Some-Boot-clause-near g c = elsewhere _ (Booting c.in-Some-Boot.part.now c.in-Some-Boot.name.now) _ _ _ _ c.put_whole-in-Some-Boot.result (sym c.words_of.ensures ∙ ap asked c.in-Some-Boot.is ∙ ap (λ f. Some (asked_by f)) c.in-Some-Boot.field-0-is) tt tt
 
 -- a boot names its flash
 pub returns-in-Some-Boot-clause-flash : goal.returns-in-Some-Boot-clause-flash

@@ -1,0 +1,88 @@
+//! How many bytes to read next of a header, for a caller who reads an input piece by piece.
+ghost use Rattle.std.specs.Prelude.{◌≡◌, ◌<◌, ◌+◌, ◌++◌, ℕ, List, length, IfErr, IfOk, Ok};
+ghost use Rattle.x7_header.specs.Header.{EndsInHeader, Kind};
+ghost use Rattle.x7_header.specs.Reading.{FieldWaits, HeaderWaits, LayoutWaits, field_at, number_lacks, text_lacks};
+
+use crate::fault::HeaderFault;
+use crate::field::{behind_fixed_bytes, number_field, text_field};
+use crate::header::FIXED_BYTES;
+
+/// How many bytes a field of text lacks of its letter, its count or its text, whichever it is in.
+fn text_lack(prefix: &[u8]) -> usize
+    ensures { result ≡ text_lacks prefix.now }
+{
+    match prefix {
+        [] => 1,
+        [_] => 2,
+        [_, _] => 1,
+        [_, high, low, text @ ..] => {
+            (usize::from(*high) * 256 + usize::from(*low)).saturating_sub(text.len())
+        }
+    }
+}
+
+/// How many bytes a field of a number lacks of its letter or its four bytes, whichever it is in.
+fn number_lack(prefix: &[u8]) -> usize
+    ensures { result ≡ number_lacks prefix.now }
+{
+    match prefix {
+        [] => 1,
+        [_, number @ ..] => 4usize.saturating_sub(number.len()),
+    }
+}
+
+/// What follows the field of text of this letter, or how many bytes it waits for: none where its letter is wrong.
+fn behind_text(bytes: &[u8], letter: u8) -> Result<&[u8], usize>
+    ensures whole { IfOk result (λ rest. (text : List ℕ) × ((total : ℕ) (more : List ℕ) →
+        field_at total (record { letter = letter; kind = Kind.Counted }) (bytes.now ++ more) ≡ Ok (text, rest.now ++ more))) }
+    ensures waits { IfErr result (λ lack. FieldWaits (record { letter = letter; kind = Kind.Counted }) bytes.now lack) }
+{
+    match text_field(bytes, letter, bytes.len()) {
+        Ok((_, rest)) => Ok(rest),
+        Err(HeaderFault::Cut(_)) => Err(text_lack(bytes)),
+        Err(_) => Err(0),
+    }
+}
+
+/// Nothing where the field of a number of this letter is whole, or how many bytes it waits for: none where its letter is wrong.
+fn behind_number(bytes: &[u8], letter: u8) -> Result<(), usize>
+    ensures waits { IfErr result (λ lack. FieldWaits (record { letter = letter; kind = Kind.Four }) bytes.now lack) }
+{
+    match number_field(bytes, letter, bytes.len()) {
+        Ok(_) => Ok(()),
+        Err(HeaderFault::Cut(_)) => Err(number_lack(bytes)),
+        Err(_) => Err(0),
+    }
+}
+
+/// Nothing where the fields after the fixed bytes are whole, or how many bytes they wait for: none where a letter is wrong.
+fn behind_fields(bytes: &[u8]) -> Result<(), usize>
+    ensures waits { IfErr result (λ lack. LayoutWaits bytes.now lack) }
+{
+    let rest = behind_text(bytes, b'a')?;
+    let rest = behind_text(rest, b'b')?;
+    let rest = behind_text(rest, b'c')?;
+    let rest = behind_text(rest, b'd')?;
+    behind_number(rest, b'e')
+}
+
+/// How many bytes to read next of an input that begins with these, where they are the first bytes of a header: up to the
+/// end of the fixed bytes, of a letter, of a count, of a text or of the number, whichever is next.
+pub fn wanted(bytes: &[u8]) -> usize
+    ensures some { 0 < result }
+    // At first the fixed bytes.
+    ensures fixed { length bytes.now < 13 → length bytes.now + result ≡ 13 }
+    // With fewer bytes more the input would still end inside the header, so none is read behind it, nor behind a wrong letter.
+    ensures waits { EndsInHeader bytes.now → HeaderWaits bytes.now result }
+{
+    if bytes.len() < FIXED_BYTES.len() {
+        return FIXED_BYTES.len() - bytes.len();
+    }
+    let Ok(fields) = behind_fixed_bytes(bytes) else {
+        return 1;
+    };
+    match behind_fields(fields) {
+        Err(lack) if lack > 0 => lack,
+        _ => 1,
+    }
+}
