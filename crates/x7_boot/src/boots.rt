@@ -79,6 +79,13 @@ impl Booted {
     {
         &self.device
     }
+
+    /// The device alone, as the last attempt left it.
+    pub fn into_device(self) -> Device
+        ensures { result ≡ self.device }
+    {
+        self.device
+    }
 }
 
 /// What the first attempt keeps: nothing, as power comes.

@@ -1,5 +1,5 @@
 -- Lemmas on the text of a boot, and on what a flash comes to.
-use Rattle.std.proofs.Common.{◌≡◌, ◌<◌, ◌≤◌, ℕ, List, [], ◌∷◌, length, Option, None, Some, Result, Ok, Err, IfErr, IfOk, refl, ap, subst, sym, ◌∙◌, inl, inr, ◌⊎◌, arith}
+use Rattle.std.proofs.Common.{◌≡◌, ◌<◌, ◌≤◌, ◌++◌, ℕ, Bool, List, [], ◌∷◌, length, Option, None, Some, Result, Ok, Err, IfErr, IfOk, refl, ap, subst, sym, ◌∙◌, inl, inr, ◌⊎◌, arith}
 use Rattle.std.proofs.lemmas.Bool.{cases_lt}
 use Rattle.x7_words.specs.Count.{HasRisen}
 use Rattle.x7_words.specs.Flash.{WhereTold}
@@ -7,17 +7,21 @@ use Rattle.x7_words.specs.Word.{AreBytes}
 use Rattle.x7_words.proofs.CountLemmas.{risen_from}
 use Rattle.x7_part.specs.Part.{PartData}
 use Rattle.x7_engine.specs.Standing.{NoWordDue}
+use Rattle.x7_engine.specs.State.{memory_in, state_of}
+use Rattle.x7_boot.specs.Attempt.{Trial}
 use Rattle.x7_boot.specs.Boot.{BootedState, IsBoot}
+use Rattle.x7_boot.specs.declared.boots.BootEnd.{BootEnd}
+use Rattle.x7_boot.specs.declared.boots.Tried.{Tried}
 use Rattle.x7_boot.specs.declared.fault.BootFault.{BootFault}
 use Rattle.x7_boot.specs.declared.fault.BootFault.TheVariants as boot_fault
-use Rattle.x7_tool.specs.BootText.{boot_text}
+use Rattle.x7_tool.specs.BootText.{boot_head, boot_text}
 use Rattle.x7_tool.specs.Event.{Event, no_memory, too_large}
 use Rattle.x7_tool.specs.Message.{event_of}
 use Rattle.x7_tool.specs.Outcome.{Answer, BootsAs, FlashBoots, boot_event, flash_limit, has_failed}
-use Rattle.x7_tool.specs.Play.{whole_of}
+use Rattle.x7_tool.specs.Play.{text_of_play}
+use Rattle.x7_tool.specs.Report.{report_text}
 use Rattle.x7_tool.specs.Run.{IsFree, RisesFor, seen}
 use Rattle.x7_tool.specs.declared.refusal.Refusal.{Refusal}
-use Rattle.x7_tool.specs.declared.text.Text.{Text}
 
 -- the answer of a boot
 pub boots_as : (part : PartData) (flash : List ℕ) (b : BootedState) (answer : Answer) (is : IsBoot part flash b) → answer.stopped ≡ has_failed b.end → answer.text ≡ boot_text part b.attempts b.end is.last → BootsAs part flash answer
@@ -29,6 +33,20 @@ boots_as part flash b answer is stopped text = record {
   stopped = stopped;
   text = text ∙ ap (λ a. boot_text part a b.end is.last) is.attempts;
 }
+
+-- the text of a boot by its head and the report of its device
+pub ready_is : (part : PartData) (last : Trial) (attempts a : List Tried) (end e f : BootEnd) (name head start : List ℕ) (stopped : Bool) (report text : Answer)
+    → start ≡ [] → head ≡ start ++ boot_head name a e → name ≡ part.name → a ≡ attempts → e ≡ end → stopped ≡ has_failed f → f ≡ end
+    → report ≡ record { stopped = stopped; text = report_text part (state_of part last.kept last.wrapped last.bytes) [] (memory_in part last.kept last.bytes) }
+    → text ≡ record { stopped = report.stopped; text = head ++ report.text } → text ≡ record { stopped = has_failed end; text = boot_text part attempts end last }
+unfolding boot_text
+ready_is part last attempts a end e f name head start stopped report text none begun named tried ends failed fs reports is =
+    let shown = report_text part (state_of part last.kept last.wrapped last.bytes) [] (memory_in part last.kept last.bytes) in
+    is
+    ∙ ap (λ (r : Answer). record { stopped = r.stopped; text = head ++ r.text }) reports
+    ∙ ap (λ (s : Bool). record { stopped = s; text = head ++ shown }) (failed ∙ ap has_failed fs)
+    ∙ ap (λ (t : List ℕ). record { stopped = has_failed end; text = t ++ shown })
+    (begun ∙ ap (λ (t : List ℕ). t ++ boot_head name a e) none ∙ ap (λ (n : List ℕ). boot_head n a e) named ∙ ap (λ (x : List Tried). boot_head part.name x e) tried ∙ ap (λ (x : BootEnd). boot_head part.name attempts x) ends)
 
 -- ---- where the bytes of the flash are told
 
@@ -45,11 +63,11 @@ want_free : (F L : List ℕ → Type 0) (event : Event) → event ≡ no_memory 
 want_free F L event e = subst (λ (x : Event). IsFree {A = Answer} F L (Err x)) (sym e) refl
 
 -- the text of a boot was made, or there was no memory for it
-pub text_boots : (name : List ℕ) (part : PartData) (flash told : Option (List ℕ)) (b : BootedState) (F L : List ℕ → Type 0) (got : Result Text Refusal) → told ≡ flash → WhereTold told (λ all. length all ≤ flash_limit)
-    → WhereTold told (λ all. AreBytes all → IsBoot part all b) → NoWordDue b.device → IfOk got (λ text. AnswersBoot b (whole_of text)) → IfErr got (λ r. event_of r ≡ no_memory)
-    → IsFree F L (seen whole_of got) ⊎ FlashBoots name part flash (seen whole_of got)
+pub text_boots : (name : List ℕ) (part : PartData) (flash told : Option (List ℕ)) (b : BootedState) (F L : List ℕ → Type 0) (got : Result Answer Refusal) → told ≡ flash → WhereTold told (λ all. length all ≤ flash_limit)
+    → WhereTold told (λ all. AreBytes all → IsBoot part all b) → NoWordDue b.device → IfOk got (λ text. AnswersBoot b (text_of_play text)) → IfErr got (λ r. event_of r ≡ no_memory)
+    → IsFree F L (seen text_of_play got) ⊎ FlashBoots name part flash (seen text_of_play got)
 text_boots name part flash told b F L (Ok text) e short boots due ok err =
-    inr (subst (λ (f : Option (List ℕ)). FlashBoots name part f (Ok (whole_of text))) e (flash_boots name part told b (whole_of text) short boots due ok))
+    inr (subst (λ (f : Option (List ℕ)). FlashBoots name part f (Ok (text_of_play text))) e (flash_boots name part told b (text_of_play text) short boots due ok))
 text_boots name part flash told b F L (Err r) e short boots due ok err = inl (want_free F L (event_of r) err)
 
 -- a flash is within the limit where it wasn't refused

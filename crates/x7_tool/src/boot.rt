@@ -11,13 +11,13 @@ ghost use Rattle.x7_tool.specs.Form.{Booting};
 ghost use Rattle.x7_tool.specs.Event.{no_memory};
 ghost use Rattle.x7_tool.specs.Message.{event_of};
 ghost use Rattle.x7_tool.specs.Outcome.{BootsAs, FlashBoots, Gives, boot_event, has_failed, with_inputs};
-ghost use Rattle.x7_tool.specs.Play.{whole_of};
+ghost use Rattle.x7_tool.specs.Play.{text_of_play};
 ghost use Rattle.x7_tool.specs.Run.{IsCausedBy, IsFree, IsUnattached, RisesFor, RisesIn, seen};
 
 use crate::play::read_part;
+use crate::play_text::PlayText;
 use crate::refusal::{Refusal, Why};
 use crate::reports::{put_number, put_text, report};
-use crate::text::Text;
 use std::alloc::Global;
 use x7_boot::{BootEnd, BootFault, Booted, Ending, Tried};
 use x7_part::Part;
@@ -159,16 +159,31 @@ fn has_failed(end: BootEnd) -> bool
     }
 }
 
-/// The text of a boot, and whether it ended without a start.
-fn text_of<'w>(alloc: Global, booted: &Booted) -> Result<Text, Refusal<'w>>
-    ensures ok { IfOk result (λ text. (part : PartData) (flash : List ℕ) → IsBoot part flash booted.now → NoWordDue booted.now.device → BootsAs part flash (whole_of text)) }
+/// The text of a boot, as `boot_text`, ready to be written, and whether it ended without a start.
+fn ready_text(alloc: Global, booted: Booted) -> Result<PlayText, NoMemory>
+    ensures { IfOk result (λ text. (part : PartData) (last : Trial) → IsDeviceOf part booted.device last → NoWordDue booted.device
+        → text ≡ record { stopped = has_failed booted.end; text = boot_text part booted.attempts booted.end last }) }
+{
+    let mut head = Vec::new(alloc);
+    put_head(
+        &mut head,
+        booted.device().part().name(),
+        booted.attempts(),
+        booted.end(),
+    )?;
+    let stopped = has_failed(booted.end());
+    let report = PlayText::new(alloc, booted.into_device(), &[], stopped)?;
+    let text = report.after(head)?;
+    Ok(text)
+}
+
+/// The text of a boot, or want of memory.
+fn text_of<'w>(alloc: Global, booted: Booted) -> Result<PlayText, Refusal<'w>>
+    ensures ok { IfOk result (λ text. (part : PartData) (flash : List ℕ) → IsBoot part flash booted → NoWordDue booted.device → BootsAs part flash text) }
     ensures err { IfErr result (λ r. event_of r ≡ no_memory) }
 {
-    match boot_text(alloc, booted) {
-        Ok(text) => Ok(Text {
-            stopped: has_failed(booted.end()),
-            text,
-        }),
+    match ready_text(alloc, booted) {
+        Ok(text) => Ok(text),
         Err(_) => Err(Refusal::unnamed(Why::NoMemory)),
     }
 }
@@ -217,9 +232,9 @@ fn boot_from<'w, F: Flash>(
     part: &Part,
     flash: &mut F,
     name: &'w str,
-) -> Result<Text, Refusal<'w>>
-    ensures due { IsFree (RisesFor (name.now ∷ []) (F.faults flash.old) (F.faults flash.new)) (RisesFor (name.now ∷ []) (F.absences flash.old) (F.absences flash.new)) (seen whole_of result)
-        ⊎ FlashBoots name.now part.now (F.bytes flash.old) (seen whole_of result) }
+) -> Result<PlayText, Refusal<'w>>
+    ensures due { IsFree (RisesFor (name.now ∷ []) (F.faults flash.old) (F.faults flash.new)) (RisesFor (name.now ∷ []) (F.absences flash.old) (F.absences flash.new)) (seen text_of_play result)
+        ⊎ FlashBoots name.now part.now (F.bytes flash.old) (seen text_of_play result) }
     ensures same { F.bytes flash.new ≡ F.bytes flash.old }
 {
     match attach(flash, name) {
@@ -227,7 +242,7 @@ fn boot_from<'w, F: Flash>(
         Err(refusal) => return Err(refusal),
     }
     match x7_boot::boot(alloc, part, flash) {
-        Ok(booted) => text_of(alloc, &booted),
+        Ok(booted) => text_of(alloc, booted),
         Err(fault) => Err(refusal_of(name, fault)),
     }
 }
@@ -239,10 +254,10 @@ pub(crate) fn boot<'w, I: Inputs, F: Flash>(
     flash: &mut F,
     part: &'w str,
     name: &'w str,
-) -> Result<Text, Refusal<'w>>
+) -> Result<PlayText, Refusal<'w>>
     ensures due { let form = Some (Booting part.now name.now) in IsCausedBy (with_inputs (I.contents inputs.old) (F.bytes flash.old))
         (RisesIn form (I.faults inputs.old) (I.faults inputs.new) (F.faults flash.old) (F.faults flash.new)) (RisesIn form (I.absences inputs.old) (I.absences inputs.new) (F.absences flash.old) (F.absences flash.new))
-        (λ known end. Gives known (Booting part.now name.now) end) (seen whole_of result) }
+        (λ known end. Gives known (Booting part.now name.now) end) (seen text_of_play result) }
     ensures same { F.bytes flash.new ≡ F.bytes flash.old }
 {
     match read_part(alloc, inputs, part) {

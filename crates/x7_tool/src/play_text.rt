@@ -125,6 +125,21 @@ impl PlayText {
         })
     }
 
+    /// The same text after lines of another.
+    pub(crate) fn after(self, lines: Vec<u8>) -> Result<PlayText, NoMemory>
+        ensures { IfOk result (λ text. text ≡ record { stopped = self.stopped; text = lines.items ++ self.text }) }
+    {
+        let mut head = lines;
+        head.extend_from_slice(&self.head)?;
+        Ok(PlayText {
+            stopped: self.stopped,
+            device: self.device,
+            head,
+            fars: self.fars,
+            block: self.block,
+        })
+    }
+
     /// Whether the device stopped at a fault.
     pub(crate) fn is_stopped(&self) -> bool
         ensures { result ≡ self.now.stopped }

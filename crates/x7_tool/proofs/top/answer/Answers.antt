@@ -143,7 +143,7 @@ returns-in-Some-Boot-clause-ends g c =
     let now = c.boot.new in
     text_ends _ (Booting c.in-Some-Boot.part.now c.in-Some-Boot.name.now) _
     (λ x. RisesIn x (i.faults c.args.inputs.now) (i.faults now.inputs) (f.faults c.args.flash.now) (f.faults now.flash)) (λ x. RisesIn x (i.absences c.args.inputs.now) (i.absences now.inputs) (f.absences c.args.flash.now) (f.absences now.flash))
-    _ _ _ (seen whole_of c.boot.result) _ (sym c.words_of.ensures ∙ ap asked c.in-Some-Boot.is ∙ ap (λ f. Some (asked_by f)) c.in-Some-Boot.field-0-is) tt c.boot.ensures.due c.put_whole-in-Some-Boot.ensures
+    _ _ _ (seen text_of_play c.boot.result) _ (sym c.words_of.ensures ∙ ap asked c.in-Some-Boot.is ∙ ap (λ f. Some (asked_by f)) c.in-Some-Boot.field-0-is) tt c.boot.ensures.due c.put_whole-in-Some-Boot.ensures
 
 pub returns-in-Some-Boot-clause-near : goal.returns-in-Some-Boot-clause-near
 returns-in-Some-Boot-clause-near g c = elsewhere _ (Booting c.in-Some-Boot.part.now c.in-Some-Boot.name.now) _ _ _ _ c.put_whole-in-Some-Boot.result (sym c.words_of.ensures ∙ ap asked c.in-Some-Boot.is ∙ ap (λ f. Some (asked_by f)) c.in-Some-Boot.field-0-is) tt tt
