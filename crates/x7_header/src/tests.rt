@@ -167,6 +167,9 @@ fn how_much_of_a_header_to_read_next(rt: HostRuntime) {
         (59, 1),
     ];
     for (count, next) in cases {
-        assert_eq!(rt; wanted(&SMALL[..count]), next);
+        let Some(bytes) = SMALL.get(..count) else {
+            panic!(rt; "the header has fewer bytes than {count}");
+        };
+        assert_eq!(rt; wanted(bytes), next);
     }
 }

@@ -75,7 +75,7 @@ fn frames_of_other_widths(rt: HostRuntime) -> Result<(), Fail> {
         for (far, word) in words {
             assert_eq!(rt;
                 copied.frame(&part, far),
-                Some(&[word; 255][..width]),
+                [word; 255].get(..width),
                 "{width}"
             );
         }
