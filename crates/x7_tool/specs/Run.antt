@@ -102,7 +102,7 @@ AnswersBy names contents faults faults_now absences absences_now Due got = (flas
 
 -- the same where a function of what is known says what is due
 abbrev pub AnswersAs : {A : Type 0} → List (List ℕ) → Option (List ℕ → Option (List ℕ)) → ℕ → ℕ → ℕ → ℕ → (Known → Result A Event) → Result A Event → Type 0
-AnswersAs names contents faults faults_now absences absences_now due got = (flash : Option (List ℕ)) → IsCaused (with_inputs contents flash) (RisesFor names faults faults_now) (RisesFor names absences absences_now) due got
+AnswersAs names contents faults faults_now absences absences_now due got = AnswersBy names contents faults faults_now absences absences_now (λ known end. due known ≡ end) got
 
 -- a flash was not attached: its name isn't there, or the flash failed
 abbrev pub IsUnattached : List ℕ → ℕ → ℕ → ℕ → ℕ → Event → Type 0
