@@ -11,4 +11,5 @@ pub mod RecordLemmas
 pub mod RoundLemmas
 pub mod RowLemmas
 pub mod RowsLemmas
+pub mod SizeLemmas
 pub mod BlockLemmas

@@ -1,5 +1,5 @@
 //! What a text gives, said in other words: laws of the definitions, for the proofs of crates above.
-ghost use Rattle.std.specs.Prelude.{◌≡◌, ℕ, true, false, ◌≤◌, ◌<◌, ◌+◌, ◌-◌, ◌%◌, ◌^◌, List, ◌∷◌, ◌++◌, length, get_or, Some, None, Ok, Err};
+ghost use Rattle.std.specs.Prelude.{◌≡◌, ℕ, true, false, ◌≤◌, ◌<◌, ◌+◌, ◌-◌, ◌*◌, ◌%◌, ◌^◌, List, ◌∷◌, ◌++◌, length, get_or, Some, None, Ok, Err};
 ghost use Rattle.x7_text.specs.Row.{rows};
 ghost use Rattle.x7_words.specs.Word.{AreBytes};
 ghost use Rattle.x7_mcs.specs.Flash.{Reading, after_lines, and_then, mcs_of, reading_of};
@@ -10,6 +10,11 @@ ghost use Rattle.x7_mcs.specs.declared.fault.McsFault.{McsFault};
 /// The text of bytes gives them back.
 pub fn text_leads_back()
     ensures { (bytes : List ℕ) → AreBytes bytes → length bytes ≤ 2 ^ 27 → mcs_of (mcs_text bytes) ≡ Ok bytes }
+{}
+
+/// The text of bytes has at most 15 characters for each four of them, and 40 more.
+pub fn text_is_short()
+    ensures { (bytes : List ℕ) → 4 * length (mcs_text bytes) ≤ 15 * length bytes + 160 }
 {}
 
 /// Want of memory is no text's fault.

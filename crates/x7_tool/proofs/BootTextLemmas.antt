@@ -17,7 +17,8 @@ use Rattle.x7_boot.specs.declared.fault.BootFault.TheVariants as boot_fault
 use Rattle.x7_tool.specs.BootText.{boot_head, boot_text}
 use Rattle.x7_tool.specs.Event.{Event, no_memory, too_large}
 use Rattle.x7_tool.specs.Message.{event_of}
-use Rattle.x7_tool.specs.Outcome.{Answer, BootsAs, FlashBoots, boot_event, flash_limit, has_failed}
+use Rattle.x7_boot.specs.Image.{flash_limit}
+use Rattle.x7_tool.specs.Outcome.{Answer, BootsAs, FlashBoots, boot_event, has_failed}
 use Rattle.x7_tool.specs.Play.{text_of_play}
 use Rattle.x7_tool.specs.Report.{report_text}
 use Rattle.x7_tool.specs.Run.{IsFree, RisesFor, seen}

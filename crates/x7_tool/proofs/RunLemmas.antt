@@ -10,6 +10,7 @@ use Rattle.x7_mcs.specs.Flash.{mcs_of}
 use Rattle.x7_listing.proofs.ShortLemmas.{stream-short}
 use Rattle.x7_mcs.specs.Text.{mcs_text}
 use Rattle.x7_mcs.proofs.BackLemmas.{text-gives}
+use Rattle.x7_mcs.proofs.SizeLemmas.{text-short}
 use Rattle.x7_words.specs.Sink.{PutsFront}
 use Rattle.x7_tool.specs.declared.refusal.Why.{Why}
 use Rattle.x7_tool.specs.declared.refusal.Why.TheVariants as why
@@ -188,10 +189,10 @@ back_is (Some (Assembling name)) old new s end outcome = λ bytes text fits shor
     let whole : whole_in known text_limit name ≡ Ok text = ap (λ (i : Option (List ℕ)). and_so (present name i) (within name text_limit)) has.1.1 ∙ within_limit name text text_limit (omega (arith, short, stream-short bytes text fits listed)) in
     leads_back s (Assembling name) known end (Ok (record { stopped = false; text = bytes })) (outcome known is quiet)
     (λ h. asm_back name text bytes end (stream-back bytes text fits short listed) (subst (λ (r : Result (List ℕ) Event). AssembledAs name r end) whole h))
-back_is (Some (FromMcs name)) old new s end outcome = λ bytes fits short small has quiet.
+back_is (Some (FromMcs name)) old new s end outcome = λ bytes fits short has quiet.
     let known : Known = record { inputs = has.0; flash = old.flash.bytes } in
     let is : known_in (Some (FromMcs name)) old ≡ Some known = ap (λ (i : Option (List ℕ → Option (List ℕ))). with_inputs i old.flash.bytes) has.1.0 in
-    let whole : whole_in known text_limit name ≡ Ok (mcs_text bytes) = ap (λ (i : Option (List ℕ)). and_so (present name i) (within name text_limit)) has.1.1 ∙ within_limit name (mcs_text bytes) text_limit small in
+    let whole : whole_in known text_limit name ≡ Ok (mcs_text bytes) = ap (λ (i : Option (List ℕ)). and_so (present name i) (within name text_limit)) has.1.1 ∙ within_limit name (mcs_text bytes) text_limit (omega (arith, short, text-short bytes)) in
     leads_back s (FromMcs name) known end (Ok (record { stopped = false; text = bytes })) (outcome known is quiet)
     (λ h. mcs_back name (mcs_text bytes) bytes end (text-gives bytes fits short) (sym (ap (λ (r : Result (List ℕ) Event). and_so r (λ text. mcs_image name (mcs_of text))) whole) ∙ h))
 back_is None old new s end outcome = tt

@@ -13,7 +13,7 @@ use Rattle.x7_part.specs.Part.{PartData}
 use Rattle.x7_words.specs.Word.{AreBytes}
 use Rattle.x7_boot.specs.Attempt.{Trial}
 use Rattle.x7_boot.specs.Boot.{LeadsToEnd, tried}
-use Rattle.x7_boot.specs.Image.{image_of, image_size}
+use Rattle.x7_boot.specs.Image.{flash_limit, image_of, image_size}
 use Rattle.x7_boot.specs.declared.boots.BootEnd.{BootEnd}
 use Rattle.x7_boot.specs.declared.boots.BootEnd.TheVariants as boot_end
 use Rattle.x7_boot.specs.declared.fault.BootFault.{BootFault}
@@ -171,10 +171,6 @@ abbrev pub AssembledAs : List ℕ → Result (List ℕ) Event → Result Answer 
 AssembledAs name (Err event) end = Err event ≡ end
 AssembledAs name (Ok text) (Ok answer) = (answer.stopped ≡ false) × IsAsm text (Ok answer.text)
 AssembledAs name (Ok text) (Err event) = (fault : AsmFault) × (IsAsm text (Err fault) × (asm_event name fault ≡ event))
-
--- the most bytes of a flash image
-abbrev pub flash_limit : ℕ
-flash_limit = 134217728
 
 -- `mcs IMAGE`: the flash text of an image
 abbrev pub mcs_written : Known → List ℕ → Result Answer Event

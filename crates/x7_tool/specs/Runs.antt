@@ -8,9 +8,10 @@ use Rattle.x7_tool.specs.Event.{Event, Cause, Wording, Want, Fault, Absence, Bre
 use Rattle.x7_words.specs.Word.{AreBytes}
 use Rattle.x7_listing.specs.StreamListing.{stream_listing}
 use Rattle.x7_mcs.specs.Text.{mcs_text}
+use Rattle.x7_boot.specs.Image.{flash_limit}
 use Rattle.x7_tool.specs.Form.{Asked, Assembling, FromMcs, names_flash}
 use Rattle.x7_tool.specs.Message.{final_status}
-use Rattle.x7_tool.specs.Outcome.{Answer, Known, IsOutcome, flash_limit, known_of, stream_limit, text_limit}
+use Rattle.x7_tool.specs.Outcome.{Answer, Known, IsOutcome, known_of, stream_limit}
 use Rattle.x7_tool.specs.Promise.{Promise}
 use Rattle.x7_tool.specs.Run.{Agrees, GetsPrefix, Leaves, RisesIn, Says, Shows}
 
@@ -88,7 +89,7 @@ LeadsBack s end bytes = (s ≡ status.NoMemory) ⊎ (end ≡ Ok (record { stoppe
 -- texts lead back, where nothing failed: the listing of a stream assembles to the stream, its header included, and the flash text of an image gives the image
 abbrev pub Back : Option Asked → Outside → Outside → Status → Result Answer Event → Type 0
 Back (Some (Assembling name)) old new s end = (bytes text : List ℕ) → AreBytes bytes → length bytes ≤ stream_limit → stream_listing bytes ≡ Ok text → HasText old name text → IsQuiet (Some (Assembling name)) old new → LeadsBack s end bytes
-Back (Some (FromMcs name)) old new s end = (bytes : List ℕ) → AreBytes bytes → length bytes ≤ flash_limit → length (mcs_text bytes) ≤ text_limit → HasText old name (mcs_text bytes) → IsQuiet (Some (FromMcs name)) old new → LeadsBack s end bytes
+Back (Some (FromMcs name)) old new s end = (bytes : List ℕ) → AreBytes bytes → length bytes ≤ flash_limit → HasText old name (mcs_text bytes) → IsQuiet (Some (FromMcs name)) old new → LeadsBack s end bytes
 Back form old new s end = Unit {0}
 
 -- a run of the command that the words ask for

@@ -1,0 +1,5 @@
+use Rattle.x7_mcs.proofs.SizeLemmas.{text-short}
+use Rattle.x7_mcs.proofs.laws.text_is_short.Goals as goal
+
+pub returns : goal.returns
+returns c = text-short
