@@ -1,27 +1,31 @@
 -- Lemmas on specs/AtOnce, and what a lister stands for after what it tells at once.
-use Rattle.std.proofs.Common.{◌≡◌, ℕ, zero, suc, ◌+◌, ◌*◌, ◌%◌, ◌^◌, ◌-◌, ◌<◌, ◌≤◌, ◌==◌, Bool, true, false, List, [], ◌∷◌, ◌++◌, codes, get_or, length, drop, take, take-add, take_all, length-drop, replicate, refl, ap, sym, subst, ◌∙◌, append_assoc, append-nil, arith, Vec}
+use Rattle.std.proofs.Common.{◌≡◌, ℕ, zero, suc, ◌+◌, ◌*◌, ◌%◌, ◌^◌, ◌-◌, ◌<◌, ◌≤◌, ◌==◌, Bool, true, false, List, [], ◌∷◌, ◌++◌, codes, get_or, length, drop, take, take-add, take_all, length-drop, replicate, refl, ap, sym, subst, ◌∙◌, append_assoc, append-nil, arith, Bor, Vec}
 use Rattle.std.proofs.lemmas.Bool.Decides.{nat_tests}
 use Rattle.std.proofs.lemmas.Fmt.{decimal_digit}
-use Rattle.std.proofs.lemmas.List.{length-take-le}
+use Rattle.std.proofs.lemmas.List.{length-take-le, take-take}
+use Rattle.std.specs.Simd.{first_chunks}
 use Rattle.std.specs.List.{flat_map}
 use Rattle.std.specs.declared.alloc.Global.{Global}
-use Rattle.x7_words.specs.Word.{bytes_of_word}
-use Rattle.x7_packets.specs.AtOnce.{Takes, WritesOne, write_head}
+use Rattle.x7_words.specs.Word.{bytes_of_word, words_of_bytes}
+use Rattle.x7_packets.specs.AtOnce.{EndsGap, short_head, Takes, write_head, WritesFew, WritesOne}
+use Rattle.x7_packets.specs.SyncWord.{sync_bytes}
 use Rattle.x7_packets.specs.Cutting.{CutterState, IsRun, Went}
 use Rattle.x7_packets.specs.Nops.{nop_bytes, nop_word}
 use Rattle.x7_packets.specs.Packet.{payload_steps, register_of}
 use Rattle.x7_packets.specs.declared.cutter.Cut.{Cut}
-use Rattle.x7_packets.specs.declared.cutter.Cut.TheVariants.{Head, Word}
+use Rattle.x7_packets.specs.declared.cutter.Cut.TheVariants.{Body, Head, Skip, Sync, Word}
 use Rattle.x7_packets.specs.declared.header.Step.TheVariants.{Nop, Open}
 use Rattle.x7_text.specs.Appends.{Appends}
-use Rattle.x7_text.specs.Digits.{hex_word}
-use Rattle.x7_text.specs.Row.{close}
+use Rattle.x7_text.specs.Digits.{hex_byte, hex_word}
+use Rattle.x7_text.specs.Row.{bytes_text, close, in_line_after, open_text}
+use Rattle.x7_text.proofs.LineLemmas.{bytes_closed}
 use Rattle.x7_regs.specs.Register.{reg_name}
 use Rattle.x7_listing.specs.declared.line.HeadLine.TheVariants.{Write}
-use Rattle.x7_listing.specs.AtOnce.{AreRows, command_lines, nop_lines, row_text, write_line, write_start}
+use Rattle.x7_listing.specs.AtOnce.{AreRows, command_lines, nop_lines, row_text, write_line, write_name, write_start}
 use Rattle.x7_listing.specs.HeadLine.{best_line, command_line, head_text, line_text}
-use Rattle.x7_listing.specs.Telling.{Tells, words_place, words_told, Writes}
-use Rattle.x7_listing.proofs.RunLemmas.{by_head, by_word}
+use Rattle.x7_listing.specs.Telling.{GapTold, Tells, words_place, words_told, Writes}
+use Rattle.x7_listing.proofs.GapLemmas.{told_more}
+use Rattle.x7_listing.proofs.RunLemmas.{by_body, by_head, by_skip, by_sync, by_word}
 use Rattle.x7_listing.proofs.SessionLemmas.{data_told, is_data}
 
 -- ---- texts
@@ -30,6 +34,13 @@ pub row_at : (text : ℕ → List ℕ) (n : ℕ) (rows : List (List ℕ)) (k m :
 row_at text n [] k m d a h e = absurd (omega (arith, h))
 row_at text n (row ∷ rows) zero m d a h e = let f : n ≡ m = omega (arith, e) in a.0 ∙ ap text f
 row_at text n (row ∷ rows) (suc k) m d a h e = row_at text (suc n) rows k m d a.1 (omega (arith, h)) (omega (arith, e))
+
+-- a row that begins a line, and one behind an open line
+pub row_first : (i : ℕ) (row text : List ℕ) → i ≡ 0 → row_text row ≡ text → row_text row ≡ close i ++ text
+row_first i row text e f = f ∙ ap (λ (k : ℕ). close k ++ text) (sym e)
+
+pub row_behind : (i : ℕ) (row text : List ℕ) → (i ≡ 0 → ⊥) → row_text row ≡ 10 ∷ text → row_text row ≡ close i ++ text
+row_behind i row text n f = let e : (i == 0) ≡ false = grind (arith, nat_tests) in f ∙ rw e refl
 
 pub nop_block : (n : ℕ) → flat_map (λ x. x) (replicate n (codes "nop\n")) ≡ nop_lines n
 nop_block zero = refl
@@ -68,41 +79,80 @@ write_line-is register h =
     ap line_text line ∙ ap (λ t. codes "write " ++ reg_name register ++ 32 ∷ t ++ 10 ∷ []) (decimal_digit 1 (omega arith)) ∙ append_assoc (codes "write " ++ reg_name register) (32 ∷ 49 ∷ []) (10 ∷ [])
 
 -- a write to CMD of a word that no row has
-pub far_command_appends : (t0 t1 t2 : Vec ℕ Global) (w : ℕ) → Appends t0 t1 (close 0 ++ head_text (Open 4 1) (write_head 4)) 48 → Appends t1 t2 (close 0 ++ command_line w) 48 → Appends t0 t2 (command_lines w) 96
-far_command_appends t0 t1 t2 w a b =
+pub far_command_appends : (t0 t1 t2 : Vec ℕ Global) (line w : ℕ) → Appends t0 t1 (close line ++ head_text (Open 4 1) (write_head 4)) 48 → Appends t1 t2 (close 0 ++ command_line w) 48 → Appends t0 t2 (close line ++ command_lines w) 97
+far_command_appends t0 t1 t2 line w a b =
     record {
-      items = b.items ∙ ap (λ t. t ++ command_line w) a.items ∙ append_assoc t0.items (head_text (Open 4 1) (write_head 4)) (command_line w) ∙ ap (λ t. t0.items ++ (t ++ command_line w)) (write_line-is 4 (omega arith));
+      items = b.items ∙ ap (λ t. t ++ command_line w) a.items ∙ append_assoc t0.items (close line ++ head_text (Open 4 1) (write_head 4)) (command_line w)
+          ∙ ap (λ t. t0.items ++ t) (append_assoc (close line) (head_text (Open 4 1) (write_head 4)) (command_line w) ∙ ap (λ t. close line ++ (t ++ command_line w)) (write_line-is 4 (omega arith)));
       within = omega (arith, a.within, b.within);
       room = omega (arith, a.room, b.room);
     }
 
 -- a write to CMD
-pub command_appends : (t0 t1 t2 : Vec ℕ Global) (line register w : ℕ) → register ≡ 4 → Appends t0 t1 (close line) 1 → Appends t1 t2 (command_lines w) 96
-    → Appends t0 t2 (close line ++ head_text (Open register 1) (write_head register) ++ words_told 0 (payload_steps register (w ∷ []))) 97
-command_appends t0 t1 t2 line register w e a b =
-    subst (λ (r : ℕ). Appends t0 t2 (close line ++ head_text (Open r 1) (write_head r) ++ words_told 0 (payload_steps r (w ∷ []))) 97) (sym e)
+pub command_appends : (t0 t1 : Vec ℕ Global) (line register w : ℕ) → register ≡ 4 → Appends t0 t1 (close line ++ command_lines w) 97
+    → Appends t0 t1 (close line ++ head_text (Open register 1) (write_head register) ++ words_told 0 (payload_steps register (w ∷ []))) 97
+command_appends t0 t1 line register w e a =
+    subst (λ (r : ℕ). Appends t0 t1 (close line ++ head_text (Open r 1) (write_head r) ++ words_told 0 (payload_steps r (w ∷ []))) 97) (sym e)
     (record {
-      items = b.items ∙ ap (λ t. t ++ command_lines w) a.items ∙ append_assoc t0.items (close line) (command_lines w)
-          ∙ ap (λ t. t0.items ++ t) (sym (append_assoc (close line) (write_line 4) (command_line w)) ∙ ap (λ t. close line ++ t ++ command_line w) (sym (write_line-is 4 (omega arith))) ∙ ap (λ t. close line ++ head_text (Open 4 1) (write_head 4) ++ t) (sym (append-nil (command_line w))));
-      within = omega (arith, a.within, b.within);
-      room = omega (arith, a.room, b.room);
+      items = a.items ∙ ap (λ t. t0.items ++ t) (sym (append_assoc (close line) (write_line 4) (command_line w)) ∙ ap (λ t. close line ++ t ++ command_line w) (sym (write_line-is 4 (omega arith))) ∙ ap (λ t. close line ++ head_text (Open 4 1) (write_head 4) ++ t) (sym (append-nil (command_line w))));
+      within = a.within;
+      room = a.room;
     })
 
 -- a write to another register
-pub data_appends : (t0 t1 t2 t3 : Vec ℕ Global) (line register w : ℕ) (row digits : List ℕ) → register < 32 → (register ≡ 4 → ⊥) → row_text row ≡ write_start register → digits ≡ hex_word w
-    → Appends t0 t1 (close line) 1 → Appends t1 t2 (row_text row) 32 → Appends t2 t3 digits (length digits)
-    → Appends t0 t3 (close line ++ head_text (Open register 1) (write_head register) ++ words_told 0 (payload_steps register (w ∷ []))) 97
-data_appends t0 t1 t2 t3 line register w row digits h n e f a b c =
+pub data_appends : (t0 t1 t2 : Vec ℕ Global) (line register w : ℕ) (row digits : List ℕ) → register < 32 → (register ≡ 4 → ⊥) → row_text row ≡ close line ++ write_start register → digits ≡ hex_word w
+    → Appends t0 t1 (row_text row) 32 → Appends t1 t2 digits (length digits)
+    → Appends t0 t2 (close line ++ head_text (Open register 1) (write_head register) ++ words_told 0 (payload_steps register (w ∷ []))) 97
+data_appends t0 t1 t2 line register w row digits h n e f b c =
     let H : List ℕ = write_line register in
     let told : words_told 0 (payload_steps register (w ∷ [])) ≡ codes "data " ++ hex_word w =
     data_told register 0 (w ∷ []) (is_data register n) ∙ append-nil _ ∙ ap (λ t. codes "data" ++ t) (append-nil (32 ∷ hex_word w)) in
     record {
-      items = c.items ∙ ap (λ t. t ++ digits) b.items ∙ ap (λ t. (t1.items ++ t) ++ digits) e ∙ ap (λ t. (t1.items ++ write_start register) ++ t) f ∙ ap (λ t. (t ++ write_start register) ++ hex_word w) a.items
-          ∙ append_assoc (t0.items ++ close line) (write_start register) (hex_word w) ∙ append_assoc t0.items (close line) (write_start register ++ hex_word w)
-          ∙ ap (λ t. t0.items ++ t) (ap (λ t. close line ++ t) (append_assoc H (codes "data ") (hex_word w)) ∙ sym (append_assoc (close line) H (codes "data " ++ hex_word w)) ∙ ap (λ t. close line ++ t ++ (codes "data " ++ hex_word w)) (sym (write_line-is register h)) ∙ ap (λ t. close line ++ head_text (Open register 1) (write_head register) ++ t) (sym told));
-      within = omega (arith, a.within, b.within, c.within, ap length f);
-      room = omega (arith, a.room, b.room, c.room);
+      items = c.items ∙ ap (λ t. t ++ digits) b.items ∙ ap (λ t. (t0.items ++ t) ++ digits) e ∙ ap (λ t. (t0.items ++ (close line ++ write_start register)) ++ t) f
+          ∙ append_assoc t0.items (close line ++ write_start register) (hex_word w)
+          ∙ ap (λ t. t0.items ++ t) (append_assoc (close line) (write_start register) (hex_word w) ∙ ap (λ t. close line ++ t) (append_assoc H (codes "data ") (hex_word w)) ∙ sym (append_assoc (close line) H (codes "data " ++ hex_word w)) ∙ ap (λ t. close line ++ t ++ (codes "data " ++ hex_word w)) (sym (write_line-is register h)) ∙ ap (λ t. close line ++ head_text (Open register 1) (write_head register) ++ t) (sym told));
+      within = omega (arith, b.within, c.within, ap length f);
+      room = omega (arith, b.room, c.room);
     }
+
+-- the header's line of a short write
+short_line-is : (register count : ℕ) → register < 32 → count < 10 → head_text (Open register count) (short_head register count) ≡ write_name register ++ ((48 + count) ∷ 10 ∷ [])
+short_line-is register count h k =
+    let nop : (short_head register count == 0x20000000) ≡ false = grind (arith, nat_tests) in
+    let sync : (short_head register count == 0xAA995566) ≡ false = grind (arith, nat_tests) in
+    let named : register_of (short_head register count) ≡ register = omega arith in
+    let number : short_head register count % 2 ^ 11 ≡ count = omega arith in
+    let same : (short_head register count == 0x30000000 + 8192 * register + count) ≡ true = grind (arith, nat_tests) in
+    let line : best_line (short_head register count) ≡ Write register count = rw (nop, sync, named, number, same) refl in
+    let name : List ℕ = codes "write " ++ reg_name register in
+    ap line_text line ∙ ap (λ t. codes "write " ++ reg_name register ++ 32 ∷ t ++ 10 ∷ []) (decimal_digit count k) ∙ append_assoc (codes "write " ++ reg_name register) (32 ∷ (48 + count) ∷ []) (10 ∷ [])
+    ∙ sym (append_assoc (codes "write " ++ reg_name register) (32 ∷ []) ((48 + count) ∷ 10 ∷ []))
+
+pub short_head_appends : (t0 t1 t2 : Vec ℕ Global) (line register count : ℕ) (row end : List ℕ) → register < 32 → count < 10 → row_text row ≡ close line ++ write_name register → end ≡ (48 + count) ∷ 10 ∷ []
+    → Appends t0 t1 (row_text row) 32 → Appends t1 t2 end (length end) → Appends t0 t2 (close line ++ head_text (Open register count) (short_head register count)) 34
+short_head_appends t0 t1 t2 line register count row end h k e f a b =
+    let digits : List ℕ = (48 + count) ∷ 10 ∷ [] in
+    record {
+      items = b.items ∙ ap (λ t. t1.items ++ t) f ∙ ap (λ t. t ++ ((48 + count) ∷ 10 ∷ [])) (a.items ∙ ap (λ t. t0.items ++ t) e) ∙ append_assoc t0.items (close line ++ write_name register) ((48 + count) ∷ 10 ∷ [])
+          ∙ ap (λ t. t0.items ++ t) (append_assoc (close line) (write_name register) ((48 + count) ∷ 10 ∷ []) ∙ ap (λ t. close line ++ t) (sym (short_line-is register count h k)));
+      within = omega (arith, a.within, b.within, ap length f);
+      room = omega (arith, a.room, b.room);
+    }
+
+-- the first of many chunks
+pub first_chunk : (n : ℕ) (xs : List ℕ) → 0 < n → get_or (first_chunks 32 n xs) 0 [] ≡ take 32 xs
+first_chunk zero xs h = absurd (omega (arith, h))
+first_chunk (suc n) xs h = refl
+
+pub front_of_front : (n count : ℕ) (xs block : List ℕ) → 4 * count ≤ 32 → 32 ≤ n → block ≡ take 32 (take n xs) → take (4 * count) block ≡ take (4 * count) xs
+front_of_front n count xs block h k e = ap (take (4 * count)) e ∙ take-take (4 * count) 32 (take n xs) h ∙ take-take (4 * count) n xs (omega (arith, h, k))
+
+pub short_written : (old t1 new head row told : List ℕ) → t1 ≡ old ++ head → new ≡ t1 ++ row → row ≡ told → new ≡ old ++ (head ++ told)
+short_written old t1 new head row told a b e = b ∙ ap (λ t. t ++ row) a ∙ append_assoc old head row ∙ ap (λ t. old ++ (head ++ t)) e
+
+pub gap_written : (old t1 new rest block : List ℕ) (count : ℕ) → count ≤ 32 → block ≡ take 32 rest → t1 ≡ old ++ bytes_text (take count block) → new ≡ t1 ++ codes "sync\n" → new ≡ old ++ (bytes_text (take count rest) ++ codes "sync\n")
+gap_written old t1 new rest block count few e a b =
+    b ∙ ap (λ t. t ++ codes "sync\n") (a ∙ ap (λ t. old ++ bytes_text t) (ap (take count) e ∙ take-take count 32 rest few)) ∙ append_assoc old (bytes_text (take count rest)) (codes "sync\n")
 
 -- ---- what a lister stands for
 
@@ -162,6 +212,53 @@ write_told c d synced s2 line l2 from register w held h2 text text2 given before
     took_run x.between d (Word register w) true s2 0 l2 [] h2 next text2 given before (bytes ++ head) (bytes_of_word w) one x.word x.range
     (by_word (Word register w) true s2 0 l2 0 [] h2 given next text2 register w refl (λ k. refl) e f (t ∙ sym (append_assoc text (close from ++ H) D))) in
     subst (Tells d s2 l2 h2 text2 given before) (append_assoc bytes head (bytes_of_word w) ∙ ap (λ k. bytes ++ k) (sym x.bytes)) two
+
+-- a write of a few words: `lent` is any slice
+pub short_told : (c d : CutterState) (synced s2 : Bool) (line l2 from register count : ℕ) (held h2 text text2 given before bytes rest ws : List ℕ) (lent : Bor (List ℕ)) → WritesFew c d rest register count → ws ≡ words_of_bytes (take (4 * count) (drop 4 rest))
+    → (synced ≡ true → from ≡ line) → s2 ≡ true → l2 ≡ words_place 0 (payload_steps register ws) → text2 ≡ text ++ (close from ++ head_text (Open register count) (short_head register count) ++ words_told 0 (payload_steps register ws))
+    → Tells c synced line held text given before bytes → Tells d s2 l2 h2 text2 given before (bytes ++ take (4 + 4 * count) rest)
+short_told c d synced s2 line l2 from register count held h2 text text2 given before bytes rest ws lent x are same e f t s =
+    let H : List ℕ = head_text (Open register count) (short_head register count) in
+    let body : List ℕ = take (4 * count) (drop 4 rest) in
+    let run : Bor (List ℕ) = record lent { now = take (4 * count) (drop 4 rest) } in
+    let size : length (take (4 * count) (drop 4 rest)) ≡ 4 * count = length-take-le (4 * count) (drop 4 rest) (omega (arith, length-drop 4 rest, x.long, x.few)) in
+    let head : List ℕ = bytes_of_word (short_head register count) in
+    let next : List ℕ = text ++ (close from ++ head_text (Open register count) (short_head register count)) in
+    let D : List ℕ = words_told 0 (payload_steps register (words_of_bytes (take (4 * count) (drop 4 rest)))) in
+    let one : Tells x.between true 0 [] next given before (bytes ++ bytes_of_word (short_head register count)) =
+    took_run c x.between (Head (short_head register count) (Open register count)) synced true line 0 held [] text next given before bytes (bytes_of_word (short_head register count)) s x.head tt
+    (by_head (Head (short_head register count) (Open register count)) synced true line 0 from held [] given text next (short_head register count) (Open register count) refl same refl refl refl) in
+    let two : Tells d s2 l2 h2 text2 given before ((bytes ++ bytes_of_word (short_head register count)) ++ take (4 * count) (drop 4 rest)) =
+    took_run x.between d (Body register run) true s2 0 l2 [] h2 next text2 given before (bytes ++ bytes_of_word (short_head register count)) (take (4 * count) (drop 4 rest)) one (x.words run refl)
+    (x.range, omega (arith, size, x.some), omega (arith, size), λ k. absurd (x.other k))
+    (by_body (Body register run) true s2 0 l2 0 [] h2 given next text2 register run refl (λ k. refl) e (f ∙ ap (λ (w : List ℕ). words_place 0 (payload_steps register w)) are)
+    (t ∙ ap (λ (w : List ℕ). text ++ (close from ++ head_text (Open register count) (short_head register count) ++ words_told 0 (payload_steps register w))) are ∙ sym (append_assoc text (close from ++ H) D))) in
+    subst (Tells d s2 l2 h2 text2 given before) (append_assoc bytes (bytes_of_word (short_head register count)) (take (4 * count) (drop 4 rest)) ∙ ap (λ k. bytes ++ (k ++ take (4 * count) (drop 4 rest))) (sym x.bytes) ∙ ap (λ k. bytes ++ k) (sym (take-add 4 (4 * count) rest))) two
+
+-- bytes of a gap and the sync word, behind a session
+gap_begun : (given text text1 start : List ℕ) (gap taken told : List ℕ) → taken ≡ told ++ sync_bytes → text1 ≡ text ++ open_text 32 (codes "bytes ") hex_byte 0 told
+    → GapTold (given ++ text) start 0 [] gap → GapTold (given ++ text1) start (in_line_after 32 0 told) sync_bytes (gap ++ taken)
+gap_begun given text text1 start gap taken told e f g = told_more given text text1 start 0 (in_line_after 32 0 told) [] sync_bytes gap taken told g e refl f refl
+
+pub gap_told : (c d : CutterState) (synced s2 : Bool) (line l2 count : ℕ) (held h2 text text2 given before bytes rest : List ℕ) (lent : Bor (List ℕ)) → EndsGap c d rest count → synced ≡ true → s2 ≡ true → l2 ≡ 0
+    → text2 ≡ text ++ (bytes_text (take count rest) ++ codes "sync\n") → Tells c synced line held text given before bytes → Tells d s2 l2 h2 text2 given before (bytes ++ take (count + 4) rest)
+gap_told c d false s2 line l2 count held h2 text text2 given before bytes rest lent x is e f t s = absurd (cc)
+gap_told c d true s2 line l2 count held h2 text text2 given before bytes rest lent x is e f t s =
+    let told : List ℕ = take count rest in
+    let shown : List ℕ = open_text 32 (codes "bytes ") hex_byte 0 (take count rest) in
+    let open_line : ℕ = in_line_after 32 0 (take count rest) in
+    let run : Bor (List ℕ) = record lent { now = take (count + 4) rest } in
+    let size : length (take (count + 4) rest) ≡ count + 4 = length-take-le (count + 4) rest (omega (arith, x.long, x.near)) in
+    let text1 : List ℕ = text ++ open_text 32 (codes "bytes ") hex_byte 0 (take count rest) in
+    let one : Tells x.between false (in_line_after 32 0 (take count rest)) sync_bytes text1 given before (bytes ++ take (count + 4) rest) =
+    took_run c x.between (Skip run) true false line (in_line_after 32 0 (take count rest)) held sync_bytes text text1 given before bytes (take (count + 4) rest) s (x.gap run refl) (omega (arith, size))
+    (by_skip (Skip run) run true false line 0 (in_line_after 32 0 (take count rest)) held [] sync_bytes given text text1 refl refl refl refl (λ given start gap g. gap_begun given text text1 start gap (take (count + 4) rest) (take count rest) x.found refl g)) in
+    let two : Tells d s2 l2 h2 text2 given before ((bytes ++ take (count + 4) rest) ++ []) =
+    took_run x.between d Sync false s2 (in_line_after 32 0 (take count rest)) l2 sync_bytes h2 text1 text2 given before (bytes ++ take (count + 4) rest) [] one x.sync tt
+    (by_sync Sync false s2 (in_line_after 32 0 (take count rest)) l2 sync_bytes h2 given text1 text2 refl e f
+    (t ∙ ap (λ (k : List ℕ). text ++ (k ++ codes "sync\n")) (sym (bytes_closed (take count rest))) ∙ ap (λ (k : List ℕ). text ++ k) (append_assoc (open_text 32 (codes "bytes ") hex_byte 0 (take count rest)) (close (in_line_after 32 0 (take count rest))) (codes "sync\n"))
+    ∙ sym (append_assoc text (open_text 32 (codes "bytes ") hex_byte 0 (take count rest)) (close (in_line_after 32 0 (take count rest)) ++ codes "sync\n")))) in
+    subst (Tells d s2 l2 h2 text2 given before) (append-nil (bytes ++ take (count + 4) rest)) two
 
 -- the bytes that are left of a piece, and some of them behind those before
 pub rest_length : (piece : List ℕ) (at : ℕ) → at ≤ length piece → length (take (length piece - at) (drop at piece)) ≡ length piece - at

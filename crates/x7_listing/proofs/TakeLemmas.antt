@@ -1,5 +1,6 @@
 -- What a lister stands for after a run, a piece, and at the end of a listing.
-use Rattle.std.proofs.Common.{◌≡◌, ℕ, ◌+◌, ◌-◌, ◌<◌, ◌≤◌, Bool, true, false, List, [], ◌++◌, length, take, drop, take-add, take_all, length-take-le, length-drop, length-append, refl, ap, sym, subst, ◌∙◌, append_assoc, append-nil, arith, codes}
+use Rattle.std.proofs.Common.{◌≡◌, ℕ, ◌+◌, ◌-◌, ◌<◌, ◌≤◌, Bool, true, false, List, [], ◌++◌, length, take, drop, take-add, take_all, length-take-le, length-drop, length-append, refl, ap, sym, subst, ◌∙◌, append_assoc, append-nil, arith, codes, Vec}
+use Rattle.std.specs.declared.alloc.Global.{Global}
 use Rattle.x7_packets.specs.Reading.{Place, Searching, Session, IsReading, tail_of}
 use Rattle.x7_packets.specs.Cutting.{between, CutterState, CutterStandsFor, Goes, IsRun, syncs_due, Went}
 use Rattle.x7_packets.specs.declared.cutter.Mode.{Mode}
@@ -34,6 +35,11 @@ took c d run synced s2 line l2 at to held h2 text text2 given before bytes piece
       told = writes before (bytes ++ take at piece ++ between piece at to) s.sessions w.new_sessions s.at w.new_place c.mode d.mode s.told w.adds w.turns is w.stands.reading;
     } in
     subst (λ t. Tells d s2 l2 h2 text2 given before t) e all
+
+-- an equal cutter, and an equal text
+pub told_as : (c d : CutterState) (t u : Vec ℕ Global) (synced : Bool) (line : ℕ) (held given before bytes : List ℕ) → d ≡ c → u ≡ t → Tells c synced line held t.items given before bytes → Tells d synced line held u.items given before bytes
+told_as c d t u synced line held given before bytes e f s =
+    subst (λ (k : CutterState). Tells k synced line held u.items given before bytes) (sym e) (subst (λ (v : Vec ℕ Global). Tells c synced line held v.items given before bytes) (sym f) s)
 
 -- the last call of the cutter, with the piece used up
 pub took_all : (c d : CutterState) (run : Cut) (synced : Bool) (line at to : ℕ) (held text given before bytes piece : List ℕ)

@@ -1,4 +1,4 @@
--- The lines of packets that are told at once: no-ops in a row, and a write of one word (this project's choice).
+-- The lines of what is told at once: no-ops in a row, short writes, and a gap with its sync word (this project's choice).
 use Rattle.std.specs.Prelude.{◌≡◌, ℕ, zero, suc, List, [], ◌∷◌, ◌++◌, codes, get_or, take}
 use Rattle.x7_packets.specs.Nops.{nop_word}
 use Rattle.x7_packets.specs.declared.header.Step.TheVariants.{Nop}
@@ -14,6 +14,10 @@ nop_lines (suc n) = head_text Nop nop_word ++ nop_lines n
 abbrev pub write_line : ℕ → List ℕ
 write_line register = codes "write " ++ reg_name register ++ codes " 1\n"
 
+-- a write line up to its count
+abbrev pub write_name : ℕ → List ℕ
+write_name register = codes "write " ++ reg_name register ++ codes " "
+
 -- the lines of a write of one word, up to the word's digits
 abbrev pub write_start : ℕ → List ℕ
 write_start register = write_line register ++ codes "data "
@@ -25,6 +29,10 @@ command_lines w = write_line 4 ++ command_line w
 -- a row of 32 bytes, of which the last says how many of the first are a text
 abbrev pub row_text : List ℕ → List ℕ
 row_text row = take (get_or row 31 0) row
+
+-- a text with the end of the line before it
+abbrev pub behind : (ℕ → List ℕ) → ℕ → List ℕ
+behind text n = 10 ∷ text n
 
 -- the rows are those of the numbers from n up
 abbrev pub AreRows : (ℕ → List ℕ) → ℕ → List (List ℕ) → Type 0

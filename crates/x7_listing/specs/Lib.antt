@@ -10,3 +10,4 @@ pub mod StreamListing
 pub mod Telling
 pub mod Taking
 pub mod TakingRuns
+pub mod TakingAtOnce

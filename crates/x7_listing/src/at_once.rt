@@ -1,21 +1,22 @@
-//! Writing what packets add that are told at once: no-ops in a row, and a write of one word.
-ghost use Rattle.std.specs.Prelude.{◌≡◌, ℕ, ◌+◌, ◌*◌, ◌<◌, ◌≤◌, List, [], ◌∷◌, ◌++◌, length, take, vec_len, vec_capacity};
+//! Writing what is told at once: no-ops in a row, short writes, and a short gap with the sync word behind it.
+ghost use Rattle.std.specs.Prelude.{◌≡◌, ℕ, ◌+◌, ◌*◌, ◌<◌, ◌≤◌, true, List, [], ◌∷◌, ◌++◌, IfNone, IfSome, length, take, vec_len, vec_capacity};
 ghost use Rattle.x7_words.specs.Word.{bytes_of_word};
-ghost use Rattle.x7_packets.specs.AtOnce.{Takes, WritesOne, write_head};
+ghost use Rattle.x7_packets.specs.AtOnce.{EndsGap, short_head, Takes, write_head, WritesFew, WritesOne};
 ghost use Rattle.x7_packets.specs.Cutting.{CutterState};
 ghost use Rattle.x7_packets.specs.Nops.{nop_bytes, nop_word};
 ghost use Rattle.x7_packets.specs.Packet.{payload_steps};
 ghost use Rattle.x7_text.specs.Appends.{Appends};
 ghost use Rattle.x7_text.specs.Row.{close};
+ghost use Rattle.x7_listing.specs.TakingAtOnce.{TakesAtOnce};
 ghost use Rattle.x7_listing.specs.AtOnce.{command_lines, nop_lines, row_text};
 ghost use Rattle.x7_listing.specs.HeadLine.{head_text};
 ghost use Rattle.x7_listing.specs.Telling.{Tells, words_place, words_told};
 
 use crate::line::{put_command, put_head};
 use crate::pen::{Pen, in_session, session_line};
-use crate::rows::{command_row, write_row};
-use x7_packets::{Cut, Step};
-use x7_text::{hex_of_word, put, put_close};
+use crate::rows::{command_row, name_row, write_row};
+use x7_packets::{Cut, Cutter, Step};
+use x7_text::{hex_of_word, put, put_close, put_first_bytes, put_first_words};
 
 /// How many no-ops a block has.
 const BLOCK: usize = 64;
@@ -55,17 +56,17 @@ fn put_row(text: &mut Vec<u8>, row: &[u8; 32])
     text.truncate(end);
 }
 
-/// Appends the lines of a write of a word to CMD.
+/// Appends the lines of a write of a word to CMD, behind an open line of `in_line` words.
 #[inline(always)]
-fn put_command_write(text: &mut Vec<u8>, w: u32)
-    requires { vec_len text.old + 96 ≤ vec_capacity text.old }
-    ensures appends { Appends text.old text.new (command_lines w) 96 }
+fn put_command_write(text: &mut Vec<u8>, in_line: usize, w: u32)
+    requires { vec_len text.old + 97 ≤ vec_capacity text.old }
+    ensures appends { Appends text.old text.new (close in_line ++ command_lines w) 97 }
 {
     if w < 32 {
-        put_row(text, command_row(w));
+        put_row(text, command_row(in_line, w));
         return;
     }
-    put_head(text, 0, Step::Open(4, 1), 0x3000_8001);
+    put_head(text, in_line, Step::Open(4, 1), 0x3000_8001);
     put_command(text, 0, w);
 }
 
@@ -79,19 +80,18 @@ fn put_one_word(text: &mut Vec<u8>, in_line: usize, register: u8, w: u32) -> usi
     ensures count { result ≡ words_place 0 (payload_steps register (w ∷ [])) }
     ensures appends { Appends text.old text.new (close in_line ++ head_text (Step.Open register 1) (write_head register) ++ words_told 0 (payload_steps register (w ∷ []))) 97 }
 {
-    put_close(text, in_line);
     if register == 4 {
-        put_command_write(text, w);
+        put_command_write(text, in_line, w);
         return 0;
     }
-    put_row(text, write_row(register));
+    put_row(text, write_row(in_line, register));
     put(text, &hex_of_word(w));
     1
 }
 
 /// Appends what no-ops in a row add, one or more.
 #[inline(always)]
-pub(crate) fn put_idle(text: &mut Vec<u8>, pen: Pen, count: usize) -> Pen
+fn put_idle(text: &mut Vec<u8>, pen: Pen, count: usize) -> Pen
     requires some { 0 < count }
     requires room { vec_len text.old + (4 * count + 1) ≤ vec_capacity text.old }
     ensures len { vec_len text.new ≤ vec_len text.old + (4 * count + 1) }
@@ -107,7 +107,7 @@ pub(crate) fn put_idle(text: &mut Vec<u8>, pen: Pen, count: usize) -> Pen
 
 /// Appends what a write of one word adds.
 #[inline(always)]
-pub(crate) fn put_write(text: &mut Vec<u8>, pen: Pen, register: u8, w: u32) -> Pen
+fn put_write(text: &mut Vec<u8>, pen: Pen, register: u8, w: u32) -> Pen
     requires range { register < 32 }
     requires room { vec_len text.old + 97 ≤ vec_capacity text.old }
     ensures len { vec_len text.new ≤ vec_len text.old + 97 }
@@ -117,4 +117,130 @@ pub(crate) fn put_write(text: &mut Vec<u8>, pen: Pen, register: u8, w: u32) -> P
         → Tells new result.synced result.line (take result.count result.held) text.new.items given before (bytes ++ take 8 rest) }
 {
     in_session(put_one_word(text, session_line(pen), register, w))
+}
+
+/// The first 32 bytes.
+#[inline(always)]
+fn first_block(bytes: &[u8]) -> &[u8; 32]
+    requires { 32 ≤ length bytes.now }
+    ensures { result.now ≡ take 32 bytes.now }
+{
+    let (blocks, _) = bytes.as_chunks::<32>();
+    &blocks[0]
+}
+
+/// Appends the line of the header of a write of a few words, behind an open line of `in_line` words.
+#[inline(always)]
+fn put_short_head(text: &mut Vec<u8>, in_line: usize, register: u8, count: usize)
+    requires range { register < 32 }
+    requires few { count ≤ 8 }
+    requires room { vec_len text.old + 34 ≤ vec_capacity text.old }
+    ensures appends { Appends text.old text.new (close in_line ++ head_text (Step.Open register count) (short_head register count)) 34 }
+{
+    put_row(text, name_row(in_line, register));
+    put(text, &[b'0' + count as u8, b'\n']);
+}
+
+/// Appends what a write of a few words adds, whose packet begins these bytes.
+#[inline(always)]
+fn put_short_write(text: &mut Vec<u8>, pen: Pen, register: u8, count: usize, rest: &[u8]) -> Pen
+    requires range { register < 32 }
+    requires some { 0 < count }
+    requires few { count ≤ 8 }
+    requires long { 36 ≤ length rest.now }
+    requires room { vec_len text.old + 112 ≤ vec_capacity text.old }
+    ensures len { vec_len text.new ≤ vec_len text.old + 112 }
+    ensures room { vec_capacity text.old ≤ vec_capacity text.new }
+    ensures told { (old new : CutterState) (given before bytes : List ℕ) → WritesFew old new rest.now register count
+        → Tells old pen.synced pen.line (take pen.count pen.held) text.old.items given before bytes
+        → Tells new result.synced result.line (take result.count result.held) text.new.items given before (bytes ++ take (4 + 4 * count) rest.now) }
+{
+    put_short_head(text, session_line(pen), register, count);
+    in_session(put_first_words(text, first_block(&rest[4..]), count))
+}
+
+/// Appends what a gap behind a session adds, and the sync word behind it, which begin these bytes.
+#[inline(always)]
+fn put_gap(text: &mut Vec<u8>, pen: Pen, count: usize, rest: &[u8]) -> Pen
+    requires session { pen.synced ≡ true }
+    requires near { count + 4 ≤ 32 }
+    requires long { 36 ≤ length rest.now }
+    requires room { vec_len text.old + 112 ≤ vec_capacity text.old }
+    ensures len { vec_len text.new ≤ vec_len text.old + 112 }
+    ensures room { vec_capacity text.old ≤ vec_capacity text.new }
+    ensures told { (old new : CutterState) (given before bytes : List ℕ) → EndsGap old new rest.now count
+        → Tells old pen.synced pen.line (take pen.count pen.held) text.old.items given before bytes
+        → Tells new result.synced result.line (take result.count result.held) text.new.items given before (bytes ++ take (count + 4) rest.now) }
+{
+    put_first_bytes(text, first_block(rest), count);
+    put(text, b"sync\n");
+    in_session(0)
+}
+
+/// What was taken at once: the pen behind it, and how many bytes it has.
+#[derive(Clone, Copy)]
+pub(crate) struct Taken {
+    pub(crate) pen: Pen,
+    pub(crate) size: usize,
+}
+
+/// Takes a short gap that comes next behind a session, and the sync word behind it, and appends what they add.
+#[inline(always)]
+fn take_gap(text: &mut Vec<u8>, cutter: &mut Cutter, pen: Pen, rest: &[u8]) -> Option<Taken>
+    requires { vec_len text.old + 131 * length rest.now ≤ vec_capacity text.old }
+    ensures some { IfSome result (λ t. TakesAtOnce cutter.old cutter.new rest.now t.size (vec_len text.old) (vec_len text.new)) }
+    ensures told { IfSome result (λ t. (given before bytes : List ℕ) → Tells cutter.old pen.synced pen.line (take pen.count pen.held) text.old.items given before bytes
+        → Tells cutter.new t.pen.synced t.pen.line (take t.pen.count t.pen.held) text.new.items given before (bytes ++ take t.size rest.now)) }
+    ensures none { IfNone result (cutter.new ≡ cutter.old) }
+    ensures same { IfNone result (text.new ≡ text.old) }
+    ensures room { vec_capacity text.old ≤ vec_capacity text.new }
+{
+    if !pen.synced {
+        return None;
+    }
+    let Some(count) = cutter.take_gap(rest) else {
+        return None;
+    };
+    Some(Taken {
+        pen: put_gap(text, pen, count, rest),
+        size: count + 4,
+    })
+}
+
+/// Takes what comes next, where it is told at once, and appends what it adds.
+#[inline(always)]
+pub(crate) fn take_at_once(
+    text: &mut Vec<u8>,
+    cutter: &mut Cutter,
+    pen: Pen,
+    rest: &[u8],
+) -> Option<Taken>
+    requires { vec_len text.old + 131 * length rest.now ≤ vec_capacity text.old }
+    ensures some { IfSome result (λ t. TakesAtOnce cutter.old cutter.new rest.now t.size (vec_len text.old) (vec_len text.new)) }
+    ensures told { IfSome result (λ t. (given before bytes : List ℕ) → Tells cutter.old pen.synced pen.line (take pen.count pen.held) text.old.items given before bytes
+        → Tells cutter.new t.pen.synced t.pen.line (take t.pen.count t.pen.held) text.new.items given before (bytes ++ take t.size rest.now)) }
+    ensures none { IfNone result (cutter.new ≡ cutter.old) }
+    ensures same { IfNone result (text.new ≡ text.old) }
+    ensures room { vec_capacity text.old ≤ vec_capacity text.new }
+{
+    let nops = cutter.nop_count(rest);
+    if nops > 0 {
+        return Some(Taken {
+            pen: put_idle(text, pen, nops),
+            size: 4 * nops,
+        });
+    }
+    if let Some((register, w)) = cutter.take_write(rest) {
+        return Some(Taken {
+            pen: put_write(text, pen, register, w),
+            size: 8,
+        });
+    }
+    if let Some((register, count)) = cutter.take_short_write(rest) {
+        return Some(Taken {
+            pen: put_short_write(text, pen, register, count, rest),
+            size: 4 + 4 * count,
+        });
+    }
+    take_gap(text, cutter, pen, rest)
 }

@@ -1,24 +1,28 @@
 -- Lemmas on specs/AtOnce.
-use Rattle.std.proofs.Common.{◌≡◌, ℕ, ◌/◌, ◌%◌, ◌^◌, ◌<◌, ◌≤◌, ◌==◌, List, [], ◌∷◌, ◌++◌, Option, Some, true, false, if◌then◌else◌, inl, inr, get_or, length, take, refl, ap, sym, ◌∙◌, append-nil, arith}
+use Rattle.std.proofs.Common.{◌≡◌, ℕ, ◌/◌, ◌%◌, ◌^◌, ◌<◌, ◌≤◌, ◌+◌, ◌*◌, ◌==◌, Bool, Bor, List, [], ◌∷◌, ◌++◌, Option, Some, true, false, if◌then◌else◌, inl, inr, get_or, length, length-drop, length-take-le, take, drop, map, refl, ap, sym, subst, ◌∙◌, append-nil, arith}
+use Rattle.std.proofs.lemmas.List.{take-append-drop}
 use Rattle.std.proofs.lemmas.Bool.Decides.{nat_tests}
 use Rattle.std.specs.List.{flat_map}
-use Rattle.x7_words.specs.Word.{AreBytes, bytes_of_word}
-use Rattle.x7_words.proofs.ListLemmas.{all-append}
-use Rattle.x7_packets.specs.Matching.{MatcherStandsFor}
+use Rattle.x7_words.specs.Word.{AreBytes, AreWords, bytes_of_word, words_of_bytes}
+use Rattle.x7_words.proofs.ListLemmas.{all-append, all_back, all_take}
+use Rattle.x7_words.proofs.WordLemmas.{bytes-words, length-words, words-fit}
+use Rattle.x7_packets.specs.Matching.{IsClear, IsFirstSync, MatcherStandsFor}
 use Rattle.x7_packets.specs.SyncWord.{sync_bytes}
 use Rattle.x7_packets.specs.declared.header.Step.{Step}
 use Rattle.x7_packets.specs.declared.header.Step.TheVariants.{Nop, Open, Payload}
-use Rattle.x7_packets.specs.declared.cutter.Cut.TheVariants.{Head, Word}
+use Rattle.x7_packets.specs.declared.cutter.Cut.TheVariants.{Body, Head, Skip, Sync, Word}
 use Rattle.x7_packets.specs.declared.cutter.Mode.TheVariants as mode
-use Rattle.x7_packets.specs.AtOnce.{in_write, Takes, write_head, WritesOne}
-use Rattle.x7_packets.specs.Cutting.{AtPlace, CutterState, CutterStandsFor, Longer}
+use Rattle.x7_packets.specs.AtOnce.{EndsGap, in_short, in_write, short_head, Takes, write_head, WritesFew, WritesOne}
+use Rattle.x7_packets.specs.Cutting.{AtPlace, CutterState, CutterStandsFor, Longer, Went}
 use Rattle.x7_packets.specs.Nops.{nop_word}
-use Rattle.x7_packets.specs.Packet.{Packet, ends_session, meaning, register_of}
+use Rattle.x7_packets.specs.Packet.{Packet, ends_session, meaning, payload_steps, register_of}
 use Rattle.x7_packets.specs.Reading.{Place, Searching, Session, Synced, packet_bytes, session_bytes}
 use Rattle.x7_packets.specs.Taking.{Grows, MachineStandsFor, MachineState, is_end}
-use Rattle.x7_packets.proofs.CutLemmas.{joined_more, packet_bytes-grown, word_more}
+use Rattle.x7_packets.proofs.CutLemmas.{body_more, joined_more, packet_bytes-grown, skip_found, sync_told, word_more}
 use Rattle.x7_packets.proofs.NopLemmas.{nop_grows}
-use Rattle.x7_packets.proofs.TakeLemmas.{header_opens, payload_ends, payload_goes}
+use Rattle.x7_packets.proofs.PacketLemmas.{words_of_payload}
+use Rattle.x7_packets.proofs.SearchLemmas.{found_clear, up_to_sync}
+use Rattle.x7_packets.proofs.TakeLemmas.{calm_words, header_opens, payload_ends, payload_goes, payload_goes_on}
 
 -- ---- a machine
 
@@ -44,6 +48,26 @@ write_goes_on n ps register w f e l r d (inr a) = payload_goes (in_write registe
 pub write_closes : (n : MachineState) (ps : List Packet) (register w : ℕ) → w < 2 ^ 32 → ends_session register w ≡ true → MachineStandsFor n [] → MachineStandsFor (in_write register) ps → Grows ps ((w, Payload register w) ∷ []) n
 write_closes n ps register w f e s (inl a) = absurd (omega (arith, a.due))
 write_closes n ps register w f e s (inr a) = payload_ends (in_write register) n ps w f a e s
+
+short_means : (latest : Option ℕ) (register count : ℕ) → register < 32 → count < 2 ^ 11 → Open register count ≡ meaning latest (short_head register count)
+short_means latest register count h k =
+    let sync : (short_head register count == 0xAA995566) ≡ false = grind (arith, nat_tests) in
+    let ones : (short_head register count == 0xFFFFFFFF) ≡ false = grind (arith, nat_tests) in
+    let zero_type : (short_head register count / 2 ^ 29 == 0) ≡ false = grind (arith, nat_tests) in
+    let kind : short_head register count / 2 ^ 27 ≡ 6 = omega arith in
+    let named : register_of (short_head register count) ≡ register = omega arith in
+    let number : short_head register count % 2 ^ 11 ≡ count = omega arith in
+    rw (sync, ones, zero_type, kind, named, number) refl
+
+pub short_opens : (m : MachineState) (ps : List Packet) (register count : ℕ) → register < 32 → 0 < count → count < 2 ^ 11 → m.due ≡ 0 → MachineStandsFor m ps
+    → Grows ps ((short_head register count, Open register count) ∷ []) (in_short register count)
+short_opens m ps register count h some few none (inl a) = header_opens m (in_short register count) ps (short_head register count) register count (omega arith) a (short_means m.latest register count h few) some refl refl refl
+short_opens m ps register count h some few none (inr a) = absurd (omega (arith, none, a.more))
+
+pub short_goes_on : (n : MachineState) (ps : List Packet) (register : ℕ) (ws : List ℕ) → AreWords ws → (register ≡ 4 → ⊥) → 0 < length ws → n.latest ≡ Some register → n.register ≡ register → n.due ≡ 0
+    → MachineStandsFor (in_short register (length ws)) ps → Grows ps (payload_steps register ws) n
+short_goes_on n ps register ws f other some l r d (inl a) = absurd (omega (arith, a.due, some))
+short_goes_on n ps register ws f other some l r d (inr a) = payload_goes_on (in_short register (length ws)) n ps ws f a other some r l (omega (arith, d))
 
 -- ---- a cutter
 
@@ -117,5 +141,66 @@ writes_one old new bs head register w is to matcher none none2 long e f g range 
       bytes = first_eight bs long ∙ ap (λ t. t ++ get_or bs 4 0 ∷ get_or bs 5 0 ∷ get_or bs 6 0 ∷ get_or bs 7 0 ∷ []) (sym e) ∙ ap (λ t. bytes_of_word head ++ t) (sym f) ∙ ap (λ k. bytes_of_word k ++ bytes_of_word w) g;
       head = takes_head old middle (write_head register) (Open register 1) is refl none refl refl opens;
       word = λ bytes sessions place s. word_more middle new bytes (bytes_of_word w) sessions place register w s refl ends (fits_word w) refl none2 to matcher;
+      none_kept = none2;
+    }
+
+-- the bytes of the first word
+first_four : (bs : List ℕ) → 4 ≤ length bs → take 4 bs ≡ get_or bs 0 0 ∷ get_or bs 1 0 ∷ get_or bs 2 0 ∷ get_or bs 3 0 ∷ []
+first_four [] l = absurd (omega arith)
+first_four (a ∷ []) l = absurd (omega arith)
+first_four (a ∷ b ∷ []) l = absurd (omega arith)
+first_four (a ∷ b ∷ c ∷ []) l = absurd (omega arith)
+first_four (a ∷ b ∷ c ∷ d ∷ bs) l = refl
+
+-- payload words of a register other than CMD, all that are due
+takes_words : (c n : CutterState) (register count : ℕ) (run : Bor (List ℕ)) → c.mode ≡ mode.Synced → n.mode ≡ mode.Synced → c.kept ≡ [] → n.kept ≡ [] → MatcherStandsFor n.matcher [] → AreBytes run.now → length run.now ≡ 4 * count → 0 < count → (register ≡ 4 → ⊥)
+    → c.machine ≡ in_short register count → ((ps : List Packet) (ws : List ℕ) → AreWords ws → 0 < length ws → MachineStandsFor (in_short register (length ws)) ps → Grows ps (payload_steps register ws) n.machine) → Takes c n run.now (Body register run)
+takes_words c n register count run is to none none2 matcher fits long some other machine grows bytes sessions place s =
+    let ws : List ℕ = words_of_bytes run.now in
+    let number : length (words_of_bytes run.now) ≡ count = length-words run.now count long in
+    let same : c.machine ≡ in_short register (length (words_of_bytes run.now)) = machine ∙ ap (in_short register) (sym number) in
+    let all : (ps : List Packet) → MachineStandsFor c.machine ps → Grows ps (payload_steps register (words_of_bytes run.now)) n.machine =
+    λ ps t. grows ps (words_of_bytes run.now) (words-fit run.now fits) (omega (arith, number, some)) (subst (λ (m : MachineState). MachineStandsFor m ps) same t) in
+    let word : flat_map bytes_of_word (map (λ (x : ℕ × Step). x.0) (payload_steps register (words_of_bytes run.now))) ≡ c.kept ++ run.now =
+    ap (flat_map bytes_of_word) (words_of_payload register (words_of_bytes run.now)) ∙ bytes-words run.now count fits long ∙ ap (λ t. t ++ run.now) (sym none) in
+    body_more c n bytes run.now sessions place register run s is all fits word none2 (to ∙ ap (λ (b : Bool). if b then mode.Searching else mode.Synced) (sym (calm_words register (words_of_bytes run.now) other))) matcher
+
+pub writes_few : (old new : CutterState) (bs : List ℕ) (head register count : ℕ) → old.mode ≡ mode.Synced → new.mode ≡ mode.Synced → MatcherStandsFor new.matcher [] → old.kept ≡ [] → new.kept ≡ [] → 36 ≤ length bs → AreBytes bs
+    → bytes_of_word head ≡ get_or bs 0 0 ∷ get_or bs 1 0 ∷ get_or bs 2 0 ∷ get_or bs 3 0 ∷ [] → head ≡ short_head register count → register < 32 → (register ≡ 4 → ⊥) → 0 < count → count ≤ 8
+    → ((ps : List Packet) (n : ℕ) → 0 < n → n < 2 ^ 11 → MachineStandsFor old.machine ps → Grows ps ((short_head register n, Open register n) ∷ []) (in_short register n))
+    → ((ps : List Packet) (ws : List ℕ) → AreWords ws → 0 < length ws → MachineStandsFor (in_short register (length ws)) ps → Grows ps (payload_steps register ws) new.machine)
+    → WritesFew old new bs register count
+writes_few old new bs head register count is to matcher none none2 long fits e g range other some few opens goes =
+    let middle : CutterState = record { mode = mode.Synced; matcher = old.matcher; machine = in_short register count; kept = [] } in
+    let behind : AreBytes (drop 4 bs) = all_back (λ b. b < 256) (take 4 bs) (drop 4 bs) (subst AreBytes (sym (take-append-drop 4 bs)) fits) in
+    let size : length (take (4 * count) (drop 4 bs)) ≡ 4 * count = length-take-le (4 * count) (drop 4 bs) (omega (arith, length-drop 4 bs, long, few)) in
+    record {
+      between = middle;
+      range = range;
+      other = other;
+      some = some;
+      few = few;
+      long = long;
+      bytes = first_four bs (omega (arith, long)) ∙ sym e ∙ ap bytes_of_word g;
+      head = takes_head old middle (short_head register count) (Open register count) is refl none refl refl (λ ps t. opens ps count some (omega (arith, few)) t);
+      words = λ run f. takes_words middle new register count run refl to refl none2 matcher (subst AreBytes (sym f) (all_take (λ b. b < 256) (4 * count) (drop 4 bs) behind)) (ap length f ∙ size) some other refl goes;
+      none_kept = none2;
+    }
+
+-- ---- a gap
+
+pub ends_gap : (old new : CutterState) (bs : List ℕ) (count : ℕ) → old.mode ≡ mode.Searching → new.mode ≡ mode.Synced → new.machine ≡ old.machine → new.kept ≡ [] → IsClear old.matcher
+    → 36 ≤ length bs → AreBytes bs → count + 4 ≤ 32 → IsFirstSync bs count → EndsGap old new bs count
+ends_gap old new bs count is to same none2 clear long fits near i =
+    let middle : CutterState = record { mode = mode.Due; matcher = old.matcher; machine = old.machine; kept = [] } in
+    record {
+      between = middle;
+      near = near;
+      long = long;
+      found = up_to_sync bs count i.here;
+      gap = λ run e bytes sessions place s.
+          subst (λ (t : List ℕ). Went old middle (bytes ++ t) sessions place (Skip run)) (sym e)
+          (skip_found old middle bytes bs run (count + 4) sessions place s is refl refl (λ gap m n. found_clear old.matcher old.matcher gap bs count clear i m n) e (all_take (λ b. b < 256) (count + 4) bs fits));
+      sync = λ bytes sessions place s. sync_told middle new bytes sessions place s refl to same none2;
       none_kept = none2;
     }

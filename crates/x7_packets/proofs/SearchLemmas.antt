@@ -1,13 +1,14 @@
 -- A search by the first place of the sync word in a piece, behind a gap that ended in an earlier piece.
-use Rattle.std.proofs.Common.{zero, suc, Bool, true, false, IsTrue, ◌↔◌, if◌then◌else◌, take-add, get_or-take, ◌≡◌, ℕ, ◌+◌, ◌-◌, ◌<◌, ◌≤◌, List, [], ◌∷◌, ◌++◌, length, take, drop, get_or, refl, ap, sym, ◌∙◌, append_assoc, arith, length-append, length-take, inl, inr, Option, None, Some}
+use Rattle.std.proofs.Common.{zero, suc, Bool, true, false, IsTrue, ◌↔◌, if◌then◌else◌, take-add, get_or-take, ◌≡◌, ℕ, ◌+◌, ◌-◌, ◌<◌, ◌≤◌, List, [], ◌∷◌, ◌++◌, length, take, drop, get_or, refl, ap, sym, subst, ◌∙◌, ◌⊎◌, append_assoc, arith, length-append, length-take, inl, inr, Option, None, Some}
 use Rattle.std.proofs.lemmas.List.{take-append-drop, take_more, take-take, drop_at}
+use Rattle.std.proofs.lemmas.Bool.Decides.{nat_tests}
 use Rattle.std.specs.Option.{is_some, IfSome}
 use Rattle.memchr.specs.Find.{OccursAt}
 use Rattle.memchr.proofs.lemmas.MatchLemmas.{OccursAt-part, OccursAt-from_part}
 use Rattle.x7_words.proofs.ListLemmas.{fronts_of, shorter_front, IsFront}
 use Rattle.x7_packets.specs.SyncWord.{EndsWithSync, HasNoSync, IsBeforeSync, sync_bytes}
-use Rattle.x7_packets.specs.Matching.{LastThree, MatcherStandsFor, Searched}
-use Rattle.x7_packets.proofs.SyncLemmas.{first_here, none_yet}
+use Rattle.x7_packets.specs.Matching.{IsClear, IsFirstSync, LastThree, MatcherStandsFor, Searched}
+use Rattle.x7_packets.proofs.SyncLemmas.{ends_so, first_here, none_yet, took_one}
 
 -- bytes that begin with some and the sync word have the sync word there
 occurs : (bytes front back : List ℕ) → bytes ≡ front ++ (sync_bytes ++ back) → OccursAt bytes sync_bytes (length front)
@@ -122,3 +123,70 @@ pub found_now : (gap bytes : List ℕ) (i : ℕ) (r : Bool) → i < length bytes
     → (front : List ℕ) × (gap ++ take (i + 1) bytes ≡ front ++ sync_bytes) × IsBeforeSync front
 found_now gap bytes i false h n f e = absurd (cc)
 found_now gap bytes i true h n f e = let l = f.0 refl in (l.0, passed gap bytes i h ∙ l.1, first_here _ l.0 _ n l.1)
+
+-- four bytes in a row
+four_at : (at : ℕ) (bytes : List ℕ) → at + 4 ≤ length bytes → take 4 (drop at bytes) ≡ get_or bytes at 0 ∷ get_or bytes (suc at) 0 ∷ get_or bytes (suc (suc at)) 0 ∷ get_or bytes (suc (suc (suc at))) 0 ∷ []
+four_at zero [] h = absurd (omega (arith, h))
+four_at zero (a ∷ []) h = absurd (omega (arith, h))
+four_at zero (a ∷ b ∷ []) h = absurd (omega (arith, h))
+four_at zero (a ∷ b ∷ c ∷ []) h = absurd (omega (arith, h))
+four_at zero (a ∷ b ∷ c ∷ d ∷ bytes) h = refl
+four_at (suc at) [] h = absurd (omega (arith, h))
+four_at (suc at) (x ∷ bytes) h = four_at at bytes (omega (arith, h))
+
+four_bytes : (at : ℕ) (bytes : List ℕ) → at + 4 ≤ length bytes → take 4 (drop at bytes) ≡ get_or bytes at 0 ∷ get_or bytes (at + 1) 0 ∷ get_or bytes (at + 2) 0 ∷ get_or bytes (at + 3) 0 ∷ []
+four_bytes at bytes h =
+    let one : suc at ≡ at + 1 = omega arith in
+    let two : suc (suc at) ≡ at + 2 = omega arith in
+    let three : suc (suc (suc at)) ≡ at + 3 = omega arith in
+    four_at at bytes h ∙ ap (λ (k : ℕ). get_or bytes at 0 ∷ get_or bytes k 0 ∷ get_or bytes (suc (suc at)) 0 ∷ get_or bytes (suc (suc (suc at))) 0 ∷ []) one
+    ∙ ap (λ (k : ℕ). get_or bytes at 0 ∷ get_or bytes (at + 1) 0 ∷ get_or bytes k 0 ∷ get_or bytes (suc (suc (suc at))) 0 ∷ []) two
+    ∙ ap (λ (k : ℕ). get_or bytes at 0 ∷ get_or bytes (at + 1) 0 ∷ get_or bytes (at + 2) 0 ∷ get_or bytes k 0 ∷ []) three
+
+-- the sync word at a place, by its four bytes
+pub first_sync : (bytes : List ℕ) (at : ℕ) (r : Bool) → at + 4 ≤ length bytes → ((k : ℕ) → k < at → OccursAt bytes sync_bytes k → ⊥)
+    → (IsTrue r ↔ (get_or bytes at 0 ∷ get_or bytes (at + 1) 0 ∷ get_or bytes (at + 2) 0 ∷ get_or bytes (at + 3) 0 ∷ [] ≡ sync_bytes)) → r ≡ true → IsFirstSync bytes at
+first_sync bytes at false h n f e = absurd (cc)
+first_sync bytes at true h n f e = record { here = OccursAt-from_part bytes sync_bytes at h (four_bytes at bytes h ∙ f.0 refl); first = n }
+
+at_or_before : (at k : ℕ) → k < at + 1 → (k < at) ⊎ (k ≡ at)
+at_or_before at k h = grind (arith, nat_tests)
+
+pub no_sync_yet : (bytes : List ℕ) (at : ℕ) (r : Bool) → at + 4 ≤ length bytes → ((k : ℕ) → k < at → OccursAt bytes sync_bytes k → ⊥)
+    → (IsTrue r ↔ (get_or bytes at 0 ∷ get_or bytes (at + 1) 0 ∷ get_or bytes (at + 2) 0 ∷ get_or bytes (at + 3) 0 ∷ [] ≡ sync_bytes)) → r ≡ false → (k : ℕ) → k < at + 1 → OccursAt bytes sync_bytes k → ⊥
+no_sync_yet bytes at true h n f e k l o = absurd (cc)
+no_sync_yet bytes at false h n f e k l o = elim (at_or_before at k l) [
+  | inl m ↦ n k m o
+  | inr m ↦ (
+      let here : OccursAt bytes sync_bytes at = subst (OccursAt bytes sync_bytes) m o in
+      let no : IsTrue false = f.1 (sym (four_bytes at bytes h) ∙ OccursAt-part bytes sync_bytes at here) in
+      absurd (cc)
+      )
+]
+
+-- the sync word is not complete behind three bytes of which the first is 0
+clear_step : (m : LastThree) (gap : List ℕ) (x : ℕ) → m.first ≡ 0 → MatcherStandsFor m gap → HasNoSync gap → HasNoSync (gap ++ x ∷ [])
+clear_step m gap x e s n = none_yet gap x n (λ w. let whole : m.first ∷ m.second ∷ m.third ∷ x ∷ [] ≡ sync_bytes = ends_so m gap x s w in absurd (cc))
+
+-- three zeros, and three bytes more: no sync word ends there
+clear_seam : (m : LastThree) (gap : List ℕ) (a b c : ℕ) → m.first ≡ 0 → m.second ≡ 0 → m.third ≡ 0 → MatcherStandsFor m gap → HasNoSync gap → HasNoSync (((gap ++ a ∷ []) ++ b ∷ []) ++ c ∷ [])
+clear_seam m gap a b c e f g s n =
+    let s1 : MatcherStandsFor (record { first = m.second; second = m.third; third = a }) (gap ++ a ∷ []) = took_one m gap a s in
+    let s2 : MatcherStandsFor (record { first = m.third; second = a; third = b }) ((gap ++ a ∷ []) ++ b ∷ []) = took_one _ (gap ++ a ∷ []) b s1 in
+    clear_step _ ((gap ++ a ∷ []) ++ b ∷ []) c g s2 (clear_step _ (gap ++ a ∷ []) b f s1 (clear_step m gap a e s n))
+
+three_more : (gap bytes : List ℕ) (m : LastThree) → 3 ≤ length bytes → m.first ≡ 0 → m.second ≡ 0 → m.third ≡ 0 → MatcherStandsFor m gap → HasNoSync gap → HasNoSync (gap ++ take 3 bytes)
+three_more gap [] m h e f g s n = absurd (omega (arith, h))
+three_more gap (a ∷ []) m h e f g s n = absurd (omega (arith, h))
+three_more gap (a ∷ b ∷ []) m h e f g s n = absurd (omega (arith, h))
+three_more gap (a ∷ b ∷ c ∷ bytes) m h e f g s n =
+    subst HasNoSync (append_assoc (gap ++ a ∷ []) (b ∷ []) (c ∷ []) ∙ append_assoc gap (a ∷ []) (b ∷ c ∷ [])) (clear_seam m gap a b c e f g s n)
+
+-- the first sync word of bytes behind three zeros
+pub found_clear : (m n : LastThree) (gap bytes : List ℕ) (at : ℕ) → IsClear m → IsFirstSync bytes at → MatcherStandsFor m gap → HasNoSync gap → Searched gap bytes (Some (at + 4)) n
+found_clear m n gap bytes at e i s none =
+    found_in_piece gap bytes at (three_more gap bytes m (omega (arith, i.here.fits)) e.0 e.1 e.2 s none) i.here (λ k z l o. i.first k l o)
+
+-- what the bytes up to the end of a sync word are
+pub up_to_sync : (bytes : List ℕ) (at : ℕ) → OccursAt bytes sync_bytes at → take (at + 4) bytes ≡ take at bytes ++ sync_bytes
+up_to_sync bytes at o = take-add at 4 bytes ∙ ap (λ t. take at bytes ++ t) (OccursAt-part bytes sync_bytes at o)

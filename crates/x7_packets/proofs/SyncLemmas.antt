@@ -26,6 +26,9 @@ shifts bytes before a b c x e = ap (λ (t : List ℕ). t ++ x ∷ []) e ∙ appe
 pub took_one : (m : LastThree) (bytes : List ℕ) (x : ℕ) → MatcherStandsFor m bytes → MatcherStandsFor (record { first = m.second; second = m.third; third = x }) (bytes ++ x ∷ [])
 took_one m bytes x s = record { before = s.before ++ m.first ∷ []; last = shifts bytes s.before m.first m.second m.third x s.last }
 
+pub ends_so : (m : LastThree) (bytes : List ℕ) (x : ℕ) → MatcherStandsFor m bytes → EndsWithSync (bytes ++ x ∷ []) → m.first ∷ m.second ∷ m.third ∷ x ∷ [] ≡ sync_bytes
+ends_so m bytes x s e = found_from bytes e.0 s.before _ _ _ x s.last e.1
+
 -- the last three bytes and the next are the sync word exactly where the bytes end with it
 pub found : (m : LastThree) (x : ℕ) (r : Bool) → (IsTrue r ↔ (m.first ∷ m.second ∷ m.third ∷ x ∷ [] ≡ sync_bytes)) → (bytes : List ℕ) → MatcherStandsFor m bytes → IsTrue r ↔ EndsWithSync (bytes ++ x ∷ [])
 found m x r h bytes s = (λ t. found_to bytes s.before _ _ _ x (h.0 t) s.last, λ e. h.1 (found_from bytes e.0 s.before _ _ _ x s.last e.1))

@@ -1,5 +1,6 @@
 -- What a matcher stands for: the bytes that it took (this project's choice: a search at every byte place).
-use Rattle.std.specs.Prelude.{◌≡◌, ℕ, List, [], ◌∷◌, ◌++◌, Option, None, Some, take}
+use Rattle.std.specs.Prelude.{◌≡◌, ℕ, ◌+◌, ◌<◌, ◌≤◌, List, [], ◌∷◌, ◌++◌, Option, None, Some, take}
+use Rattle.memchr.specs.Find.{OccursAt}
 use Rattle.x7_packets.specs.SyncWord.{HasNoSync, IsBeforeSync, sync_bytes}
 
 -- the last three bytes, the oldest first
@@ -7,6 +8,10 @@ pub record LastThree : Type 0 where
   pub first : ℕ
   pub second : ℕ
   pub third : ℕ
+
+-- the last three bytes are 0: none of them may begin a sync word
+abbrev pub IsClear : LastThree → Type 0
+IsClear m = (m.first ≡ 0) × (m.second ≡ 0) × (m.third ≡ 0)
 
 -- the matcher took these bytes since it was made or last found the sync word: it has the last three, 0 for each that isn't there
 pub record MatcherStandsFor (m : LastThree) (bytes : List ℕ) : Type 0 where
@@ -17,3 +22,8 @@ pub record MatcherStandsFor (m : LastThree) (bytes : List ℕ) : Type 0 where
 abbrev pub Searched : List ℕ → List ℕ → Option ℕ → LastThree → Type 0
 Searched gap bytes None m = HasNoSync (gap ++ bytes) × MatcherStandsFor m (gap ++ bytes)
 Searched gap bytes (Some n) m = (front : List ℕ) × (gap ++ take n bytes ≡ front ++ sync_bytes) × IsBeforeSync front
+
+-- the sync word stands at this place of the bytes, and at none before it
+pub record IsFirstSync (bytes : List ℕ) (at : ℕ) : Type 0 where
+  pub here : OccursAt bytes sync_bytes at
+  pub first : (k : ℕ) → k < at → OccursAt bytes sync_bytes k → ⊥

@@ -1,8 +1,9 @@
 //! A stream cut into its parts, in whatever pieces it comes.
 ghost use Rattle.std.specs.Prelude.{◌≡◌, ℕ, List, [], ◌∷◌, ◌++◌, ◌≤◌, ◌<◌, ◌+◌, ◌-◌, ◌*◌, ◌/◌, ◌%◌, ◌^◌, ◌↔◌, IfNone, IfSome, IsTrue, take, length, if◌then◌else◌};
 ghost use Rattle.x7_words.specs.Word.{bytes_of_word};
-ghost use Rattle.x7_packets.specs.AtOnce.{Takes, WritesOne};
+ghost use Rattle.x7_packets.specs.AtOnce.{EndsGap, Takes, WritesFew, WritesOne};
 ghost use Rattle.x7_packets.specs.Cutting.{between, calls_left, CompletesNone, Cuts, CutterStandsFor, Goes, IsBody, IsLent, IsNeed, IsOneWord, IsRun, run_bytes, syncs_due, Went};
+ghost use Rattle.x7_packets.specs.Matching.{IsClear};
 ghost use Rattle.x7_packets.specs.Nops.{Idles, nop_bytes, nop_word};
 ghost use Rattle.x7_packets.specs.Reading.{is_synced, Place, Session, tail_of};
 ghost use Rattle.x7_packets.specs.declared.cutter.Mode.TheVariants as mode;
@@ -12,7 +13,7 @@ mod copied;
 use crate::header::Step;
 use crate::machine::Machine;
 use crate::nops::count_nops;
-use crate::sync::Matcher;
+use crate::sync::{Matcher, near_sync};
 use std::marker::Model;
 use x7_words::word_of;
 
@@ -68,6 +69,9 @@ fn whole(kept: &[u8; 3], count: usize, missing: &[u8]) -> u32
     bytes[count..].copy_from_slice(missing);
     word_of(bytes)
 }
+
+/// How many bytes must lie there for a short write to be taken at once: the longest one, a header and eight words.
+const SHORT: usize = 36;
 
 /// What a cutter is at behind a word.
 fn after_word(ended: bool) -> Mode
@@ -188,6 +192,71 @@ impl Cutter {
         self.mode = after_word(self.machine.pass_write(register, w));
         self.matcher = Matcher::new();
         Some((register, w))
+    }
+
+    /// Takes the packet that comes next, where it is a write of one to eight words to a register other than CMD, its header's
+    /// reserved bits 0, and `rest` has 36 bytes at least. Gives its register and how many words it has.
+    #[inline(always)]
+    pub fn take_short_write(&mut self, rest: &[u8]) -> Option<(u8, usize)>
+        ensures some { IfSome result (λ write. WritesFew self.old self.new rest.now write.0 write.1) }
+        ensures none { IfNone result (self.new ≡ self.old) }
+    {
+        if !self.is_at_header() {
+            return None;
+        }
+        if rest.len() < SHORT {
+            return None;
+        }
+        let head = word_of([rest[0], rest[1], rest[2], rest[3]]);
+        let register = (head >> 13 & 31) as u8;
+        let count = head & 15;
+        if head != 0x3000_0000 + 8192 * u32::from(register) + count {
+            return None;
+        }
+        if register == 4 {
+            return None;
+        }
+        if count == 0 {
+            return None;
+        }
+        if count > 8 {
+            return None;
+        }
+        self.machine.pass_words(register);
+        self.matcher = Matcher::new();
+        Some((register, count as usize))
+    }
+
+    /// Takes a gap that comes next, and tells the sync word behind it, where that is among the first 32 bytes of `rest`, which
+    /// has 36 at least, and begins in it. Gives how many bytes the gap has there.
+    #[inline(always)]
+    pub fn take_gap(&mut self, rest: &[u8]) -> Option<usize>
+        ensures some { IfSome result (λ count. EndsGap self.old self.new rest.now count) }
+        ensures none { IfNone result (self.new ≡ self.old) }
+    {
+        if !self.is_in_clear_gap() {
+            return None;
+        }
+        if rest.len() < SHORT {
+            return None;
+        }
+        let Some(count) = near_sync(rest) else {
+            return None;
+        };
+        self.mode = Mode::Synced;
+        Some(count)
+    }
+
+    /// Whether the next byte stands in a gap, of which no byte that may begin a sync word was taken last.
+    #[inline(always)]
+    fn is_in_clear_gap(&self) -> bool
+        ensures mode { IsTrue result → self.now.mode ≡ mode.Searching }
+        ensures clear { IsTrue result → IsClear self.now.matcher }
+    {
+        if self.mode != Mode::Searching {
+            return false;
+        }
+        self.matcher.is_clear()
     }
 
     /// Whether the next byte begins a word in a header's place.

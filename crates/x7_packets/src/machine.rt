@@ -1,7 +1,7 @@
 //! The words of a session as packets (UG470, packet types).
-ghost use Rattle.std.specs.Prelude.{◌≡◌, ℕ, List, [], ◌∷◌, ◌++◌, ◌≤◌, ◌<◌, ◌*◌, ◌/◌, ◌==◌, length, min, if◌then◌else◌};
-ghost use Rattle.x7_words.specs.Word.{words_of_bytes};
-ghost use Rattle.x7_packets.specs.AtOnce.{in_write, write_head};
+ghost use Rattle.std.specs.Prelude.{◌≡◌, ℕ, List, [], ◌∷◌, ◌++◌, ◌≤◌, ◌<◌, ◌*◌, ◌/◌, ◌^◌, ◌==◌, length, min, if◌then◌else◌};
+ghost use Rattle.x7_words.specs.Word.{AreWords, words_of_bytes};
+ghost use Rattle.x7_packets.specs.AtOnce.{in_short, in_write, short_head, write_head};
 ghost use Rattle.x7_packets.specs.Packet.{Packet, ends_session, payload_steps};
 ghost use Rattle.x7_packets.specs.Taking.{ends_by, Grows, MachineStandsFor};
 
@@ -124,6 +124,21 @@ impl Machine {
         self.register = register;
         self.latest = Some(register);
         false
+    }
+
+    /// Takes a whole write to a register other than CMD at once, of however many words.
+    #[inline(always)]
+    pub(crate) fn pass_words(&mut self, register: u8)
+        requires at_header { self.old.due ≡ 0 }
+        requires range { register < 32 }
+        requires other { register ≡ 4 → ⊥ }
+        ensures head { (ps : List Packet) (count : ℕ) → 0 < count → count < 2 ^ 11 → MachineStandsFor self.old ps
+            → Grows ps ((short_head register count, Step.Open register count) ∷ []) (in_short register count) }
+        ensures words { (ps : List Packet) (ws : List ℕ) → AreWords ws → 0 < length ws → MachineStandsFor (in_short register (length ws)) ps
+            → Grows ps (payload_steps register ws) self.new }
+    {
+        self.register = register;
+        self.latest = Some(register);
     }
 
     /// The register whose payload words are due.

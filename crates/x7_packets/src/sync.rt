@@ -1,7 +1,7 @@
 //! The search for the sync word at any byte place (UG470, sync word).
-ghost use Rattle.std.specs.Prelude.{◌≡◌, ℕ, List, [], ◌∷◌, ◌++◌, ◌<◌, ◌≤◌, ◌↔◌, length, IsTrue, IfSome, if◌then◌else◌, take};
+ghost use Rattle.std.specs.Prelude.{◌≡◌, ℕ, List, [], ◌∷◌, ◌++◌, ◌<◌, ◌≤◌, ◌+◌, ◌↔◌, length, IsTrue, IfSome, if◌then◌else◌, take};
 ghost use Rattle.x7_packets.specs.SyncWord.{EndsWithSync, HasNoSync, sync_bytes};
-ghost use Rattle.x7_packets.specs.Matching.{MatcherStandsFor, Searched};
+ghost use Rattle.x7_packets.specs.Matching.{IsClear, IsFirstSync, MatcherStandsFor, Searched};
 
 use memchr::memmem;
 use std::marker::Model;
@@ -14,10 +14,26 @@ const SYNC: [u8; 4] = [0xAA, 0x99, 0x55, 0x66];
 const NEAR: usize = 16;
 
 /// Whether four bytes are the sync word.
+#[inline(always)]
 fn is_sync(bytes: [u8; 4]) -> bool
     ensures { IsTrue result ↔ (bytes ≡ sync_bytes) }
 {
     bytes[0] == 0xAA && bytes[1] == 0x99 && bytes[2] == 0x55 && bytes[3] == 0x66
+}
+
+/// Where the sync word first stands among the first 32 bytes, if it does.
+#[inline(always)]
+pub(crate) fn near_sync(bytes: &[u8]) -> Option<usize>
+    requires { 32 ≤ length bytes.now }
+    ensures first { IfSome result (λ at. IsFirstSync bytes.now at) }
+    ensures near { IfSome result (λ at. at + 4 ≤ 32) }
+{
+    for at in 0..29 {
+        if is_sync([bytes[at], bytes[at + 1], bytes[at + 2], bytes[at + 3]]) {
+            return Some(at);
+        }
+    }
+    None
 }
 
 /// A search for the sync word, byte by byte: the last three bytes taken, 0 for each that isn't there.
@@ -48,6 +64,20 @@ impl Matcher {
             second: 0,
             third: 0,
         }
+    }
+
+    /// Whether the last three bytes are 0, as those of a new matcher: so a sync word that comes begins behind them.
+    #[inline(always)]
+    pub(crate) fn is_clear(&self) -> bool
+        ensures { IsTrue result → IsClear self.now }
+    {
+        if self.first != 0 {
+            return false;
+        }
+        if self.second != 0 {
+            return false;
+        }
+        self.third == 0
     }
 
     /// Takes a byte, and says whether the bytes since `new` or since the last true end with the sync word.

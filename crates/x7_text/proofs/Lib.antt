@@ -12,3 +12,4 @@ pub mod ValueLemmas
 pub mod WholeLineLemmas
 pub mod WordLemmas
 pub mod FewLemmas
+pub mod WindowLemmas

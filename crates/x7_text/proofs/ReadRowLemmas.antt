@@ -27,13 +27,13 @@ take-hex (suc n) [] h = absurd (omega arith)
 take-hex (suc n) (b ∷ bs) h = let e : 2 * suc n ≡ suc (suc (2 * n)) = omega arith in
     ap (λ (j : ℕ). take j (flat_map hex_byte (b ∷ bs))) e ∙ ap (λ t. hex_byte b ++ t) (take-hex n bs (omega arith))
 
-take-spaced : (n : ℕ) (ws z : List ℕ) → n ≤ length ws → take (9 * n) (flat_map spaced ws ++ z) ≡ flat_map spaced (take n ws)
+pub take-spaced : (n : ℕ) (ws z : List ℕ) → n ≤ length ws → take (9 * n) (flat_map spaced ws ++ z) ≡ flat_map spaced (take n ws)
 take-spaced zero ws z h = refl
 take-spaced (suc n) [] z h = absurd (omega arith)
 take-spaced (suc n) (w ∷ ws) z h = let e : 9 * suc n ≡ suc (suc (suc (suc (suc (suc (suc (suc (suc (9 * n))))))))) = omega arith in
     ap (λ (j : ℕ). take j (flat_map spaced (w ∷ ws) ++ z)) e ∙ ap (λ t. spaced w ++ t) (take-spaced n ws z (omega arith))
 
-take-words : (n : ℕ) (bs : List ℕ) → 4 * n ≤ length bs → take n (words_of_bytes bs) ≡ words_of_bytes (take (4 * n) bs)
+pub take-words : (n : ℕ) (bs : List ℕ) → 4 * n ≤ length bs → take n (words_of_bytes bs) ≡ words_of_bytes (take (4 * n) bs)
 take-words zero bs h = refl
 take-words (suc n) [] h = absurd (omega arith)
 take-words (suc n) (a ∷ []) h = absurd (omega arith)

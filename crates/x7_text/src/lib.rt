@@ -10,6 +10,7 @@ mod read_row;
 mod reading;
 mod room;
 mod row;
+mod window;
 
 pub use block::{data_line, hex_of_block};
 pub use digits::{hex_of_byte, hex_of_word, put_decimal};
@@ -23,3 +24,4 @@ pub use read_row::{put_byte_row, put_word_row};
 pub use reading::{block_of_hex, decimal_below, word_of_hex};
 pub use room::{make_room, put};
 pub use row::{put_bytes, put_close, put_word, put_words};
+pub use window::{put_first_bytes, put_first_words};

@@ -1,6 +1,10 @@
-use Rattle.std.proofs.Common.{refl}
+use Rattle.std.proofs.Common.{refl, ◌∙◌, arith}
+use Rattle.x7_listing.specs.AtOnce.{behind, write_start}
+use Rattle.x7_listing.proofs.AtOnceLemmas.{row_behind, row_first}
 use Rattle.x7_listing.proofs.rows.write_row.Goals as goal
 
-pub write_row_in-requires-clause-rows : goal.write_row_in-requires-clause-rows
-write_row_in-requires-clause-rows c =
-    (refl, (refl, (refl, (refl, (refl, (refl, (refl, (refl, (refl, (refl, (refl, (refl, (refl, (refl, (refl, (refl, (refl, (refl, (refl, (refl, (refl, (refl, (refl, (refl, (refl, (refl, (refl, (refl, (refl, (refl, (refl, (refl, tt))))))))))))))))))))))))))))))))
+pub returns-then-in_line-eq0 : goal.returns-then-in_line-eq0
+returns-then-in_line-eq0 c = row_first c.args.in_line c.row_in.result.now (write_start c.args.register) c.if-in_line-eq0.true (c.row_in.ensures write_start (refl, (refl, (refl, (refl, (refl, (refl, (refl, (refl, (refl, (refl, (refl, (refl, (refl, (refl, (refl, (refl, (refl, (refl, (refl, (refl, (refl, (refl, (refl, (refl, (refl, (refl, (refl, (refl, (refl, (refl, (refl, (refl, tt)))))))))))))))))))))))))))))))))
+
+pub returns-else-in_line-eq0 : goal.returns-else-in_line-eq0
+returns-else-in_line-eq0 c = row_behind c.args.in_line c.row_in-else-in_line-eq0.result.now (write_start c.args.register) c.if-in_line-eq0.false (c.row_in-else-in_line-eq0.ensures (behind write_start) (refl, (refl, (refl, (refl, (refl, (refl, (refl, (refl, (refl, (refl, (refl, (refl, (refl, (refl, (refl, (refl, (refl, (refl, (refl, (refl, (refl, (refl, (refl, (refl, (refl, (refl, (refl, (refl, (refl, (refl, (refl, (refl, tt)))))))))))))))))))))))))))))))))
