@@ -12,7 +12,7 @@ use Rattle.x7_packets.proofs.HistoryLemmas.{cut_enters, next_word-is}
 use Rattle.x7_crc.specs.OpenWrites.{in_order, running_check}
 use Rattle.x7_crc.specs.RunningCheck.{check_after, writes_to}
 use Rattle.x7_crc.proofs.CheckLemmas.{check_after-append, check_after-none, check_after_fits, check_of-more}
-use Rattle.x7_crc.specs.Checking.{check_of_bytes, has_effect, Checks, IsSum, CheckerState, Keeps}
+use Rattle.x7_crc.specs.Checking.{has_effect, Checks, HasTaken, IsSum, CheckerState, Keeps}
 
 pub check-none : running_check [] ≡ 0
 check-none = check_after-none 0 (lit< tt)
@@ -80,16 +80,16 @@ whole bytes taken m h e =
 
 -- all bytes are taken
 pub caught-up : (c d : CheckerState) (m : ℕ) (bytes : List ℕ) → m ≡ min c.taken (length bytes) → d.taken ≡ length bytes → Keeps c bytes
-    → ((bs : List ℕ) → Checks c.cutter c.check c.held bs → Checks d.cutter d.check d.held (bs ++ take (length bytes - m) (drop m bytes)))
-    → (d.check ≡ check_of_bytes bytes) × Keeps d bytes
+    → ((bs : List ℕ) → HasTaken c.pieces bs → HasTaken d.pieces (bs ++ take (length bytes - m) (drop m bytes)))
+    → HasTaken d.pieces bytes × Keeps d bytes
 caught-up c d m bytes e f k took =
-    let all : Checks d.cutter d.check d.held bytes = subst (λ t. Checks d.cutter d.check d.held t) (whole bytes c.taken m k.within e) (took (take c.taken bytes) k.checks) in
-    (all.sum.check_is, record { within = omega (arith, f); checks = subst (λ t. Checks d.cutter d.check d.held t) (sym (take_all d.taken bytes (omega (arith, f)))) all })
+    let all : HasTaken d.pieces bytes = subst (λ t. HasTaken d.pieces t) (whole bytes c.taken m k.within e) (took (take c.taken bytes) k.checks) in
+    (all, record { within = omega (arith, f); checks = subst (λ t. HasTaken d.pieces t) (sym (take_all d.taken bytes (omega (arith, f)))) all })
 
 -- more bytes
 pub still-keeps : (c : CheckerState) (bytes more new : List ℕ) → new ≡ bytes ++ more → Keeps c bytes → Keeps c new
 still-keeps c bytes more new e k =
-    subst (λ t. Keeps c t) (sym e) (record { within = omega (arith, k.within, length-append bytes more); checks = subst (λ t. Checks c.cutter c.check c.held t) (sym (take-append-le c.taken bytes more k.within)) k.checks })
+    subst (λ t. Keeps c t) (sym e) (record { within = omega (arith, k.within, length-append bytes more); checks = subst (λ t. HasTaken c.pieces t) (sym (take-append-le c.taken bytes more k.within)) k.checks })
 
 -- a call that needs more bytes has used the piece up
 pub used_up : (run : Cut) (left before after : ℕ) → run ≡ Need → Goes run left before after → left ≡ 0

@@ -22,18 +22,26 @@ pub record Checks (cutter : CutterState) (check held : ℕ) (bytes : List ℕ) :
   pub stands : CutterStandsFor cutter bytes sessions place
   pub sum : IsSum check held (history_of bytes)
 
--- what a checker keeps
-pub record CheckerState : Type 0 where
+-- what a checker of pieces keeps
+pub record PieceCheckerState : Type 0 where
   pub cutter : CutterState
   pub check : ℕ
   pub held : ℕ
+
+-- a checker of pieces that has taken these bytes
+abbrev pub HasTaken : PieceCheckerState → List ℕ → Type 0
+HasTaken c bytes = Checks c.cutter c.check c.held bytes
+
+-- what a checker of bytes that grow keeps
+pub record CheckerState : Type 0 where
+  pub pieces : PieceCheckerState
   -- how many bytes were taken
   pub taken : ℕ
 
 -- a checker of these bytes, which has taken the first of them
 pub record Keeps (c : CheckerState) (bytes : List ℕ) : Type 0 where
   pub within : c.taken ≤ length bytes
-  pub checks : Checks c.cutter c.check c.held (take c.taken bytes)
+  pub checks : HasTaken c.pieces (take c.taken bytes)
 
 -- a write to this register may do more than lengthen the check: CRC and FAR and CMD, and LOUT, which is left out
 abbrev pub has_effect : ℕ → Bool

@@ -5,7 +5,7 @@ ghost use Rattle.x7_packets.specs.Cutting.{IsRun, run_steps};
 ghost use Rattle.x7_packets.specs.History.{command_held, entered_all, entry, executed_by, executes, History, is_command, Write};
 ghost use Rattle.x7_packets.specs.Packet.{payload_steps};
 ghost use Rattle.x7_crc.specs.OpenWrites.{running_check};
-ghost use Rattle.x7_crc.specs.Checking.{check_of_bytes, has_effect, IsSum, Checks, Keeps};
+ghost use Rattle.x7_crc.specs.Checking.{check_of_bytes, has_effect, IsSum, Checks, HasTaken, Keeps};
 
 use crate::check::{fold, fold_slice};
 use std::marker::Model;
@@ -111,11 +111,52 @@ fn after(sum: Sum, run: Cut) -> Sum
     }
 }
 
+/// Keeps the check of bytes that come piece by piece. It holds none of them.
+#[derive(Drop)]
+pub struct PieceChecker {
+    cutter: Cutter,
+    sum: Sum,
+}
+
+impl Model for PieceChecker {
+    ghost use Rattle.x7_crc.specs.Checking.{PieceCheckerState};
+
+    ghost Value = { PieceCheckerState };
+
+    ghost view = { λ c. record { cutter = c.cutter; check = c.sum.check; held = c.sum.held } };
+}
+
+impl PieceChecker {
+    /// One of no bytes.
+    pub fn new() -> PieceChecker
+        ensures { HasTaken result [] }
+    {
+        PieceChecker {
+            cutter: Cutter::new(),
+            sum: Sum { check: 0, held: 0 },
+        }
+    }
+
+    /// Takes a piece more.
+    pub fn take(&mut self, piece: &[u8])
+        ensures { (bytes : List ℕ) → HasTaken self.old bytes → HasTaken self.new (bytes ++ piece.now) }
+    {
+        self.sum = take_all(&mut self.cutter, self.sum, piece);
+    }
+
+    /// The check of the bytes taken.
+    pub fn check(&self) -> u32
+        ensures kept { result ≡ self.now.check }
+        ensures value { (bytes : List ℕ) → HasTaken self.now bytes → result ≡ check_of_bytes bytes }
+    {
+        self.sum.check
+    }
+}
+
 /// Keeps the check of bytes that grow at their end: each byte is taken once.
 #[derive(Drop)]
 pub struct Checker {
-    cutter: Cutter,
-    sum: Sum,
+    pieces: PieceChecker,
     taken: usize,
 }
 
@@ -124,7 +165,7 @@ impl Model for Checker {
 
     ghost Value = { CheckerState };
 
-    ghost view = { λ c. record { cutter = c.cutter; check = c.sum.check; held = c.sum.held; taken = c.taken } };
+    ghost view = { λ c. record { pieces = c.pieces; taken = c.taken } };
 }
 
 impl Checker {
@@ -133,8 +174,7 @@ impl Checker {
         ensures { Keeps result [] }
     {
         Checker {
-            cutter: Cutter::new(),
-            sum: Sum { check: 0, held: 0 },
+            pieces: PieceChecker::new(),
             taken: 0,
         }
     }
@@ -144,9 +184,9 @@ impl Checker {
         ensures { Keeps self.old bytes.now → (result ≡ check_of_bytes bytes.now) × Keeps self.new bytes.now }
     {
         let taken = self.taken.min(bytes.len());
-        self.sum = take_all(&mut self.cutter, self.sum, &bytes[taken..]);
+        self.pieces.take(&bytes[taken..]);
         self.taken = bytes.len();
-        self.sum.check
+        self.pieces.check()
     }
 }
 

@@ -10,5 +10,5 @@ mod table;
 mod tests;
 
 pub use check::{fold, fold_slice};
-pub use checker::Checker;
+pub use checker::{Checker, PieceChecker};
 pub use law::{checks_are_linear, checks_are_remainders, checks_continue, checks_of_histories};

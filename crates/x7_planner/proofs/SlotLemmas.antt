@@ -1,7 +1,8 @@
 -- The words of slots, one slot more.
-use Rattle.std.proofs.Common.{◌≡◌, ℕ, ◌+◌, ◌*◌, ◌^◌, ◌<◌, ◌≤◌, List, [], ◌∷◌, ◌++◌, length, take, get_or, sym, ap, ◌∙◌, arith, append_assoc, length-append}
+use Rattle.std.proofs.Common.{◌≡◌, ℕ, ◌+◌, ◌*◌, ◌^◌, ◌<◌, ◌≤◌, List, [], ◌∷◌, ◌++◌, length, take, drop, get_or, sym, ap, ◌∙◌, arith, append_assoc, append-nil, length-append, length-take-le}
 use Rattle.std.proofs.Math.Nat.{mul-le-mul_left}
-use Rattle.std.proofs.lemmas.List.{take_more}
+use Rattle.std.proofs.Math.ListN.{drop_of_length-le}
+use Rattle.std.proofs.lemmas.List.{drop-append-le, length-take, take_more}
 use Rattle.std.proofs.lemmas.Grind.{flat_map-append}
 use Rattle.x7_words.proofs.ListLemmas.{flat_map-last}
 use Rattle.x7_words.specs.Word.{bytes_of_word}
@@ -24,12 +25,21 @@ written-on old mid new xs ys e f = f ∙ ap (λ t. t ++ bytes_of_words ys) e ∙
 pub all-slots : (part : PartData) (first n : ℕ) → IsPart part → first ≡ get_or (addresses_in part) 0 0 → from first (slots_in part) ≡ slots_in part
 all-slots part first n is e = ap (λ (a : ℕ). from a (slots_in part)) e ∙ slots_all part is
 
-pub slot-more : (part : PartData) (plan : PlanData) (old mid new : List ℕ) (n : ℕ) (s : Slot) → n < length (slots_in part) → s ≡ get_or (slots_in part) n End
-    → mid ≡ old ++ bytes_of_words (slot_words part plan (take n (slots_in part))) → new ≡ mid ++ bytes_of_words (frame_at_slot part plan s)
-    → new ≡ old ++ bytes_of_words (slot_words part plan (take (n + 1) (slots_in part)))
-slot-more part plan old mid new n s h e f g =
-    written-on old mid new (slot_words part plan (take n (slots_in part))) (frame_at_slot part plan s) f g
-    ∙ ap (λ t. old ++ bytes_of_words t) (sym (flat_map-last (frame_at_slot part plan) (take n (slots_in part)) s) ∙ ap (λ (x : Slot). slot_words part plan (take n (slots_in part) ++ x ∷ [])) e ∙ ap (slot_words part plan) (sym (take_more (slots_in part) n End h)))
+pub slot-more : (part : PartData) (plan : PlanData) (old mid new : List ℕ) (start n : ℕ) (s : Slot) → start ≤ n → n < length (slots_in part) → s ≡ get_or (slots_in part) n End
+    → mid ≡ old ++ bytes_of_words (slot_words part plan (drop start (take n (slots_in part)))) → new ≡ mid ++ bytes_of_words (frame_at_slot part plan s)
+    → new ≡ old ++ bytes_of_words (slot_words part plan (drop start (take (n + 1) (slots_in part))))
+slot-more part plan old mid new start n s le h e f g =
+    let places = slots_in part in
+    let long : length (take n places) ≡ n = length-take-le n places (omega (arith, h)) in
+    let one : drop start (take (n + 1) places) ≡ drop start (take n places) ++ s ∷ [] =
+    ap (drop start) (take_more places n End h) ∙ ap (λ (x : Slot). drop start (take n places ++ x ∷ [])) (sym e) ∙ drop-append-le start (take n places) (s ∷ []) (omega (arith, long, le)) in
+    written-on old mid new (slot_words part plan (drop start (take n places))) (frame_at_slot part plan s) f g
+    ∙ ap (λ t. old ++ bytes_of_words t) (sym (flat_map-last (frame_at_slot part plan) (drop start (take n places)) s) ∙ ap (slot_words part plan) (sym one))
+
+-- no slot at first
+pub slots-none : (part : PartData) (plan : PlanData) (old : List ℕ) (start : ℕ) → old ≡ old ++ bytes_of_words (slot_words part plan (drop start (take start (slots_in part))))
+slots-none part plan old start =
+    sym (ap (λ (t : List Slot). old ++ bytes_of_words (slot_words part plan t)) (drop_of_length-le (take start (slots_in part)) (omega (arith, length-take start (slots_in part)))) ∙ append-nil old)
 
 -- how many words the slots have
 pub record IsFew (part : PartData) (w n : ℕ) : Type 0 where

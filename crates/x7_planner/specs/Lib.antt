@@ -4,3 +4,4 @@ pub mod Readback
 pub mod Refusals
 pub mod Partial
 pub mod Contents
+pub mod Telling

@@ -1,18 +1,23 @@
 //! The stream of a whole configuration.
-ghost use Rattle.std.specs.Prelude.{◌≡◌, ◌⊎◌, ◌+◌, ◌*◌, ◌^◌, ◌<◌, ◌≤◌, ◌++◌, [], ◌∷◌, length, take, replicate, slice_index, Contains, IfOk, IfErr, OnOk};
+ghost use Rattle.std.specs.Prelude.{◌≡◌, ◌⊎◌, ◌+◌, ◌*◌, ◌^◌, ◌<◌, ◌≤◌, ◌++◌, ℕ, List, [], ◌∷◌, true, false, length, take, drop, replicate, slice_index, Contains, IfOk, IfErr, OnOk, OnErr};
+ghost use Rattle.x7_crc.specs.Checking.{check_of_bytes};
 ghost use Rattle.x7_part.specs.AddressOrder.{addresses_in};
 ghost use Rattle.x7_part.specs.Part.{frame_words};
 ghost use Rattle.x7_part.specs.PartRange.{IsPart};
 ghost use Rattle.x7_part.specs.Slots.{slots_in};
 ghost use Rattle.x7_planner.specs.Full.{frame_at_slot, full_opening, full_stream, slot_words};
 ghost use Rattle.x7_planner.specs.Refusals.{AreAddressed, IsFullFault};
-ghost use Rattle.x7_planner.specs.Stream.{desync, lfrm, no_op, start, with_piece, Check, Words};
+ghost use Rattle.x7_planner.specs.Stream.{bytes_of_words};
+ghost use Rattle.x7_planner.specs.Telling.{HasTold, TellsMore, Writes, calls_left, slot_next};
 ghost use Rattle.x7_planner.specs.declared.fault.PlanFault.{PlanFault};
+ghost use Rattle.x7_planner.specs.declared.whole.Next.{Next};
 
 use crate::address::first_foreign;
 use crate::fault::PlanFault;
-use crate::writer::Writer;
+use crate::writer::{CHECK_HEADER, put_words};
 use std::alloc::Global;
+use std::marker::Model;
+use x7_crc::PieceChecker;
 use x7_memory::Plan;
 use x7_part::{Part, Slot};
 use x7_words::NoMemory;
@@ -20,47 +25,74 @@ use x7_words::NoMemory;
 /// The words of a full stream beside its frame data.
 const OTHER_WORDS: usize = 55;
 
+/// How many slots are written at once.
+const PIECE_SLOTS: u64 = 160;
+
 /// A frame of zeros, of the most words that a frame may have.
 static ZEROS: [u32; 255] = [0; 255];
 
-/// Writes what stands before the frame data, of so many words.
-fn put_opening(writer: &mut Writer, part: &Part, first: u32, words: u32) -> Result<(), NoMemory>
-    requires few { words < 2 ^ 27 }
-    requires words { words ≡ frame_words part.now * length (slots_in part.now) }
-    requires first { first ≡ slice_index (addresses_in part.now) 0 }
-    ensures { OnOk result (writer.new ≡ with_piece writer.old (Words (full_opening part.now))) }
+/// The least address.
+fn first_address(part: &Part) -> u32
+    ensures first { result ≡ slice_index (addresses_in part.now) 0 }
+    ensures address { Contains (addresses_in part.now) result }
 {
-    writer.words(&[
-        0xFFFF_FFFF,
-        0xFFFF_FFFF,
-        0xFFFF_FFFF,
-        0xFFFF_FFFF,
-        0x0000_00BB,
-        0x1122_0044,
-        0xFFFF_FFFF,
-        0xFFFF_FFFF,
-        0xAA99_5566,
-        0x2000_0000,
-        0x3000_8001,
-        11,
-        0x3000_8001,
-        7,
-        0x2000_0000,
-        0x3001_8001,
-        part.idcode(),
-        0x3001_2001,
-        0x0200_3FE5,
-        0x3000_C001,
-        0x0000_0501,
-        0x3000_A001,
-        0x0000_0101,
-        0x3000_8001,
-        1,
-        0x3000_2001,
-        first,
-        0x3000_4000,
-        0x5000_0000 + words,
-    ])
+    let _frames = part.frames();
+    let Some(first) = part.address(0) else {
+        unreachable!()
+    };
+    first
+}
+
+/// The number of all slots.
+fn slot_count(part: &Part) -> u64
+    ensures count { result ≡ length (slots_in part.now) }
+    ensures few { result ≤ 131456 }
+    ensures words { frame_words part.now * result ≤ 13277056 }
+{
+    let _frames = part.frames();
+    let _words = part.words();
+    part.slots_from(first_address(part))
+}
+
+/// Writes what stands before the frame data.
+fn put_opening(out: &mut Vec<u8>, part: &Part) -> Result<(), NoMemory>
+    ensures { OnOk result (out.new.items ≡ out.old.items ++ bytes_of_words (full_opening part.now)) }
+{
+    let words = part.words() * slot_count(part) as u32;
+    put_words(
+        out,
+        &[
+            0xFFFF_FFFF,
+            0xFFFF_FFFF,
+            0xFFFF_FFFF,
+            0xFFFF_FFFF,
+            0x0000_00BB,
+            0x1122_0044,
+            0xFFFF_FFFF,
+            0xFFFF_FFFF,
+            0xAA99_5566,
+            0x2000_0000,
+            0x3000_8001,
+            11,
+            0x3000_8001,
+            7,
+            0x2000_0000,
+            0x3001_8001,
+            part.idcode(),
+            0x3001_2001,
+            0x0200_3FE5,
+            0x3000_C001,
+            0x0000_0501,
+            0x3000_A001,
+            0x0000_0101,
+            0x3000_8001,
+            1,
+            0x3000_2001,
+            first_address(part),
+            0x3000_4000,
+            0x5000_0000 + words,
+        ],
+    )
 }
 
 /// So many words of some.
@@ -93,54 +125,153 @@ fn frame_at<'p>(part: &Part, plan: &'p Plan, slot: Slot) -> &'p [u32]
     }
 }
 
-/// Writes the frames of all slots.
+/// Writes the frames of the slots from one place to another.
 fn put_slots(
-    writer: &mut Writer,
+    out: &mut Vec<u8>,
     part: &Part,
     plan: &Plan,
-    first: u32,
-    count: u64,
+    from: u64,
+    to: u64,
 ) -> Result<(), NoMemory>
-    requires part { IsPart part.now }
     requires width { plan.now.width ≡ frame_words part.now }
-    requires first { first ≡ slice_index (addresses_in part.now) 0 }
-    requires address { Contains (addresses_in part.now) first }
-    requires count { count ≡ length (slots_in part.now) }
-    ensures { OnOk result (writer.new ≡ with_piece writer.old (Words (slot_words part.now plan.now (slots_in part.now)))) }
+    requires order { from ≤ to }
+    requires within { to ≤ length (slots_in part.now) }
+    ensures { OnOk result (out.new.items ≡ out.old.items ++ bytes_of_words (slot_words part.now plan.now (drop from (take to (slots_in part.now))))) }
 {
-    for n in 0..count {
-        writer.words(frame_at(part, plan, part.slot_after(first, n)))?;
+    let _frames = part.frames();
+    let first = first_address(part);
+    for n in from..to {
+        put_words(out, frame_at(part, plan, part.slot_after(first, n)))?;
     }
     Ok(())
 }
 
-/// Writes what stands behind the frame data: checks, the end of startup's settings, and the end of the session.
-fn put_closing(writer: &mut Writer) -> Result<(), NoMemory>
-    ensures { OnOk result (writer.new ≡ with_piece (with_piece (with_piece (with_piece writer.old Check) (Words (lfrm ++ start))) Check) (Words (desync ++ replicate 16 no_op))) }
-{
-    writer.check()?;
-    writer.words(&[0x3000_8001, 3, 0x3000_8001, 5])?;
-    writer.check()?;
-    writer.words(&[0x3000_8001, 13])?;
-    writer.words(&[0x2000_0000; 16])
+/// What a full stream writes next.
+#[derive(Clone, Copy, Drop)]
+pub(crate) enum Next {
+    /// What stands before the frame data.
+    Opening,
+    /// The frames from this slot on.
+    Slot(u64),
+    /// The check behind the frame data.
+    Check,
+    /// The end of frame data, and the start of the device.
+    Start,
+    /// The check behind that.
+    LastCheck,
+    /// The end of the session.
+    Desync,
+    /// Nothing: all is written.
+    Nothing,
 }
 
-/// The full stream of a plan whose addresses are the part's.
-fn full_of(alloc: Global, part: &Part, plan: &Plan) -> Result<Vec<u8>, NoMemory>
-    requires width { plan.now.width ≡ frame_words part.now }
-    ensures { IfOk result (λ bytes. bytes.items ≡ full_stream part.now plan.now) }
-{
-    let _frames = part.frames();
-    let Some(first) = part.address(0) else {
-        return Err(NoMemory);
-    };
-    let count = part.slots_from(first);
-    let words = part.words() * count as u32;
-    let mut writer = Writer::new(alloc, OTHER_WORDS + words as usize)?;
-    put_opening(&mut writer, part, first, words)?;
-    put_slots(&mut writer, part, plan, first, count)?;
-    put_closing(&mut writer)?;
-    Ok(writer.finish())
+/// The full stream of a plan, which is written piece by piece, so that nobody has to hold it whole.
+#[derive(Drop)]
+pub struct FullStream<'p> {
+    part: &'p Part,
+    plan: &'p Plan,
+    next: Next,
+    /// The check of what was written.
+    checker: PieceChecker,
+}
+
+impl<'p> Model for FullStream<'p> {
+    ghost use Rattle.x7_planner.specs.Telling.{FullStreamState, IsFullStream};
+
+    ghost Value = { FullStreamState };
+
+    ghost view = { λ s. record { part = s.part.now; plan = s.plan.now; next = s.next; check = s.checker } };
+
+    ghost invariant = { λ s. IsFullStream record { part = s.part.now; plan = s.plan.now; next = s.next; check = s.checker } };
+}
+
+impl<'p> FullStream<'p> {
+    /// The full stream of a plan, of which nothing is written yet. A plan has the part's width.
+    pub fn new(part: &'p Part, plan: &'p Plan) -> Result<FullStream<'p>, PlanFault>
+        requires width { plan.now.width ≡ frame_words part.now }
+        ensures stream { IfOk result (λ stream. HasTold stream []) }
+        ensures part { IfOk result (λ stream. stream.part ≡ part.now) }
+        ensures plan { IfOk result (λ stream. stream.plan ≡ plan.now) }
+        ensures addresses { IfOk result (λ stream. AreAddressed part.now plan.now.rows) }
+        ensures fault { IfErr result (IsFullFault part.now plan.now) }
+    {
+        if let Some(far) = first_foreign(part, plan) {
+            return Err(PlanFault::Foreign(far));
+        }
+        Ok(FullStream {
+            part,
+            plan,
+            next: Next::Opening,
+            checker: PieceChecker::new(),
+        })
+    }
+
+    /// Appends the next piece, of 160 frames at most, and says whether there was one. After an error the same piece is next,
+    /// and a part of it may stand in `out`.
+    pub fn put_next(&mut self, out: &mut Vec<u8>) -> Result<bool, NoMemory>
+        ensures more { (told : List ℕ) → HasTold self.old told → IfOk result (λ more. more ≡ true → TellsMore self.new told out.old.items out.new.items) }
+        ensures fewer { IfOk result (λ more. more ≡ true → calls_left self.new < calls_left self.old) }
+        ensures end { (told : List ℕ) → HasTold self.old told → IfOk result (λ more. more ≡ false → told ≡ full_stream self.old.part self.old.plan) }
+        ensures nothing { IfOk result (λ more. more ≡ false → out.new.items ≡ out.old.items) }
+        ensures part { self.new.part ≡ self.old.part }
+        ensures plan { self.new.plan ≡ self.old.plan }
+        ensures failed { OnErr result (self.new ≡ self.old) }
+    {
+        if let Next::Nothing = self.next {
+            return Ok(false);
+        }
+        let start = out.len();
+        let next = self.put(out)?;
+        self.checker.take(&out[start..]);
+        self.next = next;
+        Ok(true)
+    }
+
+    /// Appends what is next, and tells what is written behind it.
+    fn put(&self, out: &mut Vec<u8>) -> Result<Next, NoMemory>
+        ensures { IfOk result (Writes self.now out.old.items out.new.items) }
+    {
+        match self.next {
+            Next::Opening => {
+                put_opening(out, self.part)?;
+                Ok(Next::Slot(0))
+            }
+            Next::Slot(n) => self.put_frames(out, n),
+            Next::Check => {
+                put_words(out, &[CHECK_HEADER, self.checker.check()])?;
+                Ok(Next::Start)
+            }
+            Next::Start => {
+                put_words(out, &[0x3000_8001, 3, 0x3000_8001, 5])?;
+                Ok(Next::LastCheck)
+            }
+            Next::LastCheck => {
+                put_words(out, &[CHECK_HEADER, self.checker.check()])?;
+                Ok(Next::Desync)
+            }
+            Next::Desync => {
+                put_words(out, &[0x3000_8001, 13])?;
+                put_words(out, &[0x2000_0000; 16])?;
+                Ok(Next::Nothing)
+            }
+            Next::Nothing => Ok(Next::Nothing),
+        }
+    }
+
+    /// Appends the frames of the slots from one on, and tells what is written behind them.
+    fn put_frames(&self, out: &mut Vec<u8>, n: u64) -> Result<Next, NoMemory>
+        requires { self.now.next ≡ Next.Slot n }
+        ensures { IfOk result (Writes self.now out.old.items out.new.items) }
+    {
+        let count = slot_count(self.part);
+        let end = count.min(n + PIECE_SLOTS);
+        put_slots(out, self.part, self.plan, n, end)?;
+        if end == count {
+            Ok(Next::Check)
+        } else {
+            Ok(Next::Slot(end))
+        }
+    }
 }
 
 /// The stream that writes the planned frames and zeros at all other addresses, and then starts the device. A plan has the
@@ -151,8 +282,24 @@ pub fn full(alloc: Global, part: &Part, plan: &Plan) -> Result<Vec<u8>, PlanFaul
     ensures addresses { IfOk result (λ bytes. AreAddressed part.now plan.now.rows) }
     ensures fault { IfErr result (λ fault. (fault ≡ PlanFault.NoMemory) ⊎ IsFullFault part.now plan.now fault) }
 {
-    if let Some(far) = first_foreign(part, plan) {
-        return Err(PlanFault::Foreign(far));
-    }
-    Ok(full_of(alloc, part, plan)?)
+    let stream = match FullStream::new(part, plan) {
+        Ok(stream) => stream,
+        Err(fault) => return Err(fault),
+    };
+    let words = part.words() as usize * slot_count(part) as usize;
+    let Ok(mut out) = Vec::with_capacity(alloc, 4 * (OTHER_WORDS + words)) else {
+        return Err(PlanFault::NoMemory);
+    };
+    put_all(stream, &mut out)?;
+    Ok(out)
+}
+
+/// Appends all pieces of a stream that has told nothing.
+fn put_all(stream: FullStream<'_>, out: &mut Vec<u8>) -> Result<(), NoMemory>
+    requires told { HasTold stream out.old.items }
+    ensures { OnOk result (out.new.items ≡ full_stream stream.entry.part stream.entry.plan) }
+{
+    let mut stream = stream;
+    while stream.put_next(out)? {}
+    Ok(())
 }

@@ -2,14 +2,14 @@
 ghost use Rattle.std.specs.Prelude.{◌≡◌, ◌+◌, ◌*◌, ◌≤◌, [], ◌∷◌, ◌++◌, length, ◌<◌, ◌^◌, vec_len, vec_capacity, IfOk, OnOk, OnErr};
 ghost use Rattle.x7_planner.specs.Stream.{bytes_of_words, with_piece, Check, Words};
 
-use std::alloc::{AllocError, Global};
+use byteorder::{BigEndian, ByteOrder};
+use std::alloc::Global;
 use std::marker::Model;
 use x7_crc::Checker;
-use x7_text::put;
-use x7_words::{NoMemory, bytes_of};
+use x7_words::NoMemory;
 
 /// The header of a write of one word to CRC (UG470, packet types).
-const CHECK_HEADER: u32 = 0x3000_0001;
+pub(crate) const CHECK_HEADER: u32 = 0x3000_0001;
 
 /// The bytes so far, and their running check.
 #[derive(Drop)]
@@ -48,10 +48,7 @@ impl Writer {
     pub(crate) fn words(&mut self, words: &[u32]) -> Result<(), NoMemory>
         ensures { OnOk result (self.new ≡ with_piece self.old (Words words.now)) }
     {
-        match put_words(&mut self.out, words) {
-            Ok(()) => Ok(()),
-            Err(_) => Err(NoMemory),
-        }
+        put_words(&mut self.out, words)
     }
 
     /// Writes the running check to CRC.
@@ -71,21 +68,16 @@ impl Writer {
 }
 
 /// Appends words, the highest byte first. After an error nothing was appended.
-fn put_words(out: &mut Vec<u8>, words: &[u32]) -> Result<(), AllocError>
+pub(crate) fn put_words(out: &mut Vec<u8>, words: &[u32]) -> Result<(), NoMemory>
     ensures items { OnOk result (out.new.items ≡ out.old.items ++ bytes_of_words words.now) }
     ensures failed { OnErr result (out.new.items ≡ out.old.items) }
 {
-    out.reserve(4 * words.len())?;
-    put_each(out, words);
-    Ok(())
-}
-
-/// Appends words for which there is room.
-fn put_each(out: &mut Vec<u8>, words: &[u32])
-    requires { vec_len out.old + 4 * length words.now ≤ vec_capacity out.old }
-    ensures { out.new.items ≡ out.old.items ++ bytes_of_words words.now }
-{
-    for word in words {
-        put(out, &bytes_of(*word));
+    let start = out.len();
+    match out.resize(start + 4 * words.len(), 0) {
+        Ok(()) => {
+            BigEndian::write_u32_into(words, &mut out[start..]);
+            Ok(())
+        }
+        Err(_) => Err(NoMemory),
     }
 }

@@ -1,11 +1,16 @@
 use Rattle.std.proofs.Common.{◌∙◌, ◌++◌, get_or, ap, arith}
 use Rattle.x7_part.specs.declared.slot.Slot.TheVariants.{End}
 use Rattle.x7_planner.specs.Stream.{bytes_of_words}
-use Rattle.x7_planner.proofs.SlotLemmas.{all-slots, slot-more}
+use Rattle.x7_planner.proofs.SlotLemmas.{all-slots, slot-more, slots-none}
 use Rattle.x7_planner.proofs.whole.put_slots.Goals as goal
 
+pub loop-n-init : goal.loop-n-init
+loop-n-init c = record { order = omega arith; items = slots-none c.args.part.now c.args.plan.now c.args.out.now.items c.args.from }
+
 pub loop-n-preserved : goal.loop-n-preserved
-loop-n-preserved c =
-    slot-more c.args.part.now c.args.plan.now c.args.writer.now c.loop-n.writer c.words.new.self c.loop-n.n c.slot_after.result (omega (arith, c.loop-n-test.true, c.requires.count))
-    (c.slot_after.ensures ∙ ap (λ t. get_or t c.loop-n.n End) (all-slots c.args.part.now c.args.first c.loop-n.n c.requires.part c.requires.first)) c.loop-n.invariant
-    (c.in_ok-words.ensures ∙ ap (λ t. c.loop-n.writer ++ bytes_of_words t) c.frame_at.ensures)
+loop-n-preserved c = record {
+  order = omega (arith, c.loop-n.invariant.order);
+  items = slot-more c.args.part.now c.args.plan.now c.args.out.now.items c.loop-n.out.items c.put_words.new.out.items c.args.from c.loop-n.n c.slot_after.result c.loop-n.invariant.order (omega (arith, c.loop-n-test.true, c.requires.within))
+      (c.slot_after.ensures ∙ ap (λ t. get_or t c.loop-n.n End) (all-slots c.args.part.now c.first_address-first.result c.loop-n.n c.frames-frames.ensures.part c.first_address-first.ensures.first)) c.loop-n.invariant.items
+      (c.in_ok-put_words.ensures.items ∙ ap (λ t. c.loop-n.out.items ++ bytes_of_words t) c.frame_at.ensures);
+}

@@ -1,8 +1,11 @@
-use Rattle.std.proofs.Common.{◌≡◌, ◌++◌, take}
+use Rattle.std.proofs.Common.{◌≡◌, ◌≤◌, ◌++◌, take, drop}
 use Rattle.x7_part.specs.Slots.{slots_in}
 use Rattle.x7_planner.specs.Full.{slot_words}
 use Rattle.x7_planner.specs.Stream.{bytes_of_words}
 use Rattle.x7_planner.proofs.whole.put_slots.Given as goal
 
 abbrev pub invariant-loop-n : goal.invariant-loop-n
-invariant-loop-n l = l.writer ≡ l.initial.writer ++ bytes_of_words (slot_words l.part l.plan (take l.n (slots_in l.part)))
+invariant-loop-n l = record {
+  order : l.from ≤ l.n;
+  items : l.out.items ≡ l.fn.out.items ++ bytes_of_words (slot_words l.part l.plan (drop l.from (take l.n (slots_in l.part))));
+}

@@ -6,6 +6,7 @@ use Rattle.x7_crc.proofs.checker.Checker.check_of.Goals as goal
 pub returns : goal.returns
 returns c = λ k.
     let bytes : List ℕ = c.args.bytes.now in
-    let before : CheckerState = record { cutter = c.self.inside.cutter; check = c.self.inside.sum.check; held = c.self.inside.sum.held; taken = c.self.inside.taken } in
-    let after : CheckerState = record { cutter = c.take_all-self-inside.new.cutter; check = c.take_all-self-inside.result.check; held = c.take_all-self-inside.result.held; taken = length c.args.bytes.now } in
-    caught-up before after c.min-taken.result bytes c.min-taken.ensures refl (subst (λ s. Keeps s bytes) (sym c.self.view_is) k) c.take_all-self-inside.ensures
+    let before : CheckerState = record { pieces = c.self.inside.pieces; taken = c.self.inside.taken } in
+    let after : CheckerState = record { pieces = c.take.new.self; taken = length c.args.bytes.now } in
+    let all = caught-up before after c.min-taken.result bytes c.min-taken.ensures refl (subst (λ s. Keeps s bytes) (sym c.self.view_is) k) c.take.ensures in
+    (c.check.ensures.value bytes all.0, all.1)

@@ -1,0 +1,6 @@
+use Rattle.std.proofs.Common.{subst, sym}
+use Rattle.x7_crc.specs.Checking.{HasTaken}
+use Rattle.x7_crc.proofs.checker.PieceChecker.take.Goals as goal
+
+pub returns : goal.returns
+returns c = λ bytes h. c.take_all-self-inside.ensures bytes (subst (λ s. HasTaken s bytes) (sym c.self.view_is) h)

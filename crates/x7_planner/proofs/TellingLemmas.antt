@@ -1,0 +1,186 @@
+-- What was told of a full stream, and what is left of it.
+use Rattle.std.proofs.Common.{◌≡◌, ℕ, ◌+◌, ◌-◌, ◌<◌, ◌≤◌, List, [], ◌∷◌, ◌++◌, length, take, drop, min, fold, refl, replicate, sym, ap, subst, ◌∙◌, arith, append_assoc, append-nil, take-add, take_all}
+use Rattle.std.proofs.Math.Seq.{drop-append_seam}
+use Rattle.std.proofs.lemmas.List.{drop-take, take-append-drop, take_rest}
+use Rattle.std.proofs.lemmas.Grind.{flat_map-append}
+use Rattle.x7_words.specs.Word.{bytes_of_word}
+use Rattle.x7_part.specs.Part.{PartData}
+use Rattle.x7_part.specs.Slots.{slots_in}
+use Rattle.x7_part.specs.declared.slot.Slot.{Slot}
+use Rattle.x7_memory.specs.Planned.{PlanData}
+use Rattle.x7_planner.specs.Full.{frame_at_slot, full_opening, full_stream, slot_words}
+use Rattle.x7_planner.specs.Stream.{Piece, Words, Check, bytes_of_words, check_words, desync, lfrm, no_op, start, stream_of, with_piece}
+use Rattle.x7_crc.specs.Checking.{check_of_bytes, HasTaken}
+use Rattle.x7_planner.specs.Telling.{FullStreamState, HasTold, IsFullStream, TellsMore, Writes, calls_from, calls_left, frame_pieces, pieces_before, pieces_to, slot_next}
+use Rattle.x7_planner.specs.declared.whole.Next.{Next}
+use Rattle.x7_planner.specs.declared.whole.Next.TheVariants as next
+
+-- what pieces add to bytes
+pub rest_of : (bytes : List ℕ) (pieces : List Piece) → (left : List ℕ) × (bytes ++ left ≡ fold with_piece bytes pieces)
+rest_of bytes [] = ([], append-nil bytes)
+rest_of bytes (Words ws ∷ pieces) =
+    let rest = rest_of (bytes ++ bytes_of_words ws) pieces in
+    (bytes_of_words ws ++ rest.0, sym (append_assoc bytes (bytes_of_words ws) rest.0) ∙ rest.1)
+rest_of bytes (Check ∷ pieces) =
+    let more : List ℕ = bytes_of_words (check_words (check_of_bytes bytes)) in
+    let rest = rest_of (bytes ++ more) pieces in
+    (more ++ rest.0, sym (append_assoc bytes more rest.0) ∙ rest.1)
+
+-- the words of some slots, and of those behind them
+pub slots_on : (part : PartData) (plan : PlanData) (n : ℕ) → bytes_of_words (slot_words part plan (take n (slots_in part))) ++ bytes_of_words (slot_words part plan (drop n (slots_in part))) ≡ bytes_of_words (slot_words part plan (slots_in part))
+slots_on part plan n =
+    let places = slots_in part in
+    sym (flat_map-append bytes_of_word (slot_words part plan (take n places)) (slot_words part plan (drop n places)))
+    ∙ ap bytes_of_words (sym (flat_map-append (frame_at_slot part plan) (take n places) (drop n places)) ∙ ap (slot_words part plan) (take-append-drop n places))
+
+-- the bytes before what is next begin the stream
+pub left_of : (part : PartData) (plan : PlanData) (behind : Next) → (left : List ℕ) × (stream_of (pieces_before part plan behind) ++ left ≡ full_stream part plan)
+left_of part plan next.Opening = (full_stream part plan, refl)
+left_of part plan (next.Slot n) =
+    let front : List ℕ = bytes_of_words (full_opening part) in
+    let first : List ℕ = bytes_of_words (slot_words part plan (take n (slots_in part))) in
+    let second : List ℕ = bytes_of_words (slot_words part plan (drop n (slots_in part))) in
+    let rest = rest_of (stream_of (frame_pieces part plan)) (Check ∷ Words (lfrm ++ start) ∷ Check ∷ Words (desync ++ replicate 16 no_op) ∷ []) in
+    (second ++ rest.0, sym (append_assoc (front ++ first) second rest.0) ∙ ap (λ (t : List ℕ). t ++ rest.0) (append_assoc front first second ∙ ap (λ (t : List ℕ). front ++ t) (slots_on part plan n)) ∙ rest.1)
+left_of part plan next.Check = rest_of (stream_of (pieces_before part plan next.Check)) (Check ∷ Words (lfrm ++ start) ∷ Check ∷ Words (desync ++ replicate 16 no_op) ∷ [])
+left_of part plan next.Start = rest_of (stream_of (pieces_before part plan next.Start)) (Words (lfrm ++ start) ∷ Check ∷ Words (desync ++ replicate 16 no_op) ∷ [])
+left_of part plan next.LastCheck = rest_of (stream_of (pieces_before part plan next.LastCheck)) (Check ∷ Words (desync ++ replicate 16 no_op) ∷ [])
+left_of part plan next.Desync = rest_of (stream_of (pieces_before part plan next.Desync)) (Words (desync ++ replicate 16 no_op) ∷ [])
+left_of part plan next.Nothing = ([], append-nil (full_stream part plan))
+
+-- ---- what is next, told
+
+-- the words of the slots up to n, and of those from there to another place
+pub slots_to : (part : PartData) (plan : PlanData) (n to : ℕ) → n ≤ to →
+    bytes_of_words (slot_words part plan (take n (slots_in part))) ++ bytes_of_words (slot_words part plan (drop n (take to (slots_in part)))) ≡ bytes_of_words (slot_words part plan (take to (slots_in part)))
+slots_to part plan n to h =
+    let places = slots_in part in
+    let m : ℕ = to - n in
+    let e : n + m ≡ to = omega arith in
+    let joined : take n places ++ drop n (take to places) ≡ take to places =
+    ap (λ (k : ℕ). take n places ++ drop n (take k places)) (sym e) ∙ ap (λ (t : List Slot). take n places ++ t) (drop-take n m places) ∙ sym (take-add n m places) ∙ ap (λ (k : ℕ). take k places) e in
+    sym (flat_map-append bytes_of_word (slot_words part plan (take n places)) (slot_words part plan (drop n (take to places))))
+    ∙ ap bytes_of_words (sym (flat_map-append (frame_at_slot part plan) (take n places) (drop n (take to places))) ∙ ap (slot_words part plan) joined)
+
+-- the slot that is next, by its name
+pub inside_at : (s : FullStreamState) (n : ℕ) → s.next ≡ next.Slot n → IsFullStream s → n ≤ length (slots_in s.part)
+inside_at s n e is = subst (λ (x : Next). slot_next x ≤ length (slots_in s.part)) e is.inside
+
+-- the bytes before what is next, by its name
+before_at : (s : FullStreamState) (told : List ℕ) (at : Next) → s.next ≡ at → HasTold s told → told ≡ stream_of (pieces_before s.part s.plan at)
+before_at s told at e h = h.before ∙ ap (λ (x : Next). stream_of (pieces_before s.part s.plan x)) e
+
+calls_at : (s : FullStreamState) (at behind : Next) → s.next ≡ at → calls_from (length (slots_in s.part)) behind < calls_from (length (slots_in s.part)) at → calls_from (length (slots_in s.part)) behind < calls_left s
+calls_at s at behind e h = subst (λ (x : Next). calls_from (length (slots_in s.part)) behind < calls_from (length (slots_in s.part)) x) (sym e) h
+
+module _ (s : FullStreamState) (old new : List ℕ) where
+  pub wrote_opening : s.next ≡ next.Opening → new ≡ old ++ bytes_of_words (full_opening s.part) → Writes s old new (next.Slot 0)
+  wrote_opening e adds = record {
+    piece = bytes_of_words (full_opening s.part);
+    adds = adds;
+    before = λ told h. ap (λ (t : List ℕ). t ++ bytes_of_words (full_opening s.part)) (before_at s told next.Opening e h) ∙ sym (append-nil (bytes_of_words (full_opening s.part)));
+    inside = omega arith;
+    fewer = λ n. calls_at s next.Opening (next.Slot 0) e (omega arith);
+  }
+
+  frames_before : (n to : ℕ) → s.next ≡ next.Slot n → n ≤ to → (told : List ℕ) → HasTold s told →
+      told ++ bytes_of_words (slot_words s.part s.plan (drop n (take to (slots_in s.part)))) ≡ stream_of (pieces_to s.part s.plan to)
+  frames_before n to e h told t =
+      let front : List ℕ = bytes_of_words (full_opening s.part) in
+      let first : List ℕ = bytes_of_words (slot_words s.part s.plan (take n (slots_in s.part))) in
+      let piece : List ℕ = bytes_of_words (slot_words s.part s.plan (drop n (take to (slots_in s.part)))) in
+      ap (λ (x : List ℕ). x ++ piece) (before_at s told (next.Slot n) e t) ∙ append_assoc front first piece ∙ ap (λ (x : List ℕ). front ++ x) (slots_to s.part s.plan n to h)
+
+  pub wrote_slots : (n count to : ℕ) → s.next ≡ next.Slot n → n ≤ length (slots_in s.part) → count ≡ length (slots_in s.part) → to ≡ min count (n + 160) → (to ≡ count → ⊥)
+      → new ≡ old ++ bytes_of_words (slot_words s.part s.plan (drop n (take to (slots_in s.part)))) → Writes s old new (next.Slot to)
+  wrote_slots n count to e within c m more adds = record {
+    piece = bytes_of_words (slot_words s.part s.plan (drop n (take to (slots_in s.part))));
+    adds = adds;
+    before = frames_before n to e (omega (arith, within, c, m));
+    inside = omega (arith, c, m);
+    fewer = λ _. calls_at s (next.Slot n) (next.Slot to) e (omega (arith, within, c, m, more));
+  }
+
+  pub wrote_frames : (n count to : ℕ) → s.next ≡ next.Slot n → n ≤ length (slots_in s.part) → count ≡ length (slots_in s.part) → to ≡ min count (n + 160) → to ≡ count
+      → new ≡ old ++ bytes_of_words (slot_words s.part s.plan (drop n (take to (slots_in s.part)))) → Writes s old new next.Check
+  wrote_frames n count to e within c m last adds = record {
+    piece = bytes_of_words (slot_words s.part s.plan (drop n (take to (slots_in s.part))));
+    adds = adds;
+    before = λ told h. frames_before n to e (omega (arith, within, c, m)) told h
+        ∙ ap (λ (t : List Slot). bytes_of_words (full_opening s.part) ++ bytes_of_words (slot_words s.part s.plan t)) (take_all to (slots_in s.part) (omega (arith, c, last)));
+    inside = omega arith;
+    fewer = λ _. calls_at s (next.Slot n) next.Check e (omega arith);
+  }
+
+  checked_before : (at : Next) (check : ℕ) → s.next ≡ at → check ≡ s.check.check → (told : List ℕ) → HasTold s told →
+      told ++ bytes_of_words (check_words check) ≡ with_piece (stream_of (pieces_before s.part s.plan at)) Check
+  checked_before at check e k told h =
+      ap (λ (c : ℕ). told ++ bytes_of_words (check_words c)) (k ∙ h.checked.sum.check_is) ∙ ap (λ (t : List ℕ). with_piece t Check) (before_at s told at e h)
+
+  pub wrote_check : (check : ℕ) → s.next ≡ next.Check → check ≡ s.check.check → new ≡ old ++ bytes_of_words (check_words check) → Writes s old new next.Start
+  wrote_check check e k adds = record {
+    piece = bytes_of_words (check_words check);
+    adds = adds;
+    before = checked_before next.Check check e k;
+    inside = omega arith;
+    fewer = λ _. calls_at s next.Check next.Start e (omega arith);
+  }
+
+  pub wrote_start : s.next ≡ next.Start → new ≡ old ++ bytes_of_words (lfrm ++ start) → Writes s old new next.LastCheck
+  wrote_start e adds = record {
+    piece = bytes_of_words (lfrm ++ start);
+    adds = adds;
+    before = λ told h. ap (λ (t : List ℕ). t ++ bytes_of_words (lfrm ++ start)) (before_at s told next.Start e h);
+    inside = omega arith;
+    fewer = λ _. calls_at s next.Start next.LastCheck e (omega arith);
+  }
+
+  pub wrote_last_check : (check : ℕ) → s.next ≡ next.LastCheck → check ≡ s.check.check → new ≡ old ++ bytes_of_words (check_words check) → Writes s old new next.Desync
+  wrote_last_check check e k adds = record {
+    piece = bytes_of_words (check_words check);
+    adds = adds;
+    before = checked_before next.LastCheck check e k;
+    inside = omega arith;
+    fewer = λ _. calls_at s next.LastCheck next.Desync e (omega arith);
+  }
+
+  pub wrote_desync : s.next ≡ next.Desync → new ≡ old ++ bytes_of_words (desync ++ replicate 16 no_op) → Writes s old new next.Nothing
+  wrote_desync e adds = record {
+    piece = bytes_of_words (desync ++ replicate 16 no_op);
+    adds = adds;
+    before = λ told h. ap (λ (t : List ℕ). t ++ bytes_of_words (desync ++ replicate 16 no_op)) (before_at s told next.Desync e h);
+    inside = omega arith;
+    fewer = λ _. calls_at s next.Desync next.Nothing e (omega arith);
+  }
+
+  pub wrote_nothing : s.next ≡ next.Nothing → new ≡ old → Writes s old new next.Nothing
+  wrote_nothing e same = record {
+    piece = [];
+    adds = same ∙ sym (append-nil old);
+    before = λ told h. append-nil told ∙ before_at s told next.Nothing e h;
+    inside = omega arith;
+    fewer = λ n. absurd (n e);
+  }
+
+-- the part of a list behind its old items
+pub behind_old : (old piece new : List ℕ) (start : ℕ) → start ≡ length old → new ≡ old ++ piece → take (length new - start) (drop start new) ≡ piece
+behind_old old piece new start e f =
+    take_rest new start ∙ ap (λ (k : ℕ). drop k new) e ∙ ap (λ (t : List ℕ). drop (length old) t) f ∙ drop-append_seam old piece
+
+-- what was written is told, once it is checked too
+pub told_more : (s t : FullStreamState) (told old new : List ℕ) (start : ℕ) → t.part ≡ s.part → t.plan ≡ s.plan → start ≡ length old → Writes s old new t.next
+    → ((bytes : List ℕ) → HasTaken s.check bytes → HasTaken t.check (bytes ++ take (length new - start) (drop start new))) → HasTold s told → TellsMore t told old new
+told_more s t told old new start same_part same_plan e w takes h =
+    let before : told ++ w.piece ≡ stream_of (pieces_before t.part t.plan t.next) =
+    w.before told h ∙ ap (λ (p : PartData). stream_of (pieces_before p s.plan t.next)) (sym same_part) ∙ ap (λ (p : PlanData). stream_of (pieces_before t.part p t.next)) (sym same_plan) in
+    let left = left_of t.part t.plan t.next in
+    record {
+      piece = w.piece;
+      adds = w.adds;
+      more = record {
+        before = before;
+        checked = subst (λ (x : List ℕ). HasTaken t.check (told ++ x)) (behind_old old w.piece new start e w.adds) (takes told h.checked);
+        left = left.0;
+        whole = ap (λ (x : List ℕ). x ++ left.0) before ∙ left.1;
+      };
+    }

@@ -1,0 +1,79 @@
+-- A full stream that is written piece by piece: what was told of it, and what is told next (this project's choice).
+use Rattle.std.specs.Prelude.{◌≡◌, ◌≢◌, ℕ, ◌+◌, ◌-◌, ◌<◌, ◌≤◌, List, [], ◌∷◌, ◌++◌, length, take}
+use Rattle.x7_crc.specs.Checking.{HasTaken, PieceCheckerState}
+use Rattle.x7_part.specs.Part.{PartData, frame_words}
+use Rattle.x7_part.specs.Slots.{slots_in}
+use Rattle.x7_memory.specs.Planned.{PlanData}
+use Rattle.x7_planner.specs.Full.{full_opening, full_pieces, full_stream, slot_words}
+use Rattle.x7_planner.specs.Stream.{Piece, Words, Check, lfrm, start, stream_of}
+use Rattle.x7_planner.specs.declared.whole.Next.{Next}
+use Rattle.x7_planner.specs.declared.whole.Next.TheVariants as next
+
+-- what a full stream that is written piece by piece keeps
+pub record FullStreamState : Type 0 where
+  pub part : PartData
+  pub plan : PlanData
+  pub next : Next
+  pub check : PieceCheckerState
+
+-- the frame data up to a slot, and what stands before them
+abbrev pub pieces_to : PartData → PlanData → ℕ → List Piece
+pieces_to part plan n = Words (full_opening part) ∷ Words (slot_words part plan (take n (slots_in part))) ∷ []
+
+-- what stands before the check behind the frame data
+abbrev pub frame_pieces : PartData → PlanData → List Piece
+frame_pieces part plan = Words (full_opening part) ∷ Words (slot_words part plan (slots_in part)) ∷ []
+
+-- what stands before what is next
+abbrev pub pieces_before : PartData → PlanData → Next → List Piece
+pieces_before part plan next.Opening = []
+pieces_before part plan (next.Slot n) = pieces_to part plan n
+pieces_before part plan next.Check = frame_pieces part plan
+pieces_before part plan next.Start = frame_pieces part plan ++ Check ∷ []
+pieces_before part plan next.LastCheck = frame_pieces part plan ++ Check ∷ Words (lfrm ++ start) ∷ []
+pieces_before part plan next.Desync = frame_pieces part plan ++ Check ∷ Words (lfrm ++ start) ∷ Check ∷ []
+pieces_before part plan next.Nothing = full_pieces part plan
+
+-- the slot that is next, 0 at all else
+abbrev pub slot_next : Next → ℕ
+slot_next (next.Slot n) = n
+slot_next _ = 0
+
+-- how often there may be a piece more
+abbrev pub calls_from : ℕ → Next → ℕ
+calls_from slots next.Opening = slots + 6
+calls_from slots (next.Slot n) = slots - n + 5
+calls_from slots next.Check = 4
+calls_from slots next.Start = 3
+calls_from slots next.LastCheck = 2
+calls_from slots next.Desync = 1
+calls_from slots next.Nothing = 0
+
+abbrev pub calls_left : FullStreamState → ℕ
+calls_left s = calls_from (length (slots_in s.part)) s.next
+
+-- the plan has the part's width, and the slot that is next isn't past the last one
+pub record IsFullStream (s : FullStreamState) : Type 0 where
+  pub width : s.plan.width ≡ frame_words s.part
+  pub inside : slot_next s.next ≤ length (slots_in s.part)
+
+-- these bytes of the stream were told: they stand before what is next, they were checked, and others are still left
+pub record HasTold (s : FullStreamState) (told : List ℕ) : Type 0 where
+  pub before : told ≡ stream_of (pieces_before s.part s.plan s.next)
+  pub checked : HasTaken s.check told
+  pub left : List ℕ
+  pub whole : told ++ left ≡ full_stream s.part s.plan
+
+-- a piece more was appended to bytes, and told
+pub record TellsMore (s : FullStreamState) (told old new : List ℕ) : Type 0 where
+  pub piece : List ℕ
+  pub adds : new ≡ old ++ piece
+  pub more : HasTold s (told ++ piece)
+
+-- what is next was appended to bytes, and this is next behind it
+pub record Writes (s : FullStreamState) (old new : List ℕ) (behind : Next) : Type 0 where
+  pub piece : List ℕ
+  pub adds : new ≡ old ++ piece
+  pub before : (told : List ℕ) → HasTold s told → told ++ piece ≡ stream_of (pieces_before s.part s.plan behind)
+  pub inside : slot_next behind ≤ length (slots_in s.part)
+  pub fewer : s.next ≢ next.Nothing → calls_from (length (slots_in s.part)) behind < calls_left s
