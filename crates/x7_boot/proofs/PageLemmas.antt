@@ -7,6 +7,7 @@ use Rattle.lru.specs.LruCache.{LruCache, lru_cache, promoted, put_entries}
 use Rattle.lru.proofs.CallerLemmas.{Contains-lookup, Contains-lookup_entry, Contains-promoted, Contains-put_entries, Contains-take}
 use Rattle.lru.proofs.Splits.{Contains-nil}
 use Rattle.x7_words.specs.Flash.{WhereTold}
+use Rattle.x7_boot.specs.Image.{flash_limit}
 use Rattle.x7_boot.specs.Pages.{ArePages, HasPage, IsRest, Pages, page_end, page_size}
 
 -- ---- pages that are kept
@@ -122,12 +123,15 @@ rest_goes known extent at page within r =
     let long : length page ≡ page_end at extent - at = r.long in
     omega (arith, long, inside)
 
-pub rest_fits : (known : Option (List ℕ)) (extent at : ℕ) (page : List ℕ) → at < extent → extent ≤ 134217728 → IsRest known extent at page → at + length page ≤ 2 ^ 63
-rest_fits known extent at page within limit r =
+pub rest_within : (known : Option (List ℕ)) (extent at : ℕ) (page : List ℕ) → at < extent → IsRest known extent at page → at + length page ≤ extent
+rest_within known extent at page within r =
     let inside : at < page_end at extent = within_page at extent within in
     let long : length page ≡ page_end at extent - at = r.long in
     let most : page_end at extent ≤ extent = end_within at extent in
-    omega (arith, long, inside, most, limit)
+    omega (arith, long, inside, most)
   where
     end_within : (at extent : ℕ) → page_end at extent ≤ extent
     end_within at extent = grind arith
+
+pub rest_limited : (known : Option (List ℕ)) (extent at : ℕ) (page : List ℕ) → at < extent → extent ≤ flash_limit → IsRest known extent at page → at + length page ≤ flash_limit
+rest_limited known extent at page within limit r = let l : at + length page ≤ extent = rest_within known extent at page within r in omega (arith, l, limit)

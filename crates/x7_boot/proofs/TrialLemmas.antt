@@ -6,6 +6,7 @@ use Rattle.std.proofs.Math.Seq.{take-append-add, take-append_seam}
 use Rattle.x7_words.specs.Flash.{WhereTold}
 use Rattle.x7_words.specs.Word.{AreBytes}
 use Rattle.x7_words.proofs.ListLemmas.{all_back, all_front}
+use Rattle.x7_packets.specs.History.{history_of}
 use Rattle.x7_part.specs.Part.{PartData}
 use Rattle.x7_regs.specs.declared.boot_status.Cause.TheVariants.{Wrap}
 use Rattle.x7_regs.specs.declared.boot_status.Kind.TheVariants.{Bench}
@@ -13,13 +14,17 @@ use Rattle.x7_engine.specs.declared.kept.Kept.{Kept}
 use Rattle.x7_engine.specs.declared.regs.Regs.{Regs}
 use Rattle.x7_engine.specs.declared.stop.Stop.{Stop}
 use Rattle.x7_engine.specs.declared.stop.Stop.TheVariants as stop
+use Rattle.x7_engine.specs.FirstGap.{IsInFirstGap}
+use Rattle.x7_engine.specs.Kept.{is_fallback}
 use Rattle.x7_engine.specs.Standing.{DeviceState, DeviceStandsFor, MayWrap, NoWordDue}
 use Rattle.x7_engine.specs.State.{line_by, state_of, stop_in, taken_of, taken_by}
 use Rattle.x7_engine.specs.Stops.{Stopped, fault_of, stopped_at}
 use Rattle.x7_engine.specs.Values.{cause_of}
 use Rattle.x7_engine.proofs.BootLemmas.{may_wrap, none_due_at_first}
+use Rattle.x7_engine.proofs.GapLemmas.{fewer_ask_nothing, gap_goes_on, gap_phase}
 use Rattle.x7_engine.proofs.StateLemmas.{stop_is_final-state, stop_is_final-stop}
-use Rattle.x7_boot.specs.Attempt.{Feeds, IsReady, NoneBefore, StepsTo, Took, Trial, Tries, ending_at, ending_by, failed_by}
+use Rattle.x7_boot.specs.Attempt.{Feeds, IsReady, Leaves, NoneBefore, StepsTo, Took, Trial, Tries, ending_at, ending_by, failed_by}
+use Rattle.x7_boot.specs.Image.{flash_limit}
 use Rattle.x7_boot.specs.declared.attempt.Ending.{Ending}
 use Rattle.x7_boot.specs.declared.attempt.Ending.TheVariants.{Started, Iprog, Failed}
 use Rattle.x7_boot.specs.declared.attempt.Step.{Step}
@@ -78,6 +83,7 @@ feeds_first part kept address known d s = record {
   open_end = none_at_first part kept;
   due = none_due_at_first part kept false d s;
   count = omega arith;
+  few = omega arith;
   read = where_told known (λ all. [] ≡ slice_range all address address) (λ all. empty_range all address);
   none = λ k l. absurd (omega (arith, l));
 }
@@ -120,9 +126,9 @@ joined_told : (known : Option (List ℕ)) (bytes page : List ℕ) (a b c : ℕ) 
 joined_told None bytes page a b c l m e f = tt
 joined_told (Some all) bytes page a b c l m e f = ap (λ (x : List ℕ). x ++ page) e ∙ ap (λ (x : List ℕ). slice_range all a b ++ x) f ∙ ranges_join all a b c l m
 
-pub feeds_on : (part : PartData) (kept : Kept) (address : ℕ) (known : Option (List ℕ)) (d new : DeviceState) (page : List ℕ) (at end : ℕ) (step : Step) → at + length page ≡ end → (f : Feeds part kept address known d at)
+pub feeds_on : (part : PartData) (kept : Kept) (address : ℕ) (known : Option (List ℕ)) (d new : DeviceState) (page : List ℕ) (at end : ℕ) (step : Step) → at + length page ≡ end → end ≤ flash_limit → (f : Feeds part kept address known d at)
     → WhereTold known (λ all. page ≡ slice_range all at end) → Took part kept new f.bytes page step → step ≡ Goes → Feeds part kept address known new end
-feeds_on part kept address known d new page at end step sum f told t goes =
+feeds_on part kept address known d new page at end step sum limit f told t goes =
     let whole : t.count ≡ length page = t.all goes in
     let all : take t.count page ≡ page = ap (λ (n : ℕ). take n page) whole ∙ take_all (length page) page (omega arith) in
     let steps : StepsTo part kept (f.bytes ++ page) Goes = subst (λ (s : Step). StepsTo part kept (f.bytes ++ page) s) goes (subst (λ (b : List ℕ). StepsTo part kept (f.bytes ++ b) step) all t.steps) in
@@ -135,6 +141,7 @@ feeds_on part kept address known d new page at end step sum f told t goes =
       open_end = steps.1;
       due = t.due;
       count = omega (arith, count, long, sum);
+      few = omega (arith, count, long, sum, limit);
       read = joined_told known f.bytes page address at end (omega (arith, count)) (omega (arith, sum)) f.read told;
       none = subst (λ (b : List ℕ). (k : ℕ) → k < length (f.bytes ++ b) → ending_at part kept (take k (f.bytes ++ b)) ≡ None) all (none_joined part kept f.bytes page t.count t.within f.none t.none);
     }
@@ -296,3 +303,84 @@ pub stops_here : (part : PartData) (kept : Kept) (d : DeviceState) (bytes page :
 stops_here part kept d bytes page step boots t is =
     let steps : StepsTo part kept (bytes ++ take t.count page) Stops = subst (λ (s : Step). StepsTo part kept (bytes ++ take t.count page) s) is t.steps in
     ends_here part kept d (bytes ++ take t.count page) boots t.stands steps.1 t.due
+
+-- ---- a gap that is not read again
+
+-- a fallback over bytes that ask nothing is ended by none of them
+gap_open : (part : PartData) (kept : Kept) (bytes : List ℕ) → is_fallback kept.kind ≡ true → history_of bytes ≡ [] → ending_at part kept bytes ≡ None
+gap_open part kept bytes e f =
+    let phase : ((state_of part kept false bytes).phase == 7) ≡ false = ap (λ (n : ℕ). n == 7) (gap_phase part kept false bytes e f) in
+    ends_by_stop part kept bytes phase ∙ ap (λ (o : Option Stopped). ending_by (line_by o)) (gap_goes_on part kept bytes e f)
+
+-- the device of the attempt before, reset to a fallback over the same bytes, as if they had been fed again
+pub feeds_gap : (keep : Kept) (address taken : ℕ) (known : Option (List ℕ)) (d new : DeviceState) → (l : Leaves address known d) → IsInFirstGap d → is_fallback keep.kind ≡ true → taken ≡ d.taken
+    → ((part : PartData) (kept : Kept) (wrapped : Bool) (bytes : List ℕ) → DeviceStandsFor part kept wrapped d bytes → DeviceStandsFor part keep false new bytes) → NoWordDue new
+    → Feeds d.part keep address known new (address + taken)
+feeds_gap keep address taken known d new l gap fallback count again due =
+    let nothing : history_of l.bytes ≡ [] = (gap l.part l.kept l.wrapped l.bytes l.stands).nothing in
+    let here : l.part ≡ d.part = sym l.stands.part_is in
+    let long : taken ≡ length l.bytes = count ∙ l.stands.taken_is in
+    let fits : AreBytes l.bytes = l.stands.fits in
+    record {
+      bytes = l.bytes;
+      stands = subst (λ (p : PartData). DeviceStandsFor p keep false new l.bytes) here (again l.part l.kept l.wrapped l.bytes l.stands);
+      going = gap_goes_on d.part keep l.bytes fallback nothing;
+      open_end = gap_open d.part keep l.bytes fallback nothing;
+      due = due;
+      count = ap (λ (n : ℕ). address + n) (sym long);
+      few = l.few;
+      read = subst (λ (n : ℕ). WhereTold known (λ all. l.bytes ≡ slice_range all address (address + n))) (sym long) l.read;
+      none = λ k m. gap_open d.part keep (take k l.bytes) fallback (fewer_ask_nothing l.bytes k fits nothing);
+    }
+
+-- a new device stands for no byte of a flash
+pub leaves_first : (part : PartData) (kept : Kept) (address : ℕ) (known : Option (List ℕ)) (d : DeviceState) → DeviceStandsFor part kept false d [] → Leaves address known d
+leaves_first part kept address known d s = record {
+  part = part;
+  kept = kept;
+  wrapped = false;
+  bytes = [];
+  stands = s;
+  few = omega arith;
+  read = let same : address + 0 ≡ address = omega arith in
+      where_told known (λ all. [] ≡ slice_range all address (address + 0)) (λ all. empty_range all address ∙ sym (ap (slice_range all address) same));
+}
+
+-- so does one where the flash has ended
+pub leaves_out : (part : PartData) (kept : Kept) (address : ℕ) (known : Option (List ℕ)) (d new : DeviceState) (at : ℕ) → (f : Feeds part kept address known d at) → DeviceStandsFor part kept true new f.bytes → Leaves address known new
+leaves_out part kept address known d new at f s = record {
+  part = part;
+  kept = kept;
+  wrapped = true;
+  bytes = f.bytes;
+  stands = s;
+  few = f.few;
+  read = subst (λ (n : ℕ). WhereTold known (λ all. f.bytes ≡ slice_range all address n)) (sym f.count) f.read;
+}
+
+front_told : (known : Option (List ℕ)) (page : List ℕ) (at n : ℕ) → n ≤ length page → WhereTold known (λ all. page ≡ slice_range all at (at + length page)) → WhereTold known (λ all. take n page ≡ slice_range all at (at + n))
+front_told None page at n l e = tt
+front_told (Some all) page at n l e =
+    let long : at + length page - at ≡ length page = omega arith in
+    let short : at + n - at ≡ n = omega arith in
+    ap (take n) e ∙ ap (λ (m : ℕ). take n (take m (drop at all))) long ∙ take-take n (length page) (drop at all) l ∙ sym (ap (λ (m : ℕ). take m (drop at all)) short)
+
+-- and one that took bytes of a page
+pub leaves_page : (part : PartData) (kept : Kept) (wrapped : Bool) (address : ℕ) (known : Option (List ℕ)) (d new last : DeviceState) (page : List ℕ) (at : ℕ) (step : Step) → (f : Feeds part kept address known d at)
+    → WhereTold known (λ all. page ≡ slice_range all at (at + length page)) → at + length page ≤ flash_limit → (t : Took part kept new f.bytes page step) → DeviceStandsFor part kept wrapped last (f.bytes ++ take t.count page) → Leaves address known last
+leaves_page part kept wrapped address known d new last page at step f told limit t s =
+    let count : address + length f.bytes ≡ at = f.count in
+    let within : t.count ≤ length page = t.within in
+    let cut : length (take t.count page) ≡ t.count = length-take-le t.count page within in
+    let long : length (f.bytes ++ take t.count page) ≡ length f.bytes + t.count = length-append f.bytes (take t.count page) ∙ ap (λ (n : ℕ). length f.bytes + n) cut in
+    let end : at + t.count ≡ address + length (f.bytes ++ take t.count page) = omega (arith, count, long) in
+    record {
+      part = part;
+      kept = kept;
+      wrapped = wrapped;
+      bytes = f.bytes ++ take t.count page;
+      stands = s;
+      few = omega (arith, long, count, within, limit);
+      read = subst (λ (n : ℕ). WhereTold known (λ all. f.bytes ++ take t.count page ≡ slice_range all address n)) end
+          (joined_told known f.bytes (take t.count page) address at (at + t.count) (omega (arith, count)) (omega arith) f.read (front_told known page at t.count within told));
+    }

@@ -14,6 +14,7 @@ use Rattle.x7_engine.specs.declared.fed.Fed.TheVariants as fed
 use Rattle.x7_engine.specs.declared.kept.Kept.{Kept}
 use Rattle.x7_engine.specs.declared.stop.Stop.{Stop}
 use Rattle.x7_engine.specs.declared.stop.Stop.TheVariants as stop
+use Rattle.x7_boot.specs.Image.{flash_limit}
 use Rattle.x7_boot.specs.declared.attempt.Ending.{Ending}
 use Rattle.x7_boot.specs.declared.attempt.Ending.TheVariants.{Started, Iprog, Failed}
 use Rattle.x7_boot.specs.declared.attempt.Step.{Step}
@@ -119,5 +120,16 @@ pub record Feeds (part : PartData) (kept : Kept) (address : ℕ) (known : Option
   pub open_end : ending_at part kept bytes ≡ None
   pub due : NoWordDue d
   pub count : address + length bytes ≡ at
+  pub few : length bytes ≤ flash_limit
   pub read : WhereTold known (λ all. bytes ≡ slice_range all address at)
   pub none : (k : ℕ) → k < length bytes → ending_at part kept (take k bytes) ≡ None
+
+-- an attempt left a device that stands for the bytes of a flash from an address on, as many as it took, where they are told
+pub record Leaves (address : ℕ) (known : Option (List ℕ)) (d : DeviceState) : Type 0 where
+  pub part : PartData
+  pub kept : Kept
+  pub wrapped : Bool
+  pub bytes : List ℕ
+  pub stands : DeviceStandsFor part kept wrapped d bytes
+  pub few : length bytes ≤ flash_limit
+  pub read : WhereTold known (λ all. bytes ≡ slice_range all address (address + length bytes))

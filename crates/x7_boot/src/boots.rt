@@ -124,9 +124,17 @@ pub fn boot<F: Flash>(alloc: Global, part: &Part, flash: &mut F) -> Result<Boote
     };
     let mut keep = AT_POWER;
     let mut address = 0;
+    let mut last_address = 0;
     let mut number = 0;
     'attempts: loop {
-        let ending = try_once(&mut device, flash, &mut pages, keep, address)?;
+        let ending = try_once(
+            &mut device,
+            flash,
+            &mut pages,
+            keep,
+            address,
+            last_address,
+        )?;
         let Ok(()) = attempts.push(Tried {
             kind: keep.kind,
             address,
@@ -141,6 +149,7 @@ pub fn boot<F: Flash>(alloc: Global, part: &Part, flash: &mut F) -> Result<Boote
                 address: place,
             } => {
                 keep = kept;
+                last_address = address;
                 address = place;
             }
             Next::Ends(end) => return Ok(Booted {

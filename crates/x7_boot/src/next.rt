@@ -50,7 +50,7 @@ fn start_address(unit: u32, wbstar: u32) -> u32
 }
 
 /// Whether an attempt of this kind is a fallback.
-fn is_a_fallback(kind: Kind) -> bool
+pub(crate) fn is_a_fallback(kind: Kind) -> bool
     ensures { result ≡ is_fallback kind }
 {
     match kind {

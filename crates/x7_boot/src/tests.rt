@@ -145,15 +145,38 @@ fn a_fallback_reads_no_page_again(rt: HostRuntime) {
     assert_eq!(rt; calls_of(alloc, &all), Ok((3, 19)));
 }
 
+/// How many attempts a flash of these bytes, with dummy words behind them up to a length, costs, and how many calls.
+fn calls_with_dummies(
+    alloc: Global,
+    front: &[u8],
+    length: usize,
+) -> Result<(usize, u64), BootFault> {
+    let mut bytes = Vec::new(alloc);
+    let Ok(()) = bytes.extend_from_slice(front) else {
+        return Err(BootFault::NoMemory);
+    };
+    let Ok(()) = bytes.resize(length, 0xFF) else {
+        return Err(BootFault::NoMemory);
+    };
+    calls_of(alloc, &bytes)
+}
+
 #[test]
 fn sixty_four_pages_are_kept(rt: HostRuntime) {
-    // the length of a flash of dummy words, and the calls of an attempt and a fallback
+    // a session that DESYNC ends, so that a fallback has something to read
+    let session = b"\xAA\x99\x55\x66\x30\0\x80\x01\0\0\0\x0D";
+    // the length of a flash, and the calls of an attempt and a fallback
     let cases = [(262_144, 65), (262_145, 131)];
     for (length, calls) in cases {
-        let mut bytes = Vec::new(rt.alloc());
-        let Ok(()) = bytes.resize(length, 0xFF) else {
-            panic!(rt; "no bytes");
-        };
-        assert_eq!(rt; calls_of(rt.alloc(), &bytes), Ok((2, calls)));
+        assert_eq!(rt; calls_with_dummies(rt.alloc(), session, length), Ok((2, calls)));
+    }
+}
+
+#[test]
+fn a_flash_of_dummy_words_is_read_once(rt: HostRuntime) {
+    // the length of a flash, and the calls of an attempt and a fallback: the attach, and one for each page
+    let cases = [(0, 1), (4_096, 2), (262_144, 65), (262_145, 66), (1_048_576, 257)];
+    for (length, calls) in cases {
+        assert_eq!(rt; calls_with_dummies(rt.alloc(), b"", length), Ok((2, calls)));
     }
 }

@@ -10,6 +10,7 @@ pub mod FeedLemmas
 pub mod FiringLemmas
 pub mod FirstStopLemmas
 pub mod FrameLemmas
+pub mod GapLemmas
 pub mod MaskLemmas
 pub mod PassLemmas
 pub mod PhaseLemmas

@@ -1,5 +1,6 @@
 pub mod Checked
 pub mod Clock
+pub mod FirstGap
 pub mod FirstStop
 pub mod Kept
 pub mod Phases

@@ -17,6 +17,7 @@ ghost use Rattle.x7_engine.specs.declared.fault.Fault.{Fault as FaultData};
 ghost use Rattle.x7_engine.specs.declared.kept.Kept.{Kept as KeptData};
 
 mod boot;
+mod gap;
 mod started;
 mod undo;
 

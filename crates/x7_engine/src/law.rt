@@ -2,6 +2,7 @@
 ghost use Rattle.std.specs.Prelude.{◌≡◌, ◌+◌, ◌-◌, ◌^◌, ◌<◌, ◌≤◌, ◌++◌, ◌↔◌, ℕ, Bool, IsTrue, List, [], None, Some, false, length, true};
 ghost use Rattle.x7_words.specs.Word.{AreBytes};
 ghost use Rattle.x7_packets.specs.History.{Access, AllFit, History, Placed, Write, history_of, last_word};
+ghost use Rattle.x7_packets.specs.SyncWord.{HasNoSync};
 ghost use Rattle.x7_part.specs.Part.{PartData};
 ghost use Rattle.x7_regs.specs.declared.boot_status.Kind.TheVariants.{Bench};
 ghost use Rattle.x7_regs.specs.declared.register.Reg.TheVariants.{Cor0, Crc, Idcode};
@@ -9,7 +10,7 @@ ghost use Rattle.x7_regs.specs.Register.{number_of};
 ghost use Rattle.x7_startup.specs.Calls.{Begun, IsPhaseOf};
 ghost use Rattle.x7_crc.specs.OpenWrites.{running_check};
 ghost use Rattle.x7_engine.specs.Checked.{HasStarted, StandsIn};
-ghost use Rattle.x7_engine.specs.Kept.{on_the_bench};
+ghost use Rattle.x7_engine.specs.Kept.{is_fallback, on_the_bench};
 ghost use Rattle.x7_engine.specs.FirstStop.{IsFirstStop, line_at_byte};
 ghost use Rattle.x7_flow.specs.Controls.{masked, same_idcode};
 ghost use Rattle.x7_engine.specs.Registers.{HasMaskedBits, has_ghigh, is_clearance, is_pending, takes_shutdown};
@@ -107,4 +108,10 @@ pub fn wraps_show_in_bootsts()
     ensures alone { (part : PartData) (kept : Kept) (bytes : List ℕ) → state_of part kept true bytes ≡ record (state_of part kept false bytes) { bootsts = (state_of part kept true bytes).bootsts } }
     ensures bit { (part : PartData) (kept : Kept) (bytes : List ℕ) → (kept.kind ≡ Bench → ⊥) → cause_of (fault_of (line_by (stop_in part kept bytes))) false ≡ None
         → (state_of part kept true bytes).bootsts ≡ (state_of part kept false bytes).bootsts + 2 ^ 6 }
+{}
+
+/// A fallback waits for the sync word without end: bytes without it, however many, stop nothing, and startup doesn't begin.
+pub fn fallbacks_wait_for_the_sync_word()
+    ensures stop { (part : PartData) (kept : Kept) (bytes : List ℕ) → AreBytes bytes → is_fallback kept.kind ≡ true → HasNoSync bytes → stop_in part kept bytes ≡ None }
+    ensures phase { (part : PartData) (kept : Kept) (wrapped : Bool) (bytes : List ℕ) → AreBytes bytes → is_fallback kept.kind ≡ true → HasNoSync bytes → (state_of part kept wrapped bytes).phase ≡ 0 }
 {}

@@ -227,7 +227,7 @@ impl Registers {
     }
 
     /// The command that CMD holds, five bits.
-    fn command(&self) -> u8
+    pub(crate) fn command(&self) -> u8
         ensures { (part : PartData) (kept : KeptData) (h : History) (n : ℕ) → RegistersStandFor part kept (registers_in self.now) h n → result ≡ command_held h }
     {
         (self.words.held(Reg::Cmd) & 31) as u8

@@ -1,4 +1,5 @@
-use Rattle.std.proofs.Common.{◌∙◌, sym, arith}
+use Rattle.std.proofs.Common.{ℕ, List, Option, ◌∙◌, subst, sym, arith}
+use Rattle.x7_boot.specs.Attempt.{Leaves}
 use Rattle.x7_boot.proofs.BootedLemmas.{attempts_next, boot_ends, led_next}
 use Rattle.x7_boot.proofs.PageLemmas.{pages_of}
 use Rattle.x7_boot.proofs.boots.boot.Goals as goal
@@ -12,6 +13,7 @@ attempts-preserved g c =
     record {
       led = led_next c.args.part.now c.attempts.device.part c.attempts.keep c.in-Again.kept c.attempts.address c.in-Again.place (f.bytes c.args.flash.now) (f.bytes c.attempts.flash) c.try_once.new.device c.in_ok-ending.ending
           c.attempts.attempts.items c.push.new.self.items c.attempts.number c.next_of.result i.same i.part i.led t.tried next.table c.in-Again.is c.in-Ok-push.ensures.items;
+      leaves = subst (λ (k : Option (List ℕ)). Leaves c.attempts.address k c.try_once.new.device) i.same t.leaves;
       part = t.part ∙ i.part;
       boots = next.boots c.in-Again.kept c.in-Again.place c.in-Again.is;
       number = attempts_next c.attempts.keep.kind c.in-Again.kept.kind c.attempts.number (next.fallback c.in-Again.kept c.in-Again.place c.in-Again.is) (next.few c.in-Again.kept c.in-Again.place c.in-Again.is) i.room;
@@ -38,3 +40,8 @@ try_once-requires-clause-pages g c =
     let f = g.F.Flash in
     let i = c.attempts.invariant in
     pages_of (f.bytes c.attempts.flash) (f.bytes c.args.flash.now) (f.extent c.attempts.flash) (f.extent c.args.flash.now) c.attempts.pages.pages.entries (sym i.same) (sym i.extent) i.pages
+
+pub try_once-requires-clause-left : goal.try_once-requires-clause-left
+try_once-requires-clause-left g c =
+    let i = c.attempts.invariant in
+    subst (λ (k : Option (List ℕ)). Leaves c.attempts.last_address k c.attempts.device) (sym i.same) i.leaves

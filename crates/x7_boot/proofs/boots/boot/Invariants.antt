@@ -3,6 +3,7 @@ use Rattle.x7_words.specs.Flash.{WhereTold}
 use Rattle.x7_words.specs.Word.{AreBytes}
 use Rattle.x7_regs.specs.declared.boot_status.Kind.TheVariants.{Bench}
 use Rattle.x7_engine.specs.Kept.{is_fallback}
+use Rattle.x7_boot.specs.Attempt.{Leaves}
 use Rattle.x7_boot.specs.Boot.{Led}
 use Rattle.x7_boot.specs.Image.{flash_limit}
 use Rattle.x7_boot.specs.Pages.{ArePages}
@@ -13,6 +14,7 @@ invariant-attempts g l =
     let f = g.F.Flash in
     record {
       led : WhereTold (f.bytes l.fn.flash) (λ all. AreBytes all → Led l.fn.part all l.keep l.address l.attempts.items l.number);
+      leaves : Leaves l.last_address (f.bytes l.fn.flash) l.device;
       part : l.device.part ≡ l.fn.part;
       boots : l.keep.kind ≡ Bench → ⊥;
       number : l.number ≤ 16;

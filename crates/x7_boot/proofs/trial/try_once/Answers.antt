@@ -1,13 +1,11 @@
-use Rattle.std.proofs.Common.{◌+◌, ◌<◌, ℕ, length, sym, subst, refl, ◌∙◌, arith}
-use Rattle.x7_boot.specs.Attempt.{Feeds}
-use Rattle.x7_boot.proofs.PageLemmas.{pages_of, rest_fits, rest_goes, rest_told}
-use Rattle.x7_boot.proofs.TrialLemmas.{ends_here, feeds_first, feeds_on, feeds_ready, known_ended, known_out, known_stopped, stops_here}
+use Rattle.std.proofs.Common.{◌+◌, ◌<◌, false, length, sym, refl, ◌∙◌, arith, true}
+use Rattle.x7_boot.proofs.PageLemmas.{pages_of, rest_limited, rest_goes, rest_told}
+use Rattle.x7_boot.proofs.TrialLemmas.{ends_here, feeds_on, feeds_ready, leaves_out, leaves_page, known_ended, known_out, known_stopped, stops_here}
 use Rattle.x7_boot.proofs.trial.try_once.Goals as goal
 
 pub pages-init : goal.pages-init
 pages-init g c = record {
-  feeds = subst (λ (n : ℕ). Feeds c.args.device.now.part c.args.keep c.args.address (g.F.Flash.bytes c.args.flash.now) c.reset.new.self n) (sym c.from-at.ensures)
-      (feeds_first c.args.device.now.part c.args.keep c.args.address (g.F.Flash.bytes c.args.flash.now) c.reset.new.self c.reset.ensures.stands);
+  feeds = c.begin-at.ensures (g.F.Flash.bytes c.args.flash.now) c.requires.left;
   attached = refl;
   extent = refl;
   same = refl;
@@ -36,8 +34,8 @@ pages-preserved g c =
     let told = rest_told known extent c.pages.at c.rest_of_page-page.result.now below (c.rest_of_page-page.ensures known extent are below) in
     let t = c.take_page.ensures c.args.device.now.part c.args.keep f.bytes f.stands f.going f.open_end in
     record {
-      feeds = feeds_on c.args.device.now.part c.args.keep c.args.address (g.F.Flash.bytes c.args.flash.now) c.pages.device c.take_page.new.device c.rest_of_page-page.result.now c.pages.at (c.pages.at + length c.rest_of_page-page.result.now) c.take_page.result refl f
-          told t c.in-Goes.is;
+      feeds = feeds_on c.args.device.now.part c.args.keep c.args.address (g.F.Flash.bytes c.args.flash.now) c.pages.device c.take_page.new.device c.rest_of_page-page.result.now c.pages.at (c.pages.at + length c.rest_of_page-page.result.now) c.take_page.result refl
+          (rest_limited known extent c.pages.at c.rest_of_page-page.result.now below c.requires.limit (c.rest_of_page-page.ensures known extent are below)) f told t c.in-Goes.is;
       kept = are;
       attached = c.in-Ok.ensures.attached ∙ c.pages.invariant.attached;
       extent = c.in-Ok.ensures.extent ∙ c.pages.invariant.extent;
@@ -75,6 +73,36 @@ returns-in-Stops-clause-tried g c =
     known_stopped c.args.device.now.part c.args.keep c.args.address (g.F.Flash.bytes c.args.flash.now) c.pages.device c.take_page.new.device c.run_out-in-Stops.new.device c.rest_of_page-page.result.now c.pages.at c.take_page.result c.run_out-in-Stops.result f told t c.in-Stops.is
     (c.run_out-in-Stops.ensures.stands c.args.device.now.part c.args.keep _ t.stands) c.run_out-in-Stops.ensures.ending
 
+pub returns-then-at-size-clause-leaves : goal.returns-then-at-size-clause-leaves
+returns-then-at-size-clause-leaves g c =
+    let f = c.pages.invariant.feeds in
+    leaves_out c.args.device.now.part c.args.keep c.args.address (g.F.Flash.bytes c.args.flash.now) c.pages.device c.run_out.new.device c.pages.at f (c.run_out.ensures.stands c.args.device.now.part c.args.keep f.bytes f.stands)
+
+pub returns-in-Ends-clause-leaves : goal.returns-in-Ends-clause-leaves
+returns-in-Ends-clause-leaves g c =
+    let f = c.pages.invariant.feeds in
+    let known = g.F.Flash.bytes c.args.flash.now in
+    let extent = g.F.Flash.extent c.args.flash.now in
+    let below : c.pages.at < extent = omega (arith, c.if-at-size.false, c.pages.invariant.size) in
+    let are = pages_of known (g.F.Flash.bytes c.pages.flash) extent (g.F.Flash.extent c.pages.flash) c.load.new.self.pages.entries c.pages.invariant.same c.pages.invariant.extent c.load.ensures.pages in
+    let rest = c.rest_of_page-page.ensures known extent are below in
+    let t = c.take_page.ensures c.args.device.now.part c.args.keep f.bytes f.stands f.going f.open_end in
+    leaves_page c.args.device.now.part c.args.keep false c.args.address known c.pages.device c.take_page.new.device c.take_page.new.device c.rest_of_page-page.result.now c.pages.at c.take_page.result f
+    (rest_told known extent c.pages.at c.rest_of_page-page.result.now below rest) (rest_limited known extent c.pages.at c.rest_of_page-page.result.now below c.requires.limit rest) t t.stands
+
+pub returns-in-Stops-clause-leaves : goal.returns-in-Stops-clause-leaves
+returns-in-Stops-clause-leaves g c =
+    let f = c.pages.invariant.feeds in
+    let known = g.F.Flash.bytes c.args.flash.now in
+    let extent = g.F.Flash.extent c.args.flash.now in
+    let below : c.pages.at < extent = omega (arith, c.if-at-size.false, c.pages.invariant.size) in
+    let are = pages_of known (g.F.Flash.bytes c.pages.flash) extent (g.F.Flash.extent c.pages.flash) c.load.new.self.pages.entries c.pages.invariant.same c.pages.invariant.extent c.load.ensures.pages in
+    let rest = c.rest_of_page-page.ensures known extent are below in
+    let t = c.take_page.ensures c.args.device.now.part c.args.keep f.bytes f.stands f.going f.open_end in
+    leaves_page c.args.device.now.part c.args.keep true c.args.address known c.pages.device c.take_page.new.device c.run_out-in-Stops.new.device c.rest_of_page-page.result.now c.pages.at c.take_page.result f
+    (rest_told known extent c.pages.at c.rest_of_page-page.result.now below rest) (rest_limited known extent c.pages.at c.rest_of_page-page.result.now below c.requires.limit rest) t
+    (c.run_out-in-Stops.ensures.stands c.args.device.now.part c.args.keep _ t.stands)
+
 pub returns-then-at-size-clause-pages : goal.returns-then-at-size-clause-pages
 returns-then-at-size-clause-pages g c = c.pages.invariant.kept
 
@@ -89,7 +117,7 @@ take_page-requires g c =
     let below : c.pages.at < extent = omega (arith, c.if-at-size.false, c.pages.invariant.size) in
     let are = pages_of known (g.F.Flash.bytes c.pages.flash) extent (g.F.Flash.extent c.pages.flash) c.load.new.self.pages.entries c.pages.invariant.same c.pages.invariant.extent c.load.ensures.pages in
     feeds_ready c.args.device.now.part c.args.keep c.args.address known c.pages.device c.pages.at (length c.rest_of_page-page.result.now)
-    (rest_fits known extent c.pages.at c.rest_of_page-page.result.now below c.requires.limit (c.rest_of_page-page.ensures known extent are below)) c.pages.invariant.feeds
+    (let limit = rest_limited known extent c.pages.at c.rest_of_page-page.result.now below c.requires.limit (c.rest_of_page-page.ensures known extent are below) in omega (arith, limit)) c.pages.invariant.feeds
 
 pub pages-smaller : goal.pages-smaller
 pages-smaller g c =
@@ -99,3 +127,6 @@ pages-smaller g c =
     let are = pages_of known (g.F.Flash.bytes c.pages.flash) extent (g.F.Flash.extent c.pages.flash) c.load.new.self.pages.entries c.pages.invariant.same c.pages.invariant.extent c.load.ensures.pages in
     let some = rest_goes known extent c.pages.at c.rest_of_page-page.result.now below (c.rest_of_page-page.ensures known extent are below) in
     omega (arith, some, c.if-at-size.false)
+
+pub begin-at-requires : goal.begin-at-requires
+begin-at-requires g c = let left = c.requires.left in let few = left.few in let taken = left.stands.taken_is in omega (arith, few, taken)
