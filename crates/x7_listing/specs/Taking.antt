@@ -1,12 +1,16 @@
 -- What a lister stands for that takes the runs of a stream, one after another.
-use Rattle.std.specs.Prelude.{◌≡◌, ℕ, true, List, [], ◌++◌}
+use Rattle.std.specs.Prelude.{◌≡◌, ℕ, Bool, true, List, [], ◌++◌}
 use Rattle.x7_packets.specs.Reading.{Place, Searching, Session, IsReading, tail_of}
-use Rattle.x7_packets.specs.Cutting.{CutterStandsFor}
+use Rattle.x7_packets.specs.Cutting.{CutterState, CutterStandsFor}
 use Rattle.x7_packets.specs.declared.cutter.Mode.{Mode}
 use Rattle.x7_packets.specs.declared.cutter.Mode.TheVariants as mode
 use Rattle.x7_packets.specs.declared.stream.Run.{Run}
 use Rattle.x7_packets.specs.declared.stream.Run.TheVariants as run
 use Rattle.x7_listing.specs.Telling.{Finished, ListerState, Told}
+
+-- a lister by its parts: its cutter, whether a session is open, how many elements stand in the open line, the bytes held, and the text
+abbrev pub lister_of : CutterState → Bool → ℕ → List ℕ → List ℕ → ListerState
+lister_of cutter synced line held text = record { cutter = cutter; synced = synced; line = line; held = held; text = text }
 
 -- The texts given and the lister's text are those of listings before, and then what is told of these bytes, a sync word being due to be told or not. Its own cutter took no byte, and the bytes of no whole word are held.
 pub record TakerStandsFor (l : ListerState) (given before bytes : List ℕ) (due : Mode) : Type 0 where

@@ -91,7 +91,7 @@ fn put_one_word(text: &mut Vec<u8>, in_line: usize, register: u8, w: u32) -> usi
 
 /// Appends what no-ops in a row add, one or more.
 #[inline(always)]
-fn put_idle(text: &mut Vec<u8>, pen: Pen, count: usize) -> Pen
+pub(crate) fn put_idle(text: &mut Vec<u8>, pen: Pen, count: usize) -> Pen
     requires some { 0 < count }
     requires room { vec_len text.old + (4 * count + 1) ≤ vec_capacity text.old }
     ensures len { vec_len text.new ≤ vec_len text.old + (4 * count + 1) }
@@ -107,7 +107,7 @@ fn put_idle(text: &mut Vec<u8>, pen: Pen, count: usize) -> Pen
 
 /// Appends what a write of one word adds.
 #[inline(always)]
-fn put_write(text: &mut Vec<u8>, pen: Pen, register: u8, w: u32) -> Pen
+pub(crate) fn put_write(text: &mut Vec<u8>, pen: Pen, register: u8, w: u32) -> Pen
     requires range { register < 32 }
     requires room { vec_len text.old + 97 ≤ vec_capacity text.old }
     ensures len { vec_len text.new ≤ vec_len text.old + 97 }
@@ -207,9 +207,9 @@ fn take_gap(text: &mut Vec<u8>, cutter: &mut Cutter, pen: Pen, rest: &[u8]) -> O
     })
 }
 
-/// Takes what comes next, where it is told at once, and appends what it adds.
+/// Takes a write of a few words, or a short gap with its sync word, that comes next, and appends what it adds.
 #[inline(always)]
-pub(crate) fn take_at_once(
+pub(crate) fn take_short(
     text: &mut Vec<u8>,
     cutter: &mut Cutter,
     pen: Pen,
@@ -223,19 +223,6 @@ pub(crate) fn take_at_once(
     ensures same { IfNone result (text.new ≡ text.old) }
     ensures room { vec_capacity text.old ≤ vec_capacity text.new }
 {
-    let nops = cutter.nop_count(rest);
-    if nops > 0 {
-        return Some(Taken {
-            pen: put_idle(text, pen, nops),
-            size: 4 * nops,
-        });
-    }
-    if let Some((register, w)) = cutter.take_write(rest) {
-        return Some(Taken {
-            pen: put_write(text, pen, register, w),
-            size: 8,
-        });
-    }
     if let Some((register, count)) = cutter.take_short_write(rest) {
         return Some(Taken {
             pen: put_short_write(text, pen, register, count, rest),

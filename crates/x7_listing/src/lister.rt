@@ -7,7 +7,7 @@ ghost use Rattle.x7_listing.specs.Telling.{Finished, ListerStandsFor, Rests, Tel
 
 mod taking;
 
-use crate::at_once::take_at_once;
+use crate::at_once::{put_idle, put_write, take_short};
 use crate::pen::{Pen, new_pen, put_end, put_run};
 use std::alloc::Global;
 use std::marker::Model;
@@ -23,7 +23,19 @@ fn take_all(text: &mut Vec<u8>, cutter: &mut Cutter, pen: Pen, piece: &[u8]) -> 
     let mut now = pen;
     let mut at = 0;
     loop {
-        if let Some(taken) = take_at_once(text, cutter, now, &piece[at..]) {
+        let rest = &piece[at..];
+        let nops = cutter.nop_count(rest);
+        if nops > 0 {
+            now = put_idle(text, now, nops);
+            at += 4 * nops;
+            continue;
+        }
+        if let Some((register, w)) = cutter.take_write(rest) {
+            now = put_write(text, now, register, w);
+            at += 8;
+            continue;
+        }
+        if let Some(taken) = take_short(text, cutter, now, rest) {
             now = taken.pen;
             at += taken.size;
             continue;

@@ -7,7 +7,7 @@ ghost use Rattle.x7_packets.specs.declared.cutter.Mode.{Mode};
 ghost use Rattle.x7_packets.specs.declared.cutter.Mode.TheVariants as mode;
 ghost use Rattle.x7_listing.specs.Listing.{reading_text};
 ghost use Rattle.x7_listing.specs.Telling.{Told};
-ghost use Rattle.x7_listing.specs.Taking.{TakerStandsFor, TakesRun};
+ghost use Rattle.x7_listing.specs.Taking.{lister_of, TakerStandsFor, TakesRun};
 
 use super::Lister;
 use crate::pen::{Pen, new_pen, put_end, put_run};
@@ -78,9 +78,10 @@ fn put_last(text: &mut Vec<u8>, pen: Pen)
 fn put_next(text: &mut Vec<u8>, pen: Pen, run: Run) -> Pen
     requires run { FitsRun run }
     requires room { vec_len text.old + (64 + 3 * length (told_bytes run)) ≤ vec_capacity text.old }
-    ensures takes { (cutter : CutterState) (given before bytes : List ℕ) (due next : Mode) → TakerStandsFor (record { cutter = cutter; synced = pen.synced; line = pen.line; held = take pen.count pen.held; text = text.old.items }) given before bytes due
+    ensures takes { (cutter : CutterState) (given before bytes : List ℕ) (due next : Mode)
+        → TakerStandsFor (lister_of cutter pen.synced pen.line (take pen.count pen.held) text.old.items) given before bytes due
         → IsNext bytes due run.entry next
-        → TakesRun run.entry (record { cutter = cutter; synced = result.synced; line = result.line; held = take result.count result.held; text = text.new.items }) given before (bytes ++ told_bytes run.entry) next }
+        → TakesRun run.entry (lister_of cutter result.synced result.line (take result.count result.held) text.new.items) given before (bytes ++ told_bytes run.entry) next }
 {
     match run {
         Run::Tail(tail) => with_tail(pen, tail),

@@ -1,4 +1,4 @@
-use Rattle.std.proofs.Common.{◌≡◌, ◌+◌, ◌-◌, ◌*◌, ◌<◌, ◌++◌, ap, append-nil, arith, drop, length, refl, subst, sym, take, Vec, vec_capacity, vec_len, ℕ}
+use Rattle.std.proofs.Common.{◌≡◌, ◌∙◌, ◌+◌, ◌-◌, ◌*◌, ◌<◌, ◌++◌, ap, append-nil, arith, drop, length, refl, subst, sym, take, Vec, vec_capacity, vec_len, ℕ}
 use Rattle.std.specs.declared.alloc.Global.{Global}
 use Rattle.x7_packets.specs.Cutting.{calls_left, CutterState, run_bytes}
 use Rattle.x7_listing.specs.Telling.{Tells}
@@ -6,8 +6,8 @@ use Rattle.x7_listing.proofs.AtOnceLemmas.{rest_length, seam}
 use Rattle.x7_listing.proofs.TakeLemmas.{goes_less, goes_out, one_due, run_length, told_as, took, took_all}
 use Rattle.x7_listing.proofs.lister.take_all.Goals as goal
 
-pub loop-taken-init : goal.loop-taken-init
-loop-taken-init c = record {
+pub loop-rest-init : goal.loop-rest-init
+loop-rest-init c = record {
   within = omega arith;
   room = omega (arith, one_due c.args.cutter.now.mode, c.requires);
   tells = λ given before bytes s. rw append-nil s;
@@ -18,43 +18,70 @@ returns-in-Need c = record {
   rests = λ given before bytes s.
       let used = goes_out _ _ _ _ c.in-Need.is c.cut-run.ensures.goes in
       took_all _ _ _ _ _ _ _ _ _ given before bytes c.args.piece.now
-      (told_as c.loop-taken.cutter c.take_at_once.new.cutter c.loop-taken.text c.take_at_once.new.text _ _ _ given before _ c.in_default.ensures.none c.in_default.ensures.same (c.loop-taken.invariant.tells given before bytes s)) c.cut-run.ensures.forward (omega (arith, used)) c.in-Need.is c.cut-run.ensures.adds;
+      (told_as c.loop-rest.cutter c.take_short.new.cutter c.loop-rest.text c.take_short.new.text _ _ _ given before _ (c.in_default-take_short.ensures.none ∙ c.in_default.ensures.none) c.in_default-take_short.ensures.same (c.loop-rest.invariant.tells given before bytes s)) c.cut-run.ensures.forward (omega (arith, used)) c.in-Need.is c.cut-run.ensures.adds;
 }
 
 pub put_run-now-requires : goal.put_run-now-requires
 put_run-now-requires c =
-    let same : c.take_at_once.new.cutter ≡ c.loop-taken.cutter = c.in_default.ensures.none in
-    let text : c.take_at_once.new.text ≡ c.loop-taken.text = c.in_default.ensures.same in
-    let long : length c.take_at_once.new.cutter.kept + (c.cut-run.new.at - c.loop-taken.at) ≡ length (run_bytes c.cut-run.result) + length c.cut-run.new.self.kept = run_length _ _ _ c.args.piece.now _ _ c.cut-run.ensures.forward c.cut-run.ensures.within c.cut-run.ensures.joined in
+    let same : c.take_short.new.cutter ≡ c.loop-rest.cutter = c.in_default-take_short.ensures.none ∙ c.in_default.ensures.none in
+    let text : c.take_short.new.text ≡ c.loop-rest.text = c.in_default-take_short.ensures.same in
+    let long : length c.take_short.new.cutter.kept + (c.cut-run.new.at - c.loop-rest.at) ≡ length (run_bytes c.cut-run.result) + length c.cut-run.new.self.kept = run_length _ _ _ c.args.piece.now _ _ c.cut-run.ensures.forward c.cut-run.ensures.within c.cut-run.ensures.joined in
     record {
       run = c.cut-run.ensures.run;
-      room = omega (arith, long, ap (λ (k : CutterState). length k.kept) same, ap (λ (t : Vec ℕ Global). vec_len t) text, ap (λ (t : Vec ℕ Global). vec_capacity t) text, c.cut-run.ensures.within, c.cut-run.ensures.forward, c.loop-taken.invariant.room);
+      room = omega (arith, long, ap (λ (k : CutterState). length k.kept) same, ap (λ (t : Vec ℕ Global). vec_len t) text, ap (λ (t : Vec ℕ Global). vec_capacity t) text, c.cut-run.ensures.within, c.cut-run.ensures.forward, c.loop-rest.invariant.room);
     }
 
-pub loop-taken-preserved : goal.loop-taken-preserved
-loop-taken-preserved c =
-    let same : c.take_at_once.new.cutter ≡ c.loop-taken.cutter = c.in_default.ensures.none in
-    let text : c.take_at_once.new.text ≡ c.loop-taken.text = c.in_default.ensures.same in
-    let long : length c.take_at_once.new.cutter.kept + (c.cut-run.new.at - c.loop-taken.at) ≡ length (run_bytes c.cut-run.result) + length c.cut-run.new.self.kept = run_length _ _ _ c.args.piece.now _ _ c.cut-run.ensures.forward c.cut-run.ensures.within c.cut-run.ensures.joined in
-    let less : calls_left c.cut-run.new.self (length c.args.piece.now - c.cut-run.new.at) < calls_left c.take_at_once.new.cutter (length c.args.piece.now - c.loop-taken.at) = goes_less _ _ _ _ c.in_default-run.not-Need c.cut-run.ensures.goes in
-    let calls : calls_left c.take_at_once.new.cutter (length c.args.piece.now - c.loop-taken.at) ≡ calls_left c.loop-taken.cutter (length c.args.piece.now - c.loop-taken.at) = ap (λ (k : CutterState). calls_left k (length c.args.piece.now - c.loop-taken.at)) same in
+pub loop-rest-preserved : goal.loop-rest-preserved
+loop-rest-preserved c =
+    let same : c.take_short.new.cutter ≡ c.loop-rest.cutter = c.in_default-take_short.ensures.none ∙ c.in_default.ensures.none in
+    let text : c.take_short.new.text ≡ c.loop-rest.text = c.in_default-take_short.ensures.same in
+    let long : length c.take_short.new.cutter.kept + (c.cut-run.new.at - c.loop-rest.at) ≡ length (run_bytes c.cut-run.result) + length c.cut-run.new.self.kept = run_length _ _ _ c.args.piece.now _ _ c.cut-run.ensures.forward c.cut-run.ensures.within c.cut-run.ensures.joined in
+    let less : calls_left c.cut-run.new.self (length c.args.piece.now - c.cut-run.new.at) < calls_left c.take_short.new.cutter (length c.args.piece.now - c.loop-rest.at) = goes_less _ _ _ _ c.in_default-run.not-Need c.cut-run.ensures.goes in
+    let calls : calls_left c.take_short.new.cutter (length c.args.piece.now - c.loop-rest.at) ≡ calls_left c.loop-rest.cutter (length c.args.piece.now - c.loop-rest.at) = ap (λ (k : CutterState). calls_left k (length c.args.piece.now - c.loop-rest.at)) same in
     record {
       within = c.cut-run.ensures.within;
-      room = omega (arith, long, less, calls, ap (λ (k : CutterState). length k.kept) same, ap (λ (t : Vec ℕ Global). vec_len t) text, ap (λ (t : Vec ℕ Global). vec_capacity t) text, c.cut-run.ensures.within, c.cut-run.ensures.forward, c.loop-taken.invariant.room, c.put_run-now.ensures.len, c.put_run-now.ensures.room);
+      room = omega (arith, long, less, calls, ap (λ (k : CutterState). length k.kept) same, ap (λ (t : Vec ℕ Global). vec_len t) text, ap (λ (t : Vec ℕ Global). vec_capacity t) text, c.cut-run.ensures.within, c.cut-run.ensures.forward, c.loop-rest.invariant.room, c.put_run-now.ensures.len, c.put_run-now.ensures.room);
       tells = λ given before bytes s.
           took _ _ _ _ _ _ _ _ _ _ _ _ _ given before bytes c.args.piece.now
-          (told_as c.loop-taken.cutter c.take_at_once.new.cutter c.loop-taken.text c.take_at_once.new.text _ _ _ given before _ c.in_default.ensures.none c.in_default.ensures.same (c.loop-taken.invariant.tells given before bytes s)) c.cut-run.ensures.forward c.cut-run.ensures.adds c.cut-run.ensures.run (c.put_run-now.ensures.told given);
+          (told_as c.loop-rest.cutter c.take_short.new.cutter c.loop-rest.text c.take_short.new.text _ _ _ given before _ (c.in_default-take_short.ensures.none ∙ c.in_default.ensures.none) c.in_default-take_short.ensures.same (c.loop-rest.invariant.tells given before bytes s)) c.cut-run.ensures.forward c.cut-run.ensures.adds c.cut-run.ensures.run (c.put_run-now.ensures.told given);
     }
 
-pub loop-taken-preserved-in-Some : goal.loop-taken-preserved-in-Some
-loop-taken-preserved-in-Some c =
-    let taken = c.in-Some.ensures.some in
-    let left : length (take (length c.args.piece.now - c.loop-taken.at) (drop c.loop-taken.at c.args.piece.now)) ≡ length c.args.piece.now - c.loop-taken.at = rest_length c.args.piece.now c.loop-taken.at c.loop-taken.invariant.within in
+pub loop-rest-preserved-then-nops-gt0 : goal.loop-rest-preserved-then-nops-gt0
+loop-rest-preserved-then-nops-gt0 c =
+    let left : length (take (length c.args.piece.now - c.loop-rest.at) (drop c.loop-rest.at c.args.piece.now)) ≡ length c.args.piece.now - c.loop-rest.at = rest_length c.args.piece.now c.loop-rest.at c.loop-rest.invariant.within in
     record {
-      within = omega (arith, left, taken.within, c.loop-taken.invariant.within);
-      room = omega (arith, left, taken.within, taken.some, taken.kept, taken.grown, one_due c.take_at_once.new.cutter.mode, c.loop-taken.invariant.within, c.loop-taken.invariant.room, c.take_at_once.ensures.room);
+      within = omega (arith, left, c.nop_count-nops.ensures.within, c.loop-rest.invariant.within);
+      room = omega (arith, left, c.nop_count-nops.ensures.within, c.if-nops-gt0.true, c.loop-rest.invariant.within, c.loop-rest.invariant.room, c.put_idle-now.ensures.len, c.put_idle-now.ensures.room);
       tells = λ given before bytes s.
-          subst (Tells c.take_at_once.new.cutter c.in-Some.taken.pen.synced c.in-Some.taken.pen.line (take c.in-Some.taken.pen.count c.in-Some.taken.pen.held) c.take_at_once.new.text.items given before)
-          (seam c.args.piece.now bytes _ c.loop-taken.at c.in-Some.taken.size c.loop-taken.invariant.within refl)
-          (c.in-Some.ensures.told given before (bytes ++ take c.loop-taken.at c.args.piece.now) (c.loop-taken.invariant.tells given before bytes s));
+          subst (Tells c.loop-rest.cutter c.put_idle-now.result.synced c.put_idle-now.result.line (take c.put_idle-now.result.count c.put_idle-now.result.held) c.put_idle-now.new.text.items given before)
+          (seam c.args.piece.now bytes _ c.loop-rest.at (4 * c.nop_count-nops.result) c.loop-rest.invariant.within c.nop_count-nops.ensures.nops)
+          (c.put_idle-now.ensures.told c.loop-rest.cutter given before (bytes ++ take c.loop-rest.at c.args.piece.now) (c.nop_count-nops.ensures.same c.if-nops-gt0.true) (c.loop-rest.invariant.tells given before bytes s));
+    }
+
+pub loop-rest-preserved-in-Some : goal.loop-rest-preserved-in-Some
+loop-rest-preserved-in-Some c =
+    let write = c.in-Some.ensures.some in
+    let left : length (take (length c.args.piece.now - c.loop-rest.at) (drop c.loop-rest.at c.args.piece.now)) ≡ length c.args.piece.now - c.loop-rest.at = rest_length c.args.piece.now c.loop-rest.at c.loop-rest.invariant.within in
+    record {
+      within = omega (arith, left, write.whole, c.loop-rest.invariant.within);
+      room = omega (arith, left, write.whole, ap length write.none_kept, one_due c.take_write.new.self.mode, c.loop-rest.invariant.within, c.loop-rest.invariant.room, c.put_write-now.ensures.len, c.put_write-now.ensures.room);
+      tells = λ given before bytes s.
+          subst (Tells c.take_write.new.self c.put_write-now.result.synced c.put_write-now.result.line (take c.put_write-now.result.count c.put_write-now.result.held) c.put_write-now.new.text.items given before)
+          (seam c.args.piece.now bytes _ c.loop-rest.at 8 c.loop-rest.invariant.within refl)
+          (c.put_write-now.ensures.told c.loop-rest.cutter c.take_write.new.self _ given before (bytes ++ take c.loop-rest.at c.args.piece.now) write (c.loop-rest.invariant.tells given before bytes s));
+    }
+
+pub loop-rest-preserved-in-Some-take_short : goal.loop-rest-preserved-in-Some-take_short
+loop-rest-preserved-in-Some-take_short c =
+    let taken = c.in-Some-take_short.ensures.some in
+    let same : c.take_write.new.self ≡ c.loop-rest.cutter = c.in_default.ensures.none in
+    let left : length (take (length c.args.piece.now - c.loop-rest.at) (drop c.loop-rest.at c.args.piece.now)) ≡ length c.args.piece.now - c.loop-rest.at = rest_length c.args.piece.now c.loop-rest.at c.loop-rest.invariant.within in
+    record {
+      within = omega (arith, left, taken.within, c.loop-rest.invariant.within);
+      room = omega (arith, left, taken.within, taken.some, taken.kept, taken.grown, ap (λ (k : CutterState). length k.kept) same, one_due c.take_short.new.cutter.mode, c.loop-rest.invariant.within, c.loop-rest.invariant.room, c.take_short.ensures.room);
+      tells = λ given before bytes s.
+          subst (Tells c.take_short.new.cutter c.in-Some-take_short.taken.pen.synced c.in-Some-take_short.taken.pen.line (take c.in-Some-take_short.taken.pen.count c.in-Some-take_short.taken.pen.held) c.take_short.new.text.items given before)
+          (seam c.args.piece.now bytes _ c.loop-rest.at c.in-Some-take_short.taken.size c.loop-rest.invariant.within refl)
+          (c.in-Some-take_short.ensures.told given before (bytes ++ take c.loop-rest.at c.args.piece.now)
+          (told_as c.loop-rest.cutter c.take_write.new.self c.loop-rest.text c.loop-rest.text _ _ _ given before _ same refl (c.loop-rest.invariant.tells given before bytes s)));
     }
