@@ -1,5 +1,5 @@
 -- Lemmas on plans that are made from a number, and on sums of words.
-use Rattle.std.proofs.Common.{codes, ◌≡◌, ◌+◌, ◌%◌, ◌^◌, ◌<◌, ◌≤◌, ℕ, zero, suc, Bool, true, false, if◌then◌else◌, List, [], ◌∷◌, ◌++◌, length, get_or, drop, Option, refl, ap, sym, subst, ◌∙◌, append_assoc, append-nil, arith}
+use Rattle.std.proofs.Common.{codes, length-append, ◌≡◌, ◌+◌, ◌*◌, ◌%◌, ◌^◌, ◌<◌, ◌≤◌, ℕ, zero, suc, Bool, true, false, if◌then◌else◌, List, [], ◌∷◌, ◌++◌, length, get_or, drop, Option, refl, ap, sym, subst, ◌∙◌, append_assoc, append-nil, arith}
 use Rattle.std.specs.Prelude.{nat_lt, unwrap_or, All, IsPermutation, Contains}
 use Rattle.std.specs.List.{range_with_len, sum}
 use Rattle.std.proofs.lemmas.Bool.Decides.{nat_tests}
@@ -19,16 +19,24 @@ use Rattle.std.proofs.lemmas.List.Elements.{All-cons, All-contains_itself, All-h
 use Rattle.std.proofs.lemmas.List.Sorted.{All-permutation, IsPermutation-sym}
 use Rattle.x7_memory.specs.Frames.{frame_at}
 use Rattle.x7_part.specs.PartRange.{IsPart}
+use Rattle.x7_part.specs.Slots.{slots_in}
+use Rattle.x7_part.proofs.SlotLemmas.{slots_number}
 use Rattle.x7_planner.specs.Full.{full_stream}
-use Rattle.x7_planner.specs.Refusals.{AreAddressed}
+use Rattle.x7_planner.specs.Telling.{FullStreamState, HasTold, TellsMore}
+use Rattle.x7_planner.specs.Refusals.{AreAddressed, IsFullFault}
+use Rattle.x7_planner.specs.declared.fault.PlanFault.{PlanFault}
+use Rattle.x7_planner.specs.declared.fault.PlanFault.TheVariants as fault
 use Rattle.x7_engine.specs.Kept.{on_the_bench}
 use Rattle.x7_engine.specs.ReadBuffer.{ReadBufState}
 use Rattle.x7_engine.specs.Standing.{DeviceState, NoWordDue}
 use Rattle.x7_engine.specs.State.{memory_in, reads_of, state_of}
+use Rattle.x7_effects.proofs.FormLemmas.{full_length}
+use Rattle.x7_effects.proofs.PlannerLemmas.{full_same}
 use Rattle.x7_effects.proofs.LawLemmas.{new_law}
 use Rattle.x7_tool.specs.Generated.{count_line, counted, gen_text, generated, head_line, next_number, planned_summary, played_summary, row_by, rows_after, sum_line, summary_text, words_sum}
 use Rattle.x7_tool.specs.Outcome.{reads_limit}
-use Rattle.x7_tool.specs.Play.{HasPlayedBy, Plays}
+use Rattle.x7_tool.specs.Play.{HasPlayed, HasPlayedBy, Plays, PlaysOn}
+use Rattle.x7_tool.specs.declared.player.Player.{Player}
 
 -- ---- frames that count up
 
@@ -197,7 +205,7 @@ generated_plan part seed is = record {
       (λ i d h n. record { far = address_small part (get_or (addresses_in part) i d) is (All-contains_itself (addresses_in part) i d h); words = counted_fits (frame_words part) n });
 }
 
-generated_addressed : (part : PartData) (seed : ℕ) → AreAddressed part (generated part seed).rows
+pub generated_addressed : (part : PartData) (seed : ℕ) → AreAddressed part (generated part seed).rows
 generated_addressed part seed =
     rows_each (λ row. Contains (addresses_in part) row.far) (frame_words part) seed (addresses_in part) (λ i d h n. All-contains_itself (addresses_in part) i d h)
 
@@ -211,3 +219,57 @@ planned_is part seed text is e =
     let law = new_law part plan is (generated_plan part seed is) refl (generated_addressed part seed) in
     e ∙ ap (λ (n : ℕ). summary_text part.name seed (length plan.rows) (length stream) n sums) (law.phase false)
     ∙ ap (λ (n : ℕ). summary_text part.name seed (length plan.rows) (length stream) 7 (n % 2 ^ 32)) (sum_same (memory_in part on_the_bench stream) (total part plan) (addresses_in part) law.memory)
+
+-- ---- a stream that is played while it is written
+
+-- what was told of the full stream of a plan was played, and no piece waits
+pub record PlaysAlong (part : PartData) (plan : PlanData) (stream : FullStreamState) (player : Player) (size : ℕ) (block : List ℕ) : Type 0 where
+  pub told : List ℕ
+  pub stands : HasTold stream told
+  pub played : HasPlayed part told player
+  pub counted : size ≡ length told
+  pub empty : block ≡ []
+  pub of_part : stream.part ≡ part
+  pub of_plan : stream.plan ≡ plan
+
+-- what was told of a full stream is no longer than a stream may be
+told_few : (part : PartData) (plan : PlanData) (stream : FullStreamState) (told : List ℕ) → IsPart part → IsPlan plan → plan.width ≡ frame_words part → stream.part ≡ part → stream.plan ≡ plan → HasTold stream told → length told ≤ 2 ^ 27
+told_few part plan stream told is p e a b h =
+    let whole : told ++ h.left ≡ full_stream part plan = h.whole ∙ ap (λ (x : PartData). full_stream x stream.plan) a ∙ ap (full_stream part) b in
+    let size : length told + length h.left ≡ 4 * (55 + frame_words part * length (slots_in part)) = sym (length-append told h.left) ∙ ap length (whole ∙ full_same part plan is p e) ∙ full_length part plan p e in
+    let slots : frame_words part * length (slots_in part) ≡ frame_words part * (length (addresses_in part) + 2 * length part.rows) = ap (λ (k : ℕ). frame_words part * k) (slots_number part) in
+    omega (arith, size, slots, is.slots)
+
+module _ (part : PartData) (plan : PlanData) (stream later : FullStreamState) (player : Player) (size : ℕ) (block new : List ℕ) (v : PlaysAlong part plan stream player size block) (m : TellsMore later v.told block new) where
+  piece_is : new ≡ m.piece
+  piece_is = m.adds ∙ ap (λ (t : List ℕ). t ++ m.piece) v.empty
+
+  -- a piece more is within what a device counts
+  pub piece_fits : IsPart part → IsPlan plan → plan.width ≡ frame_words part → later.part ≡ stream.part → later.plan ≡ stream.plan → length v.told + length new ≤ 2 ^ 27
+  piece_fits is p e a b =
+      let few : length (v.told ++ m.piece) ≤ 2 ^ 27 = told_few part plan later (v.told ++ m.piece) is p e (a ∙ v.of_part) (b ∙ v.of_plan) m.more in
+      omega (arith, few, length-append v.told m.piece, ap length piece_is)
+
+  -- a piece more is played
+  pub along : (next : Player) (total : ℕ) (given after : List ℕ) → later.part ≡ stream.part → later.plan ≡ stream.plan → given ≡ new → PlaysOn player next given → total ≡ size + length new → after ≡ [] → PlaysAlong part plan later next total after
+  along next total given after a b g on t e = record {
+    told = v.told ++ m.piece;
+    stands = m.more;
+    played = subst (λ (x : List ℕ). HasPlayed part (v.told ++ x) next) (g ∙ piece_is) (on part v.told v.played);
+    counted = omega (arith, t, v.counted, length-append v.told m.piece, ap length piece_is);
+    empty = e;
+    of_part = a ∙ v.of_part;
+    of_plan = b ∙ v.of_plan;
+  }
+
+each_among : (P : PlanRow → Type 0) (before after : List PlanRow) (row : PlanRow) → All P (before ++ row ∷ after) → P row
+each_among P [] after row all = All-head P row after all
+each_among P (x ∷ before) after row all = each_among P before after row (All-tail P x (before ++ row ∷ after) all)
+
+-- a full stream of a plan at the part's addresses isn't refused
+pub no_fault : (part : PartData) (plan : PlanData) (fault : PlanFault) → AreAddressed part plan.rows → IsFullFault part plan fault → ⊥
+no_fault part plan (fault.Foreign address) all h =
+    h.foreign (each_among (λ (row : PlanRow). Contains (addresses_in part) row.far) h.before h.after h.row (subst (λ (rows : List PlanRow). AreAddressed part rows) h.split all))
+no_fault part plan fault.Empty all h = h
+no_fault part plan (fault.Range n) all h = h
+no_fault part plan fault.NoMemory all h = h

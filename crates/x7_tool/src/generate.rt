@@ -1,9 +1,14 @@
 //! The command `gen`: a plan that is made from a number, its stream played on a new device, and what came of it.
-ghost use Rattle.std.specs.Prelude.{◌≡◌, ◌⊎◌, ◌≤◌, ◌++◌, ◌%◌, ◌^◌, ℕ, [], ◌∷◌, length, IfOk, IfErr, OnOk, unwrap_or};
+ghost use Rattle.std.specs.Prelude.{◌≡◌, ◌⊎◌, ◌≤◌, ◌++◌, ◌%◌, ◌^◌, ℕ, List, [], ◌∷◌, length, IfOk, IfErr, OnOk, unwrap_or};
 ghost use Rattle.std.specs.List.{sum};
 ghost use Rattle.x7_part.specs.AddressOrder.{addresses_in};
-ghost use Rattle.x7_part.specs.Part.{PartData};
+ghost use Rattle.x7_part.specs.Part.{PartData, frame_words};
+ghost use Rattle.x7_part.specs.PartRange.{IsPart};
 ghost use Rattle.x7_memory.specs.Frames.{AreFramesOf, frame_at};
+ghost use Rattle.x7_memory.specs.Planned.{IsPlan};
+ghost use Rattle.x7_planner.specs.Full.{full_stream};
+ghost use Rattle.x7_planner.specs.Refusals.{AreAddressed};
+ghost use Rattle.x7_planner.specs.Telling.{HasTold};
 ghost use Rattle.x7_engine.specs.Kept.{on_the_bench};
 ghost use Rattle.x7_engine.specs.State.{reads_of};
 ghost use Rattle.x7_tool.specs.Generated.{count_line, counted, gen_text, head_line, sum_line, generated, next_number, planned_summary, played_summary, row_by, summary_text, words_sum};
@@ -21,7 +26,7 @@ use crate::text::Text;
 use std::alloc::Global;
 use x7_memory::{Draft, Memory, Plan};
 use x7_part::Part;
-use x7_planner::full;
+use x7_planner::FullStream;
 use x7_text::hex_of_word;
 use x7_words::{Inputs, NoMemory};
 
@@ -117,13 +122,54 @@ fn memory_sum(part: &Part, memory: &Memory) -> u32
     total
 }
 
-/// A new device of the part that took a stream.
-fn play_stream(alloc: Global, part: &Part, stream: &Vec<u8>) -> Result<Player, NoMemory>
-    ensures { IfOk result (λ player. HasPlayed part.now stream.now.items player) }
+/// A device that took a stream, and the bytes of that stream.
+#[derive(Drop)]
+struct Played {
+    player: Player,
+    size: u64,
+}
+
+/// Plays what is left of a stream piece by piece, and tells how many bytes it has. `block` is room for a piece.
+fn play_all(
+    stream: FullStream<'_>,
+    player: &mut Player,
+    block: &mut Vec<u8>,
+) -> Result<u64, NoMemory>
+    requires told { HasTold stream [] }
+    requires played { HasPlayed stream.part [] player.old }
+    requires part { IsPart stream.part }
+    requires plan { IsPlan stream.plan }
+    requires width { stream.plan.width ≡ frame_words stream.part }
+    ensures played { OnOk result (HasPlayed stream.entry.part (full_stream stream.entry.part stream.entry.plan) player.new) }
+    ensures size { IfOk result (λ size. size ≡ length (full_stream stream.entry.part stream.entry.plan)) }
 {
+    let mut stream = stream;
+    let mut size = 0;
+    block.clear();
+    while stream.put_next(block)? {
+        player.play(block)?;
+        size += block.len() as u64;
+        block.clear();
+    }
+    Ok(size)
+}
+
+/// A new device of the part that took the full stream of a plan at its addresses. No more than a piece of the stream is held.
+fn play_full(alloc: Global, part: &Part, plan: &Plan) -> Result<Played, NoMemory>
+    requires width { plan.now.width ≡ frame_words part.now }
+    requires addresses { AreAddressed part.now plan.now.rows }
+    ensures played { IfOk result (λ p. HasPlayed part.now (full_stream part.now plan.now) p.player) }
+    ensures size { IfOk result (λ p. p.size ≡ length (full_stream part.now plan.now)) }
+{
+    let _frames = part.frames();
+    let _rows = plan.len();
+    let Ok(stream) = FullStream::new(part, plan) else {
+        unreachable!()
+    };
     let mut player = Player::new(alloc, part)?;
-    player.play(stream)?;
-    Ok(player)
+    let mut block = Vec::new(alloc);
+    let size = play_all(stream, &mut player, &mut block)?;
+    Ok(Played { player, size })
 }
 
 /// What is told of a stream that was played.
@@ -183,17 +229,16 @@ fn summarized(
     alloc: Global,
     seed: u32,
     planned: usize,
-    stream: &Vec<u8>,
-    player: &Player,
+    played: &Played,
 ) -> Result<Vec<u8>, NoMemory>
-    ensures { IfOk result (λ text. (part : PartData) → HasPlayed part stream.now.items player.now → length (reads_of part on_the_bench stream.now.items) ≤ reads_limit
-        → text.items ≡ played_summary part seed planned stream.now.items) }
+    ensures { IfOk result (λ text. (part : PartData) (stream : List ℕ) → HasPlayed part stream played.now.player → played.now.size ≡ length stream → length (reads_of part on_the_bench stream) ≤ reads_limit
+        → text.items ≡ played_summary part seed planned stream) }
 {
-    let device = player.device();
+    let device = played.player.device();
     let part = device.part();
     let summary = Summary {
         planned: planned as u64,
-        size: stream.len() as u64,
+        size: played.size,
         phase: device.state().phase,
         sum: memory_sum(part, device.memory()),
     };
@@ -211,11 +256,8 @@ pub fn gen_text(alloc: Global, part: &Part, seed: u32) -> Result<Vec<u8>, NoMemo
     let plan = generated(alloc, part, seed)?;
     let _frames = part.frames();
     let planned = plan.len();
-    let Ok(stream) = full(alloc, part, &plan) else {
-        return Err(NoMemory);
-    };
-    let player = play_stream(alloc, part, &stream)?;
-    let text = summarized(alloc, seed, planned, &stream, &player)?;
+    let played = play_full(alloc, part, &plan)?;
+    let text = summarized(alloc, seed, planned, &played)?;
     Ok(text)
 }
 

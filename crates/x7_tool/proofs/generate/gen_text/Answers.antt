@@ -1,16 +1,22 @@
-use Rattle.std.proofs.Common.{ap}
+use Rattle.std.proofs.Common.{ap, refl, sym, subst}
 use Rattle.x7_memory.specs.Planned.{PlanData}
-use Rattle.x7_tool.proofs.GenerateLemmas.{few_reads, gen_is, planned_is}
+use Rattle.x7_planner.specs.Refusals.{AreAddressed}
+use Rattle.x7_planner.specs.Full.{full_stream}
+use Rattle.x7_tool.proofs.GenerateLemmas.{few_reads, gen_is, generated_addressed, planned_is}
 use Rattle.x7_tool.proofs.generate.gen_text.Goals as goal
+
+pub play_full-requires-clause-addresses : goal.play_full-requires-clause-addresses
+play_full-requires-clause-addresses c = subst (λ (p : PlanData). AreAddressed c.args.part.now p.rows) (sym c.in_ok-plan.ensures) (generated_addressed c.args.part.now c.args.seed)
 
 pub returns-clause-text : goal.returns-clause-text
 returns-clause-text c =
     let part = c.args.part.now in
     let plan : PlanData = c.in_ok-plan.plan in
     let width = ap (λ (p : PlanData). p.width) c.in_ok-plan.ensures in
-    let few = few_reads part plan c.in-Ok.stream.items c.frames-frames.ensures.part c.len-planned.ensures.plan width c.in-Ok.ensures.addresses c.in-Ok.ensures.stream in
-    gen_is part c.args.seed c.len-planned.result plan c.in-Ok.stream.items c.in_ok-text.text.items c.in_ok-plan.ensures c.len-planned.ensures.value c.in-Ok.ensures.stream
-    (c.in_ok-text.ensures part c.in_ok-player.ensures few)
+    let addressed = subst (λ (p : PlanData). AreAddressed part p.rows) (sym c.in_ok-plan.ensures) (generated_addressed part c.args.seed) in
+    let few = few_reads part plan (full_stream part plan) c.frames-frames.ensures.part c.len-planned.ensures.plan width addressed refl in
+    gen_is part c.args.seed c.len-planned.result plan (full_stream part plan) c.in_ok-text.text.items c.in_ok-plan.ensures c.len-planned.ensures.value refl
+    (c.in_ok-text.ensures part (full_stream part plan) c.in_ok-played.ensures.played c.in_ok-played.ensures.size few)
 
 pub returns-clause-planned : goal.returns-clause-planned
 returns-clause-planned c = planned_is c.args.part.now c.args.seed c.in_ok-text.text.items c.frames-frames.ensures.part (returns-clause-text c)

@@ -1,4 +1,4 @@
-use Rattle.std.proofs.Common.{arith, false, sym, subst, ap, ◌∙◌}
+use Rattle.std.proofs.Common.{false, sym, subst, ap, ◌∙◌}
 use Rattle.x7_memory.specs.FrameMap.{AreSame, FrameMap}
 use Rattle.x7_memory.specs.Frames.{frame_at}
 use Rattle.x7_engine.specs.declared.regs.Regs.{Regs}
@@ -9,13 +9,13 @@ use Rattle.x7_tool.proofs.PlayerLemmas.{played_all}
 use Rattle.x7_tool.proofs.generate.summarized.Goals as goal
 
 pub returns : goal.returns
-returns c = λ part played few.
-    let p = c.args.player.now in
-    let on = sure p.over part c.args.stream.now.items p.device p.buffer p.reads.items few played in
-    let all = played_all part c.args.stream.now.items p.device p.reads.items on.0 on.1 in
+returns c = λ part stream played size few.
+    let p = c.args.played.now.player in
+    let on = sure p.over part stream p.device p.buffer p.reads.items few played in
+    let all = played_all part stream p.device p.reads.items on.0 on.1 in
     let stands : DeviceStandsFor part on_the_bench false c.device-device.result.now all.prefix = subst (λ (d : DeviceState). DeviceStandsFor part on_the_bench false d all.prefix) (sym c.device-device.ensures) all.stands in
     let due : NoWordDue c.device-device.result.now = subst (λ (d : DeviceState). NoWordDue d) (sym c.device-device.ensures) all.none_due in
     let state = c.state.ensures.value part on_the_bench false all.prefix stands due ∙ sym all.state in
     let memory = subst (λ (m : FrameMap). AreSame (frame_at part c.memory.result.now) m) (sym all.memory) (c.memory.ensures.shows part on_the_bench false all.prefix stands) in
-    summary_is c.part-part.result.now part c.name.result.now c.args.seed c.args.planned c.len.result _ _ c.memory.result.now c.args.stream.now.items c.new-text.result.items c.put_summary.new.text.items
-    c.name.ensures (c.part-part.ensures.value part on_the_bench false all.prefix stands) (omega (arith, c.len.ensures, c.args.stream.now.ok.0)) (ap (λ (r : Regs). r.phase) state) c.memory_sum.ensures memory c.new-text.ensures.items c.in_ok-put_summary.ensures
+    summary_is c.part-part.result.now part c.name.result.now c.args.seed c.args.planned c.args.played.now.size _ _ c.memory.result.now stream c.new-text.result.items c.put_summary.new.text.items
+    c.name.ensures (c.part-part.ensures.value part on_the_bench false all.prefix stands) size (ap (λ (r : Regs). r.phase) state) c.memory_sum.ensures memory c.new-text.ensures.items c.in_ok-put_summary.ensures
