@@ -127,14 +127,7 @@ pub fn boot<F: Flash>(alloc: Global, part: &Part, flash: &mut F) -> Result<Boote
     let mut last_address = 0;
     let mut number = 0;
     'attempts: loop {
-        let ending = try_once(
-            &mut device,
-            flash,
-            &mut pages,
-            keep,
-            address,
-            last_address,
-        )?;
+        let ending = try_once(&mut device, flash, &mut pages, keep, address, last_address)?;
         let Ok(()) = attempts.push(Tried {
             kind: keep.kind,
             address,

@@ -168,14 +168,23 @@ fn sixty_four_pages_are_kept(rt: HostRuntime) {
     // the length of a flash, and the calls of an attempt and a fallback
     let cases = [(262_144, 65), (262_145, 131)];
     for (length, calls) in cases {
-        assert_eq!(rt; calls_with_dummies(rt.alloc(), session, length), Ok((2, calls)));
+        assert_eq!(rt;
+            calls_with_dummies(rt.alloc(), session, length),
+            Ok((2, calls))
+        );
     }
 }
 
 #[test]
 fn a_flash_of_dummy_words_is_read_once(rt: HostRuntime) {
     // the length of a flash, and the calls of an attempt and a fallback: the attach, and one for each page
-    let cases = [(0, 1), (4_096, 2), (262_144, 65), (262_145, 66), (1_048_576, 257)];
+    let cases = [
+        (0, 1),
+        (4_096, 2),
+        (262_144, 65),
+        (262_145, 66),
+        (1_048_576, 257),
+    ];
     for (length, calls) in cases {
         assert_eq!(rt; calls_with_dummies(rt.alloc(), b"", length), Ok((2, calls)));
     }

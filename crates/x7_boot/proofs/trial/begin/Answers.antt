@@ -11,7 +11,7 @@ returns-then-takes_the_gap_again c = λ known left.
     let again = c.takes_the_gap_again.ensures in
     let same : c.args.last_address ≡ c.args.address = again.address c.if-takes_the_gap_again.true in
     let feeds = feeds_gap c.args.keep c.args.last_address c.taken.result known c.args.device.now c.reset_in_gap.new.self left (again.gap c.if-takes_the_gap_again.true) (again.fallback c.if-takes_the_gap_again.true)
-        (c.taken.ensures.now ∙ c.reset_in_gap.ensures.taken) c.reset_in_gap.ensures.stands c.reset_in_gap.ensures.due in
+    (c.taken.ensures.now ∙ c.reset_in_gap.ensures.taken) c.reset_in_gap.ensures.stands c.reset_in_gap.ensures.due in
     subst (λ (n : ℕ). Feeds c.args.device.now.part c.args.keep c.args.address known c.reset_in_gap.new.self (n + c.taken.result)) (sym c.from.ensures)
     (subst (λ (n : ℕ). Feeds c.args.device.now.part c.args.keep n known c.reset_in_gap.new.self (n + c.taken.result)) same feeds)
 
