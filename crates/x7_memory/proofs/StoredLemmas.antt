@@ -1,71 +1,50 @@
 -- A memory by its fields.
-use Rattle.std.proofs.Common.{◌≡◌, ℕ, suc, ◌+◌, ◌-◌, ◌*◌, ◌<◌, ◌≤◌, List, [], ◌∷◌, ◌++◌, length, get_or, set, take, drop, replicate, All, refl, sym, ap, ◌∙◌, arith, append-nil}
+use Rattle.std.proofs.Common.{◌≡◌, ◌≢◌, ℕ, zero, suc, ◌+◌, ◌-◌, ◌*◌, ◌<◌, ◌≤◌, ◌⊎◌, List, [], ◌++◌, length, get_or, set, take, drop, replicate, map, inl, inr, refl, sym, ap, ◌∙◌, arith}
 use Rattle.std.proofs.Math.Nat.{mul-le-mul, mul-le-mul_left, mul-suc}
-use Rattle.std.proofs.lemmas.Bool.{cases_lt}
-use Rattle.std.proofs.Common.{inl, inr}
+use Rattle.std.proofs.lemmas.Bool.{cases_eq, cases_lt}
+use Rattle.std.proofs.lemmas.List.{length-take-le, length-drop, length-append, length-map, length-set, drop_at, take-append-le, drop-append-le, take_all, ext_get_or, get_or-map, get_or-set_same, get_or-set_other}
+use Rattle.std.proofs.lemmas.List.Sums.{sum_by-le, sum_by-set}
+use Rattle.std.specs.List.{sum_by}
 use Rattle.std.specs.Prelude.{vec_capacity}
-use Rattle.std.proofs.lemmas.List.{length-take-le, length-drop, length-append, length-replicate, drop-drop, drop_at, take-append-le, drop-append-le, take-replicate, drop-replicate, take_all, drop_all}
 use Rattle.x7_memory.specs.declared.memory.Memory.TheInside.{Inside}
-use Rattle.x7_memory.specs.Flat.{cut, filled, put_over, with_zeros}
-use Rattle.x7_memory.specs.Stored.{seen, HasRoom}
-use Rattle.x7_memory.proofs.FlatLemmas.{cut_length, cut_at, cut_set, cut_widths, frame_end, filled_length, filled_more, filled_over}
+use Rattle.x7_memory.specs.Flat.{cut, put_over}
+use Rattle.x7_memory.specs.Stored.{seen, stored_frame, own_frames, AreApart, HasRoom}
+use Rattle.x7_memory.proofs.FlatLemmas.{cut_length, cut_at, cut_set, frame_end}
 
--- a place of a frame
-pub record IsRank (m : Inside) (rank : ℕ) : Type 0 where
-  pub below : rank < m.count
-  pub end : m.width * rank + m.width ≤ m.width * m.count
-  pub small : m.width * m.count ≤ 33423360
+-- ---- frames that are stored one after another
 
-pub is_rank : (m : Inside) (rank : ℕ) → HasRoom m → rank < length (seen m) → IsRank m rank
-is_rank m rank is h =
-    let n : length (seen m) ≡ m.count = cut_length m.width m.count (filled m.width m.count m.words.items) in
-    let all : m.width * m.count ≤ 255 * 131072 = mul-le-mul is.narrow is.few in
-    record { below = omega arith; end = frame_end m.width m.count rank (omega arith); small = omega arith }
+pub stored_width : (w n p : ℕ) (ws : List ℕ) → p < n → length ws ≡ w * n → length (stored_frame w ws p) ≡ w
+stored_width w n p ws h e =
+    let end = frame_end w n p h in
+    let left : length (drop (w * p) ws) ≡ length ws - w * p = length-drop (w * p) ws in
+    length-take-le w (drop (w * p) ws) (omega arith)
 
--- the words that are stored have no part of a frame
-pub whole_frame : (w rank frames long : ℕ) → long ≡ w * frames → w * rank < long → w * rank + w ≤ long
-whole_frame w rank frames long e h =
-    elim (cases_lt rank frames) [
-      | inl low ↦ let end = frame_end w frames rank low in omega arith
-      | inr high ↦ let up : w * frames ≤ w * rank = mul-le-mul_left w high in absurd (omega arith)
-    ]
+-- one more behind them
+pub frame_before : (w n p : ℕ) (ws new : List ℕ) → p < n → length ws ≡ w * n → stored_frame w (ws ++ new) p ≡ stored_frame w ws p
+frame_before w n p ws new h e =
+    let end = frame_end w n p h in
+    let left : length (drop (w * p) ws) ≡ length ws - w * p = length-drop (w * p) ws in
+    ap (take w) (drop-append-le (w * p) ws new (omega arith)) ∙ take-append-le w (drop (w * p) ws) new (omega arith)
 
-pub stored_frame : (m : Inside) (rank : ℕ) (d : List ℕ) → HasRoom m → IsRank m rank → m.width * rank < length m.words.items →
-    take m.width (drop (m.width * rank) m.words.items) ≡ get_or (seen m) rank d
-stored_frame m rank d is r h =
-    let ws = m.words.items in
-    let a = m.width * rank in
-    let z = replicate (m.width * m.count - length ws) 0 in
-    let end : a + m.width ≤ length ws = whole_frame m.width rank is.whole.0 (length ws) is.whole.1 h in
-    let left : length (drop a ws) ≡ length ws - a = length-drop a ws in
-    sym (cut_at m.width m.count rank (filled m.width m.count ws) d r.below
-    ∙ ap (take m.width) (drop-append-le a ws z (omega arith))
-    ∙ take-append-le m.width (drop a ws) z (omega arith))
+pub frame_behind : (w n : ℕ) (ws new : List ℕ) → length ws ≡ w * n → length new ≡ w → stored_frame w (ws ++ new) n ≡ new
+frame_behind w n ws new e f = ap (take w) (drop_at ws new (w * n) e) ∙ take_all w new (omega arith)
 
-pub no_frame : (m : Inside) (rank : ℕ) (d zeros : List ℕ) → HasRoom m → IsRank m rank → length m.words.items ≤ m.width * rank → zeros ≡ replicate 255 0 →
-    take m.width zeros ≡ get_or (seen m) rank d
-no_frame m rank d zeros is r h e =
-    let ws = m.words.items in
-    let a = m.width * rank in
-    let z = replicate (m.width * m.count - length ws) 0 in
-    let end = r.end in
-    let split : length ws + (a - length ws) ≡ a = omega arith in
-    let behind : drop a (ws ++ z) ≡ drop (a - length ws) z =
-    ap (λ k. drop k (ws ++ z)) (sym split) ∙ sym (drop-drop (a - length ws) (length ws) (ws ++ z)) ∙ ap (drop (a - length ws)) (drop_at ws z (length ws) refl) in
-    let rest : drop (a - length ws) z ≡ replicate (m.width * m.count - length ws - (a - length ws)) 0 = drop-replicate (a - length ws) (m.width * m.count - length ws) 0 in
-    let first : take m.width (replicate (m.width * m.count - length ws - (a - length ws)) 0) ≡ replicate m.width 0 =
-    take-replicate m.width (m.width * m.count - length ws - (a - length ws)) 0 (omega arith) in
-    ap (take m.width) e ∙ take-replicate m.width 255 0 is.narrow
-    ∙ sym (cut_at m.width m.count rank (filled m.width m.count ws) d r.below ∙ ap (take m.width) (behind ∙ rest) ∙ first)
+-- one written over
+frame_over : (w n p q : ℕ) (ws new : List ℕ) → p < n → q < n → length ws ≡ w * n → length new ≡ w →
+    stored_frame w (put_over (w * p) new ws) q ≡ get_or (set (cut w n ws) p new) q []
+frame_over w n p q ws new h i e f =
+    sym (cut_at w n q (put_over (w * p) new ws) [] i)
+    ∙ ap (λ fs. get_or fs q []) (ap (λ k. cut w n (take (w * p) ws ++ (new ++ drop (w * p + k) ws))) f ∙ cut_set w n p ws new h f (omega arith))
 
-pub more_length : (ws : List ℕ) (k : ℕ) → length (ws ++ replicate (k - length ws) 0) ≡ length ws + (k - length ws)
-more_length ws k = length-append ws (replicate (k - length ws) 0) ∙ ap (λ j. length ws + j) (length-replicate (k - length ws) 0)
+pub over_same : (w n p : ℕ) (ws new : List ℕ) → p < n → length ws ≡ w * n → length new ≡ w → stored_frame w (put_over (w * p) new ws) p ≡ new
+over_same w n p ws new h e f =
+    let all : length (cut w n ws) ≡ n = cut_length w n ws in
+    frame_over w n p p ws new h h e f ∙ get_or-set_same (cut w n ws) p new [] (omega arith)
 
-pub stored_few : (m : Inside) → HasRoom m → length m.words.items ≤ m.width * m.count
-stored_few m is =
-    let e = is.whole.1 in
-    let le : m.width * is.whole.0 ≤ m.width * m.count = mul-le-mul_left m.width is.whole.2 in
-    omega arith
+pub over_other : (w n p q : ℕ) (ws new : List ℕ) → p < n → q < n → q ≢ p → length ws ≡ w * n → length new ≡ w →
+    stored_frame w (put_over (w * p) new ws) q ≡ stored_frame w ws q
+over_other w n p q ws new h i ne e f =
+    frame_over w n p q ws new h i e f ∙ get_or-set_other (cut w n ws) p q new [] ne ∙ cut_at w n q ws [] i
 
 pub over_length : (a : ℕ) (ws new : List ℕ) → a + length new ≤ length ws → length (take a ws ++ (new ++ drop (a + length new) ws)) ≡ length ws
 over_length a ws new h =
@@ -76,61 +55,194 @@ over_length a ws new h =
     length-append (take a ws) (new ++ drop (a + length new) ws) in
     omega arith
 
--- a frame that is appended
-pub appended : (ws new : List ℕ) (a : ℕ) → a ≡ length ws → ws ++ new ≡ put_over a new (with_zeros (a + length new) ws)
-appended ws new a e =
-    let k = a + length new in
-    let more = with_zeros k ws in
-    let long : length more ≡ length ws + (k - length ws) = more_length ws k in
-    let front : take a more ≡ ws = take-append-le a ws (replicate (k - length ws) 0) (omega arith) ∙ take_all a ws (omega arith) in
-    let back : drop k more ≡ [] = drop_all k more (omega arith) in
-    sym (ap (λ t. t ++ (new ++ drop k more)) front ∙ ap (λ t. ws ++ (new ++ t)) back ∙ ap (λ t. ws ++ t) (append-nil new))
+-- ---- the frames by rank
 
--- a frame that is put
-pub put_frame : (m : Inside) (rank : ℕ) (more over new : List ℕ) → HasRoom m → IsRank m rank → length new ≡ m.width →
-    more ≡ m.words.items ++ replicate (m.width * rank + m.width - length m.words.items) 0 →
-    over ≡ take (m.width * rank) more ++ (new ++ drop (m.width * rank + length new) more) →
-    cut m.width m.count (filled m.width m.count over) ≡ set (seen m) rank new
-put_frame m rank more over new is r e f g =
-    let ws = m.words.items in
-    let w = m.width in
-    let n = m.count in
-    let end = r.end in
-    let k = w * rank + w in
-    let long : length more ≡ length ws + (k - length ws) = ap length f ∙ more_length ws k in
-    let few : length ws ≤ w * n = stored_few m is in
-    let all : length (filled w n ws) ≡ w * n = filled_length w n ws few in
-    let same : filled w n more ≡ filled w n ws = ap (filled w n) f ∙ filled_more w n k ws end few in
-    ap (λ x. cut w n (filled w n x)) g
-    ∙ ap (cut w n) (filled_over w n (w * rank) more new e (omega arith) (omega arith) ∙ ap (λ t. take (w * rank) t ++ (new ++ drop (w * rank + w) t)) same)
-    ∙ cut_set w n rank (filled w n ws) new r.below e (omega arith)
+-- the frame of one rank changes alone
+pub seen_set : (w : ℕ) (ws us numbers others : List ℕ) (rank : ℕ) (new : List ℕ) → length others ≡ length numbers → rank < length numbers →
+    stored_frame w us (get_or others rank 0) ≡ new →
+    ((i : ℕ) → i < length numbers → i ≢ rank → stored_frame w us (get_or others i 0) ≡ stored_frame w ws (get_or numbers i 0)) →
+    map (stored_frame w us) others ≡ set (map (stored_frame w ws) numbers) rank new
+seen_set w ws us numbers others rank new long inside here there =
+    let old = map (stored_frame w ws) numbers in
+    let n : length (map (stored_frame w us) others) ≡ length others = length-map others (stored_frame w us) in
+    let m : length old ≡ length numbers = length-map numbers (stored_frame w ws) in
+    let k : length (set old rank new) ≡ length old = length-set old rank new in
+    ext_get_or [] (map (stored_frame w us) others) (set old rank new) (omega arith) (λ i h.
+    get_or-map (stored_frame w us) others i 0 [] (omega arith) ∙
+    elim (cases_eq i rank) [
+      | inl e ↦ rw e (here ∙ sym (get_or-set_same old rank new [] (omega arith)))
+      | inr ne ↦ there i (omega arith) ne ∙ sym (get_or-set_other old rank i new [] ne ∙ get_or-map (stored_frame w ws) numbers i 0 [] (omega arith))
+    ])
 
-pub whole_after : (m : Inside) (rank long : ℕ) → HasRoom m → IsRank m rank → long ≡ length m.words.items + (m.width * rank + m.width - length m.words.items) →
-    (frames : ℕ) × (long ≡ m.width * frames) × (frames ≤ m.count)
-whole_after m rank long is r e =
-    let below = r.below in
-    let next : m.width * suc rank ≡ m.width * rank + m.width = mul-suc m.width rank in
-    elim (cases_lt (length m.words.items) (m.width * rank + m.width)) [
-      | inl low ↦ (suc rank, (omega arith), (omega arith))
-      | inr high ↦ (is.whole.0, (let s = is.whole.1 in omega arith), is.whole.2)
-    ]
+-- ---- ranks
 
--- the fields behind a put have room as before
-pub room_after : (m p : Inside) (rank : ℕ) (more : List ℕ) → HasRoom m → IsRank m rank → p.width ≡ m.width → p.count ≡ m.count → vec_capacity m.words ≤ vec_capacity p.words →
-    more ≡ m.words.items ++ replicate (m.width * rank + m.width - length m.words.items) 0 → length p.words.items ≡ length more → HasRoom p
-room_after m p rank more is r ew ec cap f l =
-    let ws = m.words.items in
-    let k = m.width * rank + m.width in
-    let long : length more ≡ length ws + (k - length ws) = ap length f ∙ more_length ws k in
-    let some = is.some in let narrow = is.narrow in let few = is.few in let room = is.room in
-    record { some = omega arith; narrow = omega arith; few = omega arith; room = rw (ew, ec) (omega arith); whole = rw (ew, ec) (whole_after m rank (length p.words.items) is r (l ∙ long)) }
+pub seen_count : (m : Inside) (frames : List (List ℕ)) → seen m ≡ frames → length frames ≡ length m.numbers.items
+seen_count m frames e = ap length (sym e) ∙ length-map m.numbers.items (stored_frame m.width m.words.items)
 
--- a frame as long as the one that stands at a place
+-- a rank, and the number of its frame
+pub record IsRank (m : Inside) (rank : ℕ) : Type 0 where
+  pub inside : rank < length m.numbers.items
+  pub below : get_or m.numbers.items rank 0 < m.stored
+  pub end : m.width * get_or m.numbers.items rank 0 + m.width ≤ m.width * m.stored
+  pub small : m.width * m.stored ≤ 33423615
+
+own_most : (n : ℕ) → own_frames n ≤ 1
+own_most zero = omega arith
+own_most (suc n) = omega arith
+
+own_some : (n : ℕ) → 0 < n → own_frames n ≡ 1
+own_some zero h = absurd (omega arith)
+own_some (suc n) h = refl
+
+pub ones_most : (numbers : List ℕ) → sum_by own_frames numbers ≤ length numbers
+ones_most numbers = let ones = sum_by-le own_frames 1 numbers (λ i d h. own_most (get_or numbers i d)) in omega arith
+
+pub stored_few : (m : Inside) → HasRoom m → m.stored ≤ length m.numbers.items + 1
+stored_few m is =
+    let ones = ones_most m.numbers.items in
+    let used = is.used in
+    omega arith
+
+pub is_rank : (m : Inside) (rank : ℕ) → HasRoom m → rank < length (seen m) → IsRank m rank
+is_rank m rank is h =
+    let n : length (seen m) ≡ length m.numbers.items = length-map m.numbers.items (stored_frame m.width m.words.items) in
+    let low : get_or m.numbers.items rank 0 < m.stored = is.below rank (omega arith) in
+    let few = stored_few m is in
+    let limit = is.few in
+    let all : m.width * m.stored ≤ 255 * 131073 = mul-le-mul is.narrow (let s : m.stored ≤ 131073 = omega arith in s) in
+    record { inside = omega arith; below = low; end = frame_end m.width m.stored (get_or m.numbers.items rank 0) low; small = omega arith }
+
+pub own_number : {n k : ℕ} → n ≡ k → (n ≡ 0 → ⊥) → 0 < k
+own_number {n} {k} e own = elim (cases_lt 0 k) [
+  | inl h ↦ h
+  | inr z ↦ absurd (own (omega arith))
+]
+
+-- there is room for the first frame of its own at a rank
+pub next_room : (m : Inside) → HasRoom m → m.stored ≤ length m.numbers.items → m.width * m.stored + m.width ≤ vec_capacity m.words
+next_room m is h =
+    let next : m.width * suc m.stored ≡ m.width * m.stored + m.width = mul-suc m.width m.stored in
+    let most : m.width * suc m.stored ≤ m.width * (length m.numbers.items + 1) = mul-le-mul_left m.width (omega arith) in
+    let room = is.room in
+    omega arith
+
+-- a frame as long as the one that stands at a rank
 pub new_width : (m : Inside) (rank : ℕ) (new : List ℕ) (frames : List (List ℕ)) → HasRoom m → IsRank m rank → seen m ≡ frames →
     length new ≡ length (get_or frames rank []) → length new ≡ m.width
 new_width m rank new frames is r e f =
-    let all : length (filled m.width m.count m.words.items) ≡ m.width * m.count = filled_length m.width m.count m.words.items (stored_few m is) in
-    let widths = cut_widths m.width m.count (filled m.width m.count m.words.items) (omega arith) in
-    let n : length (seen m) ≡ m.count = cut_length m.width m.count (filled m.width m.count m.words.items) in
-    let below = r.below in
-    f ∙ ap (λ l. length (get_or l rank [])) (sym e) ∙ widths rank [] (omega arith)
+    f ∙ ap (λ l. length (get_or l rank [])) (sym e)
+    ∙ ap length (get_or-map (stored_frame m.width m.words.items) m.numbers.items rank 0 [] r.inside)
+    ∙ stored_width m.width m.stored (get_or m.numbers.items rank 0) m.words.items r.below is.whole
+
+-- ---- a frame written over the one of its rank
+
+pub over_seen : (m : Inside) (rank : ℕ) (us new : List ℕ) → HasRoom m → IsRank m rank → 0 < get_or m.numbers.items rank 0 → length new ≡ m.width →
+    us ≡ put_over (m.width * get_or m.numbers.items rank 0) new m.words.items → map (stored_frame m.width us) m.numbers.items ≡ set (seen m) rank new
+over_seen m rank us new is r own e f =
+    let number = get_or m.numbers.items rank 0 in
+    seen_set m.width m.words.items us m.numbers.items m.numbers.items rank new refl r.inside
+    (ap (λ ws. stored_frame m.width ws number) f ∙ over_same m.width m.stored number m.words.items new r.below is.whole e)
+    (λ i h ne. ap (λ ws. stored_frame m.width ws (get_or m.numbers.items i 0)) f
+    ∙ over_other m.width m.stored number (get_or m.numbers.items i 0) m.words.items new r.below (is.below i h) (λ same. ne (sym (is.apart rank i r.inside h own (sym same)))) is.whole e)
+
+pub over_room : (m p : Inside) (rank : ℕ) (new : List ℕ) → HasRoom m → IsRank m rank → 0 < get_or m.numbers.items rank 0 → length new ≡ m.width →
+    p.width ≡ m.width → p.stored ≡ m.stored → p.numbers.items ≡ m.numbers.items → vec_capacity m.words ≤ vec_capacity p.words →
+    p.words.items ≡ put_over (m.width * get_or m.numbers.items rank 0) new m.words.items → HasRoom p
+over_room m p rank new is r own e ew es en cap f =
+    let number = get_or m.numbers.items rank 0 in
+    let some = is.some in let narrow = is.narrow in let few = is.few in let room = is.room in let whole = is.whole in let end = r.end in
+    let low = r.below in
+    let long : length p.words.items ≡ length m.words.items = ap length f ∙ over_length (m.width * number) m.words.items new (omega arith) in
+    record {
+      some = omega arith;
+      narrow = omega arith;
+      few = rw en few;
+      room = rw (ew, en) (omega arith);
+      whole = rw (ew, es) (long ∙ whole);
+      zeros = rw (ew, f) (over_other m.width m.stored number 0 m.words.items new low (omega arith) (λ z. omega arith) whole e ∙ is.zeros);
+      used = rw (es, en) is.used;
+      below = rw (es, en) is.below;
+      apart = rw en is.apart;
+    }
+
+-- ---- zeros at a rank of zeros
+
+pub none_seen : (m : Inside) (rank : ℕ) (new : List ℕ) → HasRoom m → IsRank m rank → get_or m.numbers.items rank 0 ≡ 0 → length new ≡ m.width →
+    new ≡ replicate (length new) 0 → seen m ≡ set (seen m) rank new
+none_seen m rank new is r none e z =
+    seen_set m.width m.words.items m.words.items m.numbers.items m.numbers.items rank new refl r.inside
+    (ap (stored_frame m.width m.words.items) none ∙ is.zeros ∙ sym (z ∙ ap (λ k. replicate k 0) e)) (λ i h ne. refl)
+
+-- ---- the first frame of its own at a rank
+
+pub first_room : (m : Inside) (rank : ℕ) → HasRoom m → IsRank m rank → get_or m.numbers.items rank 0 ≡ 0 → m.stored ≤ length m.numbers.items
+first_room m rank is r none =
+    let set_one = sum_by-set own_frames m.numbers.items rank 1 0 r.inside in
+    let ones = ones_most (set m.numbers.items rank 1) in
+    let long = length-set m.numbers.items rank 1 in
+    let zero_one : own_frames (get_or m.numbers.items rank 0) ≡ 0 = ap own_frames none in
+    let one : own_frames 1 ≡ 1 = refl in
+    let used = is.used in
+    omega arith
+
+-- a rank's number is its old one or the new one
+number_after : (numbers : List ℕ) (rank number i : ℕ) → rank < length numbers →
+    ((i ≡ rank) × (get_or (set numbers rank number) i 0 ≡ number)) ⊎ ((i ≢ rank) × (get_or (set numbers rank number) i 0 ≡ get_or numbers i 0))
+number_after numbers rank number i h =
+    elim (cases_eq i rank) [
+      | inl e ↦ inl (e, rw e (get_or-set_same numbers rank number 0 h))
+      | inr ne ↦ inr (ne, get_or-set_other numbers rank i number 0 ne)
+    ]
+
+first_below : (m : Inside) (rank : ℕ) → HasRoom m → IsRank m rank → (i : ℕ) → i < length m.numbers.items → get_or (set m.numbers.items rank m.stored) i 0 < m.stored + 1
+first_below m rank is r i h =
+    elim (number_after m.numbers.items rank m.stored i r.inside) [
+      | inl (e, n) ↦ omega arith
+      | inr (ne, n) ↦ let low = is.below i h in omega arith
+    ]
+
+first_apart : (m : Inside) (rank : ℕ) → HasRoom m → IsRank m rank → AreApart (set m.numbers.items rank m.stored)
+first_apart m rank is r i j h k some same =
+    let long = length-set m.numbers.items rank m.stored in
+    elim (number_after m.numbers.items rank m.stored i r.inside) [
+      | inl (e, n) ↦ elim (number_after m.numbers.items rank m.stored j r.inside) [
+        | inl (f, o) ↦ e ∙ sym f
+        | inr (ne, o) ↦ let low = is.below j (omega arith) in absurd (omega arith)
+      ]
+      | inr (ne, n) ↦ elim (number_after m.numbers.items rank m.stored j r.inside) [
+        | inl (f, o) ↦ let low = is.below i (omega arith) in absurd (omega arith)
+        | inr (of, o) ↦ is.apart i j (omega arith) (omega arith) (omega arith) (omega arith)
+      ]
+    ]
+
+pub first_seen : (m : Inside) (rank : ℕ) (us others new : List ℕ) → HasRoom m → IsRank m rank → length new ≡ m.width →
+    us ≡ m.words.items ++ new → others ≡ set m.numbers.items rank m.stored → map (stored_frame m.width us) others ≡ set (seen m) rank new
+first_seen m rank us others new is r e f g =
+    rw (f, g) (seen_set m.width m.words.items (m.words.items ++ new) m.numbers.items (set m.numbers.items rank m.stored) rank new (length-set m.numbers.items rank m.stored) r.inside
+    (ap (stored_frame m.width (m.words.items ++ new)) (get_or-set_same m.numbers.items rank m.stored 0 r.inside) ∙ frame_behind m.width m.stored m.words.items new is.whole e)
+    (λ i h ne. ap (stored_frame m.width (m.words.items ++ new)) (get_or-set_other m.numbers.items rank i m.stored 0 ne)
+    ∙ frame_before m.width m.stored (get_or m.numbers.items i 0) m.words.items new (is.below i h) is.whole))
+
+pub first_fields : (m p : Inside) (rank : ℕ) (new : List ℕ) → HasRoom m → IsRank m rank → get_or m.numbers.items rank 0 ≡ 0 → length new ≡ m.width →
+    p.width ≡ m.width → p.stored ≡ m.stored + 1 → p.numbers.items ≡ set m.numbers.items rank m.stored → vec_capacity m.words ≤ vec_capacity p.words →
+    p.words.items ≡ m.words.items ++ new → HasRoom p
+first_fields m p rank new is r none e ew es en cap f =
+    let some = is.some in let narrow = is.narrow in let few = is.few in let room = is.room in let whole = is.whole in let used = is.used in
+    let long = length-set m.numbers.items rank m.stored in
+    let more : length p.words.items ≡ length m.words.items + length new = ap length f ∙ length-append m.words.items new in
+    let next : m.width * suc m.stored ≡ m.width * m.stored + m.width = mul-suc m.width m.stored in
+    let ones = sum_by-set own_frames m.numbers.items rank m.stored 0 r.inside in
+    let none_own : own_frames (get_or m.numbers.items rank 0) ≡ 0 = ap own_frames none in
+    let one = own_some m.stored (omega arith) in
+    let low = r.below in
+    record {
+      some = omega arith;
+      narrow = omega arith;
+      few = rw (en, long) few;
+      room = rw (ew, en, long) (omega arith);
+      whole = rw (ew, es) (more ∙ (omega arith));
+      zeros = rw (ew, f) (frame_before m.width m.stored 0 m.words.items new (omega arith) whole ∙ is.zeros);
+      used = rw (es, en) (omega arith);
+      below = rw (es, en, long) (first_below m rank is r);
+      apart = rw en (first_apart m rank is r);
+    }

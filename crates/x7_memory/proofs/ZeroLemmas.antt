@@ -1,16 +1,40 @@
 -- Memories of zeros.
-use Rattle.std.proofs.Common.{◌≡◌, ℕ, zero, suc, ◌*◌, ◌<◌, ◌^◌, List, [], ◌++◌, length, get_or, replicate, All, inl, inr, refl, sym, ap, ◌∙◌, arith, subst}
+use Rattle.std.proofs.Common.{◌≡◌, ℕ, zero, suc, ◌+◌, ◌*◌, ◌<◌, ◌≤◌, List, [], ◌∷◌, ◌++◌, length, get_or, bit_or, take, drop, replicate, map, All, IsTrue, ◌==◌, inl, inr, refl, sym, ap, ◌∙◌, arith}
+use Rattle.std.proofs.Math.Nat.{eq-zero-or-pos, mul-zero}
+use Rattle.std.specs.Int.Bits.{or_zero_l}
+use Rattle.std.proofs.lemmas.Nat.{le_or_l}
 use Rattle.std.proofs.lemmas.Bool.{cases_lt}
-use Rattle.std.proofs.lemmas.List.{length-replicate, get_or-replicate}
+use Rattle.std.proofs.lemmas.Bool.Decides.{eqb_tells}
+use Rattle.std.proofs.lemmas.List.{length-replicate, length-map, get_or-map, get_or-replicate, take_all, take_more, replicate_more}
+use Rattle.std.proofs.lemmas.List.Folds.{sum_by-replicate}
+use Rattle.std.specs.List.{sum_by}
+use Rattle.std.specs.Prelude.{vec_capacity}
 use Rattle.x7_words.specs.Word.{AreWords}
 use Rattle.x7_part.specs.Part.{PartData, frame_words}
 use Rattle.x7_part.specs.AddressOrder.{addresses_in, Rises}
 use Rattle.x7_memory.specs.declared.memory.Memory.TheInside.{Inside}
-use Rattle.x7_memory.specs.Flat.{cut, filled}
 use Rattle.x7_memory.specs.Frames.{zero_frames, AreFramesOf}
-use Rattle.x7_memory.specs.Stored.{seen, HasRoom}
-use Rattle.x7_memory.proofs.FlatLemmas.{cut_length, cut_widths, cut_zeros, filled_length, filled_none}
-use Rattle.x7_memory.proofs.StoredLemmas.{stored_few}
+use Rattle.x7_memory.specs.Stored.{seen, stored_frame, own_frames, HasRoom}
+use Rattle.x7_memory.proofs.StoredLemmas.{is_rank, stored_width}
+
+-- ---- words of which none has a bit
+
+pub equal : (x y : ℕ) → IsTrue (x == y) → x ≡ y
+equal x y t = elim (eqb_tells x y) [ inl e ↦ e.1 | inr e ↦ absurd (cc (e.0, t)) ]
+
+no_bit : (a w : ℕ) → bit_or a w ≡ 0 → (a ≡ 0) × (w ≡ 0)
+no_bit a w e = elim (eq-zero-or-pos a) [
+  | inl z ↦ (z, sym (or_zero_l w) ∙ ap (λ n. bit_or n w) (sym z) ∙ e)
+  | inr h ↦ let more : a ≤ bit_or a w = le_or_l a w in absurd (omega arith)
+]
+
+pub more_zeros : (words : List ℕ) (i any : ℕ) → i < length words → (any ≡ 0 → take i words ≡ replicate i 0) → bit_or any (get_or words i 0) ≡ 0 →
+    take (i + 1) words ≡ replicate (i + 1) 0
+more_zeros words i any h before e =
+    let none = no_bit any (get_or words i 0) e in
+    take_more words i 0 h ∙ ap (λ f. f ++ get_or words i 0 ∷ []) (before none.0) ∙ ap (λ w. replicate i 0 ++ w ∷ []) none.1 ∙ replicate_more i 0
+
+-- ---- frames of zeros
 
 alike : {X : Type 0} (P : X → Type 0) (n : ℕ) (x : X) → P x → All P (replicate n x)
 alike P n x p k d h = let long : length (replicate n x) ≡ n = length-replicate n x in rw (get_or-replicate n k x d (omega arith)) p
@@ -28,29 +52,66 @@ zeros_are part rises = record {
   words = alike AreWords (length (addresses_in part)) (replicate (frame_words part) 0) (zero_words (frame_words part));
 }
 
-pub none_stored : (width count : ℕ) (words : List ℕ) → words ≡ [] → cut width count (filled width count words) ≡ replicate count (replicate width 0)
-none_stored width count words e = rw e (ap (cut width count) (filled_none width count) ∙ cut_zeros width count)
+-- the first frame that is stored
+pub first_zeros : (m : Inside) → HasRoom m → take m.width m.words.items ≡ replicate m.width 0
+first_zeros m is = ap (λ k. take m.width (drop k m.words.items)) (sym (mul-zero m.width)) ∙ is.zeros
 
-pub new_zeros : (part : PartData) (width count : ℕ) (words : List ℕ) → width ≡ frame_words part → count ≡ length (addresses_in part) → words ≡ [] →
-    cut width count (filled width count words) ≡ zero_frames part
-new_zeros part width count words w n e = none_stored width count words e ∙ rw (w, n) refl
+-- ---- fields of which no rank has a frame of its own
 
-pub cleared : (part : PartData) (m : Inside) (frames : List (List ℕ)) (words : List ℕ) → HasRoom m → seen m ≡ frames → AreFramesOf part frames → words ≡ [] →
-    cut m.width m.count (filled m.width m.count words) ≡ zero_frames part
-cleared part m frames words is e are none =
-    let long : length (seen m) ≡ m.count = cut_length m.width m.count (filled m.width m.count m.words.items) in
-    let n : m.count ≡ length (addresses_in part) = sym long ∙ ap length e ∙ are.count in
-    none_stored m.width m.count words none ∙
-    elim (cases_lt 0 m.count) [
+map_alike : {X Y : Type 0} (f : X → Y) (n : ℕ) (x : X) → map f (replicate n x) ≡ replicate n (f x)
+map_alike f zero x = refl
+map_alike f (suc n) x = ap (λ ys. f x ∷ ys) (map_alike f n x)
+
+pub none_seen : (width count : ℕ) (words numbers : List ℕ) → words ≡ replicate width 0 → numbers ≡ replicate count 0 →
+    map (stored_frame width words) numbers ≡ replicate count (replicate width 0)
+none_seen width count words numbers e f =
+    let first : stored_frame width (replicate width 0) 0 ≡ replicate width 0 =
+    rw (mul-zero width) (take_all width (replicate width 0) (let n = length-replicate {A = ℕ} width 0 in omega arith)) in
+    rw (e, f) (map_alike (stored_frame width (replicate width 0)) count 0 ∙ ap (replicate count) first)
+
+pub none_room : (p : Inside) (width count : ℕ) → 0 < width → width ≤ 255 → count ≤ 131072 → p.width ≡ width → p.stored ≡ 1 →
+    p.words.items ≡ replicate width 0 → p.numbers.items ≡ replicate count 0 → width * (count + 1) ≤ vec_capacity p.words → HasRoom p
+none_room p width count some narrow few ew es e f room =
+    let n : length p.numbers.items ≡ count = ap length f ∙ length-replicate count 0 in
+    let l : length p.words.items ≡ width = ap length e ∙ length-replicate width 0 in
+    let ones : sum_by own_frames (replicate count 0) ≡ count * own_frames 0 = sum_by-replicate own_frames count 0 in
+    let no_one : count * own_frames 0 ≡ 0 = mul-zero count in
+    let sum : sum_by own_frames p.numbers.items ≡ 0 = ap (sum_by own_frames) f ∙ ones ∙ no_one in
+    let number : (i : ℕ) → i < length p.numbers.items → get_or p.numbers.items i 0 ≡ 0 = λ i h. ap (λ xs. get_or xs i 0) f ∙ get_or-replicate count i 0 0 (omega arith) in
+    record {
+      some = omega arith;
+      narrow = omega arith;
+      few = omega arith;
+      room = rw (ew, n) room;
+      whole = rw (ew, es) (l ∙ (omega arith));
+      zeros = rw (ew, e, mul-zero width) (take_all width (replicate width 0) (let k = length-replicate {A = ℕ} width 0 in omega arith));
+      used = rw (es, sum) refl;
+      below = λ i h. (let z = number i h in omega arith);
+      apart = λ i j h k own same. (let z = number i h in absurd (omega arith));
+    }
+
+pub new_zeros : (part : PartData) (width count : ℕ) → width ≡ frame_words part → count ≡ length (addresses_in part) → replicate count (replicate width 0) ≡ zero_frames part
+new_zeros part width count w n = rw (w, n) refl
+
+-- fields that are a memory of the part, when no rank has a frame of its own any more
+pub cleared : (part : PartData) (m : Inside) (frames : List (List ℕ)) (words numbers : List ℕ) → HasRoom m → seen m ≡ frames → AreFramesOf part frames →
+    words ≡ take m.width m.words.items → numbers ≡ replicate (length m.numbers.items) 0 → map (stored_frame m.width words) numbers ≡ zero_frames part
+cleared part m frames words numbers is e are f g =
+    let long : length (seen m) ≡ length m.numbers.items = length-map m.numbers.items (stored_frame m.width m.words.items) in
+    let n : length m.numbers.items ≡ length (addresses_in part) = sym long ∙ ap length e ∙ are.count in
+    none_seen m.width (length m.numbers.items) words numbers (f ∙ first_zeros m is) g ∙
+    elim (cases_lt 0 (length m.numbers.items)) [
       | inl some ↦
-          let all : length (filled m.width m.count m.words.items) ≡ m.width * m.count = filled_length m.width m.count m.words.items (stored_few m is) in
-          let first : length (get_or (seen m) 0 []) ≡ m.width = cut_widths m.width m.count (filled m.width m.count m.words.items) (omega arith) 0 [] (omega arith) in
+          let r = is_rank m 0 is (omega arith) in
+          let first : length (get_or (seen m) 0 []) ≡ m.width =
+          ap length (get_or-map (stored_frame m.width m.words.items) m.numbers.items 0 0 [] some)
+          ∙ stored_width m.width m.stored (get_or m.numbers.items 0 0) m.words.items r.below is.whole in
           let same : length (get_or (seen m) 0 []) ≡ length (get_or frames 0 []) = ap (λ l. length (get_or l 0 [])) e in
           let there : 0 < length frames = (let c = are.count in omega arith) in
           let wide : m.width ≡ frame_words part = sym first ∙ same ∙ are.width 0 [] there in
           rw (wide, n) refl
       | inr nothing ↦
-          let z : m.count ≡ 0 = omega arith in
+          let z : length m.numbers.items ≡ 0 = omega arith in
           let y : length (addresses_in part) ≡ 0 = omega arith in
           rw (z, y) refl
     ]

@@ -1,16 +1,34 @@
 -- A memory as its fields hold it.
-use Rattle.std.specs.Prelude.{◌≡◌, ℕ, ◌*◌, ◌≤◌, ◌<◌, List, length, vec_len, vec_capacity}
+use Rattle.std.specs.Prelude.{◌≡◌, ℕ, zero, suc, ◌+◌, ◌*◌, ◌≤◌, ◌<◌, List, length, map, take, drop, replicate, slice_index_or, vec_capacity}
+use Rattle.std.specs.List.{sum_by}
 use Rattle.x7_memory.specs.declared.memory.Memory.TheInside.{Inside}
-use Rattle.x7_memory.specs.Flat.{cut, filled}
+
+-- the frame with a number among those that are stored one after another
+abbrev pub stored_frame : ℕ → List ℕ → ℕ → List ℕ
+stored_frame width words number = take width (drop (width * number) words)
 
 -- its frames
 abbrev pub seen : Inside → List (List ℕ)
-seen m = cut m.width m.count (filled m.width m.count m.words.items)
+seen m = map (stored_frame m.width m.words.items) m.numbers.items
 
--- there is room for all frames, and the words that are stored are those of whole frames
+-- how many frames a rank has stored: none where it has number 0, that of the zeros
+abbrev pub own_frames : ℕ → ℕ
+own_frames zero = 0
+own_frames (suc number) = 1
+
+-- no two ranks have one number, but for that of the zeros
+abbrev pub AreApart : List ℕ → Type 0
+AreApart numbers =
+    (i j : ℕ) → i < length numbers → j < length numbers → 0 < slice_index_or numbers i 0 → slice_index_or numbers i 0 ≡ slice_index_or numbers j 0 → i ≡ j
+
+-- there is room for a frame of each rank and for the zeros, which stand first; each rank has a frame that is stored
 pub record HasRoom (m : Inside) : Type 0 where
   pub some : 0 < m.width
   pub narrow : m.width ≤ 255
-  pub few : m.count ≤ 131072
-  pub room : m.width * m.count ≤ vec_capacity m.words
-  pub whole : (frames : ℕ) × (length m.words.items ≡ m.width * frames) × (frames ≤ m.count)
+  pub few : length m.numbers.items ≤ 131072
+  pub room : m.width * (length m.numbers.items + 1) ≤ vec_capacity m.words
+  pub whole : length m.words.items ≡ m.width * m.stored
+  pub zeros : stored_frame m.width m.words.items 0 ≡ replicate m.width 0
+  pub used : m.stored ≡ 1 + sum_by own_frames m.numbers.items
+  pub below : (i : ℕ) → i < length m.numbers.items → slice_index_or m.numbers.items i 0 < m.stored
+  pub apart : AreApart m.numbers.items

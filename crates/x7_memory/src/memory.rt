@@ -1,8 +1,8 @@
 //! The frames of a device.
-ghost use Rattle.std.specs.Prelude.{◌≡◌, ℕ, ◌<◌, ◌≤◌, ◌+◌, ◌-◌, ◌++◌, ◌==◌, if◌then◌else◌, List, length, take, drop, slice_set, slice_index_or, vec_len, vec_capacity, All, Contains, Some, None, IfSome, IfNone, IfOk};
+ghost use Rattle.std.specs.Prelude.{◌≡◌, ℕ, ◌<◌, ◌≤◌, ◌+◌, ◌*◌, ◌++◌, ◌==◌, if◌then◌else◌, List, [], length, take, drop, replicate, slice_set, slice_index, slice_index_or, vec_len, vec_capacity, Contains, Some, None, IfSome, IfNone, IfOk, IsTrue};
 ghost use Rattle.x7_part.specs.AddressOrder.{addresses_in};
 ghost use Rattle.x7_part.specs.Part.{PartData, frame_words};
-ghost use Rattle.x7_memory.specs.Flat.{put_over, with_zeros};
+ghost use Rattle.x7_memory.specs.Flat.{put_over};
 ghost use Rattle.x7_memory.specs.Frames.{frame_at, zero_frames, AreFramesOf};
 
 use std::alloc::Global;
@@ -10,21 +10,17 @@ use std::marker::Model;
 use x7_part::Part;
 use x7_words::NoMemory;
 
-/// The most words that a frame may have.
-const MOST_WORDS: usize = 255;
-
-/// A frame that was never put.
-static ZEROS: [u32; MOST_WORDS] = [0; MOST_WORDS];
-
 /// The frames of a part, as they stand in a device.
 #[derive(Drop)]
 pub struct Memory {
-    /// The words of the frames by rank, up to the last frame that was put since all were zero. There is room for all.
+    /// The words of the frames that are stored, one after another. The first one is zeros. There is room for one a rank more.
     words: Vec<u32>,
+    /// By rank, the number of its frame among those that are stored: 0 for zeros, until other words are put there.
+    numbers: Vec<u32>,
+    /// The number of the frames that are stored.
+    stored: u32,
     /// The words of a frame.
     width: usize,
-    /// The number of all frames. Those behind `words` are zero.
-    count: usize,
 }
 
 impl Model for Memory {
@@ -39,21 +35,21 @@ impl Model for Memory {
 }
 
 impl Memory {
-    /// The part's frames, all zeros. It takes room for all of them, and writes none.
+    /// The part's frames, all zeros. It takes room for all of them, and writes one.
     pub fn new(alloc: Global, part: &Part) -> Result<Memory, NoMemory>
         ensures zeros { IfOk result (λ memory. memory ≡ zero_frames part.now) }
         ensures part { IfOk result (λ memory. AreFramesOf part.now memory) }
     {
         let count = part.frames() as usize;
         let width = part.words() as usize;
-        match Vec::with_capacity(alloc, width * count) {
-            Ok(words) => Ok(Memory {
-                words,
-                width,
-                count,
-            }),
-            Err(_) => Err(NoMemory),
-        }
+        let words = zeros_with_room(alloc, width, width * (count + 1))?;
+        let numbers = zeros_with_room(alloc, count, count)?;
+        Ok(Memory {
+            words,
+            numbers,
+            stored: 1,
+            width,
+        })
     }
 
     /// The frame at an address, none for what is no address.
@@ -68,17 +64,27 @@ impl Memory {
         Some(self.frame_of(rank as usize))
     }
 
+    /// The frame at the address of a rank, none from the number of all on.
+    pub fn frame_at_rank(&self, rank: u32) -> Option<&[u32]>
+        ensures found { IfSome result (λ words. (part : PartData) → AreFramesOf part self.now → frame_at part self.now (slice_index (addresses_in part) rank) ≡ Some words.now) }
+        ensures width { IfSome result (λ words. (part : PartData) → AreFramesOf part self.now → length words.now ≡ frame_words part) }
+        ensures none { IfNone result (length self.now ≤ rank) }
+    {
+        let rank = rank as usize;
+        if rank < self.numbers.len() {
+            Some(self.frame_of(rank))
+        } else {
+            None
+        }
+    }
+
     /// The frame of a rank.
     fn frame_of(&self, rank: usize) -> &[u32]
         requires { rank < length self.now }
         ensures { (d : List ℕ) → result.now ≡ slice_index_or self.now rank d }
     {
-        let start = self.width * rank;
-        if start < self.words.len() {
-            words_from(&self.words, start, self.width)
-        } else {
-            words_from(&ZEROS, 0, self.width)
-        }
+        let number = self.numbers[rank] as usize;
+        words_from(&self.words, self.width * number, self.width)
     }
 
     /// Puts a frame at an address of the part.
@@ -94,14 +100,34 @@ impl Memory {
         }
     }
 
+    /// Puts a frame at the address of a rank.
+    pub fn put_at_rank(&mut self, _part: &Part, rank: u32, words: &[u32])
+        requires part { AreFramesOf _part.now self.old }
+        requires rank { rank < length (addresses_in _part.now) }
+        requires width { length words.now ≡ frame_words _part.now }
+        ensures put { (a : ℕ) → frame_at _part.now self.new a ≡ (if a == slice_index (addresses_in _part.now) rank then Some words.now else frame_at _part.now self.old a) }
+        ensures part { AreFramesOf _part.now self.new }
+    {
+        self.put_at(rank as usize, words);
+    }
+
     /// Puts the frame of a rank.
     fn put_at(&mut self, rank: usize, words: &[u32])
         requires rank { rank < length self.old }
         requires width { (d : List ℕ) → length words.now ≡ length (slice_index_or self.old rank d) }
         ensures { self.new ≡ slice_set self.old rank words.now }
     {
-        let start = self.width * rank;
-        put_words(&mut self.words, start, words);
+        let number = self.numbers[rank];
+        if number != 0 {
+            write_over(&mut self.words, self.width * number as usize, words);
+            return;
+        }
+        if are_zeros(words) {
+            return;
+        }
+        self.numbers[rank] = self.stored;
+        self.stored += 1;
+        append(&mut self.words, words);
     }
 
     /// Makes all frames zeros.
@@ -109,40 +135,92 @@ impl Memory {
         ensures zeros { (part : PartData) → AreFramesOf part self.old → self.new ≡ zero_frames part }
         ensures part { (part : PartData) → AreFramesOf part self.old → AreFramesOf part self.new }
     {
-        self.words.clear();
+        self.words.truncate(self.width);
+        clear_words(&mut self.numbers);
+        self.stored = 1;
     }
 
     /// An equal memory.
     pub fn copy(&self, alloc: Global) -> Result<Memory, NoMemory>
         ensures { IfOk result (λ memory. memory ≡ self.now) }
     {
-        let mut words = match Vec::with_capacity(alloc, self.width * self.count) {
-            Ok(words) => words,
-            Err(_) => return Err(NoMemory),
-        };
-        match words.extend_from_slice(&self.words) {
-            Ok(()) => Ok(Memory {
-                words,
-                width: self.width,
-                count: self.count,
-            }),
-            Err(_) => Err(NoMemory),
-        }
+        let room = self.width * (self.numbers.len() + 1);
+        Ok(Memory {
+            words: copy_with_room(alloc, &self.words, room)?,
+            numbers: copy_with_room(alloc, &self.numbers, self.numbers.len())?,
+            stored: self.stored,
+            width: self.width,
+        })
     }
 }
 
-/// Puts a frame from a place on, behind zeros where there are fewer words, for which there is room.
-fn put_words(words: &mut Vec<u32>, start: usize, frame: &[u32])
-    requires { start + length frame.now ≤ vec_capacity words.old }
-    ensures items { words.new.items ≡ put_over start frame.now (with_zeros (start + length frame.now) words.old.items) }
-    ensures room { vec_capacity words.old ≤ vec_capacity words.new }
+/// So many zeros, and room for so many words.
+fn zeros_with_room(alloc: Global, count: usize, room: usize) -> Result<Vec<u32>, NoMemory>
+    requires { count ≤ room }
+    ensures items { IfOk result (λ words. words.items ≡ replicate count 0) }
+    ensures room { IfOk result (λ words. room ≤ vec_capacity words) }
 {
-    if start == words.len() {
-        append(words, frame);
-        return;
+    let mut words = room_for(alloc, room)?;
+    match words.resize(count, 0) {
+        Ok(()) => Ok(words),
+        Err(_) => Err(NoMemory),
     }
-    fill(words, start + frame.len());
-    write_over(words, start, frame);
+}
+
+/// The same words, and room for so many.
+fn copy_with_room(alloc: Global, words: &[u32], room: usize) -> Result<Vec<u32>, NoMemory>
+    ensures items { IfOk result (λ copy. copy.items ≡ words.now) }
+    ensures room { IfOk result (λ copy. room ≤ vec_capacity copy) }
+{
+    let mut copy = room_for(alloc, room)?;
+    match copy.extend_from_slice(words) {
+        Ok(()) => Ok(copy),
+        Err(_) => Err(NoMemory),
+    }
+}
+
+/// Room for so many words.
+fn room_for(alloc: Global, room: usize) -> Result<Vec<u32>, NoMemory>
+    ensures items { IfOk result (λ words. words.items ≡ []) }
+    ensures room { IfOk result (λ words. room ≤ vec_capacity words) }
+{
+    match Vec::with_capacity(alloc, room) {
+        Ok(words) => Ok(words),
+        Err(_) => Err(NoMemory),
+    }
+}
+
+/// Makes all words 0.
+fn clear_words(words: &mut Vec<u32>)
+    ensures { words.new.items ≡ replicate (length words.old.items) 0 }
+{
+    let count = words.len();
+    words.clear();
+    match words.resize(count, 0) {
+        Ok(()) => (),
+        Err(_) => (),
+    }
+}
+
+/// Whether all words are 0, which is told at the first of most frames that have another.
+fn are_zeros(words: &[u32]) -> bool
+    ensures { IsTrue result → words.now ≡ replicate (length words.now) 0 }
+{
+    match words.first() {
+        Some(word) if *word != 0 => false,
+        _ => has_no_bit(words),
+    }
+}
+
+/// Whether no word has a bit.
+fn has_no_bit(words: &[u32]) -> bool
+    ensures { IsTrue result → words.now ≡ replicate (length words.now) 0 }
+{
+    let mut any = 0;
+    for word in words {
+        any |= *word;
+    }
+    any == 0
 }
 
 /// Appends a frame for which there is room.
@@ -152,21 +230,6 @@ fn append(words: &mut Vec<u32>, frame: &[u32])
     ensures room { vec_capacity words.old ≤ vec_capacity words.new }
 {
     match words.extend_from_slice(frame) {
-        Ok(()) => (),
-        Err(_) => (),
-    }
-}
-
-/// Appends zeros where there are fewer than so many words, for which there is room.
-fn fill(words: &mut Vec<u32>, count: usize)
-    requires room { count ≤ vec_capacity words.old }
-    ensures items { words.new.items ≡ with_zeros count words.old.items }
-    ensures room { vec_capacity words.old ≤ vec_capacity words.new }
-{
-    if count <= words.len() {
-        return;
-    }
-    match words.resize(count, 0) {
         Ok(()) => (),
         Err(_) => (),
     }

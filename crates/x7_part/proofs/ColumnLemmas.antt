@@ -279,6 +279,17 @@ slot_pad cs t i p d h low past high =
     let z : c.slot + (p - c.slot) ≡ p = omega arith in
     sym (ap (λ x. get_or (column_slots cs) x End) (sym z) ∙ slot_in cs t i (p - c.slot) d h high ∙ pad_in c (p - c.slot) past high)
 
+-- the frame of a slot, by its rank
+pub slot_rank : (cs : List Column) → IsTable 0 0 0 cs → (i p : ℕ) (d : Column) → i < length cs →
+    (get_or cs i d).slot ≤ p → p - (get_or cs i d).slot < (get_or cs i d).count →
+    ((get_or cs i d).rank + (p - (get_or cs i d).slot) < length (column_addresses cs))
+    × (get_or (column_slots cs) p End ≡ Frame (get_or (column_addresses cs) ((get_or cs i d).rank + (p - (get_or cs i d).slot)) 0))
+slot_rank cs t i p d h low high =
+    let e : (get_or cs i d).rank + (get_or cs i d).count ≤ 0 + length (column_addresses cs) = ends 0 0 0 cs t i d h in
+    let a : get_or (column_addresses cs) ((get_or cs i d).rank + (p - (get_or cs i d).slot)) 0 ≡ (get_or cs i d).first + (p - (get_or cs i d).slot) =
+    address_at cs t i (p - (get_or cs i d).slot) d h high in
+    (omega arith, sym (slot_frame cs t i p d h low high) ∙ ap (λ (x : ℕ). Frame x) (sym a))
+
 -- the columns behind the last that begins so far, by its place and the default that code reads
 abbrev pub nothing : Column
 nothing = record { first = 0; count = 0; pads = 0; rank = 0; slot = 0 }
@@ -354,6 +365,39 @@ missing_slot cs r n t le some before after last =
     rw same (omega arith)) in
     sym (get_or_past (column_slots cs) r End past)
 
+-- no frame stands behind the last column's
+pub no_frame : (cs : List Column) (r n far : ℕ) → IsTable 0 0 0 cs → n ≤ length cs → (n ≡ 0 → ⊥) →
+    ((k : ℕ) (d : Column) → k < n → (get_or cs k d).slot ≤ r) →
+    ((k : ℕ) (d : Column) → n ≤ k → k < length cs → r < (get_or cs k d).slot) →
+    (get_or cs (n - 1) nothing).count ≤ r - (get_or cs (n - 1) nothing).slot → get_or (column_slots cs) r End ≡ Frame far → ⊥
+no_frame cs r n far t le some before after past e =
+    let low : (get_or cs (n - 1) nothing).slot ≤ r = before (n - 1) nothing (omega arith) in
+    elim (cases_lt (r - (get_or cs (n - 1) nothing).slot) ((get_or cs (n - 1) nothing).count + (get_or cs (n - 1) nothing).pads)) [
+      | inl pad ↦ let p : Pad ≡ get_or (column_slots cs) r End = slot_pad cs t (n - 1) r nothing (omega arith) low past pad in absurd (cc (p, e))
+      | inr end ↦ let p : End ≡ get_or (column_slots cs) r End = missing_slot cs r n t le some before after end in absurd (cc (p, e))
+    ]
+
+-- the columns up to one, and those from one on
+pub begun_up_to : (cs : List Column) → IsTable 0 0 0 cs → (n p : ℕ) (d e : Column) → 0 < n → n ≤ length cs → (get_or cs (n - 1) d).slot ≤ p →
+    (k : ℕ) → k < n → (get_or cs k e).slot ≤ p
+begun_up_to cs t n p d e some le low k h =
+    let same : get_or cs (n - 1) d ≡ get_or cs (n - 1) e = get_or_default cs (n - 1) d e (omega arith) in
+    let there : (get_or cs (n - 1) e).slot ≤ p = rw same at low in
+    elim (cases_lt k (n - 1)) [
+      | inl before ↦ let o = order 0 0 0 cs t k (n - 1) e before (omega arith) in omega arith
+      | inr last ↦ let z : k ≡ n - 1 = omega arith in rw z there
+    ]
+
+pub begun_from : (cs : List Column) → IsTable 0 0 0 cs → (n p : ℕ) (d e : Column) → n < length cs → p < (get_or cs n d).slot →
+    (k : ℕ) → n ≤ k → k < length cs → p < (get_or cs k e).slot
+begun_from cs t n p d e some high k h le =
+    let same : get_or cs n d ≡ get_or cs n e = get_or_default cs n d e some in
+    let there : p < (get_or cs n e).slot = rw same at high in
+    elim (cases_lt n k) [
+      | inl behind ↦ let o = order 0 0 0 cs t n k e behind le in omega arith
+      | inr here ↦ let z : k ≡ n = omega arith in rw z there
+    ]
+
 -- ---- the slots from an address
 
 skip_pads : (far n : ℕ) (rest : List Slot) → from far (replicate n Pad ++ rest) ≡ from far rest
@@ -402,6 +446,10 @@ pub first_slot : (cs : List Column) (r : ℕ) → IsTable 0 0 0 cs → ((k : ℕ
 first_slot cs r t after =
     let past : length (column_slots cs) ≤ r = slot_missing cs t 0 r nothing (omega arith) (λ k d low high. after k d high) (λ k e. absurd (omega arith)) in
     sym (get_or_past (column_slots cs) r End past)
+
+pub no_frame_first : (cs : List Column) (r far : ℕ) → IsTable 0 0 0 cs → ((k : ℕ) (d : Column) → k < length cs → r < (get_or cs k d).slot) →
+    get_or (column_slots cs) r End ≡ Frame far → ⊥
+no_frame_first cs r far t after e = let p : End ≡ get_or (column_slots cs) r End = first_slot cs r t after in absurd (cc (p, e))
 
 -- ---- the next address
 

@@ -1,5 +1,5 @@
 //! A part, and the questions that are asked of its addresses and slots.
-ghost use Rattle.std.specs.Prelude.{◌≡◌, ◌+◌, ◌*◌, ◌<◌, ◌≤◌, ◌⊎◌, ◌↔◌, ◌%◌, true, None, [], All, length, slice_index, slice_index_or, count_by, nat_lt, string_bytes, Contains, IfSome, IfNone, IfOk};
+ghost use Rattle.std.specs.Prelude.{◌≡◌, ◌+◌, ◌*◌, ◌<◌, ◌≤◌, ◌⊎◌, ◌↔◌, ◌%◌, ◌^◌, ℕ, true, None, [], All, length, slice_index, slice_index_or, count_by, nat_lt, string_bytes, Contains, IfSome, IfNone, IfOk};
 ghost use Rattle.x7_part.specs.AddressOrder.{addresses, addresses_in, Follows, IsLast, Rises};
 ghost use Rattle.x7_part.specs.Columns.{table_of as columns_of};
 ghost use Rattle.x7_part.specs.FrameAddress.{IsAddressOf, IsRow, far_width};
@@ -204,6 +204,25 @@ impl Part {
         ensures { result ≡ slice_index_or (from far (slots_in self.now)) n Slot.End }
     {
         column::slot_after(&self.columns, far, n)
+    }
+
+    /// The number of slots before an address.
+    pub fn place_of(&self, far: u32) -> u64
+        requires address { Contains (addresses_in self.now) far }
+        ensures within { result < length (slots_in self.now) }
+        ensures slots { (n : ℕ) → slice_index_or (slots_in self.now) (result + n) Slot.End ≡ slice_index_or (from far (slots_in self.now)) n Slot.End }
+        ensures few { length (slots_in self.now) < 2 ^ 63 }
+    {
+        column::slot_of(&self.columns, far)
+    }
+
+    /// The rank of the frame at a slot, which has so many before it; none at a pad and past the last slot. `near` says where to
+    /// look first, and then where that was. Whatever it says, the answer is the same.
+    pub fn rank_at(&self, place: u64, near: &mut usize) -> Option<u32>
+        ensures found { IfSome result (λ r. (r < length (addresses_in self.now)) × (slice_index_or (slots_in self.now) place Slot.End ≡ Slot.Frame (slice_index (addresses_in self.now) r))) }
+        ensures none { IfNone result ((far : ℕ) → slice_index_or (slots_in self.now) place Slot.End ≡ Slot.Frame far → ⊥) }
+    {
+        column::rank_at(&self.columns, place, near)
     }
 
     /// The number of slots from an address on.

@@ -1,5 +1,5 @@
 -- Taking back: a frame put over a map that differs from another one at its address alone.
-use Rattle.std.proofs.Common.{◌≡◌, ℕ, ◌==◌, eq-eqb, ne_eqb, inl, inr, Bool, true, false, List, [], ◌∷◌, length, ◌-◌, ◌&&◌, get_or, is_some, Contains, IfSome, Option, Some, None, refl, sym, ap, ◌∙◌, arith, if◌then◌else◌}
+use Rattle.std.proofs.Common.{◌≡◌, ℕ, ◌==◌, eq-eqb, ne_eqb, inl, inr, Bool, true, false, List, [], ◌∷◌, length, ◌&&◌, get_or, is_some, Contains, IfSome, Option, Some, None, refl, sym, ap, ◌∙◌, arith, if◌then◌else◌}
 use Rattle.std.proofs.lemmas.Bool.{cases_eq}
 use Rattle.std.proofs.lemmas.Option.{none-some}
 use Rattle.x7_part.specs.Part.{PartData}

@@ -8,3 +8,4 @@ pub mod Pipeline
 pub mod Fields
 pub mod InWords
 pub mod Saving
+pub mod Places

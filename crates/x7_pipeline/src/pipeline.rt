@@ -13,6 +13,7 @@ ghost use Rattle.x7_pipeline.specs.Copies.{is_wcfg, is_mfw, source_with, source_
 ghost use Rattle.x7_pipeline.specs.Readback.{read_at, word_at};
 ghost use Rattle.x7_pipeline.specs.Faults.{write_fault, copy_fault, read_fault, drop_fault};
 ghost use Rattle.x7_pipeline.specs.Words.{written};
+ghost use Rattle.x7_pipeline.specs.Places.{StartsAt};
 ghost use Rattle.x7_pipeline.specs.Pipeline.{PipelineData, StandsFor, IsPipelineOf};
 
 mod saved;
@@ -274,10 +275,12 @@ impl Pipeline {
     {
         let size = 4 * self.width as usize;
         let slots = slot_count(part, self.base);
-        self.write_frame(&bytes[..size], part, memory);
+        let first = part.place_of(self.base);
+        let mut near = 0;
+        self.write_frame(&bytes[..size], first, part, memory, &mut near);
         let mut at = size;
         'frames: while self.has_next(size, bytes.len() - at, slots) {
-            self.write_frame(&bytes[at..at + size], part, memory);
+            self.write_frame(&bytes[at..at + size], first, part, memory, &mut near);
             at += size;
         }
         at
@@ -290,20 +293,28 @@ impl Pipeline {
         size <= left && self.frame_count < slots
     }
 
-    /// Puts the newest whole frame, and holds the next one.
-    fn write_frame(&mut self, bytes: &[u8], part: &Part, memory: &mut Memory)
+    /// Puts the newest whole frame, and holds the next one. So many slots stand before those from the base on.
+    fn write_frame(
+        &mut self,
+        bytes: &[u8],
+        first: u64,
+        part: &Part,
+        memory: &mut Memory,
+        near: &mut usize,
+    )
         requires part { IsPipelineOf part.now self.old }
         requires memory { AreFramesOf part.now memory.old }
         requires frame { length bytes.now ≡ 4 * self.old.width }
         requires slot { self.old.frame_count < length (slots_from part.now self.old.base) }
         requires few { length (slots_from part.now self.old.base) < 2 ^ 31 }
+        requires place { StartsAt part.now self.old.base first }
         ensures held { self.new ≡ record self.old { newest = Some (words_of_bytes bytes.now); frame_count = self.old.frame_count + 1 } }
         ensures none { self.old.newest ≡ None → memory.new ≡ memory.old }
         ensures put { (frame : List ℕ) → self.old.newest ≡ Some frame →
             AreSame (frame_at part.now memory.new) (put_over (at_slot (slice_index_or (slots_from part.now self.old.base) (self.old.frame_count - 1) Slot.End) frame []) (frame_at part.now memory.old)) }
         ensures memory { AreFramesOf part.now memory.new }
     {
-        self.put_held(part, memory);
+        self.put_held_near(first, part, memory, near);
         hold(&mut self.held, bytes);
         self.frame_count += 1;
     }
@@ -354,6 +365,23 @@ impl Pipeline {
         requires part { IsPipelineOf part.now self.now }
         requires memory { AreFramesOf part.now memory.old }
         requires slot { self.now.frame_count < length (slots_from part.now self.now.base) }
+        requires few { length (slots_from part.now self.now.base) < 2 ^ 31 }
+        ensures none { self.now.newest ≡ None → memory.new ≡ memory.old }
+        ensures put { (frame : List ℕ) → self.now.newest ≡ Some frame →
+            AreSame (frame_at part.now memory.new) (put_over (at_slot (slice_index_or (slots_from part.now self.now.base) (self.now.frame_count - 1) Slot.End) frame []) (frame_at part.now memory.old)) }
+        ensures memory { AreFramesOf part.now memory.new }
+    {
+        let mut near = 0;
+        self.put_held_near(part.place_of(self.base), part, memory, &mut near);
+    }
+
+    /// The same, where so many slots stand before those from the base on. The slot is looked for `near` the last one.
+    fn put_held_near(&self, first: u64, part: &Part, memory: &mut Memory, near: &mut usize)
+        requires part { IsPipelineOf part.now self.now }
+        requires memory { AreFramesOf part.now memory.old }
+        requires slot { self.now.frame_count < length (slots_from part.now self.now.base) }
+        requires few { length (slots_from part.now self.now.base) < 2 ^ 31 }
+        requires place { StartsAt part.now self.now.base first }
         ensures none { self.now.newest ≡ None → memory.new ≡ memory.old }
         ensures put { (frame : List ℕ) → self.now.newest ≡ Some frame →
             AreSame (frame_at part.now memory.new) (put_over (at_slot (slice_index_or (slots_from part.now self.now.base) (self.now.frame_count - 1) Slot.End) frame []) (frame_at part.now memory.old)) }
@@ -362,8 +390,8 @@ impl Pipeline {
         if self.frame_count == 0 {
             return;
         }
-        if let Slot::Frame(far) = part.slot_after(self.base, self.frame_count - 1) {
-            memory.put(part, far, &self.held);
+        if let Some(rank) = part.rank_at(first + (self.frame_count - 1), near) {
+            memory.put_at_rank(part, rank, &self.held);
         }
     }
 

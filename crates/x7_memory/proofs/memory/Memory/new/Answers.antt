@@ -1,14 +1,22 @@
-use Rattle.std.proofs.Common.{sym, subst}
+use Rattle.std.proofs.Common.{◌∙◌, refl, sym, subst, arith}
 use Rattle.x7_memory.specs.Frames.{AreFramesOf}
-use Rattle.x7_memory.proofs.ZeroLemmas.{new_zeros, zeros_are}
+use Rattle.x7_memory.proofs.ZeroLemmas.{new_zeros, none_seen, none_room, zeros_are}
 use Rattle.x7_memory.proofs.memory.Memory.new.Goals as goal
 
-pub returns-in-Ok-clause-zeros : goal.returns-in-Ok-clause-zeros
-returns-in-Ok-clause-zeros c =
-    new_zeros c.args.part.now c.words-width.result c.frames-count.result c.in-Ok.words.items c.words-width.ensures.value c.frames-count.ensures.value c.in-Ok.ensures.items
+pub invariant_of-result : goal.invariant_of-result
+invariant_of-result c =
+    let least = c.words-width.ensures.least in
+    none_room _ c.words-width.result c.frames-count.result (omega arith) c.words-width.ensures.most c.frames-count.ensures.limit refl refl c.in_ok-words.ensures.items c.in_ok-numbers.ensures.items
+    c.in_ok-words.ensures.room
 
-pub returns-in-Ok-clause-part : goal.returns-in-Ok-clause-part
-returns-in-Ok-clause-part c =
+pub returns-clause-zeros : goal.returns-clause-zeros
+returns-clause-zeros c =
+    none_seen c.words-width.result c.frames-count.result c.in_ok-words.words.items c.in_ok-numbers.numbers.items c.in_ok-words.ensures.items c.in_ok-numbers.ensures.items
+    ∙ new_zeros c.args.part.now c.words-width.result c.frames-count.result c.words-width.ensures.value c.frames-count.ensures.value
+
+pub returns-clause-part : goal.returns-clause-part
+returns-clause-part c =
     subst (λ frames. AreFramesOf c.args.part.now frames)
-    (sym (new_zeros c.args.part.now c.words-width.result c.frames-count.result c.in-Ok.words.items c.words-width.ensures.value c.frames-count.ensures.value c.in-Ok.ensures.items))
+    (sym (none_seen c.words-width.result c.frames-count.result c.in_ok-words.words.items c.in_ok-numbers.numbers.items c.in_ok-words.ensures.items c.in_ok-numbers.ensures.items
+    ∙ new_zeros c.args.part.now c.words-width.result c.frames-count.result c.words-width.ensures.value c.frames-count.ensures.value))
     (zeros_are c.args.part.now c.frames-count.ensures.order)

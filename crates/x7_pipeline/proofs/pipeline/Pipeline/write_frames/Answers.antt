@@ -5,7 +5,14 @@ use Rattle.x7_memory.specs.Frames.{frame_at}
 use Rattle.x7_pipeline.specs.Runs.{slots_from}
 use Rattle.x7_pipeline.specs.Pipeline.{PipelineData}
 use Rattle.x7_pipeline.proofs.FrameLemmas.{frame_wide, went_more, whole, words_taken}
+use Rattle.std.proofs.lemmas.Bool.{lt-ltb}
+use Rattle.x7_pipeline.proofs.SlotLemmas.{has_address}
 use Rattle.x7_pipeline.proofs.pipeline.Pipeline.write_frames.Goals as goal
+
+pub place_of-first-requires : goal.place_of-first-requires
+place_of-first-requires c =
+    let slot = c.requires.slot in
+    record { address = rw (ap (λ (v : PipelineData). v.base) c.self.view_is) (has_address c.args.part.now c.args.self.now.base (lt-ltb 0 (length (slots_from c.args.part.now c.args.self.now.base)) (omega arith))) }
 
 pub frames-init : goal.frames-init
 frames-init c =
