@@ -10,8 +10,6 @@ mod law;
 mod layout;
 mod next;
 mod pages;
-#[cfg(test)]
-mod tests;
 mod trial;
 
 pub use attempt::Ending;

@@ -6,8 +6,6 @@ mod check;
 mod checker;
 mod law;
 mod table;
-#[cfg(test)]
-mod tests;
 
 pub use check::{fold, fold_slice};
 pub use checker::{Checker, PieceChecker};

@@ -16,8 +16,6 @@ mod registers;
 mod regs;
 mod saved;
 mod stop;
-#[cfg(test)]
-mod tests;
 mod text;
 mod until_started;
 mod value;

@@ -268,6 +268,3 @@ pub fn frame_line(out: &mut Vec<u8>, far: u32, words: &[u32]) -> Result<(), NoMe
     put_frame(out, far, words);
     Ok(())
 }
-
-#[cfg(test)]
-mod tests;

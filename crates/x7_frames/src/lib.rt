@@ -5,8 +5,6 @@ mod fault;
 mod laws;
 mod line;
 mod reading;
-#[cfg(test)]
-mod tests;
 mod text;
 
 pub use fault::FramesFault;

@@ -6,8 +6,6 @@ mod field;
 mod header;
 mod progress;
 mod reading;
-#[cfg(test)]
-mod tests;
 mod writing;
 
 pub use fault::HeaderFault;

@@ -14,8 +14,6 @@ mod quick;
 mod reading;
 mod rows;
 mod runs;
-#[cfg(test)]
-mod tests;
 
 pub use assembler::{ASM_LIMIT, AsmFault, Assembler, assemble};
 pub use bit_line::header_line;

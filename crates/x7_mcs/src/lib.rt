@@ -11,8 +11,6 @@ mod lines;
 mod record;
 mod row;
 mod step;
-#[cfg(test)]
-mod tests;
 mod text;
 
 pub use blocks::McsText;

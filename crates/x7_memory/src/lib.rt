@@ -6,8 +6,6 @@ mod laws;
 mod memory;
 mod plan;
 mod rows;
-#[cfg(test)]
-mod tests;
 
 pub use draft::Draft;
 pub use laws::{memory_laws, override_laws, plan_laws};

@@ -10,8 +10,6 @@ mod machine;
 mod nops;
 mod stream;
 mod sync;
-#[cfg(test)]
-mod tests;
 
 pub use appended::{gaps_ask_nothing, packets_append, streams_append};
 pub use cutter::{Cut, Cutter};

@@ -13,8 +13,6 @@ mod row;
 mod settings;
 mod slot;
 mod table;
-#[cfg(test)]
-mod tests;
 mod types;
 mod values;
 

@@ -5,8 +5,6 @@ mod fault;
 mod law;
 mod pipeline;
 mod place;
-#[cfg(test)]
-mod tests;
 
 pub use fault::RunFault;
 pub use law::{

@@ -99,6 +99,3 @@ pub fn boot_word(latest: Attempt, before: Option<Attempt>) -> u32
         _ => attempt_bits(latest) + before_bits(before) * 0x100,
     }
 }
-
-#[cfg(test)]
-mod tests;

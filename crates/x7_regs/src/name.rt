@@ -129,6 +129,3 @@ pub fn command_text(c: Command) -> CommandName
     };
     CommandName { text }
 }
-
-#[cfg(test)]
-mod tests;

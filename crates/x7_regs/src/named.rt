@@ -78,6 +78,3 @@ pub fn command_named(text: &[u8]) -> Option<u8>
     }
     None
 }
-
-#[cfg(test)]
-mod tests;

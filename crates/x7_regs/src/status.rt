@@ -109,6 +109,3 @@ pub fn stat_word(p: &StatParts) -> u32
         + startup_state(p.phase) * 0x4_0000
         + u32::from(p.bus_width) * 0x200_0000
 }
-
-#[cfg(test)]
-mod tests;

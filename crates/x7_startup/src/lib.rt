@@ -5,8 +5,6 @@ mod law;
 mod lines;
 mod phases;
 mod startup;
-#[cfg(test)]
-mod tests;
 mod watchdog;
 
 pub use law::startup_laws;

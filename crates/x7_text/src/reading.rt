@@ -142,6 +142,3 @@ pub fn block_of_hex(digits: &[u8; 64]) -> Option<[u8; 32]>
         None
     }
 }
-
-#[cfg(test)]
-mod tests;

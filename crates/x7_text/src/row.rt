@@ -192,6 +192,3 @@ pub fn put_bytes(text: &mut Vec<u8>, in_line: usize, bytes: &[u8]) -> usize
     put_bytes_lines(text, lines);
     put_each_byte(text, 0, rest)
 }
-
-#[cfg(test)]
-mod tests;

@@ -8,8 +8,6 @@ mod flash;
 mod input;
 mod memory;
 mod sink;
-#[cfg(test)]
-mod tests;
 mod word;
 
 pub use bytes::is_same;

@@ -3,6 +3,16 @@ use Rattle.x7_listing.proofs.AssemblerLemmas.{fed-fault, fed-whole, first-fault}
 use Rattle.x7_listing.proofs.OutcomeLemmas.{stream-fault, stream-outcome}
 use Rattle.x7_listing.proofs.assembler.assemble.Goals as goal
 
+pub returns-in-Ok-clause-bytes : goal.returns-in-Ok-clause-bytes
+returns-in-Ok-clause-bytes c =
+    let s = c.in-Ok.ensures.ok [] (omega arith) c.new-assembler.ensures in
+    fed-whole (λ v. v.items) c.feed.new.self c.args.text.now c.finish.result s (omega arith) c.finish.ensures.bytes
+
+pub returns-in-Ok-clause-fault : goal.returns-in-Ok-clause-fault
+returns-in-Ok-clause-fault c =
+    let s = c.in-Ok.ensures.ok [] (omega arith) c.new-assembler.ensures in
+    fed-fault c.feed.new.self c.args.text.now c.finish.result s (omega arith) c.finish.ensures.fault
+
 pub returns-in-Ok-clause-back : goal.returns-in-Ok-clause-back
 returns-in-Ok-clause-back c =
     let s = c.in-Ok.ensures.ok [] (omega arith) c.new-assembler.ensures in

@@ -1,0 +1,34 @@
+//! The texts of a part file's faults.
+use std::test::Fail;
+use x7_part::{PartFault, PartKey, Which};
+
+/// The key in the first row of a part file.
+fn in_first_row(key: PartKey) -> Which {
+    Which { row: Some(1), key }
+}
+
+/// The key outside the rows.
+fn at_the_top(key: PartKey) -> Which {
+    Which { row: None, key }
+}
+
+#[test]
+fn texts_of_faults(rt: HostRuntime) -> Result<(), Fail> {
+    let cases = [
+        (PartFault::Toml, "the text is no TOML"),
+        (
+            PartFault::Key(at_the_top(PartKey::BusWidth)),
+            "key bus_width",
+        ),
+        (
+            PartFault::Range(in_first_row(PartKey::Minors)),
+            "range minors in row 1",
+        ),
+        (PartFault::SameRow(2), "same row 2"),
+        (PartFault::TooMany(131_073), "too many frames: 131073"),
+    ];
+    for (fault, text) in cases {
+        assert!(rt; format!(in rt.alloc(); "{fault}")?.as_str() == text);
+    }
+    Ok(())
+}

@@ -1,0 +1,170 @@
+//! Real files and writers, and inputs that are put while one is read.
+use std::io::{ErrorKind, Write};
+use std::test::Fail;
+use std::{env, fs, io, process};
+use x7_words::{
+    Failed, FileFlash, FileInputs, Flash, Inputs, MemoryInputs, SelectFault, Sink, StdSink,
+    write_all,
+};
+
+/// Selects, and reads three times into four bytes of the buffer each.
+fn three_reads<I: Inputs>(
+    inputs: &mut I,
+    name: &str,
+    buf: &mut [u8; 12],
+) -> Result<[usize; 3], SelectFault> {
+    inputs.select(name)?;
+    let Ok(first) = inputs.read(&mut buf[..4]) else {
+        return Err(SelectFault::Failed);
+    };
+    let Ok(second) = inputs.read(&mut buf[4..8]) else {
+        return Err(SelectFault::Failed);
+    };
+    let Ok(third) = inputs.read(&mut buf[8..]) else {
+        return Err(SelectFault::Failed);
+    };
+    Ok([first, second, third])
+}
+
+#[test]
+fn inputs_are_read_in_pieces(rt: HostRuntime) -> Result<(), Fail> {
+    // the most bytes of a read, the counts, what the buffer holds
+    let cases = [
+        (1, [1, 1, 1], [1, 0, 0, 0, 2, 0, 0, 0, 3, 0, 0, 0]),
+        (2, [2, 2, 1], [1, 2, 0, 0, 3, 4, 0, 0, 5, 0, 0, 0]),
+        (9, [4, 1, 0], [1, 2, 3, 4, 5, 0, 0, 0, 0, 0, 0, 0]),
+    ];
+    let mut inputs = MemoryInputs::new(rt.alloc());
+    inputs.put("one", &[1, 2, 3])?;
+    inputs.put("two", &[7])?;
+    inputs.put("one", &[1, 2, 3, 4, 5])?;
+    for (most, counts, bytes) in cases {
+        inputs.piece(most);
+        let mut buf = [0; 12];
+        assert!(rt; three_reads(&mut inputs, "one", &mut buf) == Ok(counts));
+        assert!(rt; buf == bytes);
+    }
+    let mut buf = [0; 12];
+    assert!(rt; three_reads(&mut inputs, "two", &mut buf) == Ok([1, 0, 0]));
+    assert!(rt; buf == [7, 0, 0, 0, 0, 0, 0, 0, 0, 0, 0, 0]);
+    Ok(())
+}
+
+#[test]
+fn a_put_leaves_what_is_being_read(rt: HostRuntime) -> Result<(), Fail> {
+    let mut inputs = MemoryInputs::new(rt.alloc());
+    inputs.put("one", &[1, 2, 3])?;
+    inputs.piece(2);
+    let mut buf = [0; 4];
+    inputs.select("one")?;
+    assert!(rt; inputs.read(&mut buf) == Ok(2));
+    inputs.put("one", &[8, 9])?;
+    assert!(rt; inputs.read(&mut buf) == Ok(1));
+    assert!(rt; buf == [3, 2, 0, 0]);
+    inputs.select("one")?;
+    assert!(rt; inputs.read(&mut buf) == Ok(2));
+    assert!(rt; buf == [8, 9, 0, 0]);
+    Ok(())
+}
+
+/// Attaches, asks the size, and reads three bytes from the place on.
+fn size_and_bytes<F: Flash>(
+    flash: &mut F,
+    name: &str,
+    place: u64,
+) -> Result<(u64, [u8; 3]), SelectFault> {
+    flash.attach(name)?;
+    let size = flash.size();
+    let mut buf = [0; 3];
+    if size < 3 || place > size - 3 {
+        return Ok((size, buf));
+    }
+    match flash.read_at(place, &mut buf) {
+        Ok(()) => Ok((size, buf)),
+        Err(_) => Err(SelectFault::Failed),
+    }
+}
+
+#[test]
+fn a_file_is_a_flash(rt: HostRuntime) -> Result<(), Fail> {
+    let folder = env::temp_dir(&rt)?;
+    let name = format!(in rt.alloc(); "x7-words-flash-{}", process::id(rt.process()))?;
+    let path = folder.join(rt.alloc(), name.as_str())?;
+    fs::write(&rt, path.as_path(), b"hello")?;
+    let mut flash = FileFlash::new(&rt);
+    let late = size_and_bytes(&mut flash, path.as_path().as_str(), 2);
+    let early = size_and_bytes(&mut flash, path.as_path().as_str(), 0);
+    fs::remove_file(&rt, path.as_path())?;
+    let gone = size_and_bytes(&mut flash, path.as_path().as_str(), 0);
+    let no_file = size_and_bytes(&mut flash, folder.as_path().as_str(), 0);
+    assert!(rt; late == Ok((5, *b"llo")));
+    assert!(rt; early == Ok((5, *b"hel")));
+    assert!(rt; gone == Err(SelectFault::Missing));
+    assert!(rt; no_file == Err(SelectFault::Failed));
+    Ok(())
+}
+
+#[test]
+fn files_are_read_by_their_paths(rt: HostRuntime) -> Result<(), Fail> {
+    let folder = env::temp_dir(&rt)?;
+    let name = format!(in rt.alloc(); "x7-words-{}", process::id(rt.process()))?;
+    let path = folder.join(rt.alloc(), name.as_str())?;
+    fs::write(&rt, path.as_path(), b"hello")?;
+    let mut buf = [0; 12];
+    let mut inputs = FileInputs::new(&rt);
+    let found = three_reads(&mut inputs, path.as_path().as_str(), &mut buf);
+    fs::remove_file(&rt, path.as_path())?;
+    let gone = three_reads(&mut inputs, path.as_path().as_str(), &mut [0; 12]);
+    let unreadable = three_reads(&mut inputs, folder.as_path().as_str(), &mut [0; 12]);
+    assert!(rt; found == Ok([4, 1, 0]));
+    assert!(rt; buf.as_slice() == b"hello\0\0\0\0\0\0\0".as_slice());
+    assert!(rt; gone == Err(SelectFault::Missing));
+    assert!(rt; unreadable == Err(SelectFault::Failed));
+    Ok(())
+}
+
+/// A writer that takes one byte a call, and after so many bytes nothing.
+#[derive(Drop)]
+struct Narrow {
+    left: u8,
+    then: Option<ErrorKind>,
+}
+
+impl Write for Narrow {
+    fn write(&mut self, buf: &[u8]) -> io::Result<usize> {
+        if buf.is_empty() {
+            return Ok(0);
+        }
+        if self.left > 0 {
+            self.left -= 1;
+            return Ok(1);
+        }
+        match self.then {
+            None => Ok(0),
+            Some(kind) => Err(io::Error::from(kind)),
+        }
+    }
+
+    fn flush(&mut self) -> io::Result<()> {
+        Ok(())
+    }
+}
+
+#[test]
+fn writers_are_sinks(rt: HostRuntime) {
+    // how many bytes the writer takes, what it does then, the answer
+    let cases = [
+        (5, None, Ok(())),
+        (4, None, Err(Failed)),
+        (4, Some(ErrorKind::BrokenPipe), Err(Failed)),
+    ];
+    for (left, then, answer) in cases {
+        let mut sink = StdSink::new(Narrow { left, then });
+        assert!(rt; write_all(&mut sink, b"hello") == answer);
+        assert!(rt; sink.write(b"") == Ok(0));
+    }
+    let mut out = StdSink::new(io::writer(&rt));
+    assert!(rt; out.write(b"") == Ok(0));
+    let mut err = StdSink::new(rt.stderr());
+    assert!(rt; err.write(b"") == Ok(0));
+}

@@ -1,0 +1,60 @@
+//! Frames of a device and of a plan.
+ghost use Rattle.x7_memory.specs.Frames.{AreFramesOf};
+
+use std::alloc::Global;
+use std::test::Fail;
+use x7_memory::{Memory, Plan};
+use x7_part::{Part, part_of};
+use x7_words::NoMemory;
+
+/// A part of two frames.
+const PART: &str =
+    "name = \"t\"\nidcode = 1\nrow = [{block = 0, half = 0, row = 0, minors = [2]}]\n";
+
+/// The memory has a frame of this word at the address.
+fn has_frame(part: &Part, memory: &Memory, far: u32, word: u32) -> bool
+    requires { AreFramesOf part.now memory.now }
+{
+    memory.frame(part, far) == Some([word; 101].as_slice())
+}
+
+/// Puts a frame of equal words, at an address of the part.
+fn put(memory: &mut Memory, part: &Part, far: u32, word: u32)
+    requires { AreFramesOf part.now memory.old }
+    ensures { AreFramesOf part.now memory.new }
+{
+    if part.is_address(far) {
+        memory.put(part, far, &[word; 255][..part.words() as usize]);
+    }
+}
+
+#[test]
+fn a_copy_keeps_the_frames_that_are_cleared(rt: HostRuntime) -> Result<(), Fail> {
+    let part = part_of(rt.alloc(), PART.as_bytes())?;
+    let mut memory = Memory::new(rt.alloc(), &part)?;
+    put(&mut memory, &part, 1, 7);
+    let copied = memory.copy(rt.alloc())?;
+    memory.clear();
+    assert!(rt; has_frame(&part, &copied, 1, 7));
+    assert!(rt; has_frame(&part, &memory, 1, 0));
+    Ok(())
+}
+
+/// A plan of frames that came in no order, one address twice.
+fn planned(alloc: Global) -> Result<Plan, NoMemory> {
+    let mut plan = Plan::new(alloc, 2);
+    plan.insert(7, &[0, 0])?;
+    plan.insert(3, &[1, 1])?;
+    plan.insert(7, &[2, 2])?;
+    Ok(plan)
+}
+
+#[test]
+fn rows_of_a_plan_stand_in_order(rt: HostRuntime) -> Result<(), Fail> {
+    let plan = planned(rt.alloc())?;
+    assert!(rt; plan.len() == 2);
+    assert!(rt; plan.row(0) == Some((3, [1, 1].as_slice())));
+    assert!(rt; plan.row(1) == Some((7, [0, 0].as_slice())));
+    assert!(rt; plan.get(5).is_none());
+    Ok(())
+}

@@ -1,0 +1,11 @@
+//! Calls of the crates below that no worked case makes: each runs once while memory is left, and at a type of its own.
+#![tactic(auto)]
+
+#[cfg(test)]
+mod faults;
+#[cfg(test)]
+mod files;
+#[cfg(test)]
+mod frames;
+#[cfg(test)]
+mod texts;
