@@ -1,11 +1,8 @@
 -- What may end `list`: each of its ends has its cause.
-use Rattle.std.proofs.Common.{◌≡◌, ℕ, List, [], ◌∷◌, ◌++◌, ◌≤◌, ◌<◌, drop, length, length-append, Option, None, Some, Result, Ok, Err, IfErr, IfOk, refl, ap, append-nil, subst, sym, ◌∙◌, arith, inl, inr, ◌⊎◌, unwrap_or, Bool, true, false}
+use Rattle.std.proofs.Common.{◌≡◌, ℕ, List, [], ◌∷◌, ◌++◌, ◌≤◌, ◌<◌, length, length-append, Option, None, Some, Result, Ok, Err, IfErr, IfOk, refl, ap, append-nil, subst, sym, ◌∙◌, arith, inl, inr, ◌⊎◌, unwrap_or, Bool, true, false}
 use Rattle.std.specs.Prelude.{if◌then◌else◌, nat_eq, nat_lt}
-use Rattle.std.specs.Cmp.Lexicographic.{pointwise}
 use Rattle.std.specs.List.{starts_with}
-use Rattle.std.proofs.lemmas.Bool.Decides.{Decides-eqb, nat_tests}
-use Rattle.std.proofs.lemmas.List.{take-append-le}
-use Rattle.std.proofs.lemmas.Slice.Eq.{starts_is}
+use Rattle.std.proofs.lemmas.Bool.Decides.{nat_tests}
 use Rattle.x7_words.specs.Count.{HasRisen}
 use Rattle.x7_words.specs.Input.{AtEnd, Lacks, Selects, preceded}
 use Rattle.x7_words.specs.Sink.{appended, PutsFront}
@@ -21,8 +18,8 @@ use Rattle.x7_listing.specs.StreamListing.{listing_by, stream_listing}
 use Rattle.x7_tool.specs.declared.bad_input.InputFault.TheVariants as input
 use Rattle.x7_tool.specs.Form.{Asked, Listing}
 use Rattle.x7_tool.specs.Event.{Event, bad_input, missing, no_memory, read_fault, too_large, write_fault}
-use Rattle.x7_tool.specs.Outcome.{Answer, Known, and_so, listed, listed_bytes, stream_limit, with_inputs}
-use Rattle.x7_tool.specs.Turn.{IsBadFront, IsRefused, MayFollow, Unfronted, Unopened}
+use Rattle.x7_tool.specs.Outcome.{Answer, Known, listed, listed_bytes, stream_limit, with_inputs}
+use Rattle.x7_tool.specs.Turn.{IsRefused, MayFollow, Unfronted, Unopened}
 use Rattle.x7_tool.specs.Run.{Ends, IsCaused, IsPrefixOf, PutsListing, RisesFor}
 
 -- a name that isn't there

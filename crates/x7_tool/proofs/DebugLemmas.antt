@@ -1,5 +1,5 @@
 -- What a script shows, from the session that followed it.
-use Rattle.std.proofs.Common.{◌≡◌, ℕ, List, take, Bool, false, Option, ap, sym, ◌∙◌}
+use Rattle.std.proofs.Common.{◌≡◌, ℕ, List, take, Bool, Option, ap, sym, ◌∙◌}
 use Rattle.std.specs.Prelude.{is_some}
 use Rattle.x7_part.specs.Part.{PartData}
 use Rattle.x7_engine.specs.declared.fault.Fault.{Fault}
@@ -9,7 +9,7 @@ use Rattle.x7_engine.specs.Stops.{fault_of}
 use Rattle.x7_debug.specs.declared.order.Order.{Order}
 use Rattle.x7_debug.specs.Session.{MovesTo, SessionState}
 use Rattle.x7_debug.specs.Transcript.{final_position, transcript_of}
-use Rattle.x7_tool.specs.Outcome.{Answer, shown_of}
+use Rattle.x7_tool.specs.Outcome.{shown_of}
 
 -- the first n bytes of a stream have a fault
 abbrev fails_at : PartData → List ℕ → ℕ → Bool

@@ -1,5 +1,5 @@
 -- A stream's first bytes, by which its header is judged.
-use Rattle.std.proofs.Common.{◌≡◌, ◌≢◌, ◌⊎◌, ℕ, ◌+◌, ◌-◌, ◌<◌, ◌≤◌, Bool, true, false, List, [], ◌∷◌, ◌++◌, Result, Ok, Err, Option, None, Some, inl, inr, length, drop, take, refl, ap, sym, subst, ◌∙◌, arith, append_assoc, append-nil, length-append}
+use Rattle.std.proofs.Common.{◌≡◌, ◌⊎◌, ℕ, ◌+◌, ◌-◌, ◌<◌, ◌≤◌, Bool, true, false, List, [], ◌∷◌, ◌++◌, Ok, Err, Option, None, Some, inl, inr, length, drop, refl, ap, sym, subst, ◌∙◌, arith, append_assoc, append-nil, length-append}
 use Rattle.std.specs.Prelude.{MatchOption, nat_eq, nat_le}
 use Rattle.std.proofs.lemmas.Bool.{leb-true}
 use Rattle.std.specs.List.{starts_with}
@@ -9,14 +9,13 @@ use Rattle.x7_words.proofs.InputLemmas.{preceded-preceded}
 use Rattle.x7_words.proofs.ListLemmas.{shorter_front}
 use Rattle.x7_header.specs.Header.{Contents, EndsInHeader, listed, fixed_bytes, HasOtherLetter, HasOtherLetterAt, HaveHeader, fields_bytes, header_bytes, layout}
 use Rattle.x7_header.specs.Reading.{HeaderWaits, header_at}
-use Rattle.x7_header.specs.declared.fault.HeaderFault.{HeaderFault}
 use Rattle.x7_header.specs.declared.fault.HeaderFault.TheVariants as header
-use Rattle.x7_header.proofs.HeaderLemmas.{err_is, failed, header_again, header_refused, ok_not_err, raw_at}
+use Rattle.x7_header.proofs.HeaderLemmas.{err_is, header_again, header_refused, ok_not_err, raw_at}
 use Rattle.x7_listing.specs.BitLine.{bit_text}
 use Rattle.x7_listing.specs.Listing.{listing_of}
 use Rattle.x7_listing.specs.StreamListing.{listing_by, stream_listing}
 use Rattle.x7_listing.proofs.BitLemmas.{header-limit}
-use Rattle.x7_tool.specs.Turn.{BeginAt, FrontRead, HoldsFew, IsFront, IsRefused, MayFollow, RefusedAt}
+use Rattle.x7_tool.specs.Turn.{BeginAt, FrontRead, HoldsFew, IsFront, IsRefused, RefusedAt}
 use Rattle.x7_tool.proofs.Causes.{raw_listed}
 
 -- a header that was read, whatever follows

@@ -1,6 +1,5 @@
 -- Lines of frames, written group by group.
-use Rattle.std.proofs.Common.{◌≡◌, ◌++◌, ℕ, List, [], Option, Some, codes, decimal, length, take, drop, refl, sym, ap, ◌∙◌, append_assoc, append-nil}
-use Rattle.std.specs.List.{flat_map}
+use Rattle.std.proofs.Common.{◌≡◌, ◌++◌, ℕ, List, [], Option, codes, decimal, length, take, drop, refl, sym, ap, ◌∙◌, append_assoc, append-nil}
 use Rattle.std.proofs.lemmas.Grind.{flat_map-append}
 use Rattle.std.proofs.lemmas.List.{take-append-drop}
 use Rattle.x7_words.specs.Sink.{appended, PutsFront}

@@ -1,5 +1,5 @@
 -- A listing that is written turn by turn.
-use Rattle.std.proofs.Common.{length-append, arith, inl, inr, ◌≡◌, ℕ, ◌+◌, ◌≤◌, ◌<◌, ◌==◌, ◌&&◌, Bool, true, List, [], ◌∷◌, ◌++◌, false, Option, None, Some, Result, Ok, Err, OnOk, take, length, refl, ap, sym, subst, ◌∙◌, append_assoc, append-nil}
+use Rattle.std.proofs.Common.{length-append, arith, inl, inr, ◌≡◌, ℕ, ◌+◌, ◌≤◌, ◌<◌, Bool, true, List, [], ◌∷◌, ◌++◌, false, Option, None, Some, Result, Ok, Err, OnOk, take, length, refl, ap, sym, subst, ◌∙◌, append_assoc, append-nil}
 use Rattle.std.specs.Result.{is_err}
 use Rattle.std.proofs.Math.Seq.{take-append-add}
 use Rattle.std.proofs.lemmas.List.{length-take-le, take-take}
@@ -17,7 +17,6 @@ use Rattle.x7_words.proofs.ListLemmas.{all-append, all_back}
 use Rattle.x7_tool.specs.Form.{Listing}
 use Rattle.x7_tool.specs.Run.{Ends, PutsListing, RisesFor}
 use Rattle.x7_words.proofs.InputLemmas.{preceded-preceded}
-use Rattle.std.proofs.lemmas.Bool.Decides.{nat_tests}
 use Rattle.x7_words.proofs.CountLemmas.{risen_from}
 use Rattle.x7_tool.specs.Event.{Event, read_fault, too_large, write_fault}
 use Rattle.x7_tool.specs.Outcome.{stream_limit, with_inputs}

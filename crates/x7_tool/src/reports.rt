@@ -1,5 +1,5 @@
 //! The report of a device.
-ghost use Rattle.std.specs.Prelude.{◌≡◌, ◌++◌, ◌+◌, ◌≤◌, ℕ, List, codes, decimal, Bool, length, vec_len, vec_capacity, IfOk, OnOk};
+ghost use Rattle.std.specs.Prelude.{◌≡◌, ◌++◌, ◌+◌, ◌<◌, ◌≤◌, ℕ, List, [], ◌∷◌, slice_index, codes, decimal, Bool, length, vec_len, vec_capacity, IfOk, OnOk};
 ghost use Rattle.std.specs.List.{flat_map};
 ghost use Rattle.x7_part.specs.AddressOrder.{addresses_in};
 ghost use Rattle.x7_part.specs.Part.{PartData};
@@ -96,15 +96,27 @@ fn is_blank_frame(words: &[u32]) -> bool
     }
 }
 
-/// Whether the frame at an address has a word other than 0.
-fn is_shown_at(part: &Part, memory: &Memory, far: u32) -> bool
-    requires { AreFramesOf part.now memory.now }
-    ensures { result ≡ is_shown (frame_at part.now memory.now far) }
+/// Whether the frame of a rank has a word other than 0.
+fn is_shown_at(_part: &Part, memory: &Memory, rank: u32) -> bool
+    requires part { AreFramesOf _part.now memory.now }
+    requires rank { rank < length (addresses_in _part.now) }
+    ensures { result ≡ is_shown (frame_at _part.now memory.now (slice_index (addresses_in _part.now) rank)) }
 {
-    match memory.frame(part, far) {
+    match memory.frame_at_rank(rank) {
         Some(words) => !is_blank_frame(words),
         None => false,
     }
+}
+
+/// Appends the address of a rank.
+fn push_address(fars: &mut Vec<u32>, part: &Part, rank: u32) -> Result<(), NoMemory>
+    requires { rank < length (addresses_in part.now) }
+    ensures { OnOk result (fars.new.items ≡ fars.old.items ++ slice_index (addresses_in part.now) rank ∷ []) }
+{
+    if let Some(far) = part.address(rank) {
+        fars.push(far)?;
+    }
+    Ok(())
 }
 
 /// The addresses of the frames that have a word other than 0, in number order.
@@ -118,11 +130,8 @@ pub(crate) fn shown_frames(
 {
     let mut fars = Vec::new(alloc);
     for rank in 0..part.frames() {
-        let Some(far) = part.address(rank) else {
-            return Ok(fars);
-        };
-        if is_shown_at(part, memory, far) {
-            fars.push(far)?;
+        if is_shown_at(part, memory, rank) {
+            push_address(&mut fars, part, rank)?;
         }
     }
     Ok(fars)

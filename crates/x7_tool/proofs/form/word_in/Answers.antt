@@ -1,4 +1,4 @@
-use Rattle.std.proofs.Common.{ℕ, ◌^◌, ◌<◌, sym, ◌∙◌, arith}
+use Rattle.std.proofs.Common.{sym, ◌∙◌, arith}
 use Rattle.x7_tool.proofs.FormLemmas.{word-some, word-none}
 use Rattle.x7_tool.proofs.form.word_in.Goals as goal
 

@@ -1,7 +1,7 @@
-use Rattle.std.proofs.Common.{◌≡◌, ◌++◌, ◌≤◌, List, ℕ, ap, arith, ◌∙◌}
+use Rattle.std.proofs.Common.{◌≡◌, ◌++◌, List, ℕ, ap, arith, ◌∙◌}
 use Rattle.x7_memory.specs.Frames.{frame_at}
 use Rattle.x7_tool.specs.Report.{lines_text}
-use Rattle.x7_tool.proofs.LinesLemmas.{none_sent, more_sent, group_failed, all_sent}
+use Rattle.x7_tool.proofs.LinesLemmas.{none_sent, more_sent, group_failed}
 use Rattle.x7_tool.proofs.play_text.write_lines.Goals as goal
 
 pub loop-rest-init : goal.loop-rest-init

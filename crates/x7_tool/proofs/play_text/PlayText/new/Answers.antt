@@ -2,7 +2,6 @@ use Rattle.std.proofs.Common.{◌≡◌, ◌++◌, List, ℕ, length, codes, dec
 use Rattle.x7_part.specs.Part.{PartData}
 use Rattle.x7_memory.specs.Frames.{frame_at}
 use Rattle.x7_engine.specs.State.{memory_in, state_of}
-use Rattle.x7_tool.specs.Outcome.{Answer}
 use Rattle.x7_tool.specs.Report.{lines_text, reads_text, state_text}
 use Rattle.x7_tool.proofs.LinesLemmas.{play_is}
 use Rattle.x7_tool.proofs.play_text.PlayText.new.Goals as goal
