@@ -8,4 +8,6 @@ mod files;
 #[cfg(test)]
 mod frames;
 #[cfg(test)]
+mod status;
+#[cfg(test)]
 mod texts;

@@ -21,8 +21,6 @@ mod refusal;
 mod reports;
 mod status;
 mod stream;
-#[cfg(test)]
-mod tests;
 mod text;
 mod top;
 
