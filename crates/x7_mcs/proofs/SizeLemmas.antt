@@ -23,15 +23,25 @@ start-by block false = omega arith
 -- a row's lines: its data record, and a record 04 where a block begins
 row-long : (place : ℕ) (r : List ℕ) (more : List ℕ) → length (block_start place ++ data_line (place % 65536) r ++ more) ≤ 2 * length r + 28 + length more
 row-long place r more =
-    omega (arith, length-append (block_start place ++ data_line (place % 65536) r) more, length-append (block_start place) (data_line (place % 65536) r),
-      data-long (place % 65536) r, start-by (place / 65536) (place % 65536 == 0))
+    omega (
+      arith,
+      length-append (block_start place ++ data_line (place % 65536) r) more,
+      length-append (block_start place) (data_line (place % 65536) r),
+      data-long (place % 65536) r,
+      start-by (place / 65536) (place % 65536 == 0),
+    )
 
 rows-long : (place : ℕ) (rs : List (List ℕ)) → AreFullButLast 16 rs → 4 * length (row_lines place rs) ≤ 15 * length (flat_map (λ (r : List ℕ). r) rs) + 112
 rows-long place [] full = omega arith
 rows-long place (r ∷ []) full = omega (arith, row-long place r [], full.0, length-append r [])
 rows-long place (r ∷ s ∷ rs) full =
-    omega (arith, row-long place r (row_lines (place + length r) (s ∷ rs)), full.0, rows-long (place + length r) (s ∷ rs) full.1,
-      length-append r (flat_map (λ (t : List ℕ). t) (s ∷ rs)))
+    omega (
+      arith,
+      row-long place r (row_lines (place + length r) (s ∷ rs)),
+      full.0,
+      rows-long (place + length r) (s ∷ rs) full.1,
+      length-append r (flat_map (λ (t : List ℕ). t) (s ∷ rs)),
+    )
 
 pub text-short : (bytes : List ℕ) → 4 * length (mcs_text bytes) ≤ 15 * length bytes + 160
 text-short bytes =
