@@ -13,6 +13,7 @@ pub mod PairLemmas
 pub mod PlaceLemmas
 pub mod QuickLemmas
 pub mod RoundLemmas
+pub mod RowLemmas
 pub mod RunLemmas
 pub mod SessionLemmas
 pub mod ShortLemmas

@@ -35,7 +35,7 @@ cmd_by : (b : Bool) (w : ℕ) → ended_text (if b then Cmd (command_by w) else 
 cmd_by true w = refl
 cmd_by false w = refl
 
-cmd-text : (w : ℕ) → ended_text (cmd_line w) ≡ command_line w
+pub cmd-text : (w : ℕ) → ended_text (cmd_line w) ≡ command_line w
 cmd-text w = cmd_by (code_of (command_by w) == w) w
 
 flat_map-same : {X : Type 0} (f g : X → List ℕ) → ((x : X) → f x ≡ g x) → (xs : List X) → flat_map f xs ≡ flat_map g xs

@@ -28,7 +28,7 @@ bytes-behind bytes [] i = sym (append-nil bytes)
 bytes-behind bytes (l ∷ ls) i =
     bytes-behind (with_line bytes l) ls i.1 ∙ append_assoc bytes (bytes_of (check_of_bytes bytes) l) (flat_map (bytes_of 0) ls) ∙ ap (λ b. bytes ++ (b ++ flat_map (bytes_of 0) ls)) (same-bytes (check_of_bytes bytes) l i.0)
 
-dropped-twice : (a b : ℕ) (t : List ℕ) → drop b (drop a t) ≡ drop (a + b) t
+pub dropped-twice : (a b : ℕ) (t : List ℕ) → drop b (drop a t) ≡ drop (a + b) t
 dropped-twice zero b t = ap (λ (k : ℕ). drop k t) (omega arith)
 dropped-twice (suc a) b [] = drop-nil b ∙ sym (drop-nil (suc a + b))
 dropped-twice (suc a) b (c ∷ cs) = let e : suc (a + b) ≡ suc a + b = omega arith in dropped-twice a b cs ∙ ap (λ (k : ℕ). drop k (c ∷ cs)) e

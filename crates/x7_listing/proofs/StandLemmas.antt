@@ -66,7 +66,7 @@ data-stands ws a =
     let same : joined (rows 8 ws) ≡ ws = rows_joined 8 [] ws in
     stands-for (map Data (rows 8 ws)) (flat_map bytes_of_word (joined (rows 8 ws))) (flat_map bytes_of_word ws) (ap (flat_map bytes_of_word) same) (word-rows (rows 8 ws) (rows_full 8 [] ws (omega arith)) (subst (λ t. AreWords t) (sym same) a))
 
-is-eq : (a b : ℕ) → (a == b) ≡ true → a ≡ b
+pub is-eq : (a b : ℕ) → (a == b) ≡ true → a ≡ b
 is-eq a b e = grind (arith, common_steps)
 
 -- one line of a word
@@ -77,9 +77,12 @@ cmd-by : (b : Bool) (w : ℕ) → w < 2 ^ 32 → (b ≡ true → code_of (comman
 cmd-by true w h e = (ap bytes_of_word (e refl), (tt, tt))
 cmd-by false w h e = (refl, (((h, tt), omega arith, omega arith), tt))
 
+pub cmd-stands : (w : ℕ) → w < 2 ^ 32 → IsLineOf w (cmd_line w)
+cmd-stands w h = cmd-by (code_of (command_by w) == w) w h (is-eq (code_of (command_by w)) w)
+
 cmds-stand : (ws : List ℕ) → AreWords ws → Stands (map cmd_line ws) (flat_map bytes_of_word ws)
 cmds-stand [] a = none-stand
-cmds-stand (w ∷ ws) a = let p : IsLineOf w (cmd_line w) = cmd-by (code_of (command_by w) == w) w a.0 (is-eq (code_of (command_by w)) w) in
+cmds-stand (w ∷ ws) a = let p : IsLineOf w (cmd_line w) = cmd-stands w a.0 in
     one-stands (cmd_line w) (map cmd_line ws) (bytes_of_word w) (flat_map bytes_of_word ws) p.0 p.1 (cmds-stand ws a.1)
 
 payload-by : (b : Bool) (ws : List ℕ) → AreWords ws → Stands (if b then map cmd_line ws else map Data (rows 8 ws)) (flat_map bytes_of_word ws)

@@ -1,5 +1,5 @@
 -- The lines of what is told at once: no-ops in a row, short writes, and a gap with its sync word (this project's choice).
-use Rattle.std.specs.Prelude.{◌≡◌, ℕ, zero, suc, List, [], ◌∷◌, ◌++◌, codes, get_or, take}
+use Rattle.std.specs.Prelude.{◌≡◌, ◌==◌, Bool, not, ℕ, zero, suc, List, [], ◌∷◌, ◌++◌, codes, get_or, take}
 use Rattle.x7_packets.specs.Nops.{nop_word}
 use Rattle.x7_packets.specs.declared.header.Step.TheVariants.{Nop}
 use Rattle.x7_regs.specs.Register.{reg_name}
@@ -38,3 +38,7 @@ behind text n = 10 ∷ text n
 abbrev pub AreRows : (ℕ → List ℕ) → ℕ → List (List ℕ) → Type 0
 AreRows text n [] = Unit {0}
 AreRows text n (row ∷ rows) = (row_text row ≡ text n) × AreRows text (suc n) rows
+
+-- two bytes differ
+abbrev pub differs : ℕ → ℕ → Bool
+differs a b = not (a == b)

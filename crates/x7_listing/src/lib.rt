@@ -9,6 +9,7 @@ mod laws;
 mod line;
 mod lines;
 mod lister;
+mod pairs;
 mod pen;
 mod quick;
 mod reading;

@@ -4,6 +4,7 @@ ghost use Rattle.x7_text.specs.Reads.{StaysWithin};
 ghost use Rattle.x7_listing.specs.Assembling.{TakesFirst, TakesLines};
 
 use crate::assembler::ASM_LIMIT;
+use crate::pairs::put_pair;
 use crate::reading::{access_at, put_command, put_digits, put_word};
 use std::simd::prelude::*;
 use x7_text::{data_line, put, put_byte_row};
@@ -36,6 +37,21 @@ fn put_nops(out: &mut Vec<u8>, text: &[u8]) -> Option<Taken>
     }
     put(out, NOP_BYTES);
     Some(Taken { size: 32, count: 8 })
+}
+
+/// Appends the bytes of the sync word, if its line begins the text.
+#[inline(always)]
+fn put_sync(out: &mut Vec<u8>, text: &[u8]) -> Option<Taken>
+    requires room { vec_len out.old + 32 ≤ vec_capacity out.old }
+    requires long { 77 ≤ length text.now }
+    ensures takes { MatchOption result (out.new.items ≡ out.old.items) (λ taken. TakesFirst text.now out.old.items out.new.items taken.size taken.count) }
+    ensures room { StaysWithin out.old out.new 32 }
+{
+    if !is_same(&text[..5], b"sync\n") {
+        return None;
+    }
+    put_word(out, 0xAA99_5566);
+    Some(Taken { size: 5, count: 1 })
 }
 
 /// Twice eight bytes of the text, from two places on.
@@ -213,6 +229,20 @@ fn put_write(out: &mut Vec<u8>, text: &[u8]) -> Option<Taken>
     })
 }
 
+/// Appends the bytes of the two lines of a write of one word, or of a `write` line, if they begin the text.
+#[inline(always)]
+fn put_writes(out: &mut Vec<u8>, text: &[u8]) -> Option<Taken>
+    requires room { vec_len out.old + 32 ≤ vec_capacity out.old }
+    requires long { 77 ≤ length text.now }
+    ensures takes { MatchOption result (out.new.items ≡ out.old.items) (λ taken. TakesFirst text.now out.old.items out.new.items taken.size taken.count) }
+    ensures room { StaysWithin out.old out.new 32 }
+{
+    match put_pair(out, text) {
+        Some(taken) => Some(taken),
+        None => put_write(out, text),
+    }
+}
+
 /// Appends the bytes of a `data` line of eight words or of one, if one begins the text.
 #[inline(always)]
 fn put_words(out: &mut Vec<u8>, text: &[u8]) -> Option<Taken>
@@ -240,10 +270,11 @@ fn put_some(out: &mut Vec<u8>, text: &[u8]) -> Option<Taken>
     }
     match text[0] {
         b'd' => put_words(out, text),
-        b'w' => put_write(out, text),
+        b'w' => put_writes(out, text),
         b'c' => put_cmd(out, text),
         b'b' => put_bytes(out, text),
         b'n' => put_nops(out, text),
+        b's' => put_sync(out, text),
         _ => None,
     }
 }
