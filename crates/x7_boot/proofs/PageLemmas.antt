@@ -1,14 +1,16 @@
 -- Lemmas on the pages of a flash that are kept, and on the rest of a page.
-use Rattle.std.proofs.Common.{◌≡◌, ◌+◌, ◌-◌, ◌*◌, ◌/◌, ◌%◌, ◌^◌, ◌<◌, ◌≤◌, ℕ, Bool, true, List, [], length, take, drop, slice_range, Option, None, Some, IsSome, is_some, Vec, nat_eq, min, refl, ap, sym, subst, ◌∙◌, drop-drop, length-drop, inl, inr, arith}
-use Rattle.std.proofs.lemmas.List.{drop-take, take_rest}
+use Rattle.std.proofs.Common.{◌≡◌, ◌+◌, ◌-◌, ◌*◌, ◌/◌, ◌%◌, ◌^◌, ◌<◌, ◌≤◌, ◌++◌, ℕ, Bool, true, false, List, [], length, take, drop, slice_range, Option, None, Some, IsSome, is_some, Vec, nat_eq, min, refl, ap, sym, subst, ◌∙◌, drop-drop, length-drop, length-take, inl, inr, arith}
+use Rattle.std.proofs.lemmas.List.{drop-take, take-take, take_rest}
+use Rattle.std.proofs.lemmas.Bool.{false≢true}
+use Rattle.std.specs.Cmp.{nat_eq_equiv}
 use Rattle.std.specs.Map.{lookup, lookup_entry}
 use Rattle.std.specs.declared.alloc.Global.{Global}
 use Rattle.lru.specs.LruCache.{LruCache, lru_cache, promoted, put_entries}
-use Rattle.lru.proofs.CallerLemmas.{Contains-lookup, Contains-lookup_entry, Contains-promoted, Contains-put_entries, Contains-take}
+use Rattle.lru.proofs.CallerLemmas.{Contains-lookup, Contains-lookup_entry, Contains-promoted, Contains-put_entries, Contains-take, lookup-put_entries}
 use Rattle.lru.proofs.Splits.{Contains-nil}
 use Rattle.x7_words.specs.Flash.{WhereTold}
 use Rattle.x7_boot.specs.Image.{flash_limit}
-use Rattle.x7_boot.specs.Pages.{ArePages, HasPage, IsRest, Pages, page_end, page_size}
+use Rattle.x7_boot.specs.Pages.{ArePages, HasPage, IsBlock, IsRest, Pages, block_end, page_end, page_size}
 
 -- ---- pages that are kept
 
@@ -40,6 +42,67 @@ pages_put known extent cache number bytes are here page c = elim (Contains-put_e
       subst (λ (n : ℕ). IsRest known extent (n * page_size) page.1.items) (sym key) (subst (λ (b : Vec ℕ Global). IsRest known extent (number * page_size) b.items) (sym new.0) here)
 ]
 
+-- ---- a block of pages
+
+start_of : (page : ℕ) → page * page_size / page_size ≡ page
+start_of page = grind arith
+
+range_of_range : (all block bytes : List ℕ) (from end start stop at to : ℕ) → block ≡ slice_range all from end → bytes ≡ slice_range block start stop → from + start ≡ at → from + stop ≡ to → to ≤ end → start ≤ stop → bytes ≡ slice_range all at to
+range_of_range all block bytes from end start stop at to e f g h l m =
+    let long : end - from ≡ start + (end - from - start) = omega (arith, h, l, m) in
+    let short : stop - start ≤ end - from - start = omega (arith, h, l, m) in
+    let same : stop - start ≡ to - at = omega (arith, g, h) in
+    f ∙ ap (λ (b : List ℕ). take (stop - start) (drop start b)) (e ∙ ap (λ (n : ℕ). take n (drop from all)) long)
+    ∙ ap (take (stop - start)) (drop-take start (end - from - start) (drop from all))
+    ∙ take-take (stop - start) (end - from - start) (drop start (drop from all)) short
+    ∙ ap (take (stop - start)) (drop-drop start from all ∙ ap (λ (n : ℕ). drop n all) g)
+    ∙ ap (λ (n : ℕ). take n (drop at all)) same
+
+told_of_block : (known : Option (List ℕ)) (block bytes : List ℕ) (from end start stop at to : ℕ) → WhereTold known (λ all. block ≡ slice_range all from end) → bytes ≡ slice_range block start stop → from + start ≡ at → from + stop ≡ to → to ≤ end
+    → start ≤ stop → WhereTold known (λ all. bytes ≡ slice_range all at to)
+told_of_block None block bytes from end start stop at to e f g h l m = tt
+told_of_block (Some all) block bytes from end start stop at to e f g h l m = range_of_range all block bytes from end start stop at to e f g h l m
+
+range_length : (block bytes : List ℕ) (start stop : ℕ) → bytes ≡ slice_range block start stop → stop ≤ length block → length bytes ≡ stop - start
+range_length block bytes start stop e l = ap length e ∙ grind (arith, length-take {A = ℕ}, length-drop {A = ℕ})
+
+-- the page of an index of a block, by where it ends in the block
+end_of_index : (extent number count index start stop long : ℕ) → number * page_size < extent → long ≡ block_end number count extent - number * page_size → index < count → start ≡ index * page_size → start < long → stop ≡ min (start + page_size) long
+    → number * page_size + stop ≡ page_end ((number + index) * page_size) extent
+end_of_index extent number count index start stop long within e l f m g =
+    let end : page_end ((number + index) * page_size) extent ≡ min ((number + index + 1) * page_size) extent = ap (λ (n : ℕ). min ((n + 1) * page_size) extent) (start_of (number + index)) in
+    omega (arith, end, within, e, l, f, m, g)
+
+pub page_of_block : (known : Option (List ℕ)) (extent number count index start stop : ℕ) (block bytes : List ℕ) → IsBlock known extent number count block → index < count → start ≡ index * page_size → start < length block
+    → stop ≡ min (start + page_size) (length block) → bytes ≡ slice_range block start stop → IsRest known extent ((number + index) * page_size) bytes
+page_of_block known extent number count index start stop block bytes b l f m g e =
+    let end : number * page_size + stop ≡ page_end ((number + index) * page_size) extent = end_of_index extent number count index start stop (length block) b.within b.long l f m g in
+    let at : number * page_size + start ≡ (number + index) * page_size = omega (arith, f) in
+    let inside : stop ≤ length block = omega (arith, g) in
+    let goes : start ≤ stop = omega (arith, g, m) in
+    let last : number * page_size + stop ≤ block_end number count extent = let w = b.within in let long = b.long in omega (arith, inside, w, long, m) in
+    record {
+      long = let n : length bytes ≡ stop - start = range_length block bytes start stop e inside in omega (arith, n, end, at);
+      told = told_of_block known block bytes (number * page_size) (block_end number count extent) start stop ((number + index) * page_size) (page_end ((number + index) * page_size) extent) b.told e at end
+          (omega (arith, end, last)) goes;
+    }
+
+pub pages_split : (known : Option (List ℕ)) (extent number count index stop : ℕ) (cache new : LruCache ℕ (Vec ℕ Global)) (page : Vec ℕ Global) (block lent front : List ℕ) → new ≡ lru_cache (put_entries nat_eq cache (number + index) page) cache.cap
+    → page.items ≡ front ++ slice_range lent (index * page_size) stop → front ≡ [] → lent ≡ block → stop ≡ min (index * page_size + page_size) (length block) → index * page_size < length block
+    → IsBlock known extent number count block → index < count → ArePages known extent cache.entries → ArePages known extent new.entries
+pages_split known extent number count index stop cache new page block lent front e f g h m l b i are =
+    let bytes : page.items ≡ slice_range block (index * page_size) stop = f ∙ ap (λ (x : List ℕ). x ++ slice_range lent (index * page_size) stop) g ∙ ap (λ (x : List ℕ). slice_range x (index * page_size) stop) h in
+    subst (λ (k : LruCache ℕ (Vec ℕ Global)). ArePages known extent k.entries) (sym e)
+    (pages_put known extent cache (number + index) page are (page_of_block known extent number count index (index * page_size) stop block page.items b i refl l m bytes))
+
+-- the page that a look-up after `push` finds
+pub there_put : (cache : LruCache ℕ (Vec ℕ Global)) (number : ℕ) (page : Vec ℕ Global) → IsSome (lookup (nat_eq number) (put_entries nat_eq cache number page))
+there_put cache number page = rw (lookup-put_entries nat_eq cache number page nat_eq_equiv) refl
+
+pub no_page : (o : Option (Vec ℕ Global)) → is_some o ≡ false → o ≡ None
+no_page None e = refl
+no_page (Some page) e = absurd (false≢true (sym e))
+
 -- a page that was there is there
 pub there_promoted : (test : ℕ → Bool) (pages : Pages) → is_some (lookup test pages) ≡ true → IsSome (lookup test (promoted test pages))
 there_promoted test pages e = by (lookup_entry test pages) refl
@@ -49,9 +112,6 @@ there_promoted test pages e = by (lookup_entry test pages) refl
     by (Some page) h = rw h (rw (Contains-lookup_entry test pages page h).1 refl)
 
 -- ---- the rest of a page
-
-start_of : (page : ℕ) → page * page_size / page_size ≡ page
-start_of page = grind arith
 
 -- a place stands before the end of its page
 pub within_page : (at extent : ℕ) → at < extent → at < page_end at extent

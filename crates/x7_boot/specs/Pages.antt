@@ -8,6 +8,10 @@ use Rattle.x7_words.specs.Flash.{WhereTold}
 abbrev pub page_size : ℕ
 page_size = 4096
 
+-- the most pages that are read at once
+abbrev pub block_pages : ℕ
+block_pages = 16
+
 -- where the page of a place ends: at the next multiple of 4,096, or at the flash's end
 abbrev pub page_end : ℕ → ℕ → ℕ
 page_end at extent = min ((at / page_size + 1) * page_size) extent
@@ -16,6 +20,16 @@ page_end at extent = min ((at / page_size + 1) * page_size) extent
 pub record IsRest (known : Option (List ℕ)) (extent at : ℕ) (bytes : List ℕ) : Type 0 where
   pub long : length bytes ≡ page_end at extent - at
   pub told : WhereTold known (λ all. bytes ≡ slice_range all at (page_end at extent))
+
+-- where so many pages from a number on end, or the flash if it ends before
+abbrev pub block_end : ℕ → ℕ → ℕ → ℕ
+block_end number count extent = min ((number + count) * page_size) extent
+
+-- these are the bytes of so many pages of a flash from a number on
+pub record IsBlock (known : Option (List ℕ)) (extent number count : ℕ) (bytes : List ℕ) : Type 0 where
+  pub within : number * page_size < extent
+  pub long : length bytes ≡ block_end number count extent - number * page_size
+  pub told : WhereTold known (λ all. bytes ≡ slice_range all (number * page_size) (block_end number count extent))
 
 -- pages under their numbers
 abbrev pub Pages : Type 0

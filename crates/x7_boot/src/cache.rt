@@ -1,13 +1,14 @@
 //! The pages of a flash that were used last, so that none of them is read again.
-ghost use Rattle.std.specs.Prelude.{◌≡◌, ◌*◌, ◌/◌, ◌<◌, ◌≤◌, ℕ, List, Option, [], true, nat_eq, IfOk, OnOk, IsErrOf, IsSome};
+ghost use Rattle.std.specs.Prelude.{◌≡◌, ◌+◌, ◌*◌, ◌/◌, ◌<◌, ◌≤◌, ℕ, List, Option, None, [], length, true, nat_eq, IfOk, OnOk, IsErrOf, IsSome};
 ghost use Rattle.std.specs.Map.{lookup};
 ghost use Rattle.x7_words.specs.Count.{HasRisen};
-ghost use Rattle.x7_boot.specs.Pages.{ArePages, HasPage, IsRest, page_size};
+ghost use Rattle.x7_boot.specs.Pages.{ArePages, HasPage, IsBlock, IsRest, block_pages, page_size};
 
 use crate::fault::BootFault;
-use crate::pages::{PAGE, read_page};
+use crate::pages::{BLOCK_PAGES, PAGE, read_block};
 use lru::LruCache;
 use std::alloc::{AllocError, Global};
+use std::mem;
 use std::num::NonZeroUsize;
 use x7_words::Flash;
 
@@ -18,6 +19,10 @@ const KEPT_PAGES: usize = 64;
 #[derive(Drop)]
 pub(crate) struct PageCache {
     pages: LruCache<u64, Vec<u8>>,
+    /// What was read from the flash last.
+    block: Vec<u8>,
+    /// The memory of the page that was evicted last.
+    spare: Vec<u8>,
     alloc: Global,
 }
 
@@ -27,10 +32,16 @@ impl PageCache {
         ensures { IfOk result (λ cache. cache.pages.entries ≡ []) }
     {
         let pages = LruCache::new(alloc, NonZeroUsize::new(KEPT_PAGES).unwrap())?;
-        Ok(PageCache { pages, alloc })
+        let block = Vec::with_capacity(alloc, (BLOCK_PAGES * PAGE) as usize)?;
+        Ok(PageCache {
+            pages,
+            block,
+            spare: Vec::new(alloc),
+            alloc,
+        })
     }
 
-    /// Has the page of a number from then on, read from the flash where it isn't there.
+    /// Has the page of a number from then on, read from the flash where it isn't there, with those that follow it.
     pub(crate) fn load<F: Flash>(&mut self, flash: &mut F, number: u64) -> Result<(), BootFault>
         requires attached { F.attached flash.old ≡ true }
         requires within { number * page_size < F.extent flash.old }
@@ -49,27 +60,79 @@ impl PageCache {
         if self.pages.promote(&number) {
             return Ok(());
         }
-        let mut page = self.buffer();
-        match read_page(flash, number * PAGE, &mut page) {
+        let count = self.absent_pages(number, flash.size());
+        match read_block(flash, number, count, &mut self.block) {
             Ok(()) => (),
             Err(fault) => return Err(fault),
         }
-        match self.pages.put(number, page) {
-            Ok(_) => Ok(()),
-            Err(_) => Err(BootFault::NoMemory),
-        }
+        self.keep_block(number, count)
     }
 
-    /// Memory for a page: that of the page used longest ago, where no other has room.
-    fn buffer(&mut self) -> Vec<u8>
-        ensures { (known : Option (List ℕ)) (extent : ℕ) → ArePages known extent self.old.pages.entries → ArePages known extent self.new.pages.entries }
+    /// How many pages from a number on a block has: up to sixteen, up to the flash's end, and behind the first none that is
+    /// there.
+    fn absent_pages(&self, number: u64, size: u64) -> u64
+        requires within { number * page_size < size }
+        requires limit { size ≤ 134217728 }
+        ensures some { 0 < result }
+        ensures most { result ≤ block_pages }
+        ensures within { (page : ℕ) → page < number + result → page * page_size < size }
+        ensures absent { (page : ℕ) → number < page → page < number + result → lookup (nat_eq page) self.now.pages.entries ≡ None }
     {
-        if self.pages.len() < KEPT_PAGES {
-            return Vec::new(self.alloc);
+        for page in number + 1..number + BLOCK_PAGES {
+            if page * PAGE >= size || self.pages.contains(&page) {
+                return page - number;
+            }
         }
-        match self.pages.pop_lru() {
-            Some((_, page)) => page,
-            None => Vec::new(self.alloc),
+        BLOCK_PAGES
+    }
+
+    /// Has the pages of a block from then on, the first of them as the one used last.
+    fn keep_block(&mut self, number: u64, count: u64) -> Result<(), BootFault>
+        requires some { 0 < count }
+        requires most { count ≤ block_pages }
+        requires number { number ≤ 32768 }
+        requires within { count * page_size < length self.old.block.items + page_size }
+        ensures pages { (known : Option (List ℕ)) (extent : ℕ) → IsBlock known extent number count self.old.block.items → ArePages known extent self.old.pages.entries → ArePages known extent self.new.pages.entries }
+        ensures there { OnOk result (IsSome (lookup (nat_eq number) self.new.pages.entries)) }
+        ensures not_failed { IsErrOf result BootFault.Failed → ⊥ }
+        ensures not_large { IsErrOf result BootFault.TooLarge → ⊥ }
+    {
+        let mut left = count;
+        'pages: while left > 0 {
+            left -= 1;
+            match self.keep_page(number, left) {
+                Ok(()) => (),
+                Err(fault) => return Err(fault),
+            }
+        }
+        Ok(())
+    }
+
+    /// Has the page of an index of a block from then on, as the one used last.
+    fn keep_page(&mut self, number: u64, index: u64) -> Result<(), BootFault>
+        requires number { number ≤ 32768 }
+        requires index { index < block_pages }
+        requires within { index * page_size < length self.old.block.items }
+        ensures pages { (known : Option (List ℕ)) (extent count : ℕ) → IsBlock known extent number count self.old.block.items → index < count → ArePages known extent self.old.pages.entries → ArePages known extent self.new.pages.entries }
+        ensures there { OnOk result (IsSome (lookup (nat_eq (number + index)) self.new.pages.entries)) }
+        ensures block { self.new.block ≡ self.old.block }
+        ensures not_failed { IsErrOf result BootFault.Failed → ⊥ }
+        ensures not_large { IsErrOf result BootFault.TooLarge → ⊥ }
+    {
+        let start = (index * PAGE) as usize;
+        let end = (start + PAGE as usize).min(self.block.len());
+        let mut page = mem::replace(&mut self.spare, Vec::new(self.alloc));
+        page.clear();
+        let Ok(()) = page.extend_from_slice(&self.block[start..end]) else {
+            return Err(BootFault::NoMemory);
+        };
+        match self.pages.push(number + index, page) {
+            Ok(Some((_, evicted))) => {
+                self.spare = evicted;
+                Ok(())
+            }
+            Ok(None) => Ok(()),
+            Err(_) => Err(BootFault::NoMemory),
         }
     }
 

@@ -1,8 +1,7 @@
 //! Reading a flash by pages.
-ghost use Rattle.std.specs.Prelude.{◌≡◌, ◌-◌, ◌<◌, ◌≤◌, ◌^◌, length, true, OnOk, IsErrOf, slice_range};
+ghost use Rattle.std.specs.Prelude.{◌≡◌, ◌*◌, ◌<◌, ◌≤◌, ◌^◌, true, OnOk, IsErrOf};
 ghost use Rattle.x7_words.specs.Count.{HasRisen};
-ghost use Rattle.x7_words.specs.Flash.{WhereTold};
-ghost use Rattle.x7_boot.specs.Pages.{page_end};
+ghost use Rattle.x7_boot.specs.Pages.{IsBlock, block_pages, page_size};
 
 use crate::fault::BootFault;
 use x7_words::Flash;
@@ -10,17 +9,21 @@ use x7_words::Flash;
 /// The bytes of a page.
 pub(crate) const PAGE: u64 = 4_096;
 
-/// Reads from a place to the end of its page.
-pub(crate) fn read_page<F: Flash>(
+/// The most pages that are read at once.
+pub(crate) const BLOCK_PAGES: u64 = 16;
+
+/// Reads so many pages, from a number on, up to the flash's end.
+pub(crate) fn read_block<F: Flash>(
     flash: &mut F,
-    at: u64,
-    page: &mut Vec<u8>,
+    number: u64,
+    count: u64,
+    block: &mut Vec<u8>,
 ) -> Result<(), BootFault>
     requires attached { F.attached flash.old ≡ true }
-    requires within { at < F.extent flash.old }
+    requires within { number * page_size < F.extent flash.old }
+    requires count { count ≤ block_pages }
     requires limit { F.extent flash.old ≤ 134217728 }
-    ensures read { OnOk result (WhereTold (F.bytes flash.old) (λ all. page.new.items ≡ slice_range all at (page_end at (F.extent flash.old)))) }
-    ensures length { OnOk result (length page.new.items ≡ page_end at (F.extent flash.old) - at) }
+    ensures read { OnOk result (IsBlock (F.bytes flash.old) (F.extent flash.old) number count block.new.items) }
     ensures failed { IsErrOf result BootFault.Failed → HasRisen (F.faults flash.old) (F.faults flash.new) }
     ensures not_large { IsErrOf result BootFault.TooLarge → ⊥ }
     ensures attached { F.attached flash.new ≡ F.attached flash.old }
@@ -30,11 +33,12 @@ pub(crate) fn read_page<F: Flash>(
     ensures last_fault { F.faults flash.old < 2 ^ 64 → F.faults flash.new < 2 ^ 64 }
     ensures absences { F.absences flash.new ≡ F.absences flash.old }
 {
-    let end = ((at / PAGE + 1) * PAGE).min(flash.size());
-    let Ok(()) = page.resize((end - at) as usize, 0) else {
+    let start = number * PAGE;
+    let end = ((number + count) * PAGE).min(flash.size());
+    let Ok(()) = block.resize((end - start) as usize, 0) else {
         return Err(BootFault::NoMemory);
     };
-    match flash.read_at(at, page.as_mut_slice()) {
+    match flash.read_at(start, block.as_mut_slice()) {
         Ok(()) => Ok(()),
         Err(_) => Err(BootFault::Failed),
     }

@@ -1,0 +1,22 @@
+use Rattle.std.proofs.Common.{◌∙◌, ℕ, Vec, arith, subst, sym}
+use Rattle.std.specs.declared.alloc.Global.{Global}
+use Rattle.x7_boot.specs.Pages.{IsBlock}
+use Rattle.x7_boot.proofs.cache.PageCache.keep_block.Goals as goal
+
+pub pages-preserved : goal.pages-preserved
+pages-preserved c =
+    let i = c.pages.invariant in
+    record {
+      most = let m = i.most in omega (arith, m);
+      same = c.keep_page.ensures.block ∙ i.same;
+      kept = λ known extent block are.
+          c.keep_page.ensures.pages known extent c.args.count (subst (λ (v : Vec ℕ Global). IsBlock known extent c.args.number c.args.count v.items) (sym i.same) block)
+          (let m = i.most in omega (arith, m, c.pages-test.true)) (i.kept known extent block are);
+      there = λ _. c.in-Ok.ensures.there;
+    }
+
+pub returns-in-Err-clause-pages : goal.returns-in-Err-clause-pages
+returns-in-Err-clause-pages c = λ known extent block are.
+    let i = c.pages.invariant in
+    c.keep_page.ensures.pages known extent c.args.count (subst (λ (v : Vec ℕ Global). IsBlock known extent c.args.number c.args.count v.items) (sym i.same) block)
+    (let m = i.most in omega (arith, m, c.pages-test.true)) (i.kept known extent block are)
