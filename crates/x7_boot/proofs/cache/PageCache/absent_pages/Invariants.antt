@@ -1,4 +1,4 @@
-use Rattle.std.proofs.Common.{◌≡◌, ◌*◌, ◌<◌, ◌≤◌, ℕ, None, nat_eq}
+use Rattle.std.proofs.Common.{◌≡◌, ◌*◌, ◌<◌, ℕ, None, nat_eq}
 use Rattle.std.specs.Map.{lookup}
 use Rattle.x7_boot.specs.Pages.{page_size}
 use Rattle.x7_boot.proofs.cache.PageCache.absent_pages.Given as goal
