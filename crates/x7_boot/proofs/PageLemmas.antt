@@ -1,5 +1,5 @@
 -- Lemmas on the pages of a flash that are kept, and on the rest of a page.
-use Rattle.std.proofs.Common.{◌≡◌, ◌+◌, ◌-◌, ◌*◌, ◌/◌, ◌%◌, ◌^◌, ◌<◌, ◌≤◌, ◌++◌, ℕ, Bool, true, false, List, [], length, take, drop, slice_range, Option, None, Some, IsSome, is_some, Vec, nat_eq, min, refl, ap, sym, subst, ◌∙◌, drop-drop, length-drop, length-take, inl, inr, arith}
+use Rattle.std.proofs.Common.{◌≡◌, ◌+◌, ◌-◌, ◌*◌, ◌/◌, ◌%◌, ◌<◌, ◌≤◌, ◌++◌, ℕ, Bool, true, false, List, [], length, take, drop, slice_range, Option, None, Some, IsSome, is_some, Vec, nat_eq, min, refl, ap, sym, subst, ◌∙◌, drop-drop, length-drop, length-take, inl, inr, arith}
 use Rattle.std.proofs.lemmas.List.{drop-take, take-take, take_rest}
 use Rattle.std.proofs.lemmas.Bool.{false≢true}
 use Rattle.std.specs.Cmp.{nat_eq_equiv}
@@ -10,7 +10,7 @@ use Rattle.lru.proofs.CallerLemmas.{Contains-lookup, Contains-lookup_entry, Cont
 use Rattle.lru.proofs.Splits.{Contains-nil}
 use Rattle.x7_words.specs.Flash.{WhereTold}
 use Rattle.x7_boot.specs.Image.{flash_limit}
-use Rattle.x7_boot.specs.Pages.{ArePages, HasPage, IsBlock, IsRest, Pages, block_end, page_end, page_size}
+use Rattle.x7_boot.specs.Pages.{AreFrom, ArePages, HasPage, IsBlock, IsRest, Pages, block_end, page_end, page_size}
 
 -- ---- pages that are kept
 
@@ -193,5 +193,35 @@ rest_within known extent at page within r =
     end_within : (at extent : ℕ) → page_end at extent ≤ extent
     end_within at extent = grind arith
 
-pub rest_limited : (known : Option (List ℕ)) (extent at : ℕ) (page : List ℕ) → at < extent → extent ≤ flash_limit → IsRest known extent at page → at + length page ≤ flash_limit
-rest_limited known extent at page within limit r = let l : at + length page ≤ extent = rest_within known extent at page within r in omega (arith, l, limit)
+-- what is kept of a page, as bytes from a place on
+pub from_rest : (known : Option (List ℕ)) (extent at : ℕ) (page : List ℕ) → at < extent → IsRest known extent at page → AreFrom known extent at page
+from_rest known extent at page within r = record { some = rest_goes known extent at page within r; within = rest_within known extent at page within r; told = rest_told known extent at page within r }
+
+-- a block that begins with the page of a place has the place
+pub place_in_block : (known : Option (List ℕ)) (extent at count : ℕ) (block : List ℕ) → at < extent → 0 < count → IsBlock known extent (at / page_size) count block → at % page_size < length block
+place_in_block known extent at count block within some b = let long : length block ≡ block_end (at / page_size) count extent - at / page_size * page_size = b.long in omega (arith, long, within, some)
+
+pub from_block : (known : Option (List ℕ)) (extent at count : ℕ) (block lent : List ℕ) → at < extent → 0 < count → IsBlock known extent (at / page_size) count block → lent ≡ block
+    → AreFrom known extent at (take (length lent - at % page_size) (drop (at % page_size) lent))
+from_block known extent at count block lent within some b e =
+    let bytes : List ℕ = drop (at % page_size) block in
+    let inside : at % page_size < length block = place_in_block known extent at count block within some b in
+    let sum : at / page_size * page_size + at % page_size ≡ at = omega arith in
+    let long : length block ≡ block_end (at / page_size) count extent - at / page_size * page_size = b.long in
+    let left : length bytes ≡ length block - at % page_size = length-drop (at % page_size) block in
+    let end : block_end (at / page_size) count extent ≡ at + length bytes = omega (arith, long, left, inside, sum) in
+    let from : AreFrom known extent at bytes = record {
+      some = omega (arith, left, inside);
+      within = omega (arith, end);
+      told = told_from known block (at / page_size * page_size) (at % page_size) at (block_end (at / page_size) count extent) (at + length bytes) sum end (omega arith) b.told;
+    } in
+    subst (AreFrom known extent at) (sym (take_rest lent (at % page_size) ∙ ap (drop (at % page_size)) e)) from
+
+-- a block that was read from a flash whose bytes and size are these
+pub block_read : (known told : Option (List ℕ)) (extent size number count : ℕ) (block : List ℕ) → told ≡ known → size ≡ extent → (0 < count → IsBlock told size number count block) → 0 < count → IsBlock known extent number count block
+block_read known told extent size number count block e f read some =
+    subst (λ (k : Option (List ℕ)). IsBlock k extent number count block) e (subst (λ (n : ℕ). IsBlock told n number count block) f (read some))
+
+-- bytes of a flash that is no larger than one may be
+pub from_limited : (known : Option (List ℕ)) (extent at : ℕ) (bytes : List ℕ) → extent ≤ flash_limit → AreFrom known extent at bytes → at + length bytes ≤ flash_limit
+from_limited known extent at bytes limit from = let within = from.within in omega (arith, limit, within)

@@ -1,5 +1,5 @@
 -- Pages of a flash (this project's choice).
-use Rattle.std.specs.Prelude.{◌≡◌, ℕ, ◌+◌, ◌-◌, ◌*◌, ◌/◌, ◌<◌, min, List, length, slice_range, Option, IsSome, Contains, Vec, nat_eq}
+use Rattle.std.specs.Prelude.{◌≡◌, ℕ, ◌+◌, ◌-◌, ◌*◌, ◌/◌, ◌<◌, ◌≤◌, min, List, length, slice_range, Option, IsSome, Contains, Vec, nat_eq}
 use Rattle.std.specs.declared.alloc.Global.{Global}
 use Rattle.std.specs.Map.{lookup}
 use Rattle.x7_words.specs.Flash.{WhereTold}
@@ -30,6 +30,12 @@ pub record IsBlock (known : Option (List ℕ)) (extent number count : ℕ) (byte
   pub within : number * page_size < extent
   pub long : length bytes ≡ block_end number count extent - number * page_size
   pub told : WhereTold known (λ all. bytes ≡ slice_range all (number * page_size) (block_end number count extent))
+
+-- these are bytes of a flash from a place on, one at least
+pub record AreFrom (known : Option (List ℕ)) (extent at : ℕ) (bytes : List ℕ) : Type 0 where
+  pub some : 0 < length bytes
+  pub within : at + length bytes ≤ extent
+  pub told : WhereTold known (λ all. bytes ≡ slice_range all at (at + length bytes))
 
 -- pages under their numbers
 abbrev pub Pages : Type 0

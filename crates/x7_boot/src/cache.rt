@@ -1,8 +1,8 @@
 //! The pages of a flash that were used last, so that none of them is read again.
-ghost use Rattle.std.specs.Prelude.{◌≡◌, ◌+◌, ◌*◌, ◌/◌, ◌<◌, ◌≤◌, ℕ, List, Option, None, [], length, true, nat_eq, IfOk, OnOk, IsErrOf, IsSome};
+ghost use Rattle.std.specs.Prelude.{◌≡◌, ◌+◌, ◌*◌, ◌/◌, ◌%◌, ◌<◌, ◌≤◌, ℕ, List, Option, None, [], length, true, nat_eq, IfOk, OnOk, IsErrOf, IsSome};
 ghost use Rattle.std.specs.Map.{lookup};
 ghost use Rattle.x7_words.specs.Count.{HasRisen};
-ghost use Rattle.x7_boot.specs.Pages.{ArePages, HasPage, IsBlock, IsRest, block_pages, page_size};
+ghost use Rattle.x7_boot.specs.Pages.{AreFrom, ArePages, HasPage, IsBlock, IsRest, block_pages, page_size};
 
 use crate::fault::BootFault;
 use crate::pages::{BLOCK_PAGES, PAGE, read_block};
@@ -41,14 +41,16 @@ impl PageCache {
         })
     }
 
-    /// Has the page of a number from then on, read from the flash where it isn't there, with those that follow it.
-    pub(crate) fn load<F: Flash>(&mut self, flash: &mut F, number: u64) -> Result<(), BootFault>
+    /// Has the page of a number from then on, read from the flash where it isn't there, with those that follow it. Gives how
+    /// many pages were read.
+    pub(crate) fn load<F: Flash>(&mut self, flash: &mut F, number: u64) -> Result<u64, BootFault>
         requires attached { F.attached flash.old ≡ true }
         requires within { number * page_size < F.extent flash.old }
         requires limit { F.extent flash.old ≤ 134217728 }
         requires pages { ArePages (F.bytes flash.old) (F.extent flash.old) self.old.pages.entries }
         ensures pages { ArePages (F.bytes flash.old) (F.extent flash.old) self.new.pages.entries }
         ensures there { OnOk result (IsSome (lookup (nat_eq number) self.new.pages.entries)) }
+        ensures read { IfOk result (λ count. 0 < count → IsBlock (F.bytes flash.old) (F.extent flash.old) number count self.new.block.items) }
         ensures failed { IsErrOf result BootFault.Failed → HasRisen (F.faults flash.old) (F.faults flash.new) }
         ensures not_large { IsErrOf result BootFault.TooLarge → ⊥ }
         ensures attached { F.attached flash.new ≡ F.attached flash.old }
@@ -58,14 +60,17 @@ impl PageCache {
         ensures absences { F.absences flash.new ≡ F.absences flash.old }
     {
         if self.pages.promote(&number) {
-            return Ok(());
+            return Ok(0);
         }
         let count = self.absent_pages(number, flash.size());
         match read_block(flash, number, count, &mut self.block) {
             Ok(()) => (),
             Err(fault) => return Err(fault),
         }
-        self.keep_block(number, count)
+        match self.keep_block(number, count) {
+            Ok(()) => Ok(count),
+            Err(fault) => Err(fault),
+        }
     }
 
     /// How many pages from a number on a block has: up to sixteen, up to the flash's end, and behind the first none that is
@@ -94,6 +99,7 @@ impl PageCache {
         requires within { count * page_size < length self.old.block.items + page_size }
         ensures pages { (known : Option (List ℕ)) (extent : ℕ) → IsBlock known extent number count self.old.block.items → ArePages known extent self.old.pages.entries → ArePages known extent self.new.pages.entries }
         ensures there { OnOk result (IsSome (lookup (nat_eq number) self.new.pages.entries)) }
+        ensures block { self.new.block ≡ self.old.block }
         ensures not_failed { IsErrOf result BootFault.Failed → ⊥ }
         ensures not_large { IsErrOf result BootFault.TooLarge → ⊥ }
     {
@@ -136,8 +142,22 @@ impl PageCache {
         }
     }
 
+    /// The bytes from a place on that are there. Where so many pages were read for its page, they are those of all of them, and
+    /// else those to the end of its page.
+    pub(crate) fn bytes_from(&self, at: u64, count: u64) -> &[u8]
+        requires page { HasPage self.now.pages.entries at }
+        requires block { 0 < count → at % page_size < length self.now.block.items }
+        ensures { (known : Option (List ℕ)) (extent : ℕ) → at < extent → ArePages known extent self.now.pages.entries → (0 < count → IsBlock known extent (at / page_size) count self.now.block.items)
+            → AreFrom known extent at result.now }
+    {
+        if count > 0 {
+            return &self.block[(at % PAGE) as usize..];
+        }
+        self.rest_of_page(at)
+    }
+
     /// The bytes from a place to the end of its page, which is there.
-    pub(crate) fn rest_of_page(&self, at: u64) -> &[u8]
+    fn rest_of_page(&self, at: u64) -> &[u8]
         requires { HasPage self.now.pages.entries at }
         ensures { (known : Option (List ℕ)) (extent : ℕ) → ArePages known extent self.now.pages.entries → at < extent → IsRest known extent at result.now }
     {

@@ -100,13 +100,13 @@ pub(crate) fn try_once<F: Flash>(
         if at >= size {
             return Ok(run_out(device));
         }
-        match pages.load(flash, at / PAGE) {
-            Ok(()) => (),
+        let count = match pages.load(flash, at / PAGE) {
+            Ok(count) => count,
             Err(fault) => return Err(fault),
-        }
-        let page = pages.rest_of_page(at);
-        match take_page(device, page) {
-            Step::Goes => at += page.len() as u64,
+        };
+        let bytes = pages.bytes_from(at, count);
+        match take_page(device, bytes) {
+            Step::Goes => at += bytes.len() as u64,
             Step::Ends(ending) => return Ok(ending),
             Step::Stops => return Ok(run_out(device)),
         }

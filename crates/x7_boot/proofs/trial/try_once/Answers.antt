@@ -1,5 +1,6 @@
-use Rattle.std.proofs.Common.{◌+◌, ◌<◌, false, length, sym, refl, ◌∙◌, arith, true}
-use Rattle.x7_boot.proofs.PageLemmas.{pages_of, rest_limited, rest_goes, rest_told}
+use Rattle.std.proofs.Common.{◌+◌, ◌/◌, ◌<◌, false, length, sym, refl, ◌∙◌, arith, true}
+use Rattle.x7_boot.specs.Pages.{page_size}
+use Rattle.x7_boot.proofs.PageLemmas.{block_read, from_limited, pages_of}
 use Rattle.x7_boot.proofs.TrialLemmas.{ends_here, feeds_on, feeds_ready, leaves_out, leaves_page, known_ended, known_out, known_stopped, stops_here}
 use Rattle.x7_boot.proofs.trial.try_once.Goals as goal
 
@@ -31,11 +32,12 @@ pages-preserved g c =
     let extent = g.F.Flash.extent c.args.flash.now in
     let below : c.pages.at < extent = omega (arith, c.if-at-size.false, c.pages.invariant.size) in
     let are = pages_of known (g.F.Flash.bytes c.pages.flash) extent (g.F.Flash.extent c.pages.flash) c.load.new.self.pages.entries c.pages.invariant.same c.pages.invariant.extent c.load.ensures.pages in
-    let told = rest_told known extent c.pages.at c.rest_of_page-page.result.now below (c.rest_of_page-page.ensures known extent are below) in
+    let read = block_read known (g.F.Flash.bytes c.pages.flash) extent (g.F.Flash.extent c.pages.flash) (c.pages.at / page_size) c.in-Ok.count c.load.new.self.block.items c.pages.invariant.same c.pages.invariant.extent c.in-Ok.ensures.read in
+    let from = c.bytes_from-bytes.ensures known extent below are read in
     let t = c.take_page.ensures c.args.device.now.part c.args.keep f.bytes f.stands f.going f.open_end in
     record {
-      feeds = feeds_on c.args.device.now.part c.args.keep c.args.address (g.F.Flash.bytes c.args.flash.now) c.pages.device c.take_page.new.device c.rest_of_page-page.result.now c.pages.at (c.pages.at + length c.rest_of_page-page.result.now) c.take_page.result refl
-          (rest_limited known extent c.pages.at c.rest_of_page-page.result.now below c.requires.limit (c.rest_of_page-page.ensures known extent are below)) f told t c.in-Goes.is;
+      feeds = feeds_on c.args.device.now.part c.args.keep c.args.address (g.F.Flash.bytes c.args.flash.now) c.pages.device c.take_page.new.device c.bytes_from-bytes.result.now c.pages.at (c.pages.at + length c.bytes_from-bytes.result.now) c.take_page.result refl
+          (from_limited known extent c.pages.at c.bytes_from-bytes.result.now c.requires.limit from) f from.told t c.in-Goes.is;
       kept = are;
       attached = c.in-Ok.ensures.attached ∙ c.pages.invariant.attached;
       extent = c.in-Ok.ensures.extent ∙ c.pages.invariant.extent;
@@ -52,14 +54,15 @@ returns-in-Ends-clause-tried g c =
     let extent = g.F.Flash.extent c.args.flash.now in
     let below : c.pages.at < extent = omega (arith, c.if-at-size.false, c.pages.invariant.size) in
     let are = pages_of known (g.F.Flash.bytes c.pages.flash) extent (g.F.Flash.extent c.pages.flash) c.load.new.self.pages.entries c.pages.invariant.same c.pages.invariant.extent c.load.ensures.pages in
-    let told = rest_told known extent c.pages.at c.rest_of_page-page.result.now below (c.rest_of_page-page.ensures known extent are below) in
+    let read = block_read known (g.F.Flash.bytes c.pages.flash) extent (g.F.Flash.extent c.pages.flash) (c.pages.at / page_size) c.in-Ok.count c.load.new.self.block.items c.pages.invariant.same c.pages.invariant.extent c.in-Ok.ensures.read in
+    let from = c.bytes_from-bytes.ensures known extent below are read in
     let t = c.take_page.ensures c.args.device.now.part c.args.keep f.bytes f.stands f.going f.open_end in
-    known_ended c.args.device.now.part c.args.keep c.args.address (g.F.Flash.bytes c.args.flash.now) c.pages.device c.take_page.new.device c.rest_of_page-page.result.now c.pages.at c.take_page.result c.in-Ends.ending f told t c.in-Ends.is
+    known_ended c.args.device.now.part c.args.keep c.args.address (g.F.Flash.bytes c.args.flash.now) c.pages.device c.take_page.new.device c.bytes_from-bytes.result.now c.pages.at c.take_page.result c.in-Ends.ending f from.told t c.in-Ends.is
 
 pub run_out-requires-in-Stops : goal.run_out-requires-in-Stops
 run_out-requires-in-Stops g c =
     let f = c.pages.invariant.feeds in
-    stops_here c.args.device.now.part c.args.keep c.take_page.new.device f.bytes c.rest_of_page-page.result.now c.take_page.result c.requires.boots (c.take_page.ensures c.args.device.now.part c.args.keep f.bytes f.stands f.going f.open_end) c.in-Stops.is
+    stops_here c.args.device.now.part c.args.keep c.take_page.new.device f.bytes c.bytes_from-bytes.result.now c.take_page.result c.requires.boots (c.take_page.ensures c.args.device.now.part c.args.keep f.bytes f.stands f.going f.open_end) c.in-Stops.is
 
 pub returns-in-Stops-clause-tried : goal.returns-in-Stops-clause-tried
 returns-in-Stops-clause-tried g c =
@@ -68,9 +71,10 @@ returns-in-Stops-clause-tried g c =
     let extent = g.F.Flash.extent c.args.flash.now in
     let below : c.pages.at < extent = omega (arith, c.if-at-size.false, c.pages.invariant.size) in
     let are = pages_of known (g.F.Flash.bytes c.pages.flash) extent (g.F.Flash.extent c.pages.flash) c.load.new.self.pages.entries c.pages.invariant.same c.pages.invariant.extent c.load.ensures.pages in
-    let told = rest_told known extent c.pages.at c.rest_of_page-page.result.now below (c.rest_of_page-page.ensures known extent are below) in
+    let read = block_read known (g.F.Flash.bytes c.pages.flash) extent (g.F.Flash.extent c.pages.flash) (c.pages.at / page_size) c.in-Ok.count c.load.new.self.block.items c.pages.invariant.same c.pages.invariant.extent c.in-Ok.ensures.read in
+    let from = c.bytes_from-bytes.ensures known extent below are read in
     let t = c.take_page.ensures c.args.device.now.part c.args.keep f.bytes f.stands f.going f.open_end in
-    known_stopped c.args.device.now.part c.args.keep c.args.address (g.F.Flash.bytes c.args.flash.now) c.pages.device c.take_page.new.device c.run_out-in-Stops.new.device c.rest_of_page-page.result.now c.pages.at c.take_page.result c.run_out-in-Stops.result f told t c.in-Stops.is
+    known_stopped c.args.device.now.part c.args.keep c.args.address (g.F.Flash.bytes c.args.flash.now) c.pages.device c.take_page.new.device c.run_out-in-Stops.new.device c.bytes_from-bytes.result.now c.pages.at c.take_page.result c.run_out-in-Stops.result f from.told t c.in-Stops.is
     (c.run_out-in-Stops.ensures.stands c.args.device.now.part c.args.keep _ t.stands) c.run_out-in-Stops.ensures.ending
 
 pub returns-then-at-size-clause-leaves : goal.returns-then-at-size-clause-leaves
@@ -85,10 +89,11 @@ returns-in-Ends-clause-leaves g c =
     let extent = g.F.Flash.extent c.args.flash.now in
     let below : c.pages.at < extent = omega (arith, c.if-at-size.false, c.pages.invariant.size) in
     let are = pages_of known (g.F.Flash.bytes c.pages.flash) extent (g.F.Flash.extent c.pages.flash) c.load.new.self.pages.entries c.pages.invariant.same c.pages.invariant.extent c.load.ensures.pages in
-    let rest = c.rest_of_page-page.ensures known extent are below in
+    let read = block_read known (g.F.Flash.bytes c.pages.flash) extent (g.F.Flash.extent c.pages.flash) (c.pages.at / page_size) c.in-Ok.count c.load.new.self.block.items c.pages.invariant.same c.pages.invariant.extent c.in-Ok.ensures.read in
+    let from = c.bytes_from-bytes.ensures known extent below are read in
     let t = c.take_page.ensures c.args.device.now.part c.args.keep f.bytes f.stands f.going f.open_end in
-    leaves_page c.args.device.now.part c.args.keep false c.args.address known c.pages.device c.take_page.new.device c.take_page.new.device c.rest_of_page-page.result.now c.pages.at c.take_page.result f
-    (rest_told known extent c.pages.at c.rest_of_page-page.result.now below rest) (rest_limited known extent c.pages.at c.rest_of_page-page.result.now below c.requires.limit rest) t t.stands
+    leaves_page c.args.device.now.part c.args.keep false c.args.address known c.pages.device c.take_page.new.device c.take_page.new.device c.bytes_from-bytes.result.now c.pages.at c.take_page.result f
+    from.told (from_limited known extent c.pages.at c.bytes_from-bytes.result.now c.requires.limit from) t t.stands
 
 pub returns-in-Stops-clause-leaves : goal.returns-in-Stops-clause-leaves
 returns-in-Stops-clause-leaves g c =
@@ -97,10 +102,11 @@ returns-in-Stops-clause-leaves g c =
     let extent = g.F.Flash.extent c.args.flash.now in
     let below : c.pages.at < extent = omega (arith, c.if-at-size.false, c.pages.invariant.size) in
     let are = pages_of known (g.F.Flash.bytes c.pages.flash) extent (g.F.Flash.extent c.pages.flash) c.load.new.self.pages.entries c.pages.invariant.same c.pages.invariant.extent c.load.ensures.pages in
-    let rest = c.rest_of_page-page.ensures known extent are below in
+    let read = block_read known (g.F.Flash.bytes c.pages.flash) extent (g.F.Flash.extent c.pages.flash) (c.pages.at / page_size) c.in-Ok.count c.load.new.self.block.items c.pages.invariant.same c.pages.invariant.extent c.in-Ok.ensures.read in
+    let from = c.bytes_from-bytes.ensures known extent below are read in
     let t = c.take_page.ensures c.args.device.now.part c.args.keep f.bytes f.stands f.going f.open_end in
-    leaves_page c.args.device.now.part c.args.keep true c.args.address known c.pages.device c.take_page.new.device c.run_out-in-Stops.new.device c.rest_of_page-page.result.now c.pages.at c.take_page.result f
-    (rest_told known extent c.pages.at c.rest_of_page-page.result.now below rest) (rest_limited known extent c.pages.at c.rest_of_page-page.result.now below c.requires.limit rest) t
+    leaves_page c.args.device.now.part c.args.keep true c.args.address known c.pages.device c.take_page.new.device c.run_out-in-Stops.new.device c.bytes_from-bytes.result.now c.pages.at c.take_page.result f
+    from.told (from_limited known extent c.pages.at c.bytes_from-bytes.result.now c.requires.limit from) t
     (c.run_out-in-Stops.ensures.stands c.args.device.now.part c.args.keep _ t.stands)
 
 pub returns-then-at-size-clause-pages : goal.returns-then-at-size-clause-pages
@@ -116,8 +122,10 @@ take_page-requires g c =
     let extent = g.F.Flash.extent c.args.flash.now in
     let below : c.pages.at < extent = omega (arith, c.if-at-size.false, c.pages.invariant.size) in
     let are = pages_of known (g.F.Flash.bytes c.pages.flash) extent (g.F.Flash.extent c.pages.flash) c.load.new.self.pages.entries c.pages.invariant.same c.pages.invariant.extent c.load.ensures.pages in
-    feeds_ready c.args.device.now.part c.args.keep c.args.address known c.pages.device c.pages.at (length c.rest_of_page-page.result.now)
-    (let limit = rest_limited known extent c.pages.at c.rest_of_page-page.result.now below c.requires.limit (c.rest_of_page-page.ensures known extent are below) in omega (arith, limit)) c.pages.invariant.feeds
+    let read = block_read known (g.F.Flash.bytes c.pages.flash) extent (g.F.Flash.extent c.pages.flash) (c.pages.at / page_size) c.in-Ok.count c.load.new.self.block.items c.pages.invariant.same c.pages.invariant.extent c.in-Ok.ensures.read in
+    let from = c.bytes_from-bytes.ensures known extent below are read in
+    feeds_ready c.args.device.now.part c.args.keep c.args.address known c.pages.device c.pages.at (length c.bytes_from-bytes.result.now)
+    (let limit = from_limited known extent c.pages.at c.bytes_from-bytes.result.now c.requires.limit from in omega (arith, limit)) c.pages.invariant.feeds
 
 pub pages-smaller : goal.pages-smaller
 pages-smaller g c =
@@ -125,7 +133,9 @@ pages-smaller g c =
     let extent = g.F.Flash.extent c.args.flash.now in
     let below : c.pages.at < extent = omega (arith, c.if-at-size.false, c.pages.invariant.size) in
     let are = pages_of known (g.F.Flash.bytes c.pages.flash) extent (g.F.Flash.extent c.pages.flash) c.load.new.self.pages.entries c.pages.invariant.same c.pages.invariant.extent c.load.ensures.pages in
-    let some = rest_goes known extent c.pages.at c.rest_of_page-page.result.now below (c.rest_of_page-page.ensures known extent are below) in
+    let read = block_read known (g.F.Flash.bytes c.pages.flash) extent (g.F.Flash.extent c.pages.flash) (c.pages.at / page_size) c.in-Ok.count c.load.new.self.block.items c.pages.invariant.same c.pages.invariant.extent c.in-Ok.ensures.read in
+    let from = c.bytes_from-bytes.ensures known extent below are read in
+    let some = from.some in
     omega (arith, some, c.if-at-size.false)
 
 pub begin-at-requires : goal.begin-at-requires

@@ -20,8 +20,14 @@ returns-in-Err-clause-pages g c =
     let f = g.F.Flash in
     pages_on_promote (f.bytes c.args.flash.now) (f.extent c.args.flash.now) (nat_eq c.args.number) c.args.self.now.pages c.promote.new.self c.promote.ensures.entries c.requires.pages
 
-pub returns-clause-pages : goal.returns-clause-pages
-returns-clause-pages g c =
+pub returns-in-Ok-keep_block-clause-pages : goal.returns-in-Ok-keep_block-clause-pages
+returns-in-Ok-keep_block-clause-pages g c =
+    let f = g.F.Flash in
+    c.keep_block.ensures.pages (f.bytes c.args.flash.now) (f.extent c.args.flash.now) c.in-Ok.ensures.read
+    (pages_on_promote (f.bytes c.args.flash.now) (f.extent c.args.flash.now) (nat_eq c.args.number) c.args.self.now.pages c.promote.new.self c.promote.ensures.entries c.requires.pages)
+
+pub returns-in-Err-keep_block-clause-pages : goal.returns-in-Err-keep_block-clause-pages
+returns-in-Err-keep_block-clause-pages g c =
     let f = g.F.Flash in
     c.keep_block.ensures.pages (f.bytes c.args.flash.now) (f.extent c.args.flash.now) c.in-Ok.ensures.read
     (pages_on_promote (f.bytes c.args.flash.now) (f.extent c.args.flash.now) (nat_eq c.args.number) c.args.self.now.pages c.promote.new.self c.promote.ensures.entries c.requires.pages)
