@@ -165,8 +165,8 @@ takes_words c n register count run is to none none2 matcher fits long some other
     ap (flat_map bytes_of_word) (words_of_payload register (words_of_bytes run.now)) ∙ bytes-words run.now count fits long ∙ ap (λ t. t ++ run.now) (sym none) in
     body_more c n bytes run.now sessions place register run s is all fits word none2 (to ∙ ap (λ (b : Bool). if b then mode.Searching else mode.Synced) (sym (calm_words register (words_of_bytes run.now) other))) matcher
 
-pub writes_few : (old new : CutterState) (bs : List ℕ) (head register count : ℕ) → old.mode ≡ mode.Synced → new.mode ≡ mode.Synced → MatcherStandsFor new.matcher [] → old.kept ≡ [] → new.kept ≡ [] → 36 ≤ length bs → AreBytes bs
-    → bytes_of_word head ≡ get_or bs 0 0 ∷ get_or bs 1 0 ∷ get_or bs 2 0 ∷ get_or bs 3 0 ∷ [] → head ≡ short_head register count → register < 32 → (register ≡ 4 → ⊥) → 0 < count → count ≤ 8
+pub writes_few : (old new : CutterState) (bs : List ℕ) (head register count : ℕ) → old.mode ≡ mode.Synced → new.mode ≡ mode.Synced → MatcherStandsFor new.matcher [] → old.kept ≡ [] → new.kept ≡ [] → 68 ≤ length bs → AreBytes bs
+    → bytes_of_word head ≡ get_or bs 0 0 ∷ get_or bs 1 0 ∷ get_or bs 2 0 ∷ get_or bs 3 0 ∷ [] → head ≡ short_head register count → register < 32 → (register ≡ 4 → ⊥) → 0 < count → count ≤ 16
     → ((ps : List Packet) (n : ℕ) → 0 < n → n < 2 ^ 11 → MachineStandsFor old.machine ps → Grows ps ((short_head register n, Open register n) ∷ []) (in_short register n))
     → ((ps : List Packet) (ws : List ℕ) → AreWords ws → 0 < length ws → MachineStandsFor (in_short register (length ws)) ps → Grows ps (payload_steps register ws) new.machine)
     → WritesFew old new bs register count

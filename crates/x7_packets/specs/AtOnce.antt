@@ -40,14 +40,14 @@ short_head register count = 0x30000000 + 8192 * register + count
 abbrev pub in_short : ℕ → ℕ → MachineState
 in_short register count = record { due = count; register = register; latest = Some register }
 
--- the bytes begin with a write of one to eight words to a register other than CMD: taken, it is its header and then its words
+-- the bytes begin with a write of one to sixteen words to a register other than CMD: taken, it is its header and then its words
 pub record WritesFew (old new : CutterState) (rest : List ℕ) (register count : ℕ) : Type 0 where
   pub between : CutterState
   pub range : register < 32
   pub other : register ≡ 4 → ⊥
   pub some : 0 < count
-  pub few : count ≤ 8
-  pub long : 36 ≤ length rest
+  pub few : count ≤ 16
+  pub long : 68 ≤ length rest
   pub bytes : take 4 rest ≡ bytes_of_word (short_head register count)
   pub head : Takes old between (bytes_of_word (short_head register count)) (Head (short_head register count) (Open register count))
   pub words : (run : Bor (List ℕ)) → run.now ≡ take (4 * count) (drop 4 rest) → Takes between new run.now (Body register run)

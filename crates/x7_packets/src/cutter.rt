@@ -70,8 +70,11 @@ fn whole(kept: &[u8; 3], count: usize, missing: &[u8]) -> u32
     word_of(bytes)
 }
 
-/// How many bytes must lie there for a short write to be taken at once: the longest one, a header and eight words.
-const SHORT: usize = 36;
+/// How many bytes must lie there for a short write to be taken at once: the longest one, a header and sixteen words.
+const LONGEST_WRITE: usize = 68;
+
+/// How many bytes must lie there for a short gap to be taken at once.
+const LONGEST_GAP: usize = 36;
 
 /// What a cutter is at behind a word.
 fn after_word(ended: bool) -> Mode
@@ -194,8 +197,8 @@ impl Cutter {
         Some((register, w))
     }
 
-    /// Takes the packet that comes next, where it is a write of one to eight words to a register other than CMD, its header's
-    /// reserved bits 0, and `rest` has 36 bytes at least. Gives its register and how many words it has.
+    /// Takes the packet that comes next, where it is a write of one to sixteen words to a register other than CMD, its header's
+    /// reserved bits 0, and `rest` has 68 bytes at least. Gives its register and how many words it has.
     #[inline(always)]
     pub fn take_short_write(&mut self, rest: &[u8]) -> Option<(u8, usize)>
         ensures some { IfSome result (λ write. WritesFew self.old self.new rest.now write.0 write.1) }
@@ -204,12 +207,12 @@ impl Cutter {
         if !self.is_at_header() {
             return None;
         }
-        if rest.len() < SHORT {
+        if rest.len() < LONGEST_WRITE {
             return None;
         }
         let head = word_of([rest[0], rest[1], rest[2], rest[3]]);
         let register = (head >> 13 & 31) as u8;
-        let count = head & 15;
+        let count = head & 31;
         if head != 0x3000_0000 + 8192 * u32::from(register) + count {
             return None;
         }
@@ -219,7 +222,7 @@ impl Cutter {
         if count == 0 {
             return None;
         }
-        if count > 8 {
+        if count > 16 {
             return None;
         }
         self.machine.pass_words(register);
@@ -237,7 +240,7 @@ impl Cutter {
         if !self.is_in_clear_gap() {
             return None;
         }
-        if rest.len() < SHORT {
+        if rest.len() < LONGEST_GAP {
             return None;
         }
         let Some(count) = near_sync(rest) else {
