@@ -1,16 +1,18 @@
 -- The first elements of a whole line.
-use Rattle.std.proofs.Common.{◌≡◌, ℕ, suc, ◌+◌, ◌-◌, ◌*◌, ◌<◌, ◌≤◌, List, [], ◌∷◌, ◌++◌, codes, length, length-append, length-take-le, take, take_all, refl, ap, sym, ◌∙◌, append_assoc, arith, Vec, vec_len, ◌==◌, false}
-use Rattle.std.proofs.Math.Seq.{take-append-add}
+use Rattle.std.proofs.Common.{◌≡◌, ℕ, zero, suc, ◌+◌, ◌-◌, ◌*◌, ◌/◌, ◌<◌, ◌≤◌, List, [], ◌∷◌, ◌++◌, codes, drop, get_or, length, length-append, length-take-le, take, take_all, refl, ap, sym, ◌∙◌, append_assoc, arith, Vec, vec_len, ◌==◌, false}
+use Rattle.std.proofs.Math.Seq.{take-add, take-append-add}
 use Rattle.std.proofs.lemmas.Bool.Decides.{nat_tests}
+use Rattle.std.proofs.lemmas.List.{take-take}
 use Rattle.std.specs.List.{flat_map}
+use Rattle.std.specs.Simd.{first_chunks}
 use Rattle.std.specs.declared.alloc.Global.{Global}
 use Rattle.x7_words.specs.Word.{words_of_bytes}
-use Rattle.x7_words.proofs.WordLemmas.{length-words}
+use Rattle.x7_words.proofs.WordLemmas.{length-words, words_of_bytes-append}
 use Rattle.x7_text.specs.Appends.{Appends}
 use Rattle.x7_text.specs.Digits.{hex_byte}
 use Rattle.x7_text.specs.Row.{bytes_text, close, in_line_after, line, open_text, spaced}
 use Rattle.x7_text.proofs.FewLemmas.{few_count, few_text, hex_front}
-use Rattle.x7_text.proofs.LineLemmas.{bytes_closed, in_line_after-whole, open_text-whole}
+use Rattle.x7_text.proofs.LineLemmas.{bytes_closed, in_line_after-row, in_line_after-whole, open_text-row, open_text-whole}
 use Rattle.x7_text.proofs.ReadRowLemmas.{take-spaced, take-words}
 use Rattle.x7_text.proofs.WholeLineLemmas.{length-hex_bytes}
 
@@ -50,6 +52,53 @@ first_words old all told new bytes n count some few long is e f g =
     let shown : take (4 + 9 * count) told ≡ codes "data" ++ flat_map spaced (words_of_bytes (take (4 * count) bytes)) =
     ap (take (4 + 9 * count)) is ∙ ap (λ (m : ℕ). take m (line (codes "data") spaced (words_of_bytes bytes))) four ∙ ap (λ t. codes "data" ++ t) digits in
     kept_front old all told new n (4 + 9 * count) e f g ∙ ap (λ t. old ++ t) (shown ∙ sym (few_text 8 (codes "data") spaced 0 (words_of_bytes (take (4 * count) bytes)) (omega (arith, number, some)) (omega (arith, number, few))))
+
+-- the first rows of a block
+row_zero : (n : ℕ) (bytes : List ℕ) → 0 < n → get_or (first_chunks 32 n bytes) 0 [] ≡ take 32 bytes
+row_zero zero bytes h = absurd (omega (arith, h))
+row_zero (suc n) bytes h = refl
+
+row_one : (n : ℕ) (bytes : List ℕ) → 1 < n → get_or (first_chunks 32 n bytes) 1 [] ≡ take 32 (drop 32 bytes)
+row_one zero bytes h = absurd (omega (arith, h))
+row_one (suc n) bytes h = row_zero n (drop 32 bytes) (omega (arith, h))
+
+pub first_row : (rows : List (List ℕ)) (bytes : List ℕ) → length bytes ≡ 64 → rows ≡ first_chunks 32 (length bytes / 32) bytes → get_or rows 0 [] ≡ take 32 bytes
+first_row rows bytes long e = ap (λ (t : List (List ℕ)). get_or t 0 []) e ∙ row_zero (length bytes / 32) bytes (omega (arith, long))
+
+pub second_row : (rows : List (List ℕ)) (bytes : List ℕ) → length bytes ≡ 64 → rows ≡ first_chunks 32 (length bytes / 32) bytes → get_or rows 1 [] ≡ take 32 (drop 32 bytes)
+second_row rows bytes long e = ap (λ (t : List (List ℕ)). get_or t 1 []) e ∙ row_one (length bytes / 32) bytes (omega (arith, long))
+
+-- words of the first row alone
+pub in_one_row : (bytes row : List ℕ) (count : ℕ) → count ≤ 8 → row ≡ take 32 bytes → take (4 * count) row ≡ take (4 * count) bytes
+in_one_row bytes row count h e = ap (take (4 * count)) e ∙ take-take (4 * count) 32 bytes (omega (arith, h))
+
+-- words of two rows
+in_two_rows : (bytes first second : List ℕ) (count : ℕ) → length bytes ≡ 64 → 8 < count → count ≤ 16 → first ≡ take 32 bytes → second ≡ take 32 (drop 32 bytes)
+    → words_of_bytes (take (4 * count) bytes) ≡ words_of_bytes first ++ words_of_bytes (take (4 * (count - 8)) second)
+in_two_rows bytes first second count long more few e f =
+    let split : 4 * count ≡ 32 + 4 * (count - 8) = omega arith in
+    let same : take (4 * (count - 8)) second ≡ take (4 * (count - 8)) (drop 32 bytes) = in_one_row (drop 32 bytes) second (count - 8) (omega (arith, few)) f in
+    let whole : length first ≡ 4 * 8 = ap length e ∙ length-take-le 32 bytes (omega (arith, long)) in
+    ap (λ (m : ℕ). words_of_bytes (take m bytes)) split ∙ ap words_of_bytes (take-add 32 (4 * (count - 8)) bytes)
+    ∙ ap (λ t. words_of_bytes (t ++ take (4 * (count - 8)) (drop 32 bytes))) (sym e) ∙ ap (λ t. words_of_bytes (first ++ t)) (sym same)
+    ∙ words_of_bytes-append 8 first (take (4 * (count - 8)) second) whole
+
+row_of_eight : (bytes first : List ℕ) → length bytes ≡ 64 → first ≡ take 32 bytes → length (words_of_bytes first) ≡ 8
+row_of_eight bytes first long e = length-words first 8 (ap length e ∙ length-take-le 32 bytes (omega (arith, long)) ∙ omega arith)
+
+pub two_rows_count : (bytes first second : List ℕ) (count last : ℕ) → length bytes ≡ 64 → 8 < count → count ≤ 16 → first ≡ take 32 bytes → second ≡ take 32 (drop 32 bytes)
+    → last ≡ in_line_after 8 0 (words_of_bytes (take (4 * (count - 8)) second)) → last ≡ in_line_after 8 0 (words_of_bytes (take (4 * count) bytes))
+two_rows_count bytes first second count last long more few e f g =
+    g ∙ sym (ap (in_line_after 8 0) (in_two_rows bytes first second count long more few e f) ∙ in_line_after-row 8 (words_of_bytes first) (words_of_bytes (take (4 * (count - 8)) second)) (row_of_eight bytes first long e) (omega arith))
+
+pub two_rows : (bytes first second old middle new told : List ℕ) (count : ℕ) → length bytes ≡ 64 → 8 < count → count ≤ 16 → first ≡ take 32 bytes → second ≡ take 32 (drop 32 bytes)
+    → told ≡ line (codes "data") spaced (words_of_bytes first) → middle ≡ old ++ told → new ≡ middle ++ open_text 8 (codes "data") spaced 0 (words_of_bytes (take (4 * (count - 8)) second))
+    → new ≡ old ++ open_text 8 (codes "data") spaced 0 (words_of_bytes (take (4 * count) bytes))
+two_rows bytes first second old middle new told count long more few e f t a b =
+    b ∙ ap (λ x. x ++ open_text 8 (codes "data") spaced 0 (words_of_bytes (take (4 * (count - 8)) second))) (a ∙ ap (λ x. old ++ x) t)
+    ∙ append_assoc old (line (codes "data") spaced (words_of_bytes first)) (open_text 8 (codes "data") spaced 0 (words_of_bytes (take (4 * (count - 8)) second)))
+    ∙ ap (λ x. old ++ x) (sym (ap (open_text 8 (codes "data") spaced 0) (in_two_rows bytes first second count long more few e f)
+    ∙ open_text-row 8 (codes "data") spaced (words_of_bytes first) (words_of_bytes (take (4 * (count - 8)) second)) (row_of_eight bytes first long e) (omega arith)))
 
 closes : (k : ℕ) → 0 < k → close k ≡ 10 ∷ []
 closes k h = let e : (k == 0) ≡ false = grind (arith, nat_tests) in rw e refl

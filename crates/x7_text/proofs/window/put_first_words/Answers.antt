@@ -1,20 +1,32 @@
-use Rattle.std.proofs.Common.{arith, ◌∙◌, ◌+◌, ◌*◌}
+use Rattle.std.proofs.Common.{◌*◌, ap, arith, codes, length, ◌∙◌}
+use Rattle.x7_words.specs.Word.{words_of_bytes}
+use Rattle.x7_text.specs.Row.{in_line_after, open_text, spaced}
 use Rattle.x7_text.proofs.AppendsLemmas.{appends_as}
-use Rattle.x7_text.proofs.WindowLemmas.{first_words, first_words_count, whole_count, whole_words}
+use Rattle.x7_text.proofs.WindowLemmas.{first_row, in_one_row, second_row, two_rows, two_rows_count}
 use Rattle.x7_text.proofs.window.put_first_words.Goals as goal
 
-pub returns-then-count-eq8-clause-count : goal.returns-then-count-eq8-clause-count
-returns-then-count-eq8-clause-count c = whole_count c.args.bytes.now c.args.count c.told-bytes c.if-count-eq8.true
+pub returns-then-count-le8-clause-count : goal.returns-then-count-le8-clause-count
+returns-then-count-le8-clause-count c =
+    let row = first_row _ c.args.bytes.now c.told-bytes c.as_chunks.ensures.front in
+    c.put_first_of_row.ensures.count ∙ ap (λ t. in_line_after 8 0 (words_of_bytes t)) (in_one_row c.args.bytes.now _ c.args.count c.if-count-le8.true row)
 
-pub returns-then-count-eq8-clause-appends : goal.returns-then-count-eq8-clause-appends
-returns-then-count-eq8-clause-appends c = appends_as _ _ _ _ _ _ c.put.ensures.appends (c.data_line.ensures ∙ whole_words c.args.bytes.now c.args.count c.told-bytes c.if-count-eq8.true) (omega arith)
+pub returns-then-count-le8-clause-appends : goal.returns-then-count-le8-clause-appends
+returns-then-count-le8-clause-appends c =
+    let row = first_row _ c.args.bytes.now c.told-bytes c.as_chunks.ensures.front in
+    appends_as _ _ _ _ _ _ c.put_first_of_row.ensures.appends (ap (λ t. open_text 8 (codes "data") spaced 0 (words_of_bytes t)) (in_one_row c.args.bytes.now _ c.args.count c.if-count-le8.true row)) (omega arith)
 
 pub returns-clause-count : goal.returns-clause-count
-returns-clause-count c = first_words_count c.args.bytes.now c.args.count c.told-bytes (omega (arith, c.requires.few, c.if-count-eq8.false))
+returns-clause-count c =
+    let first = first_row _ c.args.bytes.now c.told-bytes c.as_chunks.ensures.front in
+    let second = second_row _ c.args.bytes.now c.told-bytes c.as_chunks.ensures.front in
+    two_rows_count c.args.bytes.now _ _ c.args.count _ c.told-bytes (omega (arith, c.if-count-le8.false)) c.requires.few first second c.put_first_of_row-2.ensures.count
 
 pub returns-clause-appends : goal.returns-clause-appends
-returns-clause-appends c = record {
-  items = first_words c.args.text.now.items c.put.new.text.items c.data_line.result c.truncate.new.self.items c.args.bytes.now (c.len.result + (4 + 9 * c.args.count)) c.args.count c.requires.some (omega (arith, c.requires.few, c.if-count-eq8.false)) c.told-bytes c.data_line.ensures (omega (arith, c.len.ensures, c.type_inv.text)) c.put.ensures.appends.items c.truncate.ensures.items;
-  within = omega (arith, c.truncate.ensures.len, c.put.ensures.appends.within, c.requires.few);
-  room = omega (arith, c.truncate.ensures.capacity, c.put.ensures.appends.room);
-}
+returns-clause-appends c =
+    let first = first_row _ c.args.bytes.now c.told-bytes c.as_chunks.ensures.front in
+    let second = second_row _ c.args.bytes.now c.told-bytes c.as_chunks.ensures.front in
+    record {
+      items = two_rows c.args.bytes.now _ _ c.args.text.now.items c.put.new.text.items _ c.data_line.result c.args.count c.told-bytes (omega (arith, c.if-count-le8.false)) c.requires.few first second c.data_line.ensures c.put.ensures.appends.items c.put_first_of_row-2.ensures.appends.items;
+      within = omega (arith, c.put.ensures.appends.within, c.put_first_of_row-2.ensures.appends.within, ap length c.data_line.ensures);
+      room = omega (arith, c.put.ensures.appends.room, c.put_first_of_row-2.ensures.appends.room);
+    }
