@@ -1,7 +1,7 @@
 -- Lemmas on specs/AtOnce, and what a lister stands for after what it tells at once.
-use Rattle.std.proofs.Common.{◌≡◌, ℕ, zero, suc, ◌+◌, ◌*◌, ◌%◌, ◌^◌, ◌-◌, ◌<◌, ◌≤◌, ◌==◌, Bool, true, false, List, [], ◌∷◌, ◌++◌, codes, get_or, length, drop, take, take-add, take_all, length-drop, replicate, refl, ap, sym, subst, ◌∙◌, append_assoc, append-nil, arith, Bor, Vec}
+use Rattle.std.proofs.Common.{◌≡◌, ℕ, zero, suc, ◌+◌, ◌*◌, ◌/◌, ◌%◌, ◌^◌, ◌-◌, ◌<◌, ◌≤◌, ◌==◌, Bool, true, false, List, [], ◌∷◌, ◌++◌, codes, decimal, get_or, length, drop, take, take-add, take_all, length-drop, replicate, refl, ap, sym, subst, ◌∙◌, append_assoc, append-nil, arith, Bor, Vec}
 use Rattle.std.proofs.lemmas.Bool.Decides.{nat_tests}
-use Rattle.std.proofs.lemmas.Fmt.{decimal_digit}
+use Rattle.std.proofs.lemmas.Fmt.{decimal_digit, decimal_step}
 use Rattle.std.proofs.lemmas.List.{length-take-le, take-take}
 use Rattle.std.specs.Simd.{first_chunks}
 use Rattle.std.specs.List.{flat_map}
@@ -116,7 +116,7 @@ data_appends t0 t1 t2 line register w row digits h n e f b c =
     }
 
 -- the header's line of a short write
-short_line-is : (register count : ℕ) → register < 32 → count < 10 → head_text (Open register count) (short_head register count) ≡ write_name register ++ ((48 + count) ∷ 10 ∷ [])
+short_line-is : (register count : ℕ) → register < 32 → count < 20 → head_text (Open register count) (short_head register count) ≡ write_name register ++ (decimal count ++ 10 ∷ [])
 short_line-is register count h k =
     let nop : (short_head register count == 0x20000000) ≡ false = grind (arith, nat_tests) in
     let sync : (short_head register count == 0xAA995566) ≡ false = grind (arith, nat_tests) in
@@ -124,28 +124,32 @@ short_line-is register count h k =
     let number : short_head register count % 2 ^ 11 ≡ count = omega arith in
     let same : (short_head register count == 0x30000000 + 8192 * register + count) ≡ true = grind (arith, nat_tests) in
     let line : best_line (short_head register count) ≡ Write register count = rw (nop, sync, named, number, same) refl in
-    let name : List ℕ = codes "write " ++ reg_name register in
-    ap line_text line ∙ ap (λ t. codes "write " ++ reg_name register ++ 32 ∷ t ++ 10 ∷ []) (decimal_digit count k) ∙ append_assoc (codes "write " ++ reg_name register) (32 ∷ (48 + count) ∷ []) (10 ∷ [])
-    ∙ sym (append_assoc (codes "write " ++ reg_name register) (32 ∷ []) ((48 + count) ∷ 10 ∷ []))
+    ap line_text line ∙ append_assoc (codes "write " ++ reg_name register) (32 ∷ decimal count) (10 ∷ []) ∙ sym (append_assoc (codes "write " ++ reg_name register) (32 ∷ []) (decimal count ++ 10 ∷ []))
 
-pub short_head_appends : (t0 t1 t2 : Vec ℕ Global) (line register count : ℕ) (row end : List ℕ) → register < 32 → count < 10 → row_text row ≡ close line ++ write_name register → end ≡ (48 + count) ∷ 10 ∷ []
-    → Appends t0 t1 (row_text row) 32 → Appends t1 t2 end (length end) → Appends t0 t2 (close line ++ head_text (Open register count) (short_head register count)) 34
-short_head_appends t0 t1 t2 line register count row end h k e f a b =
-    let digits : List ℕ = (48 + count) ∷ 10 ∷ [] in
+-- a count of two digits
+pub two_digits : (n : ℕ) → 10 ≤ n → n < 20 → decimal n ≡ 49 ∷ (48 + (n - 10)) ∷ []
+two_digits n h k =
+    let tens : n / 10 ≡ 1 = omega arith in
+    let ones : n % 10 ≡ n - 10 = omega arith in
+    decimal_step n h (omega (arith, k)) ∙ ap (λ (m : ℕ). decimal m ++ (48 + n % 10) ∷ []) tens ∙ ap (λ t. t ++ (48 + n % 10) ∷ []) (decimal_digit 1 (omega arith)) ∙ ap (λ (m : ℕ). 49 ∷ (48 + m) ∷ []) ones
+
+pub short_head_appends : (t0 t1 t2 : Vec ℕ Global) (line register count : ℕ) (row : List ℕ) → register < 32 → count < 20 → row_text row ≡ close line ++ write_name register
+    → Appends t0 t1 (row_text row) 32 → Appends t1 t2 (decimal count ++ 10 ∷ []) 3 → Appends t0 t2 (close line ++ head_text (Open register count) (short_head register count)) 35
+short_head_appends t0 t1 t2 line register count row h k e a b =
     record {
-      items = b.items ∙ ap (λ t. t1.items ++ t) f ∙ ap (λ t. t ++ ((48 + count) ∷ 10 ∷ [])) (a.items ∙ ap (λ t. t0.items ++ t) e) ∙ append_assoc t0.items (close line ++ write_name register) ((48 + count) ∷ 10 ∷ [])
-          ∙ ap (λ t. t0.items ++ t) (append_assoc (close line) (write_name register) ((48 + count) ∷ 10 ∷ []) ∙ ap (λ t. close line ++ t) (sym (short_line-is register count h k)));
-      within = omega (arith, a.within, b.within, ap length f);
+      items = b.items ∙ ap (λ t. t ++ (decimal count ++ 10 ∷ [])) (a.items ∙ ap (λ t. t0.items ++ t) e) ∙ append_assoc t0.items (close line ++ write_name register) (decimal count ++ 10 ∷ [])
+          ∙ ap (λ t. t0.items ++ t) (append_assoc (close line) (write_name register) (decimal count ++ 10 ∷ []) ∙ ap (λ t. close line ++ t) (sym (short_line-is register count h k)));
+      within = omega (arith, a.within, b.within);
       room = omega (arith, a.room, b.room);
     }
 
 -- the first of many chunks
-pub first_chunk : (n : ℕ) (xs : List ℕ) → 0 < n → get_or (first_chunks 32 n xs) 0 [] ≡ take 32 xs
-first_chunk zero xs h = absurd (omega (arith, h))
-first_chunk (suc n) xs h = refl
+pub first_chunk : (size n : ℕ) (xs : List ℕ) → 0 < n → get_or (first_chunks size n xs) 0 [] ≡ take size xs
+first_chunk size zero xs h = absurd (omega (arith, h))
+first_chunk size (suc n) xs h = refl
 
-pub front_of_front : (n count : ℕ) (xs block : List ℕ) → 4 * count ≤ 32 → 32 ≤ n → block ≡ take 32 (take n xs) → take (4 * count) block ≡ take (4 * count) xs
-front_of_front n count xs block h k e = ap (take (4 * count)) e ∙ take-take (4 * count) 32 (take n xs) h ∙ take-take (4 * count) n xs (omega (arith, h, k))
+pub front_of_front : (n count : ℕ) (xs block : List ℕ) → 4 * count ≤ 64 → 64 ≤ n → block ≡ take 64 (take n xs) → take (4 * count) block ≡ take (4 * count) xs
+front_of_front n count xs block h k e = ap (take (4 * count)) e ∙ take-take (4 * count) 64 (take n xs) h ∙ take-take (4 * count) n xs (omega (arith, h, k))
 
 pub short_written : (old t1 new head row told : List ℕ) → t1 ≡ old ++ head → new ≡ t1 ++ row → row ≡ told → new ≡ old ++ (head ++ told)
 short_written old t1 new head row told a b e = b ∙ ap (λ t. t ++ row) a ∙ append_assoc old head row ∙ ap (λ t. old ++ (head ++ t)) e

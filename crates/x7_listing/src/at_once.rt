@@ -1,5 +1,5 @@
 //! Writing what is told at once: no-ops in a row, short writes, and a short gap with the sync word behind it.
-ghost use Rattle.std.specs.Prelude.{◌≡◌, ℕ, ◌+◌, ◌*◌, ◌<◌, ◌≤◌, true, List, [], ◌∷◌, ◌++◌, IfNone, IfSome, length, take, vec_len, vec_capacity};
+ghost use Rattle.std.specs.Prelude.{◌≡◌, ℕ, ◌+◌, ◌*◌, ◌<◌, ◌≤◌, true, List, [], ◌∷◌, ◌++◌, IfNone, IfSome, decimal, length, take, vec_len, vec_capacity};
 ghost use Rattle.x7_words.specs.Word.{bytes_of_word};
 ghost use Rattle.x7_packets.specs.AtOnce.{EndsGap, short_head, Takes, write_head, WritesFew, WritesOne};
 ghost use Rattle.x7_packets.specs.Cutting.{CutterState};
@@ -121,7 +121,7 @@ pub(crate) fn put_write(text: &mut Vec<u8>, pen: Pen, register: u8, w: u32) -> P
 
 /// The first 32 bytes.
 #[inline(always)]
-fn first_block(bytes: &[u8]) -> &[u8; 32]
+fn first_32(bytes: &[u8]) -> &[u8; 32]
     requires { 32 ≤ length bytes.now }
     ensures { result.now ≡ take 32 bytes.now }
 {
@@ -129,16 +129,40 @@ fn first_block(bytes: &[u8]) -> &[u8; 32]
     &blocks[0]
 }
 
+/// The first 64 bytes.
+#[inline(always)]
+fn first_64(bytes: &[u8]) -> &[u8; 64]
+    requires { 64 ≤ length bytes.now }
+    ensures { result.now ≡ take 64 bytes.now }
+{
+    let (blocks, _) = bytes.as_chunks::<64>();
+    &blocks[0]
+}
+
+/// Appends a count of one or two digits, the first of two being 1, and the end of its line.
+#[inline(always)]
+fn put_short_count(text: &mut Vec<u8>, count: usize)
+    requires few { count < 20 }
+    requires room { vec_len text.old + 3 ≤ vec_capacity text.old }
+    ensures appends { Appends text.old text.new (decimal count ++ 10 ∷ []) 3 }
+{
+    if count < 10 {
+        put(text, &[b'0' + count as u8, b'\n']);
+        return;
+    }
+    put(text, &[b'1', b'0' + (count - 10) as u8, b'\n']);
+}
+
 /// Appends the line of the header of a write of a few words, behind an open line of `in_line` words.
 #[inline(always)]
 fn put_short_head(text: &mut Vec<u8>, in_line: usize, register: u8, count: usize)
     requires range { register < 32 }
-    requires few { count ≤ 8 }
-    requires room { vec_len text.old + 34 ≤ vec_capacity text.old }
-    ensures appends { Appends text.old text.new (close in_line ++ head_text (Step.Open register count) (short_head register count)) 34 }
+    requires few { count ≤ 16 }
+    requires room { vec_len text.old + 35 ≤ vec_capacity text.old }
+    ensures appends { Appends text.old text.new (close in_line ++ head_text (Step.Open register count) (short_head register count)) 35 }
 {
     put_row(text, name_row(in_line, register));
-    put(text, &[b'0' + count as u8, b'\n']);
+    put_short_count(text, count);
 }
 
 /// Appends what a write of a few words adds, whose packet begins these bytes.
@@ -146,17 +170,17 @@ fn put_short_head(text: &mut Vec<u8>, in_line: usize, register: u8, count: usize
 fn put_short_write(text: &mut Vec<u8>, pen: Pen, register: u8, count: usize, rest: &[u8]) -> Pen
     requires range { register < 32 }
     requires some { 0 < count }
-    requires few { count ≤ 8 }
-    requires long { 36 ≤ length rest.now }
-    requires room { vec_len text.old + 112 ≤ vec_capacity text.old }
-    ensures len { vec_len text.new ≤ vec_len text.old + 112 }
+    requires few { count ≤ 16 }
+    requires long { 68 ≤ length rest.now }
+    requires room { vec_len text.old + 189 ≤ vec_capacity text.old }
+    ensures len { vec_len text.new ≤ vec_len text.old + 189 }
     ensures room { vec_capacity text.old ≤ vec_capacity text.new }
     ensures told { (old new : CutterState) (given before bytes : List ℕ) → WritesFew old new rest.now register count
         → Tells old pen.synced pen.line (take pen.count pen.held) text.old.items given before bytes
         → Tells new result.synced result.line (take result.count result.held) text.new.items given before (bytes ++ take (4 + 4 * count) rest.now) }
 {
     put_short_head(text, session_line(pen), register, count);
-    in_session(put_first_words(text, first_block(&rest[4..]), count))
+    in_session(put_first_words(text, first_64(&rest[4..]), count))
 }
 
 /// Appends what a gap behind a session adds, and the sync word behind it, which begin these bytes.
@@ -172,7 +196,7 @@ fn put_gap(text: &mut Vec<u8>, pen: Pen, count: usize, rest: &[u8]) -> Pen
         → Tells old pen.synced pen.line (take pen.count pen.held) text.old.items given before bytes
         → Tells new result.synced result.line (take result.count result.held) text.new.items given before (bytes ++ take (count + 4) rest.now) }
 {
-    put_first_bytes(text, first_block(rest), count);
+    put_first_bytes(text, first_32(rest), count);
     put(text, b"sync\n");
     in_session(0)
 }

@@ -13,9 +13,9 @@ use Rattle.x7_listing.proofs.at_once.put_short_write.Goals as goal
 pub returns-clause-told : goal.returns-clause-told
 returns-clause-told c = λ old new given before bytes x s.
     let rest = c.args.rest.now in
-    let front : take (4 * c.args.count) c.first_block.result.now ≡ take (4 * c.args.count) (drop 4 c.args.rest.now) = front_of_front _ c.args.count (drop 4 c.args.rest.now) c.first_block.result.now (omega (arith, c.requires.few)) (omega (arith, c.requires.long)) c.first_block.ensures in
-    let ws : List ℕ = words_of_bytes (take (4 * c.args.count) c.first_block.result.now) in
-    short_told old new c.args.pen.synced _ c.args.pen.line _ c.session_line.result c.args.register c.args.count _ _ c.args.text.now.items _ given before bytes c.args.rest.now (words_of_bytes (take (4 * c.args.count) c.first_block.result.now)) c.args.rest x (ap words_of_bytes front) c.session_line.ensures.line c.in_session.ensures.synced
-    (c.in_session.ensures.line ∙ c.put_first_words.ensures.count ∙ sym (data_place c.args.register 0 (words_of_bytes (take (4 * c.args.count) c.first_block.result.now)) (is_data c.args.register x.other)))
+    let front : take (4 * c.args.count) c.first_64.result.now ≡ take (4 * c.args.count) (drop 4 c.args.rest.now) = front_of_front _ c.args.count (drop 4 c.args.rest.now) c.first_64.result.now (omega (arith, c.requires.few)) (omega (arith, c.requires.long)) c.first_64.ensures in
+    let ws : List ℕ = words_of_bytes (take (4 * c.args.count) c.first_64.result.now) in
+    short_told old new c.args.pen.synced _ c.args.pen.line _ c.session_line.result c.args.register c.args.count _ _ c.args.text.now.items _ given before bytes c.args.rest.now (words_of_bytes (take (4 * c.args.count) c.first_64.result.now)) c.args.rest x (ap words_of_bytes front) c.session_line.ensures.line c.in_session.ensures.synced
+    (c.in_session.ensures.line ∙ c.put_first_words.ensures.count ∙ sym (data_place c.args.register 0 (words_of_bytes (take (4 * c.args.count) c.first_64.result.now)) (is_data c.args.register x.other)))
     (short_written c.args.text.now.items c.put_short_head.new.text.items _ (close c.session_line.result ++ head_text (Open c.args.register c.args.count) (short_head c.args.register c.args.count)) _ _ c.put_short_head.ensures.appends.items c.put_first_words.ensures.appends.items
-    (sym (data_told c.args.register 0 (words_of_bytes (take (4 * c.args.count) c.first_block.result.now)) (is_data c.args.register x.other)))) s
+    (sym (data_told c.args.register 0 (words_of_bytes (take (4 * c.args.count) c.first_64.result.now)) (is_data c.args.register x.other)))) s
