@@ -1,12 +1,17 @@
 -- Lemmas on specs/TakingRuns.
-use Rattle.std.proofs.Common.{◌≡◌, ℕ, true, false, List, [], ◌++◌, Option, Result, Ok, Err, refl, ap, sym, subst, ◌∙◌, append_assoc, append-nil}
+use Rattle.std.proofs.Common.{◌≡◌, ◌≤◌, ◌+◌, ◌*◌, ℕ, suc, true, false, List, [], ◌++◌, length, Option, Result, Ok, Err, refl, ap, sym, subst, ◌∙◌, arith, append_assoc, append-nil, length-append}
+use Rattle.std.specs.List.{flat_map}
 use Rattle.std.specs.Result.{OnOk, is_err}
 use Rattle.x7_words.specs.Input.{AtEnd, preceded}
 use Rattle.x7_words.proofs.InputLemmas.{preceded-nil, preceded-preceded}
+use Rattle.x7_packets.specs.Cutting.{AtPlace, CutterState, syncs_due}
 use Rattle.x7_packets.specs.PacketsState.{PacketsState}
+use Rattle.x7_packets.specs.Reading.{Place, Searching, Synced, packet_bytes, place_bytes, session_bytes}
 use Rattle.x7_packets.specs.Run.{FitsRun, IsNext, is_last, told_bytes}
-use Rattle.x7_packets.specs.Running.{GivesRun, PacketsStandFor}
+use Rattle.x7_packets.specs.Running.{GivesRun, PacketsStandFor, untold, with_tail}
+use Rattle.x7_packets.specs.SyncWord.{sync_bytes}
 use Rattle.x7_packets.specs.declared.cutter.Mode.{Mode}
+use Rattle.x7_packets.specs.declared.cutter.Mode.TheVariants as mode
 use Rattle.x7_packets.specs.declared.stream.Run.{Run}
 use Rattle.x7_packets.specs.declared.stream.Run.TheVariants as run
 use Rattle.x7_listing.specs.Taking.{EndsRuns, TakerStandsFor, TakesRun}
@@ -94,3 +99,66 @@ end_after r gives e = gives.end (sym gives.tells.done ∙ e)
 pub from_ok : {A E : Type 0} {P : Type 0} (r : Result A E) → is_err r ≡ false → OnOk r P → P
 from_ok (Ok x) e h = h
 from_ok (Err x) e h = absurd (let f : true ≡ false = e in cc)
+
+-- ---- how many runs there are
+
+-- so many runs came: at most twice as many as bytes were told, a sync word that is due counted among them
+pub record TellsEnough (p : PacketsState) (turns : ℕ) : Type 0 where
+  pub bytes : List ℕ
+  pub told : List ℕ
+  pub stands : PacketsStandFor p bytes told
+  pub few : turns + syncs_due p.cutter.mode ≤ 2 * length told
+
+none_due : (m : Mode) → (m ≡ mode.Due → ⊥) → syncs_due m ≡ 0
+none_due mode.Searching never = refl
+none_due mode.Due never = absurd (never refl)
+none_due mode.Synced never = refl
+
+one_due : (m : Mode) → syncs_due m ≤ 1
+one_due mode.Searching = omega arith
+one_due mode.Due = omega arith
+one_due mode.Synced = omega arith
+
+-- behind a sync word that is due, its bytes were told
+due_is_told : (c : CutterState) (m : Mode) (place : Place) (tail : List ℕ) → AtPlace c m (with_tail tail place) → syncs_due m ≤ length (place_bytes place)
+due_is_told c mode.Searching place tail at = omega arith
+due_is_told c mode.Synced place tail at = omega arith
+due_is_told c mode.Due (Searching gap) tail at = absurd at
+due_is_told c mode.Due (Synced gap packets old) tail at =
+    let front : List ℕ = gap ++ sync_bytes in
+    omega (arith, length-append gap sync_bytes, length-append front (packet_bytes packets), length-append (front ++ packet_bytes packets) old)
+
+pub tells_none : (p : PacketsState) → ((bytes told : List ℕ) × PacketsStandFor p bytes told) → TellsEnough p 0
+tells_none p s = record {
+  bytes = s.0;
+  told = s.1;
+  stands = s.2;
+  few =
+      let one : syncs_due p.cutter.mode ≤ length (place_bytes s.2.place) = due_is_told p.cutter p.cutter.mode s.2.place p.cutter.kept s.2.cutter.at in
+      let all = ap (λ t. length t) s.2.reading.joined in
+      omega (arith, one, all, length-append (flat_map session_bytes s.2.sessions) (place_bytes s.2.place));
+}
+
+-- a run that is not the end tells a byte or more, or a sync word that was due
+turn_tells : (r : Run) (bytes : List ℕ) (old new : Mode) → (r ≡ run.End → ⊥) → IsNext bytes old r new → suc (syncs_due new) ≤ 2 * length (told_bytes r) + syncs_due old
+turn_tells (run.Skip x) bytes old new e next = omega (arith, next.is, one_due new)
+turn_tells run.Sync bytes old new e next = rw (next.turns.0, none_due new next.turns.1) (omega arith)
+turn_tells (run.Head w step) bytes old new e next = omega (arith, one_due new)
+turn_tells (run.Word register w) bytes old new e next = omega (arith, one_due new)
+turn_tells (run.Body register x) bytes old new e next = omega (arith, next.is.1, one_due new)
+turn_tells (run.Tail x) bytes old new e next = omega (arith, next.is.0, one_due new)
+turn_tells run.End bytes old new e next = absurd (e refl)
+
+pub tells_more : (p new : PacketsState) (rest now : Option (List ℕ)) (r : Run) (turns : ℕ) → (r ≡ run.End → ⊥) → TellsEnough p turns → GivesRun p new rest now r → TellsEnough new (turns + 1)
+tells_more p new rest now r turns e t gives =
+    let g = gives.tells.stands t.bytes t.told t.stands in
+    record {
+      bytes = t.bytes ++ gives.more;
+      told = t.told ++ told_bytes r;
+      stands = g.0;
+      few = omega (arith, t.few, turn_tells r t.told p.cutter.mode new.cutter.mode e g.1, length-append t.told (told_bytes r));
+    }
+
+-- at least half as many bytes were taken as runs came
+pub taken_by : (p : PacketsState) (turns : ℕ) → TellsEnough p turns → turns ≤ 2 * p.taken
+taken_by p turns t = omega (arith, t.few, t.stands.count, ap (λ b. length b) t.stands.split, length-append t.told (untold p ++ p.left))

@@ -1,5 +1,5 @@
 //! An input listed by its runs.
-ghost use Rattle.std.specs.Prelude.{◌≡◌, ◌≤◌, ℕ, List, false, true, IfOk, IsErrOf, OnOk};
+ghost use Rattle.std.specs.Prelude.{◌≡◌, ◌≤◌, ◌^◌, ◌⊎◌, ℕ, List, length, false, true, IfOk, IsErrOf, OnOk};
 ghost use Rattle.x7_words.specs.Count.{HasRisen};
 ghost use Rattle.x7_words.specs.Input.{AtEnd};
 ghost use Rattle.x7_packets.specs.Running.{PacketsStandFor};
@@ -34,6 +34,7 @@ pub fn take_runs<I: Inputs>(
     requires end { packets.old.done ≡ true → AtEnd (I.rest inputs.old) }
     requires stands { (bytes told : List ℕ) × PacketsStandFor packets.old bytes told }
     ensures taken { IfOk result (λ ended. TakesRuns packets.old packets.new lister.old lister.new (I.rest inputs.old) (I.rest inputs.new) ended) }
+    ensures enough { IfOk result (λ ended. ended ≡ false → (most ≤ length lister.new.text) ⊎ (2 ^ 63 ≤ packets.new.taken)) }
     ensures failed { IsErrOf result RunsFault.Failed → HasRisen (I.faults inputs.old) (I.faults inputs.new) }
     ensures selected { OnOk result (I.selected inputs.new ≡ true) }
     ensures map { I.contents inputs.new ≡ I.contents inputs.old }

@@ -1,8 +1,8 @@
-use Rattle.std.proofs.Common.{◌∙◌, sym, refl, subst, arith, Result}
+use Rattle.std.proofs.Common.{◌∙◌, inr, sym, refl, subst, arith, Result}
 use Rattle.x7_words.specs.declared.input.Failed.{Failed}
 use Rattle.x7_packets.specs.declared.stream.Run.{Run}
 use Rattle.x7_packets.specs.Running.{Gives, GivesRun}
-use Rattle.x7_listing.proofs.TakingRunsLemmas.{end_after, from_ok, next_fits, not_ended, takes_all, takes_more, takes_none}
+use Rattle.x7_listing.proofs.TakingRunsLemmas.{end_after, from_ok, next_fits, not_ended, takes_all, takes_more, takes_none, taken_by, tells_more, tells_none}
 use Rattle.x7_listing.proofs.runs.take_runs.Goals as goal
 
 pub loop-init : goal.loop-init
@@ -13,6 +13,7 @@ loop-init g c = record {
   map = refl;
   faults = omega arith;
   absences = omega arith;
+  turns = tells_none c.args.packets.now c.requires.stands;
   runs = takes_none c.args.packets.now c.args.lister.now (g.I.Inputs.rest c.args.inputs.now);
 }
 
@@ -24,6 +25,9 @@ returns-then-taken-gt-MOST_TAKEN-clause-taken g c = not_ended _ _ _ _ _ _ c.loop
 
 pub returns-clause-taken : goal.returns-clause-taken
 returns-clause-taken g c = not_ended _ _ _ _ _ _ c.loop.invariant.runs
+
+pub returns-clause-enough : goal.returns-clause-enough
+returns-clause-enough g c e = inr (omega (arith, taken_by _ _ c.loop.invariant.turns, c.loop-test.false, c.loop.auto.counter-end))
 
 pub take-requires : goal.take-requires
 take-requires g c =
@@ -50,5 +54,6 @@ loop-preserved g c =
       map = o.map ∙ i.map;
       faults = omega (arith, i.faults, o.faults);
       absences = omega (arith, i.absences, o.absences);
+      turns = tells_more _ _ _ _ c.in-Ok.run' _ c.in_default.not-End i.turns gives;
       runs = takes_more _ _ _ _ _ _ _ _ _ c.in-Ok.run' c.in_default.not-End i.runs gives (from_ok c.take.result (sym c.if-is_err.ensures.value) c.take.ensures.ok);
     }

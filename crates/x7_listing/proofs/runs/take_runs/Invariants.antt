@@ -1,6 +1,6 @@
 use Rattle.std.proofs.Common.{◌≡◌, ◌≤◌, true, false}
 use Rattle.x7_words.specs.Input.{AtEnd}
-use Rattle.x7_listing.proofs.TakingRunsLemmas.{TakesSome}
+use Rattle.x7_listing.proofs.TakingRunsLemmas.{TakesSome, TellsEnough}
 use Rattle.x7_listing.proofs.runs.take_runs.Given as goal
 
 abbrev pub invariant-loop : goal.invariant-loop
@@ -13,5 +13,6 @@ invariant-loop g l =
       map : i.contents l.inputs ≡ i.contents l.fn.inputs;
       faults : i.faults l.fn.inputs ≤ i.faults l.inputs;
       absences : i.absences l.fn.inputs ≤ i.absences l.inputs;
+      turns : TellsEnough l.packets l.counter;
       runs : TakesSome l.fn.packets l.packets l.fn.lister l.lister (i.rest l.fn.inputs) (i.rest l.inputs);
     }
