@@ -10,7 +10,7 @@ use Rattle.x7_packets.specs.Matching.{IsClear, IsFirstSync, MatcherStandsFor}
 use Rattle.x7_packets.specs.SyncWord.{sync_bytes}
 use Rattle.x7_packets.specs.declared.header.Step.{Step}
 use Rattle.x7_packets.specs.declared.header.Step.TheVariants.{Nop, Open, Payload}
-use Rattle.x7_packets.specs.declared.cutter.Cut.TheVariants.{Body, Head, Skip, Sync, Word}
+use Rattle.x7_packets.specs.declared.cutter.Cut.TheVariants.{Body, Head, Skip}
 use Rattle.x7_packets.specs.declared.cutter.Mode.TheVariants as mode
 use Rattle.x7_packets.specs.AtOnce.{EndsGap, in_short, in_write, short_head, Takes, write_head, WritesFew, WritesOne}
 use Rattle.x7_packets.specs.Cutting.{AtPlace, CutterState, CutterStandsFor, Longer, Went}

@@ -1,5 +1,5 @@
 -- Where bytes end searching, DESYNC is the newest access of their history, or there is none.
-use Rattle.std.proofs.Common.{◌≡◌, ◌⊎◌, inl, inr, ℕ, ◌+◌, ◌*◌, true, false, List, [], ◌∷◌, ◌++◌, length, refl, ap, ◌∙◌, append-nil}
+use Rattle.std.proofs.Common.{◌≡◌, inl, inr, ℕ, ◌+◌, ◌*◌, true, false, List, [], ◌∷◌, length, refl, ap, ◌∙◌, append-nil}
 use Rattle.std.specs.List.{flat_map, AllByRecursion}
 use Rattle.x7_words.specs.Word.{AreBytes}
 use Rattle.x7_packets.specs.Ended.{HasEnded, newest_ends}

@@ -7,7 +7,7 @@ use Rattle.x7_packets.specs.Packet.{Packet, ended}
 use Rattle.x7_packets.specs.Reading.{Place, Searching, Synced, Session, tail_of}
 use Rattle.x7_packets.specs.ByHand.{Reading, before_last_four, is_sync, last_four, reading_of, with_byte, with_byte_at, with_word}
 use Rattle.x7_packets.specs.History.{Entry, History, entry, history, history_of}
-use Rattle.x7_packets.proofs.GrowthLemmas.{OneMore, byte_enters}
+use Rattle.x7_packets.proofs.GrowthLemmas.{byte_enters}
 
 -- the bytes of no whole word behind these bytes
 abbrev left_of : Reading → ℕ

@@ -1,5 +1,5 @@
 -- What a matcher stands for: the bytes that it took (this project's choice: a search at every byte place).
-use Rattle.std.specs.Prelude.{◌≡◌, ℕ, ◌+◌, ◌<◌, ◌≤◌, List, [], ◌∷◌, ◌++◌, Option, None, Some, take}
+use Rattle.std.specs.Prelude.{◌≡◌, ℕ, ◌<◌, List, [], ◌∷◌, ◌++◌, Option, None, Some, take}
 use Rattle.memchr.specs.Find.{OccursAt}
 use Rattle.x7_packets.specs.SyncWord.{HasNoSync, IsBeforeSync, sync_bytes}
 

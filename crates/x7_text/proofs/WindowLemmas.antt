@@ -1,14 +1,12 @@
 -- The first elements of a whole line.
-use Rattle.std.proofs.Common.{◌≡◌, ℕ, zero, suc, ◌+◌, ◌-◌, ◌*◌, ◌/◌, ◌<◌, ◌≤◌, List, [], ◌∷◌, ◌++◌, codes, drop, get_or, length, length-append, length-take-le, take, take_all, refl, ap, sym, ◌∙◌, append_assoc, arith, Vec, vec_len, ◌==◌, false}
+use Rattle.std.proofs.Common.{◌≡◌, ℕ, zero, suc, ◌+◌, ◌-◌, ◌*◌, ◌/◌, ◌<◌, ◌≤◌, List, [], ◌∷◌, ◌++◌, codes, drop, get_or, length, length-append, length-take-le, take, take_all, refl, ap, sym, ◌∙◌, append_assoc, arith, ◌==◌, false}
 use Rattle.std.proofs.Math.Seq.{take-add, take-append-add}
 use Rattle.std.proofs.lemmas.Bool.Decides.{nat_tests}
 use Rattle.std.proofs.lemmas.List.{take-take}
 use Rattle.std.specs.List.{flat_map}
 use Rattle.std.specs.Simd.{first_chunks}
-use Rattle.std.specs.declared.alloc.Global.{Global}
 use Rattle.x7_words.specs.Word.{words_of_bytes}
 use Rattle.x7_words.proofs.WordLemmas.{length-words, words_of_bytes-append}
-use Rattle.x7_text.specs.Appends.{Appends}
 use Rattle.x7_text.specs.Digits.{hex_byte}
 use Rattle.x7_text.specs.Row.{bytes_text, close, in_line_after, line, open_text, spaced}
 use Rattle.x7_text.proofs.FewLemmas.{few_count, few_text, hex_front}

@@ -1,4 +1,4 @@
-use Rattle.std.proofs.Common.{[], arith}
+use Rattle.std.proofs.Common.{arith}
 use Rattle.x7_text.proofs.DigitLemmas.{chunk-whole, no-word, yes-word}
 use Rattle.x7_text.proofs.reading.word_of_hex.Goals as goal
 

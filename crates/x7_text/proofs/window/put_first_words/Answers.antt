@@ -1,4 +1,4 @@
-use Rattle.std.proofs.Common.{◌*◌, ap, arith, codes, length, ◌∙◌}
+use Rattle.std.proofs.Common.{ap, arith, codes, length, ◌∙◌}
 use Rattle.x7_words.specs.Word.{words_of_bytes}
 use Rattle.x7_text.specs.Row.{in_line_after, open_text, spaced}
 use Rattle.x7_text.proofs.AppendsLemmas.{appends_as}

@@ -1,4 +1,4 @@
-use Rattle.std.proofs.Common.{◌≡◌, ◌<◌, ◌≤◌, [], ap, arith, rules, sym, subst, ◌∙◌, refl, take}
+use Rattle.std.proofs.Common.{◌≡◌, ◌<◌, [], ap, arith, rules, sym, subst, ◌∙◌, refl, take}
 use Rattle.x7_words.proofs.ListLemmas.{all_from_places}
 use Rattle.x7_packets.specs.declared.cutter.Mode.TheVariants as mode
 use Rattle.x7_packets.specs.Cutting.{CutterState}
