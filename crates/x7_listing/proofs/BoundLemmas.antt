@@ -1,28 +1,28 @@
 -- How far a lister's text is behind the bytes that it took.
-use Rattle.std.proofs.Common.{◌≡◌, ◌==◌, ℕ, suc, ◌+◌, ◌*◌, ◌-◌, ◌<◌, ◌≤◌, Bool, true, false, if◌then◌else◌, List, [], ◌∷◌, ◌++◌, length, map, take, refl, ap, sym, subst, ◌∙◌, append_assoc, append-nil, arith, length-append, codes, flat_map, decimal}
+use Rattle.std.proofs.Common.{◌≡◌, ◌==◌, ℕ, ◌+◌, ◌*◌, ◌-◌, ◌≤◌, Bool, true, false, if◌then◌else◌, List, [], ◌∷◌, ◌++◌, length, refl, ap, ◌∙◌, append-nil, arith, length-append, codes, flat_map, decimal}
 use Rattle.std.specs.List.{AllByRecursion}
 use Rattle.std.proofs.lemmas.List.{length-map, length-take-le}
 use Rattle.x7_words.specs.Word.{bytes_of_word}
 use Rattle.x7_packets.specs.SyncWord.{sync_bytes}
-use Rattle.x7_packets.specs.ByHand.{before_last_four, Reading, reading_of}
-use Rattle.x7_packets.specs.Packet.{Packet, named_by, payload_steps, stepped, words}
-use Rattle.x7_packets.specs.Reading.{Place, Searching, Synced, Session, IsPlace, IsReading, IsSession, packet_bytes, place_bytes, session_bytes}
+use Rattle.x7_packets.specs.ByHand.{before_last_four}
+use Rattle.x7_packets.specs.Packet.{Packet, named_by, stepped, words}
+use Rattle.x7_packets.specs.Reading.{Place, Searching, Synced, Session, IsPlace, IsSession, packet_bytes, place_bytes, session_bytes}
 use Rattle.x7_packets.specs.declared.header.Step.{Step}
 use Rattle.x7_packets.specs.declared.header.Step.TheVariants.{Payload, Filler, Nop, Open, Read, Bad}
 use Rattle.x7_text.specs.Digits.{hex_byte, hex_word}
-use Rattle.x7_text.specs.Row.{bytes_text, close, element_text, in_line_after, line_end, line_start, next_in_line, open_text, spaced}
+use Rattle.x7_text.specs.Row.{bytes_text, close, in_line_after, line_end, line_start, next_in_line, open_text, spaced}
 use Rattle.x7_regs.specs.Command.{code_of, command_by, command_name_of}
 use Rattle.x7_regs.specs.Register.{reg_name}
 use Rattle.x7_text.proofs.LineLemmas.{bytes_closed}
 use Rattle.x7_listing.specs.HeadLine.{command_line, head_line, head_text, line_text}
-use Rattle.x7_listing.specs.Listing.{packets_text, session_text}
+use Rattle.x7_listing.specs.Listing.{session_text}
 use Rattle.x7_listing.specs.Telling.{GapTold, ListerStandsFor, ListerState, ToldAt, payload_told, word_next, word_told, words_told}
 use Rattle.x7_listing.specs.Taking.{TakerStandsFor}
 use Rattle.x7_packets.specs.declared.cutter.Mode.{Mode}
 use Rattle.x7_packets.specs.declared.cutter.Mode.TheVariants as mode
 use Rattle.x7_listing.specs.declared.line.HeadLine.{HeadLine}
 use Rattle.x7_listing.specs.declared.line.HeadLine.TheVariants as line
-use Rattle.x7_listing.proofs.FrontLemmas.{Front, place_sure, session_over, sure_of, sure_place, sure_text, told_behind}
+use Rattle.x7_listing.proofs.FrontLemmas.{place_sure, session_over, sure_place, told_behind}
 
 -- the text of bytes has at least a byte for each
 bytes_long : (i : ℕ) (xs : List ℕ) → length xs ≤ length (open_text 32 (codes "bytes ") hex_byte i xs)

@@ -1,5 +1,5 @@
 -- Lemmas on specs/Taking.
-use Rattle.std.proofs.Common.{◌≡◌, ℕ, zero, suc, ◌+◌, ◌<◌, Bool, true, false, List, [], ◌++◌, length, take, min, Bor, if◌then◌else◌, refl, ap, sym, subst, ◌∙◌, append-nil, arith}
+use Rattle.std.proofs.Common.{◌≡◌, ℕ, zero, suc, ◌<◌, Bool, true, false, List, [], ◌++◌, length, take, min, Bor, if◌then◌else◌, refl, ap, sym, subst, ◌∙◌, append-nil, arith}
 use Rattle.std.proofs.lemmas.List.{take-take, take_all}
 use Rattle.std.specs.List.{flat_map}
 use Rattle.x7_packets.specs.Reading.{Place, Searching, Synced, Session, IsReading, tail_of}

@@ -1,5 +1,4 @@
-use Rattle.std.proofs.Common.{◌∙◌, ◌≡◌, ◌++◌, List, ℕ, ap, arith, append_assoc, codes, sym, take}
-use Rattle.x7_text.specs.Row.{bytes_text}
+use Rattle.std.proofs.Common.{arith}
 use Rattle.x7_listing.proofs.AtOnceLemmas.{gap_told, gap_written}
 use Rattle.x7_listing.proofs.at_once.put_gap.Goals as goal
 

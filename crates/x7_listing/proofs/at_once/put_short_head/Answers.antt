@@ -1,4 +1,4 @@
-use Rattle.std.proofs.Common.{arith, refl}
+use Rattle.std.proofs.Common.{arith}
 use Rattle.x7_listing.proofs.AtOnceLemmas.{short_head_appends}
 use Rattle.x7_listing.proofs.at_once.put_short_head.Goals as goal
 

@@ -1,11 +1,9 @@
-use Rattle.std.proofs.Common.{◌∙◌, ◌≡◌, ◌*◌, ◌++◌, List, ℕ, ap, arith, append_assoc, codes, drop, length, refl, sym, take}
+use Rattle.std.proofs.Common.{◌∙◌, ◌≡◌, ◌*◌, ◌++◌, List, ℕ, ap, arith, drop, sym, take}
 use Rattle.x7_words.specs.Word.{words_of_bytes}
-use Rattle.x7_packets.specs.AtOnce.{short_head, WritesFew}
-use Rattle.x7_packets.specs.Packet.{payload_steps}
+use Rattle.x7_packets.specs.AtOnce.{short_head}
 use Rattle.x7_packets.specs.declared.header.Step.TheVariants.{Open}
-use Rattle.x7_text.specs.Row.{close, in_line_after, open_text, spaced}
+use Rattle.x7_text.specs.Row.{close}
 use Rattle.x7_listing.specs.HeadLine.{head_text}
-use Rattle.x7_listing.specs.Telling.{words_told}
 use Rattle.x7_listing.proofs.AtOnceLemmas.{front_of_front, short_told, short_written}
 use Rattle.x7_listing.proofs.SessionLemmas.{data_place, data_told, is_data}
 use Rattle.x7_listing.proofs.at_once.put_short_write.Goals as goal

@@ -1,4 +1,3 @@
-use Rattle.std.proofs.Common.{◌∙◌, append_assoc}
 use Rattle.x7_listing.proofs.FrontLemmas.{front_behind_others}
 use Rattle.x7_listing.proofs.laws.told_is_a_front.Goals as goal
 

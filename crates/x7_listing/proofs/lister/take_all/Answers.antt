@@ -1,4 +1,4 @@
-use Rattle.std.proofs.Common.{◌≡◌, ◌∙◌, ◌+◌, ◌-◌, ◌*◌, ◌<◌, ◌++◌, ap, append-nil, arith, drop, length, refl, subst, sym, take, Vec, vec_capacity, vec_len, ℕ}
+use Rattle.std.proofs.Common.{◌≡◌, ◌∙◌, ◌+◌, ◌-◌, ◌*◌, ◌<◌, ◌++◌, ap, append-nil, arith, drop, length, refl, subst, take, Vec, vec_capacity, vec_len, ℕ}
 use Rattle.std.specs.declared.alloc.Global.{Global}
 use Rattle.x7_packets.specs.Cutting.{calls_left, CutterState, run_bytes}
 use Rattle.x7_listing.specs.Telling.{Tells}

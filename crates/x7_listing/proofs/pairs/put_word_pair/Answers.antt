@@ -1,4 +1,4 @@
-use Rattle.std.proofs.Common.{◌≡◌, ◌+◌, ◌-◌, ◌*◌, ◌++◌, arith, ap, ◌∙◌}
+use Rattle.std.proofs.Common.{◌+◌, ◌-◌, ◌*◌, ◌++◌, arith, ap, ◌∙◌}
 use Rattle.x7_words.specs.Word.{bytes_of_word}
 use Rattle.x7_listing.proofs.RowLemmas.{takes-word}
 use Rattle.x7_listing.proofs.pairs.put_word_pair.Goals as goal

@@ -1,4 +1,4 @@
-use Rattle.std.proofs.Common.{refl, ◌∙◌, arith}
+use Rattle.std.proofs.Common.{refl}
 use Rattle.x7_listing.specs.AtOnce.{behind, write_name}
 use Rattle.x7_listing.proofs.AtOnceLemmas.{row_behind, row_first}
 use Rattle.x7_listing.proofs.rows.name_row.Goals as goal
