@@ -30,7 +30,7 @@ use Rattle.x7_engine.specs.declared.stop.Stop.TheVariants as stop
 use Rattle.x7_boot.specs.Attempt.{IsTrial, NoneBefore, Trial, ending_at, ending_by, failed_by}
 use Rattle.x7_boot.specs.Boot.{BootedState, IsBoot, LeadsTo, LeadsToEnd, at_power, end_state, forbids_fallback, next_by, start_address, tried}
 use Rattle.x7_boot.specs.Image.{first_sector, flash_limit, image_size}
-use Rattle.x7_boot.specs.ImageBoot.{BootsImage, EndsAtUpdate, FallsBack, HasImage, IsPlanFor, StartsUpdate, TriesUpdate, UpdateEnds, UpdateFails, golden_image, kept_at_update, place_behind, through_update}
+use Rattle.x7_boot.specs.ImageBoot.{BootsImage, EndsAtUpdate, FallsBack, HasImage, IsPlanFor, StartsUpdate, TriesUpdate, UpdateEnds, UpdateFails, golden_image, kept_at_update, place_behind}
 use Rattle.x7_boot.specs.declared.attempt.Ending.{Ending}
 use Rattle.x7_boot.specs.declared.attempt.Ending.TheVariants as ending
 use Rattle.x7_boot.specs.declared.boots.BootEnd.{BootEnd}

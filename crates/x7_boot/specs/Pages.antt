@@ -45,6 +45,10 @@ Pages = List (ℕ × Vec ℕ Global)
 abbrev pub ArePages : Option (List ℕ) → ℕ → Pages → Type 0
 ArePages known extent pages = (page : ℕ × Vec ℕ Global) → Contains pages page → IsRest known extent (page.0 * page_size) page.1.items
 
+-- where these are the bytes of a block of a flash, pages of it stay pages of it
+abbrev pub KeepsPages : List ℕ → ℕ → ℕ → Pages → Pages → Type 0
+KeepsPages block number count old new = (known : Option (List ℕ)) (extent : ℕ) → IsBlock known extent number count block → ArePages known extent old → ArePages known extent new
+
 -- the page of a place of a flash is among pages of it
 pub record HasPage (pages : Pages) (at : ℕ) : Type 0 where
   pub known : Option (List ℕ)

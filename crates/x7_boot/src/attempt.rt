@@ -21,12 +21,12 @@ pub enum Ending {
     Failed(Cause),
 }
 
-/// What a page of a flash did to an attempt.
+/// What bytes of a flash did to an attempt.
 #[derive(Clone, Copy, Debug, PartialEq, Eq)]
 pub(crate) enum Step {
-    /// Nothing: it goes on behind the page.
+    /// Nothing: it goes on behind them.
     Goes,
-    /// It ended the attempt.
+    /// They ended the attempt.
     Ends(Ending),
     /// The device stopped, and takes nothing up to the flash's end.
     Stops,

@@ -123,8 +123,7 @@ pub fn boot<F: Flash>(alloc: Global, part: &Part, flash: &mut F) -> Result<Boote
         return Err(BootFault::NoMemory);
     };
     let mut keep = AT_POWER;
-    let mut address = 0;
-    let mut last_address = 0;
+    let (mut address, mut last_address) = (0, 0);
     let mut number = 0;
     'attempts: loop {
         let ending = try_once(&mut device, flash, &mut pages, keep, address, last_address)?;

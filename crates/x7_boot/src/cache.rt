@@ -2,7 +2,7 @@
 ghost use Rattle.std.specs.Prelude.{◌≡◌, ◌+◌, ◌*◌, ◌/◌, ◌%◌, ◌<◌, ◌≤◌, ℕ, List, Option, None, [], length, true, nat_eq, IfOk, OnOk, IsErrOf, IsSome};
 ghost use Rattle.std.specs.Map.{lookup};
 ghost use Rattle.x7_words.specs.Count.{HasRisen};
-ghost use Rattle.x7_boot.specs.Pages.{AreFrom, ArePages, HasPage, IsBlock, IsRest, block_pages, page_size};
+ghost use Rattle.x7_boot.specs.Pages.{AreFrom, ArePages, HasPage, IsBlock, IsRest, KeepsPages, block_pages, page_size};
 
 use crate::fault::BootFault;
 use crate::pages::{BLOCK_PAGES, PAGE, read_block};
@@ -97,7 +97,7 @@ impl PageCache {
         requires most { count ≤ block_pages }
         requires number { number ≤ 32768 }
         requires within { count * page_size < length self.old.block.items + page_size }
-        ensures pages { (known : Option (List ℕ)) (extent : ℕ) → IsBlock known extent number count self.old.block.items → ArePages known extent self.old.pages.entries → ArePages known extent self.new.pages.entries }
+        ensures pages { KeepsPages self.old.block.items number count self.old.pages.entries self.new.pages.entries }
         ensures there { OnOk result (IsSome (lookup (nat_eq number) self.new.pages.entries)) }
         ensures block { self.new.block ≡ self.old.block }
         ensures not_failed { IsErrOf result BootFault.Failed → ⊥ }
@@ -119,7 +119,7 @@ impl PageCache {
         requires number { number ≤ 32768 }
         requires index { index < block_pages }
         requires within { index * page_size < length self.old.block.items }
-        ensures pages { (known : Option (List ℕ)) (extent count : ℕ) → IsBlock known extent number count self.old.block.items → index < count → ArePages known extent self.old.pages.entries → ArePages known extent self.new.pages.entries }
+        ensures pages { (count : ℕ) → index < count → KeepsPages self.old.block.items number count self.old.pages.entries self.new.pages.entries }
         ensures there { OnOk result (IsSome (lookup (nat_eq (number + index)) self.new.pages.entries)) }
         ensures block { self.new.block ≡ self.old.block }
         ensures not_failed { IsErrOf result BootFault.Failed → ⊥ }
