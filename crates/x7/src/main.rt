@@ -3,7 +3,7 @@
 
 ghost use Rattle.std.specs.Prelude.{◌≡◌};
 ghost use Rattle.std.specs.Process.{exit_status};
-ghost use Rattle.x7_tool.specs.Message.{number_of};
+ghost use Rattle.x7_forms.specs.Message.{number_of};
 
 use std::env;
 use std::io::{self, ErrorKind};

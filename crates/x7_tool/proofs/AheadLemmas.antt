@@ -6,16 +6,18 @@ use Rattle.x7_words.proofs.SinkLemmas.{appended-appended, appended-nil}
 use Rattle.x7_listing.specs.Telling.{ListerState}
 use Rattle.x7_listing.proofs.BoundLemmas.{few_held}
 use Rattle.x7_listing.specs.StreamListing.{stream_listing}
-use Rattle.x7_tool.specs.declared.bad_input.InputFault.TheVariants as input
+use Rattle.x7_forms.specs.declared.bad_input.InputFault.TheVariants as input
 use Rattle.x7_tool.specs.Ahead.{IsLonger, IsNear, IsSoon, most_ahead, NearFor, SoonFor, StaysNear}
-use Rattle.x7_tool.specs.declared.refusal.Refusal.{Refusal}
-use Rattle.x7_tool.specs.declared.status.Status.{Status}
-use Rattle.x7_tool.specs.declared.status.Status.TheVariants as status
-use Rattle.x7_tool.specs.Message.{event_of, text_status}
-use Rattle.x7_tool.specs.Event.{Event, status_of, bad_input, missing, no_memory, read_fault, too_large, write_fault}
-use Rattle.x7_tool.specs.Form.{Asked, Listing}
-use Rattle.x7_tool.specs.Turn.{IsBadFront, Lists, Unfronted, Unopened, Unread}
-use Rattle.x7_tool.proofs.Causes.{known_all, may_follow}
+use Rattle.x7_forms.specs.declared.refusal.Refusal.{Refusal}
+use Rattle.x7_forms.specs.declared.status.Status.{Status}
+use Rattle.x7_forms.specs.declared.status.Status.TheVariants as status
+use Rattle.x7_forms.specs.Message.{event_of, text_status}
+use Rattle.x7_forms.specs.Event.{Event, status_of, bad_input, missing, no_memory, read_fault, too_large, write_fault}
+use Rattle.x7_forms.specs.Form.{Asked, Listing}
+use Rattle.x7_forms.specs.Turn.{IsBadFront, Unfronted, Unopened, Unread}
+use Rattle.x7_tool.specs.Turns.{Lists}
+use Rattle.x7_forms.proofs.ReadLemmas.{known_all}
+use Rattle.x7_tool.proofs.Causes.{may_follow}
 
 pub same_now : (old : Option (List ℕ)) → IsLonger old old
 same_now old = ([], sym (appended-nil old))

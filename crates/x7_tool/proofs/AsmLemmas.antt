@@ -1,14 +1,15 @@
 -- A text that assembles to nothing.
 use Rattle.std.proofs.Common.{◌≡◌, ℕ, ◌^◌, ◌<◌, List, [], ◌++◌, Option, None, Some, Result, Ok, Err, length, refl, subst, sym, append_assoc, append-nil, ◌⊎◌, inl, inr}
 use Rattle.x7_listing.specs.Assembling.{AssemblerStandsFor, AssemblerState, FailsIn}
-use Rattle.x7_tool.specs.Turn.{IsFed}
+use Rattle.x7_tool.specs.Turns.{IsFed}
 use Rattle.x7_listing.specs.Assembly.{IsAsm}
 use Rattle.x7_listing.specs.declared.assembler.AsmFault.{AsmFault}
 use Rattle.x7_listing.specs.declared.assembler.AsmFault.TheVariants as fault
-use Rattle.x7_tool.specs.Event.{Event}
-use Rattle.x7_tool.specs.Outcome.{Answer, AssembledAs, Known, asm_event}
-use Rattle.x7_tool.specs.Run.{IsCaused, IsCausedBy, IsDecided, IsFree, IsOpen}
-use Rattle.x7_tool.proofs.ReadLemmas.{after_text_by}
+use Rattle.x7_forms.specs.Event.{Event}
+use Rattle.x7_forms.specs.Known.{Answer, Known}
+use Rattle.x7_tool.specs.Outcome.{AssembledAs, asm_event}
+use Rattle.x7_forms.specs.Step.{IsCaused, IsCausedBy, IsDecided, IsFree, IsOpen}
+use Rattle.x7_forms.proofs.ReadLemmas.{after_text_by}
 
 -- want of memory is free, and any other fault is the text's
 faulted_by : (F L : List ℕ → Type 0) (name text : List ℕ) (f : AsmFault) → (f ≡ fault.NoMemory) ⊎ IsAsm text (Err f)

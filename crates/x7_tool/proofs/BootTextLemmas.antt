@@ -15,14 +15,15 @@ use Rattle.x7_boot.specs.declared.boots.Tried.{Tried}
 use Rattle.x7_boot.specs.declared.fault.BootFault.{BootFault}
 use Rattle.x7_boot.specs.declared.fault.BootFault.TheVariants as boot_fault
 use Rattle.x7_tool.specs.BootText.{boot_head, boot_text}
-use Rattle.x7_tool.specs.Event.{Event, no_memory, too_large}
-use Rattle.x7_tool.specs.Message.{event_of}
+use Rattle.x7_forms.specs.Event.{Event, no_memory, too_large}
+use Rattle.x7_forms.specs.Message.{event_of}
 use Rattle.x7_boot.specs.Image.{flash_limit}
-use Rattle.x7_tool.specs.Outcome.{Answer, BootsAs, FlashBoots, boot_event, has_failed}
-use Rattle.x7_tool.specs.Play.{text_of_play}
-use Rattle.x7_tool.specs.Report.{report_text}
-use Rattle.x7_tool.specs.Run.{IsFree, RisesFor, seen}
-use Rattle.x7_tool.specs.declared.refusal.Refusal.{Refusal}
+use Rattle.x7_forms.specs.Known.{Answer}
+use Rattle.x7_tool.specs.Outcome.{BootsAs, FlashBoots, boot_event, has_failed}
+use Rattle.x7_forms.specs.Play.{text_of_play}
+use Rattle.x7_forms.specs.Report.{report_text}
+use Rattle.x7_forms.specs.Step.{IsFree, RisesFor, seen}
+use Rattle.x7_forms.specs.declared.refusal.Refusal.{Refusal}
 
 -- the answer of a boot
 pub boots_as : (part : PartData) (flash : List ℕ) (b : BootedState) (answer : Answer) (is : IsBoot part flash b) → answer.stopped ≡ has_failed b.end → answer.text ≡ boot_text part b.attempts b.end is.last → BootsAs part flash answer

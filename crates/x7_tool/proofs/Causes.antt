@@ -1,5 +1,5 @@
 -- What may end `list`: each of its ends has its cause.
-use Rattle.std.proofs.Common.{◌≡◌, ℕ, List, [], ◌∷◌, ◌++◌, ◌≤◌, ◌<◌, length, length-append, Option, None, Some, Result, Ok, Err, IfErr, IfOk, refl, ap, append-nil, subst, sym, ◌∙◌, arith, inl, inr, ◌⊎◌, unwrap_or, Bool, true, false}
+use Rattle.std.proofs.Common.{◌≡◌, ℕ, List, [], ◌∷◌, ◌++◌, ◌≤◌, ◌<◌, length, length-append, Option, None, Some, Result, Ok, Err, IfErr, refl, ap, append-nil, subst, sym, ◌∙◌, arith, inl, inr, ◌⊎◌, unwrap_or, Bool, true, false}
 use Rattle.std.specs.Prelude.{if◌then◌else◌, nat_eq, nat_lt}
 use Rattle.std.specs.List.{starts_with}
 use Rattle.std.proofs.lemmas.Bool.Decides.{nat_tests}
@@ -10,17 +10,19 @@ use Rattle.x7_words.specs.Word.{AreBytes}
 use Rattle.x7_words.proofs.SinkLemmas.{appended-nil}
 use Rattle.x7_words.proofs.CountLemmas.{risen_from}
 use Rattle.x7_header.specs.Header.{fixed_bytes}
-use Rattle.x7_header.specs.Reading.{header_at}
-use Rattle.x7_header.specs.declared.fault.HeaderFault.TheVariants as header
 use Rattle.x7_header.proofs.HeaderLemmas.{raw_at}
 use Rattle.x7_listing.specs.Listing.{listing_of}
-use Rattle.x7_listing.specs.StreamListing.{listing_by, stream_listing}
-use Rattle.x7_tool.specs.declared.bad_input.InputFault.TheVariants as input
-use Rattle.x7_tool.specs.Form.{Asked, Listing}
-use Rattle.x7_tool.specs.Event.{Event, bad_input, missing, no_memory, read_fault, too_large, write_fault}
-use Rattle.x7_tool.specs.Outcome.{Answer, Known, listed, listed_bytes, stream_limit, with_inputs}
-use Rattle.x7_tool.specs.Turn.{IsRefused, MayFollow, Unfronted, Unopened}
-use Rattle.x7_tool.specs.Run.{Ends, IsCaused, IsPrefixOf, PutsListing, RisesFor}
+use Rattle.x7_listing.specs.StreamListing.{stream_listing}
+use Rattle.x7_forms.specs.declared.bad_input.InputFault.TheVariants as input
+use Rattle.x7_forms.specs.Form.{Asked, Listing}
+use Rattle.x7_forms.specs.Event.{Event, bad_input, missing, no_memory, read_fault, too_large, write_fault}
+use Rattle.x7_forms.specs.Known.{Answer, Known, stream_limit, with_inputs}
+use Rattle.x7_tool.specs.Outcome.{listed, listed_bytes}
+use Rattle.x7_forms.specs.Turn.{IsRefused, MayFollow, Unfronted, Unopened}
+use Rattle.x7_tool.specs.Run.{Ends, IsPrefixOf, PutsListing}
+use Rattle.x7_forms.specs.Step.{IsCaused, RisesFor}
+use Rattle.x7_forms.proofs.FrontLemmas.{raw_listed}
+use Rattle.x7_forms.proofs.ReadLemmas.{known_all}
 
 -- a name that isn't there
 pub absent : (contents : Option (List ℕ → Option (List ℕ))) (flash : Option (List ℕ)) (name : List ℕ) (a b : ℕ) (F : List ℕ → Type 0) → Lacks contents name ⊎ HasRisen a b
@@ -40,10 +42,6 @@ none_put old text = ([], (text, refl, sym (appended-nil old)))
 pub not_there : (contents : Option (List ℕ → Option (List ℕ))) (flash : Option (List ℕ)) (F : List ℕ → Type 0) (stream : List ℕ) (a b : ℕ) (Full : Type 0) (old : Option (List ℕ)) → Lacks contents stream ⊎ HasRisen a b
     → Ends (with_inputs contents flash) F (RisesFor (stream ∷ []) a b) (Some (Listing stream)) Full old old (Err (missing stream))
 not_there contents flash F stream a b Full old h = (absent contents flash stream a b F h, refl)
-
--- a stream that begins as no header does
-pub raw_listed : (bytes : List ℕ) → header_at bytes ≡ Err header.Raw → stream_listing bytes ≡ Ok (listing_of bytes)
-raw_listed bytes e = ap (listing_by bytes) e
 
 nothing_listed : stream_listing [] ≡ Ok (listing_of [])
 nothing_listed = raw_listed [] ((raw_at [] (starts_with nat_eq [] fixed_bytes) refl).1 (λ rest. λ e. absurd cc))
@@ -71,14 +69,6 @@ broken contents flash L stream taken rest a b Full old now s h p = (inl (inl ref
 pub out_of_memory : (contents : Option (List ℕ → Option (List ℕ))) (flash : Option (List ℕ)) (F L : List ℕ → Type 0) (stream taken : List ℕ) (rest : Option (List ℕ)) (Full : Type 0) (old now : Option (List ℕ))
     → Selects contents stream (preceded taken rest) → PutsListing taken old now → Ends (with_inputs contents flash) F L (Some (Listing stream)) Full old now (Err no_memory)
 out_of_memory contents flash F L stream taken rest Full old now s p = (inl refl, (taken, (front_taken contents flash stream taken rest s, p)))
-
--- what is known of a stream of which these bytes were taken
-pub known_all : (inputs : List ℕ → Option (List ℕ)) (stream taken : List ℕ) (rest : Option (List ℕ)) → Selects (Some inputs) stream (preceded taken rest) → (left : List ℕ) × ((rest ≡ Some left) × (inputs stream ≡ Some (taken ++ left)))
-known_all inputs stream taken None s = let h = s.2 in absurd (cc)
-known_all inputs stream taken (Some left) s =
-    let h = s.2 in
-    let same : taken ++ left ≡ s.0 = cc in
-    (left, (refl, s.1 ∙ ap Some (sym same)))
 
 -- what may follow the bytes that were taken
 pub may_follow : (last : Bool) (rest : Option (List ℕ)) (left : List ℕ) → rest ≡ Some left → (last ≡ true → AtEnd rest) → MayFollow last left
@@ -151,16 +141,6 @@ unopened contents flash stream f0 f1 a0 a1 Full old event (inr h) =
 pub both_err : {A B : Type 0} (r : Result A B) (P Q R : B → Type 0) → ((e : B) → P e → Q e → R e) → IfErr r P → IfErr r Q → IfErr r R
 both_err (Ok a) P Q R f p q = tt
 both_err (Err e) P Q R f p q = f e p q
-
--- an error by a weaker clause
-pub err_weaker : {A B : Type 0} {P Q : B → Type 0} (r : Result A B) → ((e : B) → P e → Q e) → IfErr r P → IfErr r Q
-err_weaker (Ok a) f p = tt
-err_weaker (Err e) f p = f e p
-
--- a value by a weaker clause
-pub ok_weaker : {A B : Type 0} {P Q : A → Type 0} (r : Result A B) → ((a : A) → P a → Q a) → IfOk r P → IfOk r Q
-ok_weaker (Ok a) f p = f a p
-ok_weaker (Err e) f p = tt
 
 -- nothing was taken of a selected stream
 nothing_taken : (contents : Option (List ℕ → Option (List ℕ))) (stream : List ℕ) (rest : Option (List ℕ)) → Selects contents stream rest → Selects contents stream (preceded [] rest)

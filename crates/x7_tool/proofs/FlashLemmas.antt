@@ -1,10 +1,12 @@
 -- What may fail where a form reads a flash too, and how a boot from one ends.
 use Rattle.std.proofs.Common.{◌≡◌, ℕ, List, [], ◌∷◌, Option, None, Some, Result, Ok, Err, refl, subst, sym, inl, inr, ◌⊎◌}
 use Rattle.x7_part.specs.Part.{PartData}
-use Rattle.x7_tool.specs.Event.{Event, Cause, Want, Fault, Absence, Break, cause_of, too_large}
-use Rattle.x7_tool.specs.Form.{Asked, Booting, names_of}
-use Rattle.x7_tool.specs.Outcome.{Answer, BootedAs, FlashBoots, Gives, Known, part_of, with_inputs}
-use Rattle.x7_tool.specs.Run.{Comes, DecidedBy, Ends, EndsBy, FreeBy, IsCaused, IsCausedBy, IsFree, IsUnattached, OpenBy, RisesFor, RisesIn}
+use Rattle.x7_forms.specs.Event.{Event, Cause, Want, Fault, Absence, Break, cause_of, too_large}
+use Rattle.x7_forms.specs.Form.{Asked, Booting, names_of}
+use Rattle.x7_forms.specs.Known.{Answer, Known, part_of, with_inputs}
+use Rattle.x7_tool.specs.Outcome.{BootedAs, FlashBoots, Gives}
+use Rattle.x7_tool.specs.Run.{Comes, Ends, EndsBy, IsUnattached, RisesIn}
+use Rattle.x7_forms.specs.Step.{DecidedBy, FreeBy, IsCaused, IsCausedBy, IsFree, OpenBy, RisesFor}
 
 -- ---- what more may fail
 

@@ -10,7 +10,7 @@ use Rattle.x7_frames.specs.FramesText.{IsPlanOf}
 use Rattle.x7_planner.specs.Refusals.{IsFullFault}
 use Rattle.x7_planner.specs.declared.fault.PlanFault.{PlanFault}
 use Rattle.x7_planner.specs.declared.fault.PlanFault.TheVariants as planner
-use Rattle.x7_tool.specs.Event.{Event, no_memory}
+use Rattle.x7_forms.specs.Event.{Event, no_memory}
 use Rattle.x7_tool.specs.Outcome.{planner_event}
 
 between : {X : Type 0} → (P : X → Type 0) (before after : List X) (x : X) → All P (before ++ x ∷ after) → P x

@@ -23,9 +23,10 @@ use Rattle.x7_planner.specs.Full.{full_stream}
 use Rattle.x7_regs.specs.declared.boot_status.Cause.{Cause}
 use Rattle.x7_effects.specs.Played.{PlaysFull, PlaysPartial, PlaysRead}
 use Rattle.x7_effects.proofs.LawLemmas.{full_law, partial_law, read_law}
-use Rattle.x7_tool.specs.Event.{Event}
-use Rattle.x7_tool.specs.Form.{Asked, Assembling, Booting, Debugging, FromMcs, Imaging, Listing, PlanningFull, PlanningPartial, PlanningRead, Playing, ToMcs, Generating}
-use Rattle.x7_tool.specs.Outcome.{Answer, BootedAs, BootsAs, FlashBoots, has_failed, Known, PlanTexts, PlannedFull, PlannedPartial, PlannedRead, and_so, gen_answer, part_by, part_limit, part_of, plan_texts, text_limit, whole_in}
+use Rattle.x7_forms.specs.Event.{Event}
+use Rattle.x7_forms.specs.Form.{Asked, Assembling, Booting, Debugging, FromMcs, Imaging, Listing, PlanningFull, PlanningPartial, PlanningRead, Playing, ToMcs, Generating}
+use Rattle.x7_forms.specs.Known.{Answer, Known, and_so, part_by, part_limit, part_of, whole_in}
+use Rattle.x7_tool.specs.Outcome.{BootedAs, BootsAs, FlashBoots, has_failed, PlanTexts, PlannedFull, PlannedPartial, PlannedRead, gen_answer, plan_texts, text_limit}
 use Rattle.x7_tool.specs.Promise.{FallsBackAs, HoldsImage, Promise, PromisesFull, PromisesPartial, PromisesRead, PromisesStart, StartsChecked, StartsUpdateAs, PromisesSummary}
 use Rattle.x7_tool.specs.Run.{Agrees}
 use Rattle.x7_tool.proofs.GenerateLemmas.{planned_is}

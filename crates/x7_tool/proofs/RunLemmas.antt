@@ -12,15 +12,17 @@ use Rattle.x7_mcs.specs.Text.{mcs_text}
 use Rattle.x7_mcs.proofs.BackLemmas.{text-gives}
 use Rattle.x7_mcs.proofs.SizeLemmas.{text-short}
 use Rattle.x7_words.specs.Sink.{PutsFront}
-use Rattle.x7_tool.specs.declared.refusal.Why.{Why}
-use Rattle.x7_tool.specs.declared.refusal.Why.TheVariants as why
-use Rattle.x7_tool.specs.declared.status.Status.{Status}
-use Rattle.x7_tool.specs.declared.status.Status.TheVariants as status
-use Rattle.x7_tool.specs.Event.{Event, Cause, Wording, Want, Fault, Absence, Break, Contents, cause_of, row_of, status_of, usage}
-use Rattle.x7_tool.specs.Form.{Asked, Assembling, Booting, Debugging, FromMcs, Imaging, Listing, Playing, ToMcs, names_flash, names_of, PlanningFull, PlanningRead, PlanningPartial, Generating}
-use Rattle.x7_tool.specs.Message.{final_status}
-use Rattle.x7_tool.specs.Outcome.{Answer, AssembledAs, Known, Gives, IsOutcome, and_so, mcs_image, present, text_limit, whole_in, with_inputs, within, known_of}
-use Rattle.x7_tool.specs.Run.{Agrees, Comes, DecidedBy, OpenBy, Ends, EndsAs, EndsBy, FreeBy, GetsPrefix, IsCausedBy, Leaves, Puts, Says, RisesFor, RisesIn}
+use Rattle.x7_forms.specs.declared.refusal.Why.{Why}
+use Rattle.x7_forms.specs.declared.refusal.Why.TheVariants as why
+use Rattle.x7_forms.specs.declared.status.Status.{Status}
+use Rattle.x7_forms.specs.declared.status.Status.TheVariants as status
+use Rattle.x7_forms.specs.Event.{Event, Cause, Wording, Want, Fault, Absence, Break, Contents, cause_of, row_of, status_of, usage}
+use Rattle.x7_forms.specs.Form.{Asked, Assembling, Booting, Debugging, FromMcs, Imaging, Listing, Playing, ToMcs, names_flash, names_of, PlanningFull, PlanningRead, PlanningPartial, Generating}
+use Rattle.x7_forms.specs.Message.{final_status}
+use Rattle.x7_forms.specs.Known.{Answer, Known, and_so, present, whole_in, with_inputs, within}
+use Rattle.x7_tool.specs.Outcome.{AssembledAs, Gives, IsOutcome, mcs_image, text_limit, known_of}
+use Rattle.x7_tool.specs.Run.{Agrees, Comes, Ends, EndsAs, EndsBy, GetsPrefix, Leaves, Puts, Says, RisesIn}
+use Rattle.x7_forms.specs.Step.{DecidedBy, OpenBy, FreeBy, IsCausedBy, RisesFor}
 use Rattle.x7_tool.specs.Promise.{Promise}
 use Rattle.x7_tool.proofs.FlashLemmas.{caused_in}
 use Rattle.x7_tool.proofs.PromiseLemmas.{no_promise, promised}

@@ -1,8 +1,5 @@
 -- A listing that is written turn by turn.
-use Rattle.std.proofs.Common.{length-append, arith, inl, inr, ◌≡◌, ℕ, ◌+◌, ◌≤◌, ◌<◌, Bool, true, List, [], ◌∷◌, ◌++◌, false, Option, None, Some, Result, Ok, Err, OnOk, take, length, refl, ap, sym, subst, ◌∙◌, append_assoc, append-nil}
-use Rattle.std.specs.Result.{is_err}
-use Rattle.std.proofs.Math.Seq.{take-append-add}
-use Rattle.std.proofs.lemmas.List.{length-take-le, take-take}
+use Rattle.std.proofs.Common.{length-append, arith, inl, inr, ◌≡◌, ℕ, ◌+◌, ◌≤◌, ◌<◌, Bool, true, List, [], ◌∷◌, ◌++◌, false, Option, None, Some, Ok, Err, length, refl, ap, sym, subst, ◌∙◌, append_assoc, append-nil}
 use Rattle.x7_words.specs.Sink.{appended, PutsFront}
 use Rattle.x7_words.specs.Word.{AreBytes}
 use Rattle.x7_words.proofs.SinkLemmas.{appended-appended, appended-nil, front_more}
@@ -14,18 +11,17 @@ use Rattle.x7_listing.specs.Telling.{Finished, ListerStandsFor, ListerState}
 use Rattle.x7_listing.proofs.FrontLemmas.{told_front}
 use Rattle.x7_words.specs.Input.{AtEnd, Selects, preceded}
 use Rattle.x7_words.proofs.ListLemmas.{all-append, all_back}
-use Rattle.x7_tool.specs.Form.{Listing}
-use Rattle.x7_tool.specs.Run.{Ends, PutsListing, RisesFor}
+use Rattle.x7_forms.specs.Form.{Listing}
+use Rattle.x7_tool.specs.Run.{Ends, PutsListing}
+use Rattle.x7_forms.specs.Step.{RisesFor}
 use Rattle.x7_words.proofs.InputLemmas.{preceded-preceded}
 use Rattle.x7_words.proofs.CountLemmas.{risen_from}
-use Rattle.x7_tool.specs.Event.{Event, read_fault, too_large, write_fault}
-use Rattle.x7_tool.specs.Outcome.{stream_limit, with_inputs}
-use Rattle.x7_tool.specs.Turn.{Lists, ListsStream, MayFollow, Unread}
-use Rattle.x7_tool.proofs.Causes.{broken, ends_same, known_all, oversized, unwritten}
-
-pub from_ok : {A B P : Type 0} (r : Result A B) → is_err r ≡ false → OnOk r P → P
-from_ok (Ok a) e h = h
-from_ok (Err b) e h = absurd (cc)
+use Rattle.x7_forms.specs.Event.{Event, read_fault, too_large, write_fault}
+use Rattle.x7_forms.specs.Known.{stream_limit, with_inputs}
+use Rattle.x7_tool.specs.Turns.{Lists, ListsStream}
+use Rattle.x7_forms.specs.Turn.{MayFollow, Unread}
+use Rattle.x7_tool.proofs.Causes.{broken, ends_same, oversized, unwritten}
+use Rattle.x7_forms.proofs.ReadLemmas.{known_all}
 
 -- the listing is the one that is found
 pub listing_is : (bytes text : List ℕ) → IsListing bytes text → text ≡ listing_of bytes
@@ -88,12 +84,6 @@ end_part l done first mid now bytes text t ends same front =
     let f = ends t.given [] bytes t.stands in
     let whole : listing_of bytes ≡ t.given ++ (text ++ []) = sym (ap (λ x. t.given ++ x) (append-nil text ∙ same) ∙ f.told ∙ listing_is bytes f.listing f.is) in
     rw whole (front_more first mid now t.given text [] t.put front)
-
--- the front of a buffer, where what was read stands after what it held
-pub filled : (xs ys zs : List ℕ) (at n : ℕ) → at ≤ length xs → n ≤ length ys → take (at + length ys) zs ≡ take at xs ++ ys → take (at + n) zs ≡ take at xs ++ take n ys
-filled xs ys zs at n a k e =
-    let long : at + n ≤ at + length ys = omega (arith, k) in
-    sym (take-take (at + n) (at + length ys) zs long) ∙ ap (take (at + n)) e ∙ ap (λ m. take (m + n) (take at xs ++ ys)) (sym (length-take-le at xs a)) ∙ take-append-add (take at xs) ys n
 
 -- bytes more were taken
 pub taken_more : (contents : Option (List ℕ → Option (List ℕ))) (name taken piece : List ℕ) (old new : Option (List ℕ)) → Selects contents name (preceded taken old) → old ≡ preceded piece new → Selects contents name (preceded (taken ++ piece) new)

@@ -2,9 +2,9 @@
 use Rattle.std.specs.Prelude.{◌≡◌, ℕ, ◌+◌, ◌≤◌, List, length, Option, Some, Err}
 use Rattle.x7_words.specs.Sink.{appended}
 use Rattle.x7_listing.specs.StreamListing.{stream_listing}
-use Rattle.x7_tool.specs.Form.{Asked, Listing}
-use Rattle.x7_tool.specs.declared.status.Status.{Status}
-use Rattle.x7_tool.specs.declared.status.Status.TheVariants as status
+use Rattle.x7_forms.specs.Form.{Asked, Listing}
+use Rattle.x7_forms.specs.declared.status.Status.{Status}
+use Rattle.x7_forms.specs.declared.status.Status.TheVariants as status
 
 -- the most bytes of a stream that are read and not yet written
 abbrev pub most_ahead : ℕ

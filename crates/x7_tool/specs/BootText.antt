@@ -14,7 +14,7 @@ use Rattle.x7_boot.specs.declared.attempt.Ending.TheVariants as ending
 use Rattle.x7_boot.specs.declared.boots.BootEnd.{BootEnd}
 use Rattle.x7_boot.specs.declared.boots.BootEnd.TheVariants as boot_end
 use Rattle.x7_boot.specs.declared.boots.Tried.{Tried}
-use Rattle.x7_tool.specs.Report.{report_text}
+use Rattle.x7_forms.specs.Report.{report_text}
 
 -- what began an attempt
 abbrev pub kind_text : Kind → List ℕ

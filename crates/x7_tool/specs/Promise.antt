@@ -15,10 +15,11 @@ use Rattle.x7_boot.specs.declared.boots.BootEnd.{BootEnd}
 use Rattle.x7_boot.specs.declared.boots.Tried.{Tried}
 use Rattle.x7_effects.specs.Played.{PlaysFull, PlaysPartial, PlaysRead}
 use Rattle.x7_tool.specs.BootText.{boot_text}
-use Rattle.x7_tool.specs.Event.{Event}
+use Rattle.x7_forms.specs.Event.{Event}
 use Rattle.x7_tool.specs.Generated.{planned_summary}
-use Rattle.x7_tool.specs.Form.{Asked, Booting, Generating, PlanningFull, PlanningPartial, PlanningRead}
-use Rattle.x7_tool.specs.Outcome.{Answer, BootsAs, Known, PlanTexts, part_of, plan_texts}
+use Rattle.x7_forms.specs.Form.{Asked, Booting, Generating, PlanningFull, PlanningPartial, PlanningRead}
+use Rattle.x7_forms.specs.Known.{Answer, Known, part_of}
+use Rattle.x7_tool.specs.Outcome.{BootsAs, PlanTexts, plan_texts}
 
 -- The stream of `plan full`: after any bytes at rest it leaves the plan of the frames text over zeros and ends startup, and the device is at rest again.
 pub record PromisesFull (known : Known) (part frames stream : List ℕ) : Type 0 where

@@ -2,16 +2,17 @@
 use Rattle.std.specs.Prelude.{◌≡◌, ◌≤◌, ℕ, [], length, List, Option, None, Some, ◌⊎◌, Bool, true, false, Result, Ok, Err}
 use Rattle.x7_words.specs.Count.{HasRisen}
 use Rattle.x7_words.specs.Sink.{appended}
-use Rattle.x7_tool.specs.declared.status.Status.{Status}
-use Rattle.x7_tool.specs.declared.status.Status.TheVariants as status
-use Rattle.x7_tool.specs.Event.{Event, Cause, Wording, Want, Fault, Absence, Break, Contents, cause_of}
+use Rattle.x7_forms.specs.declared.status.Status.{Status}
+use Rattle.x7_forms.specs.declared.status.Status.TheVariants as status
+use Rattle.x7_forms.specs.Event.{Event, Cause, Wording, Want, Fault, Absence, Break, Contents, cause_of}
 use Rattle.x7_words.specs.Word.{AreBytes}
 use Rattle.x7_listing.specs.StreamListing.{stream_listing}
 use Rattle.x7_mcs.specs.Text.{mcs_text}
 use Rattle.x7_boot.specs.Image.{flash_limit}
-use Rattle.x7_tool.specs.Form.{Asked, Assembling, FromMcs, names_flash}
-use Rattle.x7_tool.specs.Message.{final_status}
-use Rattle.x7_tool.specs.Outcome.{Answer, Known, IsOutcome, known_of, stream_limit}
+use Rattle.x7_forms.specs.Form.{Asked, Assembling, FromMcs, names_flash}
+use Rattle.x7_forms.specs.Message.{final_status}
+use Rattle.x7_forms.specs.Known.{Answer, Known, stream_limit}
+use Rattle.x7_tool.specs.Outcome.{IsOutcome, known_of}
 use Rattle.x7_tool.specs.Promise.{Promise}
 use Rattle.x7_tool.specs.Run.{Agrees, GetsPrefix, Leaves, RisesIn, Says, Shows}
 

@@ -1,17 +1,16 @@
 //! The command `asm`.
 ghost use Rattle.std.specs.Prelude.{◌≡◌, ℕ, ◌+◌, ◌^◌, ◌<◌, ◌≤◌, List, [], ◌∷◌, ◌++◌, length, Option, Ok, Err, IfOk, IfErr};
 ghost use Rattle.x7_listing.specs.Assembling.{AssemblerStandsFor};
-ghost use Rattle.x7_tool.specs.Message.{event_of};
-ghost use Rattle.x7_tool.specs.Outcome.{AssembledAs, asm_event, text_limit, whole_in};
-ghost use Rattle.x7_tool.specs.Play.{whole_of};
-ghost use Rattle.x7_tool.specs.Run.{AnswersAs, AnswersBy, seen};
-ghost use Rattle.x7_tool.specs.Turn.{IsFed};
+ghost use Rattle.x7_forms.specs.Message.{event_of};
+ghost use Rattle.x7_tool.specs.Outcome.{AssembledAs, asm_event, text_limit};
+ghost use Rattle.x7_forms.specs.Known.{whole_in};
+ghost use Rattle.x7_tool.specs.Ready.{whole_of};
+ghost use Rattle.x7_forms.specs.Step.{AnswersAs, AnswersBy, seen};
+ghost use Rattle.x7_tool.specs.Turns.{IsFed};
 
-use crate::bad_input::InputFault;
-use crate::read::{TEXT_LIMIT, TURN, next_turn, open};
-use crate::refusal::{Refusal, Why};
 use crate::text::Text;
 use std::alloc::Global;
+use x7_forms::{InputFault, Refusal, TEXT_LIMIT, TURN, Why, next_turn, open};
 use x7_listing::{AsmFault, Assembler};
 use x7_words::Inputs;
 

@@ -3,20 +3,17 @@ ghost use Rattle.std.specs.Prelude.{◌≡◌, ◌⊎◌, ◌≤◌, ℕ, [], �
 ghost use Rattle.x7_debug.specs.Script.{IsScriptOf};
 ghost use Rattle.x7_debug.specs.declared.fault.ScriptFault.{ScriptFault as FaultData};
 ghost use Rattle.x7_tool.specs.Debug.{given_of};
-ghost use Rattle.x7_tool.specs.Message.{event_of};
-ghost use Rattle.x7_tool.specs.Event.{no_memory};
+ghost use Rattle.x7_forms.specs.Message.{event_of};
+ghost use Rattle.x7_forms.specs.Event.{no_memory};
 ghost use Rattle.x7_tool.specs.Outcome.{DebuggedAs, debug_inputs, script_event};
-ghost use Rattle.x7_tool.specs.Play.{whole_of};
-ghost use Rattle.x7_tool.specs.Run.{AnswersAs, AnswersBy, seen};
+ghost use Rattle.x7_tool.specs.Ready.{whole_of};
+ghost use Rattle.x7_forms.specs.Step.{AnswersAs, AnswersBy, seen};
 
-use crate::bad_input::InputFault;
-use crate::play::read_part;
-use crate::read::read_whole;
-use crate::refusal::{Refusal, Why};
 use crate::stream::read_data;
 use crate::text::Text;
 use std::alloc::Global;
 use x7_debug::{ScriptFault, Session, script_of, transcript};
+use x7_forms::{InputFault, Refusal, Why, read_part, read_whole};
 use x7_part::Part;
 use x7_words::Inputs;
 

@@ -1,18 +1,16 @@
 //! The command `image`: the flash image of a golden and an update stream.
 ghost use Rattle.std.specs.Prelude.{◌≡◌, ◌⊎◌, ◌≤◌, ℕ, [], ◌∷◌, Ok, Err, IfOk, IfErr, drop, length};
-ghost use Rattle.x7_tool.specs.Message.{event_of};
-ghost use Rattle.x7_tool.specs.Event.{no_memory};
+ghost use Rattle.x7_forms.specs.Message.{event_of};
+ghost use Rattle.x7_forms.specs.Event.{no_memory};
 ghost use Rattle.x7_tool.specs.Outcome.{image_for, imaged};
-ghost use Rattle.x7_tool.specs.Play.{whole_of};
-ghost use Rattle.x7_tool.specs.Run.{AnswersAs, seen};
+ghost use Rattle.x7_tool.specs.Ready.{whole_of};
+ghost use Rattle.x7_forms.specs.Step.{AnswersAs, seen};
 
-use crate::bad_input::InputFault;
-use crate::play::read_part;
-use crate::refusal::{Refusal, Why};
 use crate::stream::read_stream;
 use crate::text::Text;
 use std::alloc::Global;
 use x7_boot::ImageFault;
+use x7_forms::{InputFault, Refusal, Why, read_part};
 use x7_part::Part;
 use x7_words::Inputs;
 

@@ -5,18 +5,17 @@ ghost use Rattle.x7_words.specs.Sink.{appended, PutsFront};
 ghost use Rattle.x7_words.specs.Word.{AreBytes};
 ghost use Rattle.x7_listing.specs.Listing.{listing_of};
 ghost use Rattle.x7_tool.specs.Ahead.{IsLonger, StaysNear};
-ghost use Rattle.x7_tool.specs.Form.{Listing};
-ghost use Rattle.x7_tool.specs.Message.{event_of};
-ghost use Rattle.x7_tool.specs.Event.{no_memory, status_of, write_fault};
+ghost use Rattle.x7_forms.specs.Form.{Listing};
+ghost use Rattle.x7_forms.specs.Message.{event_of};
+ghost use Rattle.x7_forms.specs.Event.{no_memory, status_of, write_fault};
 ghost use Rattle.x7_listing.specs.Telling.{ListerStandsFor};
-ghost use Rattle.x7_tool.specs.Outcome.{with_inputs};
-ghost use Rattle.x7_tool.specs.Run.{Ends, RisesFor};
-ghost use Rattle.x7_tool.specs.Turn.{Lists};
+ghost use Rattle.x7_forms.specs.Known.{with_inputs};
+ghost use Rattle.x7_tool.specs.Run.{Ends};
+ghost use Rattle.x7_forms.specs.Step.{RisesFor};
+ghost use Rattle.x7_tool.specs.Turns.{Lists};
 
-use crate::front::read_front;
-use crate::read::{STREAM_LIMIT, TURN, next_turn, open};
-use crate::refusal::{Refusal, Why};
 use std::alloc::Global;
+use x7_forms::{Refusal, STREAM_LIMIT, TURN, Why, next_turn, open, read_front};
 use x7_listing::Lister;
 use x7_words::{Inputs, Sink, write_all};
 

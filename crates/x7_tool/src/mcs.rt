@@ -1,15 +1,13 @@
 //! The commands `mcs` and `unmcs`: flash images as Intel HEX texts, and back.
 ghost use Rattle.std.specs.Prelude.{◌≡◌, ℕ, [], ◌∷◌};
-ghost use Rattle.x7_tool.specs.Message.{event_of};
+ghost use Rattle.x7_forms.specs.Message.{event_of};
 ghost use Rattle.x7_tool.specs.Outcome.{mcs_event, mcs_read, mcs_written};
-ghost use Rattle.x7_tool.specs.Play.{text_of_image, whole_of};
-ghost use Rattle.x7_tool.specs.Run.{AnswersAs, seen};
+ghost use Rattle.x7_tool.specs.Ready.{text_of_image, whole_of};
+ghost use Rattle.x7_forms.specs.Step.{AnswersAs, seen};
 
-use crate::bad_input::InputFault;
-use crate::read::{TEXT_LIMIT, read_whole};
-use crate::refusal::{Refusal, Why};
 use crate::text::Text;
 use std::alloc::Global;
+use x7_forms::{InputFault, Refusal, TEXT_LIMIT, Why, read_whole};
 use x7_mcs::{FLASH_LIMIT, McsFault, McsText, flash_of};
 use x7_words::Inputs;
 

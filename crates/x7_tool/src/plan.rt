@@ -1,19 +1,17 @@
 //! The commands `plan full`, `plan partial` and `plan read`: streams for plans.
 ghost use Rattle.std.specs.Prelude.{◌≡◌, ◌⊎◌, ◌≤◌, ℕ, [], ◌∷◌, Ok, Err, IfOk, IfErr};
 ghost use Rattle.x7_part.specs.Part.{PartData};
-ghost use Rattle.x7_tool.specs.Message.{event_of};
-ghost use Rattle.x7_tool.specs.Event.{no_memory};
-ghost use Rattle.x7_tool.specs.Outcome.{PlannedFull, PlannedPartial, PlannedRead, frames_event, part_of, plan_texts, planner_event};
+ghost use Rattle.x7_forms.specs.Message.{event_of};
+ghost use Rattle.x7_forms.specs.Event.{no_memory};
+ghost use Rattle.x7_tool.specs.Outcome.{PlannedFull, PlannedPartial, PlannedRead, frames_event, plan_texts, planner_event};
+ghost use Rattle.x7_forms.specs.Known.{part_of};
 ghost use Rattle.x7_tool.specs.Planned.{texts_of};
-ghost use Rattle.x7_tool.specs.Play.{whole_of};
-ghost use Rattle.x7_tool.specs.Run.{AnswersAs, AnswersBy, seen};
+ghost use Rattle.x7_tool.specs.Ready.{whole_of};
+ghost use Rattle.x7_forms.specs.Step.{AnswersAs, AnswersBy, seen};
 
-use crate::bad_input::InputFault;
-use crate::play::read_part;
-use crate::read::{TEXT_LIMIT, read_whole};
-use crate::refusal::{Refusal, Why};
 use crate::text::Text;
 use std::alloc::Global;
+use x7_forms::{InputFault, Refusal, TEXT_LIMIT, Why, read_part, read_whole};
 use x7_frames::{FramesFault, plan_of};
 use x7_part::Part;
 use x7_planner::{PlanFault, full, partial, readback};

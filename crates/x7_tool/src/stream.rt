@@ -1,12 +1,11 @@
 //! Streams that are read whole, each of a limit of its own.
 ghost use Rattle.std.specs.Prelude.{◌≡◌, ◌≤◌, ℕ, [], ◌∷◌, IfOk, length};
 ghost use Rattle.x7_tool.specs.Outcome.{stream_data};
-ghost use Rattle.x7_tool.specs.Run.{AnswersAs, seen};
+ghost use Rattle.x7_forms.specs.Step.{AnswersAs, seen};
 ghost use Rattle.x7_tool.specs.Streamed.{data_from};
 
-use crate::read::{STREAM_LIMIT, data_start, read_whole};
-use crate::refusal::{Refusal, Why};
 use std::alloc::Global;
+use x7_forms::{Refusal, STREAM_LIMIT, Why, data_start, read_whole};
 use x7_words::Inputs;
 
 /// A stream that was read whole, and where its data begin.

@@ -2,12 +2,13 @@
 ghost use Rattle.std.specs.Prelude.{◌≡◌, OnErr, OnOk};
 ghost use Rattle.x7_words.specs.Count.{HasRisen};
 ghost use Rattle.x7_words.specs.Sink.{appended, PutsFront};
-ghost use Rattle.x7_tool.specs.Outcome.{Answer};
-ghost use Rattle.x7_tool.specs.Play.{text_of_image, text_of_play, whole_of};
-ghost use Rattle.x7_tool.specs.Run.{Puts, seen};
+ghost use Rattle.x7_forms.specs.Known.{Answer};
+ghost use Rattle.x7_tool.specs.Ready.{text_of_image, whole_of};
+ghost use Rattle.x7_forms.specs.Play.{text_of_play};
+ghost use Rattle.x7_tool.specs.Run.{Puts};
+ghost use Rattle.x7_forms.specs.Step.{seen};
 
-use crate::play_text::PlayText;
-use crate::refusal::{Refusal, Why};
+use x7_forms::{PlayText, Refusal, Why};
 use x7_mcs::McsText;
 use x7_words::{Failed, Sink, write_all};
 

@@ -1,28 +1,27 @@
 //! The top call.
 ghost use Rattle.std.specs.Prelude.{◌≡◌, map, string_bytes, IfErr, Result, false};
 ghost use Rattle.x7_words.specs.Count.{HasRisen};
-ghost use Rattle.x7_tool.specs.Event.{Event, status_of};
+ghost use Rattle.x7_forms.specs.Event.{Event, status_of};
 ghost use Rattle.x7_tool.specs.Ahead.{StaysNear};
-ghost use Rattle.x7_tool.specs.Form.{form_of, names_flash};
-ghost use Rattle.x7_tool.specs.Message.{event_of, final_status};
-ghost use Rattle.x7_tool.specs.Outcome.{Answer, known_of};
-ghost use Rattle.x7_tool.specs.Run.{Ends, EndsAs, RisesIn, Says, seen};
+ghost use Rattle.x7_forms.specs.Form.{form_of, names_flash};
+ghost use Rattle.x7_forms.specs.Message.{event_of, final_status};
+ghost use Rattle.x7_forms.specs.Known.{Answer};
+ghost use Rattle.x7_tool.specs.Outcome.{known_of};
+ghost use Rattle.x7_tool.specs.Run.{Ends, EndsAs, RisesIn, Says};
+ghost use Rattle.x7_forms.specs.Step.{seen};
 ghost use Rattle.x7_tool.specs.Runs.{Runs};
 
 use crate::asm::asm;
 use crate::boot::boot;
 use crate::debug::debug;
-use crate::form::{Form, words_of};
 use crate::generate::generate;
 use crate::image::image;
 use crate::list::list;
 use crate::mcs::{mcs, unmcs};
 use crate::plan::{plan_full, plan_partial, plan_read};
-use crate::play::play;
-use crate::refusal::{Refusal, Why};
-use crate::status::Status;
 use crate::text::put_whole;
 use std::alloc::Global;
+use x7_forms::{Form, Refusal, Status, Why, play, words_of};
 use x7_words::{Flash, Inputs, Sink};
 
 /// Writes the whole text that the words ask for, and says whether what it reports stopped at a fault.

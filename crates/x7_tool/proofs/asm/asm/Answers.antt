@@ -1,9 +1,10 @@
 use Rattle.std.proofs.Common.{ℕ, List, [], ◌∷◌, sym, subst, arith}
 use Rattle.x7_listing.specs.Assembling.{AssemblerStandsFor}
-use Rattle.x7_tool.specs.Message.{event_of}
-use Rattle.x7_tool.specs.Outcome.{text_limit, whole_in, with_inputs}
-use Rattle.x7_tool.specs.Run.{RisesFor}
-use Rattle.x7_tool.specs.Turn.{IsFed}
+use Rattle.x7_forms.specs.Message.{event_of}
+use Rattle.x7_tool.specs.Outcome.{text_limit}
+use Rattle.x7_forms.specs.Known.{whole_in, with_inputs}
+use Rattle.x7_forms.specs.Step.{RisesFor}
+use Rattle.x7_tool.specs.Turns.{IsFed}
 use Rattle.x7_tool.proofs.AsmLemmas.{asm_faulted, end_fault, fed_end}
 use Rattle.x7_tool.proofs.asm.asm.Goals as goal
 

@@ -1,7 +1,7 @@
 use Rattle.std.proofs.Common.{◌≡◌, ℕ, List, ◌∷◌, [], ◌+◌, ◌^◌, ◌<◌, ◌≤◌, ◌++◌, length, length-append, length-take-le, take, arith, ap, ◌∙◌}
 use Rattle.x7_tool.specs.Outcome.{text_limit}
-use Rattle.x7_tool.specs.Run.{RisesFor}
-use Rattle.x7_tool.proofs.ReadLemmas.{whole_read}
+use Rattle.x7_forms.specs.Step.{RisesFor}
+use Rattle.x7_forms.proofs.ReadLemmas.{whole_read}
 use Rattle.x7_tool.proofs.TurnLemmas.{taken_more}
 use Rattle.x7_tool.proofs.asm.feed_whole.Goals as goal
 

@@ -1,7 +1,7 @@
 use Rattle.std.proofs.Common.{◌≡◌, ℕ, List, ◌+◌, ◌≤◌, length, true}
 use Rattle.x7_words.specs.Input.{Selects, preceded}
 use Rattle.x7_tool.specs.Outcome.{text_limit}
-use Rattle.x7_tool.specs.Turn.{IsFed}
+use Rattle.x7_tool.specs.Turns.{IsFed}
 use Rattle.x7_tool.proofs.asm.feed_whole.Given as goal
 
 abbrev pub invariant-loop-turn : goal.invariant-loop-turn

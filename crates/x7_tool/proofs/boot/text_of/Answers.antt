@@ -1,5 +1,5 @@
 use Rattle.std.proofs.Common.{ap}
-use Rattle.x7_tool.specs.Outcome.{Answer}
+use Rattle.x7_forms.specs.Known.{Answer}
 use Rattle.x7_tool.proofs.BootTextLemmas.{boots_as}
 use Rattle.x7_tool.proofs.boot.text_of.Goals as goal
 

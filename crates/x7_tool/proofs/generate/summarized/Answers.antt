@@ -5,7 +5,7 @@ use Rattle.x7_engine.specs.declared.regs.Regs.{Regs}
 use Rattle.x7_engine.specs.Kept.{on_the_bench}
 use Rattle.x7_engine.specs.Standing.{DeviceState, DeviceStandsFor, NoWordDue}
 use Rattle.x7_tool.proofs.GenerateLemmas.{summary_is, sure}
-use Rattle.x7_tool.proofs.PlayerLemmas.{played_all}
+use Rattle.x7_forms.proofs.PlayerLemmas.{played_all}
 use Rattle.x7_tool.proofs.generate.summarized.Goals as goal
 
 pub returns : goal.returns

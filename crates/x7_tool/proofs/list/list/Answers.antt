@@ -7,14 +7,17 @@ use Rattle.x7_words.specs.Word.{AreBytes}
 use Rattle.x7_words.proofs.CountLemmas.{risen_from}
 use Rattle.x7_listing.specs.Listing.{listing_of}
 use Rattle.x7_listing.specs.StreamListing.{stream_listing}
-use Rattle.x7_tool.specs.Event.{no_memory, write_fault}
-use Rattle.x7_tool.specs.Form.{Listing}
-use Rattle.x7_tool.specs.Message.{event_of}
-use Rattle.x7_tool.specs.Outcome.{stream_limit, with_inputs}
-use Rattle.x7_tool.specs.Run.{Ends, PutsListing, RisesFor}
-use Rattle.x7_tool.specs.Turn.{Lists, MayFollow}
+use Rattle.x7_forms.specs.Event.{no_memory, write_fault}
+use Rattle.x7_forms.specs.Form.{Listing}
+use Rattle.x7_forms.specs.Message.{event_of}
+use Rattle.x7_forms.specs.Known.{stream_limit, with_inputs}
+use Rattle.x7_tool.specs.Run.{Ends, PutsListing}
+use Rattle.x7_forms.specs.Step.{RisesFor}
+use Rattle.x7_tool.specs.Turns.{Lists}
+use Rattle.x7_forms.specs.Turn.{MayFollow}
 use Rattle.x7_tool.proofs.AheadLemmas.{front_near, lists_longer, longer_front, longer_twice, turn_near, unfronted_near, unopened_near, unread_near, unwritten_near, why_weaker}
-use Rattle.x7_tool.proofs.Causes.{both_err, err_weaker, ends_same, listed_whole, out_of_memory, unfronted, unopened}
+use Rattle.x7_tool.proofs.Causes.{both_err, ends_same, listed_whole, out_of_memory, unfronted, unopened}
+use Rattle.x7_forms.proofs.ResultLemmas.{err_weaker}
 use Rattle.x7_tool.proofs.TurnLemmas.{end_failed, front_failed, front_here, goes_on, line_front, line_then, stream_here, stream_whole, taken_more, unread_end, write_failed}
 use Rattle.x7_tool.proofs.list.list.Goals as goal
 

@@ -1,7 +1,7 @@
 use Rattle.std.proofs.Common.{◌≡◌, ℕ, List, ◌+◌, ◌≤◌, length, true}
 use Rattle.x7_words.specs.Input.{Selects, preceded}
-use Rattle.x7_tool.specs.Outcome.{stream_limit}
-use Rattle.x7_tool.specs.Turn.{ListsStream}
+use Rattle.x7_forms.specs.Known.{stream_limit}
+use Rattle.x7_tool.specs.Turns.{ListsStream}
 use Rattle.x7_tool.proofs.list.list.Given as goal
 
 abbrev pub invariant-loop-turn : goal.invariant-loop-turn

@@ -1,6 +1,7 @@
 use Rattle.std.proofs.Common.{sym, ◌∙◌}
 use Rattle.x7_tool.proofs.AheadLemmas.{longer_front, same_now}
-use Rattle.x7_tool.proofs.TurnLemmas.{end_part, end_put, from_ok, lists_here}
+use Rattle.x7_tool.proofs.TurnLemmas.{end_part, end_put, lists_here}
+use Rattle.x7_forms.proofs.ResultLemmas.{from_ok}
 use Rattle.x7_tool.proofs.list.put_end.Goals as goal
 
 pub returns-then-is_err-clause-err : goal.returns-then-is_err-clause-err

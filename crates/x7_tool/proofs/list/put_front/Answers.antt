@@ -1,8 +1,8 @@
 use Rattle.std.proofs.Common.{[], sym, ◌∙◌}
 use Rattle.std.proofs.lemmas.Result.{on_ok_weaker}
 use Rattle.x7_words.specs.Sink.{appended}
-use Rattle.x7_tool.proofs.Causes.{err_weaker}
-use Rattle.x7_tool.proofs.TurnLemmas.{begins_behind, from_ok, line_front, line_part}
+use Rattle.x7_forms.proofs.ResultLemmas.{err_weaker, from_ok}
+use Rattle.x7_tool.proofs.TurnLemmas.{begins_behind, line_front, line_part}
 use Rattle.x7_tool.proofs.list.put_front.Goals as goal
 
 pub returns-then-is_err-clause-err : goal.returns-then-is_err-clause-err

@@ -1,6 +1,7 @@
 use Rattle.std.proofs.Common.{sym, ◌∙◌}
 use Rattle.x7_tool.proofs.AheadLemmas.{longer_front, same_now}
-use Rattle.x7_tool.proofs.TurnLemmas.{from_ok, lists_front, lists_more, lists_part}
+use Rattle.x7_forms.proofs.ResultLemmas.{from_ok}
+use Rattle.x7_tool.proofs.TurnLemmas.{lists_front, lists_more, lists_part}
 use Rattle.x7_tool.proofs.list.put_turn.Goals as goal
 
 pub returns-then-is_err-clause-err : goal.returns-then-is_err-clause-err

@@ -1,9 +1,9 @@
 use Rattle.std.proofs.Common.{ℕ, List, [], ◌∷◌, Ok, false, ap, sym}
 use Rattle.x7_mcs.specs.Text.{mcs_text}
 use Rattle.x7_boot.specs.Image.{flash_limit}
-use Rattle.x7_tool.specs.Outcome.{Answer, with_inputs}
-use Rattle.x7_tool.specs.Run.{RisesFor}
-use Rattle.x7_tool.proofs.ReadLemmas.{after_text, works}
+use Rattle.x7_forms.specs.Known.{Answer, with_inputs}
+use Rattle.x7_forms.specs.Step.{RisesFor}
+use Rattle.x7_forms.proofs.ReadLemmas.{after_text, works}
 use Rattle.x7_tool.proofs.mcs.mcs.Goals as goal
 
 pub returns-in-Ok-new : goal.returns-in-Ok-new

@@ -1,5 +1,5 @@
 use Rattle.std.proofs.Common.{inl}
-use Rattle.x7_tool.specs.Message.{event_of}
+use Rattle.x7_forms.specs.Message.{event_of}
 use Rattle.x7_tool.proofs.PlanLemmas.{full_refused}
 use Rattle.x7_tool.proofs.plan.full_text.Goals as goal
 

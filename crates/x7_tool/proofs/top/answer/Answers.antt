@@ -1,12 +1,14 @@
 use Rattle.std.proofs.Common.{◌≡◌, refl, Option, Some, Ok, Err, false, map, string_bytes, sym, ap, subst, ◌∙◌}
 use Rattle.x7_words.specs.Count.{HasRisen}
-use Rattle.x7_tool.specs.Form.{Asked, Assembling, Booting, Debugging, FromMcs, Imaging, Listing, PlanningFull, PlanningRead, Playing, ToMcs, form_of, PlanningPartial, Generating}
-use Rattle.x7_tool.specs.Message.{event_of}
+use Rattle.x7_forms.specs.Form.{Asked, Assembling, Booting, Debugging, FromMcs, Imaging, Listing, PlanningFull, PlanningRead, Playing, ToMcs, form_of, PlanningPartial, Generating, asked, asked_by}
+use Rattle.x7_forms.specs.Message.{event_of}
 use Rattle.x7_tool.specs.Outcome.{known_of}
-use Rattle.x7_tool.specs.Play.{whole_of, text_of_image, text_of_play}
-use Rattle.x7_tool.specs.Run.{Ends, RisesIn, asked, asked_by, seen}
+use Rattle.x7_tool.specs.Ready.{whole_of, text_of_image}
+use Rattle.x7_forms.specs.Play.{text_of_play}
+use Rattle.x7_tool.specs.Run.{Ends, RisesIn}
+use Rattle.x7_forms.specs.Step.{seen}
 use Rattle.x7_tool.specs.Ahead.{StaysNear}
-use Rattle.x7_tool.specs.Event.{status_of}
+use Rattle.x7_forms.specs.Event.{status_of}
 use Rattle.x7_tool.proofs.AheadLemmas.{elsewhere}
 use Rattle.x7_tool.proofs.FlashLemmas.{ends_in}
 use Rattle.x7_tool.proofs.RunLemmas.{flash_named, ready_ends, text_ends}

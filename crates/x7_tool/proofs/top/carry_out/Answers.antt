@@ -1,9 +1,9 @@
 use Rattle.std.proofs.Common.{refl, Ok, Err, map, string_bytes, subst, sym}
-use Rattle.x7_tool.specs.declared.status.Status.{Status}
+use Rattle.x7_forms.specs.declared.status.Status.{Status}
 use Rattle.x7_tool.specs.Ahead.{StaysNear}
-use Rattle.x7_tool.specs.Form.{form_of}
+use Rattle.x7_forms.specs.Form.{form_of}
 use Rattle.x7_tool.proofs.AheadLemmas.{text_near}
-use Rattle.x7_tool.specs.Message.{event_of}
+use Rattle.x7_forms.specs.Message.{event_of}
 use Rattle.x7_tool.proofs.top.carry_out.Goals as goal
 
 pub returns-in-Ok-clause-ends : goal.returns-in-Ok-clause-ends

@@ -1,5 +1,5 @@
 use Rattle.std.proofs.Common.{◌≡◌, false, ap, map, string_bytes}
-use Rattle.x7_tool.specs.Form.{form_of, names_flash}
+use Rattle.x7_forms.specs.Form.{form_of, names_flash}
 use Rattle.x7_tool.specs.Runs.{FlashState}
 use Rattle.x7_tool.proofs.RunLemmas.{flash_kept, runs}
 use Rattle.x7_tool.proofs.top.run.Goals as goal

@@ -1,0 +1,9 @@
+pub mod FormLemmas
+pub mod FrontLemmas
+pub mod HeadLemmas
+pub mod LinesLemmas
+pub mod PlayLemmas
+pub mod PlayerLemmas
+pub mod ReadLemmas
+pub mod ReportLemmas
+pub mod ResultLemmas

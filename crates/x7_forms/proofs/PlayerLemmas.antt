@@ -1,0 +1,233 @@
+-- A player that is given bytes piece by piece.
+use Rattle.std.proofs.Common.{◌≡◌, ℕ, ◌+◌, ◌^◌, ◌≤◌, ◌<◌, List, [], ◌++◌, length, length-append, take, drop, Bool, true, false, Option, None, Some, refl, ap, subst, sym, ◌∙◌, append_assoc, append-nil, arith, inl, inr, ◌⊎◌}
+use Rattle.std.specs.Prelude.{IsSome}
+use Rattle.std.proofs.Math.Seq.{take-add, take-length}
+use Rattle.std.proofs.lemmas.List.{take-append-drop}
+use Rattle.x7_words.specs.Word.{AreBytes}
+use Rattle.x7_words.proofs.ListLemmas.{all-append, all_back, all_front}
+use Rattle.x7_part.specs.Part.{PartData}
+use Rattle.x7_engine.specs.declared.fed.Fed.{Fed}
+use Rattle.x7_engine.specs.declared.fed.Fed.TheVariants as fed
+use Rattle.x7_engine.specs.Kept.{on_the_bench}
+use Rattle.x7_engine.specs.ReadBuffer.{ReadBufState}
+use Rattle.x7_engine.specs.Standing.{Answers, DeviceState, DeviceStandsFor, NoWordDue, taken_in, told_of, words_left}
+use Rattle.x7_engine.specs.State.{history_taken, reads_of, stop_in}
+use Rattle.x7_engine.specs.Stops.{Stopped}
+use Rattle.x7_engine.proofs.FeedLemmas.{told_all}
+use Rattle.x7_engine.proofs.FrameLemmas.{length_left}
+use Rattle.x7_engine.proofs.ReadsLemmas.{reads_grow}
+use Rattle.x7_engine.proofs.StateLemmas.{stop_is_final-stop}
+use Rattle.x7_forms.specs.Known.{reads_limit}
+use Rattle.x7_forms.specs.Play.{HasPlayed, HasPlayedBy, IsPlayed, MayPlay, Plays, PlaysOn, ReadsOver}
+use Rattle.x7_forms.specs.declared.player.Player.{Player}
+use Rattle.x7_forms.proofs.PlayLemmas.{IsEnd, over_limit, stopped_end}
+
+some_is : {A : Type 0} (o : Option A) (a : A) → o ≡ Some a → IsSome o
+some_is None a e = absurd (cc)
+some_is (Some b) a e = refl
+
+the_some : {A : Type 0} (o : Option A) → IsSome o → (a : A) × (o ≡ Some a)
+the_some None i = absurd (cc)
+the_some (Some a) i = (a, refl)
+
+-- ---- words over the limit
+
+pub over_grows : (part : PartData) (bytes more : List ℕ) → AreBytes (bytes ++ more) → ReadsOver part bytes → ReadsOver part (bytes ++ more)
+over_grows part bytes more fits o =
+    let grown = reads_grow part on_the_bench bytes more fits in
+    record { fits = fits; many = omega (arith, o.many, ap length grown.1, length-append (reads_of part on_the_bench bytes) grown.0) }
+
+-- ---- a feed
+
+-- what was taken before and of a piece, and what is left of all
+pub behind : (part : PartData) (bytes piece : List ℕ) (n : ℕ) (d : DeviceState) (reads : List ℕ) → (s : Plays part bytes d reads) → (IsSome (stop_in part on_the_bench s.taken) → n ≡ 0) → (rest : List ℕ) × (bytes ++ piece ≡ (s.taken ++ take n piece) ++ rest)
+behind part bytes piece n d reads s still = by s.ends
+  where
+    by : (s.left ≡ []) ⊎ IsSome (stop_in part on_the_bench s.taken) → (rest : List ℕ) × (bytes ++ piece ≡ (s.taken ++ take n piece) ++ rest)
+    by (inl e) = (
+      drop n piece,
+      ap (λ b. b ++ piece) (s.parts ∙ ap (λ l. s.taken ++ l) e ∙ append-nil s.taken) ∙ sym (append_assoc s.taken (take n piece) (drop n piece) ∙ ap (λ x. s.taken ++ x) (take-append-drop n piece)),
+    )
+    by (inr i) = (
+      s.left ++ piece,
+      ap (λ b. b ++ piece) s.parts ∙ append_assoc s.taken s.left piece ∙ ap (λ t. t ++ (s.left ++ piece)) (sym (ap (λ k. s.taken ++ take k piece) (still i) ∙ append-nil s.taken)),
+    )
+
+-- a device that goes on had taken all
+pub went_on : (part : PartData) (bytes piece : List ℕ) (d : DeviceState) (reads : List ℕ) → (s : Plays part bytes d reads) → AreBytes (s.taken ++ piece) → stop_in part on_the_bench (s.taken ++ piece) ≡ None → bytes ≡ s.taken
+went_on part bytes piece d reads s fits none = by s.ends
+  where
+    by : (s.left ≡ []) ⊎ IsSome (stop_in part on_the_bench s.taken) → bytes ≡ s.taken
+    by (inl e) = s.parts ∙ ap (λ l. s.taken ++ l) e ∙ append-nil s.taken
+    by (inr i) =
+        let st = the_some (stop_in part on_the_bench s.taken) i in
+        let later = stop_is_final-stop part on_the_bench s.taken piece st.0 fits st.1 in
+        absurd (cc)
+
+taken_fit : (part : PartData) (bytes piece : List ℕ) (d : DeviceState) (reads : List ℕ) → (s : Plays part bytes d reads) → AreBytes piece → AreBytes (s.taken ++ piece)
+taken_fit part bytes piece d reads s fits = all-append (λ b. b < 256) s.taken piece (all_front (λ b. b < 256) s.taken s.left (subst (λ x. AreBytes x) s.parts s.fits)) fits
+
+-- a feed that waits for room
+pub fed_full : (part : PartData) (bytes piece : List ℕ) (d e : DeviceState) (reads now : List ℕ) → (s : Plays part bytes d reads) → AreBytes piece → DeviceStandsFor part on_the_bench false e (s.taken ++ piece) → stop_in part on_the_bench (s.taken ++ piece) ≡ None
+    → now ≡ told_of part on_the_bench e (s.taken ++ piece) → length now ≤ reads_limit → Plays part (bytes ++ piece) e now
+fed_full part bytes piece d e reads now s fits stands none told few =
+    let fit = taken_fit part bytes piece d reads s fits in
+    let all = ap (λ b. b ++ piece) (went_on part bytes piece d reads s fit none) in
+    record {
+      taken = s.taken ++ piece;
+      left = [];
+      parts = all ∙ sym (append-nil (s.taken ++ piece));
+      ends = inl refl;
+      fits = subst (λ x. AreBytes x) (sym all) fit;
+      stands = stands;
+      told = told;
+      few = few;
+    }
+
+fed_stopped : (part : PartData) (bytes piece : List ℕ) (n : ℕ) (d e : DeviceState) (reads now : List ℕ) → (s : Plays part bytes d reads) → (IsSome (stop_in part on_the_bench s.taken) → n ≡ 0) → AreBytes (bytes ++ piece) → DeviceStandsFor part on_the_bench false e (s.taken ++ take n piece) → (st : Stopped) → stop_in part on_the_bench (s.taken ++ take n piece) ≡ Some st
+    → now ≡ told_of part on_the_bench e (s.taken ++ take n piece) → length now ≤ reads_limit → Plays part (bytes ++ piece) e now
+fed_stopped part bytes piece n d e reads now s still fits stands st stop told few =
+    let rest = behind part bytes piece n d reads s still in
+    record {
+      taken = s.taken ++ take n piece;
+      left = rest.0;
+      parts = rest.1;
+      ends = inr (some_is (stop_in part on_the_bench (s.taken ++ take n piece)) st stop);
+      fits = fits;
+      stands = stands;
+      told = told;
+      few = few;
+    }
+
+-- a feed that ends
+pub fed_end : (part : PartData) (bytes piece : List ℕ) (d e : DeviceState) (read : ReadBufState) (reads now : List ℕ) (f : Fed) → (s : Plays part bytes d reads) → IsEnd f → AreBytes piece → (IsSome (stop_in part on_the_bench s.taken) → taken_in (length piece) f ≡ 0)
+    → DeviceStandsFor part on_the_bench false e (s.taken ++ take (taken_in (length piece) f) piece) → Answers part on_the_bench e (s.taken ++ take (taken_in (length piece) f) piece) read f
+    → now ≡ told_of part on_the_bench e (s.taken ++ take (taken_in (length piece) f) piece) → length now ≤ reads_limit → Plays part (bytes ++ piece) e now × NoWordDue e
+fed_end part bytes piece d e read reads now (fed.ReadFull n) s end fits still stands answer told few = absurd end
+fed_end part bytes piece d e read reads now (fed.Stopped n) s end fits still stands answer told few =
+    (fed_stopped part bytes piece n d e reads now s still (all-append (λ b. b < 256) bytes piece s.fits fits) stands _ answer.1 told few, answer.2)
+fed_end part bytes piece d e read reads now (fed.Iprog n) s end fits still stands answer told few =
+    (fed_stopped part bytes piece n d e reads now s still (all-append (λ b. b < 256) bytes piece s.fits fits) stands _ answer.0 told few, answer.1)
+fed_end part bytes piece d e read reads now fed.All s end fits still stands answer told few =
+    let whole : take (length piece) piece ≡ piece = take-length piece in
+    let there = rw whole at stands in
+    let none = rw whole at answer.0 in
+    let words = rw whole at told in
+    (fed_full part bytes piece d e reads now s fits there none words few, answer.1)
+
+-- ---- the end of a play
+
+-- what was played where no word is due
+pub played_all : (part : PartData) (bytes : List ℕ) (d : DeviceState) (reads : List ℕ) → Plays part bytes d reads → NoWordDue d → IsPlayed part bytes d reads
+played_all part bytes d reads s due = by s.ends
+  where
+    by : (s.left ≡ []) ⊎ IsSome (stop_in part on_the_bench s.taken) → IsPlayed part bytes d reads
+    by (inl e) =
+        let all : bytes ≡ s.taken = s.parts ∙ ap (λ l. s.taken ++ l) e ∙ append-nil s.taken in
+        record {
+          prefix = s.taken;
+          stands = s.stands;
+          stop = rw all refl;
+          state = rw all refl;
+          memory = rw all refl;
+          none_due = due;
+          reads_are = s.told ∙ told_all part on_the_bench d s.taken due ∙ ap (reads_of part on_the_bench) (sym all);
+          few = s.few;
+        }
+    by (inr i) =
+        let st = the_some (stop_in part on_the_bench s.taken) i in
+        stopped_end part bytes s.taken s.left d reads st.0 s.fits s.parts s.stands s.told s.few st.1 due
+
+-- ---- a player
+
+-- a new device took nothing, and no word is due
+pub new_plays : (part : PartData) (d : DeviceState) (reads : List ℕ) → DeviceStandsFor part on_the_bench false d [] → reads ≡ [] → Plays part [] d reads × NoWordDue d
+new_plays part d reads s e =
+    let h = history_taken part on_the_bench [] in
+    let none : length (reads_of part on_the_bench []) ≡ 0 = refl in
+    let due : NoWordDue d = omega (arith, none, ap length s.due_are.all, length-append s.due_are.told (words_left part h d.registers.due), length_left part h d.registers.due) in (
+      record {
+        taken = [];
+        left = [];
+        parts = refl;
+        ends = inl refl;
+        fits = tt;
+        stands = s;
+        told = e ∙ sym (told_all part on_the_bench d [] due);
+        few = omega (arith, ap length e);
+      },
+      due,
+    )
+
+-- a device that was given these bytes may be given more
+pub may_feed : (part : PartData) (bytes : List ℕ) (d : DeviceState) (reads : List ℕ) (count : ℕ) → Plays part bytes d reads → length bytes + count ≤ 2 ^ 63 → d.taken + count ≤ 2 ^ 63
+may_feed part bytes d reads count s few = omega (arith, few, s.stands.taken_is, ap length s.parts, length-append s.taken s.left)
+
+pub may_less : (p : Player) (count fewer : ℕ) → fewer ≤ count → MayPlay p count → MayPlay p fewer
+may_less p count fewer l m = (m.0, (m.1.0, (m.1.1.0, omega (arith, l, m.1.1.1))))
+
+pub may_on : (p q : Player) (more : List ℕ) (count fewer : ℕ) → length more + fewer ≤ count → PlaysOn p q more → MayPlay p count → MayPlay q fewer
+may_on p q more count fewer l on m = (m.0, (m.1.0 ++ more, (on m.0 m.1.0 m.1.1.0, omega (arith, l, m.1.1.1, length-append m.1.0 more))))
+
+pub on_none : (p : Player) → PlaysOn p p []
+on_none p = λ part bytes h. subst (λ b. HasPlayed part b p) (sym (append-nil bytes)) h
+
+pub on_on : (p q r : Player) (first second : List ℕ) → PlaysOn p q first → PlaysOn q r second → PlaysOn p r (first ++ second)
+on_on p q r first second a b = λ part bytes h. subst (λ x. HasPlayed part x r) (append_assoc bytes first second) (b part (bytes ++ first) (a part bytes h))
+
+-- which of both a player is
+pub is_over : (over : Bool) (part : PartData) (bytes : List ℕ) (d : DeviceState) (b : ReadBufState) (reads : List ℕ) → over ≡ true → HasPlayedBy over part bytes d b reads → ReadsOver part bytes
+is_over true part bytes d b reads e h = h
+is_over false part bytes d b reads e h = absurd (cc)
+
+pub not_over : (over : Bool) (part : PartData) (bytes : List ℕ) (d : DeviceState) (b : ReadBufState) (reads : List ℕ) → over ≡ false → HasPlayedBy over part bytes d b reads → HasPlayedBy false part bytes d b reads
+not_over false part bytes d b reads e h = h
+not_over true part bytes d b reads e h = absurd (cc)
+
+-- ---- the turns of a feed
+
+-- what is left of a piece behind a place
+whole_piece : (bytes piece : List ℕ) (at : ℕ) → (bytes ++ take at piece) ++ drop at piece ≡ bytes ++ piece
+whole_piece bytes piece at = append_assoc bytes (take at piece) (drop at piece) ∙ ap (λ x. bytes ++ x) (take-append-drop at piece)
+
+more_piece : (bytes piece : List ℕ) (at n : ℕ) → (bytes ++ take at piece) ++ take n (drop at piece) ≡ bytes ++ take (at + n) piece
+more_piece bytes piece at n = append_assoc bytes (take at piece) (take n (drop at piece)) ∙ ap (λ x. bytes ++ x) (sym (take-add at n piece))
+
+rest_fits : (piece : List ℕ) (at : ℕ) → AreBytes piece → AreBytes (drop at piece)
+rest_fits piece at fits = all_back (λ b. b < 256) (take at piece) (drop at piece) (subst (λ x. AreBytes x) (sym (take-append-drop at piece)) fits)
+
+some_fits : (piece : List ℕ) (n : ℕ) → AreBytes piece → AreBytes (take n piece)
+some_fits piece n fits = all_front (λ b. b < 256) (take n piece) (drop n piece) (subst (λ x. AreBytes x) (sym (take-append-drop n piece)) fits)
+
+pub turn_over : (part : PartData) (bytes piece : List ℕ) (at n : ℕ) (d e : DeviceState) (reads more : List ℕ) → AreBytes bytes → AreBytes piece → (s : Plays part (bytes ++ take at piece) d reads) → (IsSome (stop_in part on_the_bench s.taken) → n ≡ 0)
+    → told_of part on_the_bench e (s.taken ++ take n (drop at piece)) ≡ told_of part on_the_bench d s.taken ++ more → 16777216 < length reads + length more → ReadsOver part (bytes ++ piece)
+turn_over part bytes piece at n d e reads more fb fp s still told many =
+    let fits : AreBytes (bytes ++ piece) = all-append (λ b. b < 256) bytes piece fb fp in
+    let rest = behind part (bytes ++ take at piece) (drop at piece) n d reads s still in
+    record {
+      fits = fits;
+      many = over_limit part e (bytes ++ piece) reads more (s.taken ++ take n (drop at piece)) rest.0 fits (sym (whole_piece bytes piece at) ∙ rest.1) (told ∙ ap (λ x. x ++ more) (sym s.told)) many;
+    }
+
+pub turn_full : (part : PartData) (bytes piece : List ℕ) (at n : ℕ) (d e : DeviceState) (reads now more : List ℕ) → AreBytes piece → (s : Plays part (bytes ++ take at piece) d reads) → DeviceStandsFor part on_the_bench false e (s.taken ++ take n (drop at piece))
+    → stop_in part on_the_bench (s.taken ++ take n (drop at piece)) ≡ None → told_of part on_the_bench e (s.taken ++ take n (drop at piece)) ≡ told_of part on_the_bench d s.taken ++ more → now ≡ reads ++ more → length now ≤ reads_limit
+    → Plays part (bytes ++ take (at + n) piece) e now
+turn_full part bytes piece at n d e reads now more fp s stands none told is few =
+    let words : now ≡ told_of part on_the_bench e (s.taken ++ take n (drop at piece)) = is ∙ ap (λ x. x ++ more) s.told ∙ sym told in
+    subst (λ b. Plays part b e now) (more_piece bytes piece at n)
+    (fed_full part (bytes ++ take at piece) (take n (drop at piece)) d e reads now s (some_fits (drop at piece) n (rest_fits piece at fp)) stands none words few)
+
+pub turn_end : (part : PartData) (bytes piece : List ℕ) (at : ℕ) (d e : DeviceState) (read : ReadBufState) (reads now more : List ℕ) (f : Fed) → AreBytes piece → (s : Plays part (bytes ++ take at piece) d reads) → IsEnd f
+    → (IsSome (stop_in part on_the_bench s.taken) → taken_in (length (drop at piece)) f ≡ 0) → DeviceStandsFor part on_the_bench false e (s.taken ++ take (taken_in (length (drop at piece)) f) (drop at piece))
+    → Answers part on_the_bench e (s.taken ++ take (taken_in (length (drop at piece)) f) (drop at piece)) read f
+    → told_of part on_the_bench e (s.taken ++ take (taken_in (length (drop at piece)) f) (drop at piece)) ≡ told_of part on_the_bench d s.taken ++ more → now ≡ reads ++ more → length now ≤ reads_limit
+    → Plays part (bytes ++ piece) e now × NoWordDue e
+turn_end part bytes piece at d e read reads now more f fp s end still stands answer told is few =
+    let words : now ≡ told_of part on_the_bench e (s.taken ++ take (taken_in (length (drop at piece)) f) (drop at piece)) = is ∙ ap (λ x. x ++ more) s.told ∙ sym told in
+    subst (λ b. Plays part b e now × NoWordDue e) (whole_piece bytes piece at)
+    (fed_end part (bytes ++ take at piece) (drop at piece) d e read reads now f s end (rest_fits piece at fp) still stands answer words few)
+
+-- a player that is over stays so
+pub over_stays : (over : Bool) (part : PartData) (bytes piece : List ℕ) (d : DeviceState) (b : ReadBufState) (reads : List ℕ) → over ≡ true → AreBytes piece → HasPlayedBy over part bytes d b reads → HasPlayedBy over part (bytes ++ piece) d b reads
+over_stays true part bytes piece d b reads e fits h = over_grows part bytes piece (all-append (λ b. b < 256) bytes piece h.fits fits) h
+over_stays false part bytes piece d b reads e fits h = absurd (cc)

@@ -1,0 +1,51 @@
+use Rattle.std.proofs.Common.{◌≡◌, ◌++◌, ◌-◌, length, take, length-append, length-take-le, arith, inr, sym, ◌∙◌}
+use Rattle.x7_forms.specs.Message.{event_of}
+use Rattle.x7_forms.specs.Play.{PlaysOn}
+use Rattle.x7_forms.proofs.PlayerLemmas.{may_less, may_on, on_on}
+use Rattle.x7_forms.proofs.ReadLemmas.{rest_more, rest_unread}
+use Rattle.x7_forms.proofs.ResultLemmas.{from_ok}
+use Rattle.x7_forms.proofs.playing.play_rest.Goals as goal
+
+pub returns-in-Err-clause-err : goal.returns-in-Err-clause-err
+returns-in-Err-clause-err g c =
+    let i = g.I.Inputs in
+    let v = c.loop-turn.invariant in
+    inr (rest_unread (i.rest c.args.inputs.now) (i.rest c.loop-turn.inputs) (i.rest c.next_turn.new.inputs) c.args.name.now v.told.0 c.args.limit c.loop-turn.left _ (i.faults c.args.inputs.now) (i.faults c.loop-turn.inputs) (i.faults c.next_turn.new.inputs) (event_of c.in-Err.refusal)
+    v.told.1.2 v.told.1.0 v.faults c.in-Err.ensures.err)
+
+pub play-requires : goal.play-requires
+play-requires g c =
+    let n = c.in-Ok.turn.count in
+    let size : length (take n c.next_turn.new.buf) ≡ n = length-take-le n c.next_turn.new.buf (omega (arith, c.in-Ok.ensures.within.1, c.next_turn.ensures.length)) in
+    may_less c.loop-turn.player c.loop-turn.left (length (take n c.next_turn.new.buf)) (omega (arith, size, c.in-Ok.ensures.within.0)) c.loop-turn.invariant.may
+
+pub returns-then-turn-clause-ok : goal.returns-then-turn-clause-ok
+returns-then-turn-clause-ok g c =
+    let i = g.I.Inputs in
+    let v = c.loop-turn.invariant in
+    let n = c.in-Ok.turn.count in
+    let piece = take n c.next_turn.new.buf in
+    let size : length piece ≡ n = length-take-le n c.next_turn.new.buf (omega (arith, c.in-Ok.ensures.within.1, c.next_turn.ensures.length)) in
+    let more = rest_more (i.rest c.args.inputs.now) (i.rest c.loop-turn.inputs) (i.rest c.next_turn.new.inputs) v.told.0 piece v.told.1.2 c.in-Ok.ensures.taken in
+    let plays : PlaysOn c.loop-turn.player c.play.new.self piece = from_ok c.play.result (sym c.is_err.ensures.value ∙ c.if-is_err.false) c.play.ensures in
+    (v.told.0 ++ piece, omega (arith, v.told.1.0, size, length-append v.told.0 piece, c.in-Ok.ensures.within.0), on_on c.args.player.now c.loop-turn.player c.play.new.self v.told.0 piece v.told.1.1 plays, (more, c.in-Ok.ensures.end c.if-turn.true))
+
+pub loop-turn-preserved : goal.loop-turn-preserved
+loop-turn-preserved g c =
+    let i = g.I.Inputs in
+    let v = c.loop-turn.invariant in
+    let n = c.in-Ok.turn.count in
+    let piece = take n c.next_turn.new.buf in
+    let size : length piece ≡ n = length-take-le n c.next_turn.new.buf (omega (arith, c.in-Ok.ensures.within.1, c.next_turn.ensures.length)) in
+    let more = rest_more (i.rest c.args.inputs.now) (i.rest c.loop-turn.inputs) (i.rest c.next_turn.new.inputs) v.told.0 piece v.told.1.2 c.in-Ok.ensures.taken in
+    let plays : PlaysOn c.loop-turn.player c.play.new.self piece = from_ok c.play.result (sym c.is_err.ensures.value ∙ c.if-is_err.false) c.play.ensures in
+    record {
+      selected = c.in-Ok.ensures.selected;
+      map = c.next_turn.ensures.map ∙ v.map;
+      faults = omega (arith, v.faults, c.next_turn.ensures.faults);
+      absences = omega (arith, v.absences, c.next_turn.ensures.absences);
+      left = omega (arith, v.left);
+      piece = c.next_turn.ensures.length ∙ v.piece;
+      may = may_on c.loop-turn.player c.play.new.self piece c.loop-turn.left (c.loop-turn.left - n) (omega (arith, size, c.in-Ok.ensures.within.0)) plays v.may;
+      told = (v.told.0 ++ piece, (omega (arith, v.told.1.0, size, length-append v.told.0 piece, c.in-Ok.ensures.within.0), on_on c.args.player.now c.loop-turn.player c.play.new.self v.told.0 piece v.told.1.1 plays, more));
+    }

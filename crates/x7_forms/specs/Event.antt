@@ -1,0 +1,124 @@
+-- What ends a command before its text is whole: the reasons, each with its status, its cause and its words (this project's choice).
+use Rattle.std.specs.Prelude.{ℕ, List, [], ◌++◌, Option, None, Some, codes, decimal}
+use Rattle.x7_part.specs.declared.fault.PartFault.{PartFault}
+use Rattle.x7_part.specs.declared.fault.PartFault.TheVariants as part
+use Rattle.x7_part.specs.declared.fault.Which.{Which}
+use Rattle.x7_part.specs.PartKey.{name_of}
+use Rattle.x7_text.specs.Digits.{hex_byte, hex_word}
+use Rattle.x7_forms.specs.declared.bad_input.InputFault.{InputFault}
+use Rattle.x7_forms.specs.declared.bad_input.InputFault.TheVariants as input
+use Rattle.x7_forms.specs.declared.status.Status.{Status}
+use Rattle.x7_forms.specs.declared.status.Status.TheVariants as status
+use Rattle.x7_forms.specs.declared.refusal.Why.{Why}
+use Rattle.x7_forms.specs.declared.refusal.Why.TheVariants as why
+
+-- the reason, and the name of the input concerned; no name where the reason concerns none
+pub record Event : Type 0 where
+  pub reason : Why
+  pub concerned : List ℕ
+
+-- what brings a reason about
+pub data Cause : Type 0 where
+  -- the words have no form
+  Wording : Cause
+  -- want of memory, which may come at any time
+  Want : Cause
+  -- an input or the flash failed, by its count of faults
+  Fault : Cause
+  -- a name isn't there, by the contents or by a count of absences
+  Absence : Cause
+  -- the output failed, by its count of faults
+  Break : Cause
+  -- what the inputs hold
+  Contents : Cause
+
+-- a key of a part file, and its row where it is a row's
+abbrev pub placed_key : List ℕ → Option ℕ → List ℕ
+placed_key name None = name
+placed_key name (Some row) = name ++ codes " in row " ++ decimal row
+
+abbrev pub which_text : Which → List ℕ
+which_text which = placed_key (name_of which.key) which.row
+
+-- why a part file was refused; want of memory is known by another line
+abbrev pub part_text : PartFault → List ℕ
+part_text part.Toml = codes "toml"
+part_text (part.Key which) = codes "key " ++ which_text which
+part_text (part.Range which) = codes "range " ++ which_text which
+part_text (part.SameRow row) = codes "same row " ++ decimal row
+part_text (part.TooMany frames) = codes "too many " ++ decimal frames
+part_text part.NoMemory = codes "no memory"
+
+-- why an input has no reading
+abbrev pub input_text : InputFault → List ℕ
+input_text (input.Byte place) = codes "byte " ++ decimal place
+input_text (input.Line line) = codes "line " ++ decimal line
+input_text (input.LongLine line) = codes "long line " ++ decimal line
+input_text (input.Sum line want got) = codes "sum line " ++ (decimal line ++ (codes " want " ++ (hex_byte want ++ (codes " got " ++ hex_byte got))))
+input_text (input.LargeLine line) = codes "large line " ++ decimal line
+input_text (input.Overlap place) = codes "overlap " ++ hex_word place
+input_text input.NoEnd = codes "no end"
+input_text (input.AddressLine line) = codes "address line " ++ decimal line
+input_text (input.TwiceLine line) = codes "twice line " ++ decimal line
+input_text input.Empty = codes "empty"
+input_text input.Foreign = codes "foreign"
+input_text input.Range = codes "range"
+input_text input.Image = codes "image"
+
+-- a row of the table of reasons: the words stand before the name, the detail after it
+pub record Row : Type 0 where
+  pub ends_as : Status
+  pub cause : Cause
+  pub words : List ℕ
+  pub detail : List ℕ
+
+-- the table of reasons
+abbrev pub row_of : Why → Row
+row_of why.Usage = record { ends_as = status.Usage; cause = Wording; words = codes "usage"; detail = [] }
+row_of why.Missing = record { ends_as = status.Missing; cause = Absence; words = codes "missing "; detail = [] }
+row_of (why.BadPart fault) = record { ends_as = status.BadPart; cause = Contents; words = codes "bad part "; detail = codes ": " ++ part_text fault }
+row_of (why.BadInput fault) = record { ends_as = status.BadInput; cause = Contents; words = codes "bad input "; detail = codes ": " ++ input_text fault }
+row_of why.ReadFault = record { ends_as = status.ReadFault; cause = Fault; words = codes "read fault "; detail = [] }
+row_of why.WriteFault = record { ends_as = status.WriteFault; cause = Break; words = codes "write fault"; detail = [] }
+row_of why.NoMemory = record { ends_as = status.NoMemory; cause = Want; words = codes "no memory"; detail = [] }
+row_of why.TooLarge = record { ends_as = status.TooLarge; cause = Contents; words = codes "too large "; detail = [] }
+
+abbrev pub cause_of : Event → Cause
+cause_of e = (row_of e.reason).cause
+
+abbrev pub status_of : Event → Status
+status_of e = (row_of e.reason).ends_as
+
+-- the line that tells an event, with its end
+abbrev pub line_of : Event → List ℕ
+line_of e = codes "x7: " ++ ((row_of e.reason).words ++ (e.concerned ++ ((row_of e.reason).detail ++ codes "\n")))
+
+-- ---- the events by their reasons
+
+abbrev pub usage : Event
+usage = record { reason = why.Usage; concerned = [] }
+
+abbrev pub missing : List ℕ → Event
+missing name = record { reason = why.Missing; concerned = name }
+
+abbrev pub bad_part : List ℕ → PartFault → Event
+bad_part name fault = record { reason = why.BadPart fault; concerned = name }
+
+abbrev pub bad_input : List ℕ → InputFault → Event
+bad_input name fault = record { reason = why.BadInput fault; concerned = name }
+
+abbrev pub read_fault : List ℕ → Event
+read_fault name = record { reason = why.ReadFault; concerned = name }
+
+abbrev pub write_fault : Event
+write_fault = record { reason = why.WriteFault; concerned = [] }
+
+abbrev pub no_memory : Event
+no_memory = record { reason = why.NoMemory; concerned = [] }
+
+abbrev pub too_large : List ℕ → Event
+too_large name = record { reason = why.TooLarge; concerned = name }
+
+-- too many words were read out
+abbrev pub too_many_reads : Event
+too_many_reads = too_large (codes "reads")

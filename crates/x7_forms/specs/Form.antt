@@ -1,0 +1,166 @@
+-- The forms of the command line (this project's choice).
+use Rattle.std.specs.Prelude.{ℕ, map, string_bytes, List, [], ◌∷◌, Option, None, Some, Bool, true, false, ◌&&◌, if◌then◌else◌, codes, length, nat_le, nat_lt, decimal}
+use Rattle.std.specs.Str.Parse.{digits_value}
+use Rattle.x7_text.specs.Digits.{hex_word}
+use Rattle.x7_text.specs.DigitValue.{word_value}
+use Rattle.std.specs.Str.{bytes_eq}
+use Rattle.x7_forms.specs.declared.form.Form.{Form}
+use Rattle.x7_forms.specs.declared.form.Form.TheVariants as form
+
+-- what the words ask for
+pub data Asked : Type 0 where
+  Listing : (stream : List ℕ) → Asked
+  Playing : (part : List ℕ) (streams : List (List ℕ)) → Asked
+  Assembling : (text : List ℕ) → Asked
+  ToMcs : (image : List ℕ) → Asked
+  FromMcs : (text : List ℕ) → Asked
+  PlanningFull : (part frames : List ℕ) → Asked
+  PlanningPartial : (part frames : List ℕ) → Asked
+  PlanningRead : (part : List ℕ) (far n : ℕ) → Asked
+  Generating : (part : List ℕ) (seed : ℕ) → Asked
+  Imaging : (part golden update : List ℕ) → Asked
+  Debugging : (part stream script : List ℕ) → Asked
+  Booting : (part flash : List ℕ) → Asked
+
+-- a form of one name
+abbrev pub one_name : (List ℕ → Asked) → List (List ℕ) → Option Asked
+one_name form [] = None
+one_name form (name ∷ []) = Some (form name)
+one_name form (name ∷ next ∷ more) = None
+
+-- a form of two names
+abbrev pub two_names : (List ℕ → List ℕ → Asked) → List (List ℕ) → Option Asked
+two_names form [] = None
+two_names form (first ∷ []) = None
+two_names form (first ∷ second ∷ []) = Some (form first second)
+two_names form (first ∷ second ∷ third ∷ more) = None
+
+-- a form of three names
+abbrev pub three_names : (List ℕ → List ℕ → List ℕ → Asked) → List (List ℕ) → Option Asked
+three_names form [] = None
+three_names form (first ∷ []) = None
+three_names form (first ∷ second ∷ []) = None
+three_names form (first ∷ second ∷ third ∷ []) = Some (form first second third)
+three_names form (first ∷ second ∷ third ∷ fourth ∷ more) = None
+
+-- the word of eight upper-case digits: written again it has these digits
+abbrev pub word_in : List ℕ → Option ℕ
+word_in digits = if bytes_eq (hex_word (word_value digits)) digits && nat_lt (word_value digits) 4294967296 then Some (word_value digits) else None
+
+-- the number below 2^32 of decimal digits without a leading zero: written again it has these digits
+abbrev pub number_in : List ℕ → Option ℕ
+number_in digits = if bytes_eq (decimal (digits_value 10 digits)) digits && nat_lt (digits_value 10 digits) 4294967296 then Some (digits_value 10 digits) else None
+
+-- `plan read PART FAR N`
+abbrev pub read_asked : List ℕ → Option ℕ → Option ℕ → Option Asked
+read_asked part (Some far) (Some n) = Some (PlanningRead part far n)
+read_asked part _ _ = None
+
+abbrev pub plan_read_form : List (List ℕ) → Option Asked
+plan_read_form [] = None
+plan_read_form (part ∷ []) = None
+plan_read_form (part ∷ far ∷ []) = None
+plan_read_form (part ∷ far ∷ n ∷ []) = read_asked part (word_in far) (number_in n)
+plan_read_form (part ∷ far ∷ n ∷ more ∷ others) = None
+
+-- `gen PART SEED`
+abbrev pub gen_asked : List ℕ → Option ℕ → Option Asked
+gen_asked part (Some seed) = Some (Generating part seed)
+gen_asked part None = None
+
+abbrev pub gen_form : List (List ℕ) → Option Asked
+gen_form [] = None
+gen_form (part ∷ []) = None
+gen_form (part ∷ seed ∷ []) = gen_asked part (number_in seed)
+gen_form (part ∷ seed ∷ more ∷ others) = None
+
+-- `plan ..`, by the second word
+abbrev pub plan_form : List (List ℕ) → Option Asked
+plan_form [] = None
+plan_form (kind ∷ names) =
+    if bytes_eq kind (codes "full") then two_names PlanningFull names
+    else if bytes_eq kind (codes "partial") then two_names PlanningPartial names
+    else if bytes_eq kind (codes "read") then plan_read_form names
+    else None
+
+-- `play PART STREAM..`, one to eight streams
+abbrev pub play_form : List (List ℕ) → Option Asked
+play_form [] = None
+play_form (part ∷ streams) = if nat_le 1 (length streams) && nat_le (length streams) 8 then Some (Playing part streams) else None
+
+-- `debug PART STREAM SCRIPT`
+abbrev pub debug_form : List (List ℕ) → Option Asked
+debug_form (part ∷ stream ∷ script ∷ []) = Some (Debugging part stream script)
+debug_form _ = None
+
+-- the form of the words, by the first of them
+abbrev pub form_of : List (List ℕ) → Option Asked
+form_of [] = None
+form_of (command ∷ names) =
+    if bytes_eq command (codes "list") then one_name Listing names
+    else if bytes_eq command (codes "image") then three_names Imaging names
+    else if bytes_eq command (codes "asm") then one_name Assembling names
+    else if bytes_eq command (codes "play") then play_form names
+    else if bytes_eq command (codes "mcs") then one_name ToMcs names
+    else if bytes_eq command (codes "unmcs") then one_name FromMcs names
+    else if bytes_eq command (codes "plan") then plan_form names
+    else if bytes_eq command (codes "gen") then gen_form names
+    else if bytes_eq command (codes "debug") then debug_form names
+    else if bytes_eq command (codes "boot") then two_names Booting names
+    else None
+
+-- what a form of the code asks for
+abbrev pub asked_by : Form → Asked
+asked_by (form.List stream) = Listing stream.now
+asked_by (form.Play part streams) = Playing part.now (map string_bytes streams.now)
+asked_by (form.Asm text) = Assembling text.now
+asked_by (form.Mcs image) = ToMcs image.now
+asked_by (form.Unmcs text) = FromMcs text.now
+asked_by (form.PlanFull part frames) = PlanningFull part.now frames.now
+asked_by (form.PlanPartial part frames) = PlanningPartial part.now frames.now
+asked_by (form.PlanRead part far n) = PlanningRead part.now far n
+asked_by (form.Gen part seed) = Generating part.now seed
+asked_by (form.Image part golden update) = Imaging part.now golden.now update.now
+asked_by (form.Debug part stream script) = Debugging part.now stream.now script.now
+asked_by (form.Boot part flash) = Booting part.now flash.now
+
+abbrev pub asked : Option Form → Option Asked
+asked None = None
+asked (Some form) = Some (asked_by form)
+
+-- the names of the inputs that a form reads
+abbrev pub names_of : Option Asked → List (List ℕ)
+names_of None = []
+names_of (Some (Listing stream)) = stream ∷ []
+names_of (Some (Imaging part golden update)) = part ∷ golden ∷ update ∷ []
+names_of (Some (Playing part streams)) = part ∷ streams
+names_of (Some (Assembling text)) = text ∷ []
+names_of (Some (ToMcs image)) = image ∷ []
+names_of (Some (FromMcs text)) = text ∷ []
+names_of (Some (PlanningFull part frames)) = part ∷ frames ∷ []
+names_of (Some (PlanningPartial part frames)) = part ∷ frames ∷ []
+names_of (Some (PlanningRead part far n)) = part ∷ []
+names_of (Some (Generating part seed)) = part ∷ []
+names_of (Some (Debugging part stream script)) = part ∷ stream ∷ script ∷ []
+names_of (Some (Booting part flash)) = part ∷ []
+
+-- the name of the flash that a form reads
+abbrev pub flash_names : Option Asked → List (List ℕ)
+flash_names (Some (Booting part flash)) = flash ∷ []
+flash_names form = []
+
+-- whether a form names the flash
+abbrev pub names_flash : Option Asked → Bool
+names_flash None = false
+names_flash (Some (Imaging part golden update)) = false
+names_flash (Some (Listing stream)) = false
+names_flash (Some (Playing part streams)) = false
+names_flash (Some (Assembling text)) = false
+names_flash (Some (ToMcs image)) = false
+names_flash (Some (FromMcs text)) = false
+names_flash (Some (PlanningFull part frames)) = false
+names_flash (Some (PlanningPartial part frames)) = false
+names_flash (Some (PlanningRead part far n)) = false
+names_flash (Some (Generating part seed)) = false
+names_flash (Some (Debugging part stream script)) = false
+names_flash (Some (Booting part flash)) = true

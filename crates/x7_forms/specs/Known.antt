@@ -1,0 +1,113 @@
+-- What is known of the inputs and of a flash, and what steps over it come to: reading an input, a part file or a stream, and playing streams (this project's choice).
+use Rattle.std.specs.Prelude.{ℕ, List, [], ◌∷◌, ◌++◌, ◌-◌, Option, None, Some, is_some, Result, Ok, Err, Bool, false, if◌then◌else◌, drop, length, nat_lt}
+use Rattle.x7_header.specs.Header.{Contents}
+use Rattle.x7_header.specs.Reading.{header_at}
+use Rattle.x7_header.specs.declared.fault.HeaderFault.{HeaderFault}
+use Rattle.x7_header.specs.declared.fault.HeaderFault.TheVariants as header
+use Rattle.x7_part.specs.declared.fault.PartFault.{PartFault}
+use Rattle.x7_part.specs.Part.{PartData}
+use Rattle.x7_engine.specs.Kept.{on_the_bench}
+use Rattle.x7_engine.specs.State.{line_by, memory_in, reads_of, state_of, stop_in}
+use Rattle.x7_engine.specs.Stops.{fault_of}
+use Rattle.x7_forms.specs.declared.bad_input.InputFault.TheVariants as input
+use Rattle.x7_forms.specs.Event.{Event, bad_input, bad_part, missing, too_large, too_many_reads}
+use Rattle.x7_part.specs.PartFile.{part_in}
+use Rattle.x7_forms.specs.Report.{report_text}
+
+-- what is known: the bytes of each input by its name, and those of the flash where they are known
+pub record Known : Type 0 where
+  pub inputs : List ℕ → Option (List ℕ)
+  pub flash : Option (List ℕ)
+
+-- a whole text, and whether what it reports stopped at a fault
+pub record Answer : Type 0 where
+  pub stopped : Bool
+  pub text : List ℕ
+
+-- one step, and the next on what it gave
+abbrev pub and_so : {A B : Type 0} → Result A Event → (A → Result B Event) → Result B Event
+and_so (Ok a) next = next a
+and_so (Err event) next = Err event
+
+-- the bytes of an input
+abbrev pub present : List ℕ → Option (List ℕ) → Result (List ℕ) Event
+present name None = Err (missing name)
+present name (Some bytes) = Ok bytes
+
+-- the data of a stream by what stands at its beginning: a header and its size, or why there is none
+abbrev pub data_by : List ℕ → List ℕ → Result (Contents × ℕ) HeaderFault → Result (List ℕ) Event
+data_by name bytes (Ok head) = Ok (drop head.1 bytes)
+data_by name bytes (Err header.Raw) = Ok bytes
+data_by name bytes (Err (header.Cut place)) = Err (bad_input name (input.Byte place))
+data_by name bytes (Err (header.Field place)) = Err (bad_input name (input.Byte place))
+
+-- the data of a stream: the bytes after its header where it has one; a header that is cut, or that has another byte in a letter's place, is a bad input
+abbrev pub data_in : List ℕ → List ℕ → Result (List ℕ) Event
+data_in name bytes = data_by name bytes (header_at bytes)
+
+-- an input is taken that has no more than so many bytes
+abbrev pub within : List ℕ → ℕ → List ℕ → Result (List ℕ) Event
+within name limit bytes = if nat_lt limit (length bytes) then Err (too_large name) else Ok bytes
+
+-- the most bytes of a stream
+abbrev pub stream_limit : ℕ
+stream_limit = 67108864
+
+-- ---- play
+
+-- an input that has no more than so many bytes
+abbrev pub whole_in : Known → ℕ → List ℕ → Result (List ℕ) Event
+whole_in known limit name = and_so (present name (known.inputs name)) (within name limit)
+
+-- the most bytes of a part file
+abbrev pub part_limit : ℕ
+part_limit = 1048576
+
+-- the part of a part file of this name
+abbrev pub part_by : List ℕ → Result PartData PartFault → Result PartData Event
+part_by name (Ok part) = Ok part
+part_by name (Err fault) = Err (bad_part name fault)
+
+abbrev pub part_of : Known → List ℕ → Result PartData Event
+part_of known name = and_so (whole_in known part_limit name) (λ text. part_by name (part_in text))
+
+-- bytes before those that a step gives
+abbrev pub put_before : List ℕ → Result (List ℕ) Event → Result (List ℕ) Event
+put_before prefix more = and_so more (λ bytes. Ok (prefix ++ bytes))
+
+-- a stream that was read: its data, and how many bytes of later streams are still within the limit
+pub record StreamRead : Type 0 where
+  pub bytes : List ℕ
+  pub room : ℕ
+
+-- the stream of this name, whose limit is judged before its header
+abbrev pub read_of : Known → ℕ → List ℕ → Result StreamRead Event
+read_of known limit name = and_so (whole_in known limit name) (λ whole. and_so (data_in name whole) (λ bytes. Ok (record { bytes = bytes; room = limit - length whole })))
+
+-- the data of streams, one after the other; the streams are within a limit together, headers included
+abbrev pub data_of : Known → ℕ → List (List ℕ) → Result (List ℕ) Event
+data_of known limit [] = Ok []
+data_of known limit (name ∷ names) = and_so (read_of known limit name) (λ stream. put_before stream.bytes (data_of known stream.room names))
+
+-- the most words that a play reads out
+abbrev pub reads_limit : ℕ
+reads_limit = 16777216
+
+-- the report of a new device of the part that took the data, and whether a fault stopped it
+abbrev pub report_of : PartData → List ℕ → Answer
+report_of part bytes = record {
+  stopped = is_some (fault_of (line_by (stop_in part on_the_bench bytes)));
+  text = report_text part (state_of part on_the_bench false bytes) (reads_of part on_the_bench bytes) (memory_in part on_the_bench bytes);
+}
+
+unfoldable pub reported : PartData → List ℕ → Result Answer Event
+reported part bytes = if nat_lt reads_limit (length (reads_of part on_the_bench bytes)) then Err too_many_reads else Ok (report_of part bytes)
+
+-- `play PART STREAM..`: the report of the streams' data, one after the other
+abbrev pub played : Known → List ℕ → List (List ℕ) → Result Answer Event
+played known part streams = and_so (part_of known part) (λ p. and_so (data_of known stream_limit streams) (reported p))
+
+-- what is known of the inputs, and of the flash where it is known
+abbrev pub with_inputs : Option (List ℕ → Option (List ℕ)) → Option (List ℕ) → Option Known
+with_inputs None flash = None
+with_inputs (Some inputs) flash = Some (record { inputs = inputs; flash = flash })

@@ -1,0 +1,34 @@
+-- The status of a whole outcome, and the number that the program ends with (this project's choice).
+use Rattle.std.specs.Prelude.{ℕ, Result, Ok, Err, Bool, true, false}
+use Rattle.x7_forms.specs.declared.status.Status.{Status}
+use Rattle.x7_forms.specs.declared.status.Status.TheVariants as status
+use Rattle.x7_forms.specs.declared.refusal.Refusal.{Refusal}
+use Rattle.x7_forms.specs.Event.{Event, status_of}
+use Rattle.x7_forms.specs.Known.{Answer}
+
+-- the number that the program ends with
+abbrev pub number_of : Status → ℕ
+number_of status.Done = 0
+number_of status.Stopped = 1
+number_of status.Usage = 2
+number_of status.Missing = 3
+number_of status.BadPart = 4
+number_of status.BadInput = 5
+number_of status.ReadFault = 6
+number_of status.WriteFault = 7
+number_of status.NoMemory = 8
+number_of status.TooLarge = 9
+
+-- the status of a whole text, by whether what it reports stopped at a fault
+abbrev pub text_status : Bool → Status
+text_status true = status.Stopped
+text_status false = status.Done
+
+-- the status of a whole outcome
+abbrev pub final_status : Result Answer Event → Status
+final_status (Ok answer) = text_status answer.stopped
+final_status (Err event) = status_of event
+
+-- the event that a refusal tells
+abbrev pub event_of : Refusal → Event
+event_of r = record { reason = r.reason; concerned = r.name.now }

@@ -1,0 +1,82 @@
+-- Inputs that are read turn by turn.
+use Rattle.std.specs.Prelude.{◌≡◌, ◌≢◌, ◌<◌, ◌≤◌, ◌⊎◌, ◌++◌, ℕ, Bool, true, List, [], Option, Ok, Err, drop, length, ◌+◌}
+use Rattle.x7_words.specs.Count.{HasRisen}
+use Rattle.x7_words.specs.Input.{AtEnd, Lacks, preceded}
+use Rattle.x7_header.specs.Header.{Contents, HasOtherLetterAt, HaveHeader, fixed_bytes, header_bytes}
+use Rattle.x7_forms.specs.Event.{Event, bad_input, missing, no_memory, read_fault, too_large}
+use Rattle.x7_forms.specs.declared.bad_input.InputFault.TheVariants as input
+use Rattle.x7_listing.specs.Listing.{listing_of}
+use Rattle.x7_listing.specs.StreamListing.{stream_listing}
+
+-- an input was not opened: its name isn't there, or the inputs failed
+abbrev pub Unopened : Option (List ℕ → Option (List ℕ)) → List ℕ → ℕ → ℕ → ℕ → ℕ → Event → Type 0
+Unopened contents name faults faults_now absences absences_now event =
+    ((event ≡ missing name) × (Lacks contents name ⊎ HasRisen absences absences_now)) ⊎ ((event ≡ read_fault name) × HasRisen faults faults_now)
+
+-- a turn of so many bytes at most, of which so many are within the limit, was not read: the inputs failed, or it went over the limit
+abbrev pub Unread : Option (List ℕ) → Option (List ℕ) → List ℕ → ℕ → ℕ → ℕ → ℕ → Event → Type 0
+Unread rest rest_now name left most faults faults_now event =
+    ((event ≡ read_fault name) × HasRisen faults faults_now)
+    ⊎ ((event ≡ too_large name) × ((piece : List ℕ) × ((rest ≡ preceded piece rest_now) × (left < length piece) × (length piece ≤ most))))
+
+-- what was left of an open input was read to its end: these bytes
+abbrev pub ReadsRest : Option (List ℕ) → Option (List ℕ) → List ℕ → Type 0
+ReadsRest rest rest_now more = (rest ≡ preceded more rest_now) × AtEnd rest_now
+
+-- what was left of an open input, with so many bytes within the limit, was not read to its end: the inputs failed, or it went over the limit
+abbrev pub UnreadRest : Option (List ℕ) → List ℕ → ℕ → ℕ → ℕ → Event → Type 0
+UnreadRest rest name limit faults faults_now event =
+    ((event ≡ read_fault name) × HasRisen faults faults_now)
+    ⊎ ((event ≡ too_large name) × ((more : List ℕ) × ((rest_now : Option (List ℕ)) × ((rest ≡ preceded more rest_now) × (limit < length more)))))
+
+-- nothing follows the last bytes
+abbrev pub MayFollow : Bool → List ℕ → Type 0
+MayFollow last rest = last ≡ true → rest ≡ []
+
+-- the data begin at this byte: behind a header, or at the first byte where there is none
+abbrev pub BeginAt : List ℕ → ℕ → Type 0
+BeginAt bytes start =
+    ((x : Contents) × HaveHeader x × (bytes ≡ header_bytes x ++ drop start bytes) × (start ≡ length (header_bytes x)))
+    ⊎ ((start ≡ 0) × ((rest : List ℕ) → bytes ≢ fixed_bytes ++ rest))
+
+-- no byte is held behind a header, and where there is none, no more than are needed to know it
+abbrev pub HoldsFew : List ℕ → ℕ → Type 0
+HoldsFew bytes start = (start ≡ length bytes) ⊎ ((start ≡ 0) × (length bytes ≤ 13))
+
+-- a header is refused at this byte: the bytes end there inside it, or another letter stands there
+abbrev pub RefusedAt : List ℕ → ℕ → Type 0
+RefusedAt bytes place = (place ≡ length bytes) ⊎ HasOtherLetterAt bytes place
+
+-- the first bytes of a stream, where its header is judged: its line or nothing, and where the data begin
+abbrev pub IsFront : List ℕ → Bool → List ℕ → ℕ → Type 0
+IsFront bytes last line start = (rest : List ℕ) → MayFollow last rest → stream_listing (bytes ++ rest) ≡ Ok (line ++ listing_of (drop start bytes ++ rest))
+
+-- what was read of a stream when its header is judged
+pub record FrontRead (bytes line : List ℕ) (start : ℕ) (last : Bool) (rest rest_now : Option (List ℕ)) : Type 0 where
+  pub taken : rest ≡ preceded bytes rest_now
+  pub end : last ≡ true → AtEnd rest_now
+  pub within : start ≤ length bytes
+  pub few : length bytes ≤ 327706
+  pub holds_few : HoldsFew bytes start
+  pub front : IsFront bytes last line start
+
+-- the first bytes of a stream whose header is refused at this byte
+abbrev pub IsRefused : List ℕ → Bool → ℕ → Type 0
+IsRefused bytes last place = (rest : List ℕ) → MayFollow last rest → stream_listing (bytes ++ rest) ≡ Err place
+
+-- bytes of a header that were not judged well
+pub record IsBadFront (rest rest_now : Option (List ℕ)) (name : List ℕ) (event : Event) : Type 0 where
+  pub place : ℕ
+  pub bytes : List ℕ
+  pub last : Bool
+  pub is : event ≡ bad_input name (input.Byte place)
+  pub taken : rest ≡ preceded bytes rest_now
+  pub end : last ≡ true → AtEnd rest_now
+  pub refused : IsRefused bytes last place
+  -- none behind the byte at which the header is refused
+  pub soon : length bytes ≤ place + 1
+
+-- a stream's front was not read: want of memory, the inputs failed, or the header is refused
+abbrev pub Unfronted : Option (List ℕ) → Option (List ℕ) → List ℕ → ℕ → ℕ → Event → Type 0
+Unfronted rest rest_now name faults faults_now event =
+    (event ≡ no_memory) ⊎ (((event ≡ read_fault name) × HasRisen faults faults_now) ⊎ IsBadFront rest rest_now name event)

@@ -1,0 +1,131 @@
+//! The line that says why an input has no reading. No memory is taken.
+ghost use Rattle.std.specs.Prelude.{◌≡◌, ◌++◌, codes, decimal};
+ghost use Rattle.x7_words.specs.Count.{HasRisen};
+ghost use Rattle.x7_words.specs.Sink.{Tells};
+ghost use Rattle.x7_text.specs.Digits.{hex_byte};
+ghost use Rattle.x7_forms.specs.Event.{bad_input, line_of};
+
+use itoa::Buffer;
+use x7_text::{hex_of_byte, hex_of_word};
+use x7_words::{Failed, Sink, write_pieces};
+
+/// Why an input has no reading. Lines count from 1, bytes from 0.
+#[derive(Clone, Copy, Debug, Drop, PartialEq, Eq)]
+pub enum InputFault {
+    /// The byte of a stream's header that should be a field's letter and is not, or the stream's length where it ends inside the header.
+    Byte(u64),
+    /// The first line outside the grammar.
+    Line(u64),
+    /// The first line at which the result passes its limit.
+    LongLine(u64),
+    /// The first line whose sum byte isn't the one that makes the sum 0.
+    Sum {
+        /// The line.
+        line: u64,
+        /// The byte that makes the sum 0.
+        want: u8,
+        /// The byte that stands there.
+        got: u8,
+    },
+    /// The first line with a byte at or past the limit of places.
+    LargeLine(u64),
+    /// The least place of a line that an earlier line gave.
+    Overlap(u32),
+    /// The line that ends the text is missing.
+    NoEnd,
+    /// The first line with an address that the part lacks.
+    AddressLine(u64),
+    /// The first line with an address that an earlier line has.
+    TwiceLine(u64),
+    /// The frames text plans nothing.
+    Empty,
+    /// The part has no frame at the address.
+    Foreign,
+    /// So many slots can't be read: none, or more than there are.
+    Range,
+    /// An image with this update stream would be larger than a flash may be.
+    Image,
+}
+
+/// The start of the line, before the name of the input.
+const START: &[u8] = b"x7: bad input ";
+
+/// Writes the line of a fault that stands at a place.
+fn say_at<'x, E: Sink>(
+    err: &mut E,
+    name: &'x str,
+    kind: &'x [u8],
+    place: &'x [u8],
+) -> Result<(), Failed>
+    ensures { Tells (HasRisen (E.faults err.old) (E.faults err.new)) (E.written err.old) (E.written err.new) (codes "x7: bad input " ++ (name.now ++ (kind.now ++ (place.now ++ codes "\n")))) }
+{
+    write_pieces(err, &[START, name.as_bytes(), kind, place, b"\n"])
+}
+
+/// Writes the line of a fault that a number tells: a line or a byte of the input.
+fn say_number<E: Sink>(err: &mut E, name: &str, kind: &[u8], number: u64) -> Result<(), Failed>
+    ensures { Tells (HasRisen (E.faults err.old) (E.faults err.new)) (E.written err.old) (E.written err.new) (codes "x7: bad input " ++ (name.now ++ (kind.now ++ (decimal number ++ codes "\n")))) }
+{
+    let mut buffer = Buffer::new();
+    say_at(err, name, kind, buffer.format(number).as_bytes())
+}
+
+/// Writes the line of a sum byte that is another.
+fn say_sum<'x, E: Sink>(
+    err: &mut E,
+    name: &'x str,
+    line: &'x [u8],
+    want: &'x [u8],
+    got: &'x [u8],
+) -> Result<(), Failed>
+    ensures { Tells (HasRisen (E.faults err.old) (E.faults err.new)) (E.written err.old) (E.written err.new) (codes "x7: bad input " ++ (name.now ++ (codes ": sum line " ++ (line.now ++ (codes " want " ++ (want.now ++ (codes " got " ++ (got.now ++ codes "\n")))))))) }
+{
+    write_pieces(
+        err,
+        &[
+            START,
+            name.as_bytes(),
+            b": sum line ",
+            line,
+            b" want ",
+            want,
+            b" got ",
+            got,
+            b"\n",
+        ],
+    )
+}
+
+/// Writes the line of an input that has no reading.
+pub(crate) fn say_bad_input<E: Sink>(
+    err: &mut E,
+    name: &str,
+    fault: InputFault,
+) -> Result<(), Failed>
+    ensures { Tells (HasRisen (E.faults err.old) (E.faults err.new)) (E.written err.old) (E.written err.new) (line_of (bad_input name.now fault)) }
+{
+    match fault {
+        InputFault::Byte(place) => say_number(err, name, b": byte ", place),
+        InputFault::Line(line) => say_number(err, name, b": line ", line),
+        InputFault::LongLine(line) => say_number(err, name, b": long line ", line),
+        InputFault::LargeLine(line) => say_number(err, name, b": large line ", line),
+        InputFault::Overlap(place) => say_at(err, name, b": overlap ", &hex_of_word(place)),
+        InputFault::NoEnd => say_at(err, name, b": no end", b""),
+        InputFault::AddressLine(line) => say_number(err, name, b": address line ", line),
+        InputFault::TwiceLine(line) => say_number(err, name, b": twice line ", line),
+        InputFault::Empty => say_at(err, name, b": empty", b""),
+        InputFault::Foreign => say_at(err, name, b": foreign", b""),
+        InputFault::Range => say_at(err, name, b": range", b""),
+        InputFault::Image => say_at(err, name, b": image", b""),
+        InputFault::Sum { line, want, got } => {
+            let mut buffer = Buffer::new();
+            say_sum(
+                err,
+                name,
+                buffer.format(line).as_bytes(),
+                &hex_of_byte(want),
+                &hex_of_byte(got),
+            )
+        }
+    }
+}

@@ -1,0 +1,91 @@
+//! The line that says why a part file was refused. No memory is taken.
+ghost use Rattle.std.specs.Prelude.{◌≡◌, ◌++◌, codes, decimal};
+ghost use Rattle.x7_words.specs.Count.{HasRisen};
+ghost use Rattle.x7_words.specs.Sink.{Tells};
+ghost use Rattle.x7_forms.specs.Event.{bad_part, line_of, which_text};
+
+use itoa::Buffer;
+use x7_part::{PartFault, Which};
+use x7_words::{Failed, Sink, write_pieces};
+
+/// The start of the line, before the name of the part file.
+const START: &[u8] = b"x7: bad part ";
+
+/// Writes the line of a fault that names a number.
+fn say_number<'x, E: Sink>(
+    err: &mut E,
+    name: &'x str,
+    kind: &'x [u8],
+    number: u32,
+) -> Result<(), Failed>
+    ensures { Tells (HasRisen (E.faults err.old) (E.faults err.new)) (E.written err.old) (E.written err.new) (codes "x7: bad part " ++ (name.now ++ (kind.now ++ (decimal number ++ codes "\n")))) }
+{
+    let mut buffer = Buffer::new();
+    let digits = buffer.format(number);
+    write_pieces(
+        err,
+        &[START, name.as_bytes(), kind, digits.as_bytes(), b"\n"],
+    )
+}
+
+/// Writes the line of a fault that names a key of a row.
+fn say_key_in_row<'x, E: Sink>(
+    err: &mut E,
+    name: &'x str,
+    kind: &'x [u8],
+    key: &'x str,
+    row: u32,
+) -> Result<(), Failed>
+    ensures { Tells (HasRisen (E.faults err.old) (E.faults err.new)) (E.written err.old) (E.written err.new) (codes "x7: bad part " ++ (name.now ++ (kind.now ++ (key.now ++ (codes " in row " ++ (decimal row ++ codes "\n")))))) }
+{
+    let mut buffer = Buffer::new();
+    let digits = buffer.format(row);
+    write_pieces(
+        err,
+        &[
+            START,
+            name.as_bytes(),
+            kind,
+            key.as_bytes(),
+            b" in row ",
+            digits.as_bytes(),
+            b"\n",
+        ],
+    )
+}
+
+/// Writes the line of a fault that names a key of the top table.
+fn say_top_key<'x, E: Sink>(
+    err: &mut E,
+    name: &'x str,
+    kind: &'x [u8],
+    key: &'x str,
+) -> Result<(), Failed>
+    ensures { Tells (HasRisen (E.faults err.old) (E.faults err.new)) (E.written err.old) (E.written err.new) (codes "x7: bad part " ++ (name.now ++ (kind.now ++ (key.now ++ codes "\n")))) }
+{
+    write_pieces(err, &[START, name.as_bytes(), kind, key.as_bytes(), b"\n"])
+}
+
+/// Writes the line of a fault that names a key.
+fn say_key<E: Sink>(err: &mut E, name: &str, kind: &[u8], which: Which) -> Result<(), Failed>
+    ensures { Tells (HasRisen (E.faults err.old) (E.faults err.new)) (E.written err.old) (E.written err.new) (codes "x7: bad part " ++ (name.now ++ (kind.now ++ (which_text which ++ codes "\n")))) }
+{
+    match which.row {
+        Some(row) => say_key_in_row(err, name, kind, which.key.name(), row),
+        None => say_top_key(err, name, kind, which.key.name()),
+    }
+}
+
+/// Writes the line of a part file that was refused.
+pub(crate) fn say_bad_part<E: Sink>(err: &mut E, name: &str, fault: PartFault) -> Result<(), Failed>
+    ensures { Tells (HasRisen (E.faults err.old) (E.faults err.new)) (E.written err.old) (E.written err.new) (line_of (bad_part name.now fault)) }
+{
+    match fault {
+        PartFault::Toml => write_pieces(err, &[START, name.as_bytes(), b": toml\n"]),
+        PartFault::Key(which) => say_key(err, name, b": key ", which),
+        PartFault::Range(which) => say_key(err, name, b": range ", which),
+        PartFault::SameRow(row) => say_number(err, name, b": same row ", row),
+        PartFault::TooMany(frames) => say_number(err, name, b": too many ", frames),
+        PartFault::NoMemory => write_pieces(err, &[START, name.as_bytes(), b": no memory\n"]),
+    }
+}

@@ -1,0 +1,310 @@
+//! The forms of the command line.
+ghost use Rattle.std.specs.Prelude.{◌≡◌, map, string_bytes};
+ghost use Rattle.x7_forms.specs.Form.{Assembling, Booting, FromMcs, Imaging, Listing, PlanningFull, ToMcs, debug_form, form_of, gen_form, number_in, one_name, plan_form, plan_read_form, play_form, three_names, two_names, word_in, PlanningPartial, asked};
+
+use x7_text::{decimal_below, word_of_hex};
+
+/// What the words ask for, with the names as they were given.
+#[derive(Clone, Copy, Drop)]
+pub enum Form<'w> {
+    /// `list STREAM`: the listing of a stream.
+    List {
+        /// The stream's name.
+        stream: &'w str,
+    },
+    /// `asm TEXT`: the bytes that a listing or another assembly text stands for.
+    Asm {
+        /// The text's name.
+        text: &'w str,
+    },
+    /// `mcs IMAGE`: the Intel HEX text of a flash image.
+    Mcs {
+        /// The image's name.
+        image: &'w str,
+    },
+    /// `unmcs TEXT`: the flash image of an Intel HEX text.
+    Unmcs {
+        /// The text's name.
+        text: &'w str,
+    },
+    /// `plan full PART FRAMES`: the stream of a whole configuration.
+    PlanFull {
+        /// The part file's name.
+        part: &'w str,
+        /// The frames text's name.
+        frames: &'w str,
+    },
+    /// `plan partial PART FRAMES`: the stream that writes the planned frames alone.
+    PlanPartial {
+        /// The part file's name.
+        part: &'w str,
+        /// The frames text's name.
+        frames: &'w str,
+    },
+    /// `plan read PART FAR N`: the stream that reads frames back.
+    PlanRead {
+        /// The part file's name.
+        part: &'w str,
+        /// The first address.
+        far: u32,
+        /// The number of slots.
+        n: u32,
+    },
+    /// `gen PART SEED`: the summary of a plan that is made from a number.
+    Gen {
+        /// The part file's name.
+        part: &'w str,
+        /// The number.
+        seed: u32,
+    },
+    /// `image PART GOLDEN UPDATE`: the flash image of two streams.
+    Image {
+        /// The part file's name.
+        part: &'w str,
+        /// The golden stream's name.
+        golden: &'w str,
+        /// The update stream's name.
+        update: &'w str,
+    },
+    /// `play PART STREAM..`: the report of what one to eight streams do.
+    Play {
+        /// The part file's name.
+        part: &'w str,
+        /// The streams' names.
+        streams: &'w [String],
+    },
+    /// `debug PART STREAM SCRIPT`: what a script shows of a stream.
+    Debug {
+        /// The part file's name.
+        part: &'w str,
+        /// The stream's name.
+        stream: &'w str,
+        /// The script's name.
+        script: &'w str,
+    },
+    /// `boot PART FLASH`: which image a device starts from a flash.
+    Boot {
+        /// The part file's name.
+        part: &'w str,
+        /// The flash's name.
+        flash: &'w str,
+    },
+}
+
+/// `list STREAM`.
+fn list_form(names: &[String]) -> Option<Form<'_>>
+    ensures { asked result ≡ one_name Listing (map string_bytes names.now) }
+{
+    match names {
+        [stream] => Some(Form::List {
+            stream: stream.as_str(),
+        }),
+        _ => None,
+    }
+}
+
+/// `asm TEXT`.
+fn asm_form(names: &[String]) -> Option<Form<'_>>
+    ensures { asked result ≡ one_name Assembling (map string_bytes names.now) }
+{
+    match names {
+        [text] => Some(Form::Asm {
+            text: text.as_str(),
+        }),
+        _ => None,
+    }
+}
+
+/// `play PART STREAM..`, one to eight streams.
+fn play_form(names: &[String]) -> Option<Form<'_>>
+    ensures { asked result ≡ play_form (map string_bytes names.now) }
+{
+    match names {
+        [part, streams @ ..] if streams.len() >= 1 && streams.len() <= 8 => Some(Form::Play {
+            part: part.as_str(),
+            streams,
+        }),
+        _ => None,
+    }
+}
+
+/// `mcs IMAGE`.
+fn mcs_form(names: &[String]) -> Option<Form<'_>>
+    ensures { asked result ≡ one_name ToMcs (map string_bytes names.now) }
+{
+    match names {
+        [image] => Some(Form::Mcs {
+            image: image.as_str(),
+        }),
+        _ => None,
+    }
+}
+
+/// `unmcs TEXT`.
+fn unmcs_form(names: &[String]) -> Option<Form<'_>>
+    ensures { asked result ≡ one_name FromMcs (map string_bytes names.now) }
+{
+    match names {
+        [text] => Some(Form::Unmcs {
+            text: text.as_str(),
+        }),
+        _ => None,
+    }
+}
+
+/// The word of eight upper-case digits.
+fn word_in(digits: &str) -> Option<u32>
+    ensures { result ≡ word_in digits.now }
+{
+    match word_of_hex(digits.as_bytes()) {
+        Some(word) => Some(word),
+        None => None,
+    }
+}
+
+/// The number below 2^32 of decimal digits without a leading zero.
+fn number_in(digits: &str) -> Option<u32>
+    ensures { result ≡ number_in digits.now }
+{
+    match decimal_below(digits.as_bytes(), 4_294_967_296) {
+        Some(number) => Some(number as u32),
+        None => None,
+    }
+}
+
+/// `plan full PART FRAMES`.
+fn plan_full_form(names: &[String]) -> Option<Form<'_>>
+    ensures { asked result ≡ two_names PlanningFull (map string_bytes names.now) }
+{
+    match names {
+        [part, frames] => Some(Form::PlanFull {
+            part: part.as_str(),
+            frames: frames.as_str(),
+        }),
+        _ => None,
+    }
+}
+
+/// `plan partial PART FRAMES`.
+fn plan_partial_form(names: &[String]) -> Option<Form<'_>>
+    ensures { asked result ≡ two_names PlanningPartial (map string_bytes names.now) }
+{
+    match names {
+        [part, frames] => Some(Form::PlanPartial {
+            part: part.as_str(),
+            frames: frames.as_str(),
+        }),
+        _ => None,
+    }
+}
+
+/// `plan read PART FAR N`.
+fn plan_read_form(names: &[String]) -> Option<Form<'_>>
+    ensures { asked result ≡ plan_read_form (map string_bytes names.now) }
+{
+    let [part, far, n] = names else {
+        return None;
+    };
+    match (word_in(far.as_str()), number_in(n.as_str())) {
+        (Some(far), Some(n)) => Some(Form::PlanRead {
+            part: part.as_str(),
+            far,
+            n,
+        }),
+        _ => None,
+    }
+}
+
+/// `gen PART SEED`.
+fn gen_form(names: &[String]) -> Option<Form<'_>>
+    ensures { asked result ≡ gen_form (map string_bytes names.now) }
+{
+    let [part, seed] = names else {
+        return None;
+    };
+    match number_in(seed.as_str()) {
+        Some(seed) => Some(Form::Gen {
+            part: part.as_str(),
+            seed,
+        }),
+        None => None,
+    }
+}
+
+/// `plan ..`, by the second word.
+fn plan_form(names: &[String]) -> Option<Form<'_>>
+    ensures { asked result ≡ plan_form (map string_bytes names.now) }
+{
+    let Some((kind, names)) = names.split_first() else {
+        return None;
+    };
+    match kind.as_str() {
+        "full" => plan_full_form(names),
+        "partial" => plan_partial_form(names),
+        "read" => plan_read_form(names),
+        _ => None,
+    }
+}
+
+/// `debug PART STREAM SCRIPT`.
+fn debug_form(names: &[String]) -> Option<Form<'_>>
+    ensures { asked result ≡ debug_form (map string_bytes names.now) }
+{
+    match names {
+        [part, stream, script] => Some(Form::Debug {
+            part: part.as_str(),
+            stream: stream.as_str(),
+            script: script.as_str(),
+        }),
+        _ => None,
+    }
+}
+
+/// `boot PART FLASH`.
+fn boot_form(names: &[String]) -> Option<Form<'_>>
+    ensures { asked result ≡ two_names Booting (map string_bytes names.now) }
+{
+    match names {
+        [part, flash] => Some(Form::Boot {
+            part: part.as_str(),
+            flash: flash.as_str(),
+        }),
+        _ => None,
+    }
+}
+
+/// `image PART GOLDEN UPDATE`.
+fn image_form(names: &[String]) -> Option<Form<'_>>
+    ensures { asked result ≡ three_names Imaging (map string_bytes names.now) }
+{
+    match names {
+        [part, golden, update] => Some(Form::Image {
+            part: part.as_str(),
+            golden: golden.as_str(),
+            update: update.as_str(),
+        }),
+        _ => None,
+    }
+}
+
+/// The form of the words, where they have one.
+pub fn words_of(words: &Vec<String>) -> Option<Form<'_>>
+    ensures { asked result ≡ form_of (map string_bytes words.now.items) }
+{
+    let Some((command, names)) = words.split_first() else {
+        return None;
+    };
+    match command.as_str() {
+        "list" => list_form(names),
+        "asm" => asm_form(names),
+        "play" => play_form(names),
+        "mcs" => mcs_form(names),
+        "unmcs" => unmcs_form(names),
+        "plan" => plan_form(names),
+        "gen" => gen_form(names),
+        "image" => image_form(names),
+        "debug" => debug_form(names),
+        "boot" => boot_form(names),
+        _ => None,
+    }
+}

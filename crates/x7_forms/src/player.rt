@@ -1,0 +1,136 @@
+//! A device that plays bytes piece by piece, and the words that it reads out.
+ghost use Rattle.std.specs.Prelude.{◌≡◌, ◌++◌, ◌+◌, ◌<◌, ◌≤◌, ◌⊎◌, ℕ, List, [], true, false, Ok, Err, length, vec_len, IfErr, IfOk, OnOk};
+ghost use Rattle.x7_part.specs.Part.{PartData};
+ghost use Rattle.x7_forms.specs.Event.{no_memory, too_many_reads};
+ghost use Rattle.x7_forms.specs.Message.{event_of};
+ghost use Rattle.x7_forms.specs.Known.{reported};
+ghost use Rattle.x7_forms.specs.Play.{HasPlayed, HasPlayedBy, MayPlay, MayPlayBy, PlaysOn, text_of_play};
+
+use crate::play_text::PlayText;
+use crate::refusal::{Refusal, Why};
+use std::alloc::Global;
+use x7_engine::{Device, Fed, ReadBuf};
+use x7_part::Part;
+use x7_words::NoMemory;
+
+/// The most words that a play reads out.
+const READS_LIMIT: usize = 16_777_216;
+
+/// How many words a device reads out before they are moved.
+const READS_ROOM: u32 = 4_096;
+
+/// Moves the words of a buffer after those that were read out before, and says whether they are over the limit together.
+fn gather(buffer: &mut ReadBuf, reads: &mut Vec<u32>) -> Result<bool, NoMemory>
+    requires { vec_len reads.old ≤ 16777216 }
+    ensures words { IfOk result (λ over. over ≡ false → reads.new.items ≡ reads.old.items ++ buffer.old.words) }
+    ensures within { IfOk result (λ over. over ≡ false → vec_len reads.new ≤ 16777216) }
+    ensures cleared { IfOk result (λ over. over ≡ false → buffer.new ≡ record buffer.old { words = [] }) }
+    ensures over { IfOk result (λ over. over ≡ true → 16777216 < vec_len reads.old + length buffer.old.words) }
+{
+    if buffer.words().len() > READS_LIMIT - reads.len() {
+        return Ok(true);
+    }
+    match reads.extend_from_slice(buffer.words()) {
+        Ok(()) => (),
+        Err(_) => return Err(NoMemory),
+    }
+    buffer.clear();
+    Ok(false)
+}
+
+/// Feeds the bytes of a piece to a device, up to one that stops it, gathers the words that it reads out, and says whether
+/// they are over the limit.
+fn feed(
+    device: &mut Device,
+    buffer: &mut ReadBuf,
+    reads: &mut Vec<u32>,
+    piece: &[u8],
+) -> Result<bool, NoMemory>
+    requires { MayPlayBy false device.old buffer.old reads.old.items (length piece.now) }
+    ensures { IfOk result (λ over. (part : PartData) (bytes : List ℕ) → HasPlayedBy false part bytes device.old buffer.old reads.old.items
+        → HasPlayedBy over part (bytes ++ piece.now) device.new buffer.new reads.new.items) }
+{
+    let mut at = 0;
+    'feeds: loop {
+        let fed = device.feed(&piece[at..], buffer);
+        match gather(buffer, reads) {
+            Ok(false) => (),
+            Ok(true) => return Ok(true),
+            Err(NoMemory) => return Err(NoMemory),
+        }
+        match fed {
+            Fed::ReadFull(count) => at += count,
+            _ => return Ok(false),
+        }
+    }
+}
+
+/// A device on the bench, and the words that it read out, up to their limit.
+#[derive(Drop)]
+pub struct Player {
+    /// The device.
+    pub device: Device,
+    /// Room for words that it reads out, which are moved behind each piece.
+    pub buffer: ReadBuf,
+    /// The words that it read out.
+    pub reads: Vec<u32>,
+    /// Whether more words were read out than their limit: nothing more is played.
+    pub over: bool,
+}
+
+impl Player {
+    /// A new device of the part.
+    pub fn new(alloc: Global, part: &Part) -> Result<Player, NoMemory>
+        ensures { IfOk result (λ player. HasPlayed part.now [] player) }
+    {
+        Ok(Player {
+            device: Device::new(alloc, part)?,
+            buffer: ReadBuf::new(alloc, READS_ROOM)?,
+            reads: Vec::new(alloc),
+            over: false,
+        })
+    }
+
+    /// Plays the bytes of a piece, up to one that stops the device. Where more words than the limit were read out, nothing
+    /// more is played.
+    pub fn play(&mut self, piece: &[u8]) -> Result<(), NoMemory>
+        requires { MayPlay self.old (length piece.now) }
+        ensures { OnOk result (PlaysOn self.old self.new piece.now) }
+    {
+        if self.over {
+            return Ok(());
+        }
+        match feed(&mut self.device, &mut self.buffer, &mut self.reads, piece) {
+            Ok(over) => {
+                self.over = over;
+                Ok(())
+            }
+            Err(NoMemory) => Err(NoMemory),
+        }
+    }
+
+    /// The device.
+    pub fn device(&self) -> &Device
+        ensures { result.now ≡ self.now.device }
+    {
+        &self.device
+    }
+
+    /// The text of the play, ready to be written, or that too many words were read out.
+    pub(crate) fn text<'w>(self, alloc: Global) -> Result<PlayText, Refusal<'w>>
+        ensures ok { IfOk result (λ text. (part : PartData) (bytes : List ℕ) → HasPlayed part bytes self → reported part bytes ≡ Ok (text_of_play text)) }
+        ensures err { IfErr result (λ r. (event_of r ≡ no_memory) ⊎ ((event_of r ≡ too_many_reads) × ((part : PartData) (bytes : List ℕ) → HasPlayed part bytes self → reported part bytes ≡ Err too_many_reads))) }
+    {
+        if self.over {
+            return Err(Refusal {
+                reason: Why::TooLarge,
+                name: "reads",
+            });
+        }
+        let stopped = self.device.fault().is_some();
+        match PlayText::new(alloc, self.device, &self.reads, stopped) {
+            Ok(text) => Ok(text),
+            Err(_) => Err(Refusal::unnamed(Why::NoMemory)),
+        }
+    }
+}

@@ -1,0 +1,196 @@
+//! The command `play`.
+ghost use Rattle.std.specs.Prelude.{◌≡◌, ℕ, List, [], ◌∷◌, ◌++◌, ◌+◌, ◌<◌, ◌≤◌, ◌⊎◌, true, length, map, string_bytes, Ok, Err, IfErr, IfOk};
+ghost use Rattle.x7_words.specs.Input.{AtEnd};
+ghost use Rattle.x7_forms.specs.Message.{event_of};
+ghost use Rattle.x7_forms.specs.Event.{no_memory};
+ghost use Rattle.x7_forms.specs.Known.{data_of, part_of as part_due, played, read_of, stream_limit};
+ghost use Rattle.x7_forms.specs.Play.{HasPlayed, MayPlay, PlaysOn, part_event, text_of_play};
+ghost use Rattle.x7_forms.specs.Turn.{ReadsRest, UnreadRest};
+ghost use Rattle.x7_forms.specs.Step.{AnswersAs, seen};
+
+use crate::play_text::PlayText;
+use crate::player::Player;
+use crate::read::{STREAM_LIMIT, data_start, next_turn, open, read_whole, skip_rest};
+use crate::refusal::{Refusal, Why};
+use std::alloc::Global;
+use x7_part::{Part, PartFault, part_of};
+use x7_words::Inputs;
+
+/// The most bytes of a part file.
+const PART_LIMIT: usize = 1_048_576;
+
+/// How many bytes one turn of a stream reads: no fewer than the longest header has, so that the first turn judges it.
+const TURN: usize = 266_240;
+
+/// Why there is no part of the part file of this name.
+fn refusal_of<'w>(name: &'w str, fault: PartFault) -> Refusal<'w>
+    ensures { event_of result ≡ part_event name.now fault }
+{
+    match fault {
+        PartFault::NoMemory => Refusal::unnamed(Why::NoMemory),
+        _ => Refusal {
+            reason: Why::BadPart(fault),
+            name,
+        },
+    }
+}
+
+/// The part of a part file.
+pub fn read_part<'w, I: Inputs>(
+    alloc: Global,
+    inputs: &mut I,
+    name: &'w str,
+) -> Result<Part, Refusal<'w>>
+    ensures due { AnswersAs (name.now ∷ []) (I.contents inputs.old) (I.faults inputs.old) (I.faults inputs.new) (I.absences inputs.old) (I.absences inputs.new)
+        (λ known. part_due known name.now) (seen (λ part. part) result) }
+    ensures map { I.contents inputs.new ≡ I.contents inputs.old }
+    ensures faults { I.faults inputs.old ≤ I.faults inputs.new }
+    ensures absences { I.absences inputs.old ≤ I.absences inputs.new }
+{
+    let text = match read_whole(alloc, inputs, name, PART_LIMIT) {
+        Ok(text) => text,
+        Err(refusal) => return Err(refusal),
+    };
+    match part_of(alloc, &text) {
+        Ok(part) => Ok(part),
+        Err(fault) => Err(refusal_of(name, fault)),
+    }
+}
+
+/// Plays what is left of the open stream, of which this many bytes are within the limit, and none is left behind the last
+/// turn. It answers how many are left of the limit.
+fn play_rest<'w, I: Inputs>(
+    player: &mut Player,
+    inputs: &mut I,
+    name: &'w str,
+    limit: usize,
+    last: bool,
+    piece: &mut [u8],
+) -> Result<usize, Refusal<'w>>
+    requires selected { I.selected inputs.old ≡ true }
+    requires buffer { length piece.old ≡ 266240 }
+    requires end { last ≡ true → AtEnd (I.rest inputs.old) }
+    requires may { MayPlay player.old limit }
+    ensures ok { IfOk result (λ left. (more : List ℕ) × (length more + left ≡ limit) × PlaysOn player.old player.new more × ReadsRest (I.rest inputs.old) (I.rest inputs.new) more) }
+    ensures err { IfErr result (λ r. (event_of r ≡ no_memory) ⊎ UnreadRest (I.rest inputs.old) name.now limit (I.faults inputs.old) (I.faults inputs.new) (event_of r)) }
+    ensures length { length piece.new ≡ length piece.old }
+    ensures map { I.contents inputs.new ≡ I.contents inputs.old }
+    ensures faults { I.faults inputs.old ≤ I.faults inputs.new }
+    ensures absences { I.absences inputs.old ≤ I.absences inputs.new }
+{
+    if last {
+        return Ok(limit);
+    }
+    let mut left = limit;
+    loop {
+        let turn = match next_turn(inputs, name, left, piece) {
+            Ok(turn) => turn,
+            Err(refusal) => return Err(refusal),
+        };
+        if player.play(&piece[..turn.count]).is_err() {
+            return Err(Refusal::unnamed(Why::NoMemory));
+        }
+        left -= turn.count;
+        if turn.last {
+            return Ok(left);
+        }
+    }
+}
+
+/// Plays the data of a stream of at most so many bytes, and answers how many are left of the limit. The limit comes before the
+/// header, so a stream with a bad one is read to its end too.
+fn play_stream<'w, I: Inputs>(
+    player: &mut Player,
+    inputs: &mut I,
+    name: &'w str,
+    limit: usize,
+    piece: &mut [u8],
+) -> Result<usize, Refusal<'w>>
+    requires buffer { length piece.old ≡ 266240 }
+    requires may { MayPlay player.old limit }
+    ensures ok { IfOk result (λ left. (bytes : List ℕ) × (length bytes + left ≤ limit) × PlaysOn player.old player.new bytes
+        × (AnswersAs (name.now ∷ []) (I.contents inputs.old) (I.faults inputs.old) (I.faults inputs.new) (I.absences inputs.old) (I.absences inputs.new)
+        (λ known. read_of known limit name.now) (Ok (record { bytes = bytes; room = left })))) }
+    ensures err { IfErr result (λ r. AnswersAs (name.now ∷ []) (I.contents inputs.old) (I.faults inputs.old) (I.faults inputs.new) (I.absences inputs.old) (I.absences inputs.new)
+        (λ known. read_of known limit name.now) (Err (event_of r))) }
+    ensures length { length piece.new ≡ length piece.old }
+    ensures map { I.contents inputs.new ≡ I.contents inputs.old }
+    ensures faults { I.faults inputs.old ≤ I.faults inputs.new }
+    ensures absences { I.absences inputs.old ≤ I.absences inputs.new }
+{
+    match open(inputs, name) {
+        Ok(()) => (),
+        Err(refusal) => return Err(refusal),
+    }
+    let first = match next_turn(inputs, name, limit, piece) {
+        Ok(turn) => turn,
+        Err(refusal) => return Err(refusal),
+    };
+    let left = limit - first.count;
+    match data_start(name, &piece[..first.count]) {
+        Ok(start) => {
+            if player.play(&piece[start..first.count]).is_err() {
+                return Err(Refusal::unnamed(Why::NoMemory));
+            }
+            play_rest(player, inputs, name, left, first.last, piece)
+        }
+        Err(refusal) => match skip_rest(inputs, name, left, first.last, piece) {
+            Ok(()) => Err(refusal),
+            Err(earlier) => Err(earlier),
+        },
+    }
+}
+
+/// Plays the data of streams on a new device of the part, one after the other. The streams are within the limit together,
+/// headers included.
+fn play_streams<'w, I: Inputs>(
+    alloc: Global,
+    part: &Part,
+    inputs: &mut I,
+    streams: &'w [String],
+) -> Result<Player, Refusal<'w>>
+    ensures ok { IfOk result (λ player. (bytes : List ℕ) × HasPlayed part.now bytes player
+        × (AnswersAs (map string_bytes streams.now) (I.contents inputs.old) (I.faults inputs.old) (I.faults inputs.new) (I.absences inputs.old) (I.absences inputs.new)
+        (λ known. data_of known stream_limit (map string_bytes streams.now)) (Ok bytes))) }
+    ensures err { IfErr result (λ r. AnswersAs (map string_bytes streams.now) (I.contents inputs.old) (I.faults inputs.old) (I.faults inputs.new) (I.absences inputs.old) (I.absences inputs.new)
+        (λ known. data_of known stream_limit (map string_bytes streams.now)) (Err (event_of r))) }
+    ensures map { I.contents inputs.new ≡ I.contents inputs.old }
+    ensures faults { I.faults inputs.old ≤ I.faults inputs.new }
+    ensures absences { I.absences inputs.old ≤ I.absences inputs.new }
+{
+    let Ok(mut player) = Player::new(alloc, part) else {
+        return Err(Refusal::unnamed(Why::NoMemory));
+    };
+    let Ok(mut piece) = vec![in alloc; 0u8; TURN] else {
+        return Err(Refusal::unnamed(Why::NoMemory));
+    };
+    let mut left = STREAM_LIMIT;
+    for name in streams {
+        left = match play_stream(&mut player, inputs, name.as_str(), left, &mut piece) {
+            Ok(left) => left,
+            Err(refusal) => return Err(refusal),
+        };
+    }
+    Ok(player)
+}
+
+/// The text of `play PART STREAM..`: the inputs are read in the order of the words, and the streams' data are played as
+/// one stream while they are read.
+pub fn play<'w, I: Inputs>(
+    alloc: Global,
+    inputs: &mut I,
+    part: &'w str,
+    streams: &'w [String],
+) -> Result<PlayText, Refusal<'w>>
+    ensures { AnswersAs (part.now ∷ map string_bytes streams.now) (I.contents inputs.old) (I.faults inputs.old) (I.faults inputs.new) (I.absences inputs.old) (I.absences inputs.new)
+        (λ known. played known part.now (map string_bytes streams.now)) (seen text_of_play result) }
+{
+    let part = match read_part(alloc, inputs, part) {
+        Ok(part) => part,
+        Err(refusal) => return Err(refusal),
+    };
+    match play_streams(alloc, &part, inputs, streams) {
+        Ok(player) => player.text(alloc),
+        Err(refusal) => Err(refusal),
+    }
+}

@@ -1,0 +1,247 @@
+//! Reading an input in turns.
+ghost use Rattle.std.specs.Prelude.{◌≡◌, ◌+◌, ◌-◌, ◌<◌, ◌≤◌, ◌∷◌, [], ℕ, List, drop, length, map, string_bytes, take, true, false, vec_len, IfErr, IfOk, OnOk};
+ghost use Rattle.x7_words.specs.Count.{HasRisen};
+ghost use Rattle.x7_words.specs.Input.{AtEnd, Selects, preceded};
+ghost use Rattle.x7_words.specs.Word.{AreBytes};
+ghost use Rattle.x7_forms.specs.Message.{event_of};
+ghost use Rattle.x7_forms.specs.Event.{read_fault};
+ghost use Rattle.x7_forms.specs.Known.{data_in, put_before, whole_in};
+ghost use Rattle.x7_forms.specs.Turn.{ReadsRest, Unopened, Unread, UnreadRest};
+ghost use Rattle.x7_forms.specs.Step.{AnswersAs, seen};
+
+use crate::bad_input::InputFault;
+use crate::refusal::{Refusal, Why};
+use std::alloc::Global;
+use x7_header::{HeaderFault, header_of};
+use x7_words::{Inputs, SelectFault};
+
+/// The most bytes of a stream, and of all streams of one command together.
+pub const STREAM_LIMIT: usize = 67_108_864;
+
+/// The most bytes of a text that stands for bytes.
+pub const TEXT_LIMIT: usize = 536_870_912;
+
+/// How many bytes one turn of a whole input or of a listing reads.
+pub const TURN: usize = 65_536;
+
+/// How many bytes a turn asks for, where this many are still within the limit and the buffer holds so many: one more than
+/// within the limit at most.
+fn turn_len(left: usize, room: usize) -> usize
+    ensures some { 0 < room → 0 < result }
+    ensures within { result ≤ room }
+    ensures over { result ≤ left + 1 }
+    ensures full { room ≤ left → result ≡ room }
+    ensures short { left < room → result ≡ left + 1 }
+{
+    if left < room { left + 1 } else { room }
+}
+
+/// Fills the buffer with the next bytes of the selected input, and answers how many there were:
+/// fewer than it holds only where the input ended.
+fn fill<'w, I: Inputs>(inputs: &mut I, name: &'w str, buf: &mut [u8]) -> Result<usize, Refusal<'w>>
+    requires { I.selected inputs.old ≡ true }
+    ensures selected { OnOk result (I.selected inputs.new ≡ true) }
+    ensures within { IfOk result (λ n. n ≤ length buf.old) }
+    ensures taken { IfOk result (λ n. I.rest inputs.old ≡ preceded (take n buf.new) (I.rest inputs.new)) }
+    ensures end { IfOk result (λ n. n < length buf.old → AtEnd (I.rest inputs.new)) }
+    ensures length { length buf.new ≡ length buf.old }
+    ensures failed { IfErr result (λ r. (event_of r ≡ read_fault name.now) × HasRisen (I.faults inputs.old) (I.faults inputs.new)) }
+    ensures map { I.contents inputs.new ≡ I.contents inputs.old }
+    ensures faults { I.faults inputs.old ≤ I.faults inputs.new }
+    ensures absences { I.absences inputs.old ≤ I.absences inputs.new }
+{
+    let mut at = 0;
+    while at < buf.len() {
+        let count = match inputs.read(&mut buf[at..]) {
+            Ok(count) => count,
+            Err(_) => return Err(Refusal {
+                reason: Why::ReadFault,
+                name,
+            }),
+        };
+        if count == 0 {
+            return Ok(at);
+        }
+        at += count;
+    }
+    Ok(at)
+}
+
+/// Opens an input, of which nothing is read yet.
+pub fn open<'w, I: Inputs>(inputs: &mut I, name: &'w str) -> Result<(), Refusal<'w>>
+    ensures selected { OnOk result (I.selected inputs.new ≡ true) }
+    ensures found { OnOk result (Selects (I.contents inputs.old) name.now (I.rest inputs.new)) }
+    ensures err { IfErr result (λ r. Unopened (I.contents inputs.old) name.now (I.faults inputs.old) (I.faults inputs.new) (I.absences inputs.old) (I.absences inputs.new) (event_of r)) }
+    ensures map { I.contents inputs.new ≡ I.contents inputs.old }
+    ensures faults { I.faults inputs.old ≤ I.faults inputs.new }
+    ensures absences { I.absences inputs.old ≤ I.absences inputs.new }
+{
+    match inputs.select(name) {
+        Ok(()) => Ok(()),
+        Err(SelectFault::Missing) => Err(Refusal {
+            reason: Why::Missing,
+            name,
+        }),
+        Err(SelectFault::Failed) => Err(Refusal {
+            reason: Why::ReadFault,
+            name,
+        }),
+    }
+}
+
+/// What a turn read: how many bytes stand at the start of the buffer, and whether the input ends after them.
+#[derive(Clone, Copy, Drop)]
+pub struct Turn {
+    /// How many bytes were read.
+    pub count: usize,
+    /// Whether the input ends after them.
+    pub last: bool,
+}
+
+/// Reads the next turn of the open input, of which this many bytes more are within the limit.
+pub fn next_turn<'w, I: Inputs>(
+    inputs: &mut I,
+    name: &'w str,
+    left: usize,
+    buf: &mut [u8],
+) -> Result<Turn, Refusal<'w>>
+    requires selected { I.selected inputs.old ≡ true }
+    requires some { 0 < length buf.old }
+    ensures selected { OnOk result (I.selected inputs.new ≡ true) }
+    ensures within { IfOk result (λ turn. (turn.count ≤ left) × (turn.count ≤ length buf.old)) }
+    ensures goes { IfOk result (λ turn. turn.last ≡ false → turn.count ≡ length buf.old) }
+    ensures taken { IfOk result (λ turn. I.rest inputs.old ≡ preceded (take turn.count buf.new) (I.rest inputs.new)) }
+    ensures end { IfOk result (λ turn. turn.last ≡ true → AtEnd (I.rest inputs.new)) }
+    ensures length { length buf.new ≡ length buf.old }
+    ensures err { IfErr result (λ r. Unread (I.rest inputs.old) (I.rest inputs.new) name.now left (length buf.old) (I.faults inputs.old) (I.faults inputs.new) (event_of r)) }
+    ensures map { I.contents inputs.new ≡ I.contents inputs.old }
+    ensures faults { I.faults inputs.old ≤ I.faults inputs.new }
+    ensures absences { I.absences inputs.old ≤ I.absences inputs.new }
+{
+    let most = turn_len(left, buf.len());
+    let count = match fill(inputs, name, &mut buf[..most]) {
+        Ok(count) => count,
+        Err(refusal) => return Err(refusal),
+    };
+    if count > left {
+        return Err(Refusal {
+            reason: Why::TooLarge,
+            name,
+        });
+    }
+    Ok(Turn {
+        count,
+        last: count < most,
+    })
+}
+
+/// Appends all bytes of an input that has at most so many. Of a larger one at most one byte more than the limit is read.
+pub(crate) fn read_onto<'w, I: Inputs>(
+    inputs: &mut I,
+    name: &'w str,
+    limit: usize,
+    onto: &mut Vec<u8>,
+) -> Result<(), Refusal<'w>>
+    ensures due { AnswersAs (name.now ∷ []) (I.contents inputs.old) (I.faults inputs.old) (I.faults inputs.new) (I.absences inputs.old) (I.absences inputs.new)
+        (λ known. put_before onto.old.items (whole_in known limit name.now)) (seen (λ _. onto.new.items) result) }
+    ensures within { OnOk result (vec_len onto.new ≤ vec_len onto.old + limit) }
+    ensures longer { OnOk result (vec_len onto.old ≤ vec_len onto.new) }
+    ensures map { I.contents inputs.new ≡ I.contents inputs.old }
+    ensures faults { I.faults inputs.old ≤ I.faults inputs.new }
+    ensures absences { I.absences inputs.old ≤ I.absences inputs.new }
+{
+    match open(inputs, name) {
+        Ok(()) => (),
+        Err(refusal) => return Err(refusal),
+    }
+    let mut piece = [0u8; TURN];
+    let mut left = limit;
+    loop {
+        let turn = match next_turn(inputs, name, left, &mut piece) {
+            Ok(turn) => turn,
+            Err(refusal) => return Err(refusal),
+        };
+        match onto.extend_from_slice(&piece[..turn.count]) {
+            Ok(()) => (),
+            Err(_) => return Err(Refusal::unnamed(Why::NoMemory)),
+        }
+        left -= turn.count;
+        if turn.last {
+            return Ok(());
+        }
+    }
+}
+
+/// All bytes of an input that has at most so many.
+pub fn read_whole<'w, I: Inputs>(
+    alloc: Global,
+    inputs: &mut I,
+    name: &'w str,
+    limit: usize,
+) -> Result<Vec<u8>, Refusal<'w>>
+    ensures due { AnswersAs (name.now ∷ []) (I.contents inputs.old) (I.faults inputs.old) (I.faults inputs.new) (I.absences inputs.old) (I.absences inputs.new)
+        (λ known. whole_in known limit name.now) (seen (λ whole. whole.items) result) }
+    ensures within { IfOk result (λ whole. vec_len whole ≤ limit) }
+    ensures map { I.contents inputs.new ≡ I.contents inputs.old }
+    ensures faults { I.faults inputs.old ≤ I.faults inputs.new }
+    ensures absences { I.absences inputs.old ≤ I.absences inputs.new }
+{
+    let mut whole = Vec::new(alloc);
+    match read_onto(inputs, name, limit, &mut whole) {
+        Ok(()) => Ok(whole),
+        Err(refusal) => Err(refusal),
+    }
+}
+
+/// Reads to its end what is left of the open input, of which this many bytes are within the limit, and none is left behind
+/// the last turn.
+pub(crate) fn skip_rest<'w, I: Inputs>(
+    inputs: &mut I,
+    name: &'w str,
+    limit: usize,
+    last: bool,
+    buf: &mut [u8],
+) -> Result<(), Refusal<'w>>
+    requires selected { I.selected inputs.old ≡ true }
+    requires some { 0 < length buf.old }
+    requires end { last ≡ true → AtEnd (I.rest inputs.old) }
+    ensures ok { OnOk result ((more : List ℕ) × (length more ≤ limit) × ReadsRest (I.rest inputs.old) (I.rest inputs.new) more) }
+    ensures err { IfErr result (λ r. UnreadRest (I.rest inputs.old) name.now limit (I.faults inputs.old) (I.faults inputs.new) (event_of r)) }
+    ensures length { length buf.new ≡ length buf.old }
+    ensures map { I.contents inputs.new ≡ I.contents inputs.old }
+    ensures faults { I.faults inputs.old ≤ I.faults inputs.new }
+    ensures absences { I.absences inputs.old ≤ I.absences inputs.new }
+{
+    if last {
+        return Ok(());
+    }
+    let mut left = limit;
+    loop {
+        let turn = match next_turn(inputs, name, left, buf) {
+            Ok(turn) => turn,
+            Err(refusal) => return Err(refusal),
+        };
+        left -= turn.count;
+        if turn.last {
+            return Ok(());
+        }
+    }
+}
+
+/// Where the data of a stream begin: after its header, or at its first byte where it has none.
+pub fn data_start<'w>(name: &'w str, bytes: &[u8]) -> Result<usize, Refusal<'w>>
+    ensures data { seen (λ start. drop start bytes.now) result ≡ data_in name.now bytes.now }
+    ensures within { IfOk result (λ start. start ≤ length bytes.now) }
+    ensures fits { AreBytes bytes.now }
+{
+    let place = match header_of(bytes) {
+        Ok(head) => return Ok(head.size),
+        Err(HeaderFault::Raw) => return Ok(0),
+        Err(HeaderFault::Cut(place)) => place,
+        Err(HeaderFault::Field(place)) => place,
+    };
+    Err(Refusal {
+        reason: Why::BadInput(InputFault::Byte(place as u64)),
+        name,
+    })
+}

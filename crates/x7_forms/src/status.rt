@@ -1,0 +1,60 @@
+//! How a run ends.
+ghost use Rattle.std.specs.Prelude.{◌≡◌};
+
+/// How a run ended. The program ends with its number.
+#[derive(Clone, Copy, Debug, Drop, PartialEq, Eq)]
+pub enum Status {
+    /// The whole text was written.
+    Done,
+    /// The whole text was written, and what it reports stopped at a fault.
+    Stopped,
+    /// The words have no form.
+    Usage,
+    /// An input that is named isn't there.
+    Missing,
+    /// A part file was refused.
+    BadPart,
+    /// An input has no reading.
+    BadInput,
+    /// An input failed at selecting or reading.
+    ReadFault,
+    /// The output failed.
+    WriteFault,
+    /// There was no memory.
+    NoMemory,
+    /// An input has more bytes than its limit, or too many words were read out.
+    TooLarge,
+}
+
+impl Status {
+    ghost use Rattle.x7_forms.specs.Message.{number_of, text_status};
+
+    /// The status after a whole text, by whether what it reports stopped at a fault.
+    pub fn of_text(stopped: bool) -> Status
+        ensures { result ≡ text_status stopped }
+    {
+        if stopped {
+            Status::Stopped
+        } else {
+            Status::Done
+        }
+    }
+
+    /// The number that the program ends with.
+    pub fn number(self) -> u8
+        ensures { result ≡ number_of self }
+    {
+        match self {
+            Status::Done => 0,
+            Status::Stopped => 1,
+            Status::Usage => 2,
+            Status::Missing => 3,
+            Status::BadPart => 4,
+            Status::BadInput => 5,
+            Status::ReadFault => 6,
+            Status::WriteFault => 7,
+            Status::NoMemory => 8,
+            Status::TooLarge => 9,
+        }
+    }
+}

@@ -1,4 +1,0 @@
-use Rattle.x7_tool.proofs.bad_input.say_at.Goals as goal
-
-pub returns : goal.returns
-returns g c = rw (← c.as_bytes.ensures.value) c.write_pieces.ensures.tells

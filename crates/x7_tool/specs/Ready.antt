@@ -1,0 +1,13 @@
+-- What a text that is ready stands for.
+use Rattle.std.specs.Prelude.{ℕ, List, false}
+use Rattle.x7_mcs.specs.Text.{mcs_text}
+use Rattle.x7_forms.specs.Known.{Answer}
+use Rattle.x7_tool.specs.declared.text.Text.{Text}
+
+-- a whole text as its answer
+abbrev pub whole_of : Text → Answer
+whole_of t = record { stopped = t.stopped; text = t.text.items }
+
+-- the text of a flash image as its answer
+abbrev pub text_of_image : List ℕ → Answer
+text_of_image image = record { stopped = false; text = mcs_text image }

@@ -1,0 +1,30 @@
+-- What stands between two turns: of a listing that is written, and of a text that is assembled.
+use Rattle.std.specs.Prelude.{◌≡◌, ◌≤◌, ◌⊎◌, ◌++◌, ℕ, List, [], Option, None, Some, Ok, Err, length, ◌+◌}
+use Rattle.x7_words.specs.Sink.{appended}
+use Rattle.x7_listing.specs.Assembly.{IsAsm}
+use Rattle.x7_listing.specs.Assembling.{AssemblerStandsFor, AssemblerState}
+use Rattle.x7_listing.specs.declared.assembler.AsmFault.{AsmFault}
+use Rattle.x7_listing.specs.declared.assembler.AsmFault.TheVariants as fault
+use Rattle.x7_listing.specs.Listing.{listing_of}
+use Rattle.x7_listing.specs.StreamListing.{stream_listing}
+use Rattle.x7_listing.specs.Telling.{ListerState, ListerStandsFor}
+
+-- What was put after the first bytes is the listing so far of these bytes, and the lister keeps no text of it.
+pub record Lists (l : ListerState) (first now : Option (List ℕ)) (bytes : List ℕ) : Type 0 where
+  pub given : List ℕ
+  pub stands : ListerStandsFor l given [] bytes
+  pub put : now ≡ appended first given
+  pub clear : l.text ≡ []
+
+-- What was put after the first bytes is so far the listing of each stream that begins with these bytes: a header's line or nothing, and the listing of the data.
+pub record ListsStream (l : ListerState) (first now : Option (List ℕ)) (bytes : List ℕ) : Type 0 where
+  pub line : List ℕ
+  pub sent : List ℕ
+  pub lists : Lists l (appended first line) now sent
+  pub goes : (rest : List ℕ) → stream_listing (bytes ++ rest) ≡ Ok (line ++ listing_of (sent ++ rest))
+  pub close : length bytes ≤ length sent + 327706
+
+-- an assembler was fed this text, or a first part of it, in which it found this fault
+abbrev pub IsFed : Option AsmFault → AssemblerState → List ℕ → Type 0
+IsFed None a text = AssemblerStandsFor a text
+IsFed (Some f) a text = (f ≡ fault.NoMemory) ⊎ ((more : List ℕ) → IsAsm (text ++ more) (Err f))
