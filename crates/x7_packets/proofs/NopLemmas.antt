@@ -7,11 +7,11 @@ use Rattle.x7_words.specs.Word.{AreBytes, bytes_of_word, word_of_bytes, words_of
 use Rattle.x7_words.proofs.ListLemmas.{all-append, all_take}
 use Rattle.x7_words.proofs.WordLemmas.{bytes-words}
 use Rattle.x7_packets.specs.SyncWord.{sync_bytes}
-use Rattle.x7_packets.specs.declared.header.Step.TheVariants.{Nop}
+use Rattle.x7_packets.specs.declared.header.Step.TheVariants.{Filler, Nop}
 use Rattle.x7_packets.specs.declared.cutter.Mode.TheVariants as mode
 use Rattle.x7_packets.specs.Cutting.{AtPlace, CutterState, CutterStandsFor}
 use Rattle.x7_packets.specs.History.{history}
-use Rattle.x7_packets.specs.Nops.{Idles, nop_bytes, nop_word}
+use Rattle.x7_packets.specs.Nops.{Idles, equal_bytes, nop_bytes, nop_word}
 use Rattle.x7_packets.specs.Packet.{Packet}
 use Rattle.x7_packets.specs.Reading.{Place, Searching, Session, Synced, packet_bytes, session_bytes}
 use Rattle.x7_packets.specs.Taking.{Grows, MachineStandsFor, MachineState}
@@ -37,15 +37,15 @@ words_by_chunks (suc n) (a ∷ b ∷ c ∷ d ∷ bs) h = ap (λ x. word_of_bytes
 pub chunk_count : (bytes : List ℕ) (chunks : List (List ℕ)) → chunks ≡ first_chunks 4 (length bytes / 4) bytes → length chunks ≡ length (words_of_bytes bytes)
 chunk_count bytes chunks e = sym (ap length (words_by_chunks (length bytes / 4) bytes refl ∙ ap (map word_of_bytes) (sym e)) ∙ length-map chunks word_of_bytes)
 
-pub chunk_more : (bytes : List ℕ) (chunks : List (List ℕ)) (i w : ℕ) → chunks ≡ first_chunks 4 (length bytes / 4) bytes → i < length chunks → w ≡ word_of_bytes (get_or chunks i []) → w ≡ nop_word
-    → take i (words_of_bytes bytes) ≡ replicate i nop_word → take (i + 1) (words_of_bytes bytes) ≡ replicate (i + 1) nop_word
-chunk_more bytes chunks i w e l f n s =
+pub chunk_more : (bytes : List ℕ) (chunks : List (List ℕ)) (i w x : ℕ) → chunks ≡ first_chunks 4 (length bytes / 4) bytes → i < length chunks → w ≡ word_of_bytes (get_or chunks i []) → w ≡ x
+    → take i (words_of_bytes bytes) ≡ replicate i x → take (i + 1) (words_of_bytes bytes) ≡ replicate (i + 1) x
+chunk_more bytes chunks i w x e l f n s =
     let words : words_of_bytes bytes ≡ map word_of_bytes chunks = words_by_chunks (length bytes / 4) bytes refl ∙ ap (map word_of_bytes) (sym e) in
     let within : i < length (words_of_bytes bytes) = omega (arith, l, chunk_count bytes chunks e) in
     take_more (words_of_bytes bytes) i 0 within
-    ∙ ap (λ (x : ℕ). take i (words_of_bytes bytes) ++ x ∷ []) (ap (λ t. get_or t i 0) words ∙ get_or-map word_of_bytes chunks i [] 0 l ∙ sym f ∙ n)
-    ∙ ap (λ t. t ++ nop_word ∷ []) s
-    ∙ replicate-append-replicate i 1 nop_word
+    ∙ ap (λ (y : ℕ). take i (words_of_bytes bytes) ++ y ∷ []) (ap (λ t. get_or t i 0) words ∙ get_or-map word_of_bytes chunks i [] 0 l ∙ sym f ∙ n)
+    ∙ ap (λ t. t ++ x ∷ []) s
+    ∙ replicate-append-replicate i 1 x
 
 -- ---- the first words of bytes, and their bytes
 
@@ -67,8 +67,8 @@ words_count (a ∷ b ∷ []) = omega arith
 words_count (a ∷ b ∷ c ∷ []) = omega arith
 words_count (a ∷ b ∷ c ∷ d ∷ bs) = let rest : 4 * length (words_of_bytes bs) ≤ length bs = words_count bs in omega (arith, rest)
 
-pub nops_taken : (k : ℕ) (bytes : List ℕ) → AreBytes bytes → 4 * k ≤ length bytes → take k (words_of_bytes bytes) ≡ replicate k nop_word → take (4 * k) bytes ≡ nop_bytes k
-nops_taken k bytes fits l e =
+pub equal_taken : (k w : ℕ) (bytes : List ℕ) → AreBytes bytes → 4 * k ≤ length bytes → take k (words_of_bytes bytes) ≡ replicate k w → take (4 * k) bytes ≡ equal_bytes w k
+equal_taken k w bytes fits l e =
     let front : List ℕ = take (4 * k) bytes in
     let count : length front ≡ 4 * k = length-take-le (4 * k) bytes l in
     sym (bytes-words front k (all_take (λ b. b < 256) (4 * k) bytes fits) count) ∙ ap (flat_map bytes_of_word) (words_taken k bytes l ∙ e)
@@ -78,6 +78,10 @@ nops_taken k bytes fits l e =
 pub nop_grows : (m : MachineState) (ps : List Packet) → m.due ≡ 0 → MachineStandsFor m ps → Grows ps ((nop_word, Nop) ∷ []) m
 nop_grows m ps none (inl a) = header_whole m m ps nop_word Nop (omega arith) a refl refl refl none
 nop_grows m ps none (inr a) = absurd (omega (arith, none, a.more))
+
+pub zero_grows : (m : MachineState) (ps : List Packet) → m.due ≡ 0 → MachineStandsFor m ps → Grows ps ((0, Filler) ∷ []) m
+zero_grows m ps none (inl a) = header_whole m m ps 0 Filler (omega arith) a refl refl refl none
+zero_grows m ps none (inr a) = absurd (omega (arith, none, a.more))
 
 -- ---- a cutter
 

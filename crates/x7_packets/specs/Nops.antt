@@ -1,4 +1,4 @@
--- No-ops in a row (UG470, packet types): they enter no access, and leave a cutter as it is.
+-- Equal words in a row that ask nothing: no-ops, and zero words (UG470, packet types). They enter no access, and leave a cutter as it is.
 use Rattle.std.specs.Prelude.{◌≡◌, ℕ, List, replicate}
 use Rattle.std.specs.List.{flat_map}
 use Rattle.x7_words.specs.Word.{bytes_of_word}
@@ -6,13 +6,17 @@ use Rattle.x7_packets.specs.Cutting.{CutterState, CutterStandsFor}
 use Rattle.x7_packets.specs.History.{history}
 use Rattle.x7_packets.specs.Reading.{Place, Session}
 
+-- the bytes of a word so many times
+abbrev pub equal_bytes : ℕ → ℕ → List ℕ
+equal_bytes w count = flat_map bytes_of_word (replicate count w)
+
 -- the no-op 20000000
 abbrev pub nop_word : ℕ
 nop_word = 0x20000000
 
 -- the bytes of so many
 abbrev pub nop_bytes : ℕ → List ℕ
-nop_bytes count = flat_map bytes_of_word (replicate count nop_word)
+nop_bytes count = equal_bytes nop_word count
 
 -- a cutter as it is stands for these bytes too, which have no access more
 pub record Idles (c : CutterState) (bytes : List ℕ) (sessions : List Session) (place : Place) : Type 0 where

@@ -4,7 +4,7 @@ ghost use Rattle.x7_words.specs.Word.{bytes_of_word};
 ghost use Rattle.x7_packets.specs.AtOnce.{EndsGap, Takes, WritesFew, WritesOne};
 ghost use Rattle.x7_packets.specs.Cutting.{between, calls_left, CompletesNone, Cuts, CutterStandsFor, Goes, IsBody, IsLent, IsNeed, IsOneWord, IsRun, run_bytes, syncs_due, Went};
 ghost use Rattle.x7_packets.specs.Matching.{IsClear};
-ghost use Rattle.x7_packets.specs.Nops.{Idles, nop_bytes, nop_word};
+ghost use Rattle.x7_packets.specs.Nops.{Idles, equal_bytes, nop_bytes, nop_word};
 ghost use Rattle.x7_packets.specs.Reading.{is_synced, Place, Session, tail_of};
 ghost use Rattle.x7_packets.specs.declared.cutter.Mode.TheVariants as mode;
 
@@ -12,7 +12,7 @@ mod copied;
 
 use crate::header::Step;
 use crate::machine::Machine;
-use crate::nops::count_nops;
+use crate::nops::count_equal;
 use crate::sync::{Matcher, near_sync};
 use std::marker::Model;
 use x7_words::word_of;
@@ -69,6 +69,9 @@ fn whole(kept: &[u8; 3], count: usize, missing: &[u8]) -> u32
     bytes[count..].copy_from_slice(missing);
     word_of(bytes)
 }
+
+/// The no-op.
+const NOP: u32 = 0x2000_0000;
 
 /// How many bytes must lie there for a short write to be taken at once: the longest one, a header and sixteen words.
 const LONGEST_WRITE: usize = 68;
@@ -156,7 +159,7 @@ impl Cutter {
         if !self.is_at_header() {
             return 0;
         }
-        4 * count_nops(rest)
+        4 * count_equal(rest, NOP)
     }
 
     /// How many of the words that come next are no-ops of a session, one after the other. To take each of them, as a word
@@ -170,7 +173,21 @@ impl Cutter {
         if !self.is_at_header() {
             return 0;
         }
-        count_nops(rest)
+        count_equal(rest, NOP)
+    }
+
+    /// How many of the words that come next are zero, one after the other, each in a header's place, where it asks nothing. To
+    /// take each of them leaves the cutter as it is.
+    #[inline(always)]
+    pub fn zero_count(&self, rest: &[u8]) -> usize
+        ensures within { 4 * result ≤ length rest.now }
+        ensures zeros { take (4 * result) rest.now ≡ equal_bytes 0 result }
+        ensures same { 0 < result → Takes self.now self.now (bytes_of_word 0) (Cut.Head 0 Step.Filler) }
+    {
+        if !self.is_at_header() {
+            return 0;
+        }
+        count_equal(rest, 0)
     }
 
     /// Takes the packet that comes next, where it lies whole in `rest` and is a write of one word, its header's reserved

@@ -6,5 +6,5 @@ use Rattle.x7_packets.proofs.cutter.Cutter.nops.Goals as goal
 pub returns-clause-idles : goal.returns-clause-idles
 returns-clause-idles c = λ bytes sessions place s.
     let here = c.if-not-is_at_header.ensures in
-    subst (λ (t : List ℕ). Idles c.args.self.now (bytes ++ t) sessions place) (sym c.count_nops.ensures.nops)
-    (idles_nops c.count_nops.result c.args.self.now bytes sessions place (here.mode refl) (here.kept refl) (here.due refl) s)
+    subst (λ (t : List ℕ). Idles c.args.self.now (bytes ++ t) sessions place) (sym c.count_equal.ensures.equal)
+    (idles_nops c.count_equal.result c.args.self.now bytes sessions place (here.mode refl) (here.kept refl) (here.due refl) s)

@@ -1,7 +1,0 @@
-use Rattle.std.proofs.Common.{◌≡◌, take, replicate}
-use Rattle.x7_words.specs.Word.{words_of_bytes}
-use Rattle.x7_packets.specs.Nops.{nop_word}
-use Rattle.x7_packets.proofs.nops.count_nops.Given as goal
-
-abbrev pub invariant-loop-i : goal.invariant-loop-i
-invariant-loop-i l = take l.i (words_of_bytes l.bytes) ≡ replicate l.i nop_word
