@@ -1,5 +1,6 @@
 -- Lemmas on specs/AtOnce, and what a lister stands for after what it tells at once.
 use Rattle.std.proofs.Common.{◌≡◌, ℕ, zero, suc, ◌+◌, ◌*◌, ◌/◌, ◌%◌, ◌^◌, ◌-◌, ◌<◌, ◌≤◌, ◌==◌, Bool, true, false, List, [], ◌∷◌, ◌++◌, codes, decimal, get_or, length, drop, take, take-add, take_all, length-drop, replicate, refl, ap, sym, subst, ◌∙◌, append_assoc, append-nil, arith, Bor, Vec}
+use Rattle.std.proofs.Math.Seq.{take-append-add}
 use Rattle.std.proofs.lemmas.Bool.Decides.{nat_tests}
 use Rattle.std.proofs.lemmas.Fmt.{decimal_digit, decimal_step}
 use Rattle.std.proofs.lemmas.List.{length-take-le, take-take}
@@ -10,18 +11,19 @@ use Rattle.x7_words.specs.Word.{bytes_of_word, words_of_bytes}
 use Rattle.x7_packets.specs.AtOnce.{EndsGap, short_head, Takes, write_head, WritesFew, WritesOne}
 use Rattle.x7_packets.specs.SyncWord.{sync_bytes}
 use Rattle.x7_packets.specs.Cutting.{CutterState, IsRun, Went}
-use Rattle.x7_packets.specs.Nops.{nop_bytes, nop_word}
+use Rattle.x7_packets.specs.Nops.{equal_bytes, nop_word}
 use Rattle.x7_packets.specs.Packet.{payload_steps, register_of}
 use Rattle.x7_packets.specs.declared.cutter.Cut.{Cut}
 use Rattle.x7_packets.specs.declared.cutter.Cut.TheVariants.{Body, Head, Skip, Sync, Word}
-use Rattle.x7_packets.specs.declared.header.Step.TheVariants.{Nop, Open}
+use Rattle.x7_packets.specs.declared.header.Step.{Step}
+use Rattle.x7_packets.specs.declared.header.Step.TheVariants.{Filler, Nop, Open}
 use Rattle.x7_text.specs.Appends.{Appends}
 use Rattle.x7_text.specs.Digits.{hex_byte, hex_word}
 use Rattle.x7_text.specs.Row.{bytes_text, close, in_line_after, open_text}
 use Rattle.x7_text.proofs.LineLemmas.{bytes_closed}
 use Rattle.x7_regs.specs.Register.{reg_name}
 use Rattle.x7_listing.specs.declared.line.HeadLine.TheVariants.{Write}
-use Rattle.x7_listing.specs.AtOnce.{AreRows, command_lines, nop_lines, row_text, write_line, write_name, write_start}
+use Rattle.x7_listing.specs.AtOnce.{AreRows, command_lines, equal_lines, nop_lines, row_text, zero_lines, write_line, write_name, write_start}
 use Rattle.x7_listing.specs.HeadLine.{best_line, command_line, head_text, line_text}
 use Rattle.x7_listing.specs.Telling.{GapTold, Tells, words_place, words_told, Writes}
 use Rattle.x7_listing.proofs.GapLemmas.{told_more}
@@ -42,9 +44,9 @@ row_first i row text e f = f ∙ ap (λ (k : ℕ). close k ++ text) (sym e)
 pub row_behind : (i : ℕ) (row text : List ℕ) → (i ≡ 0 → ⊥) → row_text row ≡ 10 ∷ text → row_text row ≡ close i ++ text
 row_behind i row text n f = let e : (i == 0) ≡ false = grind (arith, nat_tests) in f ∙ rw e refl
 
-pub nop_block : (n : ℕ) → flat_map (λ x. x) (replicate n (codes "nop\n")) ≡ nop_lines n
-nop_block zero = refl
-nop_block (suc n) = ap (λ t. codes "nop\n" ++ t) (nop_block n)
+pub equal_block : (step : Step) (w n : ℕ) (line : List ℕ) → head_text step w ≡ line → flat_map (λ x. x) (replicate n line) ≡ equal_lines step w n
+equal_block step w zero line e = refl
+equal_block step w (suc n) line e = ap (λ t. line ++ t) (equal_block step w n line e) ∙ ap (λ t. t ++ equal_lines step w n) (sym e)
 
 pub nop_front : (n k : ℕ) → k ≤ n → take (4 * k) (nop_lines n) ≡ nop_lines k
 nop_front n zero h = refl
@@ -53,19 +55,32 @@ nop_front (suc n) (suc k) h =
     let four : 4 * suc k ≡ suc (suc (suc (suc (4 * k)))) = omega arith in
     ap (λ (m : ℕ). take m (codes "nop\n" ++ nop_lines n)) four ∙ ap (λ t. codes "nop\n" ++ t) (nop_front n k (omega (arith, h)))
 
-pub nop_lines-add : (m n : ℕ) → nop_lines (m + n) ≡ nop_lines m ++ nop_lines n
-nop_lines-add zero n = let e : 0 + n ≡ n = omega arith in ap nop_lines e
-nop_lines-add (suc m) n =
+pub zero_front : (n k : ℕ) → k ≤ n → take (14 * k) (zero_lines n) ≡ zero_lines k
+zero_front n zero h = refl
+zero_front zero (suc k) h = absurd (omega (arith, h))
+zero_front (suc n) (suc k) h =
+    let size : 14 * suc k ≡ 14 + 14 * k = omega arith in
+    ap (λ (m : ℕ). take m (codes "word 00000000\n" ++ zero_lines n)) size ∙ take-append-add (codes "word 00000000\n") (zero_lines n) (14 * k) ∙ ap (λ t. codes "word 00000000\n" ++ t) (zero_front n k (omega (arith, h)))
+
+equal_lines-add : (step : Step) (w m n : ℕ) → equal_lines step w (m + n) ≡ equal_lines step w m ++ equal_lines step w n
+equal_lines-add step w zero n = let e : 0 + n ≡ n = omega arith in ap (equal_lines step w) e
+equal_lines-add step w (suc m) n =
     let e : suc m + n ≡ suc (m + n) = omega arith in
-    ap nop_lines e ∙ ap (λ t. codes "nop\n" ++ t) (nop_lines-add m n)
+    ap (equal_lines step w) e ∙ ap (λ t. head_text step w ++ t) (equal_lines-add step w m n) ∙ sym (append_assoc (head_text step w) (equal_lines step w m) (equal_lines step w n))
+
+equal_more : (t0 t1 t2 : Vec ℕ Global) (step : Step) (w m n k a b most : ℕ) → Appends t0 t1 (equal_lines step w m) a → Appends t1 t2 (equal_lines step w n) b → k ≡ m + n → a + b ≤ most → Appends t0 t2 (equal_lines step w k) most
+equal_more t0 t1 t2 step w m n k a b most x y e h =
+    record {
+      items = y.items ∙ ap (λ t. t ++ equal_lines step w n) x.items ∙ append_assoc t0.items (equal_lines step w m) (equal_lines step w n) ∙ ap (λ t. t0.items ++ t) (sym (equal_lines-add step w m n) ∙ ap (equal_lines step w) (sym e));
+      within = omega (arith, x.within, y.within, h);
+      room = omega (arith, x.room, y.room);
+    }
 
 pub nops_more : (t0 t1 t2 : Vec ℕ Global) (m n k : ℕ) → Appends t0 t1 (nop_lines m) (4 * m) → Appends t1 t2 (nop_lines n) (4 * n) → k ≡ m + n → Appends t0 t2 (nop_lines k) (4 * k)
-nops_more t0 t1 t2 m n k a b e =
-    record {
-      items = b.items ∙ ap (λ t. t ++ nop_lines n) a.items ∙ append_assoc t0.items (nop_lines m) (nop_lines n) ∙ ap (λ t. t0.items ++ t) (sym (nop_lines-add m n) ∙ ap nop_lines (sym e));
-      within = omega (arith, a.within, b.within, e);
-      room = omega (arith, a.room, b.room);
-    }
+nops_more t0 t1 t2 m n k x y e = equal_more t0 t1 t2 Nop nop_word m n k (4 * m) (4 * n) (4 * k) x y e (omega (arith, e))
+
+pub zeros_more : (t0 t1 t2 : Vec ℕ Global) (m n k : ℕ) → Appends t0 t1 (zero_lines m) (14 * m) → Appends t1 t2 (zero_lines n) (14 * n) → k ≡ m + n → Appends t0 t2 (zero_lines k) (14 * k)
+zeros_more t0 t1 t2 m n k x y e = equal_more t0 t1 t2 Filler 0 m n k (14 * m) (14 * n) (14 * k) x y e (omega (arith, e))
 
 -- the header's line
 pub write_line-is : (register : ℕ) → register < 32 → head_text (Open register 1) (write_head register) ≡ write_line register
@@ -171,35 +186,35 @@ took_run c d run synced s2 line l2 held h2 text text2 given before bytes taken s
       told = writes before (bytes ++ taken) s.sessions w.new_sessions s.at w.new_place c.mode d.mode s.told w.adds w.turns is w.stands.reading;
     }
 
-one_nop : (c : CutterState) (synced s2 : Bool) (line l2 from : ℕ) (held h2 text text2 given before bytes : List ℕ) → Takes c c (bytes_of_word nop_word) (Head nop_word Nop) → (synced ≡ true → from ≡ line) → s2 ≡ true → l2 ≡ 0
-    → text2 ≡ text ++ (close from ++ codes "nop\n") → Tells c synced line held text given before bytes → Tells c s2 l2 h2 text2 given before (bytes ++ bytes_of_word nop_word)
-one_nop c synced s2 line l2 from held h2 text text2 given before bytes takes same e f t s =
-    took_run c c (Head nop_word Nop) synced s2 line l2 held h2 text text2 given before bytes (bytes_of_word nop_word) s takes tt
-    (by_head (Head nop_word Nop) synced s2 line l2 from held h2 given text text2 nop_word Nop refl same e f t)
+one_equal : (c : CutterState) (w : ℕ) (step : Step) (synced s2 : Bool) (line l2 from : ℕ) (held h2 text text2 given before bytes : List ℕ) → IsRun (Head w step) → Takes c c (bytes_of_word w) (Head w step) → (synced ≡ true → from ≡ line) → s2 ≡ true → l2 ≡ 0
+    → text2 ≡ text ++ (close from ++ head_text step w) → Tells c synced line held text given before bytes → Tells c s2 l2 h2 text2 given before (bytes ++ bytes_of_word w)
+one_equal c w step synced s2 line l2 from held h2 text text2 given before bytes is takes same e f t s =
+    took_run c c (Head w step) synced s2 line l2 held h2 text text2 given before bytes (bytes_of_word w) s takes is
+    (by_head (Head w step) synced s2 line l2 from held h2 given text text2 w step refl same e f t)
 
--- no-ops behind a line that has its end
-more_nops : (n : ℕ) (c : CutterState) (line : ℕ) (held text text2 given before bytes : List ℕ) → Takes c c (bytes_of_word nop_word) (Head nop_word Nop) → line ≡ 0 → text2 ≡ text ++ nop_lines n
-    → Tells c true line held text given before bytes → Tells c true line held text2 given before (bytes ++ nop_bytes n)
-more_nops zero c line held text text2 given before bytes takes f t s =
+-- equal words behind a line that has its end
+more_equal : (n : ℕ) (c : CutterState) (w : ℕ) (step : Step) (line : ℕ) (held text text2 given before bytes : List ℕ) → IsRun (Head w step) → Takes c c (bytes_of_word w) (Head w step) → line ≡ 0 → text2 ≡ text ++ equal_lines step w n
+    → Tells c true line held text given before bytes → Tells c true line held text2 given before (bytes ++ equal_bytes w n)
+more_equal zero c w step line held text text2 given before bytes is takes f t s =
     let same : text ≡ text2 = sym (t ∙ append-nil text) in
     subst (λ (x : List ℕ). Tells c true line held x given before (bytes ++ [])) same (subst (Tells c true line held text given before) (sym (append-nil bytes)) s)
-more_nops (suc n) c line held text text2 given before bytes takes f t s =
-    let next : List ℕ = text ++ codes "nop\n" in
-    let one : Tells c true line held next given before (bytes ++ bytes_of_word nop_word) = one_nop c true true line line 0 held held text next given before bytes takes (λ e. sym f) refl f refl s in
-    let all : Tells c true line held text2 given before ((bytes ++ bytes_of_word nop_word) ++ nop_bytes n) =
-    more_nops n c line held next text2 given before (bytes ++ bytes_of_word nop_word) takes f (t ∙ sym (append_assoc text (codes "nop\n") (nop_lines n))) one in
-    subst (Tells c true line held text2 given before) (append_assoc bytes (bytes_of_word nop_word) (nop_bytes n)) all
+more_equal (suc n) c w step line held text text2 given before bytes is takes f t s =
+    let next : List ℕ = text ++ head_text step w in
+    let one : Tells c true line held next given before (bytes ++ bytes_of_word w) = one_equal c w step true true line line 0 held held text next given before bytes is takes (λ e. sym f) refl f refl s in
+    let all : Tells c true line held text2 given before ((bytes ++ bytes_of_word w) ++ equal_bytes w n) =
+    more_equal n c w step line held next text2 given before (bytes ++ bytes_of_word w) is takes f (t ∙ sym (append_assoc text (head_text step w) (equal_lines step w n))) one in
+    subst (Tells c true line held text2 given before) (append_assoc bytes (bytes_of_word w) (equal_bytes w n)) all
 
-pub idle_told : (n : ℕ) (c : CutterState) (synced s2 : Bool) (line l2 from : ℕ) (held h2 text text1 text2 given before bytes : List ℕ) → 0 < n → Takes c c (bytes_of_word nop_word) (Head nop_word Nop) → (synced ≡ true → from ≡ line) → s2 ≡ true → l2 ≡ 0
-    → text1 ≡ text ++ close from → text2 ≡ text1 ++ nop_lines n → Tells c synced line held text given before bytes → Tells c s2 l2 h2 text2 given before (bytes ++ nop_bytes n)
-idle_told zero c synced s2 line l2 from held h2 text text1 text2 given before bytes some takes same e f a b s = absurd (omega (arith, some))
-idle_told (suc n) c synced s2 line l2 from held h2 text text1 text2 given before bytes some takes same e f a b s =
-    let next : List ℕ = text ++ (close from ++ codes "nop\n") in
-    let one : Tells c true l2 h2 next given before (bytes ++ bytes_of_word nop_word) = one_nop c synced true line l2 from held h2 text next given before bytes takes same refl f refl s in
-    let all : Tells c true l2 h2 text2 given before ((bytes ++ bytes_of_word nop_word) ++ nop_bytes n) =
-    more_nops n c l2 h2 next text2 given before (bytes ++ bytes_of_word nop_word) takes f
-    (b ∙ ap (λ t. t ++ (codes "nop\n" ++ nop_lines n)) a ∙ sym (append_assoc (text ++ close from) (codes "nop\n") (nop_lines n)) ∙ ap (λ t. t ++ nop_lines n) (append_assoc text (close from) (codes "nop\n"))) one in
-    subst (λ (x : Bool). Tells c x l2 h2 text2 given before (bytes ++ nop_bytes (suc n))) (sym e) (subst (Tells c true l2 h2 text2 given before) (append_assoc bytes (bytes_of_word nop_word) (nop_bytes n)) all)
+pub equal_told : (n : ℕ) (c : CutterState) (w : ℕ) (step : Step) (synced s2 : Bool) (line l2 from : ℕ) (held h2 text text1 text2 given before bytes : List ℕ) → 0 < n → IsRun (Head w step) → Takes c c (bytes_of_word w) (Head w step) → (synced ≡ true → from ≡ line) → s2 ≡ true → l2 ≡ 0
+    → text1 ≡ text ++ close from → text2 ≡ text1 ++ equal_lines step w n → Tells c synced line held text given before bytes → Tells c s2 l2 h2 text2 given before (bytes ++ equal_bytes w n)
+equal_told zero c w step synced s2 line l2 from held h2 text text1 text2 given before bytes some is takes same e f a b s = absurd (omega (arith, some))
+equal_told (suc n) c w step synced s2 line l2 from held h2 text text1 text2 given before bytes some is takes same e f a b s =
+    let next : List ℕ = text ++ (close from ++ head_text step w) in
+    let one : Tells c true l2 h2 next given before (bytes ++ bytes_of_word w) = one_equal c w step synced true line l2 from held h2 text next given before bytes is takes same refl f refl s in
+    let all : Tells c true l2 h2 text2 given before ((bytes ++ bytes_of_word w) ++ equal_bytes w n) =
+    more_equal n c w step l2 h2 next text2 given before (bytes ++ bytes_of_word w) is takes f
+    (b ∙ ap (λ t. t ++ (head_text step w ++ equal_lines step w n)) a ∙ sym (append_assoc (text ++ close from) (head_text step w) (equal_lines step w n)) ∙ ap (λ t. t ++ equal_lines step w n) (append_assoc text (close from) (head_text step w))) one in
+    subst (λ (x : Bool). Tells c x l2 h2 text2 given before (bytes ++ equal_bytes w (suc n))) (sym e) (subst (Tells c true l2 h2 text2 given before) (append_assoc bytes (bytes_of_word w) (equal_bytes w n)) all)
 
 pub write_told : (c d : CutterState) (synced s2 : Bool) (line l2 from register w : ℕ) (held h2 text text2 given before bytes rest : List ℕ) → WritesOne c d rest register w → (synced ≡ true → from ≡ line) → s2 ≡ true
     → l2 ≡ words_place 0 (payload_steps register (w ∷ [])) → text2 ≡ text ++ (close from ++ head_text (Open register 1) (write_head register) ++ words_told 0 (payload_steps register (w ∷ [])))

@@ -1,14 +1,22 @@
--- The lines of what is told at once: no-ops in a row, short writes, and a gap with its sync word (this project's choice).
+-- The lines of what is told at once: no-ops and zero words in a row, short writes, and a gap with its sync word (this project's choice).
 use Rattle.std.specs.Prelude.{◌≡◌, ◌==◌, Bool, not, ℕ, zero, suc, List, [], ◌∷◌, ◌++◌, codes, get_or, take}
 use Rattle.x7_packets.specs.Nops.{nop_word}
-use Rattle.x7_packets.specs.declared.header.Step.TheVariants.{Nop}
+use Rattle.x7_packets.specs.declared.header.Step.{Step}
+use Rattle.x7_packets.specs.declared.header.Step.TheVariants.{Filler, Nop}
 use Rattle.x7_regs.specs.Register.{reg_name}
 use Rattle.x7_listing.specs.HeadLine.{command_line, head_text}
 
--- the lines of so many no-ops
+-- the lines of a word in a header's place, so many times
+abbrev pub equal_lines : Step → ℕ → ℕ → List ℕ
+equal_lines step w zero = []
+equal_lines step w (suc n) = head_text step w ++ equal_lines step w n
+
+-- the lines of so many no-ops, and of so many zero words
 abbrev pub nop_lines : ℕ → List ℕ
-nop_lines zero = []
-nop_lines (suc n) = head_text Nop nop_word ++ nop_lines n
+nop_lines n = equal_lines Nop nop_word n
+
+abbrev pub zero_lines : ℕ → List ℕ
+zero_lines n = equal_lines Filler 0 n
 
 -- the line of the header of a write of one word
 abbrev pub write_line : ℕ → List ℕ

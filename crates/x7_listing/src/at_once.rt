@@ -1,14 +1,14 @@
-//! Writing what is told at once: no-ops in a row, short writes, and a short gap with the sync word behind it.
+//! Writing what is told at once: no-ops and zero words in a row, short writes, and a short gap with the sync word behind it.
 ghost use Rattle.std.specs.Prelude.{◌≡◌, ℕ, ◌+◌, ◌*◌, ◌<◌, ◌≤◌, true, List, [], ◌∷◌, ◌++◌, IfNone, IfSome, decimal, length, take, vec_len, vec_capacity};
 ghost use Rattle.x7_words.specs.Word.{bytes_of_word};
 ghost use Rattle.x7_packets.specs.AtOnce.{EndsGap, short_head, Takes, write_head, WritesFew, WritesOne};
 ghost use Rattle.x7_packets.specs.Cutting.{CutterState};
-ghost use Rattle.x7_packets.specs.Nops.{nop_bytes, nop_word};
+ghost use Rattle.x7_packets.specs.Nops.{equal_bytes, nop_bytes, nop_word};
 ghost use Rattle.x7_packets.specs.Packet.{payload_steps};
 ghost use Rattle.x7_text.specs.Appends.{Appends};
 ghost use Rattle.x7_text.specs.Row.{close};
 ghost use Rattle.x7_listing.specs.TakingAtOnce.{TakesAtOnce};
-ghost use Rattle.x7_listing.specs.AtOnce.{command_lines, nop_lines, row_text};
+ghost use Rattle.x7_listing.specs.AtOnce.{command_lines, nop_lines, row_text, zero_lines};
 ghost use Rattle.x7_listing.specs.HeadLine.{head_text};
 ghost use Rattle.x7_listing.specs.Telling.{Tells, words_place, words_told};
 
@@ -18,7 +18,7 @@ use crate::rows::{command_row, name_row, write_row};
 use x7_packets::{Cut, Cutter, Step};
 use x7_text::{hex_of_word, put, put_close, put_first_bytes, put_first_words};
 
-/// How many no-ops a block has.
+/// How many words a block has.
 const BLOCK: usize = 64;
 
 /// A block of no-ops' lines.
@@ -43,6 +43,30 @@ fn put_nops(text: &mut Vec<u8>, count: usize)
         put_nop_block(text, BLOCK);
     }
     put_nop_block(text, count % BLOCK);
+}
+
+/// A block of zero words' lines.
+static ZEROS: [[u8; 14]; BLOCK] = [*b"word 00000000\n"; BLOCK];
+
+/// Appends the lines of fewer zero words than a block has, or of a whole block.
+#[inline(always)]
+fn put_zero_block(text: &mut Vec<u8>, count: usize)
+    requires few { count ≤ 64 }
+    requires room { vec_len text.old + 14 * count ≤ vec_capacity text.old }
+    ensures appends { Appends text.old text.new (zero_lines count) (14 * count) }
+{
+    put(text, &ZEROS.as_flattened()[..14 * count]);
+}
+
+/// Appends the lines of zero words.
+fn put_zeros(text: &mut Vec<u8>, count: usize)
+    requires { vec_len text.old + 14 * count ≤ vec_capacity text.old }
+    ensures appends { Appends text.old text.new (zero_lines count) (14 * count) }
+{
+    for _ in 0..count / BLOCK {
+        put_zero_block(text, BLOCK);
+    }
+    put_zero_block(text, count % BLOCK);
 }
 
 /// Appends the text of a row. It takes room for the whole row.
@@ -102,6 +126,22 @@ pub(crate) fn put_idle(text: &mut Vec<u8>, pen: Pen, count: usize) -> Pen
 {
     put_close(text, session_line(pen));
     put_nops(text, count);
+    in_session(0)
+}
+
+/// Appends what zero words in a row add, one or more.
+#[inline(always)]
+fn put_fill(text: &mut Vec<u8>, pen: Pen, count: usize) -> Pen
+    requires some { 0 < count }
+    requires room { vec_len text.old + (14 * count + 1) ≤ vec_capacity text.old }
+    ensures len { vec_len text.new ≤ vec_len text.old + (14 * count + 1) }
+    ensures room { vec_capacity text.old ≤ vec_capacity text.new }
+    ensures told { (c : CutterState) (given before bytes : List ℕ) → Takes c c (bytes_of_word 0) (Cut.Head 0 Step.Filler)
+        → Tells c pen.synced pen.line (take pen.count pen.held) text.old.items given before bytes
+        → Tells c result.synced result.line (take result.count result.held) text.new.items given before (bytes ++ equal_bytes 0 count) }
+{
+    put_close(text, session_line(pen));
+    put_zeros(text, count);
     in_session(0)
 }
 
@@ -231,7 +271,8 @@ fn take_gap(text: &mut Vec<u8>, cutter: &mut Cutter, pen: Pen, rest: &[u8]) -> O
     })
 }
 
-/// Takes a write of a few words, or a short gap with its sync word, that comes next, and appends what it adds.
+/// Takes a write of a few words, zero words in a row, or a short gap with its sync word, that come next, and appends what they
+/// add.
 #[inline(always)]
 pub(crate) fn take_short(
     text: &mut Vec<u8>,
@@ -251,6 +292,13 @@ pub(crate) fn take_short(
         return Some(Taken {
             pen: put_short_write(text, pen, register, count, rest),
             size: 4 + 4 * count,
+        });
+    }
+    let zeros = cutter.zero_count(rest);
+    if zeros > 0 {
+        return Some(Taken {
+            pen: put_fill(text, pen, zeros),
+            size: 4 * zeros,
         });
     }
     take_gap(text, cutter, pen, rest)
