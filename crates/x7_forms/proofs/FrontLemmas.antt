@@ -4,7 +4,7 @@ use Rattle.std.specs.Prelude.{MatchOption, nat_eq, nat_le}
 use Rattle.std.proofs.lemmas.Bool.{leb-true}
 use Rattle.std.specs.List.{starts_with}
 use Rattle.std.proofs.Math.Seq.{drop-append_seam}
-use Rattle.x7_words.specs.Input.{AtEnd, preceded}
+use Rattle.x7_words.specs.Input.{InputsState, AtEnd, preceded}
 use Rattle.x7_words.proofs.InputLemmas.{preceded-preceded}
 use Rattle.x7_words.proofs.ListLemmas.{shorter_front}
 use Rattle.x7_header.specs.Header.{Contents, EndsInHeader, listed, fixed_bytes, HasOtherLetter, HasOtherLetterAt, HaveHeader, fields_bytes, header_bytes, layout}
@@ -192,11 +192,11 @@ piece_of (x ∷ old) mid piece all bytes n a b c e s f h g = record {
 }
 
 -- the front that was read
-pub front_read : (old mid piece bytes line : List ℕ) (n start : ℕ) (last : Bool) (r0 r1 r2 : Option (List ℕ)) → IsPiece old piece bytes n → mid ≡ old ++ piece → bytes ≡ mid → r0 ≡ preceded old r1 → r1 ≡ preceded piece r2 → (last ≡ true → AtEnd r2)
-    → length old ≤ 262170 → length piece ≤ 65536 → (start ≤ length bytes) × IsFront bytes last line start → BeginAt bytes start → FrontRead mid line start last r0 r2
-front_read old mid piece bytes line n start last r0 r1 r2 p a b t u e few short j begin =
-    subst (λ (m : List ℕ). FrontRead m line start last r0 r2) b (record {
-      taken = joined_taken r0 r1 r2 old piece mid bytes t u a b;
+pub front_read : (old mid piece bytes line : List ℕ) (n start : ℕ) (last : Bool) (s0 s1 s2 : InputsState) → IsPiece old piece bytes n → mid ≡ old ++ piece → bytes ≡ mid → s0.rest ≡ preceded old s1.rest → s1.rest ≡ preceded piece s2.rest → (last ≡ true → AtEnd s2.rest)
+    → length old ≤ 262170 → length piece ≤ 65536 → (start ≤ length bytes) × IsFront bytes last line start → BeginAt bytes start → FrontRead mid line start last s0 s2
+front_read old mid piece bytes line n start last s0 s1 s2 p a b t u e few short j begin =
+    subst (λ (m : List ℕ). FrontRead m line start last s0 s2) b (record {
+      taken = joined_taken s0.rest s1.rest s2.rest old piece mid bytes t u a b;
       end = e;
       within = j.0;
       few = omega (arith, few, short, ap length (b ∙ a), length-append old piece);

@@ -3,7 +3,7 @@ use Rattle.std.proofs.Common.{◌≡◌, ◌⊎◌, ℕ, zero, suc, List, [], Bo
 use Rattle.std.specs.Prelude.{nat_lt}
 use Rattle.std.proofs.lemmas.Bool.Decides.{nat_tests}
 use Rattle.std.proofs.lemmas.List.{drop-take, length-take-le, take-take}
-use Rattle.x7_words.specs.Input.{AtEnd, Selects, preceded}
+use Rattle.x7_words.specs.Input.{InputsState, AtEnd, Selects, Stays, preceded}
 use Rattle.x7_words.specs.Word.{AreBytes}
 use Rattle.x7_words.proofs.CountLemmas.{risen_from}
 use Rattle.x7_words.proofs.InputLemmas.{preceded-preceded}
@@ -234,11 +234,11 @@ stream_judged known F L limit name whole got read e =
 pub rest_more : (old mid new : Option (List ℕ)) (taken piece : List ℕ) → old ≡ preceded taken mid → mid ≡ preceded piece new → old ≡ preceded (taken ++ piece) new
 rest_more old mid new taken piece e f = e ∙ ap (preceded taken) f ∙ preceded-preceded taken piece new
 
-pub rest_unread : (old mid new : Option (List ℕ)) (name taken : List ℕ) (limit left most f0 f1 f2 : ℕ) (event : Event) → old ≡ preceded taken mid → length taken + left ≡ limit → f0 ≤ f1 → Unread mid new name left most f1 f2 event → UnreadRest old name limit f0 f2 event
-rest_unread old mid new name taken limit left most f0 f1 f2 event e n fl (inl h) = inl (h.0, risen_from f0 f1 f2 fl h.1)
-rest_unread old mid new name taken limit left most f0 f1 f2 event e n fl (inr h) =
+pub rest_unread : (old mid new : InputsState) (name taken : List ℕ) (limit left most : ℕ) (event : Event) → old.rest ≡ preceded taken mid.rest → length taken + left ≡ limit → Stays old mid → Unread mid name new left most event → UnreadRest old name new limit event
+rest_unread old mid new name taken limit left most event e n s (inl h) = inl (h.0, risen_from old.faults mid.faults new.faults s.faults h.1)
+rest_unread old mid new name taken limit left most event e n s (inr h) =
     let piece = h.1.0 in
-    inr (h.0, (taken ++ piece, (new, (rest_more old mid new taken piece e h.1.1.0, omega (arith, n, h.1.1.1, length-append taken piece)))))
+    inr (h.0, (taken ++ piece, (new.rest, (rest_more old.rest mid.rest new.rest taken piece e h.1.1.0, omega (arith, n, h.1.1.1, length-append taken piece)))))
 
 -- an input that was read to its end
 pub whole_read : (contents : Option (List ℕ → Option (List ℕ))) (flash : Option (List ℕ)) (F L : List ℕ → Type 0) (name whole : List ℕ) (rest : Option (List ℕ)) (limit : ℕ) → Selects contents name (preceded whole rest) → AtEnd rest → length whole ≤ limit
@@ -289,17 +289,17 @@ too_long (Some inputs) flash F L name whole rest limit s h =
     inr (tt, rw (all.1.1, long) refl)
 
 -- a stream whose first bytes were read and the others not
-pub rest_refused : (contents : Option (List ℕ → Option (List ℕ))) (flash : Option (List ℕ)) (name first : List ℕ) (mid : Option (List ℕ)) (limit left f0 f1 f2 a0 a2 : ℕ) (event : Event) → f0 ≤ f1 → length first + left ≡ limit → Selects contents name (preceded first mid)
-    → (event ≡ no_memory) ⊎ UnreadRest mid name left f1 f2 event → IsCaused (with_inputs contents flash) (RisesFor (name ∷ []) f0 f2) (RisesFor (name ∷ []) a0 a2) (λ t. read_of t limit name) (Err event)
-rest_refused contents flash name first mid limit left f0 f1 f2 a0 a2 event fl n s (inl e) =
-    caused_event (with_inputs contents flash) (RisesFor (name ∷ []) f0 f2) (RisesFor (name ∷ []) a0 a2) (λ t. read_of t limit name) event no_memory e (inl refl)
-rest_refused contents flash name first mid limit left f0 f1 f2 a0 a2 event fl n s (inr (inl h)) =
-    caused_event (with_inputs contents flash) (RisesFor (name ∷ []) f0 f2) (RisesFor (name ∷ []) a0 a2) (λ t. read_of t limit name) event (read_fault name) h.0 (inl (inl refl, risen_from f0 f1 f2 fl h.1))
-rest_refused contents flash name first mid limit left f0 f1 f2 a0 a2 event fl n s (inr (inr h)) =
+pub rest_refused : (old mid new : InputsState) (flash : Option (List ℕ)) (name first : List ℕ) (limit left : ℕ) (event : Event) → Stays old mid → length first + left ≡ limit → Selects old.contents name (preceded first mid.rest)
+    → (event ≡ no_memory) ⊎ UnreadRest mid name new left event → IsCaused (with_inputs old.contents flash) (RisesFor (name ∷ []) old.faults new.faults) (RisesFor (name ∷ []) old.absences new.absences) (λ t. read_of t limit name) (Err event)
+rest_refused old mid new flash name first limit left event k n s (inl e) =
+    caused_event (with_inputs old.contents flash) (RisesFor (name ∷ []) old.faults new.faults) (RisesFor (name ∷ []) old.absences new.absences) (λ t. read_of t limit name) event no_memory e (inl refl)
+rest_refused old mid new flash name first limit left event k n s (inr (inl h)) =
+    caused_event (with_inputs old.contents flash) (RisesFor (name ∷ []) old.faults new.faults) (RisesFor (name ∷ []) old.absences new.absences) (λ t. read_of t limit name) event (read_fault name) h.0 (inl (inl refl, risen_from old.faults mid.faults new.faults k.faults h.1))
+rest_refused old mid new flash name first limit left event k n s (inr (inr h)) =
     let more = h.1.0 in
-    let taken : Selects contents name (preceded (first ++ more) h.1.1.0) = subst (λ (r : Option (List ℕ)). Selects contents name r) (ap (preceded first) h.1.1.1.0 ∙ preceded-preceded first more h.1.1.0) s in
-    caused_event (with_inputs contents flash) (RisesFor (name ∷ []) f0 f2) (RisesFor (name ∷ []) a0 a2) (λ t. read_of t limit name) event (too_large name) h.0
-    (too_long contents flash (RisesFor (name ∷ []) f0 f2) (RisesFor (name ∷ []) a0 a2) name (first ++ more) h.1.1.0 limit taken (omega (arith, n, h.1.1.1.1, length-append first more)))
+    let taken : Selects old.contents name (preceded (first ++ more) h.1.1.0) = subst (λ (r : Option (List ℕ)). Selects old.contents name r) (ap (preceded first) h.1.1.1.0 ∙ preceded-preceded first more h.1.1.0) s in
+    caused_event (with_inputs old.contents flash) (RisesFor (name ∷ []) old.faults new.faults) (RisesFor (name ∷ []) old.absences new.absences) (λ t. read_of t limit name) event (too_large name) h.0
+    (too_long old.contents flash (RisesFor (name ∷ []) old.faults new.faults) (RisesFor (name ∷ []) old.absences new.absences) name (first ++ more) h.1.1.0 limit taken (omega (arith, n, h.1.1.1.1, length-append first more)))
 
 -- a stream whose header is refused, after it was read to its end
 pub stream_refused : (contents : Option (List ℕ → Option (List ℕ))) (flash : Option (List ℕ)) (F L : List ℕ → Type 0) (name first more : List ℕ) (mid rest : Option (List ℕ)) (limit : ℕ) (last : Bool) (event : Event) → Selects contents name (preceded first mid) → mid ≡ preceded more rest → AtEnd rest

@@ -1,6 +1,7 @@
 -- One step of a command: what may come of it, and why (this project's choice).
 use Rattle.std.specs.Prelude.{◌≡◌, ℕ, List, [], ◌∷◌, Option, None, Some, Result, Ok, Err, ◌⊎◌}
 use Rattle.x7_words.specs.Count.{HasRisen}
+use Rattle.x7_words.specs.Input.{InputsState}
 use Rattle.x7_forms.specs.declared.refusal.Refusal.{Refusal}
 use Rattle.x7_forms.specs.Event.{Event, Cause, Want, Fault, Absence, Contents, cause_of}
 use Rattle.x7_forms.specs.Known.{Known, with_inputs}
@@ -64,9 +65,9 @@ abbrev pub IsCaused : {A : Type 0} → Option Known → (List ℕ → Type 0) �
 IsCaused known Fails Lacks due got = IsCausedBy known Fails Lacks (λ t result. due t ≡ result) got
 
 -- whatever the flash holds, the result has a cause: it is due by what the inputs hold, or it names one of these inputs, whose count rose
-abbrev pub AnswersBy : {A : Type 0} → List (List ℕ) → Option (List ℕ → Option (List ℕ)) → ℕ → ℕ → ℕ → ℕ → (Known → Result A Event → Type 0) → Result A Event → Type 0
-AnswersBy names contents faults faults_now absences absences_now Due got = (flash : Option (List ℕ)) → IsCausedBy (with_inputs contents flash) (RisesFor names faults faults_now) (RisesFor names absences absences_now) Due got
+abbrev pub AnswersBy : {A : Type 0} → List (List ℕ) → InputsState → InputsState → (Known → Result A Event → Type 0) → Result A Event → Type 0
+AnswersBy names old new Due got = (flash : Option (List ℕ)) → IsCausedBy (with_inputs old.contents flash) (RisesFor names old.faults new.faults) (RisesFor names old.absences new.absences) Due got
 
 -- the same where a function of what is known says what is due
-abbrev pub AnswersAs : {A : Type 0} → List (List ℕ) → Option (List ℕ → Option (List ℕ)) → ℕ → ℕ → ℕ → ℕ → (Known → Result A Event) → Result A Event → Type 0
-AnswersAs names contents faults faults_now absences absences_now due got = AnswersBy names contents faults faults_now absences absences_now (λ known end. due known ≡ end) got
+abbrev pub AnswersAs : {A : Type 0} → List (List ℕ) → InputsState → InputsState → (Known → Result A Event) → Result A Event → Type 0
+AnswersAs names old new due got = AnswersBy names old new (λ known end. due known ≡ end) got

@@ -1,7 +1,6 @@
 -- Inputs that are read turn by turn.
 use Rattle.std.specs.Prelude.{◌≡◌, ◌≢◌, ◌<◌, ◌≤◌, ◌⊎◌, ◌++◌, ℕ, Bool, true, List, [], Option, Ok, Err, drop, length, ◌+◌}
-use Rattle.x7_words.specs.Count.{HasRisen}
-use Rattle.x7_words.specs.Input.{AtEnd, Lacks, preceded}
+use Rattle.x7_words.specs.Input.{InputsState, AtEnd, Fails, Misses, preceded}
 use Rattle.x7_header.specs.Header.{Contents, HasOtherLetterAt, HaveHeader, fixed_bytes, header_bytes}
 use Rattle.x7_forms.specs.Event.{Event, bad_input, missing, no_memory, read_fault, too_large}
 use Rattle.x7_forms.specs.declared.bad_input.InputFault.TheVariants as input
@@ -9,25 +8,24 @@ use Rattle.x7_listing.specs.Listing.{listing_of}
 use Rattle.x7_listing.specs.StreamListing.{stream_listing}
 
 -- an input was not opened: its name isn't there, or the inputs failed
-abbrev pub Unopened : Option (List ℕ → Option (List ℕ)) → List ℕ → ℕ → ℕ → ℕ → ℕ → Event → Type 0
-Unopened contents name faults faults_now absences absences_now event =
-    ((event ≡ missing name) × (Lacks contents name ⊎ HasRisen absences absences_now)) ⊎ ((event ≡ read_fault name) × HasRisen faults faults_now)
+abbrev pub Unopened : InputsState → List ℕ → InputsState → Event → Type 0
+Unopened old name new event = ((event ≡ missing name) × Misses old name new) ⊎ ((event ≡ read_fault name) × Fails old new)
 
 -- a turn of so many bytes at most, of which so many are within the limit, was not read: the inputs failed, or it went over the limit
-abbrev pub Unread : Option (List ℕ) → Option (List ℕ) → List ℕ → ℕ → ℕ → ℕ → ℕ → Event → Type 0
-Unread rest rest_now name left most faults faults_now event =
-    ((event ≡ read_fault name) × HasRisen faults faults_now)
-    ⊎ ((event ≡ too_large name) × ((piece : List ℕ) × ((rest ≡ preceded piece rest_now) × (left < length piece) × (length piece ≤ most))))
+abbrev pub Unread : InputsState → List ℕ → InputsState → ℕ → ℕ → Event → Type 0
+Unread old name new left most event =
+    ((event ≡ read_fault name) × Fails old new)
+    ⊎ ((event ≡ too_large name) × ((piece : List ℕ) × ((old.rest ≡ preceded piece new.rest) × (left < length piece) × (length piece ≤ most))))
 
 -- what was left of an open input was read to its end: these bytes
-abbrev pub ReadsRest : Option (List ℕ) → Option (List ℕ) → List ℕ → Type 0
-ReadsRest rest rest_now more = (rest ≡ preceded more rest_now) × AtEnd rest_now
+abbrev pub ReadsRest : InputsState → InputsState → List ℕ → Type 0
+ReadsRest old new more = (old.rest ≡ preceded more new.rest) × AtEnd new.rest
 
 -- what was left of an open input, with so many bytes within the limit, was not read to its end: the inputs failed, or it went over the limit
-abbrev pub UnreadRest : Option (List ℕ) → List ℕ → ℕ → ℕ → ℕ → Event → Type 0
-UnreadRest rest name limit faults faults_now event =
-    ((event ≡ read_fault name) × HasRisen faults faults_now)
-    ⊎ ((event ≡ too_large name) × ((more : List ℕ) × ((rest_now : Option (List ℕ)) × ((rest ≡ preceded more rest_now) × (limit < length more)))))
+abbrev pub UnreadRest : InputsState → List ℕ → InputsState → ℕ → Event → Type 0
+UnreadRest old name new limit event =
+    ((event ≡ read_fault name) × Fails old new)
+    ⊎ ((event ≡ too_large name) × ((more : List ℕ) × ((rest : Option (List ℕ)) × ((old.rest ≡ preceded more rest) × (limit < length more)))))
 
 -- nothing follows the last bytes
 abbrev pub MayFollow : Bool → List ℕ → Type 0
@@ -52,9 +50,9 @@ abbrev pub IsFront : List ℕ → Bool → List ℕ → ℕ → Type 0
 IsFront bytes last line start = (rest : List ℕ) → MayFollow last rest → stream_listing (bytes ++ rest) ≡ Ok (line ++ listing_of (drop start bytes ++ rest))
 
 -- what was read of a stream when its header is judged
-pub record FrontRead (bytes line : List ℕ) (start : ℕ) (last : Bool) (rest rest_now : Option (List ℕ)) : Type 0 where
-  pub taken : rest ≡ preceded bytes rest_now
-  pub end : last ≡ true → AtEnd rest_now
+pub record FrontRead (bytes line : List ℕ) (start : ℕ) (last : Bool) (old new : InputsState) : Type 0 where
+  pub taken : old.rest ≡ preceded bytes new.rest
+  pub end : last ≡ true → AtEnd new.rest
   pub within : start ≤ length bytes
   pub few : length bytes ≤ 327706
   pub holds_few : HoldsFew bytes start
@@ -65,18 +63,17 @@ abbrev pub IsRefused : List ℕ → Bool → ℕ → Type 0
 IsRefused bytes last place = (rest : List ℕ) → MayFollow last rest → stream_listing (bytes ++ rest) ≡ Err place
 
 -- bytes of a header that were not judged well
-pub record IsBadFront (rest rest_now : Option (List ℕ)) (name : List ℕ) (event : Event) : Type 0 where
+pub record IsBadFront (old new : InputsState) (name : List ℕ) (event : Event) : Type 0 where
   pub place : ℕ
   pub bytes : List ℕ
   pub last : Bool
   pub is : event ≡ bad_input name (input.Byte place)
-  pub taken : rest ≡ preceded bytes rest_now
-  pub end : last ≡ true → AtEnd rest_now
+  pub taken : old.rest ≡ preceded bytes new.rest
+  pub end : last ≡ true → AtEnd new.rest
   pub refused : IsRefused bytes last place
   -- none behind the byte at which the header is refused
   pub soon : length bytes ≤ place + 1
 
 -- a stream's front was not read: want of memory, the inputs failed, or the header is refused
-abbrev pub Unfronted : Option (List ℕ) → Option (List ℕ) → List ℕ → ℕ → ℕ → Event → Type 0
-Unfronted rest rest_now name faults faults_now event =
-    (event ≡ no_memory) ⊎ (((event ≡ read_fault name) × HasRisen faults faults_now) ⊎ IsBadFront rest rest_now name event)
+abbrev pub Unfronted : InputsState → List ℕ → InputsState → Event → Type 0
+Unfronted old name new event = (event ≡ no_memory) ⊎ (((event ≡ read_fault name) × Fails old new) ⊎ IsBadFront old new name event)

@@ -1,6 +1,5 @@
 //! The line that says why an input has no reading. No memory is taken.
 ghost use Rattle.std.specs.Prelude.{◌≡◌, ◌++◌, codes, decimal};
-ghost use Rattle.x7_words.specs.Count.{HasRisen};
 ghost use Rattle.x7_words.specs.Sink.{Tells};
 ghost use Rattle.x7_text.specs.Digits.{hex_byte};
 ghost use Rattle.x7_forms.specs.Event.{bad_input, line_of};
@@ -57,14 +56,14 @@ fn say_at<'x, E: Sink>(
     kind: &'x [u8],
     place: &'x [u8],
 ) -> Result<(), Failed>
-    ensures { Tells (HasRisen (E.faults err.old) (E.faults err.new)) (E.written err.old) (E.written err.new) (codes "x7: bad input " ++ (name.now ++ (kind.now ++ (place.now ++ codes "\n")))) }
+    ensures { Tells (E.state err.old) (codes "x7: bad input " ++ (name.now ++ (kind.now ++ (place.now ++ codes "\n")))) (E.state err.new) }
 {
     write_pieces(err, &[START, name.as_bytes(), kind, place, b"\n"])
 }
 
 /// Writes the line of a fault that a number tells: a line or a byte of the input.
 fn say_number<E: Sink>(err: &mut E, name: &str, kind: &[u8], number: u64) -> Result<(), Failed>
-    ensures { Tells (HasRisen (E.faults err.old) (E.faults err.new)) (E.written err.old) (E.written err.new) (codes "x7: bad input " ++ (name.now ++ (kind.now ++ (decimal number ++ codes "\n")))) }
+    ensures { Tells (E.state err.old) (codes "x7: bad input " ++ (name.now ++ (kind.now ++ (decimal number ++ codes "\n")))) (E.state err.new) }
 {
     let mut buffer = Buffer::new();
     say_at(err, name, kind, buffer.format(number).as_bytes())
@@ -78,7 +77,7 @@ fn say_sum<'x, E: Sink>(
     want: &'x [u8],
     got: &'x [u8],
 ) -> Result<(), Failed>
-    ensures { Tells (HasRisen (E.faults err.old) (E.faults err.new)) (E.written err.old) (E.written err.new) (codes "x7: bad input " ++ (name.now ++ (codes ": sum line " ++ (line.now ++ (codes " want " ++ (want.now ++ (codes " got " ++ (got.now ++ codes "\n")))))))) }
+    ensures { Tells (E.state err.old) (codes "x7: bad input " ++ (name.now ++ (codes ": sum line " ++ (line.now ++ (codes " want " ++ (want.now ++ (codes " got " ++ (got.now ++ codes "\n")))))))) (E.state err.new) }
 {
     write_pieces(
         err,
@@ -102,7 +101,7 @@ pub(crate) fn say_bad_input<E: Sink>(
     name: &str,
     fault: InputFault,
 ) -> Result<(), Failed>
-    ensures { Tells (HasRisen (E.faults err.old) (E.faults err.new)) (E.written err.old) (E.written err.new) (line_of (bad_input name.now fault)) }
+    ensures { Tells (E.state err.old) (line_of (bad_input name.now fault)) (E.state err.new) }
 {
     match fault {
         InputFault::Byte(place) => say_number(err, name, b": byte ", place),

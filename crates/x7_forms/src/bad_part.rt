@@ -1,6 +1,5 @@
 //! The line that says why a part file was refused. No memory is taken.
 ghost use Rattle.std.specs.Prelude.{◌≡◌, ◌++◌, codes, decimal};
-ghost use Rattle.x7_words.specs.Count.{HasRisen};
 ghost use Rattle.x7_words.specs.Sink.{Tells};
 ghost use Rattle.x7_forms.specs.Event.{bad_part, line_of, which_text};
 
@@ -18,7 +17,7 @@ fn say_number<'x, E: Sink>(
     kind: &'x [u8],
     number: u32,
 ) -> Result<(), Failed>
-    ensures { Tells (HasRisen (E.faults err.old) (E.faults err.new)) (E.written err.old) (E.written err.new) (codes "x7: bad part " ++ (name.now ++ (kind.now ++ (decimal number ++ codes "\n")))) }
+    ensures { Tells (E.state err.old) (codes "x7: bad part " ++ (name.now ++ (kind.now ++ (decimal number ++ codes "\n")))) (E.state err.new) }
 {
     let mut buffer = Buffer::new();
     let digits = buffer.format(number);
@@ -36,7 +35,7 @@ fn say_key_in_row<'x, E: Sink>(
     key: &'x str,
     row: u32,
 ) -> Result<(), Failed>
-    ensures { Tells (HasRisen (E.faults err.old) (E.faults err.new)) (E.written err.old) (E.written err.new) (codes "x7: bad part " ++ (name.now ++ (kind.now ++ (key.now ++ (codes " in row " ++ (decimal row ++ codes "\n")))))) }
+    ensures { Tells (E.state err.old) (codes "x7: bad part " ++ (name.now ++ (kind.now ++ (key.now ++ (codes " in row " ++ (decimal row ++ codes "\n")))))) (E.state err.new) }
 {
     let mut buffer = Buffer::new();
     let digits = buffer.format(row);
@@ -61,14 +60,14 @@ fn say_top_key<'x, E: Sink>(
     kind: &'x [u8],
     key: &'x str,
 ) -> Result<(), Failed>
-    ensures { Tells (HasRisen (E.faults err.old) (E.faults err.new)) (E.written err.old) (E.written err.new) (codes "x7: bad part " ++ (name.now ++ (kind.now ++ (key.now ++ codes "\n")))) }
+    ensures { Tells (E.state err.old) (codes "x7: bad part " ++ (name.now ++ (kind.now ++ (key.now ++ codes "\n")))) (E.state err.new) }
 {
     write_pieces(err, &[START, name.as_bytes(), kind, key.as_bytes(), b"\n"])
 }
 
 /// Writes the line of a fault that names a key.
 fn say_key<E: Sink>(err: &mut E, name: &str, kind: &[u8], which: Which) -> Result<(), Failed>
-    ensures { Tells (HasRisen (E.faults err.old) (E.faults err.new)) (E.written err.old) (E.written err.new) (codes "x7: bad part " ++ (name.now ++ (kind.now ++ (which_text which ++ codes "\n")))) }
+    ensures { Tells (E.state err.old) (codes "x7: bad part " ++ (name.now ++ (kind.now ++ (which_text which ++ codes "\n")))) (E.state err.new) }
 {
     match which.row {
         Some(row) => say_key_in_row(err, name, kind, which.key.name(), row),
@@ -78,7 +77,7 @@ fn say_key<E: Sink>(err: &mut E, name: &str, kind: &[u8], which: Which) -> Resul
 
 /// Writes the line of a part file that was refused.
 pub(crate) fn say_bad_part<E: Sink>(err: &mut E, name: &str, fault: PartFault) -> Result<(), Failed>
-    ensures { Tells (HasRisen (E.faults err.old) (E.faults err.new)) (E.written err.old) (E.written err.new) (line_of (bad_part name.now fault)) }
+    ensures { Tells (E.state err.old) (line_of (bad_part name.now fault)) (E.state err.new) }
 {
     match fault {
         PartFault::Toml => write_pieces(err, &[START, name.as_bytes(), b": toml\n"]),

@@ -1,5 +1,6 @@
 //! The beginning of a stream that is listed, up to where its header is judged.
 ghost use Rattle.std.specs.Prelude.{◌≡◌, ◌≤◌, ◌⊎◌, ℕ, List, length, true, false, IfErr, IfOk, MatchOption, OnOk};
+ghost use Rattle.x7_words.specs.Input.{Stays};
 ghost use Rattle.x7_header.specs.Header.{EndsInHeader};
 ghost use Rattle.x7_forms.specs.Event.{bad_input, no_memory};
 ghost use Rattle.x7_forms.specs.Message.{event_of};
@@ -86,13 +87,11 @@ pub fn read_front<'w, I: Inputs>(
     inputs: &mut I,
     stream: &'w str,
 ) -> Result<Front, Refusal<'w>>
-    requires selected { I.selected inputs.old ≡ true }
-    ensures selected { OnOk result (I.selected inputs.new ≡ true) }
-    ensures front { IfOk result (λ front. FrontRead front.bytes.items front.line.items front.start front.last (I.rest inputs.old) (I.rest inputs.new)) }
-    ensures err { IfErr result (λ r. Unfronted (I.rest inputs.old) (I.rest inputs.new) stream.now (I.faults inputs.old) (I.faults inputs.new) (event_of r)) }
-    ensures map { I.contents inputs.new ≡ I.contents inputs.old }
-    ensures faults { I.faults inputs.old ≤ I.faults inputs.new }
-    ensures absences { I.absences inputs.old ≤ I.absences inputs.new }
+    requires selected { (I.state inputs.old).selected ≡ true }
+    ensures selected { OnOk result ((I.state inputs.new).selected ≡ true) }
+    ensures front { IfOk result (λ front. FrontRead front.bytes.items front.line.items front.start front.last (I.state inputs.old) (I.state inputs.new)) }
+    ensures err { IfErr result (λ r. Unfronted (I.state inputs.old) stream.now (I.state inputs.new) (event_of r)) }
+    ensures inputs { Stays (I.state inputs.old) (I.state inputs.new) }
 {
     let mut bytes = Vec::new(alloc);
     let mut piece = [0u8; TURN];

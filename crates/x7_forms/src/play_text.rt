@@ -1,8 +1,7 @@
 //! The report of a play, ready to be written: the lines of its frames are made as they are written.
 ghost use Rattle.std.specs.Prelude.{◌≡◌, ◌++◌, ◌+◌, ◌*◌, ◌≤◌, ℕ, List, Bool, length, vec_len, vec_capacity, IfOk, OnErr, OnOk};
 ghost use Rattle.std.specs.List.{flat_map};
-ghost use Rattle.x7_words.specs.Count.{HasRisen};
-ghost use Rattle.x7_words.specs.Sink.{appended, PutsFront};
+ghost use Rattle.x7_words.specs.Sink.{Counts, PutsAll, PutsSome, SinkFails};
 ghost use Rattle.x7_text.specs.Appends.{Appends};
 ghost use Rattle.x7_part.specs.Part.{PartData};
 ghost use Rattle.x7_memory.specs.Frames.{AreFramesOf, frame_at};
@@ -59,10 +58,10 @@ fn write_lines<S: Sink>(
 ) -> Result<(), Failed>
     requires memory { AreFramesOf part.now memory.now }
     requires room { 263168 ≤ vec_capacity block.old }
-    ensures whole { OnOk result (S.written out.new ≡ appended (S.written out.old) (lines_text (frame_at part.now memory.now) fars.now)) }
-    ensures prefix { PutsFront (S.written out.old) (lines_text (frame_at part.now memory.now) fars.now) (S.written out.new) }
-    ensures failed { OnErr result (HasRisen (S.faults out.old) (S.faults out.new)) }
-    ensures faults { S.faults out.old ≤ S.faults out.new }
+    ensures whole { OnOk result (PutsAll (S.state out.old) (lines_text (frame_at part.now memory.now) fars.now) (S.state out.new)) }
+    ensures prefix { PutsSome (S.state out.old) (lines_text (frame_at part.now memory.now) fars.now) (S.state out.new) }
+    ensures failed { OnErr result (SinkFails (S.state out.old) (S.state out.new)) }
+    ensures counts { Counts (S.state out.old) (S.state out.new) }
     ensures room { 263168 ≤ vec_capacity block.new }
 {
     let mut rest = fars;
@@ -149,9 +148,9 @@ impl PlayText {
 
     /// Writes the report. After an error a prefix of it was written.
     pub fn write<S: Sink>(&mut self, out: &mut S) -> Result<(), Failed>
-        ensures whole { OnOk result (S.written out.new ≡ appended (S.written out.old) self.old.text) }
-        ensures prefix { PutsFront (S.written out.old) self.old.text (S.written out.new) }
-        ensures failed { OnErr result (HasRisen (S.faults out.old) (S.faults out.new)) }
+        ensures whole { OnOk result (PutsAll (S.state out.old) self.old.text (S.state out.new)) }
+        ensures prefix { PutsSome (S.state out.old) self.old.text (S.state out.new) }
+        ensures failed { OnErr result (SinkFails (S.state out.old) (S.state out.new)) }
     {
         write_all(out, &self.head)?;
         write_lines(

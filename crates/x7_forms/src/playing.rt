@@ -1,6 +1,6 @@
 //! The command `play`.
 ghost use Rattle.std.specs.Prelude.{◌≡◌, ℕ, List, [], ◌∷◌, ◌++◌, ◌+◌, ◌<◌, ◌≤◌, ◌⊎◌, true, length, map, string_bytes, Ok, Err, IfErr, IfOk};
-ghost use Rattle.x7_words.specs.Input.{AtEnd};
+ghost use Rattle.x7_words.specs.Input.{AtEnd, Stays};
 ghost use Rattle.x7_forms.specs.Message.{event_of};
 ghost use Rattle.x7_forms.specs.Event.{no_memory};
 ghost use Rattle.x7_forms.specs.Known.{data_of, part_of as part_due, played, read_of, stream_limit};
@@ -41,11 +41,9 @@ pub fn read_part<'w, I: Inputs>(
     inputs: &mut I,
     name: &'w str,
 ) -> Result<Part, Refusal<'w>>
-    ensures due { AnswersAs (name.now ∷ []) (I.contents inputs.old) (I.faults inputs.old) (I.faults inputs.new) (I.absences inputs.old) (I.absences inputs.new)
+    ensures due { AnswersAs (name.now ∷ []) (I.state inputs.old) (I.state inputs.new)
         (λ known. part_due known name.now) (seen (λ part. part) result) }
-    ensures map { I.contents inputs.new ≡ I.contents inputs.old }
-    ensures faults { I.faults inputs.old ≤ I.faults inputs.new }
-    ensures absences { I.absences inputs.old ≤ I.absences inputs.new }
+    ensures inputs { Stays (I.state inputs.old) (I.state inputs.new) }
 {
     let text = match read_whole(alloc, inputs, name, PART_LIMIT) {
         Ok(text) => text,
@@ -67,16 +65,14 @@ fn play_rest<'w, I: Inputs>(
     last: bool,
     piece: &mut [u8],
 ) -> Result<usize, Refusal<'w>>
-    requires selected { I.selected inputs.old ≡ true }
+    requires selected { (I.state inputs.old).selected ≡ true }
     requires buffer { length piece.old ≡ 266240 }
-    requires end { last ≡ true → AtEnd (I.rest inputs.old) }
+    requires end { last ≡ true → AtEnd (I.state inputs.old).rest }
     requires may { MayPlay player.old limit }
-    ensures ok { IfOk result (λ left. (more : List ℕ) × (length more + left ≡ limit) × PlaysOn player.old player.new more × ReadsRest (I.rest inputs.old) (I.rest inputs.new) more) }
-    ensures err { IfErr result (λ r. (event_of r ≡ no_memory) ⊎ UnreadRest (I.rest inputs.old) name.now limit (I.faults inputs.old) (I.faults inputs.new) (event_of r)) }
+    ensures ok { IfOk result (λ left. (more : List ℕ) × (length more + left ≡ limit) × PlaysOn player.old player.new more × ReadsRest (I.state inputs.old) (I.state inputs.new) more) }
+    ensures err { IfErr result (λ r. (event_of r ≡ no_memory) ⊎ UnreadRest (I.state inputs.old) name.now (I.state inputs.new) limit (event_of r)) }
     ensures length { length piece.new ≡ length piece.old }
-    ensures map { I.contents inputs.new ≡ I.contents inputs.old }
-    ensures faults { I.faults inputs.old ≤ I.faults inputs.new }
-    ensures absences { I.absences inputs.old ≤ I.absences inputs.new }
+    ensures inputs { Stays (I.state inputs.old) (I.state inputs.new) }
 {
     if last {
         return Ok(limit);
@@ -109,14 +105,12 @@ fn play_stream<'w, I: Inputs>(
     requires buffer { length piece.old ≡ 266240 }
     requires may { MayPlay player.old limit }
     ensures ok { IfOk result (λ left. (bytes : List ℕ) × (length bytes + left ≤ limit) × PlaysOn player.old player.new bytes
-        × (AnswersAs (name.now ∷ []) (I.contents inputs.old) (I.faults inputs.old) (I.faults inputs.new) (I.absences inputs.old) (I.absences inputs.new)
+        × (AnswersAs (name.now ∷ []) (I.state inputs.old) (I.state inputs.new)
         (λ known. read_of known limit name.now) (Ok (record { bytes = bytes; room = left })))) }
-    ensures err { IfErr result (λ r. AnswersAs (name.now ∷ []) (I.contents inputs.old) (I.faults inputs.old) (I.faults inputs.new) (I.absences inputs.old) (I.absences inputs.new)
+    ensures err { IfErr result (λ r. AnswersAs (name.now ∷ []) (I.state inputs.old) (I.state inputs.new)
         (λ known. read_of known limit name.now) (Err (event_of r))) }
     ensures length { length piece.new ≡ length piece.old }
-    ensures map { I.contents inputs.new ≡ I.contents inputs.old }
-    ensures faults { I.faults inputs.old ≤ I.faults inputs.new }
-    ensures absences { I.absences inputs.old ≤ I.absences inputs.new }
+    ensures inputs { Stays (I.state inputs.old) (I.state inputs.new) }
 {
     match open(inputs, name) {
         Ok(()) => (),
@@ -150,13 +144,11 @@ fn play_streams<'w, I: Inputs>(
     streams: &'w [String],
 ) -> Result<Player, Refusal<'w>>
     ensures ok { IfOk result (λ player. (bytes : List ℕ) × HasPlayed part.now bytes player
-        × (AnswersAs (map string_bytes streams.now) (I.contents inputs.old) (I.faults inputs.old) (I.faults inputs.new) (I.absences inputs.old) (I.absences inputs.new)
+        × (AnswersAs (map string_bytes streams.now) (I.state inputs.old) (I.state inputs.new)
         (λ known. data_of known stream_limit (map string_bytes streams.now)) (Ok bytes))) }
-    ensures err { IfErr result (λ r. AnswersAs (map string_bytes streams.now) (I.contents inputs.old) (I.faults inputs.old) (I.faults inputs.new) (I.absences inputs.old) (I.absences inputs.new)
+    ensures err { IfErr result (λ r. AnswersAs (map string_bytes streams.now) (I.state inputs.old) (I.state inputs.new)
         (λ known. data_of known stream_limit (map string_bytes streams.now)) (Err (event_of r))) }
-    ensures map { I.contents inputs.new ≡ I.contents inputs.old }
-    ensures faults { I.faults inputs.old ≤ I.faults inputs.new }
-    ensures absences { I.absences inputs.old ≤ I.absences inputs.new }
+    ensures inputs { Stays (I.state inputs.old) (I.state inputs.new) }
 {
     let Ok(mut player) = Player::new(alloc, part) else {
         return Err(Refusal::unnamed(Why::NoMemory));
@@ -182,7 +174,7 @@ pub fn play<'w, I: Inputs>(
     part: &'w str,
     streams: &'w [String],
 ) -> Result<PlayText, Refusal<'w>>
-    ensures { AnswersAs (part.now ∷ map string_bytes streams.now) (I.contents inputs.old) (I.faults inputs.old) (I.faults inputs.new) (I.absences inputs.old) (I.absences inputs.new)
+    ensures { AnswersAs (part.now ∷ map string_bytes streams.now) (I.state inputs.old) (I.state inputs.new)
         (λ known. played known part.now (map string_bytes streams.now)) (seen text_of_play result) }
 {
     let part = match read_part(alloc, inputs, part) {

@@ -1,7 +1,6 @@
 //! Reading an input in turns.
 ghost use Rattle.std.specs.Prelude.{◌≡◌, ◌+◌, ◌-◌, ◌<◌, ◌≤◌, ◌∷◌, [], ℕ, List, drop, length, map, string_bytes, take, true, false, vec_len, IfErr, IfOk, OnOk};
-ghost use Rattle.x7_words.specs.Count.{HasRisen};
-ghost use Rattle.x7_words.specs.Input.{AtEnd, Selects, preceded};
+ghost use Rattle.x7_words.specs.Input.{AtEnd, Fails, Opens, Stays, Takes};
 ghost use Rattle.x7_words.specs.Word.{AreBytes};
 ghost use Rattle.x7_forms.specs.Message.{event_of};
 ghost use Rattle.x7_forms.specs.Event.{read_fault};
@@ -39,16 +38,13 @@ fn turn_len(left: usize, room: usize) -> usize
 /// Fills the buffer with the next bytes of the selected input, and answers how many there were:
 /// fewer than it holds only where the input ended.
 fn fill<'w, I: Inputs>(inputs: &mut I, name: &'w str, buf: &mut [u8]) -> Result<usize, Refusal<'w>>
-    requires { I.selected inputs.old ≡ true }
-    ensures selected { OnOk result (I.selected inputs.new ≡ true) }
+    requires { (I.state inputs.old).selected ≡ true }
+    ensures ok { IfOk result (λ n. Takes (I.state inputs.old) (take n buf.new) (I.state inputs.new)) }
     ensures within { IfOk result (λ n. n ≤ length buf.old) }
-    ensures taken { IfOk result (λ n. I.rest inputs.old ≡ preceded (take n buf.new) (I.rest inputs.new)) }
-    ensures end { IfOk result (λ n. n < length buf.old → AtEnd (I.rest inputs.new)) }
+    ensures end { IfOk result (λ n. n < length buf.old → AtEnd (I.state inputs.new).rest) }
     ensures length { length buf.new ≡ length buf.old }
-    ensures failed { IfErr result (λ r. (event_of r ≡ read_fault name.now) × HasRisen (I.faults inputs.old) (I.faults inputs.new)) }
-    ensures map { I.contents inputs.new ≡ I.contents inputs.old }
-    ensures faults { I.faults inputs.old ≤ I.faults inputs.new }
-    ensures absences { I.absences inputs.old ≤ I.absences inputs.new }
+    ensures failed { IfErr result (λ r. (event_of r ≡ read_fault name.now) × Fails (I.state inputs.old) (I.state inputs.new)) }
+    ensures inputs { Stays (I.state inputs.old) (I.state inputs.new) }
 {
     let mut at = 0;
     while at < buf.len() {
@@ -69,12 +65,9 @@ fn fill<'w, I: Inputs>(inputs: &mut I, name: &'w str, buf: &mut [u8]) -> Result<
 
 /// Opens an input, of which nothing is read yet.
 pub fn open<'w, I: Inputs>(inputs: &mut I, name: &'w str) -> Result<(), Refusal<'w>>
-    ensures selected { OnOk result (I.selected inputs.new ≡ true) }
-    ensures found { OnOk result (Selects (I.contents inputs.old) name.now (I.rest inputs.new)) }
-    ensures err { IfErr result (λ r. Unopened (I.contents inputs.old) name.now (I.faults inputs.old) (I.faults inputs.new) (I.absences inputs.old) (I.absences inputs.new) (event_of r)) }
-    ensures map { I.contents inputs.new ≡ I.contents inputs.old }
-    ensures faults { I.faults inputs.old ≤ I.faults inputs.new }
-    ensures absences { I.absences inputs.old ≤ I.absences inputs.new }
+    ensures ok { OnOk result (Opens (I.state inputs.old) name.now (I.state inputs.new)) }
+    ensures err { IfErr result (λ r. Unopened (I.state inputs.old) name.now (I.state inputs.new) (event_of r)) }
+    ensures inputs { Stays (I.state inputs.old) (I.state inputs.new) }
 {
     match inputs.select(name) {
         Ok(()) => Ok(()),
@@ -105,18 +98,15 @@ pub fn next_turn<'w, I: Inputs>(
     left: usize,
     buf: &mut [u8],
 ) -> Result<Turn, Refusal<'w>>
-    requires selected { I.selected inputs.old ≡ true }
+    requires selected { (I.state inputs.old).selected ≡ true }
     requires some { 0 < length buf.old }
-    ensures selected { OnOk result (I.selected inputs.new ≡ true) }
+    ensures ok { IfOk result (λ turn. Takes (I.state inputs.old) (take turn.count buf.new) (I.state inputs.new)) }
     ensures within { IfOk result (λ turn. (turn.count ≤ left) × (turn.count ≤ length buf.old)) }
     ensures goes { IfOk result (λ turn. turn.last ≡ false → turn.count ≡ length buf.old) }
-    ensures taken { IfOk result (λ turn. I.rest inputs.old ≡ preceded (take turn.count buf.new) (I.rest inputs.new)) }
-    ensures end { IfOk result (λ turn. turn.last ≡ true → AtEnd (I.rest inputs.new)) }
+    ensures end { IfOk result (λ turn. turn.last ≡ true → AtEnd (I.state inputs.new).rest) }
     ensures length { length buf.new ≡ length buf.old }
-    ensures err { IfErr result (λ r. Unread (I.rest inputs.old) (I.rest inputs.new) name.now left (length buf.old) (I.faults inputs.old) (I.faults inputs.new) (event_of r)) }
-    ensures map { I.contents inputs.new ≡ I.contents inputs.old }
-    ensures faults { I.faults inputs.old ≤ I.faults inputs.new }
-    ensures absences { I.absences inputs.old ≤ I.absences inputs.new }
+    ensures err { IfErr result (λ r. Unread (I.state inputs.old) name.now (I.state inputs.new) left (length buf.old) (event_of r)) }
+    ensures inputs { Stays (I.state inputs.old) (I.state inputs.new) }
 {
     let most = turn_len(left, buf.len());
     let count = match fill(inputs, name, &mut buf[..most]) {
@@ -142,13 +132,11 @@ pub(crate) fn read_onto<'w, I: Inputs>(
     limit: usize,
     onto: &mut Vec<u8>,
 ) -> Result<(), Refusal<'w>>
-    ensures due { AnswersAs (name.now ∷ []) (I.contents inputs.old) (I.faults inputs.old) (I.faults inputs.new) (I.absences inputs.old) (I.absences inputs.new)
+    ensures due { AnswersAs (name.now ∷ []) (I.state inputs.old) (I.state inputs.new)
         (λ known. put_before onto.old.items (whole_in known limit name.now)) (seen (λ _. onto.new.items) result) }
     ensures within { OnOk result (vec_len onto.new ≤ vec_len onto.old + limit) }
     ensures longer { OnOk result (vec_len onto.old ≤ vec_len onto.new) }
-    ensures map { I.contents inputs.new ≡ I.contents inputs.old }
-    ensures faults { I.faults inputs.old ≤ I.faults inputs.new }
-    ensures absences { I.absences inputs.old ≤ I.absences inputs.new }
+    ensures inputs { Stays (I.state inputs.old) (I.state inputs.new) }
 {
     match open(inputs, name) {
         Ok(()) => (),
@@ -179,12 +167,10 @@ pub fn read_whole<'w, I: Inputs>(
     name: &'w str,
     limit: usize,
 ) -> Result<Vec<u8>, Refusal<'w>>
-    ensures due { AnswersAs (name.now ∷ []) (I.contents inputs.old) (I.faults inputs.old) (I.faults inputs.new) (I.absences inputs.old) (I.absences inputs.new)
+    ensures due { AnswersAs (name.now ∷ []) (I.state inputs.old) (I.state inputs.new)
         (λ known. whole_in known limit name.now) (seen (λ whole. whole.items) result) }
     ensures within { IfOk result (λ whole. vec_len whole ≤ limit) }
-    ensures map { I.contents inputs.new ≡ I.contents inputs.old }
-    ensures faults { I.faults inputs.old ≤ I.faults inputs.new }
-    ensures absences { I.absences inputs.old ≤ I.absences inputs.new }
+    ensures inputs { Stays (I.state inputs.old) (I.state inputs.new) }
 {
     let mut whole = Vec::new(alloc);
     match read_onto(inputs, name, limit, &mut whole) {
@@ -202,15 +188,13 @@ pub(crate) fn skip_rest<'w, I: Inputs>(
     last: bool,
     buf: &mut [u8],
 ) -> Result<(), Refusal<'w>>
-    requires selected { I.selected inputs.old ≡ true }
+    requires selected { (I.state inputs.old).selected ≡ true }
     requires some { 0 < length buf.old }
-    requires end { last ≡ true → AtEnd (I.rest inputs.old) }
-    ensures ok { OnOk result ((more : List ℕ) × (length more ≤ limit) × ReadsRest (I.rest inputs.old) (I.rest inputs.new) more) }
-    ensures err { IfErr result (λ r. UnreadRest (I.rest inputs.old) name.now limit (I.faults inputs.old) (I.faults inputs.new) (event_of r)) }
+    requires end { last ≡ true → AtEnd (I.state inputs.old).rest }
+    ensures ok { OnOk result ((more : List ℕ) × (length more ≤ limit) × ReadsRest (I.state inputs.old) (I.state inputs.new) more) }
+    ensures err { IfErr result (λ r. UnreadRest (I.state inputs.old) name.now (I.state inputs.new) limit (event_of r)) }
     ensures length { length buf.new ≡ length buf.old }
-    ensures map { I.contents inputs.new ≡ I.contents inputs.old }
-    ensures faults { I.faults inputs.old ≤ I.faults inputs.new }
-    ensures absences { I.absences inputs.old ≤ I.absences inputs.new }
+    ensures inputs { Stays (I.state inputs.old) (I.state inputs.new) }
 {
     if last {
         return Ok(());

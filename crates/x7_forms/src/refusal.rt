@@ -1,6 +1,5 @@
 //! Why a command has no whole text, and the line that says so.
 ghost use Rattle.std.specs.Prelude.{◌≡◌, ◌++◌, [], codes};
-ghost use Rattle.x7_words.specs.Count.{HasRisen};
 ghost use Rattle.x7_words.specs.Sink.{Tells};
 
 use crate::bad_input::{InputFault, say_bad_input};
@@ -68,7 +67,7 @@ impl Why {
 
 /// Writes a line that has nothing after the name. No memory is taken.
 fn say_line<'x, E: Sink>(err: &mut E, words: &'x [u8], name: &'x str) -> Result<(), Failed>
-    ensures { Tells (HasRisen (E.faults err.old) (E.faults err.new)) (E.written err.old) (E.written err.new) (words.now ++ (name.now ++ codes "\n")) }
+    ensures { Tells (E.state err.old) (words.now ++ (name.now ++ codes "\n")) (E.state err.new) }
 {
     write_pieces(err, &[words, name.as_bytes(), b"\n"])
 }
@@ -95,7 +94,7 @@ impl<'w> Refusal<'w> {
 
     /// Writes its line. A fault of the sink changes nothing else.
     fn say<E: Sink>(&self, err: &mut E) -> Result<(), Failed>
-        ensures { Tells (HasRisen (E.faults err.old) (E.faults err.new)) (E.written err.old) (E.written err.new) (line_of (event_of self.now)) }
+        ensures { Tells (E.state err.old) (line_of (event_of self.now)) (E.state err.new) }
     {
         match self.reason {
             Why::BadPart(fault) => say_bad_part(err, self.name, fault),
@@ -107,7 +106,7 @@ impl<'w> Refusal<'w> {
     /// Says its line, and gives its status. No memory is taken.
     pub fn tell<E: Sink>(&self, err: &mut E) -> Status
         ensures status { result ≡ status_of (event_of self.now) }
-        ensures line { Tells (HasRisen (E.faults err.old) (E.faults err.new)) (E.written err.old) (E.written err.new) (line_of (event_of self.now)) }
+        ensures line { Tells (E.state err.old) (line_of (event_of self.now)) (E.state err.new) }
     {
         let _ = self.say(err);
         self.reason.status()

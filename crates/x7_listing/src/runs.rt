@@ -1,7 +1,6 @@
 //! An input listed by its runs.
 ghost use Rattle.std.specs.Prelude.{◌≡◌, ◌≤◌, ◌^◌, ◌⊎◌, ℕ, List, length, false, true, IfOk, IsErrOf, OnOk};
-ghost use Rattle.x7_words.specs.Count.{HasRisen};
-ghost use Rattle.x7_words.specs.Input.{AtEnd};
+ghost use Rattle.x7_words.specs.Input.{AtEnd, Fails, Stays};
 ghost use Rattle.x7_packets.specs.Running.{PacketsStandFor};
 ghost use Rattle.x7_listing.specs.TakingRuns.{TakesRuns};
 
@@ -29,17 +28,15 @@ pub fn take_runs<I: Inputs>(
     inputs: &mut I,
     most: usize,
 ) -> Result<bool, RunsFault>
-    requires selected { I.selected inputs.old ≡ true }
+    requires selected { (I.state inputs.old).selected ≡ true }
     requires good { packets.old.failed ≡ false }
-    requires end { packets.old.done ≡ true → AtEnd (I.rest inputs.old) }
+    requires end { packets.old.done ≡ true → AtEnd (I.state inputs.old).rest }
     requires stands { (bytes told : List ℕ) × PacketsStandFor packets.old bytes told }
-    ensures taken { IfOk result (λ ended. TakesRuns packets.old packets.new lister.old lister.new (I.rest inputs.old) (I.rest inputs.new) ended) }
+    ensures taken { IfOk result (λ ended. TakesRuns packets.old packets.new lister.old lister.new (I.state inputs.old).rest (I.state inputs.new).rest ended) }
     ensures enough { IfOk result (λ ended. ended ≡ false → (most ≤ length lister.new.text) ⊎ (2 ^ 63 ≤ packets.new.taken)) }
-    ensures failed { IsErrOf result RunsFault.Failed → HasRisen (I.faults inputs.old) (I.faults inputs.new) }
-    ensures selected { OnOk result (I.selected inputs.new ≡ true) }
-    ensures map { I.contents inputs.new ≡ I.contents inputs.old }
-    ensures faults { I.faults inputs.old ≤ I.faults inputs.new }
-    ensures absences { I.absences inputs.old ≤ I.absences inputs.new }
+    ensures failed { IsErrOf result RunsFault.Failed → Fails (I.state inputs.old) (I.state inputs.new) }
+    ensures selected { OnOk result ((I.state inputs.new).selected ≡ true) }
+    ensures inputs { Stays (I.state inputs.old) (I.state inputs.new) }
 {
     for _ in 0..u64::MAX {
         if lister.text().len() >= most {

@@ -1,8 +1,7 @@
 //! The text of a flash's bytes, written block by block in one buffer.
 ghost use Rattle.std.specs.Prelude.{◌≡◌, ℕ, List, ◌≤◌, ◌^◌, length, vec_len, vec_capacity, IfOk, OnOk, OnErr};
 ghost use Rattle.x7_text.specs.Row.{rows};
-ghost use Rattle.x7_words.specs.Count.{HasRisen};
-ghost use Rattle.x7_words.specs.Sink.{appended, PutsFront};
+ghost use Rattle.x7_words.specs.Sink.{Counts, PutsAll, PutsSome, SinkFails};
 ghost use Rattle.x7_mcs.specs.Text.{mcs_text, row_lines};
 
 use crate::text::{END_LINE, put_rows};
@@ -20,10 +19,10 @@ const BLOCK_ROOM: usize = 4 * BLOCK + 60;
 fn write_rows<S: Sink>(out: &mut S, flash: &[u8], block: &mut Vec<u8>) -> Result<(), Failed>
     requires flash { length flash.now ≤ 2 ^ 27 }
     requires room { 262204 ≤ vec_capacity block.old }
-    ensures whole { OnOk result (S.written out.new ≡ appended (S.written out.old) (row_lines 0 (rows 16 flash.now))) }
-    ensures prefix { PutsFront (S.written out.old) (row_lines 0 (rows 16 flash.now)) (S.written out.new) }
-    ensures failed { OnErr result (HasRisen (S.faults out.old) (S.faults out.new)) }
-    ensures faults { S.faults out.old ≤ S.faults out.new }
+    ensures whole { OnOk result (PutsAll (S.state out.old) (row_lines 0 (rows 16 flash.now)) (S.state out.new)) }
+    ensures prefix { PutsSome (S.state out.old) (row_lines 0 (rows 16 flash.now)) (S.state out.new) }
+    ensures failed { OnErr result (SinkFails (S.state out.old) (S.state out.new)) }
+    ensures counts { Counts (S.state out.old) (S.state out.new) }
     ensures room { 262204 ≤ vec_capacity block.new }
 {
     let mut place = 0u32;
@@ -68,9 +67,9 @@ impl McsText {
 
     /// Writes the text. After an error a prefix of it was written.
     pub fn write<S: Sink>(&mut self, out: &mut S) -> Result<(), Failed>
-        ensures whole { OnOk result (S.written out.new ≡ appended (S.written out.old) (mcs_text self.old)) }
-        ensures prefix { PutsFront (S.written out.old) (mcs_text self.old) (S.written out.new) }
-        ensures failed { OnErr result (HasRisen (S.faults out.old) (S.faults out.new)) }
+        ensures whole { OnOk result (PutsAll (S.state out.old) (mcs_text self.old) (S.state out.new)) }
+        ensures prefix { PutsSome (S.state out.old) (mcs_text self.old) (S.state out.new) }
+        ensures failed { OnErr result (SinkFails (S.state out.old) (S.state out.new)) }
     {
         write_rows(out, &self.image, &mut self.block)?;
         write_all(out, END_LINE)

@@ -1,7 +1,6 @@
 //! Packets over an input: its runs, one after another, lent out of one buffer.
 ghost use Rattle.std.specs.Prelude.{◌≡◌, ◌≢◌, ◌≤◌, ◌<◌, ◌+◌, ◌^◌, ◌⊎◌, ◌↔◌, ℕ, List, [], length, take, vec_len, true, false, IfNone, IfOk, IfSome, OnErr, OnOk};
-ghost use Rattle.x7_words.specs.Count.{HasRisen};
-ghost use Rattle.x7_words.specs.Input.{AtEnd, preceded};
+ghost use Rattle.x7_words.specs.Input.{AtEnd, Fails, Stays, preceded};
 ghost use Rattle.x7_packets.specs.Cutting.{IsNeed};
 ghost use Rattle.x7_packets.specs.declared.cutter.Mode.TheVariants as mode;
 ghost use Rattle.x7_packets.specs.PacketsState.{PacketsState};
@@ -137,17 +136,15 @@ impl Packets {
     /// The next run. It reads where it must, and no more once the tail or the end was given; the end is then given again.
     /// After a failed read it fails from then on.
     pub fn next_run<'b, I: Inputs>(&'b mut self, inputs: &mut I) -> Result<Run<'b>, Failed>
-        requires selected { self.old.failed ≡ false → I.selected inputs.old ≡ true }
-        requires end { self.old.done ≡ true → AtEnd (I.rest inputs.old) }
+        requires selected { self.old.failed ≡ false → (I.state inputs.old).selected ≡ true }
+        requires end { self.old.done ≡ true → AtEnd (I.state inputs.old).rest }
         requires count { self.old.taken ≤ 2 ^ 63 }
-        ensures* next { sem 𝓛 (GivesNext self.entry (I.rest inputs.old) (I.rest inputs.new) result) }
-        ensures failed { OnErr result ((self.old.failed ≡ true) ⊎ HasRisen (I.faults inputs.old) (I.faults inputs.new)) }
-        ensures selected { OnOk result (I.selected inputs.new ≡ true) }
+        ensures* next { sem 𝓛 (GivesNext self.entry (I.state inputs.old).rest (I.state inputs.new).rest result) }
+        ensures failed { OnErr result ((self.old.failed ≡ true) ⊎ Fails (I.state inputs.old) (I.state inputs.new)) }
+        ensures selected { OnOk result ((I.state inputs.new).selected ≡ true) }
         ensures stays { self.old.failed ≡ true → OnOk result ⊥ }
         ensures ended { self.old.done ≡ true → inputs.new ≡ inputs.old }
-        ensures map { I.contents inputs.new ≡ I.contents inputs.old }
-        ensures faults { I.faults inputs.old ≤ I.faults inputs.new }
-        ensures absences { I.absences inputs.old ≤ I.absences inputs.new }
+        ensures inputs { Stays (I.state inputs.old) (I.state inputs.new) }
     {
         self.advance(inputs)?;
         Ok(self.run())
@@ -155,18 +152,16 @@ impl Packets {
 
     /// Finds the next run.
     fn advance<I: Inputs>(&mut self, inputs: &mut I) -> Result<(), Failed>
-        requires selected { self.old.failed ≡ false → I.selected inputs.old ≡ true }
-        requires end { self.old.done ≡ true → AtEnd (I.rest inputs.old) }
+        requires selected { self.old.failed ≡ false → (I.state inputs.old).selected ≡ true }
+        requires end { self.old.done ≡ true → AtEnd (I.state inputs.old).rest }
         requires count { self.old.taken ≤ 2 ^ 63 }
-        ensures ok { OnOk result ((r : Run) → IsLast self.new r → GivesRun self.old self.new (I.rest inputs.old) (I.rest inputs.new) r) }
+        ensures ok { OnOk result ((r : Run) → IsLast self.new r → GivesRun self.old self.new (I.state inputs.old).rest (I.state inputs.new).rest r) }
         ensures err { OnErr result (GivesUp self.old self.new) }
-        ensures failed { OnErr result ((self.old.failed ≡ true) ⊎ HasRisen (I.faults inputs.old) (I.faults inputs.new)) }
-        ensures selected { OnOk result (I.selected inputs.new ≡ true) }
+        ensures failed { OnErr result ((self.old.failed ≡ true) ⊎ Fails (I.state inputs.old) (I.state inputs.new)) }
+        ensures selected { OnOk result ((I.state inputs.new).selected ≡ true) }
         ensures stays { self.old.failed ≡ true → OnOk result ⊥ }
         ensures ended { self.old.done ≡ true → inputs.new ≡ inputs.old }
-        ensures map { I.contents inputs.new ≡ I.contents inputs.old }
-        ensures faults { I.faults inputs.old ≤ I.faults inputs.new }
-        ensures absences { I.absences inputs.old ≤ I.absences inputs.new }
+        ensures inputs { Stays (I.state inputs.old) (I.state inputs.new) }
     {
         if self.failed {
             return Err(Failed);
@@ -226,16 +221,14 @@ impl Packets {
 
     /// Reads a piece once more, and says whether the input gave some bytes.
     fn fill<I: Inputs>(&mut self, inputs: &mut I) -> Result<bool, Failed>
-        requires selected { I.selected inputs.old ≡ true }
+        requires selected { (I.state inputs.old).selected ≡ true }
         requires none { self.old.left ≡ [] }
         requires count { self.old.taken + 65536 < 2 ^ 64 }
-        ensures ok { IfOk result (λ any. Fills self.old self.new (I.rest inputs.old) (I.rest inputs.new) any) }
+        ensures ok { IfOk result (λ any. Fills self.old self.new (I.state inputs.old).rest (I.state inputs.new).rest any) }
         ensures err { OnErr result (self.new ≡ record self.old { bytes = []; failed = true }) }
-        ensures failed { OnErr result (HasRisen (I.faults inputs.old) (I.faults inputs.new)) }
-        ensures selected { OnOk result (I.selected inputs.new ≡ true) }
-        ensures map { I.contents inputs.new ≡ I.contents inputs.old }
-        ensures faults { I.faults inputs.old ≤ I.faults inputs.new }
-        ensures absences { I.absences inputs.old ≤ I.absences inputs.new }
+        ensures failed { OnErr result (Fails (I.state inputs.old) (I.state inputs.new)) }
+        ensures selected { OnOk result ((I.state inputs.new).selected ≡ true) }
+        ensures inputs { Stays (I.state inputs.old) (I.state inputs.new) }
     {
         self.start = 0;
         self.at = 0;

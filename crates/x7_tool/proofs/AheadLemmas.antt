@@ -1,6 +1,6 @@
 -- Lemmas on specs/Ahead.
 use Rattle.std.proofs.Common.{◌≡◌, ℕ, ◌+◌, ◌≤◌, ◌⊎◌, inl, inr, Bool, true, false, List, [], ◌++◌, Option, Some, Result, Ok, Err, IfErr, length, length-append, ap, sym, subst, ◌∙◌, append-nil, arith}
-use Rattle.x7_words.specs.Input.{preceded, Selects}
+use Rattle.x7_words.specs.Input.{InputsState, preceded, Selects}
 use Rattle.x7_words.specs.Sink.{appended, PutsFront}
 use Rattle.x7_words.proofs.SinkLemmas.{appended-appended, appended-nil}
 use Rattle.x7_listing.specs.Telling.{ListerState}
@@ -69,13 +69,13 @@ turn_near contents stream taken piece line sent l rest old mid new s close few t
 same_place : (m n : ℕ) (r : Result (List ℕ) ℕ) → r ≡ Err m → r ≡ Err n → m ≡ n
 same_place m n r a b = let e : Err m ≡ r = sym a in cc
 
-pub bad_soon : (contents : Option (List ℕ → Option (List ℕ))) (stream name : List ℕ) (r0 rest : Option (List ℕ)) (event : Event) → Selects contents stream r0 → IsBadFront r0 rest name event → IsSoon contents stream rest
-bad_soon contents stream name r0 rest event s b inputs bytes left place c i r l =
-    let sel : Selects contents stream (preceded b.bytes rest) = subst (λ (k : Option (List ℕ)). Selects contents stream k) b.taken s in
-    let t = known_all inputs stream b.bytes rest (subst (λ (k : Option (List ℕ → Option (List ℕ))). Selects k stream (preceded b.bytes rest)) c sel) in
+pub bad_soon : (contents : Option (List ℕ → Option (List ℕ))) (stream name : List ℕ) (m n : InputsState) (event : Event) → Selects contents stream m.rest → IsBadFront m n name event → IsSoon contents stream n.rest
+bad_soon contents stream name m n event s b inputs bytes left place c i r l =
+    let sel : Selects contents stream (preceded b.bytes n.rest) = subst (λ (k : Option (List ℕ)). Selects contents stream k) b.taken s in
+    let t = known_all inputs stream b.bytes n.rest (subst (λ (k : Option (List ℕ → Option (List ℕ))). Selects k stream (preceded b.bytes n.rest)) c sel) in
     let tail : left ≡ t.0 = let e = t.1.0 in cc in
     let whole : bytes ≡ b.bytes ++ t.0 = let e = t.1.1 in cc in
-    let refused = b.refused t.0 (may_follow b.last rest t.0 t.1.0 b.end) in
+    let refused = b.refused t.0 (may_follow b.last n.rest t.0 t.1.0 b.end) in
     let same = same_place place b.place (stream_listing (b.bytes ++ t.0)) (ap stream_listing (sym whole) ∙ l) refused in
     omega (arith, b.soon, same, ap length whole, ap length tail, length-append b.bytes t.0)
 
@@ -85,18 +85,18 @@ module _ (contents : Option (List ℕ → Option (List ℕ))) (stream : List ℕ
   as_event : (event other : Event) → event ≡ other → StaysNear (status_of other) (Some (Listing stream)) contents rest old new → StaysNear (status_of event) (Some (Listing stream)) contents rest old new
   as_event event other e h = subst (λ (x : Event). StaysNear (status_of x) (Some (Listing stream)) contents rest old new) (sym e) h
 
-  pub unopened_near : (map : Option (List ℕ → Option (List ℕ))) (name : List ℕ) (f0 f1 a0 a1 : ℕ) (event : Event) → Unopened map name f0 f1 a0 a1 event → StaysNear (status_of event) (Some (Listing stream)) contents rest old new
-  unopened_near map name f0 f1 a0 a1 event (inl h) = as_event event (missing name) h.0 tt
-  unopened_near map name f0 f1 a0 a1 event (inr h) = as_event event (read_fault name) h.0 tt
+  pub unopened_near : (s n : InputsState) (name : List ℕ) (event : Event) → Unopened s name n event → StaysNear (status_of event) (Some (Listing stream)) contents rest old new
+  unopened_near s n name event (inl h) = as_event event (missing name) h.0 tt
+  unopened_near s n name event (inr h) = as_event event (read_fault name) h.0 tt
 
-  pub unfronted_near : (r0 : Option (List ℕ)) (name : List ℕ) (f0 f1 : ℕ) (event : Event) → Selects contents stream r0 → Unfronted r0 rest name f0 f1 event → StaysNear (status_of event) (Some (Listing stream)) contents rest old new
-  unfronted_near r0 name f0 f1 event s (inl h) = as_event event no_memory h tt
-  unfronted_near r0 name f0 f1 event s (inr (inl h)) = as_event event (read_fault name) h.0 tt
-  unfronted_near r0 name f0 f1 event s (inr (inr h)) = as_event event (bad_input name (input.Byte h.place)) h.is (bad_soon contents stream name r0 rest event s h)
+  pub unfronted_near : (m n : InputsState) (name : List ℕ) (event : Event) → n.rest ≡ rest → Selects contents stream m.rest → Unfronted m name n event → StaysNear (status_of event) (Some (Listing stream)) contents rest old new
+  unfronted_near m n name event e s (inl h) = as_event event no_memory h tt
+  unfronted_near m n name event e s (inr (inl h)) = as_event event (read_fault name) h.0 tt
+  unfronted_near m n name event e s (inr (inr h)) = as_event event (bad_input name (input.Byte h.place)) h.is (subst (λ (r : Option (List ℕ)). IsSoon contents stream r) e (bad_soon contents stream name m n event s h))
 
-  pub unread_near : (r0 r1 : Option (List ℕ)) (name : List ℕ) (left most f0 f1 : ℕ) (event : Event) → Unread r0 r1 name left most f0 f1 event → StaysNear (status_of event) (Some (Listing stream)) contents rest old new
-  unread_near r0 r1 name left most f0 f1 event (inl h) = as_event event (read_fault name) h.0 tt
-  unread_near r0 r1 name left most f0 f1 event (inr h) = as_event event (too_large name) h.0 tt
+  pub unread_near : (s n : InputsState) (name : List ℕ) (left most : ℕ) (event : Event) → Unread s name n left most event → StaysNear (status_of event) (Some (Listing stream)) contents rest old new
+  unread_near s n name left most event (inl h) = as_event event (read_fault name) h.0 tt
+  unread_near s n name left most event (inr h) = as_event event (too_large name) h.0 tt
 
   pub unwritten_near : (Q : Type 0) (event : Event) → IsNear contents stream rest old new → (event ≡ no_memory) ⊎ ((event ≡ write_fault) × Q) → StaysNear (status_of event) (Some (Listing stream)) contents rest old new
   unwritten_near Q event n (inl h) = as_event event no_memory h tt

@@ -4,7 +4,7 @@ use Rattle.std.specs.Prelude.{if◌then◌else◌, nat_eq, nat_lt}
 use Rattle.std.specs.List.{starts_with}
 use Rattle.std.proofs.lemmas.Bool.Decides.{nat_tests}
 use Rattle.x7_words.specs.Count.{HasRisen}
-use Rattle.x7_words.specs.Input.{AtEnd, Lacks, Selects, preceded}
+use Rattle.x7_words.specs.Input.{InputsState, AtEnd, Lacks, Selects, Stays, preceded}
 use Rattle.x7_words.specs.Sink.{appended, PutsFront}
 use Rattle.x7_words.specs.Word.{AreBytes}
 use Rattle.x7_words.proofs.SinkLemmas.{appended-nil}
@@ -130,12 +130,12 @@ pub ends_same : (known : Option Known) (F L : List ℕ → Type 0) (form : Optio
 ends_same known F L form Full old now x y e h = subst (λ (event : Event). Ends known F L form Full old now (Err event)) (sym e) h
 
 -- a stream that could not be opened
-pub unopened : (contents : Option (List ℕ → Option (List ℕ))) (flash : Option (List ℕ)) (stream : List ℕ) (f0 f1 a0 a1 : ℕ) (Full : Type 0) (old : Option (List ℕ)) (event : Event) → Unopened contents stream f0 f1 a0 a1 event
-    → Ends (with_inputs contents flash) (RisesFor (stream ∷ []) f0 f1) (RisesFor (stream ∷ []) a0 a1) (Some (Listing stream)) Full old old (Err event)
-unopened contents flash stream f0 f1 a0 a1 Full old event (inl h) =
-    ends_same (with_inputs contents flash) (RisesFor (stream ∷ []) f0 f1) (RisesFor (stream ∷ []) a0 a1) (Some (Listing stream)) Full old old event (missing stream) h.0 (not_there contents flash (RisesFor (stream ∷ []) f0 f1) stream a0 a1 Full old h.1)
-unopened contents flash stream f0 f1 a0 a1 Full old event (inr h) =
-    ends_same (with_inputs contents flash) (RisesFor (stream ∷ []) f0 f1) (RisesFor (stream ∷ []) a0 a1) (Some (Listing stream)) Full old old event (read_fault stream) h.0 (not_selected contents flash (RisesFor (stream ∷ []) a0 a1) stream f0 f1 Full old h.1)
+pub unopened : (s n : InputsState) (flash : Option (List ℕ)) (stream : List ℕ) (Full : Type 0) (old : Option (List ℕ)) (event : Event) → Unopened s stream n event
+    → Ends (with_inputs s.contents flash) (RisesFor (stream ∷ []) s.faults n.faults) (RisesFor (stream ∷ []) s.absences n.absences) (Some (Listing stream)) Full old old (Err event)
+unopened s n flash stream Full old event (inl h) =
+    ends_same (with_inputs s.contents flash) (RisesFor (stream ∷ []) s.faults n.faults) (RisesFor (stream ∷ []) s.absences n.absences) (Some (Listing stream)) Full old old event (missing stream) h.0 (not_there s.contents flash (RisesFor (stream ∷ []) s.faults n.faults) stream s.absences n.absences Full old h.1)
+unopened s n flash stream Full old event (inr h) =
+    ends_same (with_inputs s.contents flash) (RisesFor (stream ∷ []) s.faults n.faults) (RisesFor (stream ∷ []) s.absences n.absences) (Some (Listing stream)) Full old old event (read_fault stream) h.0 (not_selected s.contents flash (RisesFor (stream ∷ []) s.absences n.absences) stream s.faults n.faults Full old h.1)
 
 -- an error by two of its clauses
 pub both_err : {A B : Type 0} (r : Result A B) (P Q R : B → Type 0) → ((e : B) → P e → Q e → R e) → IfErr r P → IfErr r Q → IfErr r R
@@ -148,15 +148,15 @@ nothing_taken contents stream None s = s
 nothing_taken contents stream (Some rest) s = s
 
 -- a stream whose front was not read
-pub unfronted : (contents : Option (List ℕ → Option (List ℕ))) (flash : Option (List ℕ)) (stream : List ℕ) (rest rest_now : Option (List ℕ)) (f0 f1 f2 a0 a2 : ℕ) (Full : Type 0) (old : Option (List ℕ)) (event : Event)
-    → f0 ≤ f1 → Selects contents stream rest → Unfronted rest rest_now stream f1 f2 event
-    → Ends (with_inputs contents flash) (RisesFor (stream ∷ []) f0 f2) (RisesFor (stream ∷ []) a0 a2) (Some (Listing stream)) Full old old (Err event)
-unfronted contents flash stream rest rest_now f0 f1 f2 a0 a2 Full old event f s (inl h) =
-    ends_same (with_inputs contents flash) (RisesFor (stream ∷ []) f0 f2) (RisesFor (stream ∷ []) a0 a2) (Some (Listing stream)) Full old old event no_memory h
-    (out_of_memory contents flash (RisesFor (stream ∷ []) f0 f2) (RisesFor (stream ∷ []) a0 a2) stream [] rest Full old old (nothing_taken contents stream rest s) (listing_of [], (nothing_listed, none_put old (listing_of []))))
-unfronted contents flash stream rest rest_now f0 f1 f2 a0 a2 Full old event f s (inr (inl h)) =
-    ends_same (with_inputs contents flash) (RisesFor (stream ∷ []) f0 f2) (RisesFor (stream ∷ []) a0 a2) (Some (Listing stream)) Full old old event (read_fault stream) h.0
-    (broken contents flash (RisesFor (stream ∷ []) a0 a2) stream [] rest f0 f2 Full old old (nothing_taken contents stream rest s) (risen_from f0 f1 f2 f h.1) (listing_of [], (nothing_listed, none_put old (listing_of []))))
-unfronted contents flash stream rest rest_now f0 f1 f2 a0 a2 Full old event f s (inr (inr h)) =
-    ends_same (with_inputs contents flash) (RisesFor (stream ∷ []) f0 f2) (RisesFor (stream ∷ []) a0 a2) (Some (Listing stream)) Full old old event (bad_input stream (input.Byte h.place)) h.is
-    (refused contents flash (RisesFor (stream ∷ []) f0 f2) (RisesFor (stream ∷ []) a0 a2) stream h.bytes rest_now h.last h.place Full old (subst (λ r. Selects contents stream r) h.taken s) h.end h.refused)
+pub unfronted : (s m n : InputsState) (flash : Option (List ℕ)) (stream : List ℕ) (Full : Type 0) (old : Option (List ℕ)) (event : Event)
+    → Stays s m → Selects s.contents stream m.rest → Unfronted m stream n event
+    → Ends (with_inputs s.contents flash) (RisesFor (stream ∷ []) s.faults n.faults) (RisesFor (stream ∷ []) s.absences n.absences) (Some (Listing stream)) Full old old (Err event)
+unfronted s m n flash stream Full old event f sel (inl h) =
+    ends_same (with_inputs s.contents flash) (RisesFor (stream ∷ []) s.faults n.faults) (RisesFor (stream ∷ []) s.absences n.absences) (Some (Listing stream)) Full old old event no_memory h
+    (out_of_memory s.contents flash (RisesFor (stream ∷ []) s.faults n.faults) (RisesFor (stream ∷ []) s.absences n.absences) stream [] m.rest Full old old (nothing_taken s.contents stream m.rest sel) (listing_of [], (nothing_listed, none_put old (listing_of []))))
+unfronted s m n flash stream Full old event f sel (inr (inl h)) =
+    ends_same (with_inputs s.contents flash) (RisesFor (stream ∷ []) s.faults n.faults) (RisesFor (stream ∷ []) s.absences n.absences) (Some (Listing stream)) Full old old event (read_fault stream) h.0
+    (broken s.contents flash (RisesFor (stream ∷ []) s.absences n.absences) stream [] m.rest s.faults n.faults Full old old (nothing_taken s.contents stream m.rest sel) (risen_from s.faults m.faults n.faults f.faults h.1) (listing_of [], (nothing_listed, none_put old (listing_of []))))
+unfronted s m n flash stream Full old event f sel (inr (inr h)) =
+    ends_same (with_inputs s.contents flash) (RisesFor (stream ∷ []) s.faults n.faults) (RisesFor (stream ∷ []) s.absences n.absences) (Some (Listing stream)) Full old old event (bad_input stream (input.Byte h.place)) h.is
+    (refused s.contents flash (RisesFor (stream ∷ []) s.faults n.faults) (RisesFor (stream ∷ []) s.absences n.absences) stream h.bytes n.rest h.last h.place Full old (subst (λ r. Selects s.contents stream r) h.taken sel) h.end h.refused)

@@ -135,7 +135,7 @@ came_cause (Some known) (Some form) old new event h = known_cause (cause_of even
 
 -- what an event's cause says, and what it leaves
 ended_by : (cause : Cause) (known : Option Known) (form : Option Asked) (old new : Outside) (event : Event) → cause_of event ≡ cause
-    → EndsBy cause known (Fails form old new) (Lacks form old new) form (HasRisen old.out_faults new.out_faults) old.out new.out event → CausedBy cause known form old new event
+    → EndsBy cause known (Fails form old new) (Lacks form old new) form (HasRisen old.out.faults new.out.faults) old.out.written new.out.written event → CausedBy cause known form old new event
 ended_by Break known form old new event e h = (h.0, h.1)
 ended_by Wording known form old new event e h = rw e at (came_cause known form old new event h.0)
 ended_by Want known form old new event e h = rw e at (came_cause known form old new event h.0)
@@ -144,7 +144,7 @@ ended_by Absence known form old new event e h = rw e at (came_cause known form o
 ended_by Contents known form old new event e h = rw e at (came_cause known form old new event h.0)
 
 left_by : (cause : Cause) (form : Option Asked) (old new : Outside) (event : Event)
-    → EndsBy cause (known_in form old) (Fails form old new) (Lacks form old new) form (HasRisen old.out_faults new.out_faults) old.out new.out event → LeftBy cause form old new event
+    → EndsBy cause (known_in form old) (Fails form old new) (Lacks form old new) form (HasRisen old.out.faults new.out.faults) old.out.written new.out.written event → LeftBy cause form old new event
 left_by Break form old new event h = h.2
 left_by cause form old new event h = h.1
 
@@ -153,12 +153,12 @@ agrees_text None F L form answer h = tt
 agrees_text (Some t) F L form answer h = text_is t F L form answer h
 
 cause_is : (form : Option Asked) (old new : Outside) (end : Result Answer Event)
-    → Ends (known_in form old) (Fails form old new) (Lacks form old new) form (HasRisen old.out_faults new.out_faults) old.out new.out end → HasCause form old new end
+    → Ends (known_in form old) (Fails form old new) (Lacks form old new) form (HasRisen old.out.faults new.out.faults) old.out.written new.out.written end → HasCause form old new end
 cause_is form old new (Ok answer) h = agrees_text (known_in form old) (Fails form old new) (Lacks form old new) form answer h.0
 cause_is form old new (Err event) h = ended_by (cause_of event) (known_in form old) form old new event refl h
 
 wrote_is : (form : Option Asked) (old new : Outside) (end : Result Answer Event)
-    → Ends (known_in form old) (Fails form old new) (Lacks form old new) form (HasRisen old.out_faults new.out_faults) old.out new.out end → Wrote form old new end
+    → Ends (known_in form old) (Fails form old new) (Lacks form old new) form (HasRisen old.out.faults new.out.faults) old.out.written new.out.written end → Wrote form old new end
 wrote_is form old new (Ok answer) h = h.1
 wrote_is form old new (Err event) h = left_by (cause_of event) form old new event h
 
@@ -210,24 +210,24 @@ back_is (Some (Debugging part stream script)) old new s end outcome = tt
 back_is (Some (Booting part flash)) old new s end outcome = tt
 
 promise_is : (form : Option Asked) (old new : Outside) (end : Result Answer Event)
-    → Ends (known_in form old) (Fails form old new) (Lacks form old new) form (HasRisen old.out_faults new.out_faults) old.out new.out end → Promise (known_in form old) form end
+    → Ends (known_in form old) (Fails form old new) (Lacks form old new) form (HasRisen old.out.faults new.out.faults) old.out.written new.out.written end → Promise (known_in form old) form end
 promise_is form old new (Ok answer) h = promised (known_in form old) form answer (agrees_text (known_in form old) (Fails form old new) (Lacks form old new) form answer h.0)
 promise_is form old new (Err event) h = no_promise (known_in form old) form event
 
 -- how a command ended is what its run comes to
 pub runs : (form : Option Asked) (old new : Outside) (s : Status) (end : Result Answer Event) → s ≡ final_status end
-    → Ends (known_in form old) (Fails form old new) (Lacks form old new) form (HasRisen old.out_faults new.out_faults) old.out new.out end
-    → Says (HasRisen old.err_faults new.err_faults) old.err new.err end → KeepsFlash (names_flash form) old.flash new.flash → Runs form old new s
+    → Ends (known_in form old) (Fails form old new) (Lacks form old new) form (HasRisen old.out.faults new.out.faults) old.out.written new.out.written end
+    → Says old.err new.err end → KeepsFlash (names_flash form) old.flash new.flash → Runs form old new s
 runs form old new s end e h t f = record {
   end = end;
   ends_as = e;
   cause = cause_is form old new end h;
   wrote = wrote_is form old new end h;
   said = t;
-  outcome = λ known m q. outcome_is (known_in form old) (Fails form old new) (Lacks form old new) form (HasRisen old.out_faults new.out_faults) old.out new.out s end e h known m q.0 q.1 q.2;
-  back = back_is form old new s end (λ known m q. outcome_is (known_in form old) (Fails form old new) (Lacks form old new) form (HasRisen old.out_faults new.out_faults) old.out new.out s end e h known m q.0 q.1 q.2);
+  outcome = λ known m q. outcome_is (known_in form old) (Fails form old new) (Lacks form old new) form (HasRisen old.out.faults new.out.faults) old.out.written new.out.written s end e h known m q.0 q.1 q.2;
+  back = back_is form old new s end (λ known m q. outcome_is (known_in form old) (Fails form old new) (Lacks form old new) form (HasRisen old.out.faults new.out.faults) old.out.written new.out.written s end e h known m q.0 q.1 q.2);
   promise = promise_is form old new end h;
-  no_form = λ n. run_no_form (known_in form old) (Fails form old new) (Lacks form old new) form (HasRisen old.out_faults new.out_faults) old.out new.out s end e h n;
+  no_form = λ n. run_no_form (known_in form old) (Fails form old new) (Lacks form old new) form (HasRisen old.out.faults new.out.faults) old.out.written new.out.written s end e h n;
   flash = f;
 }
 

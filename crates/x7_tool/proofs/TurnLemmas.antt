@@ -9,7 +9,7 @@ use Rattle.x7_listing.specs.Listing.{IsListing, listing_of, reading_text}
 use Rattle.x7_listing.specs.StreamListing.{stream_listing}
 use Rattle.x7_listing.specs.Telling.{Finished, ListerStandsFor, ListerState}
 use Rattle.x7_listing.proofs.FrontLemmas.{told_front}
-use Rattle.x7_words.specs.Input.{AtEnd, Selects, preceded}
+use Rattle.x7_words.specs.Input.{InputsState, AtEnd, Selects, Stays, preceded}
 use Rattle.x7_words.proofs.ListLemmas.{all-append, all_back}
 use Rattle.x7_forms.specs.Form.{Listing}
 use Rattle.x7_tool.specs.Run.{Ends, PutsListing}
@@ -160,15 +160,15 @@ end_failed (Some inputs) flash F L stream taken rest Full old now s e f p =
     (refl, f, (taken, (all.1.1 ∙ ap (λ t. Some (taken ++ t)) none ∙ ap Some (append-nil taken), λ fits. p)))
 
 -- a turn that could not be read
-pub unread_end : (contents : Option (List ℕ → Option (List ℕ))) (flash : Option (List ℕ)) (stream taken : List ℕ) (rest rest_now : Option (List ℕ)) (l : ListerState) (left most f0 f1 f2 a0 a2 : ℕ) (Full : Type 0) (old now : Option (List ℕ)) (event : Event)
-    → f0 ≤ f1 → Selects contents stream (preceded taken rest) → ListsStream l old now taken → length taken + left ≡ stream_limit → Unread rest rest_now stream left most f1 f2 event
-    → Ends (with_inputs contents flash) (RisesFor (stream ∷ []) f0 f2) (RisesFor (stream ∷ []) a0 a2) (Some (Listing stream)) Full old now (Err event)
-unread_end contents flash stream taken rest rest_now l left most f0 f1 f2 a0 a2 Full old now event f s t k (inl h) =
-    ends_same (with_inputs contents flash) (RisesFor (stream ∷ []) f0 f2) (RisesFor (stream ∷ []) a0 a2) (Some (Listing stream)) Full old now event (read_fault stream) h.0
-    (broken contents flash (RisesFor (stream ∷ []) a0 a2) stream taken rest f0 f2 Full old now s (risen_from f0 f1 f2 f h.1) (stream_here l old now taken t))
-unread_end contents flash stream taken rest rest_now l left most f0 f1 f2 a0 a2 Full old now event f s t k (inr h) =
+pub unread_end : (s m n : InputsState) (flash : Option (List ℕ)) (stream taken : List ℕ) (l : ListerState) (left most : ℕ) (Full : Type 0) (old now : Option (List ℕ)) (event : Event)
+    → Stays s m → Selects s.contents stream (preceded taken m.rest) → ListsStream l old now taken → length taken + left ≡ stream_limit → Unread m stream n left most event
+    → Ends (with_inputs s.contents flash) (RisesFor (stream ∷ []) s.faults n.faults) (RisesFor (stream ∷ []) s.absences n.absences) (Some (Listing stream)) Full old now (Err event)
+unread_end s m n flash stream taken l left most Full old now event f sel t k (inl h) =
+    ends_same (with_inputs s.contents flash) (RisesFor (stream ∷ []) s.faults n.faults) (RisesFor (stream ∷ []) s.absences n.absences) (Some (Listing stream)) Full old now event (read_fault stream) h.0
+    (broken s.contents flash (RisesFor (stream ∷ []) s.absences n.absences) stream taken m.rest s.faults n.faults Full old now sel (risen_from s.faults m.faults n.faults f.faults h.1) (stream_here l old now taken t))
+unread_end s m n flash stream taken l left most Full old now event f sel t k (inr h) =
     let piece = h.1.0 in
     let over : stream_limit < length (taken ++ piece) = omega (arith, length-append taken piece, h.1.1.1, k) in
-    ends_same (with_inputs contents flash) (RisesFor (stream ∷ []) f0 f2) (RisesFor (stream ∷ []) a0 a2) (Some (Listing stream)) Full old now event (too_large stream) h.0
-    (oversized contents flash (RisesFor (stream ∷ []) f0 f2) (RisesFor (stream ∷ []) a0 a2) stream (taken ++ piece) taken rest_now rest Full old now (taken_more contents stream taken piece rest rest_now s h.1.1.0) s
+    ends_same (with_inputs s.contents flash) (RisesFor (stream ∷ []) s.faults n.faults) (RisesFor (stream ∷ []) s.absences n.absences) (Some (Listing stream)) Full old now event (too_large stream) h.0
+    (oversized s.contents flash (RisesFor (stream ∷ []) s.faults n.faults) (RisesFor (stream ∷ []) s.absences n.absences) stream (taken ++ piece) taken n.rest m.rest Full old now (taken_more s.contents stream taken piece m.rest n.rest sel h.1.1.0) sel
     (λ more. (t.line ++ listing_of ((t.sent ++ piece) ++ more), goes_on taken piece t.line t.sent t.goes more)) over (stream_here l old now taken t))

@@ -2,7 +2,7 @@
 use Rattle.std.specs.Prelude.{◌≡◌, ℕ, List, [], ◌++◌, Option, None, Some, Result, Ok, Err, Bool, unwrap_or, ◌⊎◌}
 use Rattle.x7_words.specs.Word.{AreBytes}
 use Rattle.x7_words.specs.Count.{HasRisen}
-use Rattle.x7_words.specs.Sink.{appended, PutsFront, Tells}
+use Rattle.x7_words.specs.Sink.{SinkState, appended, PutsFront, Tells}
 use Rattle.x7_listing.specs.StreamListing.{stream_listing}
 use Rattle.x7_forms.specs.declared.refusal.Why.{Why}
 use Rattle.x7_forms.specs.declared.refusal.Why.TheVariants as why
@@ -70,9 +70,9 @@ Ends known Fails Lacks form Full old new (Ok answer) = Comes known Fails Lacks f
 Ends known Fails Lacks form Full old new (Err event) = EndsBy (cause_of event) known Fails Lacks form Full old new event
 
 -- what the sink of messages got: nothing after a whole text, and else the event's line, or a prefix of it where the sink failed
-abbrev pub Says : Type 0 → Option (List ℕ) → Option (List ℕ) → Result Answer Event → Type 0
-Says Full old new (Ok answer) = new ≡ old
-Says Full old new (Err event) = Tells Full old new (line_of event)
+abbrev pub Says : SinkState → SinkState → Result Answer Event → Type 0
+Says old new (Ok answer) = new.written ≡ old.written
+Says old new (Err event) = Tells old (line_of event) new
 
 -- the contents are known, and this is their outcome
 abbrev pub Shows : Option Known → Option Asked → Result Answer Event → Type 0

@@ -50,9 +50,9 @@ fn feed_whole<'w, I: Inputs>(
 ) -> Result<Option<AsmFault>, Refusal<'w>>
     requires new { AssemblerStandsFor assembler.old [] }
     ensures ok { IfOk result (λ found. (text : List ℕ) × (length text ≤ text_limit) × IsFed found assembler.new text
-        × (AnswersAs (name.now ∷ []) (I.contents inputs.old) (I.faults inputs.old) (I.faults inputs.new) (I.absences inputs.old) (I.absences inputs.new)
+        × (AnswersAs (name.now ∷ []) (I.state inputs.old) (I.state inputs.new)
         (λ known. whole_in known text_limit name.now) (Ok text))) }
-    ensures err { IfErr result (λ r. AnswersAs (name.now ∷ []) (I.contents inputs.old) (I.faults inputs.old) (I.faults inputs.new) (I.absences inputs.old) (I.absences inputs.new)
+    ensures err { IfErr result (λ r. AnswersAs (name.now ∷ []) (I.state inputs.old) (I.state inputs.new)
         (λ known. whole_in known text_limit name.now) (Err (event_of r))) }
 {
     match open(inputs, name) {
@@ -81,7 +81,7 @@ pub(crate) fn asm<'w, I: Inputs>(
     inputs: &mut I,
     name: &'w str,
 ) -> Result<Text, Refusal<'w>>
-    ensures { AnswersBy (name.now ∷ []) (I.contents inputs.old) (I.faults inputs.old) (I.faults inputs.new) (I.absences inputs.old) (I.absences inputs.new)
+    ensures { AnswersBy (name.now ∷ []) (I.state inputs.old) (I.state inputs.new)
         (λ known end. AssembledAs name.now (whole_in known text_limit name.now) end) (seen whole_of result) }
 {
     let mut assembler = Assembler::new(alloc);

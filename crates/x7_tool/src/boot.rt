@@ -254,8 +254,8 @@ pub(crate) fn boot<'w, I: Inputs, F: Flash>(
     part: &'w str,
     name: &'w str,
 ) -> Result<PlayText, Refusal<'w>>
-    ensures due { let form = Some (Booting part.now name.now) in IsCausedBy (with_inputs (I.contents inputs.old) (F.bytes flash.old))
-        (RisesIn form (I.faults inputs.old) (I.faults inputs.new) (F.faults flash.old) (F.faults flash.new)) (RisesIn form (I.absences inputs.old) (I.absences inputs.new) (F.absences flash.old) (F.absences flash.new))
+    ensures due { let form = Some (Booting part.now name.now) in IsCausedBy (with_inputs (I.state inputs.old).contents (F.bytes flash.old))
+        (RisesIn form (I.state inputs.old).faults (I.state inputs.new).faults (F.faults flash.old) (F.faults flash.new)) (RisesIn form (I.state inputs.old).absences (I.state inputs.new).absences (F.absences flash.old) (F.absences flash.new))
         (λ known end. Gives known (Booting part.now name.now) end) (seen text_of_play result) }
     ensures same { F.bytes flash.new ≡ F.bytes flash.old }
 {

@@ -49,7 +49,7 @@ fn read_given<'w, I: Inputs>(
     stream: &'w str,
     script: &'w str,
 ) -> Result<Given, Refusal<'w>>
-    ensures { AnswersAs (part.now ∷ stream.now ∷ script.now ∷ []) (I.contents inputs.old) (I.faults inputs.old) (I.faults inputs.new) (I.absences inputs.old) (I.absences inputs.new)
+    ensures { AnswersAs (part.now ∷ stream.now ∷ script.now ∷ []) (I.state inputs.old) (I.state inputs.new)
         (λ known. debug_inputs known part.now stream.now script.now) (seen given_of result) }
 {
     let part = match read_part(alloc, inputs, part) {
@@ -104,7 +104,7 @@ pub(crate) fn debug<'w, I: Inputs>(
     stream: &'w str,
     script: &'w str,
 ) -> Result<Text, Refusal<'w>>
-    ensures { AnswersBy (part.now ∷ stream.now ∷ script.now ∷ []) (I.contents inputs.old) (I.faults inputs.old) (I.faults inputs.new) (I.absences inputs.old) (I.absences inputs.new)
+    ensures { AnswersBy (part.now ∷ stream.now ∷ script.now ∷ []) (I.state inputs.old) (I.state inputs.new)
         (λ known end. DebuggedAs script.now (debug_inputs known part.now stream.now script.now) end) (seen whole_of result) }
 {
     match read_given(alloc, inputs, part, stream, script) {

@@ -281,7 +281,7 @@ pub(crate) fn generate<'w, I: Inputs>(
     name: &'w str,
     seed: u32,
 ) -> Result<Text, Refusal<'w>>
-    ensures { AnswersAs (name.now ∷ []) (I.contents inputs.old) (I.faults inputs.old) (I.faults inputs.new) (I.absences inputs.old) (I.absences inputs.new)
+    ensures { AnswersAs (name.now ∷ []) (I.state inputs.old) (I.state inputs.new)
         (λ known. gen_made known name.now seed) (seen whole_of result) }
 {
     let part = match read_part(alloc, inputs, name) {

@@ -46,7 +46,7 @@ pub(crate) fn image<'w, I: Inputs>(
     golden: &'w str,
     update: &'w str,
 ) -> Result<Text, Refusal<'w>>
-    ensures { AnswersAs (part.now ∷ golden.now ∷ update.now ∷ []) (I.contents inputs.old) (I.faults inputs.old) (I.faults inputs.new) (I.absences inputs.old) (I.absences inputs.new)
+    ensures { AnswersAs (part.now ∷ golden.now ∷ update.now ∷ []) (I.state inputs.old) (I.state inputs.new)
         (λ known. imaged known part.now golden.now update.now) (seen whole_of result) }
 {
     let part = match read_part(alloc, inputs, part) {

@@ -1,7 +1,6 @@
 //! The command `list`.
 ghost use Rattle.std.specs.Prelude.{◌≡◌, ℕ, List, [], ◌∷◌, ◌++◌, ◌≤◌, ◌⊎◌, false, drop, length, Option, Some, Ok, Err, OnOk, IfErr};
-ghost use Rattle.x7_words.specs.Count.{HasRisen};
-ghost use Rattle.x7_words.specs.Sink.{appended, PutsFront};
+ghost use Rattle.x7_words.specs.Sink.{Counts, PutsFront, SinkFails, appended};
 ghost use Rattle.x7_words.specs.Word.{AreBytes};
 ghost use Rattle.x7_listing.specs.Listing.{listing_of};
 ghost use Rattle.x7_tool.specs.Ahead.{IsLonger, StaysNear};
@@ -21,12 +20,12 @@ use x7_words::{Inputs, Sink, write_all};
 
 /// Lists a piece, and writes what that adds to the listing.
 fn put_turn<'w, O: Sink>(lister: &mut Lister, out: &mut O, piece: &[u8]) -> Result<(), Refusal<'w>>
-    ensures ok { OnOk result ((first : Option (List ℕ)) (bytes : List ℕ) → Lists lister.old first (O.written out.old) bytes → Lists lister.new first (O.written out.new) (bytes ++ piece.now)) }
-    ensures err { IfErr result (λ r. (first : Option (List ℕ)) (bytes rest : List ℕ) → Lists lister.old first (O.written out.old) bytes → AreBytes (bytes ++ (piece.now ++ rest)) → PutsFront first (listing_of (bytes ++ (piece.now ++ rest))) (O.written out.new)) }
-    ensures why { IfErr result (λ r. ((event_of r ≡ no_memory) × (O.written out.new ≡ O.written out.old)) ⊎ ((event_of r ≡ write_fault) × HasRisen (O.faults out.old) (O.faults out.new))) }
+    ensures ok { OnOk result ((first : Option (List ℕ)) (bytes : List ℕ) → Lists lister.old first (O.state out.old).written bytes → Lists lister.new first (O.state out.new).written (bytes ++ piece.now)) }
+    ensures err { IfErr result (λ r. (first : Option (List ℕ)) (bytes rest : List ℕ) → Lists lister.old first (O.state out.old).written bytes → AreBytes (bytes ++ (piece.now ++ rest)) → PutsFront first (listing_of (bytes ++ (piece.now ++ rest))) (O.state out.new).written) }
+    ensures why { IfErr result (λ r. ((event_of r ≡ no_memory) × ((O.state out.new).written ≡ (O.state out.old).written)) ⊎ ((event_of r ≡ write_fault) × SinkFails (O.state out.old) (O.state out.new))) }
     ensures fits { AreBytes piece.now }
-    ensures longer { IsLonger (O.written out.old) (O.written out.new) }
-    ensures faults { O.faults out.old ≤ O.faults out.new }
+    ensures longer { IsLonger (O.state out.old).written (O.state out.new).written }
+    ensures counts { Counts (O.state out.old) (O.state out.new) }
 {
     if lister.feed(piece).is_err() {
         return Err(Refusal::unnamed(Why::NoMemory));
@@ -47,11 +46,11 @@ fn put_front<'w, O: Sink>(
 ) -> Result<(), Refusal<'w>>
     requires new { ListerStandsFor lister.old [] [] [] }
     requires clear { lister.old.text ≡ [] }
-    ensures ok { OnOk result (Lists lister.new (appended (O.written out.old) line.now) (O.written out.new) sent.now) }
-    ensures err { IfErr result (λ r. (rest : List ℕ) → AreBytes (sent.now ++ rest) → PutsFront (O.written out.old) (line.now ++ listing_of (sent.now ++ rest)) (O.written out.new)) }
-    ensures why { IfErr result (λ r. (event_of r ≡ no_memory) ⊎ ((event_of r ≡ write_fault) × HasRisen (O.faults out.old) (O.faults out.new))) }
+    ensures ok { OnOk result (Lists lister.new (appended (O.state out.old).written line.now) (O.state out.new).written sent.now) }
+    ensures err { IfErr result (λ r. (rest : List ℕ) → AreBytes (sent.now ++ rest) → PutsFront (O.state out.old).written (line.now ++ listing_of (sent.now ++ rest)) (O.state out.new).written) }
+    ensures why { IfErr result (λ r. (event_of r ≡ no_memory) ⊎ ((event_of r ≡ write_fault) × SinkFails (O.state out.old) (O.state out.new))) }
     ensures fits { AreBytes sent.now }
-    ensures faults { O.faults out.old ≤ O.faults out.new }
+    ensures counts { Counts (O.state out.old) (O.state out.new) }
 {
     if write_all(out, line).is_err() {
         return Err(Refusal::unnamed(Why::WriteFault));
@@ -61,10 +60,10 @@ fn put_front<'w, O: Sink>(
 
 /// Ends the listing, and writes what that adds.
 fn put_end<'w, O: Sink>(lister: &mut Lister, out: &mut O) -> Result<(), Refusal<'w>>
-    ensures ok { OnOk result ((first : Option (List ℕ)) (bytes : List ℕ) → Lists lister.old first (O.written out.old) bytes → O.written out.new ≡ appended first (listing_of bytes)) }
-    ensures err { IfErr result (λ r. (first : Option (List ℕ)) (bytes : List ℕ) → Lists lister.old first (O.written out.old) bytes → PutsFront first (listing_of bytes) (O.written out.new)) }
-    ensures why { IfErr result (λ r. (event_of r ≡ no_memory) ⊎ ((event_of r ≡ write_fault) × HasRisen (O.faults out.old) (O.faults out.new))) }
-    ensures longer { IsLonger (O.written out.old) (O.written out.new) }
+    ensures ok { OnOk result ((first : Option (List ℕ)) (bytes : List ℕ) → Lists lister.old first (O.state out.old).written bytes → (O.state out.new).written ≡ appended first (listing_of bytes)) }
+    ensures err { IfErr result (λ r. (first : Option (List ℕ)) (bytes : List ℕ) → Lists lister.old first (O.state out.old).written bytes → PutsFront first (listing_of bytes) (O.state out.new).written) }
+    ensures why { IfErr result (λ r. (event_of r ≡ no_memory) ⊎ ((event_of r ≡ write_fault) × SinkFails (O.state out.old) (O.state out.new))) }
+    ensures longer { IsLonger (O.state out.old).written (O.state out.new).written }
 {
     if lister.finish().is_err() {
         return Err(Refusal::unnamed(Why::NoMemory));
@@ -82,9 +81,9 @@ pub(crate) fn list<'w, I: Inputs, O: Sink>(
     out: &mut O,
     stream: &'w str,
 ) -> Result<(), Refusal<'w>>
-    ensures ok { OnOk result ((flash : Option (List ℕ)) → (text : List ℕ) × Ends (with_inputs (I.contents inputs.old) flash) (RisesFor (stream.now ∷ []) (I.faults inputs.old) (I.faults inputs.new)) (RisesFor (stream.now ∷ []) (I.absences inputs.old) (I.absences inputs.new)) (Some (Listing stream.now)) (HasRisen (O.faults out.old) (O.faults out.new)) (O.written out.old) (O.written out.new) (Ok (record { stopped = false; text = text }))) }
-    ensures err { IfErr result (λ r. (flash : Option (List ℕ)) → Ends (with_inputs (I.contents inputs.old) flash) (RisesFor (stream.now ∷ []) (I.faults inputs.old) (I.faults inputs.new)) (RisesFor (stream.now ∷ []) (I.absences inputs.old) (I.absences inputs.new)) (Some (Listing stream.now)) (HasRisen (O.faults out.old) (O.faults out.new)) (O.written out.old) (O.written out.new) (Err (event_of r))) }
-    ensures near { IfErr result (λ r. StaysNear (status_of (event_of r)) (Some (Listing stream.now)) (I.contents inputs.old) (I.rest inputs.new) (O.written out.old) (O.written out.new)) }
+    ensures ok { OnOk result ((flash : Option (List ℕ)) → (text : List ℕ) × Ends (with_inputs (I.state inputs.old).contents flash) (RisesFor (stream.now ∷ []) (I.state inputs.old).faults (I.state inputs.new).faults) (RisesFor (stream.now ∷ []) (I.state inputs.old).absences (I.state inputs.new).absences) (Some (Listing stream.now)) (SinkFails (O.state out.old) (O.state out.new)) (O.state out.old).written (O.state out.new).written (Ok (record { stopped = false; text = text }))) }
+    ensures err { IfErr result (λ r. (flash : Option (List ℕ)) → Ends (with_inputs (I.state inputs.old).contents flash) (RisesFor (stream.now ∷ []) (I.state inputs.old).faults (I.state inputs.new).faults) (RisesFor (stream.now ∷ []) (I.state inputs.old).absences (I.state inputs.new).absences) (Some (Listing stream.now)) (SinkFails (O.state out.old) (O.state out.new)) (O.state out.old).written (O.state out.new).written (Err (event_of r))) }
+    ensures near { IfErr result (λ r. StaysNear (status_of (event_of r)) (Some (Listing stream.now)) (I.state inputs.old).contents (I.state inputs.new).rest (O.state out.old).written (O.state out.new).written) }
 {
     match open(inputs, stream) {
         Ok(()) => (),

@@ -35,7 +35,7 @@ pub(crate) fn mcs<'w, I: Inputs>(
     inputs: &mut I,
     image: &'w str,
 ) -> Result<McsText, Refusal<'w>>
-    ensures { AnswersAs (image.now ∷ []) (I.contents inputs.old) (I.faults inputs.old) (I.faults inputs.new) (I.absences inputs.old) (I.absences inputs.new)
+    ensures { AnswersAs (image.now ∷ []) (I.state inputs.old) (I.state inputs.new)
         (λ known. mcs_written known image.now) (seen text_of_image result) }
 {
     let bytes = match read_whole(alloc, inputs, image, FLASH_LIMIT) {
@@ -54,7 +54,7 @@ pub(crate) fn unmcs<'w, I: Inputs>(
     inputs: &mut I,
     name: &'w str,
 ) -> Result<Text, Refusal<'w>>
-    ensures { AnswersAs (name.now ∷ []) (I.contents inputs.old) (I.faults inputs.old) (I.faults inputs.new) (I.absences inputs.old) (I.absences inputs.new)
+    ensures { AnswersAs (name.now ∷ []) (I.state inputs.old) (I.state inputs.new)
         (λ known. mcs_read known name.now) (seen whole_of result) }
 {
     let text = match read_whole(alloc, inputs, name, TEXT_LIMIT) {

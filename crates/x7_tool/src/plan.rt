@@ -31,7 +31,7 @@ fn read_texts<'w, I: Inputs>(
     part: &'w str,
     frames: &'w str,
 ) -> Result<PlanTexts, Refusal<'w>>
-    ensures { AnswersAs (part.now ∷ frames.now ∷ []) (I.contents inputs.old) (I.faults inputs.old) (I.faults inputs.new) (I.absences inputs.old) (I.absences inputs.new)
+    ensures { AnswersAs (part.now ∷ frames.now ∷ []) (I.state inputs.old) (I.state inputs.new)
         (λ known. plan_texts known part.now frames.now) (seen texts_of result) }
 {
     let part = match read_part(alloc, inputs, part) {
@@ -103,7 +103,7 @@ pub(crate) fn plan_full<'w, I: Inputs>(
     part: &'w str,
     frames: &'w str,
 ) -> Result<Text, Refusal<'w>>
-    ensures { AnswersBy (part.now ∷ frames.now ∷ []) (I.contents inputs.old) (I.faults inputs.old) (I.faults inputs.new) (I.absences inputs.old) (I.absences inputs.new)
+    ensures { AnswersBy (part.now ∷ frames.now ∷ []) (I.state inputs.old) (I.state inputs.new)
         (λ known end. PlannedFull frames.now (plan_texts known part.now frames.now) end) (seen whole_of result) }
 {
     let texts = match read_texts(alloc, inputs, part, frames) {
@@ -138,7 +138,7 @@ pub(crate) fn plan_partial<'w, I: Inputs>(
     part: &'w str,
     frames: &'w str,
 ) -> Result<Text, Refusal<'w>>
-    ensures { AnswersBy (part.now ∷ frames.now ∷ []) (I.contents inputs.old) (I.faults inputs.old) (I.faults inputs.new) (I.absences inputs.old) (I.absences inputs.new)
+    ensures { AnswersBy (part.now ∷ frames.now ∷ []) (I.state inputs.old) (I.state inputs.new)
         (λ known end. PlannedPartial frames.now (plan_texts known part.now frames.now) end) (seen whole_of result) }
 {
     let texts = match read_texts(alloc, inputs, part, frames) {
@@ -176,7 +176,7 @@ pub(crate) fn plan_read<'w, I: Inputs>(
     far: u32,
     n: u32,
 ) -> Result<Text, Refusal<'w>>
-    ensures { AnswersBy (name.now ∷ []) (I.contents inputs.old) (I.faults inputs.old) (I.faults inputs.new) (I.absences inputs.old) (I.absences inputs.new)
+    ensures { AnswersBy (name.now ∷ []) (I.state inputs.old) (I.state inputs.new)
         (λ known end. PlannedRead name.now far n (part_of known name.now) end) (seen whole_of result) }
 {
     let part = match read_part(alloc, inputs, name) {

@@ -1,5 +1,6 @@
 //! Streams that are read whole, each of a limit of its own.
 ghost use Rattle.std.specs.Prelude.{◌≡◌, ◌≤◌, ℕ, [], ◌∷◌, IfOk, length};
+ghost use Rattle.x7_words.specs.Input.{Stays};
 ghost use Rattle.x7_tool.specs.Outcome.{stream_data};
 ghost use Rattle.x7_forms.specs.Step.{AnswersAs, seen};
 ghost use Rattle.x7_tool.specs.Streamed.{data_from};
@@ -21,12 +22,10 @@ pub(crate) fn read_stream<'w, I: Inputs>(
     inputs: &mut I,
     name: &'w str,
 ) -> Result<Stream, Refusal<'w>>
-    ensures due { AnswersAs (name.now ∷ []) (I.contents inputs.old) (I.faults inputs.old) (I.faults inputs.new) (I.absences inputs.old) (I.absences inputs.new)
+    ensures due { AnswersAs (name.now ∷ []) (I.state inputs.old) (I.state inputs.new)
         (λ known. stream_data known name.now) (seen data_from result) }
     ensures within { IfOk result (λ stream. stream.start ≤ length stream.bytes.items) }
-    ensures map { I.contents inputs.new ≡ I.contents inputs.old }
-    ensures faults { I.faults inputs.old ≤ I.faults inputs.new }
-    ensures absences { I.absences inputs.old ≤ I.absences inputs.new }
+    ensures inputs { Stays (I.state inputs.old) (I.state inputs.new) }
 {
     let bytes = match read_whole(alloc, inputs, name, STREAM_LIMIT) {
         Ok(bytes) => bytes,
@@ -44,11 +43,9 @@ pub(crate) fn read_data<'w, I: Inputs>(
     inputs: &mut I,
     name: &'w str,
 ) -> Result<Vec<u8>, Refusal<'w>>
-    ensures due { AnswersAs (name.now ∷ []) (I.contents inputs.old) (I.faults inputs.old) (I.faults inputs.new) (I.absences inputs.old) (I.absences inputs.new)
+    ensures due { AnswersAs (name.now ∷ []) (I.state inputs.old) (I.state inputs.new)
         (λ known. stream_data known name.now) (seen (λ bytes. bytes.items) result) }
-    ensures map { I.contents inputs.new ≡ I.contents inputs.old }
-    ensures faults { I.faults inputs.old ≤ I.faults inputs.new }
-    ensures absences { I.absences inputs.old ≤ I.absences inputs.new }
+    ensures inputs { Stays (I.state inputs.old) (I.state inputs.new) }
 {
     let mut stream = match read_stream(alloc, inputs, name) {
         Ok(stream) => stream,

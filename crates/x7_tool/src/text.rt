@@ -1,7 +1,6 @@
 //! Texts that are ready before any of them is written.
 ghost use Rattle.std.specs.Prelude.{◌≡◌, OnErr, OnOk};
-ghost use Rattle.x7_words.specs.Count.{HasRisen};
-ghost use Rattle.x7_words.specs.Sink.{appended, PutsFront};
+ghost use Rattle.x7_words.specs.Sink.{PutsFront, SinkFails, appended};
 ghost use Rattle.x7_forms.specs.Known.{Answer};
 ghost use Rattle.x7_tool.specs.Ready.{text_of_image, whole_of};
 ghost use Rattle.x7_forms.specs.Play.{text_of_play};
@@ -23,9 +22,9 @@ pub(crate) trait Ready {
 
     /// Writes the text. After an error a prefix of it was written.
     fn write<O: Sink>(&mut self, out: &mut O) -> Result<(), Failed>
-        ensures whole { OnOk result (O.written out.new ≡ appended (O.written out.old) (answer self.old).text) }
-        ensures prefix { PutsFront (O.written out.old) (answer self.old).text (O.written out.new) }
-        ensures failed { OnErr result (HasRisen (O.faults out.old) (O.faults out.new)) };
+        ensures whole { OnOk result ((O.state out.new).written ≡ appended (O.state out.old).written (answer self.old).text) }
+        ensures prefix { PutsFront (O.state out.old).written (answer self.old).text (O.state out.new).written }
+        ensures failed { OnErr result (SinkFails (O.state out.old) (O.state out.new)) };
 }
 
 /// A text that was made whole, and whether what it reports stopped at a fault.
@@ -78,7 +77,7 @@ pub(crate) fn put_whole<'w, T: Ready + Drop, O: Sink>(
     whole: Result<T, Refusal<'w>>,
     out: &mut O,
 ) -> Result<bool, Refusal<'w>>
-    ensures { Puts (seen T.answer whole.entry) (HasRisen (O.faults out.old) (O.faults out.new)) (O.written out.old) (O.written out.new) (seen (λ stopped. stopped) result) }
+    ensures { Puts (seen T.answer whole.entry) (SinkFails (O.state out.old) (O.state out.new)) (O.state out.old).written (O.state out.new).written (seen (λ stopped. stopped) result) }
 {
     let mut text = match whole {
         Ok(text) => text,

@@ -1,6 +1,6 @@
 //! The top call.
 ghost use Rattle.std.specs.Prelude.{◌≡◌, map, string_bytes, IfErr, Result, false};
-ghost use Rattle.x7_words.specs.Count.{HasRisen};
+ghost use Rattle.x7_words.specs.Sink.{SinkFails};
 ghost use Rattle.x7_forms.specs.Event.{Event, status_of};
 ghost use Rattle.x7_tool.specs.Ahead.{StaysNear};
 ghost use Rattle.x7_forms.specs.Form.{form_of, names_flash};
@@ -32,9 +32,9 @@ fn answer<'w, I: Inputs, O: Sink, F: Flash>(
     flash: &mut F,
     out: &mut O,
 ) -> Result<bool, Refusal<'w>>
-    ensures ends { let form = form_of (map string_bytes words.now.items) in EndsAs (known_of form (I.contents inputs.old) (F.bytes flash.old)) (RisesIn form (I.faults inputs.old) (I.faults inputs.new) (F.faults flash.old) (F.faults flash.new)) (RisesIn form (I.absences inputs.old) (I.absences inputs.new) (F.absences flash.old) (F.absences flash.new)) form
-        (HasRisen (O.faults out.old) (O.faults out.new)) (O.written out.old) (O.written out.new) (seen (λ stopped. stopped) result) }
-    ensures near { IfErr result (λ r. StaysNear (status_of (event_of r)) (form_of (map string_bytes words.now.items)) (I.contents inputs.old) (I.rest inputs.new) (O.written out.old) (O.written out.new)) }
+    ensures ends { let form = form_of (map string_bytes words.now.items) in EndsAs (known_of form (I.state inputs.old).contents (F.bytes flash.old)) (RisesIn form (I.state inputs.old).faults (I.state inputs.new).faults (F.faults flash.old) (F.faults flash.new)) (RisesIn form (I.state inputs.old).absences (I.state inputs.new).absences (F.absences flash.old) (F.absences flash.new)) form
+        (SinkFails (O.state out.old) (O.state out.new)) (O.state out.old).written (O.state out.new).written (seen (λ stopped. stopped) result) }
+    ensures near { IfErr result (λ r. StaysNear (status_of (event_of r)) (form_of (map string_bytes words.now.items)) (I.state inputs.old).contents (I.state inputs.new).rest (O.state out.old).written (O.state out.new).written) }
     ensures flash { names_flash (form_of (map string_bytes words.now.items)) ≡ false → flash.new ≡ flash.old }
     ensures same { F.bytes flash.new ≡ F.bytes flash.old }
 {
@@ -89,9 +89,9 @@ fn carry_out<I: Inputs, O: Sink, E: Sink, F: Flash>(
     err: &mut E,
 ) -> Status
     ensures ends { let form = form_of (map string_bytes words.now.items) in (end : Result Answer Event) × ((result ≡ final_status end)
-        × Ends (known_of form (I.contents inputs.old) (F.bytes flash.old)) (RisesIn form (I.faults inputs.old) (I.faults inputs.new) (F.faults flash.old) (F.faults flash.new)) (RisesIn form (I.absences inputs.old) (I.absences inputs.new) (F.absences flash.old) (F.absences flash.new)) form (HasRisen (O.faults out.old) (O.faults out.new)) (O.written out.old) (O.written out.new) end
-        × Says (HasRisen (E.faults err.old) (E.faults err.new)) (E.written err.old) (E.written err.new) end) }
-    ensures near { StaysNear result (form_of (map string_bytes words.now.items)) (I.contents inputs.old) (I.rest inputs.new) (O.written out.old) (O.written out.new) }
+        × Ends (known_of form (I.state inputs.old).contents (F.bytes flash.old)) (RisesIn form (I.state inputs.old).faults (I.state inputs.new).faults (F.faults flash.old) (F.faults flash.new)) (RisesIn form (I.state inputs.old).absences (I.state inputs.new).absences (F.absences flash.old) (F.absences flash.new)) form (SinkFails (O.state out.old) (O.state out.new)) (O.state out.old).written (O.state out.new).written end
+        × Says (E.state err.old) (E.state err.new) end) }
+    ensures near { StaysNear result (form_of (map string_bytes words.now.items)) (I.state inputs.old).contents (I.state inputs.new).rest (O.state out.old).written (O.state out.new).written }
     ensures flash { names_flash (form_of (map string_bytes words.now.items)) ≡ false → flash.new ≡ flash.old }
     ensures same { F.bytes flash.new ≡ F.bytes flash.old }
 {
@@ -114,27 +114,19 @@ pub fn run<I: Inputs, O: Sink, E: Sink, F: Flash>(
 ) -> Status
     ensures runs { Runs (form_of (map string_bytes words.now.items))
         (record {
-          inputs = I.contents inputs.old;
-          faults = I.faults inputs.old;
-          absences = I.absences inputs.old;
+          inputs = I.state inputs.old;
           flash = record { bytes = F.bytes flash.old; extent = F.extent flash.old; attached = F.attached flash.old; faults = F.faults flash.old; absences = F.absences flash.old };
-          out = O.written out.old;
-          out_faults = O.faults out.old;
-          err = E.written err.old;
-          err_faults = E.faults err.old;
+          out = O.state out.old;
+          err = E.state err.old;
         })
         (record {
-          inputs = I.contents inputs.new;
-          faults = I.faults inputs.new;
-          absences = I.absences inputs.new;
+          inputs = I.state inputs.new;
           flash = record { bytes = F.bytes flash.new; extent = F.extent flash.new; attached = F.attached flash.new; faults = F.faults flash.new; absences = F.absences flash.new };
-          out = O.written out.new;
-          out_faults = O.faults out.new;
-          err = E.written err.new;
-          err_faults = E.faults err.new;
+          out = O.state out.new;
+          err = E.state err.new;
         })
         result }
-    ensures near { StaysNear result (form_of (map string_bytes words.now.items)) (I.contents inputs.old) (I.rest inputs.new) (O.written out.old) (O.written out.new) }
+    ensures near { StaysNear result (form_of (map string_bytes words.now.items)) (I.state inputs.old).contents (I.state inputs.new).rest (O.state out.old).written (O.state out.new).written }
 {
     carry_out(alloc, words, inputs, flash, out, err)
 }

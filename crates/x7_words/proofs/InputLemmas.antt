@@ -1,6 +1,6 @@
 -- Lemmas on a rest that is taken piece by piece, for the crates that read inputs.
-use Rattle.std.proofs.Common.{◌≡◌, ℕ, List, [], ◌++◌, Option, None, Some, refl, ap, sym, append_assoc}
-use Rattle.x7_words.specs.Input.{preceded}
+use Rattle.std.proofs.Common.{◌≡◌, ℕ, List, [], ◌++◌, Option, None, Some, true, refl, ap, sym, ◌∙◌, append_assoc, arith}
+use Rattle.x7_words.specs.Input.{InputsState, Stays, Takes, preceded}
 
 -- before anything was taken, the rest is all
 pub preceded-nil : (rest : Option (List ℕ)) → preceded [] rest ≡ rest
@@ -11,3 +11,23 @@ preceded-nil (Some rest) = refl
 pub preceded-preceded : (first second : List ℕ) (rest : Option (List ℕ)) → preceded first (preceded second rest) ≡ preceded (first ++ second) rest
 preceded-preceded first second None = refl
 preceded-preceded first second (Some rest) = ap Some (sym (append_assoc first second rest))
+
+-- where nothing happened, all stays
+pub stays_at : (s : InputsState) → Stays s s
+stays_at s = record { map = refl; faults = omega arith; absences = omega arith }
+
+-- what stays over one call and over the next stays over both
+pub stays_on : (a b c : InputsState) → Stays a b → Stays b c → Stays a c
+stays_on a b c p q = record { map = q.map ∙ p.map; faults = omega (arith, p.faults, q.faults); absences = omega (arith, p.absences, q.absences) }
+
+-- a piece taken after another is the joined piece taken
+pub takes_on : (a b c : InputsState) (first second : List ℕ) → Takes a first b → Takes b second c → Takes a (first ++ second) c
+takes_on a b c first second p q = record { selected = q.selected; taken = p.taken ∙ ap (preceded first) q.taken ∙ preceded-preceded first second c.rest }
+
+-- the same piece by another name
+pub takes_as : (a b : InputsState) (bytes same : List ℕ) → bytes ≡ same → Takes a same b → Takes a bytes b
+takes_as a b bytes same e t = rw e t
+
+-- before anything was taken
+pub takes_none : (s : InputsState) → s.selected ≡ true → Takes s [] s
+takes_none s e = record { selected = e; taken = sym (preceded-nil s.rest) }

@@ -2,7 +2,7 @@
 use Rattle.std.proofs.Common.{◌≡◌, ℕ, List, [], ◌∷◌, ◌++◌, ◌+◌, ◌<◌, take, drop, length, Option, None, Some, refl, ap, append_assoc, append-nil, sym, ◌∙◌, arith, inr, flat_map, zero, suc, get_or}
 use Rattle.std.proofs.Math.Seq.{take-add}
 use Rattle.std.proofs.lemmas.List.{take-append-drop}
-use Rattle.x7_words.specs.Sink.{appended, PutsFront, Tells}
+use Rattle.x7_words.specs.Sink.{appended, Counts, PutsAll, PutsFront, PutsSome, SinkFails, SinkState, Tells}
 
 -- nothing more leaves what was written
 pub appended-nil : (told : Option (List ℕ)) → appended told [] ≡ told
@@ -35,5 +35,12 @@ flat_map-at f (p ∷ ps) zero d h = refl
 flat_map-at f (p ∷ ps) (suc k) d h = ap (λ r. f p ++ r) (flat_map-at f ps k d (omega arith)) ∙ sym (append_assoc (f p) (flat_map f (take k ps)) (f (get_or ps k d) ++ flat_map f (drop (suc k) ps)))
 
 -- a failure in the piece after some whole ones
-pub tells_front : (HasFailed : Type 0) (first mid last : Option (List ℕ)) (all a b c : List ℕ) → all ≡ a ++ (b ++ c) → mid ≡ appended first a → PutsFront mid b last → HasFailed → Tells HasFailed first last all
-tells_front HasFailed first mid last all a b c e p q r = inr (r, rw e (front_more first mid last a b c p q))
+pub tells_front : (first mid last : SinkState) (all a b c : List ℕ) → all ≡ a ++ (b ++ c) → PutsAll first a mid → PutsSome mid b last → SinkFails first last → Tells first all last
+tells_front first mid last all a b c e p q r = inr (r, rw e (front_more first.written mid.written last.written a b c p q))
+
+-- a count that does not fall over one call and over the next does not fall over both
+pub counts_on : (a b c : SinkState) → Counts a b → Counts b c → Counts a c
+counts_on a b c p q = record { faults = omega (arith, p.faults, q.faults); fits = λ h. q.fits (p.fits h) }
+
+pub counts_at : (s : SinkState) → Counts s s
+counts_at s = record { faults = omega arith; fits = λ h. h }

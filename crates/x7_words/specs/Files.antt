@@ -2,6 +2,7 @@
 use Rattle.std.specs.Prelude.{◌≡◌, ◌<◌, ℕ, Bool, true, false, List, length, take, Option, None, Some, Result, Ok, Err}
 use Rattle.std.specs.Io.KnownBytes.{Consumes, IsAtEnd}
 use Rattle.x7_words.specs.Count.{raised}
+use Rattle.x7_words.specs.Input.{InputsState}
 use Rattle.x7_words.specs.declared.input.SelectFault.{SelectFault}
 use Rattle.x7_words.specs.declared.input.SelectFault.TheVariants.{Missing, Failed}
 
@@ -15,6 +16,16 @@ pub record RealInputs : Type 0 where
   pub faults : ℕ
   -- the absences counted; the last u64 stays
   pub absences : ℕ
+
+-- what is told of files as inputs: nothing of what they hold
+abbrev pub told_of : RealInputs → InputsState
+told_of f = record {
+  contents = None;
+  selected = f.selected;
+  rest = None;
+  faults = f.faults;
+  absences = f.absences;
+}
 
 -- what is left of an open file, as its reader knows it
 abbrev pub rest_of : {F : Type 0} → (F → Option (List ℕ)) → Option F → Option (List ℕ)

@@ -1,5 +1,21 @@
 -- Inputs by name, where their bytes may be told or not (this project's choice).
-use Rattle.std.specs.Prelude.{◌≡◌, ℕ, List, [], ◌++◌, Option, None, Some}
+use Rattle.std.specs.Prelude.{◌≡◌, ℕ, Bool, true, List, [], ◌++◌, ◌≤◌, ◌<◌, ◌^◌, ◌⊎◌, Option, None, Some}
+use Rattle.x7_words.specs.Count.{HasRisen}
+use Rattle.x7_words.specs.declared.input.SelectFault.{SelectFault}
+use Rattle.x7_words.specs.declared.input.SelectFault.TheVariants.{Missing, Failed}
+
+-- what inputs have come to
+pub record InputsState : Type 0 where
+  -- the bytes under each name, where they are told: none for a name that the map lacks
+  pub contents : Option (List ℕ → Option (List ℕ))
+  -- whether an input is selected
+  pub selected : Bool
+  -- what is left of the selected input, where that is told
+  pub rest : Option (List ℕ)
+  -- how often a select or a read has failed
+  pub faults : ℕ
+  -- how often a name was missing
+  pub absences : ℕ
 
 -- the rest is all that the name has, where the map is told
 abbrev pub Selects : Option (List ℕ → Option (List ℕ)) → List ℕ → Option (List ℕ) → Type 0
@@ -20,3 +36,36 @@ preceded bytes (Some rest) = Some (bytes ++ rest)
 abbrev pub AtEnd : Option (List ℕ) → Type 0
 AtEnd None = Unit {0}
 AtEnd (Some rest) = rest ≡ []
+
+-- every name keeps its bytes, and no count falls
+pub record Stays (old new : InputsState) : Type 0 where
+  pub map : new.contents ≡ old.contents
+  pub faults : old.faults ≤ new.faults
+  pub absences : old.absences ≤ new.absences
+
+-- both counts are those of a u64
+abbrev pub Fits : InputsState → Type 0
+Fits state = (state.faults < 2 ^ 64) × (state.absences < 2 ^ 64)
+
+-- the inputs failed, which their count of faults tells
+abbrev pub Fails : InputsState → InputsState → Type 0
+Fails old new = HasRisen old.faults new.faults
+
+-- the name is missing: it has no bytes where they are told, or the count of absences rose
+abbrev pub Misses : InputsState → List ℕ → InputsState → Type 0
+Misses old name new = Lacks old.contents name ⊎ HasRisen old.absences new.absences
+
+-- the input of this name is selected, at its first byte
+pub record Opens (old : InputsState) (name : List ℕ) (new : InputsState) : Type 0 where
+  pub selected : new.selected ≡ true
+  pub found : Selects old.contents name new.rest
+
+-- these bytes were taken from the selected input, which stays selected
+pub record Takes (old : InputsState) (bytes : List ℕ) (new : InputsState) : Type 0 where
+  pub selected : new.selected ≡ true
+  pub taken : old.rest ≡ preceded bytes new.rest
+
+-- why a name was not selected
+abbrev pub Refuses : InputsState → List ℕ → InputsState → SelectFault → Type 0
+Refuses old name new Missing = Misses old name new
+Refuses old name new Failed = Fails old new

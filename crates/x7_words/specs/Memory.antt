@@ -1,8 +1,9 @@
 -- What objects in memory hold, and what their calls answer (this project's choice).
-use Rattle.std.specs.Prelude.{◌==◌, ◌||◌, not, nat_le, ℕ, ◌-◌, List, [], ◌∷◌, ◌++◌, Bool, ◌&&◌, nat_lt, Option, None, Some, Result, Ok, Err, if◌then◌else◌, is_none, length, take, drop, min, option_map, unwrap_or}
+use Rattle.std.specs.Prelude.{◌==◌, ◌||◌, not, nat_le, ℕ, ◌-◌, List, [], ◌∷◌, ◌++◌, Bool, ◌&&◌, nat_lt, Option, None, Some, Result, Ok, Err, if◌then◌else◌, is_none, is_some, length, take, drop, min, option_map, unwrap_or}
 use Rattle.std.specs.List.{list_any}
 use Rattle.std.specs.Str.{bytes_eq}
 use Rattle.x7_words.specs.Count.{raised}
+use Rattle.x7_words.specs.Input.{InputsState}
 use Rattle.x7_words.specs.declared.input.SelectFault.{SelectFault}
 use Rattle.x7_words.specs.declared.input.SelectFault.TheVariants.{Missing, Failed}
 
@@ -49,6 +50,16 @@ pub record InputsInMemory : Type 0 where
 abbrev pub bytes_under : List (List ℕ × List ℕ) → List ℕ → Option (List ℕ)
 bytes_under [] name = None
 bytes_under (entry ∷ entries) name = if bytes_eq entry.0 name then Some entry.1 else bytes_under entries name
+
+-- what is told of the inputs: all
+abbrev pub told_of : InputsInMemory → InputsState
+told_of m = record {
+  contents = Some (bytes_under m.entries);
+  selected = is_some m.rest;
+  rest = m.rest;
+  faults = m.faults;
+  absences = 0;
+}
 
 -- the inputs with these bytes under the name
 abbrev pub after_put : InputsInMemory → List ℕ → List ℕ → InputsInMemory

@@ -1,5 +1,13 @@
 -- Bytes that are written one after the other, where they may be told or not (this project's choice).
-use Rattle.std.specs.Prelude.{◌≡◌, ℕ, List, ◌++◌, Option, None, Some, ◌⊎◌}
+use Rattle.std.specs.Prelude.{◌≡◌, ℕ, List, ◌++◌, ◌≤◌, ◌<◌, ◌^◌, Option, None, Some, ◌⊎◌}
+use Rattle.x7_words.specs.Count.{HasRisen}
+
+-- what a sink has come to
+pub record SinkState : Type 0 where
+  -- the bytes written so far, where they are told
+  pub written : Option (List ℕ)
+  -- how often a write has failed
+  pub faults : ℕ
 
 -- the told bytes with further ones at their end
 abbrev pub appended : Option (List ℕ) → List ℕ → Option (List ℕ)
@@ -10,6 +18,23 @@ appended (Some old) bytes = Some (old ++ bytes)
 abbrev pub PutsFront : Option (List ℕ) → List ℕ → Option (List ℕ) → Type 0
 PutsFront old bytes new = (front : List ℕ) × ((back : List ℕ) × (bytes ≡ front ++ back) × (new ≡ appended old front))
 
--- the whole text was put at the end, or a front of it and the sink had failed
-abbrev pub Tells : Type 0 → Option (List ℕ) → Option (List ℕ) → List ℕ → Type 0
-Tells HasFailed old new text = (new ≡ appended old text) ⊎ (HasFailed × PutsFront old text new)
+-- the whole text was put at the end
+abbrev pub PutsAll : SinkState → List ℕ → SinkState → Type 0
+PutsAll old text new = new.written ≡ appended old.written text
+
+-- a front of the text was put at the end
+abbrev pub PutsSome : SinkState → List ℕ → SinkState → Type 0
+PutsSome old text new = PutsFront old.written text new.written
+
+-- the sink failed, which its count of faults tells
+abbrev pub SinkFails : SinkState → SinkState → Type 0
+SinkFails old new = HasRisen old.faults new.faults
+
+-- the count of faults does not fall, and stays that of a u64
+pub record Counts (old new : SinkState) : Type 0 where
+  pub faults : old.faults ≤ new.faults
+  pub fits : old.faults < 2 ^ 64 → new.faults < 2 ^ 64
+
+-- the whole text was put at the end, or a front of it and the sink failed
+abbrev pub Tells : SinkState → List ℕ → SinkState → Type 0
+Tells old text new = PutsAll old text new ⊎ (SinkFails old new × PutsSome old text new)

@@ -2,7 +2,7 @@
 ghost use Rattle.std.specs.Prelude.{◌≡◌, ◌<◌, ◌≤◌, ◌^◌, ◌↔◌, length, take, None, true, false, IfOk, OnOk, OnErr};
 ghost use Rattle.std.specs.Io.KnownBytes.{Appends, Keeps, ReadConsumes, WriteAppends};
 ghost use Rattle.x7_words.specs.Count.{raised};
-ghost use Rattle.x7_words.specs.Files.{after_open, Gives};
+ghost use Rattle.x7_words.specs.Files.{after_open, told_of, Gives};
 
 mod flash;
 
@@ -79,15 +79,7 @@ impl<'r, R: Files> FileInputs<'r, R> {
 }
 
 impl<'r, R: Files> Inputs for FileInputs<'r, R> {
-    ghost contents = { λ _. None };
-
-    ghost selected = { λ f. f.selected };
-
-    ghost rest = { λ _. None };
-
-    ghost faults = { λ f. f.faults };
-
-    ghost absences = { λ f. f.absences };
+    ghost state = { told_of };
 
     fn select(&mut self, name: &str) -> Result<(), SelectFault>
         ensures after { self.new ≡ after_open self.old self.new.rest result }
@@ -168,9 +160,7 @@ impl<W: Write + Drop> StdSink<W> {
 }
 
 impl<W: Write + Drop> Sink for StdSink<W> {
-    ghost written = { λ _. None };
-
-    ghost faults = { λ s. s.faults };
+    ghost state = { λ s. record { written = None; faults = s.faults } };
 
     fn write(&mut self, piece: &[u8]) -> Result<usize, Failed>
         ensures within { IfOk result (λ n. n ≤ length piece.now) }

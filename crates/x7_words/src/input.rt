@@ -1,7 +1,6 @@
 //! Inputs that are read by name, and what can go wrong with the outside.
-ghost use Rattle.std.specs.Prelude.{◌≡◌, ℕ, List, ◌<◌, ◌≤◌, ◌^◌, ◌⊎◌, length, take, Option, Bool, true, false, IfOk, OnOk, OnErr, IsErrOf};
-ghost use Rattle.x7_words.specs.Count.{HasRisen};
-ghost use Rattle.x7_words.specs.Input.{Selects, Lacks, AtEnd, preceded};
+ghost use Rattle.std.specs.Prelude.{◌≡◌, ◌<◌, ◌≤◌, length, take, true, false, IfErr, IfOk, OnOk, OnErr};
+ghost use Rattle.x7_words.specs.Input.{InputsState, AtEnd, Fails, Fits, Opens, Refuses, Stays, Takes};
 
 use std::alloc::{AllocError, AllocFailed};
 
@@ -39,52 +38,29 @@ pub enum SelectFault {
 /// Both counts only rise, by at least one at each fault or absence. A count that has reached the
 /// last u64 stays there, and counts as risen.
 pub trait Inputs {
-    /// The bytes under each name, where they are told: none for a name that the map lacks.
-    ghost contents: { Self → Option (List ℕ → Option (List ℕ)) };
-
-    /// Whether an input is selected.
-    ghost selected: { Self → Bool };
-
-    /// What is left of the selected input, where that is told.
-    ghost rest: { Self → Option (List ℕ) };
-
-    /// How often a select or a read has failed.
-    ghost faults: { Self → ℕ };
-
-    /// How often a name was missing.
-    ghost absences: { Self → ℕ };
+    /// What the inputs have come to.
+    ghost state: { Self → InputsState };
 
     /// Begins the input of this name, at its first byte, also where it was selected before.
     /// After an error no input is selected.
     fn select(&mut self, name: &str) -> Result<(), SelectFault>
-        ensures ok { OnOk result (selected self.new ≡ true) }
-        ensures found { OnOk result (Selects (contents self.old) name.now (rest self.new)) }
-        ensures missing { IsErrOf result SelectFault.Missing →
-            Lacks (contents self.old) name.now ⊎ HasRisen (absences self.old) (absences self.new) }
-        ensures failed { IsErrOf result SelectFault.Failed →
-            HasRisen (faults self.old) (faults self.new) }
-        ensures err { OnErr result (selected self.new ≡ false) }
-        ensures map { contents self.new ≡ contents self.old }
-        ensures faults { faults self.old ≤ faults self.new }
-        ensures absences { absences self.old ≤ absences self.new }
-        ensures last_fault { faults self.new < 2 ^ 64 }
-        ensures last_absence { absences self.new < 2 ^ 64 };
+        ensures ok { OnOk result (Opens (state self.old) name.now (state self.new)) }
+        ensures refused { IfErr result (Refuses (state self.old) name.now (state self.new)) }
+        ensures err { OnErr result ((state self.new).selected ≡ false) }
+        ensures stays { Stays (state self.old) (state self.new) }
+        ensures fits { Fits (state self.new) };
 
     /// Puts the next bytes of the selected input at the front of the buffer, and answers how many.
     /// 0 for a buffer that is not empty is the end. After an error no input is selected, and the
     /// buffer may hold anything: a system's failed read promises nothing of it.
     fn read(&mut self, buf: &mut [u8]) -> Result<usize, Failed>
-        requires { selected self.old ≡ true }
-        ensures ok { OnOk result (selected self.new ≡ true) }
+        requires { (state self.old).selected ≡ true }
+        ensures ok { IfOk result (λ n. Takes (state self.old) (take n buf.new) (state self.new)) }
         ensures within { IfOk result (λ n. n ≤ length buf.old) }
-        ensures taken { IfOk result (λ n. rest self.old ≡ preceded (take n buf.new) (rest self.new)) }
-        ensures end { IfOk result (λ n. n ≡ 0 → 0 < length buf.old → AtEnd (rest self.new)) }
+        ensures end { IfOk result (λ n. n ≡ 0 → 0 < length buf.old → AtEnd (state self.new).rest) }
         ensures length { length buf.new ≡ length buf.old }
-        ensures failed { OnErr result (HasRisen (faults self.old) (faults self.new)) }
-        ensures err { OnErr result (selected self.new ≡ false) }
-        ensures map { contents self.new ≡ contents self.old }
-        ensures faults { faults self.old ≤ faults self.new }
-        ensures absences { absences self.old ≤ absences self.new }
-        ensures last_fault { faults self.new < 2 ^ 64 }
-        ensures last_absence { absences self.new < 2 ^ 64 };
+        ensures failed { OnErr result (Fails (state self.old) (state self.new)) }
+        ensures err { OnErr result ((state self.new).selected ≡ false) }
+        ensures stays { Stays (state self.old) (state self.new) }
+        ensures fits { Fits (state self.new) };
 }

@@ -1,7 +1,7 @@
 //! Inputs in memory.
 ghost use Rattle.std.specs.Prelude.{◌≡◌, [], ◌<◌, ◌≤◌, ◌^◌, take, drop, length, Some, None, true, is_some, is_err, OnOk, OnErr, IfOk};
 ghost use Rattle.x7_words.specs.Input.{preceded, AtEnd};
-ghost use Rattle.x7_words.specs.Memory.{next_fails, planned, bytes_under, no_calls, after_put, select_answer, after_select, read_count, after_read};
+ghost use Rattle.x7_words.specs.Memory.{next_fails, planned, bytes_under, no_calls, after_put, select_answer, after_select, read_count, after_read, told_of};
 
 use crate::count::next_count;
 use crate::input::{Failed, Inputs, NoMemory, SelectFault};
@@ -97,15 +97,7 @@ impl MemoryInputs {
 }
 
 impl Inputs for MemoryInputs {
-    ghost contents = { λ m. Some (bytes_under m.entries) };
-
-    ghost selected = { λ m. is_some m.rest };
-
-    ghost rest = { λ m. m.rest };
-
-    ghost faults = { λ m. m.faults };
-
-    ghost absences = { λ m. 0 };
+    ghost state = { told_of };
 
     fn select(&mut self, name: &str) -> Result<(), SelectFault>
         ensures answer { result ≡ select_answer self.old name.now }

@@ -1,20 +1,18 @@
 use Rattle.std.proofs.Common.{◌≡◌, ◌≤◌, ◌<◌, ◌-◌, length, true}
 use Rattle.x7_header.specs.Header.{EndsInHeader}
-use Rattle.x7_words.specs.Input.{preceded}
+use Rattle.x7_words.specs.Input.{Stays, preceded}
 use Rattle.x7_forms.proofs.front.read_front.Given as goal
 
 abbrev pub invariant-loop-turn : goal.invariant-loop-turn
 invariant-loop-turn g l =
     let i = g.I.Inputs in
     record {
-      selected : i.selected l.inputs ≡ true;
-      map : i.contents l.inputs ≡ i.contents l.fn.inputs;
-      faults : i.faults l.fn.inputs ≤ i.faults l.inputs;
-      absences : i.absences l.fn.inputs ≤ i.absences l.inputs;
+      selected : (i.state l.inputs).selected ≡ true;
+      inputs : Stays (i.state l.fn.inputs) (i.state l.inputs);
       piece : length l.piece ≡ 65536;
       few : length l.bytes.items ≤ 262170;
       waiting : 0 < length l.bytes.items → EndsInHeader l.bytes.items;
-      taken : i.rest l.fn.inputs ≡ preceded l.bytes.items (i.rest l.inputs);
+      taken : (i.state l.fn.inputs).rest ≡ preceded l.bytes.items (i.state l.inputs).rest;
     }
 
 abbrev pub decreases-loop-turn : goal.decreases-loop-turn

@@ -1,4 +1,5 @@
 use Rattle.std.proofs.Common.{◌≡◌, ◌++◌, List, ℕ, ap, arith, ◌∙◌}
+use Rattle.x7_words.proofs.SinkLemmas.{counts_at, counts_on}
 use Rattle.x7_memory.specs.Frames.{frame_at}
 use Rattle.x7_forms.specs.Report.{lines_text}
 use Rattle.x7_forms.proofs.LinesLemmas.{none_sent, more_sent, group_failed}
@@ -7,15 +8,15 @@ use Rattle.x7_forms.proofs.play_text.write_lines.Goals as goal
 pub loop-rest-init : goal.loop-rest-init
 loop-rest-init g c =
     let s = g.S.Sink in
-    record { sent = none_sent (s.written c.args.out.now) (frame_at c.args.part.now c.args.memory.now) c.args.fars.now; room = c.requires.room; faults = omega arith }
+    record { sent = none_sent (s.state c.args.out.now).written (frame_at c.args.part.now c.args.memory.now) c.args.fars.now; room = c.requires.room; counts = counts_at _ }
 
 pub returns-in_err-write_all-clause-prefix : goal.returns-in_err-write_all-clause-prefix
 returns-in_err-write_all-clause-prefix g c =
     let s = g.S.Sink in
     let m = frame_at c.args.part.now c.args.memory.now in
     let block : c.deref.result.now ≡ lines_text m c.split_at.result.0.now = c.deref.ensures.value ∙ c.put_lines.ensures.appends.items ∙ ap (λ (t : List ℕ). t ++ lines_text m c.split_at.result.0.now) c.clear.ensures.items in
-    group_failed (s.written c.args.out.now) (s.written c.loop-rest.out) m c.args.fars.now c.loop-rest.rest.now c.split_at.result.0.now c.split_at.result.1.now c.min.result
-    c.loop-rest.invariant.sent c.split_at.ensures.front c.split_at.ensures.back (s.written c.write_all.new.sink) (rw (← block) c.in_err-write_all.ensures.front)
+    group_failed (s.state c.args.out.now).written (s.state c.loop-rest.out).written m c.args.fars.now c.loop-rest.rest.now c.split_at.result.0.now c.split_at.result.1.now c.min.result
+    c.loop-rest.invariant.sent c.split_at.ensures.front c.split_at.ensures.back (s.state c.write_all.new.sink).written (rw (← block) c.in_err-write_all.ensures.front)
 
 pub loop-rest-preserved : goal.loop-rest-preserved
 loop-rest-preserved g c =
@@ -23,8 +24,8 @@ loop-rest-preserved g c =
     let m = frame_at c.args.part.now c.args.memory.now in
     let block : c.deref.result.now ≡ lines_text m c.split_at.result.0.now = c.deref.ensures.value ∙ c.put_lines.ensures.appends.items ∙ ap (λ (t : List ℕ). t ++ lines_text m c.split_at.result.0.now) c.clear.ensures.items in
     record {
-      sent = more_sent (s.written c.args.out.now) (s.written c.loop-rest.out) m c.args.fars.now c.loop-rest.rest.now c.split_at.result.0.now c.split_at.result.1.now c.min.result
-          c.loop-rest.invariant.sent c.split_at.ensures.front c.split_at.ensures.back (s.written c.write_all.new.sink) (rw (← block) c.in_ok-write_all.ensures.ok);
+      sent = more_sent (s.state c.args.out.now).written (s.state c.loop-rest.out).written m c.args.fars.now c.loop-rest.rest.now c.split_at.result.0.now c.split_at.result.1.now c.min.result
+          c.loop-rest.invariant.sent c.split_at.ensures.front c.split_at.ensures.back (s.state c.write_all.new.sink).written (rw (← block) c.in_ok-write_all.ensures.ok);
       room = omega (arith, c.put_lines.ensures.appends.room, c.loop-rest.invariant.room);
-      faults = omega (arith, c.in_ok-write_all.ensures.faults, c.loop-rest.invariant.faults);
+      counts = counts_on _ _ _ c.loop-rest.invariant.counts c.in_ok-write_all.ensures.counts;
     }

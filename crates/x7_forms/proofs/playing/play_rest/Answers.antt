@@ -1,4 +1,5 @@
 use Rattle.std.proofs.Common.{◌≡◌, ◌++◌, ◌-◌, length, take, length-append, length-take-le, arith, inr, sym, ◌∙◌}
+use Rattle.x7_words.proofs.InputLemmas.{stays_on}
 use Rattle.x7_forms.specs.Message.{event_of}
 use Rattle.x7_forms.specs.Play.{PlaysOn}
 use Rattle.x7_forms.proofs.PlayerLemmas.{may_less, may_on, on_on}
@@ -10,8 +11,8 @@ pub returns-in-Err-clause-err : goal.returns-in-Err-clause-err
 returns-in-Err-clause-err g c =
     let i = g.I.Inputs in
     let v = c.loop-turn.invariant in
-    inr (rest_unread (i.rest c.args.inputs.now) (i.rest c.loop-turn.inputs) (i.rest c.next_turn.new.inputs) c.args.name.now v.told.0 c.args.limit c.loop-turn.left _ (i.faults c.args.inputs.now) (i.faults c.loop-turn.inputs) (i.faults c.next_turn.new.inputs) (event_of c.in-Err.refusal)
-    v.told.1.2 v.told.1.0 v.faults c.in-Err.ensures.err)
+    inr (rest_unread (i.state c.args.inputs.now) (i.state c.loop-turn.inputs) (i.state c.next_turn.new.inputs) c.args.name.now v.told.0 c.args.limit c.loop-turn.left _ (event_of c.in-Err.refusal)
+    v.told.1.2 v.told.1.0 v.inputs c.in-Err.ensures.err)
 
 pub play-requires : goal.play-requires
 play-requires g c =
@@ -26,7 +27,7 @@ returns-then-turn-clause-ok g c =
     let n = c.in-Ok.turn.count in
     let piece = take n c.next_turn.new.buf in
     let size : length piece ≡ n = length-take-le n c.next_turn.new.buf (omega (arith, c.in-Ok.ensures.within.1, c.next_turn.ensures.length)) in
-    let more = rest_more (i.rest c.args.inputs.now) (i.rest c.loop-turn.inputs) (i.rest c.next_turn.new.inputs) v.told.0 piece v.told.1.2 c.in-Ok.ensures.taken in
+    let more = rest_more (i.state c.args.inputs.now).rest (i.state c.loop-turn.inputs).rest (i.state c.next_turn.new.inputs).rest v.told.0 piece v.told.1.2 c.in-Ok.ensures.ok.taken in
     let plays : PlaysOn c.loop-turn.player c.play.new.self piece = from_ok c.play.result (sym c.is_err.ensures.value ∙ c.if-is_err.false) c.play.ensures in
     (v.told.0 ++ piece, omega (arith, v.told.1.0, size, length-append v.told.0 piece, c.in-Ok.ensures.within.0), on_on c.args.player.now c.loop-turn.player c.play.new.self v.told.0 piece v.told.1.1 plays, (more, c.in-Ok.ensures.end c.if-turn.true))
 
@@ -37,13 +38,11 @@ loop-turn-preserved g c =
     let n = c.in-Ok.turn.count in
     let piece = take n c.next_turn.new.buf in
     let size : length piece ≡ n = length-take-le n c.next_turn.new.buf (omega (arith, c.in-Ok.ensures.within.1, c.next_turn.ensures.length)) in
-    let more = rest_more (i.rest c.args.inputs.now) (i.rest c.loop-turn.inputs) (i.rest c.next_turn.new.inputs) v.told.0 piece v.told.1.2 c.in-Ok.ensures.taken in
+    let more = rest_more (i.state c.args.inputs.now).rest (i.state c.loop-turn.inputs).rest (i.state c.next_turn.new.inputs).rest v.told.0 piece v.told.1.2 c.in-Ok.ensures.ok.taken in
     let plays : PlaysOn c.loop-turn.player c.play.new.self piece = from_ok c.play.result (sym c.is_err.ensures.value ∙ c.if-is_err.false) c.play.ensures in
     record {
-      selected = c.in-Ok.ensures.selected;
-      map = c.next_turn.ensures.map ∙ v.map;
-      faults = omega (arith, v.faults, c.next_turn.ensures.faults);
-      absences = omega (arith, v.absences, c.next_turn.ensures.absences);
+      selected = c.in-Ok.ensures.ok.selected;
+      inputs = stays_on _ _ _ v.inputs c.next_turn.ensures.inputs;
       left = omega (arith, v.left);
       piece = c.next_turn.ensures.length ∙ v.piece;
       may = may_on c.loop-turn.player c.play.new.self piece c.loop-turn.left (c.loop-turn.left - n) (omega (arith, size, c.in-Ok.ensures.within.0)) plays v.may;

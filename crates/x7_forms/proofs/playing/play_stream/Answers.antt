@@ -2,6 +2,7 @@ use Rattle.std.proofs.Common.{◌≡◌, ℕ, List, [], ◌∷◌, ◌++◌, ◌
 use Rattle.std.proofs.lemmas.List.{length-take}
 use Rattle.x7_words.specs.Input.{Selects, preceded}
 use Rattle.x7_words.specs.Word.{AreBytes}
+use Rattle.x7_words.proofs.InputLemmas.{stays_on}
 use Rattle.x7_forms.specs.Message.{event_of}
 use Rattle.x7_forms.specs.Known.{read_of, with_inputs}
 use Rattle.x7_forms.specs.Play.{PlaysOn}
@@ -29,7 +30,7 @@ play_rest-requires-clause-may g c =
 pub returns-else-is_err-clause-ok : goal.returns-else-is_err-clause-ok
 returns-else-is_err-clause-ok g c =
     let i = g.I.Inputs in
-    let contents = i.contents c.args.inputs.now in
+    let contents = (i.state c.args.inputs.now).contents in
     let name = c.args.name.now in
     let count = c.in-Ok-next_turn.turn.count in
     let buf = c.next_turn.new.buf in
@@ -38,13 +39,13 @@ returns-else-is_err-clause-ok g c =
     let fits : AreBytes first = c.data_start.ensures.fits in
     let within : length first ≤ c.args.limit = omega (arith, size, c.in-Ok-next_turn.ensures.within.0) in
     let long : c.in-Ok-next_turn.turn.last ≡ false → 262170 ≤ length first = λ e. omega (arith, size, c.in-Ok-next_turn.ensures.goes e, c.requires.buffer) in
-    let select : Selects contents name (preceded first (i.rest c.next_turn.new.inputs)) = subst (λ r. Selects contents name r) c.in-Ok-next_turn.ensures.taken c.in-Ok.ensures.found in
+    let select : Selects contents name (preceded first (i.state c.next_turn.new.inputs).rest) = subst (λ r. Selects contents name r) c.in-Ok-next_turn.ensures.ok.taken c.in-Ok.ensures.ok.found in
     let start = c.in-Ok-data_start.start in
     let slice = take (count - start) (drop start buf) in
     let same : drop start first ≡ slice = slice_of start count buf (omega (arith, size, c.in-Ok-data_start.ensures.within)) in
     let plays : PlaysOn c.args.player.now c.play.new.self slice = from_ok c.play.result (sym c.is_err.ensures.value ∙ c.if-is_err.false) c.play.ensures in
-    let F : List ℕ → Type 0 = RisesFor (name ∷ []) (i.faults c.args.inputs.now) (i.faults c.play_rest.new.inputs) in
-    let L : List ℕ → Type 0 = RisesFor (name ∷ []) (i.absences c.args.inputs.now) (i.absences c.play_rest.new.inputs) in
+    let F : List ℕ → Type 0 = RisesFor (name ∷ []) (i.state c.args.inputs.now).faults (i.state c.play_rest.new.inputs).faults in
+    let L : List ℕ → Type 0 = RisesFor (name ∷ []) (i.state c.args.inputs.now).absences (i.state c.play_rest.new.inputs).absences in
     ok_weaker c.play_rest.result (λ left p.
     let more = p.0 in
     let bytes : drop start first ++ more ≡ slice ++ more = ap (λ x. x ++ more) same in (
@@ -52,26 +53,26 @@ returns-else-is_err-clause-ok g c =
       omega (arith, p.1, within, size, length-append slice more, length-take (count - start) (drop start buf)),
       on_on c.args.player.now c.play.new.self c.play_rest.new.player slice more plays p.2,
       λ flash. subst (λ (bytes : List ℕ). IsCaused (with_inputs contents flash) F L (λ t. read_of t c.args.limit name) (Ok (record { bytes = bytes; room = left }))) bytes
-          (stream_read contents flash F L name first more (drop start first) (i.rest c.next_turn.new.inputs) (i.rest c.play_rest.new.inputs) c.args.limit left c.in-Ok-next_turn.turn.last select p.3.0 p.3.1 c.in-Ok-next_turn.ensures.end long fits (omega (arith, p.1, size)) within c.in-Ok-data_start.ensures.data),
+          (stream_read contents flash F L name first more (drop start first) (i.state c.next_turn.new.inputs).rest (i.state c.play_rest.new.inputs).rest c.args.limit left c.in-Ok-next_turn.turn.last select p.3.0 p.3.1 c.in-Ok-next_turn.ensures.end long fits (omega (arith, p.1, size)) within c.in-Ok-data_start.ensures.data),
     )) c.play_rest.ensures.ok
 
 pub returns-else-is_err-clause-err : goal.returns-else-is_err-clause-err
 returns-else-is_err-clause-err g c =
     let i = g.I.Inputs in
-    let contents = i.contents c.args.inputs.now in
+    let contents = (i.state c.args.inputs.now).contents in
     let name = c.args.name.now in
     let count = c.in-Ok-next_turn.turn.count in
     let first = take count c.next_turn.new.buf in
     let size : length first ≡ count = length-take-le count c.next_turn.new.buf (omega (arith, c.in-Ok-next_turn.ensures.within.1, c.next_turn.ensures.length)) in
-    let select : Selects contents name (preceded first (i.rest c.next_turn.new.inputs)) = subst (λ r. Selects contents name r) c.in-Ok-next_turn.ensures.taken c.in-Ok.ensures.found in
+    let select : Selects contents name (preceded first (i.state c.next_turn.new.inputs).rest) = subst (λ r. Selects contents name r) c.in-Ok-next_turn.ensures.ok.taken c.in-Ok.ensures.ok.found in
     err_weaker c.play_rest.result (λ r h. λ flash.
-    rest_refused contents flash name first (i.rest c.next_turn.new.inputs) c.args.limit (c.args.limit - count) (i.faults c.args.inputs.now) (i.faults c.next_turn.new.inputs) (i.faults c.play_rest.new.inputs) (i.absences c.args.inputs.now) (i.absences c.play_rest.new.inputs)
-    (event_of r) (omega (arith, c.open.ensures.faults, c.next_turn.ensures.faults)) (omega (arith, size, c.in-Ok-next_turn.ensures.within.0)) select h) c.play_rest.ensures.err
+    rest_refused (i.state c.args.inputs.now) (i.state c.next_turn.new.inputs) (i.state c.play_rest.new.inputs) flash name first c.args.limit (c.args.limit - count)
+    (event_of r) (stays_on _ _ _ c.open.ensures.inputs c.next_turn.ensures.inputs) (omega (arith, size, c.in-Ok-next_turn.ensures.within.0)) select h) c.play_rest.ensures.err
 
 pub returns-in-Ok-skip_rest-clause-err : goal.returns-in-Ok-skip_rest-clause-err
 returns-in-Ok-skip_rest-clause-err g c = λ flash.
     let i = g.I.Inputs in
-    let contents = i.contents c.args.inputs.now in
+    let contents = (i.state c.args.inputs.now).contents in
     let name = c.args.name.now in
     let count = c.in-Ok-next_turn.turn.count in
     let buf = c.next_turn.new.buf in
@@ -80,8 +81,8 @@ returns-in-Ok-skip_rest-clause-err g c = λ flash.
     let fits : AreBytes first = c.data_start.ensures.fits in
     let within : length first ≤ c.args.limit = omega (arith, size, c.in-Ok-next_turn.ensures.within.0) in
     let long : c.in-Ok-next_turn.turn.last ≡ false → 262170 ≤ length first = λ e. omega (arith, size, c.in-Ok-next_turn.ensures.goes e, c.requires.buffer) in
-    let select : Selects contents name (preceded first (i.rest c.next_turn.new.inputs)) = subst (λ r. Selects contents name r) c.in-Ok-next_turn.ensures.taken c.in-Ok.ensures.found in
-    let F : List ℕ → Type 0 = RisesFor (name ∷ []) (i.faults c.args.inputs.now) (i.faults c.skip_rest.new.inputs) in
-    let L : List ℕ → Type 0 = RisesFor (name ∷ []) (i.absences c.args.inputs.now) (i.absences c.skip_rest.new.inputs) in
+    let select : Selects contents name (preceded first (i.state c.next_turn.new.inputs).rest) = subst (λ r. Selects contents name r) c.in-Ok-next_turn.ensures.ok.taken c.in-Ok.ensures.ok.found in
+    let F : List ℕ → Type 0 = RisesFor (name ∷ []) (i.state c.args.inputs.now).faults (i.state c.skip_rest.new.inputs).faults in
+    let L : List ℕ → Type 0 = RisesFor (name ∷ []) (i.state c.args.inputs.now).absences (i.state c.skip_rest.new.inputs).absences in
     let p = c.in-Ok-skip_rest.ensures.ok in
-    stream_refused contents flash F L name first p.0 (i.rest c.next_turn.new.inputs) (i.rest c.skip_rest.new.inputs) c.args.limit c.in-Ok-next_turn.turn.last (event_of c.in-Err-data_start.refusal) select p.2.0 p.2.1 c.in-Ok-next_turn.ensures.end long fits (omega (arith, p.1, size)) within c.in-Err-data_start.ensures.data
+    stream_refused contents flash F L name first p.0 (i.state c.next_turn.new.inputs).rest (i.state c.skip_rest.new.inputs).rest c.args.limit c.in-Ok-next_turn.turn.last (event_of c.in-Err-data_start.refusal) select p.2.0 p.2.1 c.in-Ok-next_turn.ensures.end long fits (omega (arith, p.1, size)) within c.in-Err-data_start.ensures.data

@@ -1,4 +1,5 @@
 use Rattle.std.proofs.Common.{◌≡◌, ℕ, List, [], ◌∷◌, ◌++◌, arith, drop, length, length-append, length-take-le, map, string_bytes, refl, ◌∙◌, ap}
+use Rattle.x7_words.proofs.InputLemmas.{stays_at, stays_on}
 use Rattle.x7_forms.specs.Message.{event_of}
 use Rattle.x7_forms.specs.Known.{StreamRead, stream_limit}
 use Rattle.x7_forms.specs.Step.{RisesFor}
@@ -9,11 +10,9 @@ pub loop-name-init : goal.loop-name-init
 loop-name-init g c =
     let i = g.I.Inputs in
     record {
-      told = refl;
-      faults = omega arith;
-      absences = omega arith;
+      inputs = stays_at _;
       piece = omega (arith, c.in-Ok-vec.ensures.len, c.in-Ok-vec.piece.ok.0);
-      played = ([], (c.in-Ok.ensures, omega arith, rests_none (i.contents c.args.inputs.now) (map string_bytes c.args.streams.now) stream_limit));
+      played = ([], (c.in-Ok.ensures, omega arith, rests_none (i.state c.args.inputs.now).contents (map string_bytes c.args.streams.now) stream_limit));
     }
 
 pub play_stream-requires-clause-may : goal.play_stream-requires-clause-may
@@ -25,30 +24,28 @@ pub returns-in-Err-clause-err : goal.returns-in-Err-clause-err
 returns-in-Err-clause-err g c = λ flash.
     let i = g.I.Inputs in
     let v = c.loop-name.invariant in
-    stream_err string_bytes (i.contents c.args.inputs.now) (i.contents c.loop-name.inputs) flash c.args.streams.now c.loop-name.name-index stream_limit c.loop-name.left c.name-item.result c.as_str.result.now v.played.0
-    (i.faults c.args.inputs.now) (i.faults c.loop-name.inputs) (i.faults c.play_stream.new.inputs)
-    (i.absences c.args.inputs.now) (i.absences c.loop-name.inputs) (i.absences c.play_stream.new.inputs)
+    stream_err string_bytes (i.state c.args.inputs.now).contents (i.state c.loop-name.inputs).contents flash c.args.streams.now c.loop-name.name-index stream_limit c.loop-name.left c.name-item.result c.as_str.result.now v.played.0
+    (i.state c.args.inputs.now).faults (i.state c.loop-name.inputs).faults (i.state c.play_stream.new.inputs).faults
+    (i.state c.args.inputs.now).absences (i.state c.loop-name.inputs).absences (i.state c.play_stream.new.inputs).absences
     (event_of c.in-Err.refusal)
-    v.told c.loop-name-test.true c.name-item.is c.as_str.ensures.value v.faults v.absences v.played.1.2 (c.in-Err.ensures.err flash)
+    v.inputs.map c.loop-name-test.true c.name-item.is c.as_str.ensures.value v.inputs.faults v.inputs.absences v.played.1.2 (c.in-Err.ensures.err flash)
 
 pub loop-name-preserved : goal.loop-name-preserved
 loop-name-preserved g c =
     let i = g.I.Inputs in
     let v = c.loop-name.invariant in
     let name = c.as_str.result.now in
-    let F : List ℕ → Type 0 = RisesFor (name ∷ []) (i.faults c.loop-name.inputs) (i.faults c.play_stream.new.inputs) in
-    let L : List ℕ → Type 0 = RisesFor (name ∷ []) (i.absences c.loop-name.inputs) (i.absences c.play_stream.new.inputs) in
+    let F : List ℕ → Type 0 = RisesFor (name ∷ []) (i.state c.loop-name.inputs).faults (i.state c.play_stream.new.inputs).faults in
+    let L : List ℕ → Type 0 = RisesFor (name ∷ []) (i.state c.loop-name.inputs).absences (i.state c.play_stream.new.inputs).absences in
     let p = c.in-Ok-play_stream.ensures.ok in
     let read : StreamRead = record { bytes = p.0; room = c.in-Ok-play_stream.left } in
-    let next = stream_next string_bytes (i.contents c.args.inputs.now) (i.contents c.loop-name.inputs) F L c.args.streams.now c.loop-name.name-index stream_limit c.loop-name.left c.name-item.result name v.played.0 read
-    v.told c.loop-name-test.true c.name-item.is c.as_str.ensures.value v.played.1.2 p.3 in
+    let next = stream_next string_bytes (i.state c.args.inputs.now).contents (i.state c.loop-name.inputs).contents F L c.args.streams.now c.loop-name.name-index stream_limit c.loop-name.left c.name-item.result name v.played.0 read
+    v.inputs.map c.loop-name-test.true c.name-item.is c.as_str.ensures.value v.played.1.2 p.3 in
     let new = c.play_stream.new.piece in
     let old = c.loop-name.piece.items in
     let size : length new ≡ 266240 = c.play_stream.ensures.length ∙ ap length c.deref_mut.ensures.value ∙ v.piece in
     record {
-      told = c.play_stream.ensures.map ∙ v.told;
-      faults = omega (arith, v.faults, c.play_stream.ensures.faults);
-      absences = omega (arith, v.absences, c.play_stream.ensures.absences);
+      inputs = stays_on _ _ _ v.inputs c.play_stream.ensures.inputs;
       piece = omega (arith, length-take-le c.loop-name.piece.len (new ++ drop (length new) old) (omega (arith, length-append new (drop (length new) old), size, v.piece, c.loop-name.piece.ok.0)), v.piece, c.loop-name.piece.ok.0);
       played = (v.played.0 ++ p.0, (p.2 c.args.part.now v.played.0 v.played.1.0, omega (arith, v.played.1.1, p.1, length-append v.played.0 p.0), next));
     }
@@ -59,6 +56,6 @@ returns-clause-ok g c =
     let v = c.loop-name.invariant in (
       v.played.0,
       v.played.1.0,
-      λ flash. rests_all string_bytes (i.contents c.args.inputs.now) flash (RisesFor (map string_bytes c.args.streams.now) (i.faults c.args.inputs.now) (i.faults c.loop-name.inputs)) (RisesFor (map string_bytes c.args.streams.now) (i.absences c.args.inputs.now) (i.absences c.loop-name.inputs))
+      λ flash. rests_all string_bytes (i.state c.args.inputs.now).contents flash (RisesFor (map string_bytes c.args.streams.now) (i.state c.args.inputs.now).faults (i.state c.loop-name.inputs).faults) (RisesFor (map string_bytes c.args.streams.now) (i.state c.args.inputs.now).absences (i.state c.loop-name.inputs).absences)
           c.args.streams.now c.loop-name.name-index stream_limit c.loop-name.left v.played.0 c.loop-name-test.false v.played.1.2,
     )

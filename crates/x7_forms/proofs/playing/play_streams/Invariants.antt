@@ -1,4 +1,5 @@
 use Rattle.std.proofs.Common.{◌≡◌, ℕ, List, ◌+◌, ◌≤◌, drop, length, map, string_bytes}
+use Rattle.x7_words.specs.Input.{Stays}
 use Rattle.x7_forms.specs.Known.{stream_limit}
 use Rattle.x7_forms.specs.Play.{HasPlayed}
 use Rattle.x7_forms.proofs.ReadLemmas.{Rests}
@@ -8,9 +9,7 @@ abbrev pub invariant-loop-name : goal.invariant-loop-name
 invariant-loop-name g l =
     let i = g.I.Inputs in
     record {
-      told : i.contents l.inputs ≡ i.contents l.fn.inputs;
-      faults : i.faults l.fn.inputs ≤ i.faults l.inputs;
-      absences : i.absences l.fn.inputs ≤ i.absences l.inputs;
+      inputs : Stays (i.state l.fn.inputs) (i.state l.inputs);
       piece : length l.piece.items ≡ 266240;
-      played : (whole : List ℕ) × (HasPlayed l.part whole l.player × (length whole + l.left ≤ stream_limit) × Rests (i.contents l.fn.inputs) (map string_bytes l.streams) stream_limit (map string_bytes (drop l.name-index l.streams)) l.left whole);
+      played : (whole : List ℕ) × (HasPlayed l.part whole l.player × (length whole + l.left ≤ stream_limit) × Rests (i.state l.fn.inputs).contents (map string_bytes l.streams) stream_limit (map string_bytes (drop l.name-index l.streams)) l.left whole);
     }

@@ -11,10 +11,10 @@ use Rattle.x7_forms.proofs.playing.read_part.Goals as goal
 pub returns-in-Ok-part_of-clause-due : goal.returns-in-Ok-part_of-clause-due
 returns-in-Ok-part_of-clause-due g c = λ flash.
     let i = g.I.Inputs in
-    let known = with_inputs (i.contents c.args.inputs.now) flash in
+    let known = with_inputs (i.state c.args.inputs.now).contents flash in
     let name = c.args.name.now in
-    let F : List ℕ → Type 0 = RisesFor (name ∷ []) (i.faults c.args.inputs.now) (i.faults c.read_whole.new.inputs) in
-    let L : List ℕ → Type 0 = RisesFor (name ∷ []) (i.absences c.args.inputs.now) (i.absences c.read_whole.new.inputs) in
+    let F : List ℕ → Type 0 = RisesFor (name ∷ []) (i.state c.args.inputs.now).faults (i.state c.read_whole.new.inputs).faults in
+    let L : List ℕ → Type 0 = RisesFor (name ∷ []) (i.state c.args.inputs.now).absences (i.state c.read_whole.new.inputs).absences in
     let text = c.in-Ok.text.items in
     let part = rw c.deref.ensures.value at c.in-Ok-part_of.ensures.part in
     after_text known F L part_limit name text (λ bytes. part_by name (part_in bytes)) (Ok c.in-Ok-part_of.part) (c.in-Ok.ensures.due flash) (works known F L (part_by name (part_in text)) (Ok c.in-Ok-part_of.part) tt tt (ap (part_by name) part))
@@ -22,10 +22,10 @@ returns-in-Ok-part_of-clause-due g c = λ flash.
 pub returns-clause-due : goal.returns-clause-due
 returns-clause-due g c = λ flash.
     let i = g.I.Inputs in
-    let known = with_inputs (i.contents c.args.inputs.now) flash in
+    let known = with_inputs (i.state c.args.inputs.now).contents flash in
     let name = c.args.name.now in
-    let F : List ℕ → Type 0 = RisesFor (name ∷ []) (i.faults c.args.inputs.now) (i.faults c.read_whole.new.inputs) in
-    let L : List ℕ → Type 0 = RisesFor (name ∷ []) (i.absences c.args.inputs.now) (i.absences c.read_whole.new.inputs) in
+    let F : List ℕ → Type 0 = RisesFor (name ∷ []) (i.state c.args.inputs.now).faults (i.state c.read_whole.new.inputs).faults in
+    let L : List ℕ → Type 0 = RisesFor (name ∷ []) (i.state c.args.inputs.now).absences (i.state c.read_whole.new.inputs).absences in
     let text = c.in-Ok.text.items in
     let why = rw c.deref.ensures.value at c.in-Err-part_of.ensures.fault in
     caused_event known F L (λ known. part_of known name) (event_of c.refusal_of.result) (part_event name c.in-Err-part_of.fault) c.refusal_of.ensures (after_text known F L part_limit name text (λ bytes. part_by name (part_in bytes)) (Err (part_event name c.in-Err-part_of.fault)) (c.in-Ok.ensures.due flash) (refused known F L name text c.in-Err-part_of.fault why))

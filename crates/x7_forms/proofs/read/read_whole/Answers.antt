@@ -10,11 +10,11 @@ returns-in-Ok-clause-due g c = λ flash.
     let i = g.I.Inputs in
     let name = c.args.name.now in
     let due = rw c.new-whole.ensures.items at (c.in-Ok.ensures.due flash) in
-    read_alone (with_inputs (i.contents c.args.inputs.now) flash) (RisesFor (name ∷ []) (i.faults c.args.inputs.now) (i.faults c.read_onto.new.inputs)) (RisesFor (name ∷ []) (i.absences c.args.inputs.now) (i.absences c.read_onto.new.inputs)) c.args.limit name (Ok c.read_onto.new.onto.items) due
+    read_alone (with_inputs (i.state c.args.inputs.now).contents flash) (RisesFor (name ∷ []) (i.state c.args.inputs.now).faults (i.state c.read_onto.new.inputs).faults) (RisesFor (name ∷ []) (i.state c.args.inputs.now).absences (i.state c.read_onto.new.inputs).absences) c.args.limit name (Ok c.read_onto.new.onto.items) due
 
 pub returns-clause-due : goal.returns-clause-due
 returns-clause-due g c = λ flash.
     let i = g.I.Inputs in
     let name = c.args.name.now in
     let due = rw c.new-whole.ensures.items at (c.in-Err.ensures.due flash) in
-    read_alone (with_inputs (i.contents c.args.inputs.now) flash) (RisesFor (name ∷ []) (i.faults c.args.inputs.now) (i.faults c.read_onto.new.inputs)) (RisesFor (name ∷ []) (i.absences c.args.inputs.now) (i.absences c.read_onto.new.inputs)) c.args.limit name (Err (event_of c.in-Err.refusal)) due
+    read_alone (with_inputs (i.state c.args.inputs.now).contents flash) (RisesFor (name ∷ []) (i.state c.args.inputs.now).faults (i.state c.read_onto.new.inputs).faults) (RisesFor (name ∷ []) (i.state c.args.inputs.now).absences (i.state c.read_onto.new.inputs).absences) c.args.limit name (Err (event_of c.in-Err.refusal)) due

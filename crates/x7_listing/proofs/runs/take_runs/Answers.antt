@@ -1,5 +1,6 @@
 use Rattle.std.proofs.Common.{◌∙◌, inr, sym, refl, subst, arith, Result}
 use Rattle.x7_words.specs.declared.input.Failed.{Failed}
+use Rattle.x7_words.proofs.InputLemmas.{stays_at, stays_on}
 use Rattle.x7_packets.specs.declared.stream.Run.{Run}
 use Rattle.x7_packets.specs.Running.{Gives, GivesRun}
 use Rattle.x7_listing.proofs.TakingRunsLemmas.{end_after, from_ok, next_fits, not_ended, takes_all, takes_more, takes_none, taken_by, tells_more, tells_none}
@@ -10,11 +11,9 @@ loop-init g c = record {
   selected = c.requires.selected;
   good = c.requires.good;
   end = c.requires.end;
-  map = refl;
-  faults = omega arith;
-  absences = omega arith;
+  inputs = stays_at _;
   turns = tells_none c.args.packets.now c.requires.stands;
-  runs = takes_none c.args.packets.now c.args.lister.now (g.I.Inputs.rest c.args.inputs.now);
+  runs = takes_none c.args.packets.now c.args.lister.now (g.I.Inputs.state c.args.inputs.now).rest;
 }
 
 pub returns-then-text-most-clause-taken : goal.returns-then-text-most-clause-taken
@@ -31,29 +30,27 @@ returns-clause-enough g c e = inr (omega (arith, taken_by _ _ c.loop.invariant.t
 
 pub take-requires : goal.take-requires
 take-requires g c =
-    let gives : GivesRun c.loop.packets c.next_run.follows.lender-at-none (g.I.Inputs.rest c.loop.inputs) (g.I.Inputs.rest c.next_run.new.inputs) c.in-Ok.run' =
-    subst (λ (x : Result Run Failed). Gives c.loop.packets c.next_run.follows.lender-at-none (g.I.Inputs.rest c.loop.inputs) (g.I.Inputs.rest c.next_run.new.inputs) x) c.in-Ok.is c.next_run.follows.holds-at-none in
+    let gives : GivesRun c.loop.packets c.next_run.follows.lender-at-none (g.I.Inputs.state c.loop.inputs).rest (g.I.Inputs.state c.next_run.new.inputs).rest c.in-Ok.run' =
+    subst (λ (x : Result Run Failed). Gives c.loop.packets c.next_run.follows.lender-at-none (g.I.Inputs.state c.loop.inputs).rest (g.I.Inputs.state c.next_run.new.inputs).rest x) c.in-Ok.is c.next_run.follows.holds-at-none in
     next_fits _ _ _ _ _ _ _ _ c.in-Ok.run' c.requires.stands c.loop.invariant.runs gives
 
 pub returns-in-End-clause-taken : goal.returns-in-End-clause-taken
 returns-in-End-clause-taken g c =
-    let gives : GivesRun c.loop.packets c.next_run.follows.lender-at-none (g.I.Inputs.rest c.loop.inputs) (g.I.Inputs.rest c.next_run.new.inputs) c.in-Ok.run' =
-    subst (λ (x : Result Run Failed). Gives c.loop.packets c.next_run.follows.lender-at-none (g.I.Inputs.rest c.loop.inputs) (g.I.Inputs.rest c.next_run.new.inputs) x) c.in-Ok.is c.next_run.follows.holds-at-none in
+    let gives : GivesRun c.loop.packets c.next_run.follows.lender-at-none (g.I.Inputs.state c.loop.inputs).rest (g.I.Inputs.state c.next_run.new.inputs).rest c.in-Ok.run' =
+    subst (λ (x : Result Run Failed). Gives c.loop.packets c.next_run.follows.lender-at-none (g.I.Inputs.state c.loop.inputs).rest (g.I.Inputs.state c.next_run.new.inputs).rest x) c.in-Ok.is c.next_run.follows.holds-at-none in
     takes_all _ _ _ _ _ _ _ _ _ c.in-Ok.run' c.in-End.is c.loop.invariant.runs gives (from_ok c.take.result (sym c.if-is_err.ensures.value) c.take.ensures.ok)
 
 pub loop-preserved : goal.loop-preserved
 loop-preserved g c =
     let i = c.loop.invariant in
     let o = c.in-Ok.ensures in
-    let gives : GivesRun c.loop.packets c.next_run.follows.lender-at-none (g.I.Inputs.rest c.loop.inputs) (g.I.Inputs.rest c.next_run.new.inputs) c.in-Ok.run' =
-    subst (λ (x : Result Run Failed). Gives c.loop.packets c.next_run.follows.lender-at-none (g.I.Inputs.rest c.loop.inputs) (g.I.Inputs.rest c.next_run.new.inputs) x) c.in-Ok.is c.next_run.follows.holds-at-none in
+    let gives : GivesRun c.loop.packets c.next_run.follows.lender-at-none (g.I.Inputs.state c.loop.inputs).rest (g.I.Inputs.state c.next_run.new.inputs).rest c.in-Ok.run' =
+    subst (λ (x : Result Run Failed). Gives c.loop.packets c.next_run.follows.lender-at-none (g.I.Inputs.state c.loop.inputs).rest (g.I.Inputs.state c.next_run.new.inputs).rest x) c.in-Ok.is c.next_run.follows.holds-at-none in
     record {
       selected = o.selected;
       good = gives.tells.good;
       end = end_after c.in-Ok.run' gives;
-      map = o.map ∙ i.map;
-      faults = omega (arith, i.faults, o.faults);
-      absences = omega (arith, i.absences, o.absences);
+      inputs = stays_on _ _ _ i.inputs o.inputs;
       turns = tells_more _ _ _ _ c.in-Ok.run' _ c.in_default.not-End i.turns gives;
       runs = takes_more _ _ _ _ _ _ _ _ _ c.in-Ok.run' c.in_default.not-End i.runs gives (from_ok c.take.result (sym c.if-is_err.ensures.value) c.take.ensures.ok);
     }

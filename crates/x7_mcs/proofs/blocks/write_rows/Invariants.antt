@@ -1,4 +1,5 @@
 use Rattle.std.proofs.Common.{◌≡◌, ◌+◌, ◌%◌, ◌<◌, ◌≤◌, length, vec_capacity}
+use Rattle.x7_words.specs.Sink.{Counts}
 use Rattle.x7_mcs.proofs.BlockLemmas.{Goes}
 use Rattle.x7_mcs.proofs.blocks.write_rows.Given as goal
 
@@ -6,11 +7,11 @@ abbrev pub invariant-loop-rest : goal.invariant-loop-rest
 invariant-loop-rest g l =
     let s = g.S.Sink in
     record {
-      goes : Goes (s.written l.fn.out) (s.written l.out) l.flash l.place l.rest;
+      goes : Goes (s.state l.fn.out).written (s.state l.out).written l.flash l.place l.rest;
       left : l.place + length l.rest ≡ length l.flash;
       begins : 0 < length l.rest → l.place % 65536 ≡ 0;
       room : 262204 ≤ vec_capacity l.block;
-      faults : s.faults l.fn.out ≤ s.faults l.out;
+      counts : Counts (s.state l.fn.out) (s.state l.out);
     }
 
 abbrev pub decreases-loop-rest : goal.decreases-loop-rest

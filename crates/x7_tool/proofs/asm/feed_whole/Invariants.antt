@@ -1,5 +1,5 @@
 use Rattle.std.proofs.Common.{◌≡◌, ℕ, List, ◌+◌, ◌≤◌, length, true}
-use Rattle.x7_words.specs.Input.{Selects, preceded}
+use Rattle.x7_words.specs.Input.{Selects, Stays, preceded}
 use Rattle.x7_tool.specs.Outcome.{text_limit}
 use Rattle.x7_tool.specs.Turns.{IsFed}
 use Rattle.x7_tool.proofs.asm.feed_whole.Given as goal
@@ -8,13 +8,11 @@ abbrev pub invariant-loop-turn : goal.invariant-loop-turn
 invariant-loop-turn g l =
     let i = g.I.Inputs in
     record {
-      selected : i.selected l.inputs ≡ true;
-      map : i.contents l.inputs ≡ i.contents l.fn.inputs;
-      faults : i.faults l.fn.inputs ≤ i.faults l.inputs;
-      absences : i.absences l.fn.inputs ≤ i.absences l.inputs;
+      selected : (i.state l.inputs).selected ≡ true;
+      inputs : Stays (i.state l.fn.inputs) (i.state l.inputs);
       left : l.left ≤ text_limit;
       piece : length l.piece ≡ 65536;
-      told : (taken : List ℕ) × (Selects (i.contents l.fn.inputs) l.name (preceded taken (i.rest l.inputs)) × IsFed l.found l.assembler taken × (length taken + l.left ≡ text_limit));
+      told : (taken : List ℕ) × (Selects (i.state l.fn.inputs).contents l.name (preceded taken (i.state l.inputs).rest) × IsFed l.found l.assembler taken × (length taken + l.left ≡ text_limit));
     }
 
 abbrev pub decreases-loop-turn : goal.decreases-loop-turn

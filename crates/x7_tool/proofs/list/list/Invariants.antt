@@ -1,5 +1,5 @@
 use Rattle.std.proofs.Common.{◌≡◌, ℕ, List, ◌+◌, ◌≤◌, length, true}
-use Rattle.x7_words.specs.Input.{Selects, preceded}
+use Rattle.x7_words.specs.Input.{Selects, Stays, preceded}
 use Rattle.x7_forms.specs.Known.{stream_limit}
 use Rattle.x7_tool.specs.Turns.{ListsStream}
 use Rattle.x7_tool.proofs.list.list.Given as goal
@@ -9,14 +9,12 @@ invariant-loop-turn g l =
     let i = g.I.Inputs in
     let o = g.O.Sink in
     record {
-      selected : i.selected l.inputs ≡ true;
-      map : i.contents l.inputs ≡ i.contents l.fn.inputs;
-      faults : i.faults l.fn.inputs ≤ i.faults l.inputs;
-      absences : i.absences l.fn.inputs ≤ i.absences l.inputs;
-      written : o.faults l.fn.out ≤ o.faults l.out;
+      selected : (i.state l.inputs).selected ≡ true;
+      inputs : Stays (i.state l.fn.inputs) (i.state l.inputs);
+      written : (o.state l.fn.out).faults ≤ (o.state l.out).faults;
       left : l.left ≤ stream_limit;
       piece : length l.piece ≡ 65536;
-      told : (taken : List ℕ) × (Selects (i.contents l.fn.inputs) l.stream (preceded taken (i.rest l.inputs)) × ListsStream l.lister (o.written l.fn.out) (o.written l.out) taken × (length taken + l.left ≡ stream_limit));
+      told : (taken : List ℕ) × (Selects (i.state l.fn.inputs).contents l.stream (preceded taken (i.state l.inputs).rest) × ListsStream l.lister (o.state l.fn.out).written (o.state l.out).written taken × (length taken + l.left ≡ stream_limit));
     }
 
 abbrev pub decreases-loop-turn : goal.decreases-loop-turn

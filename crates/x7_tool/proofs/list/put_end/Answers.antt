@@ -6,23 +6,23 @@ use Rattle.x7_tool.proofs.list.put_end.Goals as goal
 
 pub returns-then-is_err-clause-err : goal.returns-then-is_err-clause-err
 returns-then-is_err-clause-err g c = λ first bytes lists.
-    lists_here c.args.lister.now first (g.O.Sink.written c.args.out.now) bytes lists
+    lists_here c.args.lister.now first (g.O.Sink.state c.args.out.now).written bytes lists
 
 pub returns-in-Ok-clause-ok : goal.returns-in-Ok-clause-ok
 returns-in-Ok-clause-ok g c = λ first bytes lists.
     let ends = from_ok c.finish.result (sym c.is_err.ensures.value ∙ c.if-is_err.false) c.finish.ensures.ok in
-    end_put c.args.lister.now c.finish.new.self first (g.O.Sink.written c.args.out.now) (g.O.Sink.written c.write_all.new.sink) bytes c.text.result.now lists ends c.text.ensures c.in-Ok.ensures.ok
+    end_put c.args.lister.now c.finish.new.self first (g.O.Sink.state c.args.out.now).written (g.O.Sink.state c.write_all.new.sink).written bytes c.text.result.now lists ends c.text.ensures c.in-Ok.ensures.ok
 
 pub returns-in-Err-clause-err : goal.returns-in-Err-clause-err
 returns-in-Err-clause-err g c = λ first bytes lists.
     let ends = from_ok c.finish.result (sym c.is_err.ensures.value ∙ c.if-is_err.false) c.finish.ensures.ok in
-    end_part c.args.lister.now c.finish.new.self first (g.O.Sink.written c.args.out.now) (g.O.Sink.written c.write_all.new.sink) bytes c.text.result.now lists ends c.text.ensures c.write_all.ensures.front
+    end_part c.args.lister.now c.finish.new.self first (g.O.Sink.state c.args.out.now).written (g.O.Sink.state c.write_all.new.sink).written bytes c.text.result.now lists ends c.text.ensures c.write_all.ensures.front
 
 pub returns-then-is_err-clause-longer : goal.returns-then-is_err-clause-longer
-returns-then-is_err-clause-longer g c = same_now (g.O.Sink.written c.args.out.now)
+returns-then-is_err-clause-longer g c = same_now (g.O.Sink.state c.args.out.now).written
 
 pub returns-in-Ok-clause-longer : goal.returns-in-Ok-clause-longer
-returns-in-Ok-clause-longer g c = longer_front (g.O.Sink.written c.args.out.now) (g.O.Sink.written c.write_all.new.sink) _ c.write_all.ensures.front
+returns-in-Ok-clause-longer g c = longer_front (g.O.Sink.state c.args.out.now).written (g.O.Sink.state c.write_all.new.sink).written _ c.write_all.ensures.front
 
 pub returns-in-Err-clause-longer : goal.returns-in-Err-clause-longer
-returns-in-Err-clause-longer g c = longer_front (g.O.Sink.written c.args.out.now) (g.O.Sink.written c.write_all.new.sink) _ c.write_all.ensures.front
+returns-in-Err-clause-longer g c = longer_front (g.O.Sink.state c.args.out.now).written (g.O.Sink.state c.write_all.new.sink).written _ c.write_all.ensures.front

@@ -6,18 +6,18 @@ use Rattle.x7_tool.proofs.TurnLemmas.{begins_behind, line_front, line_part}
 use Rattle.x7_tool.proofs.list.put_front.Goals as goal
 
 pub returns-then-is_err-clause-err : goal.returns-then-is_err-clause-err
-returns-then-is_err-clause-err g c = λ rest fits. line_part (g.O.Sink.written c.args.out.now) (g.O.Sink.written c.write_all.new.sink) c.args.line.now _ c.write_all.ensures.front
+returns-then-is_err-clause-err g c = λ rest fits. line_part (g.O.Sink.state c.args.out.now).written (g.O.Sink.state c.write_all.new.sink).written c.args.line.now _ c.write_all.ensures.front
 
 pub returns-clause-ok : goal.returns-clause-ok
 returns-clause-ok g c =
-    let old = g.O.Sink.written c.args.out.now in
-    let mid = g.O.Sink.written c.write_all.new.sink in
+    let old = (g.O.Sink.state c.args.out.now).written in
+    let mid = (g.O.Sink.state c.write_all.new.sink).written in
     let put = from_ok c.write_all.result (sym c.is_err.ensures.value ∙ c.if-is_err.false) c.write_all.ensures.ok in
     on_ok_weaker c.put_turn.result (λ h. h (appended old c.args.line.now) [] (begins_behind c.args.lister.now old mid c.args.line.now c.requires.new c.requires.clear put)) c.put_turn.ensures.ok
 
 pub returns-clause-err : goal.returns-clause-err
 returns-clause-err g c =
-    let old = g.O.Sink.written c.args.out.now in
-    let mid = g.O.Sink.written c.write_all.new.sink in
+    let old = (g.O.Sink.state c.args.out.now).written in
+    let mid = (g.O.Sink.state c.write_all.new.sink).written in
     let put = from_ok c.write_all.result (sym c.is_err.ensures.value ∙ c.if-is_err.false) c.write_all.ensures.ok in
-    err_weaker c.put_turn.result (λ r p rest fits. line_front old (g.O.Sink.written c.put_turn.new.out) c.args.line.now _ (p (appended old c.args.line.now) [] rest (begins_behind c.args.lister.now old mid c.args.line.now c.requires.new c.requires.clear put) fits)) c.put_turn.ensures.err
+    err_weaker c.put_turn.result (λ r p rest fits. line_front old (g.O.Sink.state c.put_turn.new.out).written c.args.line.now _ (p (appended old c.args.line.now) [] rest (begins_behind c.args.lister.now old mid c.args.line.now c.requires.new c.requires.clear put) fits)) c.put_turn.ensures.err

@@ -6,24 +6,24 @@ use Rattle.x7_tool.proofs.list.put_turn.Goals as goal
 
 pub returns-then-is_err-clause-err : goal.returns-then-is_err-clause-err
 returns-then-is_err-clause-err g c = λ first bytes rest lists fits.
-    lists_front c.args.lister.now first (g.O.Sink.written c.args.out.now) bytes _ lists fits
+    lists_front c.args.lister.now first (g.O.Sink.state c.args.out.now).written bytes _ lists fits
 
 pub returns-then-is_err-2-clause-err : goal.returns-then-is_err-2-clause-err
 returns-then-is_err-2-clause-err g c = λ first bytes rest lists fits.
     let feeds = from_ok c.feed.result (sym c.is_err.ensures.value ∙ c.if-is_err.false) c.feed.ensures.ok in
-    lists_part c.args.lister.now c.feed.new.self first (g.O.Sink.written c.args.out.now) (g.O.Sink.written c.write_all.new.sink) bytes c.args.piece.now rest c.text.result.now lists feeds c.text.ensures c.write_all.ensures.front fits
+    lists_part c.args.lister.now c.feed.new.self first (g.O.Sink.state c.args.out.now).written (g.O.Sink.state c.write_all.new.sink).written bytes c.args.piece.now rest c.text.result.now lists feeds c.text.ensures c.write_all.ensures.front fits
 
 pub returns-clause-ok : goal.returns-clause-ok
 returns-clause-ok g c = λ first bytes lists.
     let feeds = from_ok c.feed.result (sym c.is_err.ensures.value ∙ c.if-is_err.false) c.feed.ensures.ok in
     let put = from_ok c.write_all.result (sym c.is_err-2.ensures.value ∙ c.if-is_err-2.false) c.write_all.ensures.ok in
-    lists_more c.args.lister.now c.feed.new.self c.clear_text.new.self first (g.O.Sink.written c.args.out.now) (g.O.Sink.written c.write_all.new.sink) bytes c.args.piece.now c.text.result.now lists feeds c.text.ensures put c.clear_text.ensures.cleared c.clear_text.ensures.given
+    lists_more c.args.lister.now c.feed.new.self c.clear_text.new.self first (g.O.Sink.state c.args.out.now).written (g.O.Sink.state c.write_all.new.sink).written bytes c.args.piece.now c.text.result.now lists feeds c.text.ensures put c.clear_text.ensures.cleared c.clear_text.ensures.given
 
 pub returns-then-is_err-clause-longer : goal.returns-then-is_err-clause-longer
-returns-then-is_err-clause-longer g c = same_now (g.O.Sink.written c.args.out.now)
+returns-then-is_err-clause-longer g c = same_now (g.O.Sink.state c.args.out.now).written
 
 pub returns-then-is_err-2-clause-longer : goal.returns-then-is_err-2-clause-longer
-returns-then-is_err-2-clause-longer g c = longer_front (g.O.Sink.written c.args.out.now) (g.O.Sink.written c.write_all.new.sink) _ c.write_all.ensures.front
+returns-then-is_err-2-clause-longer g c = longer_front (g.O.Sink.state c.args.out.now).written (g.O.Sink.state c.write_all.new.sink).written _ c.write_all.ensures.front
 
 pub returns-clause-longer : goal.returns-clause-longer
-returns-clause-longer g c = longer_front (g.O.Sink.written c.args.out.now) (g.O.Sink.written c.write_all.new.sink) _ c.write_all.ensures.front
+returns-clause-longer g c = longer_front (g.O.Sink.state c.args.out.now).written (g.O.Sink.state c.write_all.new.sink).written _ c.write_all.ensures.front

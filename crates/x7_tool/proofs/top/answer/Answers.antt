@@ -25,8 +25,8 @@ returns-in-Ok-clause-ends g c =
     let listed = c.in-Ok.ensures.ok flash in
     rw form (
       listed.0,
-      ends_in (known_of (Some (Listing name)) (i.contents c.args.inputs.now) flash) (Listing name) (i.faults c.args.inputs.now) (i.faults c.list.new.inputs) (i.absences c.args.inputs.now) (i.absences c.list.new.inputs)
-          (f.faults c.args.flash.now) (f.faults c.args.flash.now) (f.absences c.args.flash.now) (f.absences c.args.flash.now) (HasRisen (o.faults c.args.out.now) (o.faults c.list.new.out)) (o.written c.args.out.now) (o.written c.list.new.out) (Ok (record { stopped = false; text = listed.0 })) listed.1,
+      ends_in (known_of (Some (Listing name)) (i.state c.args.inputs.now).contents flash) (Listing name) (i.state c.args.inputs.now).faults (i.state c.list.new.inputs).faults (i.state c.args.inputs.now).absences (i.state c.list.new.inputs).absences
+          (f.faults c.args.flash.now) (f.faults c.args.flash.now) (f.absences c.args.flash.now) (f.absences c.args.flash.now) (HasRisen (o.state c.args.out.now).faults (o.state c.list.new.out).faults) (o.state c.args.out.now).written (o.state c.list.new.out).written (Ok (record { stopped = false; text = listed.0 })) listed.1,
     )
 
 pub returns-in-Err-clause-ends : goal.returns-in-Err-clause-ends
@@ -38,10 +38,10 @@ returns-in-Err-clause-ends g c =
     let flash = f.bytes c.args.flash.now in
     let name = c.in-Some-List.stream.now in
     let event = event_of c.in-Err.refusal in
-    subst (λ (x : Option Asked). Ends (known_of x (i.contents c.args.inputs.now) flash) (RisesIn x (i.faults c.args.inputs.now) (i.faults c.list.new.inputs) (f.faults c.args.flash.now) (f.faults c.args.flash.now))
-    (RisesIn x (i.absences c.args.inputs.now) (i.absences c.list.new.inputs) (f.absences c.args.flash.now) (f.absences c.args.flash.now)) x (HasRisen (o.faults c.args.out.now) (o.faults c.list.new.out)) (o.written c.args.out.now) (o.written c.list.new.out) (Err event))
-    (sym form) (ends_in (known_of (Some (Listing name)) (i.contents c.args.inputs.now) flash) (Listing name) (i.faults c.args.inputs.now) (i.faults c.list.new.inputs) (i.absences c.args.inputs.now) (i.absences c.list.new.inputs)
-    (f.faults c.args.flash.now) (f.faults c.args.flash.now) (f.absences c.args.flash.now) (f.absences c.args.flash.now) (HasRisen (o.faults c.args.out.now) (o.faults c.list.new.out)) (o.written c.args.out.now) (o.written c.list.new.out) (Err event) (c.in-Err.ensures.err flash))
+    subst (λ (x : Option Asked). Ends (known_of x (i.state c.args.inputs.now).contents flash) (RisesIn x (i.state c.args.inputs.now).faults (i.state c.list.new.inputs).faults (f.faults c.args.flash.now) (f.faults c.args.flash.now))
+    (RisesIn x (i.state c.args.inputs.now).absences (i.state c.list.new.inputs).absences (f.absences c.args.flash.now) (f.absences c.args.flash.now)) x (HasRisen (o.state c.args.out.now).faults (o.state c.list.new.out).faults) (o.state c.args.out.now).written (o.state c.list.new.out).written (Err event))
+    (sym form) (ends_in (known_of (Some (Listing name)) (i.state c.args.inputs.now).contents flash) (Listing name) (i.state c.args.inputs.now).faults (i.state c.list.new.inputs).faults (i.state c.args.inputs.now).absences (i.state c.list.new.inputs).absences
+    (f.faults c.args.flash.now) (f.faults c.args.flash.now) (f.absences c.args.flash.now) (f.absences c.args.flash.now) (HasRisen (o.state c.args.out.now).faults (o.state c.list.new.out).faults) (o.state c.args.out.now).written (o.state c.list.new.out).written (Err event) (c.in-Err.ensures.err flash))
 
 pub returns-in-Some-Play-clause-ends : goal.returns-in-Some-Play-clause-ends
 returns-in-Some-Play-clause-ends g c =
@@ -106,7 +106,7 @@ returns-in-Some-Debug-clause-ends g c =
 pub returns-in-Err-clause-near : goal.returns-in-Err-clause-near
 returns-in-Err-clause-near g c =
     let form : form_of (map string_bytes c.args.words.now.items) ≡ Some (Listing c.in-Some-List.stream.now) = sym c.words_of.ensures ∙ ap asked c.in-Some-List.is ∙ ap (λ f. Some (asked_by f)) c.in-Some-List.field-0-is in
-    subst (λ (f : Option Asked). StaysNear (status_of (event_of c.in-Err.refusal)) f (g.I.Inputs.contents c.args.inputs.now) (g.I.Inputs.rest c.list.new.inputs) (g.O.Sink.written c.args.out.now) (g.O.Sink.written c.list.new.out)) (sym form) c.in-Err.ensures.near
+    subst (λ (f : Option Asked). StaysNear (status_of (event_of c.in-Err.refusal)) f (g.I.Inputs.state c.args.inputs.now).contents (g.I.Inputs.state c.list.new.inputs).rest (g.O.Sink.state c.args.out.now).written (g.O.Sink.state c.list.new.out).written) (sym form) c.in-Err.ensures.near
 
 pub returns-in-Some-Play-clause-near : goal.returns-in-Some-Play-clause-near
 returns-in-Some-Play-clause-near g c = elsewhere _ (Playing c.in-Some-Play.part.now (map string_bytes c.in-Some-Play.streams.now)) _ _ _ _ c.put_whole.result (sym c.words_of.ensures ∙ ap asked c.in-Some-Play.is ∙ ap (λ f. Some (asked_by f)) c.in-Some-Play.field-0-is) tt tt
@@ -144,7 +144,7 @@ returns-in-Some-Boot-clause-ends g c =
     let f = g.F.Flash in
     let now = c.boot.new in
     text_ends _ (Booting c.in-Some-Boot.part.now c.in-Some-Boot.name.now) _
-    (λ x. RisesIn x (i.faults c.args.inputs.now) (i.faults now.inputs) (f.faults c.args.flash.now) (f.faults now.flash)) (λ x. RisesIn x (i.absences c.args.inputs.now) (i.absences now.inputs) (f.absences c.args.flash.now) (f.absences now.flash))
+    (λ x. RisesIn x (i.state c.args.inputs.now).faults (i.state now.inputs).faults (f.faults c.args.flash.now) (f.faults now.flash)) (λ x. RisesIn x (i.state c.args.inputs.now).absences (i.state now.inputs).absences (f.absences c.args.flash.now) (f.absences now.flash))
     _ _ _ (seen text_of_play c.boot.result) _ (sym c.words_of.ensures ∙ ap asked c.in-Some-Boot.is ∙ ap (λ f. Some (asked_by f)) c.in-Some-Boot.field-0-is) tt c.boot.ensures.due c.put_whole-in-Some-Boot.ensures
 
 pub returns-in-Some-Boot-clause-near : goal.returns-in-Some-Boot-clause-near

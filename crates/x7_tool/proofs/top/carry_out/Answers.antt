@@ -23,4 +23,4 @@ returns-in-Ok-clause-near g c = text_near c.in-Ok.stopped _ _ _ _ _ _ c.of_text.
 
 pub returns-in-Err-clause-near : goal.returns-in-Err-clause-near
 returns-in-Err-clause-near g c =
-    subst (λ (s : Status). StaysNear s (form_of (map string_bytes c.args.words.now.items)) (g.I.Inputs.contents c.args.inputs.now) (g.I.Inputs.rest c.answer.new.inputs) (g.O.Sink.written c.args.out.now) (g.O.Sink.written c.answer.new.out)) (sym c.tell.ensures.status) c.in-Err.ensures.near
+    subst (λ (s : Status). StaysNear s (form_of (map string_bytes c.args.words.now.items)) (g.I.Inputs.state c.args.inputs.now).contents (g.I.Inputs.state c.answer.new.inputs).rest (g.O.Sink.state c.args.out.now).written (g.O.Sink.state c.answer.new.out).written) (sym c.tell.ensures.status) c.in-Err.ensures.near

@@ -16,6 +16,6 @@ returns-clause-runs g c =
     let after : FlashState = record { bytes = f.bytes c.carry_out.new.flash; extent = f.extent c.carry_out.new.flash; attached = f.attached c.carry_out.new.flash; faults = f.faults c.carry_out.new.flash; absences = f.absences c.carry_out.new.flash } in
     let untouched : names_flash form ≡ false → after ≡ before = λ none. ap (λ x. record { bytes = f.bytes x; extent = f.extent x; attached = f.attached x; faults = f.faults x; absences = f.absences x }) (c.carry_out.ensures.flash none) in
     runs form
-    (record { inputs = i.contents c.args.inputs.now; faults = i.faults c.args.inputs.now; absences = i.absences c.args.inputs.now; flash = before; out = o.written c.args.out.now; out_faults = o.faults c.args.out.now; err = e.written c.args.err.now; err_faults = e.faults c.args.err.now })
-    (record { inputs = i.contents c.carry_out.new.inputs; faults = i.faults c.carry_out.new.inputs; absences = i.absences c.carry_out.new.inputs; flash = after; out = o.written c.carry_out.new.out; out_faults = o.faults c.carry_out.new.out; err = e.written c.carry_out.new.err; err_faults = e.faults c.carry_out.new.err })
+    (record { inputs = i.state c.args.inputs.now; flash = before; out = o.state c.args.out.now; err = e.state c.args.err.now })
+    (record { inputs = i.state c.carry_out.new.inputs; flash = after; out = o.state c.carry_out.new.out; err = e.state c.carry_out.new.err })
     c.carry_out.result r.0 r.1.0 r.1.1 r.1.2 (flash_kept (names_flash form) before after untouched c.carry_out.ensures.same)

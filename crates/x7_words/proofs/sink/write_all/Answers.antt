@@ -1,6 +1,6 @@
 use Rattle.std.proofs.Common.{arith, ◌∙◌}
 use Rattle.std.proofs.lemmas.Grind.{common_steps}
-use Rattle.x7_words.proofs.SinkLemmas.{written_more, puts_front}
+use Rattle.x7_words.proofs.SinkLemmas.{counts_on, written_more, puts_front}
 use Rattle.x7_words.proofs.sink.write_all.Goals as goal
 
 pub returns-in_err-at-clause-front : goal.returns-in_err-at-clause-front
@@ -11,6 +11,5 @@ loop-at-preserved g c =
     record {
       within = grind (arith, common_steps, c.in_ok-at.ensures.within);
       written = written_more _ _ _ c.args.text.now c.loop-at.at c.in_ok-at.field-0 c.loop-at.invariant.written (grind (arith, common_steps, c.in_ok-at.ensures.ok));
-      faults = omega arith;
-      last_fault = λ h. c.in_ok-at.ensures.last_fault;
+      counts = counts_on _ _ _ c.loop-at.invariant.counts c.in_ok-at.ensures.counts;
     }

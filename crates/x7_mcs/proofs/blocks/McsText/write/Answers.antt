@@ -5,14 +5,14 @@ use Rattle.x7_mcs.proofs.blocks.McsText.write.Goals as goal
 pub returns-in_err-write_rows-clause-prefix : goal.returns-in_err-write_rows-clause-prefix
 returns-in_err-write_rows-clause-prefix g c =
     let s = g.S.Sink in
-    text-begun (s.written c.args.out.now) (s.written c.write_rows.new.out) c.args.self.now c.deref.result.now (sym c.self.view_is ∙ sym c.deref.ensures.value) c.in_err-write_rows.ensures.prefix
+    text-begun (s.state c.args.out.now).written (s.state c.write_rows.new.out).written c.args.self.now c.deref.result.now (sym c.self.view_is ∙ sym c.deref.ensures.value) c.in_err-write_rows.ensures.prefix
 
 pub returns-clause-whole : goal.returns-clause-whole
 returns-clause-whole g c =
     let s = g.S.Sink in
-    text-put c.write_all.result (s.written c.args.out.now) (s.written c.write_rows.new.out) (s.written c.write_all.new.sink) c.args.self.now c.deref.result.now (sym c.self.view_is ∙ sym c.deref.ensures.value) c.in_ok-write_rows.ensures.whole c.write_all.ensures.ok
+    text-put c.write_all.result (s.state c.args.out.now).written (s.state c.write_rows.new.out).written (s.state c.write_all.new.sink).written c.args.self.now c.deref.result.now (sym c.self.view_is ∙ sym c.deref.ensures.value) c.in_ok-write_rows.ensures.whole c.write_all.ensures.ok
 
 pub returns-clause-prefix : goal.returns-clause-prefix
 returns-clause-prefix g c =
     let s = g.S.Sink in
-    text-failed (s.written c.args.out.now) (s.written c.write_rows.new.out) (s.written c.write_all.new.sink) c.args.self.now c.deref.result.now (sym c.self.view_is ∙ sym c.deref.ensures.value) c.in_ok-write_rows.ensures.whole c.write_all.ensures.front
+    text-failed (s.state c.args.out.now).written (s.state c.write_rows.new.out).written (s.state c.write_all.new.sink).written c.args.self.now c.deref.result.now (sym c.self.view_is ∙ sym c.deref.ensures.value) c.in_ok-write_rows.ensures.whole c.write_all.ensures.front

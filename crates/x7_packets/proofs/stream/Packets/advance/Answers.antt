@@ -1,6 +1,6 @@
 use Rattle.std.proofs.Common.{◌≡◌, Bool, true, false, [], ◌++◌, length, refl, ap, sym, subst, ◌∙◌, ◌<◌, ◌+◌, arith}
 use Rattle.x7_words.specs.Input.{preceded}
-use Rattle.x7_words.proofs.InputLemmas.{preceded-nil, preceded-preceded}
+use Rattle.x7_words.proofs.InputLemmas.{preceded-nil, preceded-preceded, stays_at, stays_on}
 use Rattle.x7_packets.specs.PacketsState.{PacketsState}
 use Rattle.x7_packets.specs.Running.{Reads, Steps}
 use Rattle.x7_packets.proofs.RunningLemmas.{gives_again, gives_end, gives_up, reads_none, reads_on, room_on, run_is_not_last, tells_run, turns_most}
@@ -19,12 +19,10 @@ loop-self-init g c =
     let good : c.args.self.now.failed ≡ false = sym (ap (λ (p : PacketsState). p.failed) c.self.view_is) ∙ c.if-self.false in
     record {
       selected = c.requires.selected good;
-      map = refl;
-      faults = omega arith;
-      absences = omega arith;
+      inputs = stays_at _;
       good = good;
       on = sym (ap (λ (p : PacketsState). p.done) c.self.view_is) ∙ c.if-self-2.false;
-      reads = ([], sym (preceded-nil (g.I.Inputs.rest c.args.inputs.now)), reads_none c.args.self.now);
+      reads = ([], sym (preceded-nil (g.I.Inputs.state c.args.inputs.now).rest), reads_none c.args.self.now);
       room = omega (arith, turns_most c.args.self.now.cutter.kept c.args.self.now.left);
     }
 
@@ -62,14 +60,12 @@ loop-self-preserved g c =
     let some : 0 < length f.piece = f.some c.if-not-more.false in
     record {
       selected = o.selected;
-      map = o.map ∙ i.map;
-      faults = omega (arith, i.faults, o.faults);
-      absences = omega (arith, i.absences, o.absences);
+      inputs = stays_on _ _ _ i.inputs o.inputs;
       good = ap (λ (p : PacketsState). p.failed) f.is ∙ s.failed ∙ i.good;
       on = ap (λ (p : PacketsState). p.done) f.is ∙ s.done ∙ i.on;
       reads = (
         i.reads.0 ++ f.piece,
-        i.reads.1 ∙ ap (preceded i.reads.0) f.taken ∙ preceded-preceded i.reads.0 f.piece (g.I.Inputs.rest c.fill.new.inputs),
+        i.reads.1 ∙ ap (preceded i.reads.0) f.taken ∙ preceded-preceded i.reads.0 f.piece (g.I.Inputs.state c.fill.new.inputs).rest,
         subst (λ (p : PacketsState). Reads c.args.self.now p (i.reads.0 ++ f.piece)) (sym f.is) (reads_on c.args.self.now c.loop-self.self c.step.new.self i.reads.0 f.piece s i.on i.reads.2),
       );
       room = room_on c.loop-self.self c.step.new.self c.fill.new.self s f.piece (c.args.self.now.taken + 589824) f.is some f.most i.room;
