@@ -14,11 +14,11 @@ use Rattle.x7_engine.specs.declared.stop.Stop.{Stop}
 use Rattle.x7_engine.specs.declared.stop.Stop.TheVariants as stop
 use Rattle.x7_engine.specs.ReadBuffer.{ReadBufState, gathered, with_words}
 use Rattle.x7_engine.specs.Readout.{Gave, GaveFrames, Gives}
-use Rattle.x7_engine.specs.Standing.{Answers, DeviceStandsFor, DeviceState, FramesAre, NoWordDue, RegistersStandFor, RegistersState, due_count, fed_by, frames_due, taken_in, told_of, words_left}
+use Rattle.x7_engine.specs.Standing.{Answers, DeviceStandsFor, DeviceState, FramesAre, NoWordDue, RegistersStandFor, RegistersState, due_count, fed_by, frames_among, frames_due, taken_in, told_of, words_left}
 use Rattle.x7_engine.specs.State.{history_taken, reads_of}
 use Rattle.x7_engine.specs.Stops.{stopped_at}
 use Rattle.x7_engine.proofs.DeviceLemmas.{told_by}
-use Rattle.x7_engine.proofs.FrameLemmas.{frames_at, frames_of, goes_on}
+use Rattle.x7_engine.proofs.FrameLemmas.{all_frames_among, frames_at, frames_of, goes_on, no_frames_among}
 
 -- the device gave words that were due
 pub given : (part : PartData) (kept : Kept) (wrapped : Bool) (d : DeviceState) (r : RegistersState) (bytes : List ℕ) (old new : ReadBufState) → d.registers.stop ≡ None → r.stop ≡ None → DeviceStandsFor part kept wrapped d bytes
@@ -180,9 +180,9 @@ due_parts due left w l =
     sym (replicate-append-replicate (due - left) left w ∙ ap (λ (k : ℕ). replicate k w) sum)
 
 -- with other words due and other frames
-redue : (part : PartData) (kept : Kept) (d : RegistersState) (h : History) (n : ℕ) (f : FramesState) (now : Due) → RegistersStandFor part kept d h n → FramesAre part f d.stop h (frames_due now)
+redue : (part : PartData) (kept : Kept) (d : RegistersState) (h : History) (n : ℕ) (f : FramesState) (now : Due) → RegistersStandFor part kept d h n → FramesAre part f d.stop h (frames_due now) → frames_due now ≡ frames_among h (due_count now)
     → RegistersStandFor part kept (record d { due = now; frames = f }) h n
-redue part kept d h n f now s are = record { places = s.places; words = s.words; controls = s.controls; progress = s.progress; kind = s.kind; before = s.before; clock = s.clock; stop = s.stop; frames = are }
+redue part kept d h n f now s are k = record { places = s.places; words = s.words; controls = s.controls; progress = s.progress; kind = s.kind; before = s.before; clock = s.clock; stop = s.stop; frames = are; due_kind = k }
 
 pub gave_nothing : (part : PartData) (kept : Kept) (d : RegistersState) (h : History) (n : ℕ) (read : ReadBufState) → RegistersStandFor part kept d h n → Gave part kept d d h n read read
 gave_nothing part kept d h n read s = record { more = []; read_is = words_none read; words_are = refl; stands = s }
@@ -193,18 +193,20 @@ gave_same part kept d h n word count left read new e l w s = record {
   more = replicate (count - left) word;
   read_is = w;
   words_are = ap (words_left part h) e ∙ due_parts count left word l;
-  stands = redue part kept d h n d.frames (due.Same word left) s (subst (λ (k : ℕ). FramesAre part d.frames d.stop h k) (ap frames_due e) s.frames);
+  stands = redue part kept d h n d.frames (due.Same word left) s (subst (λ (k : ℕ). FramesAre part d.frames d.stop h k) (ap frames_due e) s.frames)
+      (no_frames_among h count left l (sym (ap frames_due e) ∙ s.due_kind ∙ ap (λ (x : Due). frames_among h (due_count x)) e));
 }
 
-pub gave_frames : (part : PartData) (kept : Kept) (d : RegistersState) (f : FramesState) (h : History) (n count left : ℕ) (read new : ReadBufState) → d.stop ≡ None → d.due ≡ due.Frames count
+pub gave_frames : (part : PartData) (kept : Kept) (d : RegistersState) (f : FramesState) (h : History) (n count left : ℕ) (read new : ReadBufState) → d.stop ≡ None → d.due ≡ due.Frames count → left ≤ count
     → (FramesStandFor part d.frames h count → GaveFrames part f h count left read new) → RegistersStandFor part kept d h n
     → Gave part kept d (record d { due = due.Frames left; frames = f }) h n read new
-gave_frames part kept d f h n count left read new going e gave s =
+gave_frames part kept d f h n count left read new going e l gave s =
     let before : FramesStandFor part d.frames h count = frames_of part d.frames d.stop h count (goes_on d.stop going) (subst (λ (k : ℕ). FramesAre part d.frames d.stop h k) (ap frames_due e) s.frames) in
     let g = gave before in
     record {
       more = g.more;
       read_is = g.read_is;
       words_are = ap (words_left part h) e ∙ g.words_are;
-      stands = redue part kept d h n f (due.Frames left) s (frames_at part f d.stop h left (goes_on d.stop going) g.stands);
+      stands = redue part kept d h n f (due.Frames left) s (frames_at part f d.stop h left (goes_on d.stop going) g.stands)
+          (all_frames_among h count left l (sym (ap frames_due e) ∙ s.due_kind ∙ ap (λ (x : Due). frames_among h (due_count x)) e));
     }

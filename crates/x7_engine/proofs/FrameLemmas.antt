@@ -1,5 +1,5 @@
 -- Lemmas on the frames of a device: accesses that they take, and those that they refuse.
-use Rattle.std.proofs.Common.{◌≡◌, ◌==◌, ◌&&◌, not, ◌+◌, ◌%◌, ◌^◌, ℕ, zero, suc, Bool, true, false, if◌then◌else◌, Option, None, Some, List, [], ◌∷◌, ◌++◌, length, replicate, refl, sym, ap, subst, ◌∙◌, append-nil}
+use Rattle.std.proofs.Common.{◌≡◌, ◌==◌, ◌&&◌, not, ◌+◌, ◌%◌, ◌^◌, ℕ, zero, suc, Bool, true, false, if◌then◌else◌, Option, None, Some, List, [], ◌∷◌, ◌++◌, length, replicate, refl, sym, ap, subst, ◌∙◌, append-nil, arith, ◌≤◌}
 use Rattle.std.proofs.lemmas.Bool.{and_parts, eqb-true}
 use Rattle.std.proofs.lemmas.List.{length-replicate}
 use Rattle.std.proofs.lemmas.Option.{none-some}
@@ -15,6 +15,7 @@ use Rattle.x7_pipeline.specs.declared.fault.RunFault.{RunFault}
 use Rattle.x7_pipeline.specs.declared.fault.RunFault.TheVariants.{Address, Multi, Overrun}
 use Rattle.x7_flow.specs.declared.asked.Asked.TheVariants.{Copies, Load, Order, Other, Word}
 use Rattle.x7_flow.specs.Controls.{is_matched, same_idcode}
+use Rattle.x7_flow.specs.FrameAccess.{reads_frame_data}
 use Rattle.x7_flow.specs.Settings.{settings_of, takes_copies, takes_frames}
 use Rattle.x7_flow.specs.Flow.{far_in, fault_by, flow_of, frame_fault}
 use Rattle.x7_flow.specs.FrameMemory.{memory_of}
@@ -30,7 +31,7 @@ use Rattle.x7_engine.specs.declared.kept.Kept.{Kept}
 use Rattle.x7_engine.specs.declared.stop.Stop.{Stop}
 use Rattle.x7_engine.specs.declared.stop.Stop.TheVariants as stop
 use Rattle.x7_engine.specs.Kept.{is_fallback}
-use Rattle.x7_engine.specs.Standing.{FramesAre, due_count, frames_due, frames_history, is_refusal, older, words_left}
+use Rattle.x7_engine.specs.Standing.{FramesAre, due_count, frames_among, frames_due, frames_history, is_refusal, older, words_left}
 use Rattle.x7_engine.specs.Stops.{access_line, asks_decryption, frame_line, line_at, needs_match, or_else, stop_by, write_line}
 use Rattle.x7_engine.specs.Values.{value_of, value_owing}
 use Rattle.x7_engine.proofs.PlainLemmas.{IsPlain, plain_asks}
@@ -71,6 +72,35 @@ pub none_frames : (d : Due) → due_count d ≡ 0 → frames_due d ≡ 0
 none_frames due.Nothing e = refl
 none_frames (due.Same word count) e = refl
 none_frames (due.Frames count) e = e
+
+if_same : (b : Bool) (n : ℕ) → (if b then n else n) ≡ n
+if_same true n = refl
+if_same false n = refl
+
+zero_among : (h : History) → frames_among h 0 ≡ 0
+zero_among [] = refl
+zero_among (e ∷ h) = if_same (reads_frame_data h e.access) 0
+
+-- where no word is due none is frame data
+pub none_among : (d : Due) (h : History) → due_count d ≡ 0 → frames_due d ≡ frames_among h (due_count d)
+none_among d h e = none_frames d e ∙ sym (ap (frames_among h) e ∙ zero_among h)
+
+-- of fewer words, of which none or all are frame data
+few_by : (b : Bool) (count left : ℕ) → left ≤ count → 0 ≡ (if b then count else 0) → 0 ≡ (if b then left else 0)
+few_by true count left l e = omega (arith, l, e)
+few_by false count left l e = refl
+
+pub no_frames_among : (h : History) (count left : ℕ) → left ≤ count → 0 ≡ frames_among h count → 0 ≡ frames_among h left
+no_frames_among [] count left l e = refl
+no_frames_among (x ∷ h) count left l e = few_by (reads_frame_data h x.access) count left l e
+
+all_by : (b : Bool) (count left : ℕ) → left ≤ count → count ≡ (if b then count else 0) → left ≡ (if b then left else 0)
+all_by true count left l e = refl
+all_by false count left l e = omega (arith, l, e)
+
+pub all_frames_among : (h : History) (count left : ℕ) → left ≤ count → count ≡ frames_among h count → left ≡ frames_among h left
+all_frames_among [] count left l e = omega (arith, l, e)
+all_frames_among (x ∷ h) count left l e = all_by (reads_frame_data h x.access) count left l e
 
 pub none_left : (part : PartData) (h : History) (d : Due) → due_count d ≡ 0 → words_left part h d ≡ []
 none_left part h due.Nothing e = refl

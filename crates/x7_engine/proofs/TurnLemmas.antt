@@ -136,6 +136,7 @@ ticked part kept d clock h n count m i e s t = subst (λ (x : ℕ). RegistersSta
       ∙ ap stopped_by_watchdog t.1
       ∙ sym (ap (stopped_at (n + count)) e);
   frames = s.frames;
+  due_kind = s.due_kind;
 }
 
 -- the firing is that of the bytes up to it
@@ -176,6 +177,7 @@ fired part kept d clock h n count k m i e s t =
           ∙ ap (λ (o : Option Stopped). or_else o (stopped_by_watchdog (first_firing part kept h n k))) (s.stop ∙ ap (stopped_at n) e)
           ∙ ap stopped_by_watchdog first;
       frames = frames_fired part d h (frames_due d.due) e s.frames;
+      due_kind = s.due_kind;
     }
 
 -- the registers are those of all accesses up to the last byte that counts

@@ -1,6 +1,7 @@
 -- Words read out of a device: gathered up to a number, or dropped (this project's choice).
-use Rattle.std.specs.Prelude.{◌≡◌, ◌≤◌, ℕ, List, [], ◌++◌, length, Option, None, Some, Vec, vec_len, vec_capacity}
-use Rattle.std.specs.declared.alloc.Global.{Global}
+use Rattle.std.specs.Prelude.{◌≡◌, ◌≤◌, ℕ, List, [], ◌++◌, length, Option, None, Some, vec_len, vec_capacity}
+use Rattle.x7_engine.specs.declared.read_buffer.Room.{Room}
+use Rattle.x7_engine.specs.declared.read_buffer.Room.TheVariants as room
 
 -- the most words that a buffer holds, none where it drops each word; and the words that it holds
 pub record ReadBufState : Type 0 where
@@ -28,15 +29,18 @@ abbrev pub HoldsFew : Option ℕ → List ℕ → Type 0
 HoldsFew None words = words ≡ []
 HoldsFew (Some most) words = length words ≤ most
 
--- how a buffer is kept: a dropping one holds no vector
-abbrev pub held_words : Option (Vec ℕ Global) → List ℕ
-held_words None = []
-held_words (Some words) = words.items
+-- how a buffer is kept: nowhere, in place, or in a vector with room for the most
+abbrev pub words_in : Room → List ℕ
+words_in room.Nothing = []
+words_in (room.One words) = words
+words_in (room.Many words most) = words.items
 
-abbrev pub most_of : Option (Vec ℕ Global) → ℕ → Option ℕ
-most_of None most = None
-most_of (Some words) most = Some most
+abbrev pub most_in : Room → Option ℕ
+most_in room.Nothing = None
+most_in (room.One words) = Some 1
+most_in (room.Many words most) = Some most
 
-abbrev pub HasRoom : Option (Vec ℕ Global) → ℕ → Type 0
-HasRoom None most = Unit {0}
-HasRoom (Some words) most = (vec_len words ≤ most) × (most ≤ vec_capacity words)
+abbrev pub HasRoom : Room → Type 0
+HasRoom room.Nothing = Unit {0}
+HasRoom (room.One words) = length words ≤ 1
+HasRoom (room.Many words most) = (vec_len words ≤ most) × (most ≤ vec_capacity words)

@@ -34,6 +34,7 @@ use Rattle.x7_engine.specs.declared.stop.Stop.TheVariants as stop
 use Rattle.x7_engine.specs.Clock.{ClockState, IsClock, clock_in}
 use Rattle.x7_engine.specs.ReadBuffer.{IsFull, ReadBufState}
 use Rattle.x7_flow.specs.Controls.{is_matched, masked}
+use Rattle.x7_flow.specs.FrameAccess.{reads_frame_data}
 use Rattle.x7_engine.specs.Registers.{has_ghigh, is_pending, word_held, wrote_iprog}
 use Rattle.x7_engine.specs.State.{reads_of, history_taken, last_counted, stop_in}
 use Rattle.x7_engine.specs.Stops.{fault_of, stop_of, stopped_at}
@@ -76,6 +77,11 @@ abbrev pub frames_due : Due → ℕ
 frames_due due.Nothing = 0
 frames_due (due.Same word count) = 0
 frames_due (due.Frames count) = count
+
+-- of so many words that are due, how many are frame data: all of them where the last access reads frame data, else none
+abbrev pub frames_among : History → ℕ → ℕ
+frames_among [] count = 0
+frames_among (e ∷ h) count = if reads_frame_data h e.access then count else 0
 
 -- the words that are due after this history
 abbrev pub words_left : PartData → History → Due → List ℕ
@@ -160,6 +166,7 @@ pub record RegistersStandFor (part : PartData) (kept : Kept) (d : RegistersState
   pub clock : IsClock part kept d.clock h n
   pub stop : stop_of part kept h n ≡ stopped_at n d.stop
   pub frames : FramesAre part d.frames d.stop h (frames_due d.due)
+  pub due_kind : frames_due d.due ≡ frames_among h (due_count d.due)
 
 -- the last byte whose access counts, where n bytes are taken and this is the stop
 abbrev pub counted_in : Option Stop → ℕ → ℕ

@@ -329,6 +329,7 @@ impl Device {
     pub fn feed(&mut self, piece: &[u8], read: &mut ReadBuf) -> Fed
         requires { self.old.taken + length piece.now ≤ 2 ^ 63 }
         ensures within { taken_in (length piece.now) result ≤ length piece.now }
+        ensures taken { self.new.taken ≤ self.old.taken + length piece.now }
         ensures fed_before { self.new.fed_before ≡ self.old.fed_before }
         ensures stands { (part : PartData) (kept : KeptData) (wrapped : Bool) (bytes : List ℕ) → DeviceStandsFor part kept wrapped self.old bytes
             → DeviceStandsFor part kept wrapped self.new (bytes ++ take (taken_in (length piece.now) result) piece.now) }

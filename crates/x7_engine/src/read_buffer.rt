@@ -1,26 +1,90 @@
 //! Words read out of a device.
-ghost use Rattle.std.specs.Prelude.{◌≡◌, ◌≤◌, ◌<◌, ◌-◌, ◌∷◌, [], false, length, replicate, IfOk, IsTrue, Some, None};
+ghost use Rattle.std.specs.Prelude.{◌≡◌, ◌≤◌, ◌<◌, ◌-◌, ◌∷◌, [], false, length, replicate, ◌==◌, ℕ, List, IfOk, IsTrue, Some, None};
 ghost use Rattle.x7_engine.specs.ReadBuffer.{HoldsFew, IsFull, with_words};
 
 use std::alloc::Global;
 use std::marker::Model;
 use x7_words::NoMemory;
 
+/// Room for one word, in place.
+#[derive(Drop)]
+pub(crate) struct Slot {
+    words: [u32; 1],
+    // how many of them are there
+    count: usize,
+}
+
+impl Model for Slot {
+    ghost use Rattle.std.specs.Prelude.{◌≤◌, ℕ, List, take};
+
+    ghost Value = { List ℕ };
+
+    ghost view = { λ s. take s.count s.words };
+
+    ghost invariant = { λ s. s.count ≤ 1 };
+}
+
+impl Slot {
+    fn new() -> Slot
+        ensures { result ≡ [] }
+    {
+        Slot {
+            words: [0],
+            count: 0,
+        }
+    }
+
+    fn words(&self) -> &[u32]
+        ensures { result.now ≡ self.now }
+    {
+        &self.words[..self.count]
+    }
+
+    fn is_full(&self) -> bool
+        ensures { result ≡ (length self.now == 1) }
+    {
+        self.count == 1
+    }
+
+    fn clear(&mut self)
+        ensures { self.new ≡ [] }
+    {
+        self.count = 0;
+    }
+
+    fn put(&mut self, word: u32)
+        ensures { self.new ≡ word ∷ [] }
+    {
+        self.words = [word];
+        self.count = 1;
+    }
+}
+
+/// Where a buffer has its words.
+#[derive(Drop)]
+pub(crate) enum Room {
+    /// Nowhere: it drops each.
+    Nothing,
+    /// In place, for one word.
+    One(Slot),
+    /// In a vector, for so many words.
+    Many(Vec<u32>, usize),
+}
+
 /// Takes the words that a device reads out: it gathers them up to a number, or drops each.
 #[derive(Drop)]
 pub struct ReadBuf {
-    held: Option<Vec<u32>>,
-    most: usize,
+    room: Room,
 }
 
 impl Model for ReadBuf {
-    ghost use Rattle.x7_engine.specs.ReadBuffer.{ReadBufState, held_words, most_of, HasRoom};
+    ghost use Rattle.x7_engine.specs.ReadBuffer.{ReadBufState, most_in, words_in, HasRoom};
 
     ghost Value = { ReadBufState };
 
-    ghost view = { λ b. record { most = most_of b.held b.most; words = held_words b.held } };
+    ghost view = { λ b. record { most = most_in b.room; words = words_in b.room } };
 
-    ghost invariant = { λ b. HasRoom b.held b.most };
+    ghost invariant = { λ b. HasRoom b.room };
 }
 
 impl ReadBuf {
@@ -31,8 +95,7 @@ impl ReadBuf {
     {
         match Vec::with_capacity(alloc, most as usize) {
             Ok(words) => Ok(ReadBuf {
-                held: Some(words),
-                most: most as usize,
+                room: Room::Many(words, most as usize),
             }),
             Err(_) => Err(NoMemory),
         }
@@ -43,8 +106,16 @@ impl ReadBuf {
         ensures { result ≡ record { most = None; words = [] } }
     {
         ReadBuf {
-            held: None,
-            most: 0,
+            room: Room::Nothing,
+        }
+    }
+
+    /// A buffer that gathers one word, for which it takes no memory.
+    pub fn one() -> ReadBuf
+        ensures { result ≡ record { most = Some 1; words = [] } }
+    {
+        ReadBuf {
+            room: Room::One(Slot::new()),
         }
     }
 
@@ -53,9 +124,10 @@ impl ReadBuf {
         ensures now { result.now ≡ self.now.words }
         ensures few { HoldsFew self.now.most result.now }
     {
-        match &self.held {
-            Some(words) => words.as_slice(),
-            None => &[],
+        match &self.room {
+            Room::Nothing => &[],
+            Room::One(slot) => slot.words(),
+            Room::Many(words, _) => words.as_slice(),
         }
     }
 
@@ -63,8 +135,10 @@ impl ReadBuf {
     pub fn clear(&mut self)
         ensures { self.new ≡ record self.old { words = [] } }
     {
-        if let Some(words) = &mut self.held {
-            words.clear();
+        match &mut self.room {
+            Room::Nothing => (),
+            Room::One(slot) => slot.clear(),
+            Room::Many(words, _) => words.clear(),
         }
     }
 
@@ -74,23 +148,34 @@ impl ReadBuf {
         ensures words { self.new ≡ with_words self.old (replicate (count - result) word) }
         ensures full { 0 < result → IsFull self.new }
     {
-        let Some(words) = &mut self.held else {
-            return 0;
-        };
-        let room = self.most - words.len();
-        let some = room.min(count as usize);
-        match words.resize(words.len() + some, word) {
-            Ok(()) => (),
-            Err(_) => (),
+        match &mut self.room {
+            Room::Nothing => 0,
+            Room::One(slot) => {
+                if slot.is_full() || count == 0 {
+                    return count;
+                }
+                slot.put(word);
+                count - 1
+            }
+            Room::Many(words, most) => {
+                let some = (*most - words.len()).min(count as usize);
+                match words.resize(words.len() + some, word) {
+                    Ok(()) => (),
+                    Err(_) => (),
+                }
+                count - some as u32
+            }
         }
-        count - some as u32
     }
 
     /// Whether it drops each word.
     pub(crate) fn drops(&self) -> bool
         ensures { IsTrue result → self.now.most ≡ None }
     {
-        self.held.is_none()
+        match &self.room {
+            Room::Nothing => true,
+            _ => false,
+        }
     }
 
     /// Whether a word more has no room.
@@ -98,9 +183,10 @@ impl ReadBuf {
         ensures yes { IsTrue result → IsFull self.now }
         ensures no { result ≡ false → IsFull self.now → ⊥ }
     {
-        match &self.held {
-            Some(words) => words.len() == self.most,
-            None => false,
+        match &self.room {
+            Room::Nothing => false,
+            Room::One(slot) => slot.is_full(),
+            Room::Many(words, most) => words.len() == *most,
         }
     }
 
@@ -109,12 +195,13 @@ impl ReadBuf {
         requires room { IsFull self.old → ⊥ }
         ensures { self.new ≡ with_words self.old (word ∷ []) }
     {
-        let Some(words) = &mut self.held else {
-            return;
-        };
-        match words.push(word) {
-            Ok(()) => (),
-            Err(_) => (),
+        match &mut self.room {
+            Room::Nothing => (),
+            Room::One(slot) => slot.put(word),
+            Room::Many(words, _) => match words.push(word) {
+                Ok(()) => (),
+                Err(_) => (),
+            },
         }
     }
 }

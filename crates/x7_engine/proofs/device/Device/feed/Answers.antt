@@ -12,6 +12,7 @@ pub runs-init : goal.runs-init
 runs-init c = record {
   within = omega arith;
   fed_before = refl;
+  taken = omega arith;
   fits = omega (arith, c.requires);
   stands = λ part kept wrapped bytes s. subst (λ (b : List ℕ). DeviceStandsFor part kept wrapped c.args.self.now b) (sym (append-nil bytes)) s;
   reads = λ part kept wrapped bytes s. ([], words_none c.args.read.now, ap (told_of part kept c.args.self.now) (append-nil bytes) ∙ sym (append-nil (told_of part kept c.args.self.now bytes)));
@@ -79,6 +80,7 @@ runs-preserved c =
     record {
       within = c.turn.ensures.within;
       fed_before = c.turn.ensures.fed_before ∙ c.give.ensures.fed_before ∙ c.runs.invariant.fed_before;
+      taken = omega (arith, taken, c.turn.ensures.taken, c.turn.ensures.forward, c.runs.invariant.taken);
       fits = omega (arith, taken, c.turn.ensures.taken, c.turn.ensures.forward, c.turn.ensures.within, c.runs.invariant.fits);
       stands = λ part kept wrapped bytes s.
           stands_on part kept wrapped c.give.new.self c.turn.new.self bytes piece c.runs.at c.turn.new.at c.turn.ensures.forward (c.turn.ensures.stands part kept wrapped)

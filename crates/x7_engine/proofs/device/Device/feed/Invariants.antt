@@ -11,6 +11,7 @@ abbrev pub invariant-runs : goal.invariant-runs
 invariant-runs l = record {
   within : l.at ≤ length l.piece;
   fed_before : l.self.fed_before ≡ l.initial.self.fed_before;
+  taken : l.self.taken ≡ l.initial.self.taken + l.at;
   fits : l.self.taken + (length l.piece - l.at) ≤ 2 ^ 63;
   stands : (part : PartData) (kept : Kept) (wrapped : Bool) (bytes : List ℕ) → DeviceStandsFor part kept wrapped l.initial.self bytes → DeviceStandsFor part kept wrapped l.self (bytes ++ take l.at l.piece);
   reads : (part : PartData) (kept : Kept) (wrapped : Bool) (bytes : List ℕ) → DeviceStandsFor part kept wrapped l.initial.self bytes

@@ -14,7 +14,7 @@ use Rattle.x7_engine.specs.Watching.{first_firing}
 use Rattle.x7_engine.proofs.BodyLemmas.{length_of_words}
 use Rattle.x7_engine.proofs.DataLemmas.{data_lines, given}
 use Rattle.x7_engine.proofs.FiringLemmas.{firing_less, ticks_quiet}
-use Rattle.x7_engine.proofs.FrameLemmas.{frames_none, standing_frames}
+use Rattle.x7_engine.proofs.FrameLemmas.{frames_none, standing_frames, none_among}
 use Rattle.x7_engine.proofs.PlainLemmas.{Clocked, clocked_all, controls_stay, fdri_quiet, words_front}
 use Rattle.x7_engine.proofs.TurnLemmas.{newest_within, ticked}
 use Rattle.x7_engine.proofs.registers.Registers.frame_data.Goals as goal
@@ -56,4 +56,5 @@ returns-clause-stands c = λ kept h n s.
       clock = clocked.clock;
       stop = clocked.stop;
       frames = frames_none part c.write_words-count.new.self c.args.self.now.stop all c.args.self.now.due c.requires.going c.requires.none_due frames;
+      due_kind = none_among c.args.self.now.due all c.requires.none_due;
     }

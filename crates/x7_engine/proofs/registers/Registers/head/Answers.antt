@@ -7,7 +7,7 @@ use Rattle.x7_engine.specs.declared.stop.Stop.TheVariants as stop
 use Rattle.x7_engine.specs.Standing.{registers_in}
 use Rattle.x7_engine.specs.Stops.{stop_of, stopped_at}
 use Rattle.x7_engine.proofs.ClockLemmas.{stop_of-access}
-use Rattle.x7_engine.proofs.FrameLemmas.{frames_none_at, standing_frames}
+use Rattle.x7_engine.proofs.FrameLemmas.{frames_none_at, standing_frames, none_among}
 use Rattle.x7_engine.proofs.PlainLemmas.{clock_other}
 use Rattle.x7_engine.proofs.registers.Registers.head.Goals as goal
 
@@ -30,4 +30,5 @@ returns-in-Bad-clause-stands c = λ kept h place next s.
       stop = stop_of-access c.args.part.now kept h (Bad c.in-Bad.word) place going;
       frames = frames_none_at c.args.part.now c.args.self.now.frames (Some (stop.Fault (fault.Packet c.in-Bad.word))) (entry (Bad c.in-Bad.word) place ∷ h) c.args.self.now.due refl c.requires.none_due
           (other_access c.args.part.now c.args.self.now.frames h (entry (Bad c.in-Bad.word) place) refl (standing_frames c.args.part.now c.args.self.now.frames c.args.self.now.stop h c.args.self.now.due c.requires.going c.requires.none_due s.frames));
+      due_kind = none_among c.args.self.now.due (entry (Bad c.in-Bad.word) place ∷ h) c.requires.none_due;
     }

@@ -13,4 +13,5 @@ returns-clause-stands c = λ part are. record {
   clock = c.new-4.ensures part c.args.kept.now refl c.is_a_fallback.ensures;
   stop = refl;
   frames = frames_at part c.args.frames None [] 0 refl are;
+  due_kind = refl;
 }

@@ -8,7 +8,7 @@ use Rattle.x7_part.specs.Part.{PartData}
 use Rattle.x7_engine.specs.declared.kept.Kept.{Kept}
 use Rattle.x7_engine.specs.Standing.{AreLastWords, IsProgress, RegistersStandFor, RegistersState, controls_in, counted_in, due_count, progress_in, registers_in}
 use Rattle.x7_engine.proofs.BodyLemmas.{length_of_words}
-use Rattle.x7_engine.proofs.FrameLemmas.{plain_are, ticks_on}
+use Rattle.x7_engine.proofs.FrameLemmas.{plain_are, ticks_on, none_among}
 use Rattle.x7_engine.proofs.PlainLemmas.{Clocked, IsPlain, clocked_all, controls_stay, counted_behind, front_all, plain_is, plain_lines, words_front}
 use Rattle.x7_engine.proofs.registers.Registers.pass_all.Goals as goal
 
@@ -48,4 +48,5 @@ returns-clause-stands c = λ kept h n four s.
       clock = clocked.clock;
       stop = clocked.stop;
       frames = plain_are part c.tick-left.new.self.frames c.tick-left.new.self.stop c.args.register n front h c.tick-left.new.self.due p (ticks_on c.tick-left.new.self.stop _ c.tick-left.ensures.fired) (ap due_count c.tick-left.ensures.due ∙ c.requires.none_due) t.frames;
+      due_kind = none_among c.tick-left.new.self.due (entered_all n (payload_steps c.args.register front) h) (ap due_count c.tick-left.ensures.due ∙ c.requires.none_due);
     }

@@ -1,4 +1,4 @@
-use Rattle.std.proofs.Common.{◌≡◌, ◌∷◌, ℕ, None, Option, Some, true, false, if◌then◌else◌, [], replicate, refl, sym, ap, subst, ◌∙◌, arith}
+use Rattle.std.proofs.Common.{◌≡◌, ◌∷◌, ℕ, Bool, None, Option, Some, true, false, if◌then◌else◌, [], replicate, refl, sym, ap, subst, ◌∙◌, arith}
 use Rattle.std.specs.Option.{is_some}
 use Rattle.x7_packets.specs.History.{History, Read, entry}
 use Rattle.x7_part.specs.Part.{PartData}
@@ -13,7 +13,7 @@ use Rattle.x7_engine.specs.Standing.{FramesAre, frames_due, registers_in}
 use Rattle.x7_engine.specs.Stops.{frame_line, line_at, stop_by, stop_of, stopped_at}
 use Rattle.x7_engine.specs.Values.{answer_of, read_value, words_read}
 use Rattle.x7_engine.proofs.ClockLemmas.{stop_of-access}
-use Rattle.x7_engine.proofs.FrameLemmas.{frames_at, goes_on, none_frames, none_left, refused, standing_frames}
+use Rattle.x7_engine.proofs.FrameLemmas.{frames_at, goes_on, none_among, none_frames, none_left, refused, standing_frames}
 use Rattle.x7_engine.proofs.PlainLemmas.{clock_other}
 use Rattle.x7_engine.proofs.registers.Registers.read.Goals as goal
 
@@ -40,6 +40,7 @@ returns-then-not-reads_frames-clause-stands c = λ kept h place next s.
       clock = clock_other part kept (registers_in c.args.self.now).clock h (Read c.args.register c.args.count) place refl refl s.clock;
       stop = stop_of-access part kept h (Read c.args.register c.args.count) place going ∙ ap (stopped_at place) (read_line part kept h c.args.register c.args.count None read.0) ∙ sym (ap (stopped_at place) c.requires.going);
       frames = frames_at part c.args.self.now.frames c.args.self.now.stop (entry (Read c.args.register c.args.count) place ∷ h) 0 (goes_on c.args.self.now.stop c.requires.going) read.1;
+      due_kind = sym (ap (λ (b : Bool). if b then c.args.count else 0) other);
     }
 
 pub returns-then-not-reads_frames-clause-reads : goal.returns-then-not-reads_frames-clause-reads
@@ -72,6 +73,7 @@ returns-in-Some-clause-stands c = λ kept h place next s.
       frames = subst (λ (l : Stop). FramesAre part c.args.self.now.frames (Some l) (entry (Read c.args.register c.args.count) place ∷ h) (frames_due c.args.self.now.due)) (sym line)
           (subst (λ (n : ℕ). FramesAre part c.args.self.now.frames (Some (stop_by c.in-Some.fault)) (entry (Read c.args.register c.args.count) place ∷ h) n) (sym (none_frames c.args.self.now.due c.requires.none_due))
           (refused part c.args.self.now.frames h (entry (Read c.args.register c.args.count) place) c.in-Some.fault why are));
+      due_kind = none_among c.args.self.now.due (entry (Read c.args.register c.args.count) place ∷ h) c.requires.none_due;
     }
 
 pub returns-in-Some-clause-reads : goal.returns-in-Some-clause-reads
@@ -100,6 +102,7 @@ returns-in-None-clause-stands c = λ kept h place next s.
       clock = clock_other part kept (registers_in c.args.self.now).clock h (Read c.args.register c.args.count) place refl refl s.clock;
       stop = stop_of-access part kept h (Read c.args.register c.args.count) place going ∙ ap (stopped_at place) (read_line part kept h c.args.register c.args.count None read.0) ∙ sym (ap (stopped_at place) c.requires.going);
       frames = frames_at part c.args.self.now.frames c.args.self.now.stop (entry (Read c.args.register c.args.count) place ∷ h) c.args.count (goes_on c.args.self.now.stop c.requires.going) read.1;
+      due_kind = sym (ap (λ (b : Bool). if b then c.args.count else 0) frames);
     }
 
 pub returns-in-None-clause-reads : goal.returns-in-None-clause-reads

@@ -7,7 +7,7 @@ use Rattle.x7_flow.specs.Standing.{FramesStandFor}
 use Rattle.x7_engine.specs.Standing.{AreLastWords, FramesAre, IsProgress, progress_in}
 use Rattle.x7_engine.specs.Stops.{stop_of, stopped_at}
 use Rattle.x7_engine.proofs.ClockLemmas.{stop_of-access}
-use Rattle.x7_engine.proofs.FrameLemmas.{access_frames, line_is, none_frames, standing_frames}
+use Rattle.x7_engine.proofs.FrameLemmas.{access_frames, line_is, none_frames, standing_frames, none_among}
 use Rattle.x7_engine.proofs.registers.Registers.write.Goals as goal
 
 pub returns-clause-stands : goal.returns-clause-stands
@@ -35,4 +35,5 @@ returns-clause-stands c = λ kept h place next s.
       stop = stop_of-access part kept h access place going ∙ ap (stopped_at place) (sym (line_is part kept h access c.line_of-line.result c.first_line-self.result c.write-refused.result refused line c.first_line-self.ensures.value));
       frames = subst (λ (n : ℕ). FramesAre part c.write-refused.new.self c.first_line-self.result (entry access place ∷ h) n) (sym (none_frames c.args.self.now.due c.requires.none_due))
           (access_frames part kept c.args.self.now.frames c.write-refused.new.self h (entry access place) c.line_of-line.result c.first_line-self.result c.write-refused.result are after refused line c.first_line-self.ensures.value);
+      due_kind = none_among c.args.self.now.due (entry access place ∷ h) c.requires.none_due;
     }
