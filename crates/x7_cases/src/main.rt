@@ -1,27 +1,11 @@
 //! Runs the worked cases of the command `x7`, and prints where one doesn't come as it is written.
 #![tactic(auto)]
 
-mod bench;
-mod case;
-mod comparing;
-mod expected;
-mod failing;
-mod fault;
-mod named;
-mod notes;
-mod outside;
-mod page;
-mod running;
-mod shell;
-mod subject;
-mod token;
-
-use crate::fault::Fault;
-use crate::named::Named;
-use crate::page::Page;
-use crate::subject::Subject;
 use std::alloc::Global;
 use std::{fs, io};
+use x7_runner::{Command, Named, has_name, report_cases, report_page};
+use x7_tool::run;
+use x7_words::{MemoryFlash, MemoryInputs, MemorySink};
 
 /// The files of cases, each with the end `.txt`.
 const SUBJECTS: [&str; 16] = [
@@ -29,19 +13,31 @@ const SUBJECTS: [&str; 16] = [
     "attempts", "chains", "parts", "debug", "faults", "limits",
 ];
 
-/// The report of one file of cases.
-fn report(alloc: Global, subject: &str, part: &[u8], text: &str) -> Result<String, Fault> {
-    let mut cases = Subject::new(alloc, subject, part)?;
-    cases.take_all(text)?;
-    cases.report()
+/// The command `x7`.
+struct X7;
+
+impl Command for X7 {
+    fn run(
+        &self,
+        alloc: Global,
+        words: &Vec<String>,
+        inputs: &mut MemoryInputs,
+        flash: &mut MemoryFlash,
+        out: &mut MemorySink,
+        err: &mut MemorySink,
+    ) -> u8 {
+        run(alloc, words, inputs, flash, out, err).number()
+    }
 }
 
 /// Runs one file of cases.
 fn run_file(rt: &HostRuntime, subject: &str, part: &[u8]) -> io::Result<()> {
     let path = format!(in rt.alloc(); "{subject}.txt")?;
     let text = fs::read_to_string(rt, path.as_str())?;
-    match report(rt.alloc(), subject, part, text.as_str()) {
-        Ok(report) => print!(rt; "{report}"),
+    let mut report = String::new(rt.alloc());
+    let text = text.as_str();
+    match report_cases(&X7, rt.alloc(), subject, part, text, &mut report) {
+        Ok(()) => print!(rt; "{report}"),
         Err(_) => println!(rt; "{subject}: no memory"),
     }
 }
@@ -49,35 +45,34 @@ fn run_file(rt: &HostRuntime, subject: &str, part: &[u8]) -> io::Result<()> {
 /// The pages of the documents whose commands are run.
 const PAGES: [&str; 1] = ["FLOWS.md"];
 
+/// Reads a file that a page's commands read, where there is one of that name and it isn't read yet.
+fn put_example(rt: &HostRuntime, files: &mut Vec<Named>, word: &str) -> io::Result<()> {
+    if word.starts_with("examples/") && !has_name(files, word) {
+        if let Ok(bytes) = fs::read(rt, word) {
+            let name = String::from_str(rt.alloc(), word)?;
+            files.push(Named { name, bytes })?;
+        }
+    }
+    Ok(())
+}
+
 /// The files that a page's commands read: each word that begins with `examples/`, where it names one.
 fn examples(rt: &HostRuntime, text: &str) -> io::Result<Vec<Named>> {
     let mut files: Vec<Named> = Vec::new(rt.alloc());
     for word in text.split_whitespace() {
-        let word = word.trim_end_matches(';');
-        let is_new = files.iter().all(|each| each.name.as_str() != word);
-        if word.starts_with("examples/") && is_new {
-            if let Ok(bytes) = fs::read(rt, word) {
-                let name = String::from_str(rt.alloc(), word)?;
-                files.push(Named { name, bytes })?;
-            }
-        }
+        put_example(rt, &mut files, word.trim_end_matches(';'))?;
     }
     Ok(files)
-}
-
-/// The report of one page.
-fn page_report(alloc: Global, name: &str, files: Vec<Named>, text: &str) -> Result<String, Fault> {
-    let mut page = Page::new(alloc, name, files)?;
-    page.take_all(text)?;
-    page.report()
 }
 
 /// Runs the commands of one page.
 fn run_page(rt: &HostRuntime, name: &str) -> io::Result<()> {
     let text = fs::read_to_string(rt, name)?;
     let files = examples(rt, text.as_str())?;
-    match page_report(rt.alloc(), name, files, text.as_str()) {
-        Ok(report) => print!(rt; "{report}"),
+    let mut report = String::new(rt.alloc());
+    let text = text.as_str();
+    match report_page(&X7, rt.alloc(), name, files, text, &mut report) {
+        Ok(()) => print!(rt; "{report}"),
         Err(_) => println!(rt; "{name}: no memory"),
     }
 }

@@ -4,7 +4,7 @@ use crate::token::{put_line, put_lines, put_tokens};
 use std::alloc::Global;
 
 /// How much of the text is given.
-#[derive(Clone, Copy, Drop, PartialEq, Eq)]
+#[derive(Clone, Copy, Drop)]
 pub enum Extent {
     /// The text is the one given.
     Whole,
@@ -25,8 +25,9 @@ pub struct Expected {
     pub lines: Vec<u8>,
     pub length: Option<u32>,
     pub err: Vec<u8>,
-    /// The flash afterwards, where it isn't as it was.
-    pub flash: Option<Vec<u8>>,
+    /// Whether the flash isn't as it was, and what it is then.
+    pub has_flash: bool,
+    pub flash: Vec<u8>,
 }
 
 impl Expected {
@@ -40,7 +41,8 @@ impl Expected {
             lines: Vec::new(alloc),
             length: None,
             err: Vec::new(alloc),
-            flash: None,
+            has_flash: false,
+            flash: Vec::new(alloc),
         }
     }
 
@@ -59,29 +61,39 @@ impl Expected {
 
     /// Appends to what the flash is afterwards.
     fn put_flash(&mut self, tokens: &str) -> Result<(), Fault> {
-        let mut bytes = match self.flash.take() {
-            Some(bytes) => bytes,
-            None => Vec::new(self.alloc),
-        };
-        put_tokens(self.alloc, &mut bytes, tokens)?;
-        self.flash = Some(bytes);
+        self.has_flash = true;
+        put_tokens(self.alloc, &mut self.flash, tokens)
+    }
+
+    /// Takes the status.
+    fn put_status(&mut self, number: &str) -> Result<(), Fault> {
+        self.status = number.parse::<u8>()?;
+        Ok(())
+    }
+
+    /// Takes that what comes is a prefix of the text.
+    fn put_prefix(&mut self) -> Result<(), Fault> {
+        self.extent = Extent::Prefix;
         Ok(())
     }
 
     /// Takes a line that says what a run comes to. False where it is another one.
     pub fn take(&mut self, key: &str, rest: &str) -> Result<bool, Fault> {
-        match key {
-            "status" => self.status = rest.parse::<u8>()?,
-            "out" => put_line(self.alloc, &mut self.out, rest)?,
-            "out_lines" => put_lines(self.alloc, &mut self.out, rest)?,
-            "out_bytes" => put_tokens(self.alloc, &mut self.out, rest)?,
-            "has" => self.put_has(rest)?,
-            "length" => self.put_length(rest)?,
-            "prefix" => self.extent = Extent::Prefix,
-            "err" => put_line(self.alloc, &mut self.err, rest)?,
-            "flash_after" => self.put_flash(rest)?,
+        let taken = match key {
+            "status" => self.put_status(rest),
+            "out" => put_line(self.alloc, &mut self.out, rest),
+            "out_lines" => put_lines(self.alloc, &mut self.out, rest),
+            "out_bytes" => put_tokens(self.alloc, &mut self.out, rest),
+            "has" => self.put_has(rest),
+            "length" => self.put_length(rest),
+            "prefix" => self.put_prefix(),
+            "err" => put_line(self.alloc, &mut self.err, rest),
+            "flash_after" => self.put_flash(rest),
             _ => return Ok(false),
+        };
+        match taken {
+            Ok(()) => Ok(true),
+            Err(fault) => Err(fault),
         }
-        Ok(true)
     }
 }

@@ -10,38 +10,67 @@ pub struct Named {
     pub bytes: Vec<u8>,
 }
 
-impl Named {
-    /// No bytes yet under this name.
-    pub fn new(alloc: Global, name: &str) -> Result<Named, Fault> {
-        Ok(Named {
-            name: String::from_str(alloc, name)?,
-            bytes: Vec::new(alloc),
-        })
-    }
-}
-
-/// The place of the name in the list, where it comes to stand if it isn't there.
-fn place_of(alloc: Global, list: &mut Vec<Named>, name: &str) -> Result<usize, Fault> {
-    match list.iter().position(|each| each.name.as_str() == name) {
-        Some(place) => Ok(place),
-        None => {
-            list.push(Named::new(alloc, name)?)?;
-            Ok(list.len() - 1)
+/// The place of the name in the list.
+fn place_of(list: &[Named], name: &str) -> Option<usize> {
+    for (place, named) in list.iter().enumerate() {
+        if named.name.as_str() == name {
+            return Some(place);
         }
     }
+    None
+}
+
+/// Whether the list has the name.
+pub fn has_name(list: &[Named], name: &str) -> bool {
+    place_of(list, name).is_some()
+}
+
+/// The bytes under the name, where the list has it.
+pub fn bytes_of<'a>(list: &'a [Named], name: &str) -> Result<&'a [u8], Fault> {
+    for named in list {
+        if named.name.as_str() == name {
+            return Ok(&named.bytes);
+        }
+    }
+    Err(Fault::Line)
+}
+
+/// Appends the name to the list, without bytes.
+fn put_name(alloc: Global, list: &mut Vec<Named>, name: &str) -> Result<(), Fault> {
+    let name = String::from_str(alloc, name)?;
+    let bytes = Vec::new(alloc);
+    list.push(Named { name, bytes })?;
+    Ok(())
 }
 
 /// The bytes under the name, none yet where it is new.
-fn bytes_under<'a>(
+pub fn bytes_under<'a>(
     alloc: Global,
     list: &'a mut Vec<Named>,
     name: &str,
 ) -> Result<&'a mut Vec<u8>, Fault> {
-    let place = place_of(alloc, list, name)?;
+    let place = match place_of(list, name) {
+        Some(place) => place,
+        None => list.len(),
+    };
+    if place == list.len() {
+        put_name(alloc, list, name)?;
+    }
     match list.get_mut(place) {
         Some(named) => Ok(&mut named.bytes),
         None => Err(Fault::Line),
     }
+}
+
+/// Appends bytes to those under the name.
+pub fn put_under(
+    alloc: Global,
+    list: &mut Vec<Named>,
+    name: &str,
+    bytes: &[u8],
+) -> Result<(), Fault> {
+    bytes_under(alloc, list, name)?.extend_from_slice(bytes)?;
+    Ok(())
 }
 
 /// Appends the bytes of `NAME HEX..`.
@@ -68,10 +97,7 @@ pub fn slice_of<'a>(list: &'a [Named], line: &str) -> Result<&'a [u8], Fault> {
     let (from, to) = first_word(places);
     let from = from.parse::<u32>()? as usize;
     let to = to.parse::<u32>()? as usize;
-    let Some(named) = list.iter().find(|each| each.name.as_str() == name) else {
-        return Err(Fault::Line);
-    };
-    match named.bytes.get(from..to) {
+    match bytes_of(list, name)?.get(from..to) {
         Some(bytes) => Ok(bytes),
         None => Err(Fault::Line),
     }
@@ -85,7 +111,5 @@ pub fn put_slice(
     line: &str,
 ) -> Result<(), Fault> {
     let (name, other) = first_word(line);
-    let slice = slice_of(others, other)?;
-    bytes_under(alloc, list, name)?.extend_from_slice(slice)?;
-    Ok(())
+    put_under(alloc, list, name, slice_of(others, other)?)
 }

@@ -37,7 +37,7 @@ fn object_of(name: &str) -> Result<Object, Fault> {
 }
 
 /// A call that fails, by its number from 1 among those of its object.
-#[derive(Clone, Copy, Drop)]
+#[derive(Drop)]
 pub struct Failing {
     pub object: Object,
     pub call: u64,
@@ -80,7 +80,7 @@ impl Outside {
     }
 
     /// Appends words.
-    fn put_words(&mut self, words: &str) -> Result<(), Fault> {
+    pub fn put_words(&mut self, words: &str) -> Result<(), Fault> {
         for word in words.split(' ') {
             self.words.push(String::from_str(self.alloc, word)?)?;
         }
@@ -124,32 +124,56 @@ impl Outside {
         self.one_flash()
     }
 
+    /// Appends an object whose calls fail in turn.
+    fn put_each(&mut self, name: &str) -> Result<(), Fault> {
+        self.each.push(object_of(name)?)?;
+        Ok(())
+    }
+
+    /// Takes the most bytes of one write.
+    fn put_write_piece(&mut self, number: &str) -> Result<(), Fault> {
+        self.write_piece = positive(number)?;
+        Ok(())
+    }
+
+    /// Takes the most bytes that `out` takes.
+    fn put_room(&mut self, number: &str) -> Result<(), Fault> {
+        self.room = positive(number)?;
+        Ok(())
+    }
+
     /// Takes a line that says what fails. False where it is another one.
     fn take_failing(&mut self, key: &str, rest: &str) -> Result<bool, Fault> {
-        match key {
-            "in_fails" => self.put_failing(Object::In, rest)?,
-            "flash_fails" => self.put_failing(Object::Flash, rest)?,
-            "out_fails" => self.put_failing(Object::Out, rest)?,
-            "err_fails" => self.put_failing(Object::Err, rest)?,
-            "fails_each" => self.each.push(object_of(rest)?)?,
+        let taken = match key {
+            "in_fails" => self.put_failing(Object::In, rest),
+            "flash_fails" => self.put_failing(Object::Flash, rest),
+            "out_fails" => self.put_failing(Object::Out, rest),
+            "err_fails" => self.put_failing(Object::Err, rest),
+            "fails_each" => self.put_each(rest),
             _ => return Ok(false),
+        };
+        match taken {
+            Ok(()) => Ok(true),
+            Err(fault) => Err(fault),
         }
-        Ok(true)
     }
 
     /// Takes a line that says what a run is given. False where it is another one.
     pub fn take(&mut self, key: &str, rest: &str) -> Result<bool, Fault> {
-        match key {
-            "words" => self.put_words(rest)?,
-            "bytes" => put_bytes(self.alloc, &mut self.inputs, rest)?,
-            "text" => put_text(self.alloc, &mut self.inputs, rest)?,
-            "text_lines" => put_texts(self.alloc, &mut self.inputs, rest)?,
-            "flash" => self.put_flash(rest)?,
-            "piece" => self.put_pieces(rest)?,
-            "write_piece" => self.write_piece = positive(rest)?,
-            "room" => self.room = positive(rest)?,
+        let taken = match key {
+            "words" => self.put_words(rest),
+            "bytes" => put_bytes(self.alloc, &mut self.inputs, rest),
+            "text" => put_text(self.alloc, &mut self.inputs, rest),
+            "text_lines" => put_texts(self.alloc, &mut self.inputs, rest),
+            "flash" => self.put_flash(rest),
+            "piece" => self.put_pieces(rest),
+            "write_piece" => self.put_write_piece(rest),
+            "room" => self.put_room(rest),
             _ => return self.take_failing(key, rest),
+        };
+        match taken {
+            Ok(()) => Ok(true),
+            Err(fault) => Err(fault),
         }
-        Ok(true)
     }
 }

@@ -33,21 +33,22 @@ fn put_group(text: &mut String, group: &str) -> Result<(), Fault> {
     Ok(())
 }
 
-/// The line, in which `<TEXT*N>` stands for the text so many times.
-fn expanded(alloc: Global, line: &str) -> Result<String, Fault> {
+/// Appends the line, in which `<TEXT*N>` stands for the text so many times, and its end.
+fn put_expanded(text: &mut String, line: &str) -> Result<(), Fault> {
     let mut groups = line.split('<');
-    let mut text = String::from_str(alloc, groups.next().unwrap_or(""))?;
+    text.push_str(groups.next().unwrap_or(""))?;
     for group in groups {
-        put_group(&mut text, group)?;
+        put_group(text, group)?;
     }
-    Ok(text)
+    text.push('\n')?;
+    Ok(())
 }
 
 /// Appends a line and its end so many times.
 fn put_copies(alloc: Global, text: &mut Vec<u8>, line: &str, times: u32) -> Result<(), Fault> {
-    let mut line = expanded(alloc, line)?;
-    line.push('\n')?;
-    put_times(text, line.as_bytes(), times)
+    let mut copy = String::new(alloc);
+    put_expanded(&mut copy, line)?;
+    put_times(text, copy.as_bytes(), times)
 }
 
 /// Appends a line and its end.

@@ -59,10 +59,12 @@ fn compare_out(notes: &mut Notes, expected: &Expected, came: &[u8]) -> Result<()
 
 /// What the flash should hold afterwards.
 fn flash_after<'a>(expected: &'a Expected, given: &'a Outside) -> &'a [u8] {
-    match (&expected.flash, given.flash.first()) {
-        (Some(bytes), _) => bytes,
-        (None, Some(named)) => &named.bytes,
-        (None, None) => &[],
+    if expected.has_flash {
+        return &expected.flash;
+    }
+    match given.flash.first() {
+        Some(named) => &named.bytes,
+        None => &[],
     }
 }
 
@@ -70,7 +72,7 @@ fn flash_after<'a>(expected: &'a Expected, given: &'a Outside) -> &'a [u8] {
 fn compare_err(
     notes: &mut Notes,
     expected: &Expected,
-    turn: Turn,
+    turn: &Turn,
     came: &[u8],
 ) -> Result<(), Fault> {
     if turn.call_of(Object::Err) > 0 {
@@ -85,7 +87,7 @@ pub fn compare(
     notes: &mut Notes,
     given: &Outside,
     expected: &Expected,
-    turn: Turn,
+    turn: &Turn,
     ending: &Ending,
 ) -> Result<(), Fault> {
     notes.compare_numbers(
@@ -93,7 +95,7 @@ pub fn compare(
         u64::from(expected.status),
         u64::from(ending.status),
     )?;
-    compare_out(notes, expected, ending.out())?;
-    compare_err(notes, expected, turn, ending.err())?;
-    notes.compare_texts("flash", flash_after(expected, given), ending.flash())
+    compare_out(notes, expected, &ending.out)?;
+    compare_err(notes, expected, turn, &ending.err)?;
+    notes.compare_texts("flash", flash_after(expected, given), &ending.flash)
 }

@@ -4,19 +4,23 @@ use std::alloc::Global;
 
 /// How many bytes two texts have in common at the front.
 pub fn common_length(one: &[u8], other: &[u8]) -> usize {
-    let differs = one.iter().zip(other.iter()).position(|(a, b)| a != b);
-    match differs {
-        Some(place) => place,
-        None => one.len().min(other.len()),
+    for (place, (a, b)) in one.iter().zip(other.iter()).enumerate() {
+        if *a != *b {
+            return place;
+        }
     }
+    one.len().min(other.len())
 }
 
 /// How many lines end before the place.
 fn lines_before(text: &[u8], place: usize) -> usize {
-    text.iter()
-        .take(place)
-        .filter(|byte| **byte == b'\n')
-        .count()
+    let mut lines: usize = 0;
+    for byte in text.iter().take(place) {
+        if *byte == b'\n' {
+            lines = lines.saturating_add(1);
+        }
+    }
+    lines
 }
 
 /// The line, with its end, in which the place lies.
@@ -46,7 +50,7 @@ fn shown(alloc: Global, line: &[u8]) -> Result<String, Fault> {
 pub struct Notes {
     alloc: Global,
     /// The case, and what differs from run to run.
-    run: String,
+    pub run: String,
     pub text: String,
 }
 
@@ -60,15 +64,10 @@ impl Notes {
         }
     }
 
-    /// What follows is of this run.
-    pub fn begin(&mut self, run: String) {
-        self.run = run;
-    }
-
-    /// A line of its own.
-    pub fn put_line(&mut self, line: &str) -> Result<(), Fault> {
-        self.text.push_str(line)?;
-        self.text.push('\n')?;
+    /// What follows is of a run of this name.
+    pub fn begin(&mut self, name: &str) -> Result<(), Fault> {
+        self.run.clear();
+        self.run.push_str(name)?;
         Ok(())
     }
 
@@ -86,9 +85,14 @@ impl Notes {
 
     /// That two numbers differ, if they do.
     pub fn compare_numbers(&mut self, what: &str, expected: u64, came: u64) -> Result<(), Fault> {
-        let expected = format!(in self.alloc; "{expected}")?;
-        let came = format!(in self.alloc; "{came}")?;
-        self.compare(what, expected.as_str(), came.as_str())
+        if expected != came {
+            let run = &self.run;
+            write!(
+                self.text,
+                "{run}: {what}\n  expected {expected}\n  came     {came}\n"
+            )?;
+        }
+        Ok(())
     }
 
     /// That two lines differ, if they do.

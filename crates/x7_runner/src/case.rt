@@ -1,0 +1,66 @@
+//! A case: what a run is given, and what it should come to.
+use crate::expected::Expected;
+use crate::fault::Fault;
+use crate::named::{Named, put_slice, slice_of};
+use crate::outside::Outside;
+use std::alloc::Global;
+
+/// A case, by the lines taken so far.
+#[derive(Drop)]
+pub struct Case {
+    alloc: Global,
+    pub name: String,
+    pub outside: Outside,
+    pub expected: Expected,
+    /// Whether later cases have what `out` got, and its name there.
+    pub is_kept: bool,
+    pub kept: String,
+}
+
+impl Case {
+    /// A case without a name and lines.
+    pub fn new(alloc: Global) -> Case {
+        Case {
+            alloc,
+            name: String::new(alloc),
+            outside: Outside::new(alloc),
+            expected: Expected::new(alloc),
+            is_kept: false,
+            kept: String::new(alloc),
+        }
+    }
+
+    /// Appends bytes of a shared input to the text.
+    fn put_out_slice(&mut self, shared: &[Named], line: &str) -> Result<(), Fault> {
+        let slice = slice_of(shared, line)?;
+        self.expected.out.extend_from_slice(slice)?;
+        Ok(())
+    }
+
+    /// Takes the name under which later cases have what `out` got.
+    fn put_kept(&mut self, name: &str) -> Result<(), Fault> {
+        self.is_kept = true;
+        self.kept.clear();
+        self.kept.push_str(name)?;
+        Ok(())
+    }
+
+    /// Takes a line between the case's first and its last.
+    pub fn take(&mut self, shared: &[Named], key: &str, rest: &str) -> Result<(), Fault> {
+        match key {
+            "slice" => put_slice(self.alloc, &mut self.outside.inputs, shared, rest),
+            "flash_slice" => self.outside.put_flash_slice(shared, rest),
+            "out_slice" => self.put_out_slice(shared, rest),
+            "keep" => self.put_kept(rest),
+            _ => self.take_plain(key, rest),
+        }
+    }
+
+    /// Takes a line of what a run is given or comes to.
+    fn take_plain(&mut self, key: &str, rest: &str) -> Result<(), Fault> {
+        if !self.outside.take(key, rest)? && !self.expected.take(key, rest)? {
+            return Err(Fault::Line);
+        }
+        Ok(())
+    }
+}

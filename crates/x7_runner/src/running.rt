@@ -1,0 +1,200 @@
+//! One run of the command over objects in memory.
+use crate::command::Command;
+use crate::fault::Fault;
+use crate::named::Named;
+use crate::outside::{Object, Outside};
+use std::alloc::Global;
+use x7_words::{Flash, Inputs, MemoryFlash, MemoryInputs, MemorySink, SelectFault, Sink};
+
+/// What differs from run to run of one case.
+#[derive(Drop)]
+pub struct Turn {
+    /// The most bytes of one read.
+    piece: u32,
+    /// The object whose call fails.
+    pub object: Object,
+    /// The number of that call, 0 for none.
+    call: u64,
+}
+
+impl Turn {
+    /// Reads of so many bytes, and this call of the object failing.
+    pub fn new(piece: u32, object: Object, call: u64) -> Turn {
+        Turn {
+            piece,
+            object,
+            call,
+        }
+    }
+
+    /// What differs, as it is printed behind a case's name.
+    pub fn put_name(&self, name: &mut String) -> Result<(), Fault> {
+        if self.piece != u32::MAX {
+            let piece = self.piece;
+            write!(name, ", piece {piece}")?;
+        }
+        if self.call > 0 {
+            let (object, call) = (self.object.name(), self.call);
+            write!(name, ", {object} call {call} fails")?;
+        }
+        Ok(())
+    }
+
+    /// The number of the object's call that fails, 0 for none.
+    pub fn call_of(&self, object: Object) -> u64 {
+        if self.object == object { self.call } else { 0 }
+    }
+}
+
+/// How a run ended, and what it left.
+#[derive(Drop)]
+pub struct Ending {
+    pub status: u8,
+    /// Whether the call that was to fail came after all calls of the run.
+    pub is_spared: bool,
+    pub out: Vec<u8>,
+    pub err: Vec<u8>,
+    /// What the flash holds.
+    pub flash: Vec<u8>,
+}
+
+impl Ending {
+    /// Status 0, and nothing left.
+    pub fn new(alloc: Global) -> Ending {
+        Ending {
+            status: 0,
+            is_spared: false,
+            out: Vec::new(alloc),
+            err: Vec::new(alloc),
+            flash: Vec::new(alloc),
+        }
+    }
+}
+
+/// The objects that a run works on.
+#[derive(Drop)]
+struct Objects {
+    inputs: MemoryInputs,
+    flash: MemoryFlash,
+    out: MemorySink,
+    err: MemorySink,
+}
+
+/// Puts all inputs of the list.
+fn put_all(inputs: &mut MemoryInputs, list: &[Named]) -> Result<(), Fault> {
+    for named in list {
+        inputs.put(named.name.as_str(), &named.bytes)?;
+    }
+    Ok(())
+}
+
+/// Puts the inputs of the file of cases, and the case's own, which come before them.
+fn put_inputs(
+    inputs: &mut MemoryInputs,
+    shared: &[Named],
+    own: &[Named],
+    turn: &Turn,
+) -> Result<(), Fault> {
+    put_all(inputs, shared)?;
+    put_all(inputs, own)?;
+    if turn.piece > 0 {
+        inputs.piece(turn.piece as usize);
+    }
+    inputs.fail_at(turn.call_of(Object::In))?;
+    Ok(())
+}
+
+/// The case's flash, or an empty one.
+fn flash_of(alloc: Global, given: &[Named]) -> Result<MemoryFlash, Fault> {
+    match given.first() {
+        Some(named) => Ok(MemoryFlash::new(alloc, named.name.as_str(), &named.bytes)?),
+        None => Ok(MemoryFlash::new(alloc, "", &[])?),
+    }
+}
+
+/// What a sink's writes take, and which of them fails.
+fn limit(sink: &mut MemorySink, piece: u32, fails: u64) -> Result<(), Fault> {
+    if piece > 0 {
+        sink.piece(piece as usize);
+    }
+    sink.fail_at(fails)?;
+    Ok(())
+}
+
+/// Puts the bytes in place of those that were there.
+fn replace(old: &mut Vec<u8>, bytes: &[u8]) -> Result<(), Fault> {
+    old.clear();
+    old.extend_from_slice(bytes)?;
+    Ok(())
+}
+
+impl Objects {
+    /// Objects without inputs, and no call that fails.
+    fn new(alloc: Global, given: &Outside) -> Result<Objects, Fault> {
+        let out = MemorySink::new(alloc, given.room as usize)?;
+        let err = MemorySink::new(alloc, 1_000)?;
+        let flash = flash_of(alloc, &given.flash)?;
+        let inputs = MemoryInputs::new(alloc);
+        Ok(Objects {
+            inputs,
+            flash,
+            out,
+            err,
+        })
+    }
+
+    /// Puts the inputs, and says what each call takes and which of them fails.
+    fn prepare(&mut self, shared: &[Named], given: &Outside, turn: &Turn) -> Result<(), Fault> {
+        put_inputs(&mut self.inputs, shared, &given.inputs, turn)?;
+        self.flash.fail_at(turn.call_of(Object::Flash))?;
+        let piece = given.write_piece;
+        limit(&mut self.out, piece, turn.call_of(Object::Out))?;
+        limit(&mut self.err, piece, turn.call_of(Object::Err))
+    }
+
+    /// Whether the call that was to fail came after all calls of the run: one more call of its object fails.
+    fn is_spared(&mut self, object: Object) -> bool {
+        match object {
+            Object::In => matches!(self.inputs.select(""), Err(SelectFault::Failed)),
+            Object::Flash => matches!(self.flash.attach(""), Err(SelectFault::Failed)),
+            Object::Out => self.out.write(&[]).is_err(),
+            Object::Err => self.err.write(&[]).is_err(),
+        }
+    }
+
+    /// What the objects hold after a run.
+    fn leave(&mut self, turn: &Turn, ending: &mut Ending) -> Result<(), Fault> {
+        replace(&mut ending.out, self.out.bytes())?;
+        replace(&mut ending.err, self.err.bytes())?;
+        replace(&mut ending.flash, self.flash.bytes())?;
+        ending.is_spared = turn.call > 0 && self.is_spared(turn.object);
+        Ok(())
+    }
+
+    /// Runs the command over the objects.
+    fn run<C: Command>(&mut self, command: &C, alloc: Global, words: &Vec<String>) -> u8 {
+        command.run(
+            alloc,
+            words,
+            &mut self.inputs,
+            &mut self.flash,
+            &mut self.out,
+            &mut self.err,
+        )
+    }
+}
+
+/// Runs the command once. The ending takes what it left.
+pub fn ran<C: Command>(
+    command: &C,
+    alloc: Global,
+    shared: &[Named],
+    given: &Outside,
+    turn: &Turn,
+    ending: &mut Ending,
+) -> Result<(), Fault> {
+    let mut objects = Objects::new(alloc, given)?;
+    objects.prepare(shared, given, turn)?;
+    ending.status = objects.run(command, alloc, &given.words);
+    objects.leave(turn, ending)
+}
