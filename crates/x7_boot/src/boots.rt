@@ -1,7 +1,6 @@
 //! The boot of a device from a flash.
 ghost use Rattle.std.specs.Prelude.{◌≡◌, ◌≤◌, ◌<◌, ◌↔◌, List, true, Err, IfOk, IsErrOf};
-ghost use Rattle.x7_words.specs.Count.{HasRisen};
-ghost use Rattle.x7_words.specs.Flash.{WhereTold};
+ghost use Rattle.x7_words.specs.Flash.{FlashFails, OnlyFaults, WhereTold};
 ghost use Rattle.x7_words.specs.Word.{AreBytes};
 ghost use Rattle.x7_engine.specs.Standing.{NoWordDue};
 ghost use Rattle.x7_boot.specs.Boot.{BootedState, IsBoot};
@@ -100,17 +99,13 @@ const AT_POWER: Kept = Kept {
 /// Boots a device of a part from a flash: attempt after attempt, as the table of UG470, MultiBoot and fallback, leads from
 /// the end of one to the next.
 pub fn boot<F: Flash>(alloc: Global, part: &Part, flash: &mut F) -> Result<Booted, BootFault>
-    requires attached { F.attached flash.old ≡ true }
-    ensures booted { IfOk result (λ booted. WhereTold (F.bytes flash.old) (λ all. AreBytes all → IsBoot part.now all booted)) }
+    requires attached { (F.state flash.old).attached ≡ true }
+    ensures booted { IfOk result (λ booted. WhereTold (F.state flash.old).bytes (λ all. AreBytes all → IsBoot part.now all booted)) }
     ensures part { IfOk result (λ booted. booted.device.part ≡ part.now) }
     ensures due { IfOk result (λ booted. NoWordDue booted.device) }
-    ensures failed { IsErrOf result BootFault.Failed → HasRisen (F.faults flash.old) (F.faults flash.new) }
-    ensures too_large { (result ≡ Err BootFault.TooLarge) ↔ (flash_limit < F.extent flash.old) }
-    ensures attached { F.attached flash.new ≡ F.attached flash.old }
-    ensures extent { F.extent flash.new ≡ F.extent flash.old }
-    ensures same { F.bytes flash.new ≡ F.bytes flash.old }
-    ensures faults { F.faults flash.old ≤ F.faults flash.new }
-    ensures absences { F.absences flash.new ≡ F.absences flash.old }
+    ensures failed { IsErrOf result BootFault.Failed → FlashFails (F.state flash.old) (F.state flash.new) }
+    ensures too_large { (result ≡ Err BootFault.TooLarge) ↔ (flash_limit < (F.state flash.old).extent) }
+    ensures flash { OnlyFaults (F.state flash.old) (F.state flash.new) }
 {
     if flash.size() > FLASH_LIMIT {
         return Err(BootFault::TooLarge);

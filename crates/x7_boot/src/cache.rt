@@ -1,7 +1,7 @@
 //! The pages of a flash that were used last, so that none of them is read again.
 ghost use Rattle.std.specs.Prelude.{◌≡◌, ◌+◌, ◌*◌, ◌/◌, ◌%◌, ◌<◌, ◌≤◌, ℕ, List, Option, None, [], length, true, nat_eq, IfOk, OnOk, IsErrOf, IsSome};
+ghost use Rattle.x7_words.specs.Flash.{FlashFails, OnlyFaults};
 ghost use Rattle.std.specs.Map.{lookup};
-ghost use Rattle.x7_words.specs.Count.{HasRisen};
 ghost use Rattle.x7_boot.specs.Pages.{AreFrom, ArePages, HasPage, IsBlock, IsRest, KeepsPages, block_pages, page_size};
 
 use crate::fault::BootFault;
@@ -44,20 +44,16 @@ impl PageCache {
     /// Has the page of a number from then on, read from the flash where it isn't there, with those that follow it. Gives how
     /// many pages were read.
     pub(crate) fn load<F: Flash>(&mut self, flash: &mut F, number: u64) -> Result<u64, BootFault>
-        requires attached { F.attached flash.old ≡ true }
-        requires within { number * page_size < F.extent flash.old }
-        requires limit { F.extent flash.old ≤ 134217728 }
-        requires pages { ArePages (F.bytes flash.old) (F.extent flash.old) self.old.pages.entries }
-        ensures pages { ArePages (F.bytes flash.old) (F.extent flash.old) self.new.pages.entries }
+        requires attached { (F.state flash.old).attached ≡ true }
+        requires within { number * page_size < (F.state flash.old).extent }
+        requires limit { (F.state flash.old).extent ≤ 134217728 }
+        requires pages { ArePages (F.state flash.old).bytes (F.state flash.old).extent self.old.pages.entries }
+        ensures pages { ArePages (F.state flash.old).bytes (F.state flash.old).extent self.new.pages.entries }
         ensures there { OnOk result (IsSome (lookup (nat_eq number) self.new.pages.entries)) }
-        ensures read { IfOk result (λ count. 0 < count → IsBlock (F.bytes flash.old) (F.extent flash.old) number count self.new.block.items) }
-        ensures failed { IsErrOf result BootFault.Failed → HasRisen (F.faults flash.old) (F.faults flash.new) }
+        ensures read { IfOk result (λ count. 0 < count → IsBlock (F.state flash.old).bytes (F.state flash.old).extent number count self.new.block.items) }
+        ensures failed { IsErrOf result BootFault.Failed → FlashFails (F.state flash.old) (F.state flash.new) }
         ensures not_large { IsErrOf result BootFault.TooLarge → ⊥ }
-        ensures attached { F.attached flash.new ≡ F.attached flash.old }
-        ensures extent { F.extent flash.new ≡ F.extent flash.old }
-        ensures same { F.bytes flash.new ≡ F.bytes flash.old }
-        ensures faults { F.faults flash.old ≤ F.faults flash.new }
-        ensures absences { F.absences flash.new ≡ F.absences flash.old }
+        ensures flash { OnlyFaults (F.state flash.old) (F.state flash.new) }
     {
         if self.pages.promote(&number) {
             return Ok(0);

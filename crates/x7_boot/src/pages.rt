@@ -1,6 +1,6 @@
 //! Reading a flash by pages.
 ghost use Rattle.std.specs.Prelude.{◌≡◌, ◌*◌, ◌<◌, ◌≤◌, ◌^◌, true, OnOk, IsErrOf};
-ghost use Rattle.x7_words.specs.Count.{HasRisen};
+ghost use Rattle.x7_words.specs.Flash.{FlashFails, OnlyFaults};
 ghost use Rattle.x7_boot.specs.Pages.{IsBlock, block_pages, page_size};
 
 use crate::fault::BootFault;
@@ -19,19 +19,15 @@ pub(crate) fn read_block<F: Flash>(
     count: u64,
     block: &mut Vec<u8>,
 ) -> Result<(), BootFault>
-    requires attached { F.attached flash.old ≡ true }
-    requires within { number * page_size < F.extent flash.old }
+    requires attached { (F.state flash.old).attached ≡ true }
+    requires within { number * page_size < (F.state flash.old).extent }
     requires count { count ≤ block_pages }
-    requires limit { F.extent flash.old ≤ 134217728 }
-    ensures read { OnOk result (IsBlock (F.bytes flash.old) (F.extent flash.old) number count block.new.items) }
-    ensures failed { IsErrOf result BootFault.Failed → HasRisen (F.faults flash.old) (F.faults flash.new) }
+    requires limit { (F.state flash.old).extent ≤ 134217728 }
+    ensures read { OnOk result (IsBlock (F.state flash.old).bytes (F.state flash.old).extent number count block.new.items) }
+    ensures failed { IsErrOf result BootFault.Failed → FlashFails (F.state flash.old) (F.state flash.new) }
     ensures not_large { IsErrOf result BootFault.TooLarge → ⊥ }
-    ensures attached { F.attached flash.new ≡ F.attached flash.old }
-    ensures extent { F.extent flash.new ≡ F.extent flash.old }
-    ensures same { F.bytes flash.new ≡ F.bytes flash.old }
-    ensures faults { F.faults flash.old ≤ F.faults flash.new }
-    ensures last_fault { F.faults flash.old < 2 ^ 64 → F.faults flash.new < 2 ^ 64 }
-    ensures absences { F.absences flash.new ≡ F.absences flash.old }
+    ensures flash { OnlyFaults (F.state flash.old) (F.state flash.new) }
+    ensures last_fault { (F.state flash.old).faults < 2 ^ 64 → (F.state flash.new).faults < 2 ^ 64 }
 {
     let start = number * PAGE;
     let end = ((number + count) * PAGE).min(flash.size());

@@ -2,8 +2,7 @@
 ghost use Rattle.std.specs.Prelude.{◌≡◌, ◌≤◌, ◌<◌, ◌^◌, ℕ, List, Option, length, true, false, IfOk, IsErrOf, IsTrue};
 ghost use Rattle.x7_regs.specs.declared.boot_status.Kind.TheVariants.{Bench};
 ghost use Rattle.x7_regs.specs.declared.boot_status.Cause.TheVariants.{Wrap};
-ghost use Rattle.x7_words.specs.Count.{HasRisen};
-ghost use Rattle.x7_words.specs.Flash.{WhereTold};
+ghost use Rattle.x7_words.specs.Flash.{FlashFails, OnlyFaults, WhereTold};
 ghost use Rattle.x7_words.specs.Word.{AreBytes};
 ghost use Rattle.x7_part.specs.Part.{PartData};
 ghost use Rattle.x7_engine.specs.FirstGap.{IsInFirstGap};
@@ -76,23 +75,19 @@ pub(crate) fn try_once<F: Flash>(
     address: u32,
     last_address: u32,
 ) -> Result<Ending, BootFault>
-    requires attached { F.attached flash.old ≡ true }
-    requires limit { F.extent flash.old ≤ 134217728 }
+    requires attached { (F.state flash.old).attached ≡ true }
+    requires limit { (F.state flash.old).extent ≤ 134217728 }
     requires boots { keep.kind ≡ Bench → ⊥ }
-    requires left { Leaves last_address (F.bytes flash.old) device.old }
-    requires pages { ArePages (F.bytes flash.old) (F.extent flash.old) pages.old.pages.entries }
-    ensures pages { ArePages (F.bytes flash.old) (F.extent flash.old) pages.new.pages.entries }
-    ensures tried { IfOk result (λ ending. WhereTold (F.bytes flash.old) (λ all. AreBytes all → Tries device.old.part keep address all device.new ending)) }
-    ensures leaves { IfOk result (λ _. Leaves address (F.bytes flash.old) device.new) }
+    requires left { Leaves last_address (F.state flash.old).bytes device.old }
+    requires pages { ArePages (F.state flash.old).bytes (F.state flash.old).extent pages.old.pages.entries }
+    ensures pages { ArePages (F.state flash.old).bytes (F.state flash.old).extent pages.new.pages.entries }
+    ensures tried { IfOk result (λ ending. WhereTold (F.state flash.old).bytes (λ all. AreBytes all → Tries device.old.part keep address all device.new ending)) }
+    ensures leaves { IfOk result (λ _. Leaves address (F.state flash.old).bytes device.new) }
     ensures part { IfOk result (λ ending. device.new.part ≡ device.old.part) }
     ensures due { IfOk result (λ ending. NoWordDue device.new) }
-    ensures failed { IsErrOf result BootFault.Failed → HasRisen (F.faults flash.old) (F.faults flash.new) }
+    ensures failed { IsErrOf result BootFault.Failed → FlashFails (F.state flash.old) (F.state flash.new) }
     ensures not_large { IsErrOf result BootFault.TooLarge → ⊥ }
-    ensures attached { F.attached flash.new ≡ F.attached flash.old }
-    ensures extent { F.extent flash.new ≡ F.extent flash.old }
-    ensures same { F.bytes flash.new ≡ F.bytes flash.old }
-    ensures faults { F.faults flash.old ≤ F.faults flash.new }
-    ensures absences { F.absences flash.new ≡ F.absences flash.old }
+    ensures flash { OnlyFaults (F.state flash.old) (F.state flash.new) }
 {
     let size = flash.size();
     let mut at = begin(device, keep, address, last_address);

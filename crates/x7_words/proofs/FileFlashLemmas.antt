@@ -1,8 +1,9 @@
 -- Lemmas on a file as a flash: what it counts is what a caller of any flash may know.
-use Rattle.std.proofs.Common.{◌≡◌, ℕ, true, false, Result, Ok, Err, OnOk, OnErr, IsErrOf, ap, ◌∙◌}
+use Rattle.std.proofs.Common.{◌≡◌, ℕ, true, false, Result, Ok, Err, OnOk, OnErr, IfErr, ap, ◌∙◌}
 use Rattle.x7_words.specs.Count.{HasRisen, raised}
+use Rattle.x7_words.specs.Flash.{Unattached}
 use Rattle.x7_words.proofs.CountLemmas.{raised_risen}
-use Rattle.x7_words.specs.Files.{RealFlash, after_attach}
+use Rattle.x7_words.specs.Files.{RealFlash, after_attach, size_told}
 use Rattle.x7_words.specs.declared.input.Failed.{Failed as FailedRead}
 use Rattle.x7_words.specs.declared.input.SelectFault.{SelectFault}
 use Rattle.x7_words.specs.declared.input.SelectFault.TheVariants.{Missing, Failed}
@@ -18,13 +19,11 @@ attached-err old new extent (Ok _) e = tt
 attached-err old new extent (Err Missing) e = ap (λ f. f.attached) e
 attached-err old new extent (Err Failed) e = ap (λ f. f.attached) e
 
--- an attach that is Missing counts an absence
-pub attached-missing : (old new : RealFlash) (extent : ℕ) (answer : Result (Unit {0}) SelectFault) → new ≡ after_attach old extent answer → IsErrOf answer Missing → HasRisen old.absences new.absences
-attached-missing old new extent answer e h = raised_risen old.absences new.absences (ap (λ f. f.absences) (e ∙ ap (after_attach old extent) h))
-
--- an attach that is Failed counts a fault
-pub attached-failed : (old new : RealFlash) (extent : ℕ) (answer : Result (Unit {0}) SelectFault) → new ≡ after_attach old extent answer → IsErrOf answer Failed → HasRisen old.faults new.faults
-attached-failed old new extent answer e h = raised_risen old.faults new.faults (ap (λ f. f.faults) (e ∙ ap (after_attach old extent) h))
+-- an attach that is not Ok counts what it answers
+pub attached-refused : (old new : RealFlash) (extent : ℕ) (answer : Result (Unit {0}) SelectFault) → new ≡ after_attach old extent answer → IfErr answer (Unattached (size_told old) (size_told new))
+attached-refused old new extent (Ok _) e = tt
+attached-refused old new extent (Err Missing) e = raised_risen old.absences new.absences (ap (λ f. f.absences) e)
+attached-refused old new extent (Err Failed) e = raised_risen old.faults new.faults (ap (λ f. f.faults) e)
 
 -- a read that fails counts a fault
 pub failed_read_at : (old new : RealFlash) (answer : Result (Unit {0}) FailedRead) → OnErr answer (new ≡ record old { faults = raised old.faults }) → OnErr answer (HasRisen old.faults new.faults)

@@ -1,6 +1,7 @@
 pub mod CountLemmas
 pub mod FileFlashLemmas
 pub mod FilesLemmas
+pub mod FlashLemmas
 pub mod InputLemmas
 pub mod ListLemmas
 pub mod PutLemmas

@@ -2,6 +2,7 @@
 use Rattle.std.specs.Prelude.{◌≡◌, ◌<◌, ℕ, Bool, true, false, List, length, take, Option, None, Some, Result, Ok, Err}
 use Rattle.std.specs.Io.KnownBytes.{Consumes, IsAtEnd}
 use Rattle.x7_words.specs.Count.{raised}
+use Rattle.x7_words.specs.Flash.{FlashState}
 use Rattle.x7_words.specs.Input.{InputsState}
 use Rattle.x7_words.specs.declared.input.SelectFault.{SelectFault}
 use Rattle.x7_words.specs.declared.input.SelectFault.TheVariants.{Missing, Failed}
@@ -52,6 +53,10 @@ pub record RealFlash : Type 0 where
   pub faults : ℕ
   -- the absences counted; the last u64 stays
   pub absences : ℕ
+
+-- what is told of a file as a flash: its size, and nothing of what it holds
+abbrev pub size_told : RealFlash → FlashState
+size_told f = record { bytes = None; extent = f.extent; attached = f.attached; faults = f.faults; absences = f.absences }
 
 -- the flash after an attach with this answer: each fault and each absence is counted once
 abbrev pub after_attach : RealFlash → ℕ → Result (Unit {0}) SelectFault → RealFlash

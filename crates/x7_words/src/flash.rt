@@ -1,7 +1,6 @@
 //! A flash that is read at places.
-ghost use Rattle.std.specs.Prelude.{◌≡◌, ℕ, List, ◌+◌, ◌<◌, ◌≤◌, ◌^◌, length, Option, Bool, true, false, OnOk, OnErr, IsErrOf, slice_range};
-ghost use Rattle.x7_words.specs.Count.{HasRisen};
-ghost use Rattle.x7_words.specs.Flash.{WhereTold};
+ghost use Rattle.std.specs.Prelude.{◌≡◌, ◌+◌, ◌<◌, ◌≤◌, ◌^◌, length, true, false, IfErr, OnOk, OnErr, slice_range};
+ghost use Rattle.x7_words.specs.Flash.{FlashFails, FlashFits, FlashState, FlashStays, IsSized, OnlyFaults, Unattached, WhereTold};
 
 use crate::input::{Failed, SelectFault};
 
@@ -10,56 +9,34 @@ use crate::input::{Failed, SelectFault};
 /// Both counts only rise, by at least one at each fault or absence. A count that has reached the
 /// last u64 stays there, and counts as risen.
 pub trait Flash {
-    /// The flash's bytes, where they are told.
-    ghost bytes: { Self → Option (List ℕ) };
-
-    /// The number of the flash's bytes.
-    ghost extent: { Self → ℕ };
-
-    /// Whether the flash is attached.
-    ghost attached: { Self → Bool };
-
-    /// How often an attach or a read has failed.
-    ghost faults: { Self → ℕ };
-
-    /// How often the name was missing.
-    ghost absences: { Self → ℕ };
+    /// What the flash has come to.
+    ghost state: { Self → FlashState };
 
     /// Attaches the flash of this name. After an error none is attached.
     fn attach(&mut self, name: &str) -> Result<(), SelectFault>
-        ensures ok { OnOk result (attached self.new ≡ true) }
-        ensures missing { IsErrOf result SelectFault.Missing →
-            HasRisen (absences self.old) (absences self.new) }
-        ensures failed { IsErrOf result SelectFault.Failed →
-            HasRisen (faults self.old) (faults self.new) }
-        ensures err { OnErr result (attached self.new ≡ false) }
-        ensures same { bytes self.new ≡ bytes self.old }
-        ensures told { WhereTold (bytes self.new) (λ all. extent self.new ≡ length all) }
-        ensures faults { faults self.old ≤ faults self.new }
-        ensures absences { absences self.old ≤ absences self.new }
-        ensures last_fault { faults self.new < 2 ^ 64 }
-        ensures last_absence { absences self.new < 2 ^ 64 };
+        ensures ok { OnOk result ((state self.new).attached ≡ true) }
+        ensures refused { IfErr result (Unattached (state self.old) (state self.new)) }
+        ensures err { OnErr result ((state self.new).attached ≡ false) }
+        ensures stays { FlashStays (state self.old) (state self.new) }
+        ensures sized { IsSized (state self.new) }
+        ensures fits { FlashFits (state self.new) };
 
     /// The number of the attached flash's bytes.
     fn size(&self) -> u64
-        requires { attached self.now ≡ true }
-        ensures extent { result ≡ extent self.now }
-        ensures told { WhereTold (bytes self.now) (λ all. result ≡ length all) };
+        requires { (state self.now).attached ≡ true }
+        ensures extent { result ≡ (state self.now).extent }
+        ensures sized { IsSized (state self.now) };
 
     /// Fills the buffer with the bytes from the place on. After an error it may hold anything, as
     /// after a failed read of a file.
     fn read_at(&mut self, place: u64, buf: &mut [u8]) -> Result<(), Failed>
-        requires attached { attached self.old ≡ true }
-        requires within { place + length buf.old ≤ extent self.old }
-        ensures read { OnOk result (WhereTold (bytes self.old)
+        requires attached { (state self.old).attached ≡ true }
+        requires within { place + length buf.old ≤ (state self.old).extent }
+        ensures read { OnOk result (WhereTold (state self.old).bytes
             (λ all. buf.new ≡ slice_range all place (place + length buf.old))) }
         ensures length { length buf.new ≡ length buf.old }
-        ensures failed { OnErr result (HasRisen (faults self.old) (faults self.new)) }
-        ensures attached { attached self.new ≡ attached self.old }
-        ensures extent { extent self.new ≡ extent self.old }
-        ensures same { bytes self.new ≡ bytes self.old }
-        ensures told { WhereTold (bytes self.new) (λ all. extent self.new ≡ length all) }
-        ensures faults { faults self.old ≤ faults self.new }
-        ensures absences { absences self.new ≡ absences self.old }
-        ensures last_fault { faults self.new < 2 ^ 64 };
+        ensures failed { OnErr result (FlashFails (state self.old) (state self.new)) }
+        ensures only { OnlyFaults (state self.old) (state self.new) }
+        ensures sized { IsSized (state self.new) }
+        ensures fits { (state self.new).faults < 2 ^ 64 };
 }

@@ -1,7 +1,7 @@
 //! A file as a flash.
 ghost use Rattle.std.specs.Prelude.{◌≡◌, ◌+◌, ◌<◌, ◌≤◌, ◌^◌, length, None, true, false, IfOk, IfSome, OnOk, OnErr};
 ghost use Rattle.x7_words.specs.Count.{raised};
-ghost use Rattle.x7_words.specs.Files.{after_attach};
+ghost use Rattle.x7_words.specs.Files.{after_attach, size_told};
 
 use super::refused;
 use crate::count::next_count;
@@ -70,15 +70,7 @@ impl<'r, R: Files> FileFlash<'r, R> {
 }
 
 impl<'r, R: Files> Flash for FileFlash<'r, R> {
-    ghost bytes = { λ _. None };
-
-    ghost extent = { λ f. f.extent };
-
-    ghost attached = { λ f. f.attached };
-
-    ghost faults = { λ f. f.faults };
-
-    ghost absences = { λ f. f.absences };
+    ghost state = { size_told };
 
     fn attach(&mut self, name: &str) -> Result<(), SelectFault>
         ensures after { self.new ≡ after_attach self.old self.new.extent result }

@@ -80,15 +80,13 @@ impl MemoryFlash {
 }
 
 impl Flash for MemoryFlash {
-    ghost bytes = { λ f. Some f.bytes };
-
-    ghost extent = { λ f. length f.bytes };
-
-    ghost attached = { λ f. f.attached };
-
-    ghost faults = { λ f. f.read_faults };
-
-    ghost absences = { λ f. f.absences };
+    ghost state = { λ f. record {
+      bytes = Some f.bytes;
+      extent = length f.bytes;
+      attached = f.attached;
+      faults = f.read_faults;
+      absences = f.absences;
+    } };
 
     fn attach(&mut self, name: &str) -> Result<(), SelectFault>
         ensures answer { result ≡ attach_answer self.old name.now }

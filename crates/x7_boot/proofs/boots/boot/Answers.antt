@@ -1,4 +1,5 @@
 use Rattle.std.proofs.Common.{ℕ, List, Option, ◌∙◌, subst, sym, arith}
+use Rattle.x7_words.proofs.FlashLemmas.{only_on}
 use Rattle.x7_boot.specs.Attempt.{Leaves}
 use Rattle.x7_boot.proofs.BootedLemmas.{attempts_next, boot_ends, led_next}
 use Rattle.x7_boot.proofs.PageLemmas.{pages_of}
@@ -11,20 +12,16 @@ attempts-preserved g c =
     let t = c.in_ok-ending.ensures in
     let next = c.next_of.ensures in
     record {
-      led = led_next c.args.part.now c.attempts.device.part c.attempts.keep c.in-Again.kept c.attempts.address c.in-Again.place (f.bytes c.args.flash.now) (f.bytes c.attempts.flash) c.try_once.new.device c.in_ok-ending.ending
-          c.attempts.attempts.items c.push.new.self.items c.attempts.number c.next_of.result i.same i.part i.led t.tried next.table c.in-Again.is c.in-Ok-push.ensures.items;
-      leaves = subst (λ (k : Option (List ℕ)). Leaves c.attempts.address k c.try_once.new.device) i.same t.leaves;
+      led = led_next c.args.part.now c.attempts.device.part c.attempts.keep c.in-Again.kept c.attempts.address c.in-Again.place (f.state c.args.flash.now).bytes (f.state c.attempts.flash).bytes c.try_once.new.device c.in_ok-ending.ending
+          c.attempts.attempts.items c.push.new.self.items c.attempts.number c.next_of.result i.flash.bytes i.part i.led t.tried next.table c.in-Again.is c.in-Ok-push.ensures.items;
+      leaves = subst (λ (k : Option (List ℕ)). Leaves c.attempts.address k c.try_once.new.device) i.flash.bytes t.leaves;
       part = t.part ∙ i.part;
       boots = next.boots c.in-Again.kept c.in-Again.place c.in-Again.is;
       number = attempts_next c.attempts.keep.kind c.in-Again.kept.kind c.attempts.number (next.fallback c.in-Again.kept c.in-Again.place c.in-Again.is) (next.few c.in-Again.kept c.in-Again.place c.in-Again.is) i.room;
       room = next.few c.in-Again.kept c.in-Again.place c.in-Again.is;
       limit = i.limit;
-      pages = pages_of (f.bytes c.args.flash.now) (f.bytes c.attempts.flash) (f.extent c.args.flash.now) (f.extent c.attempts.flash) c.try_once.new.pages.pages.entries i.same i.extent c.try_once.ensures.pages;
-      attached = t.attached ∙ i.attached;
-      extent = t.extent ∙ i.extent;
-      same = t.same ∙ i.same;
-      faults = let a = t.faults in let b = i.faults in omega (arith, a, b);
-      absences = t.absences ∙ i.absences;
+      pages = pages_of (f.state c.args.flash.now).bytes (f.state c.attempts.flash).bytes (f.state c.args.flash.now).extent (f.state c.attempts.flash).extent c.try_once.new.pages.pages.entries i.flash.bytes i.flash.extent c.try_once.ensures.pages;
+      flash = only_on _ _ _ i.flash t.flash;
     }
 
 pub returns-in-Ends-clause-booted : goal.returns-in-Ends-clause-booted
@@ -32,16 +29,16 @@ returns-in-Ends-clause-booted g c =
     let f = g.F.Flash in
     let i = c.attempts.invariant in
     let t = c.in_ok-ending.ensures in
-    boot_ends c.args.part.now c.attempts.device.part c.attempts.keep c.attempts.address (f.bytes c.args.flash.now) (f.bytes c.attempts.flash) c.try_once.new.device c.in_ok-ending.ending
-    c.attempts.attempts.items c.push.new.self.items c.attempts.number c.next_of.result c.in-Ends.end i.same i.part i.led t.tried c.next_of.ensures.table c.in-Ends.is c.in-Ok-push.ensures.items
+    boot_ends c.args.part.now c.attempts.device.part c.attempts.keep c.attempts.address (f.state c.args.flash.now).bytes (f.state c.attempts.flash).bytes c.try_once.new.device c.in_ok-ending.ending
+    c.attempts.attempts.items c.push.new.self.items c.attempts.number c.next_of.result c.in-Ends.end i.flash.bytes i.part i.led t.tried c.next_of.ensures.table c.in-Ends.is c.in-Ok-push.ensures.items
 
 pub try_once-requires-clause-pages : goal.try_once-requires-clause-pages
 try_once-requires-clause-pages g c =
     let f = g.F.Flash in
     let i = c.attempts.invariant in
-    pages_of (f.bytes c.attempts.flash) (f.bytes c.args.flash.now) (f.extent c.attempts.flash) (f.extent c.args.flash.now) c.attempts.pages.pages.entries (sym i.same) (sym i.extent) i.pages
+    pages_of (f.state c.attempts.flash).bytes (f.state c.args.flash.now).bytes (f.state c.attempts.flash).extent (f.state c.args.flash.now).extent c.attempts.pages.pages.entries (sym i.flash.bytes) (sym i.flash.extent) i.pages
 
 pub try_once-requires-clause-left : goal.try_once-requires-clause-left
 try_once-requires-clause-left g c =
     let i = c.attempts.invariant in
-    subst (λ (k : Option (List ℕ)). Leaves c.attempts.last_address k c.attempts.device) (sym i.same) i.leaves
+    subst (λ (k : Option (List ℕ)). Leaves c.attempts.last_address k c.attempts.device) (sym i.flash.bytes) i.leaves

@@ -1,5 +1,5 @@
 use Rattle.std.proofs.Common.{◌≡◌, ◌-◌, ◌<◌, ◌≤◌, false}
-use Rattle.x7_words.specs.Flash.{WhereTold}
+use Rattle.x7_words.specs.Flash.{OnlyFaults, WhereTold}
 use Rattle.x7_words.specs.Word.{AreBytes}
 use Rattle.x7_regs.specs.declared.boot_status.Kind.TheVariants.{Bench}
 use Rattle.x7_engine.specs.Kept.{is_fallback}
@@ -13,19 +13,15 @@ abbrev pub invariant-attempts : goal.invariant-attempts
 invariant-attempts g l =
     let f = g.F.Flash in
     record {
-      led : WhereTold (f.bytes l.fn.flash) (λ all. AreBytes all → Led l.fn.part all l.keep l.address l.attempts.items l.number);
-      leaves : Leaves l.last_address (f.bytes l.fn.flash) l.device;
+      led : WhereTold (f.state l.fn.flash).bytes (λ all. AreBytes all → Led l.fn.part all l.keep l.address l.attempts.items l.number);
+      leaves : Leaves l.last_address (f.state l.fn.flash).bytes l.device;
       part : l.device.part ≡ l.fn.part;
       boots : l.keep.kind ≡ Bench → ⊥;
       number : l.number ≤ 16;
       room : is_fallback l.keep.kind ≡ false → l.number < 16;
-      limit : f.extent l.fn.flash ≤ flash_limit;
-      pages : ArePages (f.bytes l.fn.flash) (f.extent l.fn.flash) l.pages.pages.entries;
-      attached : f.attached l.flash ≡ f.attached l.fn.flash;
-      extent : f.extent l.flash ≡ f.extent l.fn.flash;
-      same : f.bytes l.flash ≡ f.bytes l.fn.flash;
-      faults : f.faults l.fn.flash ≤ f.faults l.flash;
-      absences : f.absences l.flash ≡ f.absences l.fn.flash;
+      limit : (f.state l.fn.flash).extent ≤ flash_limit;
+      pages : ArePages (f.state l.fn.flash).bytes (f.state l.fn.flash).extent l.pages.pages.entries;
+      flash : OnlyFaults (f.state l.fn.flash) (f.state l.flash);
     }
 
 abbrev pub decreases-attempts : goal.decreases-attempts

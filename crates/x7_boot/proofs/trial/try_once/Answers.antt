@@ -1,4 +1,6 @@
-use Rattle.std.proofs.Common.{◌+◌, ◌/◌, ◌<◌, false, length, sym, refl, ◌∙◌, arith, true}
+use Rattle.std.proofs.Common.{◌≡◌, ℕ, subst, ◌+◌, ◌/◌, ◌<◌, false, length, sym, refl, ◌∙◌, arith, true}
+use Rattle.x7_words.specs.Flash.{WhereTold}
+use Rattle.x7_words.proofs.FlashLemmas.{only_at, only_on}
 use Rattle.x7_boot.specs.Pages.{page_size}
 use Rattle.x7_boot.proofs.PageLemmas.{block_read, from_limited, pages_of}
 use Rattle.x7_boot.proofs.TrialLemmas.{ends_here, feeds_on, feeds_ready, leaves_out, leaves_page, known_ended, known_out, known_stopped, stops_here}
@@ -6,13 +8,9 @@ use Rattle.x7_boot.proofs.trial.try_once.Goals as goal
 
 pub pages-init : goal.pages-init
 pages-init g c = record {
-  feeds = c.begin-at.ensures (g.F.Flash.bytes c.args.flash.now) c.requires.left;
-  attached = refl;
-  extent = refl;
-  same = refl;
-  faults = omega arith;
+  feeds = c.begin-at.ensures (g.F.Flash.state c.args.flash.now).bytes c.requires.left;
   kept = c.requires.pages;
-  absences = refl;
+  flash = only_at _;
   size = c.size-size.ensures.extent;
 }
 
@@ -22,42 +20,38 @@ run_out-requires g c = let f = c.pages.invariant.feeds in ends_here c.args.devic
 pub returns-then-at-size-clause-tried : goal.returns-then-at-size-clause-tried
 returns-then-at-size-clause-tried g c =
     let f = c.pages.invariant.feeds in
-    known_out c.args.device.now.part c.args.keep c.args.address (g.F.Flash.bytes c.args.flash.now) c.pages.device c.run_out.new.device c.pages.at c.size-size.result c.run_out.result f c.if-at-size.true
-    c.size-size.ensures.told (c.run_out.ensures.stands c.args.device.now.part c.args.keep f.bytes f.stands) c.run_out.ensures.ending
+    known_out c.args.device.now.part c.args.keep c.args.address (g.F.Flash.state c.args.flash.now).bytes c.pages.device c.run_out.new.device c.pages.at c.size-size.result c.run_out.result f c.if-at-size.true
+    (subst (λ (n : ℕ). WhereTold (g.F.Flash.state c.args.flash.now).bytes (λ all. n ≡ length all)) (sym c.size-size.ensures.extent) c.size-size.ensures.sized) (c.run_out.ensures.stands c.args.device.now.part c.args.keep f.bytes f.stands) c.run_out.ensures.ending
 
 pub pages-preserved : goal.pages-preserved
 pages-preserved g c =
     let f = c.pages.invariant.feeds in
-    let known = g.F.Flash.bytes c.args.flash.now in
-    let extent = g.F.Flash.extent c.args.flash.now in
+    let known = (g.F.Flash.state c.args.flash.now).bytes in
+    let extent = (g.F.Flash.state c.args.flash.now).extent in
     let below : c.pages.at < extent = omega (arith, c.if-at-size.false, c.pages.invariant.size) in
-    let are = pages_of known (g.F.Flash.bytes c.pages.flash) extent (g.F.Flash.extent c.pages.flash) c.load.new.self.pages.entries c.pages.invariant.same c.pages.invariant.extent c.load.ensures.pages in
-    let read = block_read known (g.F.Flash.bytes c.pages.flash) extent (g.F.Flash.extent c.pages.flash) (c.pages.at / page_size) c.in-Ok.count c.load.new.self.block.items c.pages.invariant.same c.pages.invariant.extent c.in-Ok.ensures.read in
+    let are = pages_of known (g.F.Flash.state c.pages.flash).bytes extent (g.F.Flash.state c.pages.flash).extent c.load.new.self.pages.entries c.pages.invariant.flash.bytes c.pages.invariant.flash.extent c.load.ensures.pages in
+    let read = block_read known (g.F.Flash.state c.pages.flash).bytes extent (g.F.Flash.state c.pages.flash).extent (c.pages.at / page_size) c.in-Ok.count c.load.new.self.block.items c.pages.invariant.flash.bytes c.pages.invariant.flash.extent c.in-Ok.ensures.read in
     let from = c.bytes_from-bytes.ensures known extent below are read in
     let t = c.take_page.ensures c.args.device.now.part c.args.keep f.bytes f.stands f.going f.open_end in
     record {
-      feeds = feeds_on c.args.device.now.part c.args.keep c.args.address (g.F.Flash.bytes c.args.flash.now) c.pages.device c.take_page.new.device c.bytes_from-bytes.result.now c.pages.at (c.pages.at + length c.bytes_from-bytes.result.now) c.take_page.result refl
+      feeds = feeds_on c.args.device.now.part c.args.keep c.args.address (g.F.Flash.state c.args.flash.now).bytes c.pages.device c.take_page.new.device c.bytes_from-bytes.result.now c.pages.at (c.pages.at + length c.bytes_from-bytes.result.now) c.take_page.result refl
           (from_limited known extent c.pages.at c.bytes_from-bytes.result.now c.requires.limit from) f from.told t c.in-Goes.is;
       kept = are;
-      attached = c.in-Ok.ensures.attached ∙ c.pages.invariant.attached;
-      extent = c.in-Ok.ensures.extent ∙ c.pages.invariant.extent;
-      same = c.in-Ok.ensures.same ∙ c.pages.invariant.same;
-      faults = let a = c.in-Ok.ensures.faults in let b = c.pages.invariant.faults in omega (arith, a, b);
-      absences = c.in-Ok.ensures.absences ∙ c.pages.invariant.absences;
+      flash = only_on _ _ _ c.pages.invariant.flash c.in-Ok.ensures.flash;
       size = c.pages.invariant.size;
     }
 
 pub returns-in-Ends-clause-tried : goal.returns-in-Ends-clause-tried
 returns-in-Ends-clause-tried g c =
     let f = c.pages.invariant.feeds in
-    let known = g.F.Flash.bytes c.args.flash.now in
-    let extent = g.F.Flash.extent c.args.flash.now in
+    let known = (g.F.Flash.state c.args.flash.now).bytes in
+    let extent = (g.F.Flash.state c.args.flash.now).extent in
     let below : c.pages.at < extent = omega (arith, c.if-at-size.false, c.pages.invariant.size) in
-    let are = pages_of known (g.F.Flash.bytes c.pages.flash) extent (g.F.Flash.extent c.pages.flash) c.load.new.self.pages.entries c.pages.invariant.same c.pages.invariant.extent c.load.ensures.pages in
-    let read = block_read known (g.F.Flash.bytes c.pages.flash) extent (g.F.Flash.extent c.pages.flash) (c.pages.at / page_size) c.in-Ok.count c.load.new.self.block.items c.pages.invariant.same c.pages.invariant.extent c.in-Ok.ensures.read in
+    let are = pages_of known (g.F.Flash.state c.pages.flash).bytes extent (g.F.Flash.state c.pages.flash).extent c.load.new.self.pages.entries c.pages.invariant.flash.bytes c.pages.invariant.flash.extent c.load.ensures.pages in
+    let read = block_read known (g.F.Flash.state c.pages.flash).bytes extent (g.F.Flash.state c.pages.flash).extent (c.pages.at / page_size) c.in-Ok.count c.load.new.self.block.items c.pages.invariant.flash.bytes c.pages.invariant.flash.extent c.in-Ok.ensures.read in
     let from = c.bytes_from-bytes.ensures known extent below are read in
     let t = c.take_page.ensures c.args.device.now.part c.args.keep f.bytes f.stands f.going f.open_end in
-    known_ended c.args.device.now.part c.args.keep c.args.address (g.F.Flash.bytes c.args.flash.now) c.pages.device c.take_page.new.device c.bytes_from-bytes.result.now c.pages.at c.take_page.result c.in-Ends.ending f from.told t c.in-Ends.is
+    known_ended c.args.device.now.part c.args.keep c.args.address (g.F.Flash.state c.args.flash.now).bytes c.pages.device c.take_page.new.device c.bytes_from-bytes.result.now c.pages.at c.take_page.result c.in-Ends.ending f from.told t c.in-Ends.is
 
 pub run_out-requires-in-Stops : goal.run_out-requires-in-Stops
 run_out-requires-in-Stops g c =
@@ -67,29 +61,29 @@ run_out-requires-in-Stops g c =
 pub returns-in-Stops-clause-tried : goal.returns-in-Stops-clause-tried
 returns-in-Stops-clause-tried g c =
     let f = c.pages.invariant.feeds in
-    let known = g.F.Flash.bytes c.args.flash.now in
-    let extent = g.F.Flash.extent c.args.flash.now in
+    let known = (g.F.Flash.state c.args.flash.now).bytes in
+    let extent = (g.F.Flash.state c.args.flash.now).extent in
     let below : c.pages.at < extent = omega (arith, c.if-at-size.false, c.pages.invariant.size) in
-    let are = pages_of known (g.F.Flash.bytes c.pages.flash) extent (g.F.Flash.extent c.pages.flash) c.load.new.self.pages.entries c.pages.invariant.same c.pages.invariant.extent c.load.ensures.pages in
-    let read = block_read known (g.F.Flash.bytes c.pages.flash) extent (g.F.Flash.extent c.pages.flash) (c.pages.at / page_size) c.in-Ok.count c.load.new.self.block.items c.pages.invariant.same c.pages.invariant.extent c.in-Ok.ensures.read in
+    let are = pages_of known (g.F.Flash.state c.pages.flash).bytes extent (g.F.Flash.state c.pages.flash).extent c.load.new.self.pages.entries c.pages.invariant.flash.bytes c.pages.invariant.flash.extent c.load.ensures.pages in
+    let read = block_read known (g.F.Flash.state c.pages.flash).bytes extent (g.F.Flash.state c.pages.flash).extent (c.pages.at / page_size) c.in-Ok.count c.load.new.self.block.items c.pages.invariant.flash.bytes c.pages.invariant.flash.extent c.in-Ok.ensures.read in
     let from = c.bytes_from-bytes.ensures known extent below are read in
     let t = c.take_page.ensures c.args.device.now.part c.args.keep f.bytes f.stands f.going f.open_end in
-    known_stopped c.args.device.now.part c.args.keep c.args.address (g.F.Flash.bytes c.args.flash.now) c.pages.device c.take_page.new.device c.run_out-in-Stops.new.device c.bytes_from-bytes.result.now c.pages.at c.take_page.result c.run_out-in-Stops.result f from.told t c.in-Stops.is
+    known_stopped c.args.device.now.part c.args.keep c.args.address (g.F.Flash.state c.args.flash.now).bytes c.pages.device c.take_page.new.device c.run_out-in-Stops.new.device c.bytes_from-bytes.result.now c.pages.at c.take_page.result c.run_out-in-Stops.result f from.told t c.in-Stops.is
     (c.run_out-in-Stops.ensures.stands c.args.device.now.part c.args.keep _ t.stands) c.run_out-in-Stops.ensures.ending
 
 pub returns-then-at-size-clause-leaves : goal.returns-then-at-size-clause-leaves
 returns-then-at-size-clause-leaves g c =
     let f = c.pages.invariant.feeds in
-    leaves_out c.args.device.now.part c.args.keep c.args.address (g.F.Flash.bytes c.args.flash.now) c.pages.device c.run_out.new.device c.pages.at f (c.run_out.ensures.stands c.args.device.now.part c.args.keep f.bytes f.stands)
+    leaves_out c.args.device.now.part c.args.keep c.args.address (g.F.Flash.state c.args.flash.now).bytes c.pages.device c.run_out.new.device c.pages.at f (c.run_out.ensures.stands c.args.device.now.part c.args.keep f.bytes f.stands)
 
 pub returns-in-Ends-clause-leaves : goal.returns-in-Ends-clause-leaves
 returns-in-Ends-clause-leaves g c =
     let f = c.pages.invariant.feeds in
-    let known = g.F.Flash.bytes c.args.flash.now in
-    let extent = g.F.Flash.extent c.args.flash.now in
+    let known = (g.F.Flash.state c.args.flash.now).bytes in
+    let extent = (g.F.Flash.state c.args.flash.now).extent in
     let below : c.pages.at < extent = omega (arith, c.if-at-size.false, c.pages.invariant.size) in
-    let are = pages_of known (g.F.Flash.bytes c.pages.flash) extent (g.F.Flash.extent c.pages.flash) c.load.new.self.pages.entries c.pages.invariant.same c.pages.invariant.extent c.load.ensures.pages in
-    let read = block_read known (g.F.Flash.bytes c.pages.flash) extent (g.F.Flash.extent c.pages.flash) (c.pages.at / page_size) c.in-Ok.count c.load.new.self.block.items c.pages.invariant.same c.pages.invariant.extent c.in-Ok.ensures.read in
+    let are = pages_of known (g.F.Flash.state c.pages.flash).bytes extent (g.F.Flash.state c.pages.flash).extent c.load.new.self.pages.entries c.pages.invariant.flash.bytes c.pages.invariant.flash.extent c.load.ensures.pages in
+    let read = block_read known (g.F.Flash.state c.pages.flash).bytes extent (g.F.Flash.state c.pages.flash).extent (c.pages.at / page_size) c.in-Ok.count c.load.new.self.block.items c.pages.invariant.flash.bytes c.pages.invariant.flash.extent c.in-Ok.ensures.read in
     let from = c.bytes_from-bytes.ensures known extent below are read in
     let t = c.take_page.ensures c.args.device.now.part c.args.keep f.bytes f.stands f.going f.open_end in
     leaves_page c.args.device.now.part c.args.keep false c.args.address known c.pages.device c.take_page.new.device c.take_page.new.device c.bytes_from-bytes.result.now c.pages.at c.take_page.result f
@@ -98,11 +92,11 @@ returns-in-Ends-clause-leaves g c =
 pub returns-in-Stops-clause-leaves : goal.returns-in-Stops-clause-leaves
 returns-in-Stops-clause-leaves g c =
     let f = c.pages.invariant.feeds in
-    let known = g.F.Flash.bytes c.args.flash.now in
-    let extent = g.F.Flash.extent c.args.flash.now in
+    let known = (g.F.Flash.state c.args.flash.now).bytes in
+    let extent = (g.F.Flash.state c.args.flash.now).extent in
     let below : c.pages.at < extent = omega (arith, c.if-at-size.false, c.pages.invariant.size) in
-    let are = pages_of known (g.F.Flash.bytes c.pages.flash) extent (g.F.Flash.extent c.pages.flash) c.load.new.self.pages.entries c.pages.invariant.same c.pages.invariant.extent c.load.ensures.pages in
-    let read = block_read known (g.F.Flash.bytes c.pages.flash) extent (g.F.Flash.extent c.pages.flash) (c.pages.at / page_size) c.in-Ok.count c.load.new.self.block.items c.pages.invariant.same c.pages.invariant.extent c.in-Ok.ensures.read in
+    let are = pages_of known (g.F.Flash.state c.pages.flash).bytes extent (g.F.Flash.state c.pages.flash).extent c.load.new.self.pages.entries c.pages.invariant.flash.bytes c.pages.invariant.flash.extent c.load.ensures.pages in
+    let read = block_read known (g.F.Flash.state c.pages.flash).bytes extent (g.F.Flash.state c.pages.flash).extent (c.pages.at / page_size) c.in-Ok.count c.load.new.self.block.items c.pages.invariant.flash.bytes c.pages.invariant.flash.extent c.in-Ok.ensures.read in
     let from = c.bytes_from-bytes.ensures known extent below are read in
     let t = c.take_page.ensures c.args.device.now.part c.args.keep f.bytes f.stands f.going f.open_end in
     leaves_page c.args.device.now.part c.args.keep true c.args.address known c.pages.device c.take_page.new.device c.run_out-in-Stops.new.device c.bytes_from-bytes.result.now c.pages.at c.take_page.result f
@@ -114,26 +108,26 @@ returns-then-at-size-clause-pages g c = c.pages.invariant.kept
 
 pub load-requires-clause-pages : goal.load-requires-clause-pages
 load-requires-clause-pages g c =
-    pages_of (g.F.Flash.bytes c.pages.flash) (g.F.Flash.bytes c.args.flash.now) (g.F.Flash.extent c.pages.flash) (g.F.Flash.extent c.args.flash.now) c.pages.pages.pages.entries (sym c.pages.invariant.same) (sym c.pages.invariant.extent) c.pages.invariant.kept
+    pages_of (g.F.Flash.state c.pages.flash).bytes (g.F.Flash.state c.args.flash.now).bytes (g.F.Flash.state c.pages.flash).extent (g.F.Flash.state c.args.flash.now).extent c.pages.pages.pages.entries (sym c.pages.invariant.flash.bytes) (sym c.pages.invariant.flash.extent) c.pages.invariant.kept
 
 pub take_page-requires : goal.take_page-requires
 take_page-requires g c =
-    let known = g.F.Flash.bytes c.args.flash.now in
-    let extent = g.F.Flash.extent c.args.flash.now in
+    let known = (g.F.Flash.state c.args.flash.now).bytes in
+    let extent = (g.F.Flash.state c.args.flash.now).extent in
     let below : c.pages.at < extent = omega (arith, c.if-at-size.false, c.pages.invariant.size) in
-    let are = pages_of known (g.F.Flash.bytes c.pages.flash) extent (g.F.Flash.extent c.pages.flash) c.load.new.self.pages.entries c.pages.invariant.same c.pages.invariant.extent c.load.ensures.pages in
-    let read = block_read known (g.F.Flash.bytes c.pages.flash) extent (g.F.Flash.extent c.pages.flash) (c.pages.at / page_size) c.in-Ok.count c.load.new.self.block.items c.pages.invariant.same c.pages.invariant.extent c.in-Ok.ensures.read in
+    let are = pages_of known (g.F.Flash.state c.pages.flash).bytes extent (g.F.Flash.state c.pages.flash).extent c.load.new.self.pages.entries c.pages.invariant.flash.bytes c.pages.invariant.flash.extent c.load.ensures.pages in
+    let read = block_read known (g.F.Flash.state c.pages.flash).bytes extent (g.F.Flash.state c.pages.flash).extent (c.pages.at / page_size) c.in-Ok.count c.load.new.self.block.items c.pages.invariant.flash.bytes c.pages.invariant.flash.extent c.in-Ok.ensures.read in
     let from = c.bytes_from-bytes.ensures known extent below are read in
     feeds_ready c.args.device.now.part c.args.keep c.args.address known c.pages.device c.pages.at (length c.bytes_from-bytes.result.now)
     (let limit = from_limited known extent c.pages.at c.bytes_from-bytes.result.now c.requires.limit from in omega (arith, limit)) c.pages.invariant.feeds
 
 pub pages-smaller : goal.pages-smaller
 pages-smaller g c =
-    let known = g.F.Flash.bytes c.args.flash.now in
-    let extent = g.F.Flash.extent c.args.flash.now in
+    let known = (g.F.Flash.state c.args.flash.now).bytes in
+    let extent = (g.F.Flash.state c.args.flash.now).extent in
     let below : c.pages.at < extent = omega (arith, c.if-at-size.false, c.pages.invariant.size) in
-    let are = pages_of known (g.F.Flash.bytes c.pages.flash) extent (g.F.Flash.extent c.pages.flash) c.load.new.self.pages.entries c.pages.invariant.same c.pages.invariant.extent c.load.ensures.pages in
-    let read = block_read known (g.F.Flash.bytes c.pages.flash) extent (g.F.Flash.extent c.pages.flash) (c.pages.at / page_size) c.in-Ok.count c.load.new.self.block.items c.pages.invariant.same c.pages.invariant.extent c.in-Ok.ensures.read in
+    let are = pages_of known (g.F.Flash.state c.pages.flash).bytes extent (g.F.Flash.state c.pages.flash).extent c.load.new.self.pages.entries c.pages.invariant.flash.bytes c.pages.invariant.flash.extent c.load.ensures.pages in
+    let read = block_read known (g.F.Flash.state c.pages.flash).bytes extent (g.F.Flash.state c.pages.flash).extent (c.pages.at / page_size) c.in-Ok.count c.load.new.self.block.items c.pages.invariant.flash.bytes c.pages.invariant.flash.extent c.in-Ok.ensures.read in
     let from = c.bytes_from-bytes.ensures known extent below are read in
     let some = from.some in
     omega (arith, some, c.if-at-size.false)

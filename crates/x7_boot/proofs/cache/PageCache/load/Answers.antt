@@ -8,7 +8,7 @@ use Rattle.x7_boot.proofs.cache.PageCache.load.Goals as goal
 pub returns-then-promote-clause-pages : goal.returns-then-promote-clause-pages
 returns-then-promote-clause-pages g c =
     let f = g.F.Flash in
-    pages_on_promote (f.bytes c.args.flash.now) (f.extent c.args.flash.now) (nat_eq c.args.number) c.args.self.now.pages c.promote.new.self c.promote.ensures.entries c.requires.pages
+    pages_on_promote (f.state c.args.flash.now).bytes (f.state c.args.flash.now).extent (nat_eq c.args.number) c.args.self.now.pages c.promote.new.self c.promote.ensures.entries c.requires.pages
 
 pub returns-then-promote-clause-there : goal.returns-then-promote-clause-there
 returns-then-promote-clause-there g c =
@@ -18,16 +18,16 @@ returns-then-promote-clause-there g c =
 pub returns-in-Err-clause-pages : goal.returns-in-Err-clause-pages
 returns-in-Err-clause-pages g c =
     let f = g.F.Flash in
-    pages_on_promote (f.bytes c.args.flash.now) (f.extent c.args.flash.now) (nat_eq c.args.number) c.args.self.now.pages c.promote.new.self c.promote.ensures.entries c.requires.pages
+    pages_on_promote (f.state c.args.flash.now).bytes (f.state c.args.flash.now).extent (nat_eq c.args.number) c.args.self.now.pages c.promote.new.self c.promote.ensures.entries c.requires.pages
 
 pub returns-in-Ok-keep_block-clause-pages : goal.returns-in-Ok-keep_block-clause-pages
 returns-in-Ok-keep_block-clause-pages g c =
     let f = g.F.Flash in
-    c.keep_block.ensures.pages (f.bytes c.args.flash.now) (f.extent c.args.flash.now) c.in-Ok.ensures.read
-    (pages_on_promote (f.bytes c.args.flash.now) (f.extent c.args.flash.now) (nat_eq c.args.number) c.args.self.now.pages c.promote.new.self c.promote.ensures.entries c.requires.pages)
+    c.keep_block.ensures.pages (f.state c.args.flash.now).bytes (f.state c.args.flash.now).extent c.in-Ok.ensures.read
+    (pages_on_promote (f.state c.args.flash.now).bytes (f.state c.args.flash.now).extent (nat_eq c.args.number) c.args.self.now.pages c.promote.new.self c.promote.ensures.entries c.requires.pages)
 
 pub returns-in-Err-keep_block-clause-pages : goal.returns-in-Err-keep_block-clause-pages
 returns-in-Err-keep_block-clause-pages g c =
     let f = g.F.Flash in
-    c.keep_block.ensures.pages (f.bytes c.args.flash.now) (f.extent c.args.flash.now) c.in-Ok.ensures.read
-    (pages_on_promote (f.bytes c.args.flash.now) (f.extent c.args.flash.now) (nat_eq c.args.number) c.args.self.now.pages c.promote.new.self c.promote.ensures.entries c.requires.pages)
+    c.keep_block.ensures.pages (f.state c.args.flash.now).bytes (f.state c.args.flash.now).extent c.in-Ok.ensures.read
+    (pages_on_promote (f.state c.args.flash.now).bytes (f.state c.args.flash.now).extent (nat_eq c.args.number) c.args.self.now.pages c.promote.new.self c.promote.ensures.entries c.requires.pages)
