@@ -4,7 +4,7 @@ ghost use Rattle.x7_startup.specs.Arrivals.{wait_of};
 ghost use Rattle.x7_startup.specs.Runs.{Runs};
 
 /// A phase of at most 7, and the ticks since startup began, at most 65,535.
-#[derive(Clone, Copy, Debug, PartialEq, Eq)]
+#[derive(Clone, Copy)]
 pub struct Place {
     pub ticks: u16,
     pub phase: u8,
