@@ -1,6 +1,6 @@
 -- The text of a plan is read back as the plan.
-use Rattle.std.proofs.Common.{◌≡◌, ◌⊎◌, inl, inr, ℕ, ◌+◌, ◌*◌, ◌/◌, ◌%◌, ◌^◌, ◌<◌, Bool, true, false, List, [], ◌∷◌, ◌++◌, length, map, refl, sym, subst, ap, ap₂, ◌∙◌, arith, append_assoc, codes}
-use Rattle.std.specs.Prelude.{All, Result, Ok, Err, Some, MatchResult, if◌then◌else◌, ◌==◌}
+use Rattle.std.proofs.Common.{◌≡◌, ◌⊎◌, inl, inr, ℕ, ◌*◌, ◌/◌, ◌%◌, ◌^◌, ◌<◌, Bool, true, false, List, [], ◌∷◌, ◌++◌, length, map, refl, sym, subst, ap, ap₂, ◌∙◌, arith, append_assoc, codes}
+use Rattle.std.specs.Prelude.{All, Result, Ok, Err, MatchResult, if◌then◌else◌, ◌==◌}
 use Rattle.std.specs.List.{flat_map, AllByRecursion}
 use Rattle.std.proofs.lemmas.Grind.{common_steps}
 use Rattle.std.proofs.lemmas.List.Elements.{All-head, All-tail}
@@ -13,8 +13,8 @@ use Rattle.x7_text.proofs.CaseLemmas.{pairs-back}
 use Rattle.x7_text.proofs.SplitLemmas.{split-ended}
 use Rattle.x7_text.proofs.ValueLemmas.{word-digits, word-bytes}
 use Rattle.x7_part.specs.Part.{PartData, frame_words}
-use Rattle.x7_memory.specs.Planned.{PlanRow, PlanData, IsPlanRow, AreApart, AreInOrder}
-use Rattle.x7_frames.specs.FramesText.{frame_head, frame_line, plan_text, AreLines, no_line, no_frame, frame, FitsPart, IsFrameLine, IsPlanOf, Plans}
+use Rattle.x7_memory.specs.Planned.{PlanRow, PlanData, IsPlanFor, IsPlanRow, AreApart, AreInOrder}
+use Rattle.x7_frames.specs.FramesText.{frame_head, frame_line, plan_text, AreLines, no_line, no_frame, frame, IsFrameLine, IsPlanOf, Plans}
 use Rattle.x7_frames.specs.declared.fault.FramesFault.{FramesFault}
 use Rattle.x7_frames.specs.declared.fault.FramesFault.TheVariants as fault
 use Rattle.x7_frames.proofs.OneLemmas.{no-fault, one-plan}
@@ -115,22 +115,22 @@ in-order-apart rows order i j d lt h e = let low = order i j d lt h in absurd (o
 
 -- ---- the plan again
 
-pub back : (part : PartData) (plan : PlanData) → FitsPart part plan → Plans part (plan_text plan) plan
+pub back : (part : PartData) (plan : PlanData) → IsPlanFor part plan → Plans part (plan_text plan) plan
 back part plan fits = record {
   rows = plan.rows;
   good = record {
-    read = subst (λ t. AreLines (frame_words part) t plan.rows) (sym (lines-of plan.rows)) (are-lines (frame_words part) plan.rows fits.is.each (subst (λ (w : ℕ). All (λ r. length r.words ≡ w) plan.rows) fits.width fits.is.width));
-    addresses = fits.addresses;
-    apart = in-order-apart plan.rows fits.is.order;
+    read = subst (λ t. AreLines (frame_words part) t plan.rows) (sym (lines-of plan.rows)) (are-lines (frame_words part) plan.rows fits.is_plan.each (subst (λ (w : ℕ). All (λ r. length r.words ≡ w) plan.rows) fits.width fits.is_plan.width));
+    addresses = fits.addressed;
+    apart = in-order-apart plan.rows fits.is_plan.order;
   };
   same = IsPermutation-refl plan.rows;
-  is = fits.is;
+  is = fits.is_plan;
   width = fits.width;
 }
 
 -- what reading such a text came to
 pub read-back : {P : Type 0} (value : P → PlanData) (part : PartData) (text : List ℕ) (r : Result P FramesFault) → MatchResult r (λ p. Plans part text (value p)) (λ f. (f ≡ fault.NoMemory) ⊎ IsPlanOf part text (Err f))
-    → (plan : PlanData) → FitsPart part plan → text ≡ plan_text plan → MatchResult r (λ p. value p ≡ plan) (λ f. f ≡ fault.NoMemory)
+    → (plan : PlanData) → IsPlanFor part plan → text ≡ plan_text plan → MatchResult r (λ p. value p ≡ plan) (λ f. f ≡ fault.NoMemory)
 read-back value part text (Ok p) h plan fits e = one-plan part text (value p) plan h (subst (λ t. Plans part t plan) (sym e) (back part plan fits))
 read-back value part text (Err f) (inl h) plan fits e = h
 read-back value part text (Err f) (inr h) plan fits e = absurd (no-fault part text plan f (subst (λ t. Plans part t plan) (sym e) (back part plan fits)) h)

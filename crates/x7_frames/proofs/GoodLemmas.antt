@@ -1,16 +1,16 @@
 -- Good lines, one more, and the line at fault.
-use Rattle.std.proofs.Common.{◌≡◌, ◌⊎◌, inl, inr, ℕ, zero, suc, ◌+◌, ◌-◌, ◌<◌, ◌≤◌, Bool, true, false, List, [], ◌∷◌, ◌++◌, length, map, get_or, set, refl, sym, subst, ap, ◌∙◌, arith, append_assoc, length-append}
-use Rattle.std.specs.Prelude.{All, Contains, IsPermutation, Result, Ok, Err, ◌↔◌, slice_index, MatchOption, Option, Some, None}
+use Rattle.std.proofs.Common.{◌≡◌, inl, inr, ℕ, zero, suc, ◌+◌, ◌<◌, ◌≤◌, Bool, true, false, List, [], ◌∷◌, ◌++◌, length, get_or, set, refl, sym, subst, ap, ◌∙◌, arith, append_assoc}
+use Rattle.std.specs.Prelude.{Contains, Err, ◌↔◌, slice_index, MatchOption, Option, Some, None}
 use Rattle.std.proofs.Common.{Bor}
 use Rattle.std.proofs.lemmas.Bool.{cases_order}
-use Rattle.std.proofs.lemmas.List.{get_or_append_left, get_or_push, get_or-map, length-map, length_push, map_push, get_or-set_same, get_or-set_other, length-set, get_or-replicate, length-replicate}
+use Rattle.std.proofs.lemmas.List.{get_or_append_left, get_or_push, get_or-map, length-map, length_push, map_push, get_or-set_same, get_or-set_other, length-set}
 use Rattle.std.proofs.lemmas.List.Elements.{All-push, All-nil, Contains-push, Contains-push_cases, Contains-append_left}
 use Rattle.x7_text.specs.Lines.{split}
 use Rattle.x7_part.specs.AddressOrder.{addresses_in, Rises, risen, rise}
 use Rattle.x7_part.specs.Part.{PartData, frame_words}
-use Rattle.x7_memory.specs.Planned.{PlanRow, PlanData, IsPlan, AreApart, planned_addresses}
-use Rattle.x7_frames.specs.FramesText.{means_nothing, AreGood, AreLines, no_line, no_frame, frame, IsFrameLine, IsNoLine, IsForeign, IsRepeated, IsPlanOf, Plans, Reaches}
-use Rattle.x7_frames.specs.Steps.{Goes, HasMarks, IsAdded, IsFaultAt, Takes}
+use Rattle.x7_memory.specs.Planned.{PlanRow, AreApart, planned_addresses}
+use Rattle.x7_frames.specs.FramesText.{means_nothing, AreGood, AreLines, no_line, no_frame, frame, IsFrameLine, IsPlanOf, Reaches}
+use Rattle.x7_frames.specs.Steps.{Goes, HasMarks, IsFaultAt, Takes}
 use Rattle.x7_frames.specs.declared.fault.FramesFault.{FramesFault}
 use Rattle.x7_frames.specs.declared.fault.FramesFault.TheVariants as fault
 

@@ -1,12 +1,12 @@
 -- The line of a frame, and what is none.
-use Rattle.std.proofs.Common.{◌≡◌, ℕ, ◌+◌, ◌*◌, ◌/◌, ◌%◌, ◌^◌, ◌<◌, ◌≤◌, Bool, true, false, List, [], ◌∷◌, ◌++◌, length, Option, Some, None, MatchBool, refl, sym, subst, ap, ◌∙◌, arith, codes}
+use Rattle.std.proofs.Common.{◌≡◌, ℕ, ◌*◌, ◌^◌, ◌<◌, Bool, true, false, List, ◌++◌, length, Some, None, MatchBool, sym, subst, ap, ◌∙◌}
 use Rattle.std.proofs.lemmas.Option.{none-some}
-use Rattle.x7_words.proofs.ListLemmas.{same_end, same_front}
+use Rattle.x7_words.proofs.ListLemmas.{same_end}
 use Rattle.x7_words.proofs.WordLemmas.{length-words_of_bytes}
 use Rattle.x7_words.specs.Word.{words_of_bytes}
 use Rattle.x7_text.specs.EitherCase.{pairs}
 use Rattle.x7_memory.specs.Planned.{PlanRow}
-use Rattle.x7_frames.specs.FramesText.{frame_head, means_nothing, IsFrameLine}
+use Rattle.x7_frames.specs.FramesText.{frame_head, IsFrameLine}
 use Rattle.x7_frames.proofs.DigitLemmas.{pairs-long}
 
 -- how many digits a frame's line has

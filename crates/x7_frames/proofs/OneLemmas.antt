@@ -1,9 +1,9 @@
 -- A text comes to one thing: its lines have one list of rows, and a line at fault is no good line.
-use Rattle.std.proofs.Common.{◌≡◌, ◌⊎◌, inl, inr, ℕ, zero, suc, ◌+◌, ◌*◌, ◌^◌, ◌<◌, ◌≤◌, Bool, true, false, List, [], ◌∷◌, ◌++◌, length, map, get_or, take, drop, refl, sym, subst, ap, ap₂, ◌∙◌, arith}
-use Rattle.std.specs.Prelude.{All, Contains, IsPermutation, Result, Ok, Err, Some}
-use Rattle.std.proofs.lemmas.Bool.{false≢true, cases_order}
+use Rattle.std.proofs.Common.{◌≡◌, ◌⊎◌, inl, inr, ℕ, zero, suc, ◌<◌, ◌≤◌, true, List, [], ◌∷◌, ◌++◌, length, get_or, take, drop, refl, sym, subst, ap, ap₂, ◌∙◌, arith}
+use Rattle.std.specs.Prelude.{All, Contains, IsPermutation, Err}
+use Rattle.std.proofs.lemmas.Bool.{false≢true}
 use Rattle.std.proofs.lemmas.Option.{same_Some}
-use Rattle.std.proofs.lemmas.List.{get_or-map, length-map, get_or_at, get_or_append_left, get_or_default}
+use Rattle.std.proofs.lemmas.List.{get_or-map, length-map, get_or_at, get_or_append_left}
 use Rattle.std.proofs.lemmas.List.Elements.{All-contains, All-contains_itself, Contains-append_right}
 use Rattle.std.proofs.lemmas.List.Sorted.{All-permutation, IsPermutation-sym, IsPermutation-trans}
 use Rattle.x7_words.proofs.ListLemmas.{same_front}
@@ -14,8 +14,8 @@ use Rattle.x7_text.specs.Lines.{split}
 use Rattle.x7_text.proofs.ValueLemmas.{word-back}
 use Rattle.x7_part.specs.AddressOrder.{addresses_in}
 use Rattle.x7_part.specs.Part.{PartData, frame_words}
-use Rattle.x7_memory.specs.Planned.{PlanRow, PlanData, AreApart, AreInOrder, planned_addresses}
-use Rattle.x7_frames.specs.FramesText.{frame_head, means_nothing, AreGood, AreLines, no_line, no_frame, frame, IsFrameLine, IsNoLine, IsForeign, IsRepeated, IsPlanOf, Plans, Reaches}
+use Rattle.x7_memory.specs.Planned.{PlanRow, PlanData, AreApart, AreInOrder}
+use Rattle.x7_frames.specs.FramesText.{frame_head, means_nothing, AreGood, AreLines, no_line, no_frame, frame, IsFrameLine, IsNoLine, IsForeign, IsRepeated, IsPlanOf, Plans}
 use Rattle.x7_frames.specs.declared.fault.FramesFault.{FramesFault}
 use Rattle.x7_frames.specs.declared.fault.FramesFault.TheVariants as fault
 

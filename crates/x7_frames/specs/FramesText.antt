@@ -1,5 +1,5 @@
 -- Frame texts: a line for each planned frame (this project's choice).
-use Rattle.std.specs.Prelude.{◌≡◌, ℕ, ◌+◌, ◌*◌, ◌^◌, ◌<◌, ◌==◌, Bool, true, false, List, [], ◌∷◌, ◌++◌, length, codes, All, Contains, IsPermutation, Some, Result, Ok, Err}
+use Rattle.std.specs.Prelude.{◌≡◌, ℕ, ◌+◌, ◌*◌, ◌^◌, ◌<◌, ◌==◌, Bool, true, false, List, [], ◌∷◌, ◌++◌, length, codes, Contains, IsPermutation, Some, Result, Ok, Err}
 use Rattle.std.specs.List.{flat_map}
 use Rattle.x7_words.specs.Word.{words_of_bytes}
 use Rattle.x7_text.specs.Digits.{hex_word}
@@ -7,7 +7,7 @@ use Rattle.x7_text.specs.EitherCase.{pairs}
 use Rattle.x7_text.specs.Lines.{split}
 use Rattle.x7_part.specs.AddressOrder.{addresses_in}
 use Rattle.x7_part.specs.Part.{PartData, frame_words}
-use Rattle.x7_memory.specs.Planned.{PlanRow, PlanData, IsPlan, AreApart, planned_addresses}
+use Rattle.x7_memory.specs.Planned.{PlanRow, PlanData, IsPlan, AreAddressed, AreApart, planned_addresses}
 use Rattle.x7_frames.specs.declared.fault.FramesFault.{FramesFault}
 use Rattle.x7_frames.specs.declared.fault.FramesFault.TheVariants as fault
 
@@ -41,7 +41,7 @@ pub data AreLines : ℕ → List (List ℕ) → List PlanRow → Type 0 where
 -- good lines: their frames are the part's, and no two have one address
 pub record AreGood (part : PartData) (lines : List (List ℕ)) (rows : List PlanRow) : Type 0 where
   pub read : AreLines (frame_words part) lines rows
-  pub addresses : All (λ row. Contains (addresses_in part) row.far) rows
+  pub addresses : AreAddressed part rows
   pub apart : AreApart rows
 
 -- all lines are good, and the plan has their frames, in number order of the addresses
@@ -91,9 +91,3 @@ frame_line row = frame_head row.far ++ (flat_map hex_word row.words ++ 10 ∷ []
 -- the text of a plan, in number order of the addresses
 abbrev pub plan_text : PlanData → List ℕ
 plan_text plan = flat_map frame_line plan.rows
-
--- a plan for the part: frames of its width, at its addresses
-pub record FitsPart (part : PartData) (plan : PlanData) : Type 0 where
-  pub is : IsPlan plan
-  pub width : plan.width ≡ frame_words part
-  pub addresses : All (λ row. Contains (addresses_in part) row.far) plan.rows

@@ -1,8 +1,8 @@
 //! Laws of frame texts. The functions do nothing: their contracts are the laws.
 ghost use Rattle.std.specs.Prelude.{◌≡◌, ℕ, List, Ok, Err};
 ghost use Rattle.x7_part.specs.Part.{PartData};
-ghost use Rattle.x7_memory.specs.Planned.{PlanData};
-ghost use Rattle.x7_frames.specs.FramesText.{IsPlanOf, FitsPart, plan_text};
+ghost use Rattle.x7_memory.specs.Planned.{IsPlanFor, PlanData};
+ghost use Rattle.x7_frames.specs.FramesText.{IsPlanOf, plan_text};
 ghost use Rattle.x7_frames.specs.declared.fault.FramesFault.{FramesFault};
 
 /// A text has at most one plan, and one that has a plan has no fault.
@@ -13,5 +13,5 @@ pub fn one_plan()
 
 /// The text of a plan for the part is that of the plan.
 pub fn plan_text_leads_back()
-    ensures { (part : PartData) (plan : PlanData) → FitsPart part plan → IsPlanOf part (plan_text plan) (Ok plan) }
+    ensures { (part : PartData) (plan : PlanData) → IsPlanFor part plan → IsPlanOf part (plan_text plan) (Ok plan) }
 {}

@@ -105,10 +105,9 @@ fn replace(words: &mut Vec<u32>, bytes: &[u8])
     words.clear();
     let (groups, _) = bytes.as_chunks::<4>();
     for group in groups {
-        match words.push(word_of(*group)) {
-            Ok(()) => (),
-            Err(_) => (),
-        }
+        let Ok(()) = words.push(word_of(*group)) else {
+            unreachable!()
+        };
     }
 }
 

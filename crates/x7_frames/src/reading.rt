@@ -1,8 +1,8 @@
 //! The plan of a text, line by line.
 ghost use Rattle.std.specs.Prelude.{◌≡◌, ◌+◌, ◌≤◌, ◌⊎◌, [], Ok, Err, IfOk, IfErr, OnOk, MatchResult, vec_capacity};
 ghost use Rattle.x7_part.specs.Part.{frame_words};
-ghost use Rattle.x7_memory.specs.Planned.{PlanData};
-ghost use Rattle.x7_frames.specs.FramesText.{IsPlanOf, FitsPart, plan_text};
+ghost use Rattle.x7_memory.specs.Planned.{IsPlanFor, PlanData};
+ghost use Rattle.x7_frames.specs.FramesText.{IsPlanOf, plan_text};
 ghost use Rattle.x7_frames.specs.Steps.{IsFaultAt, Takes, HasMarks};
 ghost use Rattle.x7_frames.specs.declared.fault.FramesFault.{FramesFault};
 
@@ -82,7 +82,7 @@ impl Reading {
 pub fn plan_of(alloc: Global, text: &[u8], part: &Part) -> Result<Plan, FramesFault>
     ensures plan { IfOk result (λ plan. IsPlanOf part.now text.now (Ok plan)) }
     ensures fault { IfErr result (λ fault. (fault ≡ FramesFault.NoMemory) ⊎ IsPlanOf part.now text.now (Err fault)) }
-    ensures back { (plan : PlanData) → FitsPart part.now plan → text.now ≡ plan_text plan
+    ensures back { (plan : PlanData) → IsPlanFor part.now plan → text.now ≡ plan_text plan
         → MatchResult result (λ read. read ≡ plan) (λ fault. fault ≡ FramesFault.NoMemory) }
 {
     read_text(alloc, text, part)

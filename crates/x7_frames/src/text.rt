@@ -43,7 +43,7 @@ pub fn plan_text(alloc: Global, plan: &Plan) -> Result<Vec<u8>, NoMemory>
     let mut text = Vec::new(alloc);
     for i in 0..plan.len() {
         let Some((far, words)) = plan.row(i) else {
-            return Ok(text);
+            unreachable!()
         };
         match put_line(&mut text, far, words) {
             Ok(()) => (),

@@ -1,7 +1,8 @@
 -- A plan: the frames that a user plans to write, in number order of their addresses.
-use Rattle.std.specs.Prelude.{◌≡◌, ℕ, ◌^◌, ◌<◌, List, [], ◌∷◌, ◌++◌, length, map, slice_index_or, All, Some, None, if◌then◌else◌, ◌==◌}
+use Rattle.std.specs.Prelude.{◌≡◌, ℕ, ◌^◌, ◌<◌, List, [], ◌∷◌, ◌++◌, length, map, slice_index_or, All, Contains, Some, None, if◌then◌else◌, ◌==◌}
 use Rattle.x7_words.specs.Word.{AreWords}
-use Rattle.x7_part.specs.Part.{PartData}
+use Rattle.x7_part.specs.AddressOrder.{addresses_in}
+use Rattle.x7_part.specs.Part.{PartData, frame_words}
 use Rattle.x7_memory.specs.FrameMap.{FrameMap, override}
 use Rattle.x7_memory.specs.Frames.{zeros}
 
@@ -47,6 +48,16 @@ pub record IsPlan (plan : PlanData) : Type 0 where
   pub order : AreInOrder plan.rows
   pub width : All (λ row. length row.words ≡ plan.width) plan.rows
   pub each : All IsPlanRow plan.rows
+
+-- all rows stand at addresses of the part
+abbrev pub AreAddressed : PartData → List PlanRow → Type 0
+AreAddressed part rows = All (λ row. Contains (addresses_in part) row.far) rows
+
+-- a plan for a part: its frames have the part's width, and stand at addresses of the part
+pub record IsPlanFor (part : PartData) (plan : PlanData) : Type 0 where
+  pub is_plan : IsPlan plan
+  pub width : plan.width ≡ frame_words part
+  pub addressed : AreAddressed part plan.rows
 
 -- new is old with one row more
 abbrev pub HasMore : PlanData → PlanRow → PlanData → Type 0

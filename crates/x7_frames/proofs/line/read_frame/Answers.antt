@@ -1,4 +1,4 @@
-use Rattle.std.proofs.Common.{◌*◌, refl, arith}
+use Rattle.std.proofs.Common.{◌*◌, refl}
 use Rattle.x7_frames.proofs.LineLemmas.{no-parts}
 use Rattle.x7_frames.proofs.line.read_frame.Goals as goal
 

@@ -1,6 +1,4 @@
-use Rattle.std.proofs.Common.{◌⊎◌, inl, inr, ◌∙◌, refl, sym, subst, arith}
-use Rattle.std.specs.Prelude.{Err}
-use Rattle.x7_frames.specs.FramesText.{IsPlanOf}
+use Rattle.std.proofs.Common.{inl, inr, ◌∙◌, sym, subst, arith}
 use Rattle.x7_frames.specs.Steps.{HasMarks}
 use Rattle.x7_frames.proofs.GoodLemmas.{starts, next, shorter, fault-there, all-good}
 use Rattle.x7_frames.proofs.reading.read_text.Goals as goal

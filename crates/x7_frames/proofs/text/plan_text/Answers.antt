@@ -1,4 +1,4 @@
-use Rattle.std.proofs.Common.{length, ◌<◌, ◌∙◌, arith}
+use Rattle.std.proofs.Common.{length, ◌<◌, arith}
 use Rattle.x7_frames.proofs.TextLemmas.{row-put}
 use Rattle.x7_frames.proofs.text.plan_text.Goals as goal
 

@@ -1,4 +1,4 @@
-use Rattle.std.proofs.Common.{ℕ, List, [], ◌∷◌, codes, ◌++◌, ap, ◌∙◌, refl}
+use Rattle.std.proofs.Common.{ℕ, List, [], ◌∷◌, codes, ◌++◌, ap, ◌∙◌}
 use Rattle.std.specs.List.{flat_map}
 use Rattle.x7_text.specs.Digits.{hex_word}
 use Rattle.x7_frames.proofs.TextLemmas.{line-put}
