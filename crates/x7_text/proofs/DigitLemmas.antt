@@ -74,9 +74,6 @@ pairs-digits [] = refl
 pairs-digits (a ∷ []) = refl
 pairs-digits (a ∷ b ∷ cs) = ap (λ t. (digit_value a * 16 + digit_value b) % 256 ∷ t) (pairs-digits cs)
 
-pub all-fit : (bs : List ℕ) → ((i : ℕ) → get_or bs i 0 < 256) → Each1 (λ b. b < 256) bs
-all-fit bs h = Each1-from_get_or (λ b. b < 256) bs 0 (λ i l. h i)
-
 pub refuted : (b : Bool) → b ≡ false → IsTrue b → ⊥
 refuted true e h = absurd cc
 refuted false e h = cc

@@ -39,11 +39,6 @@ line_done text bs digits words k n long full fit same split of_eight at_end eigh
     (take_all k words (omega arith) ∙ split ∙ ap (λ (j : ℕ). first_chunks 8 j digits) of_eight ∙ ap (first_chunks 8 8) same ∙ hex_words 8 bs full fit)
     ∙ ap (λ t. codes "data" ++ t) (flat_map-map (λ (w : List ℕ). 32 ∷ w) hex_word (words_of_bytes bs)))
 
-pub length-chunk_at : (n k : ℕ) (xs : List ℕ) → 8 * n ≤ length xs → k < n → length (get_or (first_chunks 8 n xs) k []) ≡ 8
-length-chunk_at zero k xs h less = absurd (omega arith)
-length-chunk_at (suc n) zero xs h less = length-take-le 8 xs (omega arith)
-length-chunk_at (suc n) (suc k) xs h less = length-chunk_at n k (drop 8 xs) (omega (arith, length-drop 8 xs)) (omega arith)
-
 -- elements that fill an open line
 pub in_line_after-full : (n i : ℕ) (xs : List ℕ) → i < n → i + length xs ≡ n → in_line_after n i xs ≡ 0
 in_line_after-full n i [] less e = absurd (omega (arith, e))

@@ -1,24 +1,12 @@
 //! Digits of words, bytes and counts.
-ghost use Rattle.std.specs.Prelude.{◌≡◌, ◌≤◌, ◌+◌, ◌%◌, ◌++◌, vec_len, vec_capacity, decimal};
+ghost use Rattle.std.specs.Prelude.{◌≡◌, ◌≤◌, ◌+◌, vec_len, vec_capacity, decimal};
 ghost use Rattle.x7_text.specs.Appends.{Appends};
-ghost use Rattle.x7_text.specs.Digits.{hex_digit, hex_byte, hex_word};
+ghost use Rattle.x7_text.specs.Digits.{hex_byte, hex_word};
 
 use crate::block::hex_of_four;
 use crate::room::put;
 use itoa::Buffer;
 use x7_words::bytes_of;
-
-/// The digit of the low four bits.
-fn hex_of_low_bits(n: u32) -> u8
-    ensures { result ≡ hex_digit (n % 16) }
-{
-    let digit = (n & 15) as u8;
-    if digit < 10 {
-        b'0' + digit
-    } else {
-        b'A' - 10 + digit
-    }
-}
 
 /// The eight upper-case digits of a word.
 #[inline(always)]

@@ -1,18 +1,34 @@
 //! Digits of either case, as other tools write them.
 ghost use Rattle.std.specs.Prelude.{◌≡◌};
-ghost use Rattle.x7_text.specs.EitherCase.{byte_of, digit_of};
+ghost use Rattle.x7_text.specs.EitherCase.{byte_of, digit_of, number_or_16_of};
 
-/// The number of a hexadecimal digit of either case.
+/// The number of each digit of either case, and 16 for what is no digit.
+#[rattlefmt::skip]
+static NUMBERS: [u8; 256] = [
+    16, 16, 16, 16, 16, 16, 16, 16, 16, 16, 16, 16, 16, 16, 16, 16,
+    16, 16, 16, 16, 16, 16, 16, 16, 16, 16, 16, 16, 16, 16, 16, 16,
+    16, 16, 16, 16, 16, 16, 16, 16, 16, 16, 16, 16, 16, 16, 16, 16,
+     0,  1,  2,  3,  4,  5,  6,  7,  8,  9, 16, 16, 16, 16, 16, 16, // 0 to 9
+    16, 10, 11, 12, 13, 14, 15, 16, 16, 16, 16, 16, 16, 16, 16, 16, // A to F
+    16, 16, 16, 16, 16, 16, 16, 16, 16, 16, 16, 16, 16, 16, 16, 16,
+    16, 10, 11, 12, 13, 14, 15, 16, 16, 16, 16, 16, 16, 16, 16, 16, // a to f
+    16, 16, 16, 16, 16, 16, 16, 16, 16, 16, 16, 16, 16, 16, 16, 16,
+    16, 16, 16, 16, 16, 16, 16, 16, 16, 16, 16, 16, 16, 16, 16, 16,
+    16, 16, 16, 16, 16, 16, 16, 16, 16, 16, 16, 16, 16, 16, 16, 16,
+    16, 16, 16, 16, 16, 16, 16, 16, 16, 16, 16, 16, 16, 16, 16, 16,
+    16, 16, 16, 16, 16, 16, 16, 16, 16, 16, 16, 16, 16, 16, 16, 16,
+    16, 16, 16, 16, 16, 16, 16, 16, 16, 16, 16, 16, 16, 16, 16, 16,
+    16, 16, 16, 16, 16, 16, 16, 16, 16, 16, 16, 16, 16, 16, 16, 16,
+    16, 16, 16, 16, 16, 16, 16, 16, 16, 16, 16, 16, 16, 16, 16, 16,
+    16, 16, 16, 16, 16, 16, 16, 16, 16, 16, 16, 16, 16, 16, 16, 16,
+];
+
+/// The number of a digit of either case, and 16 for what is no digit.
 #[inline(always)]
-pub fn number_of_digit(digit: u8) -> Option<u8>
-    ensures { result ≡ digit_of digit }
+fn number_or_16(digit: u8) -> u8
+    ensures { result ≡ number_or_16_of digit }
 {
-    match digit {
-        b'0'..=b'9' => Some(digit - b'0'),
-        b'A'..=b'F' => Some(digit - b'A' + 10),
-        b'a'..=b'f' => Some(digit - b'a' + 10),
-        _ => None,
-    }
+    NUMBERS[usize::from(digit)]
 }
 
 /// The byte of two hexadecimal digits of either case.
@@ -20,8 +36,9 @@ pub fn number_of_digit(digit: u8) -> Option<u8>
 pub fn byte_of_pair(high: u8, low: u8) -> Option<u8>
     ensures { result ≡ byte_of (digit_of high) (digit_of low) }
 {
-    match (number_of_digit(high), number_of_digit(low)) {
-        (Some(high), Some(low)) => Some(16 * high + low),
-        _ => None,
+    let (h, l) = (number_or_16(high), number_or_16(low));
+    if h > 15 || l > 15 {
+        return None;
     }
+    Some(16 * h + l)
 }

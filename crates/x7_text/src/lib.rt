@@ -14,7 +14,7 @@ mod window;
 
 pub use block::{data_line, hex_of_block};
 pub use digits::{hex_of_byte, hex_of_word, put_decimal};
-pub use either_case::{byte_of_pair, number_of_digit};
+pub use either_case::byte_of_pair;
 pub use law::{
     digits_lead_back, either_case_leads_back, lines_lead_back, rows_are_the_elements,
     told_in_parts, told_one_by_one, whole_rows,
