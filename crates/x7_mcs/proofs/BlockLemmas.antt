@@ -72,16 +72,6 @@ module _ (first now : Option (List ℕ)) (flash : List ℕ) (place : ℕ) (rest 
   pub block-failed : (next : Option (List ℕ)) → PutsFront now block next → PutsFront first (row_lines 0 (rows 16 flash)) next
   block-failed next p = rw lines (front_more first now next g.done block (row_lines (place + length bytes) (rows 16 more)) g.put p)
 
--- all rows are written
-pub all-put : (first now : Option (List ℕ)) (flash : List ℕ) (place : ℕ) (rest : List ℕ) → Goes first now flash place rest → length rest ≡ 0 → now ≡ appended first (row_lines 0 (rows 16 flash))
-all-put first now flash place rest g z = g.put ∙ ap (appended first) (sym (g.lines ∙ ap (λ t. g.done ++ t) (nothing place rest z) ∙ append-nil g.done))
-
-pub starts : (first : Option (List ℕ)) (flash : List ℕ) → Goes first first flash 0 flash
-starts first flash = record { done = []; put = sym (appended-none first); lines = refl }
-  where
-    appended-none : (told : Option (List ℕ)) → appended told [] ≡ told
-    appended-none told = appended-nil told
-
 -- ---- the whole text
 
 pub text-begun : (first new : Option (List ℕ)) (image flash : List ℕ) → image ≡ flash → PutsFront first (row_lines 0 (rows 16 flash)) new → PutsFront first (mcs_text image) new

@@ -1,16 +1,15 @@
 -- A text that is read line by line.
-use Rattle.std.proofs.Common.{◌≡◌, ℕ, ◌+◌, ◌%◌, ◌==◌, ◌<◌, ◌≤◌, Bool, true, false, if◌then◌else◌, List, [], ◌∷◌, ◌++◌, not, Option, None, Some, Result, Ok, Err, MatchOption, Bor, length, refl, ap, ap₂, sym, subst, ◌∙◌, arith, inl, inr, ◌⊎◌}
+use Rattle.std.proofs.Common.{◌≡◌, ℕ, ◌+◌, ◌%◌, ◌==◌, ◌<◌, ◌≤◌, Bool, true, false, if◌then◌else◌, List, [], ◌++◌, not, Option, None, Some, Result, Ok, Err, MatchOption, Bor, length, refl, ap, ap₂, sym, subst, ◌∙◌, arith, inl, inr, ◌⊎◌}
 use Rattle.std.proofs.lemmas.List.FromFn.{fill_by_all}
 use Rattle.std.proofs.lemmas.Nat.Bits.{bit_at-zero}
 use Rattle.x7_mcs.specs.Lines.{lines_of}
 use Rattle.x7_mcs.specs.Places.{DataRecord, byte_at, extent, image_of, with_record}
-use Rattle.x7_mcs.specs.Flash.{Reading, after_line, after_lines, and_then, flash_in, mcs_of, of_no_line, with_end, with_records}
+use Rattle.x7_mcs.specs.Flash.{Reading, after_lines, and_then, flash_in, mcs_of, of_no_line, with_end, with_records}
 use Rattle.x7_mcs.specs.Text.{data_line}
 use Rattle.x7_words.specs.Word.{AreBytes}
 use Rattle.x7_mcs.specs.State.{Fails, Goes, Holds, Took, at_base, is_marked}
 use Rattle.x7_mcs.specs.declared.fault.McsFault.{McsFault}
 use Rattle.x7_mcs.specs.declared.fault.McsFault.TheVariants as fault
-use Rattle.x7_mcs.proofs.LineLemmas.{NextLine, some-left}
 use Rattle.x7_mcs.proofs.ReadLemmas.{read-data}
 
 -- a step s leads from what is read to what follows
@@ -38,22 +37,6 @@ no-mark p = ap (λ (v : ℕ). v == 1) (bit_at-zero (p % 16))
 
 pub starts : (text : List ℕ) (bytes marks : List ℕ) → bytes ≡ [] → marks ≡ [] → Goes (after_lines 1 of_no_line (lines_of text)) text 1 0 false bytes marks
 starts text bytes marks e f = record { records = []; same = refl; holds = rw (e, f) (record { long = refl; at = λ p. refl; marked = λ p. no-mark p }) }
-
--- one more line of the text, and the text after it
-module _ (whole : Result Reading McsFault) (text line : List ℕ) (n base : ℕ) (ended : Bool) (bytes marks : List ℕ) (o : Option (Bor (List ℕ))) (l : NextLine text line o) (g : Goes whole text n base ended bytes marks) where
-  at-line : (left : List (List ℕ)) → lines_of text ≡ line ∷ left → whole ≡ and_then (after_line n (at_base base ended g.records) line) (λ r. after_lines (n + 1) r left)
-  at-line left e = g.same ∙ ap (after_lines n (at_base base ended g.records)) e
-
-  pub line-stops : (f : McsFault) → Fails (after_line n (at_base base ended g.records) line) f → Fails whole f
-  line-stops f h = let p = some-left text line o l in stops whole (after_line n (at_base base ended g.records) line) (n + 1) p.0 (at-line p.0 p.1) f h
-
-  pub line-goes-on : (base2 : ℕ) (ended2 : Bool) (bytes2 marks2 : List ℕ) → Took (after_line n (at_base base ended g.records) line) base2 ended2 bytes2 marks2
-      → MatchOption o (Took whole base2 ended2 bytes2 marks2) (λ rest. Goes whole rest.now (n + 1) base2 ended2 bytes2 marks2 × (length rest.now < length text))
-  line-goes-on base2 ended2 bytes2 marks2 t = by o l
-    where
-      by : (p : Option (Bor (List ℕ))) → NextLine text line p → MatchOption p (Took whole base2 ended2 bytes2 marks2) (λ rest. Goes whole rest.now (n + 1) base2 ended2 bytes2 marks2 × (length rest.now < length text))
-      by None h = comes-to whole (after_line n (at_base base ended g.records) line) (n + 1) [] (at-line [] h) base2 ended2 bytes2 marks2 refl t
-      by (Some x) h = (goes-on whole (after_line n (at_base base ended g.records) line) (n + 1) (lines_of x.now) (at-line (lines_of x.now) h.0) x.now base2 ended2 bytes2 marks2 refl t, h.1)
 
 image-held : (xs : List DataRecord) (bytes marks : List ℕ) → Holds xs bytes marks → bytes ≡ image_of xs
 image-held xs bytes marks h = fill_by_all (byte_at xs) bytes (extent xs) 255 h.long (λ k l. h.at k)

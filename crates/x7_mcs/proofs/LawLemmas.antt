@@ -5,12 +5,10 @@ use Rattle.std.proofs.lemmas.List.{take-append-le}
 use Rattle.std.proofs.lemmas.List.FromFn.{get_or-map-range_with_len, length-map-range_with_len}
 use Rattle.x7_text.specs.Row.{rows}
 use Rattle.x7_mcs.specs.Lines.{lines_of}
-use Rattle.x7_mcs.specs.Record.{address_of, count_of, data_of, got_of, meaning_by_type, meaning_of, pairs, type_of, value_of, wanted_of}
+use Rattle.x7_mcs.specs.Record.{Meaning, address_of, count_of, data_of, got_of, meaning_by_type, meaning_of, pairs, type_of, value_of, wanted_of}
 use Rattle.x7_mcs.specs.Places.{AreApart, DataRecord, byte_at, covered, covers, end_of, extent, image_of, overlap, unless_covered, with_record}
 use Rattle.x7_mcs.specs.Flash.{Reading, after_bytes, after_line, after_lines, after_meaning, and_then, flash_in, mcs_of, of_no_line, reading_of, with_end, with_records}
 use Rattle.x7_mcs.specs.Text.{block_start, data_line, row_lines}
-use Rattle.x7_mcs.specs.declared.record.Meaning.{Meaning}
-use Rattle.x7_mcs.specs.declared.record.Meaning.TheVariants as meaning
 use Rattle.x7_mcs.specs.declared.fault.McsFault.{McsFault}
 use Rattle.x7_mcs.specs.declared.fault.McsFault.TheVariants as fault
 use Rattle.x7_mcs.proofs.OutcomeLemmas.{none-is}
@@ -93,10 +91,10 @@ apart-records (Ok ys) r s e h = let same : record { base = r.base; ended = r.end
 
 apart-meaning : (m : Result Meaning McsFault) (n : ℕ) (r s : Reading) (bs : List ℕ) → after_meaning n r bs m ≡ Ok s → AreApart r.records → AreApart s.records
 apart-meaning (Err f) n r s bs e a = absurd cc
-apart-meaning (Ok meaning.Start) n r s bs e a = let same : r ≡ s = cc in subst (λ (v : Reading). AreApart v.records) same a
-apart-meaning (Ok meaning.End) n r s bs e a = let same : record { base = r.base; ended = true; records = r.records } ≡ s = cc in subst (λ (v : Reading). AreApart v.records) same a
-apart-meaning (Ok (meaning.Base base)) n r s bs e a = let same : record { base = base; ended = r.ended; records = r.records } ≡ s = cc in subst (λ (v : Reading). AreApart v.records) same a
-apart-meaning (Ok (meaning.Data address)) n r s bs e a = let x : DataRecord = record { place = r.base + address; bytes = data_of bs } in
+apart-meaning (Ok Meaning.Start) n r s bs e a = let same : r ≡ s = cc in subst (λ (v : Reading). AreApart v.records) same a
+apart-meaning (Ok Meaning.End) n r s bs e a = let same : record { base = r.base; ended = true; records = r.records } ≡ s = cc in subst (λ (v : Reading). AreApart v.records) same a
+apart-meaning (Ok (Meaning.Base base)) n r s bs e a = let same : record { base = base; ended = r.ended; records = r.records } ≡ s = cc in subst (λ (v : Reading). AreApart v.records) same a
+apart-meaning (Ok (Meaning.Data address)) n r s bs e a = let x : DataRecord = record { place = r.base + address; bytes = data_of bs } in
     apart-records (with_record n r.records x) r s e (λ ys f. apart-with (nat_lt (2 ^ 27) (end_of x)) n r.records ys x f a)
 
 apart-bytes : (o : Option (List ℕ)) (n : ℕ) (r s : Reading) → after_bytes n r o ≡ Ok s → AreApart r.records → AreApart s.records
@@ -189,11 +187,11 @@ told-line n e = absurd cc
 
 told-type : (n : ℕ) (bs : List ℕ) → Told (meaning_by_type n bs)
 told-type n bs =
-    told-if-ok (type_of bs == 0 && nat_le (address_of bs + count_of bs) 65536) (meaning.Data (address_of bs)) _
-    (told-if-ok (type_of bs == 1 && count_of bs == 0) meaning.End _
-    (told-if-ok (type_of bs == 2 && count_of bs == 2) (meaning.Base (16 * value_of bs)) _
-    (told-if-ok (type_of bs == 4 && count_of bs == 2) (meaning.Base (65536 * value_of bs)) _
-    (told-if-ok ((type_of bs == 3 || type_of bs == 5) && count_of bs == 4) meaning.Start (Err (fault.Line n)) (told-line n)))))
+    told-if-ok (type_of bs == 0 && nat_le (address_of bs + count_of bs) 65536) (Meaning.Data (address_of bs)) _
+    (told-if-ok (type_of bs == 1 && count_of bs == 0) Meaning.End _
+    (told-if-ok (type_of bs == 2 && count_of bs == 2) (Meaning.Base (16 * value_of bs)) _
+    (told-if-ok (type_of bs == 4 && count_of bs == 2) (Meaning.Base (65536 * value_of bs)) _
+    (told-if-ok ((type_of bs == 3 || type_of bs == 5) && count_of bs == 4) Meaning.Start (Err (fault.Line n)) (told-line n)))))
 
 told-meaning : (n : ℕ) (ended : Bool) (bs : List ℕ) → Told (meaning_of n ended bs)
 told-meaning n ended bs =
@@ -214,10 +212,10 @@ told-records r (Ok xs) h e = absurd cc
 
 told-after : (m : Result Meaning McsFault) (n : ℕ) (r : Reading) (bs : List ℕ) → Told m → Told (after_meaning n r bs m)
 told-after (Err f) n r bs h e = h (let s : Err f ≡ Err fault.NoMemory = cc in s)
-told-after (Ok meaning.Start) n r bs h e = absurd cc
-told-after (Ok meaning.End) n r bs h e = absurd cc
-told-after (Ok (meaning.Base base)) n r bs h e = absurd cc
-told-after (Ok (meaning.Data address)) n r bs h e =
+told-after (Ok Meaning.Start) n r bs h e = absurd cc
+told-after (Ok Meaning.End) n r bs h e = absurd cc
+told-after (Ok (Meaning.Base base)) n r bs h e = absurd cc
+told-after (Ok (Meaning.Data address)) n r bs h e =
     let x : DataRecord = record { place = r.base + address; bytes = data_of bs } in
     told-records r (with_record n r.records x) (told-large (nat_lt (2 ^ 27) (end_of x)) n (overlap r.records x.place (length x.bytes)) (x ∷ r.records)) e
 

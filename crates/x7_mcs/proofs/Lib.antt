@@ -1,5 +1,4 @@
 pub mod BackLemmas
-pub mod DigitLemmas
 pub mod GoesLemmas
 pub mod LawLemmas
 pub mod LineLemmas

@@ -1,14 +1,13 @@
 -- Marked places, and one record more.
-use Rattle.std.proofs.Common.{◌≡◌, ℕ, suc, zero, ◌+◌, ◌-◌, ◌*◌, ◌/◌, ◌%◌, ◌^◌, ◌&&◌, ◌||◌, ◌==◌, max, nat_le, nat_lt, ◌<◌, ◌≤◌, Bool, true, false, if◌then◌else◌, List, [], ◌∷◌, ◌++◌, Option, None, Some, MatchOption, Ok, Err, length, get_or, set, refl, ap, ap₂, sym, subst, ◌∙◌, ◌⊎◌, inl, inr, arith, get_or-set_other, get_or-set_same, length-append}
+use Rattle.std.proofs.Common.{◌≡◌, ℕ, suc, zero, ◌+◌, ◌*◌, ◌/◌, ◌%◌, ◌^◌, ◌&&◌, ◌||◌, ◌==◌, nat_le, nat_lt, ◌<◌, ◌≤◌, Bool, true, false, if◌then◌else◌, List, [], ◌∷◌, Option, None, Some, MatchOption, Err, length, get_or, set, refl, ap, ap₂, sym, subst, ◌∙◌, ◌⊎◌, inl, inr, arith, get_or-set_other, get_or-set_same}
 use Rattle.std.proofs.lemmas.Bool.{cases_eq, cases_lt}
 use Rattle.std.proofs.lemmas.Grind.{common_steps}
-use Rattle.std.proofs.lemmas.List.{get_or_append_left, get_or-append_right, get_or_past}
-use Rattle.std.proofs.lemmas.Nat.Bits.{bit_at-zero, bit_at_ones, bit_at_set_other, bit_at_set_same}
+use Rattle.std.proofs.lemmas.Nat.Bits.{bit_at_ones, bit_at_set_other, bit_at_set_same}
 use Rattle.std.specs.Int.{bit_at}
 use Rattle.std.specs.Prelude.{bit_or}
 use mir.Syntax.{w16}
-use Rattle.x7_mcs.specs.Places.{DataRecord, byte_at, covered, covers, end_of, extent, overlap, unless_covered, with_record}
-use Rattle.x7_mcs.specs.State.{AreFree, Holds, IsFirstMarked, IsPlaced, is_marked}
+use Rattle.x7_mcs.specs.Places.{DataRecord, covered, covers, end_of, extent, overlap, unless_covered, with_record}
+use Rattle.x7_mcs.specs.State.{AreFree, Holds, IsFirstMarked, is_marked}
 use Rattle.x7_mcs.specs.declared.fault.McsFault.TheVariants as fault
 
 -- ---- marks
@@ -59,27 +58,6 @@ sixteen-marked marks place h e p = elim (cases_eq (p / 16) (place / 16)) [
       (omega (arith, e, same)) (omega (arith, e, same))
 ]
 
--- the marks from one place to a second, and from there to a third
-pub marked-on : (b c d : Bool) (from at to p : ℕ) → from ≤ at → at ≤ to → b ≡ (if nat_le from p && nat_lt p at then true else c) → d ≡ (if nat_le at p && nat_lt p to then true else b) → d ≡ (if nat_le from p && nat_lt p to then true else c)
-marked-on b c d from at to p h l e f = grind (arith, common_steps)
-
-pub none-marked : (b : Bool) (from p : ℕ) → b ≡ (if nat_le from p && nat_lt p from then true else b)
-none-marked b from p = grind (arith, common_steps)
-
--- ---- free places
-
-pub empty-is-free : (marks : List ℕ) (from at to : ℕ) → at % 16 ≡ 0 → to ≤ at + 16 → get_or marks (at / 16) 0 ≡ 0 → AreFree marks from at → AreFree marks from to
-empty-is-free marks from at to a t e f k h l = elim (cases_lt k at) [
-  | inl before ↦ f k h before
-  | inr here ↦ let same : k / 16 ≡ at / 16 = omega arith in ap (λ (v : ℕ). bit_at v (k % 16) == 1) (ap (λ (j : ℕ). get_or marks j 0) same ∙ e) ∙ ap (λ (v : ℕ). v == 1) (bit_at-zero (k % 16))
-]
-
-pub free-more : (marks : List ℕ) (from at : ℕ) → is_marked marks at ≡ false → AreFree marks from at → AreFree marks from (at + 1)
-free-more marks from at e f k h l = elim (cases_lt k at) [
-  | inl before ↦ f k h before
-  | inr here ↦ let same : at ≡ k = omega arith in subst (λ (j : ℕ). is_marked marks j ≡ false) same e
-]
-
 -- ---- overlap
 
 pub overlap-at : (xs : List DataRecord) (p n q : ℕ) → p ≤ q → q < p + n → covered xs q ≡ true → ((k : ℕ) → p ≤ k → k < q → covered xs k ≡ false) → overlap xs p n ≡ Some q
@@ -113,61 +91,10 @@ pub least-is-first : (xs : List DataRecord) (bytes marks seen : List ℕ) → Ho
 least-is-first xs bytes marks seen h e p n None f = sym (free-has-none xs bytes seen (subst (λ (m : List ℕ). Holds xs bytes m) (sym e) h) p n f)
 least-is-first xs bytes marks seen h e p n (Some q) f = sym (first-is-least xs bytes seen (subst (λ (m : List ℕ). Holds xs bytes m) (sym e) h) p n q f)
 
--- ---- bytes
-
-pub appended : (content old : List ℕ) → IsPlaced (length old) content old (old ++ content)
-appended content old = record {
-  long = length-append old content ∙ top (length old) (length content);
-  at = λ p. at p;
-}
-  where
-    top : (a b : ℕ) → a + b ≡ max a (a + b)
-    top a b = grind (arith, common_steps)
-
-    by : (b : Bool) (x y z : ℕ) → x ≡ (if b then y else z) → x ≡ (if b then y else z)
-    by b x y z e = e
-
-    before : (a n p x y : ℕ) → p < a → x ≡ (if nat_le a p && nat_lt p (a + n) then y else x)
-    before a n p x y h = grind (arith, common_steps)
-
-    within : (a n p x y : ℕ) → a ≤ p → p < a + n → x ≡ (if nat_le a p && nat_lt p (a + n) then x else y)
-    within a n p x y h l = grind (arith, common_steps)
-
-    after : (a n p x y : ℕ) → a + n ≤ p → x ≡ (if nat_le a p && nat_lt p (a + n) then y else x)
-    after a n p x y h = grind (arith, common_steps)
-
-    at : (p : ℕ) → get_or (old ++ content) p 255 ≡ (if nat_le (length old) p && nat_lt p (length old + length content) then get_or content (p - length old) 255 else get_or old p 255)
-    at p = elim (cases_lt p (length old)) [
-      | inl h ↦ get_or_append_left old content 255 p h ∙ before (length old) (length content) p (get_or old p 255) (get_or content (p - length old) 255) h
-      | inr h ↦ elim (cases_lt p (length old + length content)) [
-        | inl l ↦ get_or-append_right old content (length old) p 255 refl h ∙ within (length old) (length content) p (get_or content (p - length old) 255) (get_or old p 255) h l
-        | inr l ↦ get_or_past (old ++ content) p 255 (omega (arith, l, length-append old content)) ∙ sym (get_or_past old p 255 h) ∙ after (length old) (length content) p (get_or old p 255) (get_or content (p - length old) 255) l
-      ]
-    ]
-
--- bytes written after others were lengthened by FF
-pub placed-after : (place : ℕ) (content old grown new : List ℕ) (n : ℕ) → length grown ≡ max (length old) n → n ≤ place + length content → ((p : ℕ) → get_or grown p 255 ≡ get_or old p 255) → IsPlaced place content grown new → IsPlaced place content old new
-placed-after place content old grown new n e l g h = record {
-  long = h.long ∙ ap (λ (k : ℕ). max k (place + length content)) e ∙ most (length old) n (place + length content) l;
-  at = λ p. h.at p ∙ ap (λ (v : ℕ). if nat_le place p && nat_lt p (place + length content) then get_or content (p - place) 255 else v) (g p);
-}
-  where
-    most : (a b c : ℕ) → b ≤ c → max (max a b) c ≡ max a c
-    most a b c h = grind (arith, common_steps)
-
-pub placed-over : (place : ℕ) (content old new : List ℕ) → place + length content ≤ length old → length new ≡ length old → ((p : ℕ) → get_or new p 255 ≡ (if nat_le place p && nat_lt p (place + length content) then get_or content (p - place) 255 else get_or old p 255)) → IsPlaced place content old new
-placed-over place content old new h e f = record { long = e ∙ most (length old) (place + length content) h; at = f }
-  where
-    most : (a b : ℕ) → b ≤ a → a ≡ max a b
-    most a b h = grind (arith, common_steps)
-
 -- ---- one record more
 
 no_zero : (a : ℕ) → 0 < a → (a == 0) ≡ false
 no_zero a h = grind (arith, common_steps)
-
-is_less : (a b : ℕ) → a < b → nat_lt a b ≡ true
-is_less a b h = grind (arith, common_steps)
 
 not_less : (a b : ℕ) → b ≤ a → nat_lt a b ≡ false
 not_less a b h = grind (arith, common_steps)
@@ -175,40 +102,8 @@ not_less a b h = grind (arith, common_steps)
 pub end-is : (x : DataRecord) → 0 < length x.bytes → end_of x ≡ x.place + length x.bytes
 end-is x h = ap (λ (b : Bool). if b then 0 else x.place + length x.bytes) (no_zero (length x.bytes) h)
 
-pub large : (n : ℕ) (xs : List DataRecord) (x : DataRecord) → 0 < length x.bytes → 2 ^ 27 < x.place + length x.bytes → with_record n xs x ≡ Err (fault.TooLarge n)
-large n xs x h l = ap (λ (b : Bool). if b then Err (fault.TooLarge n) else unless_covered (overlap xs x.place (length x.bytes)) (x ∷ xs)) (is_less (2 ^ 27) (end_of x) (omega (arith, l, end-is x h)))
-
 pub within : (n : ℕ) (xs : List DataRecord) (x : DataRecord) → 0 < length x.bytes → x.place + length x.bytes ≤ 2 ^ 27 → with_record n xs x ≡ unless_covered (overlap xs x.place (length x.bytes)) (x ∷ xs)
 within n xs x h l = ap (λ (b : Bool). if b then Err (fault.TooLarge n) else unless_covered (overlap xs x.place (length x.bytes)) (x ∷ xs)) (not_less (2 ^ 27) (end_of x) (omega (arith, l, end-is x h)))
 
 pub taken : (n : ℕ) (xs : List DataRecord) (x : DataRecord) (o : Option ℕ) (q : ℕ) → 0 < length x.bytes → x.place + length x.bytes ≤ 2 ^ 27 → o ≡ Some q → o ≡ overlap xs x.place (length x.bytes) → with_record n xs x ≡ Err (fault.Overlap q)
 taken n xs x o q h l s e = within n xs x h l ∙ ap (λ p. unless_covered p (x ∷ xs)) (sym e ∙ s)
-
-pub free : (n : ℕ) (xs : List DataRecord) (x : DataRecord) (o : Option ℕ) → 0 < length x.bytes → x.place + length x.bytes ≤ 2 ^ 27 → o ≡ None → o ≡ overlap xs x.place (length x.bytes) → with_record n xs x ≡ Ok (x ∷ xs)
-free n xs x o h l s e = within n xs x h l ∙ ap (λ p. unless_covered p (x ∷ xs)) (sym e ∙ s)
-
-or-if : (a b c : Bool) → b ≡ c → (if a then true else b) ≡ (a || c)
-or-if true b c e = refl
-or-if false b c e = e
-
-pub holds-more : (xs : List DataRecord) (x : DataRecord) (bytes new marks grown done : List ℕ) → Holds xs bytes marks → 0 < length x.bytes → IsPlaced x.place x.bytes bytes new → ((k : ℕ) → get_or grown k 0 ≡ get_or marks k 0)
-    → ((p : ℕ) → is_marked done p ≡ (if nat_le x.place p && nat_lt p (x.place + length x.bytes) then true else is_marked grown p)) → Holds (x ∷ xs) new done
-holds-more xs x bytes new marks grown done h l w g m = record {
-  long = w.long ∙ ap₂ max h.long (sym (end-is x l));
-  at = λ p. w.at p ∙ ap (λ (v : ℕ). if covers x p then get_or x.bytes (p - x.place) 255 else v) (h.at p);
-  marked = λ p. m p ∙ or-if (covers x p) (is_marked grown p) (covered xs p) (ap (λ (v : ℕ). bit_at v (p % 16) == 1) (g (p / 16)) ∙ h.marked p);
-}
-
-not-covers : (x : DataRecord) (p : ℕ) → length x.bytes ≡ 0 → covers x p ≡ false
-not-covers x p e = grind (arith, common_steps)
-
-pub holds-empty : (xs : List DataRecord) (x : DataRecord) (bytes marks : List ℕ) → length x.bytes ≡ 0 → Holds xs bytes marks → Holds (x ∷ xs) bytes marks
-holds-empty xs x bytes marks e k = record {
-  long = k.long ∙ (let n : extent xs ≡ max (extent xs) 0 = grind (arith, common_steps) in n) ∙ ap (λ (n : ℕ). max (extent xs) (if n == 0 then 0 else x.place + n)) (sym e);
-  at = λ p. k.at p ∙ ap (λ (b : Bool). if b then get_or x.bytes (p - x.place) 255 else byte_at xs p) (sym (not-covers x p e));
-  marked = λ p. k.marked p ∙ ap (λ (b : Bool). b || covered xs p) (sym (not-covers x p e));
-}
-
-pub empty-record : (n : ℕ) (xs : List DataRecord) (x : DataRecord) → length x.bytes ≡ 0 → with_record n xs x ≡ Ok (x ∷ xs)
-empty-record n xs x e =
-    ap (λ (k : ℕ). if nat_lt (2 ^ 27) (if k == 0 then 0 else x.place + k) then Err (fault.TooLarge n) else unless_covered (overlap xs x.place k) (x ∷ xs)) e

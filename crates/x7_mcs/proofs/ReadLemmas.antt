@@ -4,12 +4,11 @@ use Rattle.std.proofs.lemmas.Grind.{common_steps}
 use Rattle.std.proofs.lemmas.List.{take_at}
 use Rattle.x7_words.specs.Word.{AreBytes}
 use Rattle.x7_mcs.specs.Lines.{lines_of}
-use Rattle.x7_mcs.specs.Record.{meaning_of, sum_byte}
+use Rattle.x7_mcs.specs.Record.{Meaning, meaning_of, sum_byte}
 use Rattle.x7_mcs.specs.Places.{DataRecord, with_record}
 use Rattle.x7_mcs.specs.Flash.{Reading, after_bytes, after_lines, after_meaning, and_then, with_records}
 use Rattle.x7_mcs.specs.State.{at_base}
 use Rattle.x7_mcs.specs.Text.{base_line, data_line, record_line}
-use Rattle.x7_mcs.specs.declared.record.Meaning.TheVariants as meaning
 use Rattle.x7_mcs.specs.declared.fault.McsFault.TheVariants as fault
 use Rattle.x7_mcs.proofs.RoundLemmas.{pairs-back, record-first, meaning-written}
 
@@ -52,7 +51,7 @@ read-data n base a xs r rest h small fits low =
     read-record n (at_base base false xs) (length r ∷ a / 256 ∷ a % 256 ∷ 0 ∷ r) rest (omega arith, (omega arith, (omega arith, (omega arith, no-more r (sum_byte (length r ∷ a / 256 ∷ a % 256 ∷ 0 ∷ r)) h s))))
     ∙ ap (λ t. and_then (after_meaning n (at_base base false xs) ((length r ∷ a / 256 ∷ a % 256 ∷ 0 ∷ r) ++ sum_byte (length r ∷ a / 256 ∷ a % 256 ∷ 0 ∷ r) ∷ []) t) (λ g. after_lines (n + 1) g (lines_of rest)))
     (meaning-written n (length r ∷ a / 256 ∷ a % 256 ∷ 0 ∷ r) long)
-    ∙ ap (λ (b : Bool). and_then (after_meaning n (at_base base false xs) ((length r ∷ a / 256 ∷ a % 256 ∷ 0 ∷ r) ++ sum_byte (length r ∷ a / 256 ∷ a % 256 ∷ 0 ∷ r) ∷ []) (if b then Ok (meaning.Data (256 * (a / 256) + a % 256)) else Err (fault.Line n))) (λ g. after_lines (n + 1) g (lines_of rest)))
+    ∙ ap (λ (b : Bool). and_then (after_meaning n (at_base base false xs) ((length r ∷ a / 256 ∷ a % 256 ∷ 0 ∷ r) ++ sum_byte (length r ∷ a / 256 ∷ a % 256 ∷ 0 ∷ r) ∷ []) (if b then Ok (Meaning.Data (256 * (a / 256) + a % 256)) else Err (fault.Line n))) (λ g. after_lines (n + 1) g (lines_of rest)))
     (is_le (256 * (a / 256) + a % 256 + length r) 65536 (omega arith))
     ∙ ap₂ (λ (d : ℕ) (t : List ℕ). and_then (with_records (at_base base false xs) (with_record n xs (record { place = base + d; bytes = t }))) (λ g. after_lines (n + 1) g (lines_of rest)))
     (whole a) (take_at r (sum_byte (length r ∷ a / 256 ∷ a % 256 ∷ 0 ∷ r) ∷ []) (length r) refl)

@@ -27,19 +27,6 @@ module _ (digits rest pair more out : List ℕ) (o : Option ℕ) (long : 2 ≤ l
   pub pair-none : o ≡ None → pairs digits ≡ None
   pair-none f = split-pairs ∙ ap (λ p. ahead out (led p (pairs more))) f
 
-nil_after : (xs : List ℕ) → xs ++ [] ≡ xs
-nil_after [] = refl
-nil_after (x ∷ xs) = ap (λ t. x ∷ t) (nil_after xs)
-
-pub pair-end : (digits rest out : List ℕ) → length rest ≡ 0 → pairs digits ≡ ahead out (pairs rest) → pairs digits ≡ Some out
-pair-end digits [] out h e = e ∙ ap Some (nil_after out)
-pair-end digits (x ∷ xs) out h e = absurd (omega (arith, h))
-
-pub pair-odd : (digits rest out : List ℕ) → length rest ≡ 1 → pairs digits ≡ ahead out (pairs rest) → pairs digits ≡ None
-pair-odd digits (x ∷ []) out h e = e
-pair-odd digits [] out h e = absurd (omega (arith, h))
-pair-odd digits (x ∷ y ∷ xs) out h e = absurd (omega (arith, h))
-
 kept : (o : Option (List ℕ)) → o ≡ ahead [] o
 kept None = refl
 kept (Some bs) = refl

@@ -59,9 +59,6 @@ row-more whole out next place k rest row more e h n f g i =
     ∙ sym (append_assoc out (block_start place ++ data_line (place % 65536) row) (row_lines (place + length row) (rows 16 more)))
     ∙ ap (λ t. t ++ row_lines (place + length row) (rows 16 more)) (sym i)
 
-pub all-rows : (whole out : List ℕ) (place : ℕ) (rest : List ℕ) → whole ≡ out ++ row_lines place (rows 16 rest) → length rest ≡ 0 → whole ≡ out
-all-rows whole out place rest e h = e ∙ ap (λ t. out ++ row_lines place t) (none_of_16 rest h) ∙ sym (nil_after out)
-
 -- the room that is left for the rows after one
 pub room-more : (n k m len next cap more : ℕ) → k ≡ min n 16 → m + k ≡ n → 0 < n → (0 < n → len + (4 * n + 60) ≤ cap) → next ≤ len + 60 → cap ≤ more → 0 < m → next + (4 * m + 60) ≤ more
 room-more n k m len next cap more e f h room l c g =

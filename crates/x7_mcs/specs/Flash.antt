@@ -1,11 +1,9 @@
 -- The flash bytes that a text gives (Intel HEX; the order of faults is this project's choice).
 use Rattle.std.specs.Prelude.{ℕ, ◌+◌, ◌==◌, Bool, true, false, if◌then◌else◌, List, [], ◌∷◌, Option, None, Some, Result, Ok, Err}
-use Rattle.x7_mcs.specs.declared.record.Meaning.{Meaning}
-use Rattle.x7_mcs.specs.declared.record.Meaning.TheVariants as meaning
 use Rattle.x7_mcs.specs.declared.fault.McsFault.{McsFault}
 use Rattle.x7_mcs.specs.declared.fault.McsFault.TheVariants as fault
 use Rattle.x7_mcs.specs.Lines.{lines_of}
-use Rattle.x7_mcs.specs.Record.{data_of, meaning_of, pairs}
+use Rattle.x7_mcs.specs.Record.{Meaning, data_of, meaning_of, pairs}
 use Rattle.x7_mcs.specs.Places.{DataRecord, image_of, with_record}
 
 -- what lines give: the base that stands, whether a record 01 stood, and the data records, the last first
@@ -28,10 +26,10 @@ after_data n r address content = with_records r (with_record n r.records (record
 -- after the bytes of line n, which say this
 abbrev pub after_meaning : ℕ → Reading → List ℕ → Result Meaning McsFault → Result Reading McsFault
 after_meaning n r bs (Err f) = Err f
-after_meaning n r bs (Ok meaning.Start) = Ok r
-after_meaning n r bs (Ok meaning.End) = Ok (record { base = r.base; ended = true; records = r.records })
-after_meaning n r bs (Ok (meaning.Base base)) = Ok (record { base = base; ended = r.ended; records = r.records })
-after_meaning n r bs (Ok (meaning.Data address)) = after_data n r address (data_of bs)
+after_meaning n r bs (Ok Meaning.Start) = Ok r
+after_meaning n r bs (Ok Meaning.End) = Ok (record { base = r.base; ended = true; records = r.records })
+after_meaning n r bs (Ok (Meaning.Base base)) = Ok (record { base = base; ended = r.ended; records = r.records })
+after_meaning n r bs (Ok (Meaning.Data address)) = after_data n r address (data_of bs)
 
 abbrev pub after_bytes : ℕ → Reading → Option (List ℕ) → Result Reading McsFault
 after_bytes n r None = Err (fault.Line n)

@@ -1,9 +1,7 @@
 -- What a record says: count, address, type, data and sum byte (Intel HEX).
-use Rattle.std.specs.Prelude.{ℕ, ◌+◌, ◌*◌, ◌-◌, ◌%◌, ◌==◌, ◌&&◌, ◌||◌, nat_le, not, Bool, if◌then◌else◌, List, [], ◌∷◌, length, take, drop, get_or, Option, None, Some, Result, Ok, Err}
+use Rattle.std.specs.Prelude.{ℕ, ◌+◌, ◌*◌, ◌-◌, ◌%◌, ◌==◌, ◌&&◌, ◌||◌, nat_le, not, Bool, if◌then◌else◌, List, length, take, drop, get_or, Result, Ok, Err}
 use Rattle.std.specs.List.{sum}
 pub use Rattle.x7_text.specs.EitherCase.{byte_of, digit_of, led, pairs}
-use Rattle.x7_mcs.specs.declared.record.Meaning.{Meaning}
-use Rattle.x7_mcs.specs.declared.record.Meaning.TheVariants as meaning
 use Rattle.x7_mcs.specs.declared.fault.McsFault.{McsFault}
 use Rattle.x7_mcs.specs.declared.fault.McsFault.TheVariants as fault
 
@@ -36,15 +34,26 @@ sum_byte bs = (256 - sum bs % 256) % 256
 abbrev pub wanted_of : List ℕ → ℕ
 wanted_of bs = sum_byte (take (length bs - 1) bs)
 
+-- what a record says
+pub data Meaning : Type 0 where
+  -- where a program starts, which has no effect here
+  Start : Meaning
+  -- the data begin at this address
+  Data : ℕ → Meaning
+  -- no record follows
+  End : Meaning
+  -- the base of the addresses that follow
+  Base : ℕ → Meaning
+
 -- by type, count and address: 00 data, which end within 65,536 (this project's choice); 01 the end; 02 the base by 16;
 -- 04 the base by 65,536; 03 and 05 a start address, without effect
 abbrev pub meaning_by_type : ℕ → List ℕ → Result Meaning McsFault
 meaning_by_type n bs =
-    if type_of bs == 0 && nat_le (address_of bs + count_of bs) 65536 then Ok (meaning.Data (address_of bs))
-    else if type_of bs == 1 && count_of bs == 0 then Ok meaning.End
-    else if type_of bs == 2 && count_of bs == 2 then Ok (meaning.Base (16 * value_of bs))
-    else if type_of bs == 4 && count_of bs == 2 then Ok (meaning.Base (65536 * value_of bs))
-    else if (type_of bs == 3 || type_of bs == 5) && count_of bs == 4 then Ok meaning.Start
+    if type_of bs == 0 && nat_le (address_of bs + count_of bs) 65536 then Ok (Meaning.Data (address_of bs))
+    else if type_of bs == 1 && count_of bs == 0 then Ok Meaning.End
+    else if type_of bs == 2 && count_of bs == 2 then Ok (Meaning.Base (16 * value_of bs))
+    else if type_of bs == 4 && count_of bs == 2 then Ok (Meaning.Base (65536 * value_of bs))
+    else if (type_of bs == 3 || type_of bs == 5) && count_of bs == 4 then Ok Meaning.Start
     else Err (fault.Line n)
 
 -- what the bytes of line n say, where a record 01 stood before or not

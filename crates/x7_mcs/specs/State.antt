@@ -1,12 +1,26 @@
 -- What the bytes and marks of a text that is being read stand for.
-use Rattle.std.specs.Prelude.{◌≡◌, ℕ, ◌+◌, ◌/◌, ◌%◌, ◌==◌, ◌-◌, ◌&&◌, ◌<◌, ◌≤◌, nat_le, nat_lt, max, Bool, true, false, if◌then◌else◌, Option, None, Some, Result, Ok, Err, ◌⊎◌, List, length, get_or}
+use Rattle.std.specs.Prelude.{◌≡◌, ℕ, ◌+◌, ◌/◌, ◌%◌, ◌==◌, ◌-◌, ◌&&◌, ◌<◌, ◌≤◌, nat_le, nat_lt, max, Bool, true, false, if◌then◌else◌, None, Some, Result, Ok, Err, ◌⊎◌, List, length, get_or}
 use Rattle.std.specs.Int.{bit_at}
 use Rattle.x7_mcs.specs.Places.{byte_at, covered, extent, DataRecord}
 use Rattle.x7_mcs.specs.declared.fault.McsFault.{McsFault}
 use Rattle.x7_mcs.specs.declared.fault.McsFault.TheVariants as fault
 use Rattle.x7_mcs.specs.Lines.{lines_of}
-use Rattle.x7_mcs.specs.Record.{digit_of, pairs}
+use Rattle.x7_mcs.specs.Record.{Meaning, pairs}
+use Rattle.x7_mcs.specs.declared.record.Meaning.{Meaning as Read}
+use Rattle.x7_mcs.specs.declared.record.Meaning.TheVariants as read
 use Rattle.x7_mcs.specs.Flash.{Reading, after_lines}
+
+-- a record's meaning as the code has it
+abbrev pub read_as : Read → Meaning
+read_as read.Start = Meaning.Start
+read_as (read.Data address) = Meaning.Data address
+read_as read.End = Meaning.End
+read_as (read.Base base) = Meaning.Base base
+
+-- what a call returned is this meaning, or this fault
+abbrev pub Says : Result Read McsFault → Result Meaning McsFault → Type 0
+Says (Ok m) said = said ≡ Ok (read_as m)
+Says (Err f) said = said ≡ Err f
 
 -- the digits are pairs of these bytes, or no pairs of digits
 abbrev pub Reads : Bool → List ℕ → List ℕ → Type 0
@@ -16,14 +30,6 @@ Reads false digits bytes = pairs digits ≡ None
 -- whether a place is marked: sixteen places a mark, the first in bit 0
 abbrev pub is_marked : List ℕ → ℕ → Bool
 is_marked marks p = bit_at (get_or marks (p / 16) 0) (p % 16) == 1
-
--- the number of a digit, and 16 for what is no digit
-abbrev pub number_or_16 : Option ℕ → ℕ
-number_or_16 None = 16
-number_or_16 (Some n) = n
-
-abbrev pub number_of : ℕ → ℕ
-number_of c = number_or_16 (digit_of c)
 
 -- no place from one to before another is marked
 abbrev pub AreFree : List ℕ → ℕ → ℕ → Type 0

@@ -65,11 +65,12 @@ impl McsText {
         Ok(McsText { image, block })
     }
 
-    /// Writes the text. After an error a prefix of it was written.
+    /// Writes the text. After an error a prefix of it was written. Either way it may be written again.
     pub fn write<S: Sink>(&mut self, out: &mut S) -> Result<(), Failed>
         ensures whole { OnOk result (PutsAll (S.state out.old) (mcs_text self.old) (S.state out.new)) }
         ensures prefix { PutsSome (S.state out.old) (mcs_text self.old) (S.state out.new) }
         ensures failed { OnErr result (SinkFails (S.state out.old) (S.state out.new)) }
+        ensures same { self.new ≡ self.old }
     {
         write_rows(out, &self.image, &mut self.block)?;
         write_all(out, END_LINE)

@@ -2,11 +2,12 @@
 ghost use Rattle.std.specs.Prelude.{◌≡◌, ◌<◌, ◌+◌, ◌%◌, ◌++◌, get_or, length, MatchResult};
 ghost use Rattle.std.specs.List.{sum};
 ghost use Rattle.x7_mcs.specs.Record.{data_of, meaning_by_type, meaning_of, sum_byte};
+ghost use Rattle.x7_mcs.specs.State.{Says};
 
 use crate::fault::McsFault;
 
 /// What a record says.
-#[derive(Clone, Copy, Debug, PartialEq, Eq)]
+#[derive(Clone, Copy)]
 pub(crate) enum Meaning {
     /// Where a program starts, which has no effect here.
     Start,
@@ -41,7 +42,7 @@ pub(crate) fn sum_byte(fields: &[u8], content: &[u8]) -> u8
 /// What the record of line `n` says by its type, its count and its address.
 fn meaning_by_type(n: u64, bytes: &[u8]) -> Result<Meaning, McsFault>
     requires { get_or bytes.now 0 0 + 5 ≡ length bytes.now }
-    ensures { result ≡ meaning_by_type n bytes.now }
+    ensures { Says result (meaning_by_type n bytes.now) }
 {
     let count = u32::from(bytes[0]);
     let address = 256 * u32::from(bytes[1]) + u32::from(bytes[2]);
@@ -66,7 +67,7 @@ fn meaning_by_type(n: u64, bytes: &[u8]) -> Result<Meaning, McsFault>
 
 /// What the bytes of line `n` say, where a record 01 stood before or not.
 pub(crate) fn meaning_of(n: u64, ended: bool, bytes: &[u8]) -> Result<Meaning, McsFault>
-    ensures meaning { result ≡ meaning_of n ended bytes.now }
+    ensures meaning { Says result (meaning_of n ended bytes.now) }
     ensures long { MatchResult result (λ _. get_or bytes.now 0 0 + 5 ≡ length bytes.now) (λ _. Unit {0}) }
 {
     if bytes.len() == 0 || usize::from(bytes[0]) + 5 != bytes.len() {
