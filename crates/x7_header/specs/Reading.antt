@@ -1,5 +1,5 @@
 -- Reading a header from left to right by its layout, with the first fault that is met (not in UG470: the layout that the vendor's tool writes).
-use Rattle.std.specs.Prelude.{◌≡◌, ℕ, ◌+◌, ◌-◌, ◌*◌, ◌<◌, List, [], ◌∷◌, ◌++◌, length, take, drop, Result, Ok, Err, nat_le, nat_eq, ◌==◌, if◌then◌else◌}
+use Rattle.std.specs.Prelude.{◌≡◌, ℕ, ◌+◌, ◌-◌, ◌*◌, ◌<◌, List, [], ◌∷◌, ◌++◌, length, take, drop, Result, Ok, Err, nat_le, nat_lt, nat_eq, max, ◌==◌, if◌then◌else◌}
 use Rattle.std.specs.List.{starts_with}
 use Rattle.x7_words.specs.Word.{word_of_bytes}
 use Rattle.x7_header.specs.Header.{fixed_bytes, Kind, Field, layout, Contents}
@@ -39,13 +39,6 @@ unfoldable pub field_at : ℕ → Field → List ℕ → Result (List ℕ × Lis
 field_at total field bytes = do
   after ← letter_at total field.letter bytes
   content_at total field.kind after
-
--- how many bytes the field of text has of which this is a prefix, with its letter; 3 until its count is there
-abbrev pub text_size : List ℕ → ℕ
-text_size (letter ∷ high ∷ low ∷ bytes) = 3 + high * 256 + low
-text_size (letter ∷ high ∷ []) = 3
-text_size (letter ∷ []) = 3
-text_size [] = 3
 
 -- how many bytes of the part that is being read a field of text lacks of which this is a prefix: of its letter, of its count, of its text
 abbrev pub text_lacks : List ℕ → ℕ
@@ -98,3 +91,29 @@ LayoutWaits bytes count = (total : ℕ) (more : List ℕ) → length more < coun
 
 abbrev pub HeaderWaits : List ℕ → ℕ → Type 0
 HeaderWaits bytes count = (more : List ℕ) → length more < count → header_at (bytes ++ more) ≡ Err (fault.Cut (length (bytes ++ more)))
+
+-- ---- how many bytes the part lacks that is being read: the fixed bytes, or of a field its letter, its count, its text or its number
+
+abbrev pub lacks_of : Kind → List ℕ → ℕ
+lacks_of Kind.Counted = text_lacks
+lacks_of Kind.Four = number_lacks
+
+-- what a field lacks that was read so: that of the fields after it where it is whole, and none where its letter is wrong
+abbrev pub lacks_by : ℕ → Result (List ℕ × List ℕ) HeaderFault → (List ℕ → ℕ) → ℕ
+lacks_by lack (Ok field) later = later field.1
+lacks_by lack (Err (fault.Cut total)) later = lack
+lacks_by lack (Err (fault.Field place)) later = 0
+lacks_by lack (Err fault.Raw) later = 0
+
+-- what the first of these fields lacks that isn't whole, and none where all are whole
+abbrev pub fields_lack : List Field → List ℕ → ℕ
+fields_lack [] bytes = 0
+fields_lack (field ∷ fields) bytes = lacks_by (lacks_of field.kind bytes) (field_at (length bytes) field bytes) (fields_lack fields)
+
+abbrev pub lacks_behind : Result (List ℕ) HeaderFault → ℕ
+lacks_behind (Ok after) = fields_lack layout after
+lacks_behind (Err f) = 0
+
+-- what the bytes of a header lack: of the fixed bytes, or of its fields; one byte where that is none
+abbrev pub header_lacks : List ℕ → ℕ
+header_lacks bytes = if nat_lt (length bytes) 13 then 13 - length bytes else max 1 (lacks_behind (fixed_at bytes))

@@ -5,7 +5,7 @@
 ghost use Rattle.std.specs.Prelude.{◌≡◌, ◌≤◌, ◌<◌, ◌+◌, ◌^◌, ◌++◌, ℕ, List, length, IfOk, IsErrOf, Ok, Err};
 ghost use Rattle.x7_words.specs.Word.{bytes_of_word, word_of_bytes};
 ghost use Rattle.x7_header.specs.Header.{Kind, field_bytes};
-ghost use Rattle.x7_header.specs.Reading.{Gives, letter_at, bytes_at, field_at, fixed_at, text_size};
+ghost use Rattle.x7_header.specs.Reading.{Gives, letter_at, bytes_at, field_at, fixed_at};
 
 use crate::fault::HeaderFault;
 use crate::header::FIXED_BYTES;
@@ -45,20 +45,6 @@ fn first_bytes(bytes: &[u8], count: usize, total: usize) -> Result<(&[u8], &[u8]
         return Err(HeaderFault::Cut(total));
     }
     Ok(bytes.split_at(count))
-}
-
-/// How many bytes the field of text has of which this is a prefix, with its letter: 3 until its count is there.
-pub fn size_of_text_field(prefix: &[u8]) -> usize
-    ensures value { result ≡ text_size prefix.now }
-    // The beginning of a field that has its count tells the field's size.
-    ensures whole { (letter : ℕ) (text more : List ℕ) → length text < 2 ^ 16 → 3 ≤ length prefix.now →
-        field_bytes (record { letter = letter; kind = Kind.Counted }) text ≡ prefix.now ++ more →
-        result ≡ length (field_bytes (record { letter = letter; kind = Kind.Counted }) text) }
-{
-    match prefix {
-        [_, high, low, ..] => 3 + usize::from(*high) * 256 + usize::from(*low),
-        _ => 3,
-    }
 }
 
 /// The text of the field of this letter, and what follows it.

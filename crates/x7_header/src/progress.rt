@@ -1,7 +1,7 @@
 //! How many bytes to read next of a header, for a caller who reads an input piece by piece.
-ghost use Rattle.std.specs.Prelude.{◌≡◌, ◌<◌, ◌+◌, ◌++◌, ℕ, List, length, IfErr, IfOk, Ok};
-ghost use Rattle.x7_header.specs.Header.{EndsInHeader, Kind};
-ghost use Rattle.x7_header.specs.Reading.{FieldWaits, HeaderWaits, LayoutWaits, field_at, number_lacks, text_lacks};
+ghost use Rattle.std.specs.Prelude.{◌≡◌, ◌<◌, ◌+◌, ◌++◌, ℕ, List, length, IfErr, IfOk, MatchResult, Ok};
+ghost use Rattle.x7_header.specs.Header.{EndsInHeader, Kind, layout};
+ghost use Rattle.x7_header.specs.Reading.{FieldWaits, HeaderWaits, LayoutWaits, field_at, fields_lack, header_lacks, lacks_by, number_lacks, text_lacks};
 
 use crate::fault::HeaderFault;
 use crate::field::{behind_fixed_bytes, number_field, text_field};
@@ -36,6 +36,9 @@ fn behind_text(bytes: &[u8], letter: u8) -> Result<&[u8], usize>
     ensures whole { IfOk result (λ rest. (text : List ℕ) × ((total : ℕ) (more : List ℕ) →
         field_at total (record { letter = letter; kind = Kind.Counted }) (bytes.now ++ more) ≡ Ok (text, rest.now ++ more))) }
     ensures waits { IfErr result (λ lack. FieldWaits (record { letter = letter; kind = Kind.Counted }) bytes.now lack) }
+    ensures lacks { MatchResult result
+        (λ rest. (later : List ℕ → ℕ) → lacks_by (text_lacks bytes.now) (field_at (length bytes.now) (record { letter = letter; kind = Kind.Counted }) bytes.now) later ≡ later rest.now)
+        (λ lack. (later : List ℕ → ℕ) → lacks_by (text_lacks bytes.now) (field_at (length bytes.now) (record { letter = letter; kind = Kind.Counted }) bytes.now) later ≡ lack) }
 {
     match text_field(bytes, letter, bytes.len()) {
         Ok((_, rest)) => Ok(rest),
@@ -47,6 +50,9 @@ fn behind_text(bytes: &[u8], letter: u8) -> Result<&[u8], usize>
 /// Nothing where the field of a number of this letter is whole, or how many bytes it waits for: none where its letter is wrong.
 fn behind_number(bytes: &[u8], letter: u8) -> Result<(), usize>
     ensures waits { IfErr result (λ lack. FieldWaits (record { letter = letter; kind = Kind.Four }) bytes.now lack) }
+    ensures lacks { MatchResult result
+        (λ _. lacks_by (number_lacks bytes.now) (field_at (length bytes.now) (record { letter = letter; kind = Kind.Four }) bytes.now) (λ _. 0) ≡ 0)
+        (λ lack. lacks_by (number_lacks bytes.now) (field_at (length bytes.now) (record { letter = letter; kind = Kind.Four }) bytes.now) (λ _. 0) ≡ lack) }
 {
     match number_field(bytes, letter, bytes.len()) {
         Ok(_) => Ok(()),
@@ -58,6 +64,8 @@ fn behind_number(bytes: &[u8], letter: u8) -> Result<(), usize>
 /// Nothing where the fields after the fixed bytes are whole, or how many bytes they wait for: none where a letter is wrong.
 fn behind_fields(bytes: &[u8]) -> Result<(), usize>
     ensures waits { IfErr result (λ lack. LayoutWaits bytes.now lack) }
+    ensures whole { IfOk result (λ _. fields_lack layout bytes.now ≡ 0) }
+    ensures lacks { IfErr result (λ lack. fields_lack layout bytes.now ≡ lack) }
 {
     let rest = behind_text(bytes, b'a')?;
     let rest = behind_text(rest, b'b')?;
@@ -74,6 +82,8 @@ pub fn wanted(bytes: &[u8]) -> usize
     ensures fixed { length bytes.now < 13 → length bytes.now + result ≡ 13 }
     // With fewer bytes more the input would still end inside the header, so none is read behind it, nor behind a wrong letter.
     ensures waits { EndsInHeader bytes.now → HeaderWaits bytes.now result }
+    // All that is lacked is wanted at once.
+    ensures lacks { result ≡ header_lacks bytes.now }
 {
     if bytes.len() < FIXED_BYTES.len() {
         return FIXED_BYTES.len() - bytes.len();
