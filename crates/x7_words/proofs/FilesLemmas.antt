@@ -1,7 +1,8 @@
 -- Lemmas on the real inputs: what they count is what a caller of any inputs may know.
-use Rattle.std.proofs.Common.{◌≡◌, ℕ, List, ◌≤◌, true, false, take, ◌<◌, Result, Ok, Err, Option, None, OnOk, OnErr, IfOk, IfErr, refl, ap, ◌∙◌, inr, arith}
-use Rattle.x7_words.specs.Count.{raised}
-use Rattle.x7_words.specs.Input.{Fails, Opens, Refuses, Takes}
+use Rattle.std.proofs.Common.{◌≡◌, ℕ, List, ◌≤◌, true, false, take, length, ◌<◌, Result, Ok, Err, Option, None, OnOk, OnErr, IfOk, IfErr, refl, ap, ◌∙◌, inr, arith}
+use Rattle.std.proofs.lemmas.List.{length-take-le}
+use Rattle.x7_words.specs.Count.{added, raised}
+use Rattle.x7_words.specs.Input.{Asks, Fails, Opens, Refuses, Takes}
 use Rattle.x7_words.proofs.CountLemmas.{raised_risen}
 use Rattle.x7_words.specs.Files.{RealInputs, after_open, told_of}
 use Rattle.x7_words.specs.declared.input.Failed.{Failed as FailedRead}
@@ -35,13 +36,29 @@ pub read_err : (old new : RealInputs) (answer : Result ℕ FailedRead) → OnErr
 read_err old new (Ok _) e = tt
 read_err old new (Err _) e = ap (λ f. f.selected) e
 
+-- whatever an open answers, nothing was given since
+pub opened-asks : (old new : RealInputs) (rest : Option (List ℕ)) (name : List ℕ) (answer : Result (Unit {0}) SelectFault) → new ≡ after_open old rest answer → Asks name (told_of new)
+opened-asks old new rest name (Ok _) e = record { asked = tt; given = ap (λ f. f.given) e }
+opened-asks old new rest name (Err Missing) e = record { asked = tt; given = ap (λ f. f.given) e }
+opened-asks old new rest name (Err Failed) e = record { asked = tt; given = ap (λ f. f.given) e }
+
 -- a read that is Ok leaves the file selected, and of a rest that is never told nothing is said
-pub read_ok : (old new : RealInputs) (buf : List ℕ) (answer : Result ℕ FailedRead) → old.selected ≡ true → OnOk answer (new ≡ record old { rest = new.rest }) → IfOk answer (λ n. Takes (told_of old) (take n buf) (told_of new))
-read_ok old new buf (Ok n) s e = record { selected = ap (λ f. f.selected) e ∙ s; taken = refl }
-read_ok old new buf (Err _) s e = tt
+pub read_ok : (old new : RealInputs) (buf : List ℕ) (answer : Result ℕ FailedRead) → old.selected ≡ true → IfOk answer (λ n. n ≤ length buf) → IfOk answer (λ n. new ≡ record old { rest = new.rest; given = added old.given n })
+    → IfOk answer (λ n. Takes (told_of old) (take n buf) (told_of new))
+read_ok old new buf (Ok n) s h e = record {
+  selected = ap (λ f. f.selected) e ∙ s;
+  taken = refl;
+  given = let count : new.given ≡ added old.given n = ap (λ f. f.given) e in omega (arith, count, length-take-le n buf h);
+}
+read_ok old new buf (Err _) s h e = tt
+
+-- a read that fails gives nothing
+pub read_gives : (old new : RealInputs) (answer : Result ℕ FailedRead) → OnErr answer (new ≡ record old { selected = false; rest = None; faults = raised old.faults }) → OnErr answer (new.given ≤ old.given)
+read_gives old new (Ok _) e = tt
+read_gives old new (Err _) e = let same : new.given ≡ old.given = ap (λ f. f.given) e in omega arith
 
 -- a read never lowers the count of absences
-pub read_absences : (old new : RealInputs) (answer : Result ℕ FailedRead) → OnOk answer (new ≡ record old { rest = new.rest }) → OnErr answer (new ≡ record old { selected = false; rest = None; faults = raised old.faults }) → old.absences ≤ new.absences
+pub read_absences : (old new : RealInputs) (answer : Result ℕ FailedRead) → IfOk answer (λ n. new ≡ record old { rest = new.rest; given = added old.given n }) → OnErr answer (new ≡ record old { selected = false; rest = None; faults = raised old.faults }) → old.absences ≤ new.absences
 read_absences old new (Ok _) o e = let same : new.absences ≡ old.absences = ap (λ f. f.absences) o in omega arith
 read_absences old new (Err _) o e = let same : new.absences ≡ old.absences = ap (λ f. f.absences) e in omega arith
 
@@ -49,3 +66,8 @@ read_absences old new (Err _) o e = let same : new.absences ≡ old.absences = a
 pub untold_read : (answer : Result ℕ FailedRead) (length : ℕ) → IfOk answer (λ n. n ≡ 0 → 0 < length → Unit {0})
 untold_read (Ok n) length = λ _ _. tt
 untold_read (Err _) length = tt
+
+-- what fits into a buffer fits into it afterwards
+pub within_buffer : (answer : Result ℕ FailedRead) (old new : ℕ) → new ≡ old → IfOk answer (λ n. n ≤ old) → IfOk answer (λ n. n ≤ new)
+within_buffer (Ok n) old new e h = omega (arith, e, h)
+within_buffer (Err _) old new e h = tt

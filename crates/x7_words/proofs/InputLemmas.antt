@@ -1,5 +1,5 @@
 -- Lemmas on a rest that is taken piece by piece, for the crates that read inputs.
-use Rattle.std.proofs.Common.{◌≡◌, ℕ, List, [], ◌++◌, Option, None, Some, true, refl, ap, sym, ◌∙◌, append_assoc, arith}
+use Rattle.std.proofs.Common.{◌≡◌, ℕ, List, [], ◌++◌, Option, None, Some, true, refl, ap, sym, ◌∙◌, append_assoc, arith, length-append}
 use Rattle.x7_words.specs.Input.{InputsState, Stays, Takes, preceded}
 
 -- before anything was taken, the rest is all
@@ -22,7 +22,11 @@ stays_on a b c p q = record { map = q.map ∙ p.map; faults = omega (arith, p.fa
 
 -- a piece taken after another is the joined piece taken
 pub takes_on : (a b c : InputsState) (first second : List ℕ) → Takes a first b → Takes b second c → Takes a (first ++ second) c
-takes_on a b c first second p q = record { selected = q.selected; taken = p.taken ∙ ap (preceded first) q.taken ∙ preceded-preceded first second c.rest }
+takes_on a b c first second p q = record {
+  selected = q.selected;
+  taken = p.taken ∙ ap (preceded first) q.taken ∙ preceded-preceded first second c.rest;
+  given = omega (arith, p.given, q.given, length-append first second);
+}
 
 -- the same piece by another name
 pub takes_as : (a b : InputsState) (bytes same : List ℕ) → bytes ≡ same → Takes a same b → Takes a bytes b
@@ -30,4 +34,4 @@ takes_as a b bytes same e t = rw e t
 
 -- before anything was taken
 pub takes_none : (s : InputsState) → s.selected ≡ true → Takes s [] s
-takes_none s e = record { selected = e; taken = sym (preceded-nil s.rest) }
+takes_none s e = record { selected = e; taken = sym (preceded-nil s.rest); given = omega arith }

@@ -8,3 +8,7 @@ HasRisen old new = (old < new) ⊎ (new + 1 ≡ 2 ^ 64)
 -- the next count; after the last u64 it stays
 abbrev pub raised : ℕ → ℕ
 raised count = min (count + 1) (2 ^ 64 - 1)
+
+-- the count with so many more; after the last u64 it stays
+abbrev pub added : ℕ → ℕ → ℕ
+added count more = min (count + more) (2 ^ 64 - 1)

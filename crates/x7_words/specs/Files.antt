@@ -13,6 +13,8 @@ pub record RealInputs : Type 0 where
   pub selected : Bool
   -- the bytes that reads of the open file will give, where its reader knows them
   pub rest : Option (List ℕ)
+  -- the bytes given since the last select; the last u64 stays
+  pub given : ℕ
   -- the faults counted; the last u64 stays
   pub faults : ℕ
   -- the absences counted; the last u64 stays
@@ -24,6 +26,8 @@ told_of f = record {
   contents = None;
   selected = f.selected;
   rest = None;
+  asked = None;
+  given = f.given;
   faults = f.faults;
   absences = f.absences;
 }
@@ -35,9 +39,9 @@ rest_of remaining (Some file) = remaining file
 
 -- the files after an open with this answer: each fault and each absence is counted once
 abbrev pub after_open : RealInputs → Option (List ℕ) → Result (Unit {0}) SelectFault → RealInputs
-after_open f rest (Ok _) = record f { selected = true; rest = rest }
-after_open f rest (Err Missing) = record f { selected = false; rest = None; absences = raised f.absences }
-after_open f rest (Err Failed) = record f { selected = false; rest = None; faults = raised f.faults }
+after_open f rest (Ok _) = record f { selected = true; rest = rest; given = 0 }
+after_open f rest (Err Missing) = record f { selected = false; rest = None; given = 0; absences = raised f.absences }
+after_open f rest (Err Failed) = record f { selected = false; rest = None; given = 0; faults = raised f.faults }
 
 -- a read gave the first n bytes of the buffer and took them from the file, and gave none only at the end or with no room
 abbrev pub Gives : Option (List ℕ) → Option (List ℕ) → List ℕ → ℕ → Type 0
@@ -53,10 +57,21 @@ pub record RealFlash : Type 0 where
   pub faults : ℕ
   -- the absences counted; the last u64 stays
   pub absences : ℕ
+  -- the faults of writes counted; the last u64 stays
+  pub write_faults : ℕ
 
 -- what is told of a file as a flash: its size, and nothing of what it holds
 abbrev pub size_told : RealFlash → FlashState
-size_told f = record { bytes = None; extent = f.extent; attached = f.attached; faults = f.faults; absences = f.absences }
+size_told f = record {
+  bytes = None;
+  extent = f.extent;
+  attached = f.attached;
+  names = λ _. true;
+  faults = f.faults;
+  absences = f.absences;
+  write_faults = f.write_faults;
+  moments = 0;
+}
 
 -- the flash after an attach with this answer: each fault and each absence is counted once
 abbrev pub after_attach : RealFlash → ℕ → Result (Unit {0}) SelectFault → RealFlash

@@ -1,8 +1,18 @@
--- A flash's bytes, which may be told or not (this project's choice).
-use Rattle.std.specs.Prelude.{◌≡◌, ◌≤◌, ◌<◌, ◌^◌, ℕ, Bool, List, Option, None, Some, length}
+-- A flash's bytes, which may be told or not, and what a write does to them (this project's choice).
+use Rattle.std.specs.Prelude.{◌≡◌, ◌≤◌, ◌<◌, ◌^◌, ◌+◌, ◌*◌, ◌⊎◌, ℕ, Bool, IsTrue, List, [], ◌∷◌, length, get_or, replicate, slice_range, bit_and, Option, None, Some}
+use Rattle.std.specs.Int.{bit_at}
+use Rattle.std.specs.List.{splice}
 use Rattle.x7_words.specs.Count.{HasRisen}
 use Rattle.x7_words.specs.declared.input.SelectFault.{SelectFault}
 use Rattle.x7_words.specs.declared.input.SelectFault.TheVariants.{Missing, Failed}
+
+-- the bytes of a sector: 65,536
+unfoldable pub sector_size : ℕ
+sector_size = 65536
+
+-- the most bytes of a flash: 134,217,728
+abbrev pub flash_limit : ℕ
+flash_limit = 134217728
 
 -- what a flash has come to
 pub record FlashState : Type 0 where
@@ -12,10 +22,16 @@ pub record FlashState : Type 0 where
   pub extent : ℕ
   -- whether it is attached
   pub attached : Bool
+  -- the names for which it may have been asked; each, where it keeps none
+  pub names : List ℕ → Bool
   -- how often an attach or a read has failed
   pub faults : ℕ
   -- how often the name was missing
   pub absences : ℕ
+  -- how often an erase or a program has failed
+  pub write_faults : ℕ
+  -- the present moment, as a number that doesn't fall
+  pub moments : ℕ
 
 -- where the bytes are told, this holds of them
 abbrev pub WhereTold : Option (List ℕ) → (List ℕ → Type 0) → Type 0
@@ -26,21 +42,38 @@ WhereTold (Some bytes) P = P bytes
 abbrev pub IsSized : FlashState → Type 0
 IsSized state = WhereTold state.bytes (λ all. state.extent ≡ length all)
 
--- the bytes stay, and no count falls
-pub record FlashStays (old new : FlashState) : Type 0 where
+-- ---- attaching and reading
+
+-- No time passes: what may be found after a stop since some moment is what might have been found before, and nothing was written.
+pub record Unwritten (old new : FlashState) (past since : ℕ → List ℕ → Type 0) : Type 0 where
+  pub write_faults : new.write_faults ≡ old.write_faults
+  pub moments : new.moments ≡ old.moments
+  pub nothing_else : (moment : ℕ) (found : List ℕ) → since moment found → past moment found
+  pub keeps : (moment : ℕ) (found : List ℕ) → past moment found → since moment found
+
+-- the bytes stay, nothing was written, and no count falls
+pub record FlashStays (old new : FlashState) (past since : ℕ → List ℕ → Type 0) : Type 0 where
   pub bytes : new.bytes ≡ old.bytes
   pub faults : old.faults ≤ new.faults
   pub absences : old.absences ≤ new.absences
+  pub unwritten : Unwritten old new past since
 
--- nothing changed but the count of faults, which does not fall
-pub record OnlyFaults (old new : FlashState) : Type 0 where
+-- nothing was written, and nothing changed but the count of faults, which does not fall
+pub record OnlyReads (old new : FlashState) (past since : ℕ → List ℕ → Type 0) : Type 0 where
   pub bytes : new.bytes ≡ old.bytes
   pub extent : new.extent ≡ old.extent
   pub attached : new.attached ≡ old.attached
+  pub names : new.names ≡ old.names
   pub faults : old.faults ≤ new.faults
   pub absences : new.absences ≡ old.absences
+  pub unwritten : Unwritten old new past since
 
--- both counts are those of a u64
+-- the flash was asked for this name, and for no other one since
+pub record AsksFor (old : FlashState) (name : List ℕ) (new : FlashState) : Type 0 where
+  pub asked : IsTrue (new.names name)
+  pub no_other : (other : List ℕ) → IsTrue (new.names other) → IsTrue (old.names other) ⊎ (other ≡ name)
+
+-- the counts are those of a u64
 abbrev pub FlashFits : FlashState → Type 0
 FlashFits state = (state.faults < 2 ^ 64) × (state.absences < 2 ^ 64)
 
@@ -52,3 +85,67 @@ FlashFails old new = HasRisen old.faults new.faults
 abbrev pub Unattached : FlashState → FlashState → SelectFault → Type 0
 Unattached old new Missing = HasRisen old.absences new.absences
 Unattached old new Failed = FlashFails old new
+
+-- ---- writing
+
+-- a sector with each bit 1
+abbrev pub erased_sector : List ℕ
+erased_sector = replicate sector_size 255
+
+-- the bytes with this piece in the place of as many of them
+abbrev pub replaced : ℕ → List ℕ → List ℕ → List ℕ
+replaced place piece bytes = splice bytes place (place + length piece) piece
+
+-- the bytes with each bit of this sector 1
+abbrev pub erased : ℕ → List ℕ → List ℕ
+erased sector bytes = replaced (sector * 65536) erased_sector bytes
+
+-- the values of a function at the pairs of two lists, place by place
+abbrev pub zip_with : (ℕ → ℕ → ℕ) → List ℕ → List ℕ → List ℕ
+zip_with f [] ys = []
+zip_with f (x ∷ xs) [] = []
+zip_with f (x ∷ xs) (y ∷ ys) = f x y ∷ zip_with f xs ys
+
+-- what a write brings to its range: a bit can be made 0, but not 1
+abbrev pub cleared : ℕ → List ℕ → List ℕ → List ℕ
+cleared place given bytes = zip_with bit_and (slice_range bytes place (place + length given)) given
+
+-- the bytes after a write of the given ones at the place
+abbrev pub programmed : ℕ → List ℕ → List ℕ → List ℕ
+programmed place given bytes = replaced place (cleared place given bytes) bytes
+
+-- What may be found within a write of the target at the place: each bit of its range is old or its target, and all else is old.
+pub record IsTorn (place : ℕ) (target old found : List ℕ) : Type 0 where
+  pub size : length found ≡ length old
+  pub outside : (i : ℕ) → (i < place) ⊎ (place + length target ≤ i) → get_or found i 0 ≡ get_or old i 0
+  pub inside : (i bit : ℕ) → i < length target → bit < 8 →
+      (bit_at (get_or found (place + i) 0) bit ≡ bit_at (get_or old (place + i) 0) bit)
+      ⊎ (bit_at (get_or found (place + i) 0) bit ≡ bit_at (get_or target i 0) bit)
+
+-- where the bytes were told before a write that failed, they are told after it, and torn
+abbrev pub TornFrom : ℕ → (List ℕ → List ℕ) → Option (List ℕ) → Option (List ℕ) → Type 0
+TornFrom place target None new = Unit {0}
+TornFrom place target (Some old) new = (now : List ℕ) × (new ≡ Some now) × IsTorn place (target old) old now
+
+-- where the bytes were told before a write, this may be found within it
+abbrev pub WithinWrite : ℕ → (List ℕ → List ℕ) → Option (List ℕ) → List ℕ → Type 0
+WithinWrite place target told found = WhereTold told (λ old. IsTorn place (target old) old found)
+
+-- Time goes on: what may be found after a stop since some moment is what might have been found before, or this.
+pub record Elapses (before now : ℕ) (past since : ℕ → List ℕ → Type 0) (within : List ℕ → Type 0) : Type 0 where
+  pub later : before ≤ now
+  pub nothing_else : (moment : ℕ) (found : List ℕ) → moment ≤ before → since moment found → past moment found ⊎ within found
+  pub keeps : (moment : ℕ) (found : List ℕ) → moment ≤ before → past moment found → since moment found
+
+-- nothing changed but the bytes, the moment and the count of write faults, which does not fall
+pub record OnlyWrites (old new : FlashState) : Type 0 where
+  pub extent : new.extent ≡ old.extent
+  pub attached : new.attached ≡ old.attached
+  pub names : new.names ≡ old.names
+  pub faults : new.faults ≡ old.faults
+  pub absences : new.absences ≡ old.absences
+  pub write_faults : old.write_faults ≤ new.write_faults
+
+-- a write failed, which the count of write faults tells
+abbrev pub WriteFails : FlashState → FlashState → Type 0
+WriteFails old new = HasRisen old.write_faults new.write_faults

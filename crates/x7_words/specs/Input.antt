@@ -1,5 +1,5 @@
 -- Inputs by name, where their bytes may be told or not (this project's choice).
-use Rattle.std.specs.Prelude.{◌≡◌, ℕ, Bool, true, List, [], ◌++◌, ◌≤◌, ◌<◌, ◌^◌, ◌⊎◌, Option, None, Some}
+use Rattle.std.specs.Prelude.{◌≡◌, ℕ, Bool, true, List, [], ◌++◌, ◌+◌, ◌≤◌, ◌<◌, ◌^◌, ◌⊎◌, length, Option, None, Some, IfSome}
 use Rattle.x7_words.specs.Count.{HasRisen}
 use Rattle.x7_words.specs.declared.input.SelectFault.{SelectFault}
 use Rattle.x7_words.specs.declared.input.SelectFault.TheVariants.{Missing, Failed}
@@ -12,6 +12,10 @@ pub record InputsState : Type 0 where
   pub selected : Bool
   -- what is left of the selected input, where that is told
   pub rest : Option (List ℕ)
+  -- the name of the last select, where it is kept
+  pub asked : Option (List ℕ)
+  -- how many bytes were given since the last select, by a count that may stop; a fault leaves it
+  pub given : ℕ
   -- how often a select or a read has failed
   pub faults : ℕ
   -- how often a name was missing
@@ -60,10 +64,16 @@ pub record Opens (old : InputsState) (name : List ℕ) (new : InputsState) : Typ
   pub selected : new.selected ≡ true
   pub found : Selects old.contents name new.rest
 
--- these bytes were taken from the selected input, which stays selected
+-- this is the name of the last select, and nothing was given since
+pub record Asks (name : List ℕ) (new : InputsState) : Type 0 where
+  pub asked : IfSome new.asked (λ kept. kept ≡ name)
+  pub given : new.given ≡ 0
+
+-- these bytes were taken from the selected input, which stays selected, and are counted as given
 pub record Takes (old : InputsState) (bytes : List ℕ) (new : InputsState) : Type 0 where
   pub selected : new.selected ≡ true
   pub taken : old.rest ≡ preceded bytes new.rest
+  pub given : new.given ≤ old.given + length bytes
 
 -- why a name was not selected
 abbrev pub Refuses : InputsState → List ℕ → InputsState → SelectFault → Type 0

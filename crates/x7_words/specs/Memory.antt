@@ -1,8 +1,9 @@
 -- What objects in memory hold, and what their calls answer (this project's choice).
-use Rattle.std.specs.Prelude.{◌==◌, ◌||◌, not, nat_le, ℕ, ◌-◌, List, [], ◌∷◌, ◌++◌, Bool, ◌&&◌, nat_lt, Option, None, Some, Result, Ok, Err, if◌then◌else◌, is_none, is_some, length, take, drop, min, option_map, unwrap_or}
+use Rattle.std.specs.Prelude.{◌==◌, ◌||◌, not, nat_le, ℕ, ◌+◌, ◌-◌, List, [], ◌∷◌, ◌++◌, Bool, true, ◌&&◌, nat_lt, Option, None, Some, Result, Ok, Err, if◌then◌else◌, is_none, is_some, length, take, drop, min, option_map, option_and_then, unwrap_or, slice_range, bit_and, bit_or, bit_xor}
 use Rattle.std.specs.List.{list_any}
 use Rattle.std.specs.Str.{bytes_eq}
 use Rattle.x7_words.specs.Count.{raised}
+use Rattle.x7_words.specs.Flash.{replaced, zip_with}
 use Rattle.x7_words.specs.Input.{InputsState}
 use Rattle.x7_words.specs.declared.input.SelectFault.{SelectFault}
 use Rattle.x7_words.specs.declared.input.SelectFault.TheVariants.{Missing, Failed}
@@ -40,6 +41,8 @@ pub record InputsInMemory : Type 0 where
   pub entries : List (List ℕ × List ℕ)
   -- what is left of the selected input; none where nothing is selected
   pub rest : Option (List ℕ)
+  -- how many bytes were given since the last select
+  pub given : ℕ
   -- the most bytes that a read gives
   pub most : ℕ
   pub calls : CallPlan
@@ -57,6 +60,8 @@ told_of m = record {
   contents = Some (bytes_under m.entries);
   selected = is_some m.rest;
   rest = m.rest;
+  asked = None;
+  given = m.given;
   faults = m.faults;
   absences = 0;
 }
@@ -79,6 +84,7 @@ after_select m name =
       calls = numbered m.calls;
       faults = raised_if (next_fails m.calls) m.faults;
       rest = if next_fails m.calls then None else bytes_under m.entries name;
+      given = 0;
     }
 
 -- how many bytes a read into a buffer of this length gives
@@ -92,6 +98,7 @@ after_read m len =
       calls = numbered m.calls;
       faults = raised_if (next_fails m.calls) m.faults;
       rest = if next_fails m.calls then None else option_map (drop (read_count m len)) m.rest;
+      given = if next_fails m.calls then m.given else m.given + read_count m len;
     }
 
 -- a sink in memory
@@ -123,6 +130,59 @@ after_write s piece =
       bytes = if write_fails s piece then s.bytes else s.bytes ++ take (write_count s piece) piece;
     }
 
+-- one write of a flash in memory
+pub record PastWrite : Type 0 where
+  -- where its range begins
+  pub place : ℕ
+  -- the bytes of its range before it
+  pub before : List ℕ
+  -- the bytes that it was to bring there
+  pub target : List ℕ
+
+-- the writes that a flash in memory has recorded, and the room that it has for further ones
+pub record WriteRecord : Type 0 where
+  -- the first of them first
+  pub past : List PastWrite
+  -- how many writes more it can record
+  pub writes_left : ℕ
+  -- how many bytes their ranges may have in all
+  pub bytes_left : ℕ
+
+-- no write, and no room for one
+abbrev pub no_writes : WriteRecord
+no_writes = record { past = []; writes_left = 0; bytes_left = 0 }
+
+-- the record with room for so many writes more
+abbrev pub with_room : WriteRecord → ℕ → ℕ → WriteRecord
+with_room w writes bytes = record w { writes_left = w.writes_left + writes; bytes_left = w.bytes_left + bytes }
+
+-- a write of so many bytes can be recorded
+abbrev pub has_room : WriteRecord → ℕ → Bool
+has_room w count = nat_lt 0 w.writes_left && nat_le count w.bytes_left
+
+-- the record with one write more
+abbrev pub recorded : WriteRecord → ℕ → List ℕ → List ℕ → WriteRecord
+recorded w place before target =
+    record w {
+      past = w.past ++ record { place = place; before = before; target = target } ∷ [];
+      writes_left = w.writes_left - 1;
+      bytes_left = w.bytes_left - length target;
+    }
+
+-- a byte torn by a pattern: the old one's bits where the pattern has 1, the target's where it has 0
+abbrev pub torn_byte : ℕ → ℕ → ℕ → ℕ
+torn_byte pattern old target = bit_or (bit_and old pattern) (bit_and target (bit_xor pattern 255))
+
+-- what a write leaves in its range: the target, or what a pattern tears
+abbrev pub left_by : Option ℕ → List ℕ → List ℕ → List ℕ
+left_by None before target = target
+left_by (Some pattern) before target = zip_with (torn_byte pattern) before target
+
+-- a call that is to be torn, if it is a write, and its pattern
+pub record Tear : Type 0 where
+  pub call : ℕ
+  pub pattern : ℕ
+
 -- a flash in memory
 pub record FlashInMemory : Type 0 where
   -- the name under which it is attached
@@ -134,29 +194,80 @@ pub record FlashInMemory : Type 0 where
   pub calls : CallPlan
   -- the faults of reads counted, an attach too; the last u64 stays
   pub read_faults : ℕ
+  -- the faults of writes counted; the last u64 stays
+  pub write_faults : ℕ
+  pub writes : WriteRecord
+  pub tear : Option Tear
+  -- whether a write was torn: all calls fail from then on
+  pub stopped : Bool
+
+-- the next call of the flash fails, as planned or since a write was torn
+abbrev pub flash_fails : FlashInMemory → Bool
+flash_fails f = f.stopped || next_fails f.calls
 
 -- what an attach under the name answers
 abbrev pub attach_answer : FlashInMemory → List ℕ → Result (Unit {0}) SelectFault
 attach_answer f name =
-    if next_fails f.calls then Err Failed
+    if flash_fails f then Err Failed
     else if bytes_eq f.name name then Ok tt
     else Err Missing
 
 -- the absences after an attach under the name
 abbrev pub absences_after : FlashInMemory → List ℕ → ℕ
 absences_after f name =
-    if next_fails f.calls || bytes_eq f.name name then f.absences else raised f.absences
+    if flash_fails f || bytes_eq f.name name then f.absences else raised f.absences
 
 -- the flash after an attach under the name
 abbrev pub after_attach : FlashInMemory → List ℕ → FlashInMemory
 after_attach f name =
     record f {
       calls = numbered f.calls;
-      read_faults = raised_if (next_fails f.calls) f.read_faults;
-      attached = not (next_fails f.calls) && bytes_eq f.name name;
+      read_faults = raised_if (flash_fails f) f.read_faults;
+      attached = not (flash_fails f) && bytes_eq f.name name;
       absences = absences_after f name;
     }
 
 -- the flash after a read
 abbrev pub after_read_at : FlashInMemory → FlashInMemory
-after_read_at f = record f { calls = numbered f.calls; read_faults = raised_if (next_fails f.calls) f.read_faults }
+after_read_at f = record f { calls = numbered f.calls; read_faults = raised_if (flash_fails f) f.read_faults }
+
+-- a write of so many bytes is refused and changes nothing: as planned, or since the record has no room
+abbrev pub write_refused : FlashInMemory → ℕ → Bool
+write_refused f count = flash_fails f || not (has_room f.writes count)
+
+-- the pattern by which the next call is torn, if it is a write
+abbrev pub next_tear : FlashInMemory → Option ℕ
+next_tear f = option_and_then (λ tear. if tear.call == raised f.calls.last then Some tear.pattern else None) f.tear
+
+-- the pattern by which the latest call is torn, if it is a write
+abbrev pub latest_tear : FlashInMemory → Option ℕ
+latest_tear f = option_and_then (λ tear. if tear.call == f.calls.last then Some tear.pattern else None) f.tear
+
+-- the flash after a write that was torn: all later calls fail
+abbrev pub after_tear : FlashInMemory → FlashInMemory
+after_tear f = record f { stopped = true; write_faults = raised f.write_faults }
+
+-- a write of so many bytes fails
+abbrev pub write_fails_in : FlashInMemory → ℕ → Bool
+write_fails_in f count = write_refused f count || is_some (next_tear f)
+
+-- the flash after a write that is refused
+abbrev pub after_refusal : FlashInMemory → FlashInMemory
+after_refusal f = record f { calls = numbered f.calls; write_faults = raised f.write_faults }
+
+-- the flash after a write of the target, torn by a pattern or not
+abbrev pub after_tearing : FlashInMemory → ℕ → List ℕ → Option ℕ → FlashInMemory
+after_tearing f place target tear =
+    record f {
+      calls = numbered f.calls;
+      stopped = is_some tear || f.stopped;
+      write_faults = raised_if (is_some tear) f.write_faults;
+      bytes = replaced place (left_by tear (slice_range f.bytes place (place + length target)) target) f.bytes;
+      writes = recorded f.writes place (slice_range f.bytes place (place + length target)) target;
+    }
+
+-- the flash after a write of the target at the place
+abbrev pub after_write_of : FlashInMemory → ℕ → List ℕ → FlashInMemory
+after_write_of f place target =
+    if write_refused f (length target) then after_refusal f
+    else after_tearing f place target (next_tear f)

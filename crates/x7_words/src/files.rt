@@ -1,7 +1,7 @@
 //! The real outside: files as inputs and as a flash, and a writer such as standard output as a sink.
 ghost use Rattle.std.specs.Prelude.{◌≡◌, ◌<◌, ◌≤◌, ◌^◌, ◌↔◌, length, take, None, true, false, IfOk, OnOk, OnErr};
 ghost use Rattle.std.specs.Io.KnownBytes.{Appends, Keeps, ReadConsumes, WriteAppends};
-ghost use Rattle.x7_words.specs.Count.{raised};
+ghost use Rattle.x7_words.specs.Count.{added, raised};
 ghost use Rattle.x7_words.specs.Files.{after_open, told_of, Gives};
 
 mod flash;
@@ -44,6 +44,7 @@ fn read_once<F: Read>(file: &mut F, buf: &mut [u8]) -> Result<usize, Failed>
 pub struct FileInputs<'r, R: Files> {
     rt: &'r R,
     file: Option<R::File>,
+    given: u64,
     faults: u64,
     absences: u64,
 }
@@ -57,21 +58,23 @@ impl<'r, R: Files> Model for FileInputs<'r, R> {
     ghost view = { λ f. record {
       selected = is_some f.file;
       rest = rest_of R.File.remaining f.file;
+      given = f.given;
       faults = f.faults;
       absences = f.absences;
     } };
 
-    ghost invariant = { λ f. (f.faults < 2 ^ 64) × (f.absences < 2 ^ 64) };
+    ghost invariant = { λ f. (f.given < 2 ^ 64) × (f.faults < 2 ^ 64) × (f.absences < 2 ^ 64) };
 }
 
 impl<'r, R: Files> FileInputs<'r, R> {
     /// The files of the runtime. None is selected.
     pub fn new(rt: &'r R) -> FileInputs<'r, R>
-        ensures { result ≡ record { selected = false; rest = None; faults = 0; absences = 0 } }
+        ensures { result ≡ record { selected = false; rest = None; given = 0; faults = 0; absences = 0 } }
     {
         FileInputs {
             rt,
             file: None,
+            given: 0,
             faults: 0,
             absences: 0,
         }
@@ -89,6 +92,7 @@ impl<'r, R: Files> Inputs for FileInputs<'r, R> {
         ensures last_absence { self.new.absences < 2 ^ 64 }
     {
         self.file = None;
+        self.given = 0;
         match fs::open(self.rt, name) {
             Ok(file) => {
                 self.file = Some(file);
@@ -110,7 +114,8 @@ impl<'r, R: Files> Inputs for FileInputs<'r, R> {
         ensures within { IfOk result (λ n. n ≤ length buf.old) }
         ensures length { length buf.new ≡ length buf.old }
         ensures bytes { IfOk result (Gives self.old.rest self.new.rest buf.new) }
-        ensures ok { OnOk result (self.new ≡ record self.old { rest = self.new.rest }) }
+        ensures ok { IfOk result (λ n. self.new ≡
+            record self.old { rest = self.new.rest; given = added self.old.given n }) }
         ensures err { OnErr result (self.new ≡
             record self.old { selected = false; rest = None; faults = raised self.old.faults }) }
         ensures faults { self.old.faults ≤ self.new.faults }
@@ -121,7 +126,10 @@ impl<'r, R: Files> Inputs for FileInputs<'r, R> {
             unreachable!()
         };
         match read_once(file, buf) {
-            Ok(count) => Ok(count),
+            Ok(count) => {
+                self.given = self.given.saturating_add(count as u64);
+                Ok(count)
+            }
             Err(Failed) => {
                 self.file = None;
                 self.faults = next_count(self.faults);

@@ -1,23 +1,36 @@
-//! A flash that is read at places.
-ghost use Rattle.std.specs.Prelude.{◌≡◌, ◌+◌, ◌<◌, ◌≤◌, ◌^◌, length, true, false, IfErr, OnOk, OnErr, slice_range};
-ghost use Rattle.x7_words.specs.Flash.{FlashFails, FlashFits, FlashState, FlashStays, IsSized, OnlyFaults, Unattached, WhereTold};
+//! A flash that is read, erased and programmed at places.
+ghost use Rattle.std.specs.Prelude.{◌≡◌, ℕ, List, ◌+◌, ◌*◌, ◌<◌, ◌≤◌, ◌^◌, length, Some, true, false, IfErr, OnOk, OnErr, slice_range, option_map};
+ghost use Rattle.x7_words.specs.Flash.{AsksFor, Elapses, FlashFails, FlashFits, FlashState, FlashStays, IsSized, OnlyReads, OnlyWrites, TornFrom, Unattached, WhereTold, WithinWrite, WriteFails, cleared, erased, erased_sector, programmed};
 
 use crate::input::{Failed, SelectFault};
 
-/// A flash: bytes at places from 0, which are read once it is attached under its name.
+/// The bytes of a sector, which one erase sets to FF.
+pub const SECTOR: u64 = 65_536;
+
+/// The most bytes of a flash.
+pub const FLASH_LIMIT: u64 = 134_217_728;
+
+/// A flash: bytes at places from 0, which are read, erased and programmed once it is attached under its name.
 ///
-/// Both counts only rise, by at least one at each fault or absence. A count that has reached the
+/// A power loss may stop a flash at any moment. Before a write, after it and between two its bytes are found then;
+/// within one each bit of the range is old or its target.
+///
+/// The counts only rise, by at least one at each fault or absence. A count that has reached the
 /// last u64 stays there, and counts as risen.
 pub trait Flash {
     /// What the flash has come to.
     ghost state: { Self → FlashState };
+
+    /// These bytes may be found after a stop at some moment from that one on.
+    ghost found_since: { Self → ℕ → List ℕ → Type 0 };
 
     /// Attaches the flash of this name. After an error none is attached.
     fn attach(&mut self, name: &str) -> Result<(), SelectFault>
         ensures ok { OnOk result ((state self.new).attached ≡ true) }
         ensures refused { IfErr result (Unattached (state self.old) (state self.new)) }
         ensures err { OnErr result ((state self.new).attached ≡ false) }
-        ensures stays { FlashStays (state self.old) (state self.new) }
+        ensures asks { AsksFor (state self.old) name.now (state self.new) }
+        ensures stays { FlashStays (state self.old) (state self.new) (found_since self.old) (found_since self.new) }
         ensures sized { IsSized (state self.new) }
         ensures fits { FlashFits (state self.new) };
 
@@ -36,7 +49,49 @@ pub trait Flash {
             (λ all. buf.new ≡ slice_range all place (place + length buf.old))) }
         ensures length { length buf.new ≡ length buf.old }
         ensures failed { OnErr result (FlashFails (state self.old) (state self.new)) }
-        ensures only { OnlyFaults (state self.old) (state self.new) }
+        ensures only { OnlyReads (state self.old) (state self.new) (found_since self.old) (found_since self.new) }
         ensures sized { IsSized (state self.new) }
         ensures fits { (state self.new).faults < 2 ^ 64 };
+
+    /// Sets each bit of the sector of this number, counted from 0, to 1. After an error each bit of the sector is
+    /// old or 1.
+    fn erase(&mut self, sector: u64) -> Result<(), Failed>
+        requires attached { (state self.old).attached ≡ true }
+        requires within { sector * 65536 + 65536 ≤ (state self.old).extent }
+        ensures erased { OnOk result ((state self.new).bytes ≡ option_map (erased sector) (state self.old).bytes) }
+        ensures torn { OnErr result
+            (TornFrom (sector * 65536) (λ _. erased_sector) (state self.old).bytes (state self.new).bytes) }
+        ensures passes { Elapses (state self.old).moments (state self.new).moments (found_since self.old) (found_since self.new)
+            (WithinWrite (sector * 65536) (λ _. erased_sector) (state self.old).bytes) }
+        ensures failed { OnErr result (WriteFails (state self.old) (state self.new)) }
+        ensures only { OnlyWrites (state self.old) (state self.new) }
+        ensures sized { IsSized (state self.new) }
+        ensures fits { (state self.new).write_faults < 2 ^ 64 };
+
+    /// Makes each byte from the place on the old byte AND the given one. After an error each bit of the range is
+    /// old or its target.
+    fn program(&mut self, place: u64, given: &[u8]) -> Result<(), Failed>
+        requires attached { (state self.old).attached ≡ true }
+        requires within { place + length given.now ≤ (state self.old).extent }
+        ensures programmed { OnOk result
+            ((state self.new).bytes ≡ option_map (programmed place given.now) (state self.old).bytes) }
+        ensures torn { OnErr result
+            (TornFrom place (cleared place given.now) (state self.old).bytes (state self.new).bytes) }
+        ensures passes { Elapses (state self.old).moments (state self.new).moments (found_since self.old) (found_since self.new)
+            (WithinWrite place (cleared place given.now) (state self.old).bytes) }
+        ensures failed { OnErr result (WriteFails (state self.old) (state self.new)) }
+        ensures only { OnlyWrites (state self.old) (state self.new) }
+        ensures sized { IsSized (state self.new) }
+        ensures fits { (state self.new).write_faults < 2 ^ 64 };
+
+    /// Where the bytes are told, the size is their number.
+    ghost counted: { (flash : Self) → IsSized (state flash) };
+
+    /// After a stop now, or at the end of any time up to now, the flash's bytes may be found.
+    ghost found_now: { (flash : Self) (moment : ℕ) (all : List ℕ) → moment ≤ (state flash).moments
+        → (state flash).bytes ≡ Some all → found_since flash moment all };
+
+    /// After a stop now nothing else is found.
+    ghost only_now: { (flash : Self) (found : List ℕ) → found_since flash (state flash).moments found
+        → WhereTold (state flash).bytes (λ all. found ≡ all) };
 }

@@ -1,6 +1,6 @@
 //! Inputs that are read by name, and what can go wrong with the outside.
 ghost use Rattle.std.specs.Prelude.{◌≡◌, ◌<◌, ◌≤◌, length, take, true, false, IfErr, IfOk, OnOk, OnErr};
-ghost use Rattle.x7_words.specs.Input.{InputsState, AtEnd, Fails, Fits, Opens, Refuses, Stays, Takes};
+ghost use Rattle.x7_words.specs.Input.{InputsState, Asks, AtEnd, Fails, Fits, Opens, Refuses, Stays, Takes};
 
 use std::alloc::{AllocError, AllocFailed};
 
@@ -47,6 +47,7 @@ pub trait Inputs {
         ensures ok { OnOk result (Opens (state self.old) name.now (state self.new)) }
         ensures refused { IfErr result (Refuses (state self.old) name.now (state self.new)) }
         ensures err { OnErr result ((state self.new).selected ≡ false) }
+        ensures asks { Asks name.now (state self.new) }
         ensures stays { Stays (state self.old) (state self.new) }
         ensures fits { Fits (state self.new) };
 
@@ -61,6 +62,8 @@ pub trait Inputs {
         ensures length { length buf.new ≡ length buf.old }
         ensures failed { OnErr result (Fails (state self.old) (state self.new)) }
         ensures err { OnErr result ((state self.new).selected ≡ false) }
+        ensures given { OnErr result ((state self.new).given ≤ (state self.old).given) }
+        ensures asked { (state self.new).asked ≡ (state self.old).asked }
         ensures stays { Stays (state self.old) (state self.new) }
         ensures fits { Fits (state self.new) };
 }

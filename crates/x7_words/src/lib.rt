@@ -12,7 +12,7 @@ mod word;
 
 pub use bytes::is_same;
 pub use files::{FileFlash, FileInputs, StdSink};
-pub use flash::Flash;
+pub use flash::{FLASH_LIMIT, Flash, SECTOR};
 pub use input::{Failed, Inputs, NoMemory, SelectFault};
 pub use memory::{MemoryFlash, MemoryInputs, MemorySink};
 pub use sink::{Sink, write_all, write_pieces};

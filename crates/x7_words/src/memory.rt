@@ -3,6 +3,7 @@ mod calls;
 mod flash;
 mod inputs;
 mod put;
+mod record;
 mod sink;
 
 pub use flash::MemoryFlash;

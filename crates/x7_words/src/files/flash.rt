@@ -1,14 +1,15 @@
 //! A file as a flash.
-ghost use Rattle.std.specs.Prelude.{◌≡◌, ◌+◌, ◌<◌, ◌≤◌, ◌^◌, length, None, true, false, IfOk, IfSome, OnOk, OnErr};
+ghost use Rattle.std.specs.Prelude.{◌≡◌, ◌+◌, ◌*◌, ◌<◌, ◌≤◌, ◌^◌, length, bit_and, None, true, false, IfOk, IfSome, OnOk, OnErr};
 ghost use Rattle.x7_words.specs.Count.{raised};
 ghost use Rattle.x7_words.specs.Files.{after_attach, size_told};
+ghost use Rattle.x7_words.specs.Flash.{zip_with};
 
 use super::refused;
 use crate::count::next_count;
-use crate::flash::Flash;
+use crate::flash::{Flash, SECTOR};
 use crate::input::{Failed, SelectFault};
-use std::fs::{self, OpenFile};
-use std::io::{self, ErrorKind, Read, Seek, SeekFrom};
+use std::fs::{self, OpenFile, OpenOptions};
+use std::io::{self, ErrorKind, Read, Seek, SeekFrom, Write};
 use std::marker::Model;
 use std::rt::Files;
 
@@ -31,7 +32,65 @@ fn read_from<F: Read + Seek>(file: &mut F, place: u64, buf: &mut [u8]) -> io::Re
     file.read_exact(buf)
 }
 
+/// The bytes that a write takes at once.
+const PIECE: usize = 4096;
+
+/// Opens a file for reading and writing, or for reading alone where it may not be written.
+fn open_flash<R: Files>(rt: &R, name: &str) -> io::Result<R::File> {
+    let mut options = OpenOptions::new();
+    options.read(true);
+    options.write(true);
+    match options.open(rt, name) {
+        Ok(file) => Ok(file),
+        Err(_) => fs::open(rt, name),
+    }
+}
+
+/// Makes so many pieces from the place on FF, and waits until they are kept.
+fn erase_from<F: Write + Seek + OpenFile>(file: &mut F, place: u64, pieces: u64) -> io::Result<()> {
+    file.seek(SeekFrom::Start(place))?;
+    let ones = [0xFF; PIECE];
+    for _ in 0..pieces {
+        file.write_all(&ones)?;
+    }
+    file.sync_data()
+}
+
+/// Makes each byte the old one AND the other.
+fn clear_bits(bytes: &mut [u8], given: &[u8])
+    requires { length bytes.old ≡ length given.now }
+    ensures { bytes.new ≡ zip_with bit_and bytes.old given.now }
+{
+    for i in 0..given.len() {
+        bytes[i] &= given[i];
+    }
+}
+
+/// Makes each byte from the place on the old one AND the given one, and waits until they are kept.
+fn program_from<F: Read + Write + Seek + OpenFile>(
+    file: &mut F,
+    place: u64,
+    given: &[u8],
+) -> io::Result<()>
+    requires { place + length given.now < 2 ^ 64 }
+{
+    let mut buffer = [0; PIECE];
+    let mut done = 0;
+    while done < given.len() {
+        let count = PIECE.min(given.len() - done);
+        let at = place + done as u64;
+        read_from(file, at, &mut buffer[..count])?;
+        clear_bits(&mut buffer[..count], &given[done..done + count]);
+        file.seek(SeekFrom::Start(at))?;
+        file.write_all(&buffer[..count])?;
+        done += count;
+    }
+    file.sync_data()
+}
+
 /// A file by its path as a flash, which tells nothing of what it holds. Its size is that of the file as it was attached.
+///
+/// It is opened for writing too, where that is allowed; where it isn't, each erase and each program is a fault.
 ///
 /// Missing is a path where no file is. A folder, missing rights and every other error is a fault.
 #[derive(Drop)]
@@ -41,6 +100,7 @@ pub struct FileFlash<'r, R: Files> {
     extent: u64,
     faults: u64,
     absences: u64,
+    write_faults: u64,
 }
 
 impl<'r, R: Files> Model for FileFlash<'r, R> {
@@ -49,15 +109,15 @@ impl<'r, R: Files> Model for FileFlash<'r, R> {
 
     ghost Value = { RealFlash };
 
-    ghost view = { λ f. record { attached = is_some f.file; extent = f.extent; faults = f.faults; absences = f.absences } };
+    ghost view = { λ f. record { attached = is_some f.file; extent = f.extent; faults = f.faults; absences = f.absences; write_faults = f.write_faults } };
 
-    ghost invariant = { λ f. (f.extent < 2 ^ 64) × (f.faults < 2 ^ 64) × (f.absences < 2 ^ 64) };
+    ghost invariant = { λ f. (f.extent < 2 ^ 64) × (f.faults < 2 ^ 64) × (f.absences < 2 ^ 64) × (f.write_faults < 2 ^ 64) };
 }
 
 impl<'r, R: Files> FileFlash<'r, R> {
     /// The files of the runtime, of which none is attached.
     pub fn new(rt: &'r R) -> FileFlash<'r, R>
-        ensures { result ≡ record { attached = false; extent = 0; faults = 0; absences = 0 } }
+        ensures { result ≡ record { attached = false; extent = 0; faults = 0; absences = 0; write_faults = 0 } }
     {
         FileFlash {
             rt,
@@ -65,12 +125,21 @@ impl<'r, R: Files> FileFlash<'r, R> {
             extent: 0,
             faults: 0,
             absences: 0,
+            write_faults: 0,
         }
     }
 }
 
 impl<'r, R: Files> Flash for FileFlash<'r, R> {
     ghost state = { size_told };
+
+    ghost found_since = { λ _ _ _. Unit {0} };
+
+    ghost counted = { λ _. tt };
+
+    ghost found_now = { λ _ _ _ _ _. tt };
+
+    ghost only_now = { λ _ _ _. tt };
 
     fn attach(&mut self, name: &str) -> Result<(), SelectFault>
         ensures after { self.new ≡ after_attach self.old self.new.extent result }
@@ -80,7 +149,7 @@ impl<'r, R: Files> Flash for FileFlash<'r, R> {
         ensures last_absence { self.new.absences < 2 ^ 64 }
     {
         self.file = None;
-        let mut file = match fs::open(self.rt, name) {
+        let mut file = match open_flash(self.rt, name) {
             Ok(file) => file,
             Err(error) => {
                 let fault = refused(error.kind());
@@ -123,6 +192,42 @@ impl<'r, R: Files> Flash for FileFlash<'r, R> {
             return Ok(());
         }
         self.faults = next_count(self.faults);
+        Err(Failed)
+    }
+
+    fn erase(&mut self, sector: u64) -> Result<(), Failed>
+        requires attached { self.old.attached ≡ true }
+        requires within { sector * 65536 + 65536 ≤ self.old.extent }
+        ensures ok { OnOk result (self.new ≡ self.old) }
+        ensures err { OnErr result (self.new ≡ record self.old { write_faults = raised self.old.write_faults }) }
+        ensures write_faults { self.old.write_faults ≤ self.new.write_faults }
+        ensures last_write_fault { self.new.write_faults < 2 ^ 64 }
+    {
+        let Some(file) = &mut self.file else {
+            unreachable!()
+        };
+        if erase_from(file, sector * SECTOR, SECTOR / PIECE as u64).is_ok() {
+            return Ok(());
+        }
+        self.write_faults = next_count(self.write_faults);
+        Err(Failed)
+    }
+
+    fn program(&mut self, place: u64, given: &[u8]) -> Result<(), Failed>
+        requires attached { self.old.attached ≡ true }
+        requires within { place + length given.now ≤ self.old.extent }
+        ensures ok { OnOk result (self.new ≡ self.old) }
+        ensures err { OnErr result (self.new ≡ record self.old { write_faults = raised self.old.write_faults }) }
+        ensures write_faults { self.old.write_faults ≤ self.new.write_faults }
+        ensures last_write_fault { self.new.write_faults < 2 ^ 64 }
+    {
+        let Some(file) = &mut self.file else {
+            unreachable!()
+        };
+        if program_from(file, place, given).is_ok() {
+            return Ok(());
+        }
+        self.write_faults = next_count(self.write_faults);
         Err(Failed)
     }
 }

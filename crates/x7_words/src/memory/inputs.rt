@@ -17,7 +17,7 @@ use std::marker::Model;
 pub struct MemoryInputs {
     // What was put, the last first.
     puts: Vec<Put>,
-    // The place in `puts` of the selected input, and how many of its bytes were read.
+    // The place in `puts` of the selected input, and how many of its bytes were read since its select.
     selected: Option<usize>,
     place: usize,
     most: usize,
@@ -38,6 +38,7 @@ impl Model for MemoryInputs {
     ghost view = { λ m. record {
       entries = map entry_of m.puts.items;
       rest = left_of m.puts.items m.place m.selected;
+      given = m.place;
       most = m.most;
       calls = m.calls;
       faults = m.faults;
@@ -51,7 +52,7 @@ impl Model for MemoryInputs {
 impl MemoryInputs {
     /// No inputs. A read gives as many bytes as the buffer takes.
     pub fn new(alloc: Global) -> MemoryInputs
-        ensures { result ≡ record { entries = []; rest = None; most = usize.MAX; calls = no_calls; faults = 0 } }
+        ensures { result ≡ record { entries = []; rest = None; given = 0; most = usize.MAX; calls = no_calls; faults = 0 } }
     {
         MemoryInputs {
             puts: Vec::new(alloc),
@@ -106,6 +107,7 @@ impl Inputs for MemoryInputs {
         ensures last_fault { self.new.faults < 2 ^ 64 }
     {
         self.selected = None;
+        self.place = 0;
         let Ok(()) = self.calls.next() else {
             self.faults = next_count(self.faults);
             return Err(SelectFault::Failed);
@@ -113,7 +115,6 @@ impl Inputs for MemoryInputs {
         let Some(which) = place_of(&self.puts, name) else {
             return Err(SelectFault::Missing);
         };
-        self.place = 0;
         self.selected = Some(which);
         Ok(())
     }

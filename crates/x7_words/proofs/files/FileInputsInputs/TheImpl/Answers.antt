@@ -1,26 +1,33 @@
 use Rattle.std.proofs.Common.{refl, length}
-use Rattle.x7_words.proofs.FilesLemmas.{opened-ok, opened-refused, opened-err, failed_read, read_ok, read_err, read_absences, untold_read}
+use Rattle.x7_words.proofs.FilesLemmas.{opened-asks, opened-ok, opened-refused, opened-err, failed_read, read_ok, read_err, read_gives, read_absences, untold_read, within_buffer}
 use Rattle.x7_words.proofs.files.FileInputsInputs.TheImpl.Goals as goal
 
 pub select-tells : goal.select-tells
 select-tells g c =
+    let old = c.args.self.now in
+    let new = c.new.self.now in
     record {
-      ok = opened-ok c.args.self.now c.new.self.now c.new.self.now.rest c.args.name.now c.result c.ensures.after;
-      refused = opened-refused c.args.self.now c.new.self.now c.new.self.now.rest c.args.name.now c.result c.ensures.after;
-      err = opened-err c.args.self.now c.new.self.now c.new.self.now.rest c.result c.ensures.after;
+      ok = opened-ok old new new.rest c.args.name.now c.result c.ensures.after;
+      refused = opened-refused old new new.rest c.args.name.now c.result c.ensures.after;
+      err = opened-err old new new.rest c.result c.ensures.after;
+      asks = opened-asks old new new.rest c.args.name.now c.result c.ensures.after;
       stays = record { map = refl; faults = c.ensures.faults; absences = c.ensures.absences };
       fits = (c.ensures.last_fault, c.ensures.last_absence);
     }
 
 pub read-tells : goal.read-tells
 read-tells g c =
+    let old = c.args.self.now in
+    let new = c.new.self.now in
     record {
-      ok = read_ok c.args.self.now c.new.self.now c.new.buf.now c.result c.requires c.ensures.ok;
+      ok = read_ok old new c.new.buf.now c.result c.requires (within_buffer c.result (length c.args.buf.now) (length c.new.buf.now) c.ensures.length c.ensures.within) c.ensures.ok;
       within = c.ensures.within;
       end = untold_read c.result (length c.args.buf.now);
       length = c.ensures.length;
-      failed = failed_read c.args.self.now c.new.self.now c.result c.ensures.err;
-      err = read_err c.args.self.now c.new.self.now c.result c.ensures.err;
-      stays = record { map = refl; faults = c.ensures.faults; absences = read_absences c.args.self.now c.new.self.now c.result c.ensures.ok c.ensures.err };
+      failed = failed_read old new c.result c.ensures.err;
+      err = read_err old new c.result c.ensures.err;
+      given = read_gives old new c.result c.ensures.err;
+      asked = refl;
+      stays = record { map = refl; faults = c.ensures.faults; absences = read_absences old new c.result c.ensures.ok c.ensures.err };
       fits = (c.ensures.last_fault, c.ensures.last_absence);
     }
