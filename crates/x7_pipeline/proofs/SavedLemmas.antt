@@ -1,8 +1,9 @@
 -- Taking back: a frame put over a map that differs from another one at its address alone.
-use Rattle.std.proofs.Common.{◌≡◌, ℕ, ◌==◌, eq-eqb, ne_eqb, inl, inr, Bool, true, false, List, [], ◌∷◌, length, ◌&&◌, get_or, is_some, Contains, IfSome, Option, Some, None, refl, sym, ap, ◌∙◌, arith, if◌then◌else◌}
+use Rattle.std.proofs.Common.{◌≡◌, ℕ, ◌+◌, ◌-◌, ◌++◌, ◌==◌, eq-eqb, ne_eqb, inl, inr, Bool, true, false, List, [], ◌∷◌, length, ◌&&◌, get_or, is_some, Contains, IfSome, Option, Some, None, refl, sym, ap, ◌∙◌, arith, if◌then◌else◌}
 use Rattle.std.proofs.lemmas.Bool.{cases_eq}
+use Rattle.std.proofs.lemmas.List.{append_cancel_right}
 use Rattle.std.proofs.lemmas.Option.{none-some}
-use Rattle.x7_part.specs.Part.{PartData}
+use Rattle.x7_part.specs.Part.{PartData, frame_words}
 use Rattle.x7_part.specs.AddressOrder.{addresses_in}
 use Rattle.x7_part.specs.declared.slot.Slot.{Slot}
 use Rattle.x7_part.specs.declared.slot.Slot.TheVariants.{Frame, Pad, End}
@@ -10,15 +11,17 @@ use Rattle.x7_memory.specs.FrameMap.{FrameMap, AreSame, or_else}
 use Rattle.x7_memory.specs.Frames.{AreFramesOf, frame_among, frame_at}
 use Rattle.x7_memory.specs.Planned.{PlanRow, planned}
 use Rattle.x7_memory.proofs.MapLemmas.{override_one}
-use Rattle.x7_pipeline.specs.Runs.{at_slot, put_over, slots_from}
+use Rattle.x7_pipeline.specs.Runs.{at_slot, but_newest, frames_of, in_slots, landed, put_over, rest_of, slots_from, Lands}
 use Rattle.x7_regs.specs.declared.command.Command.{Command}
 use Rattle.x7_pipeline.specs.declared.fault.RunFault.TheVariants.{Address, Multi}
 use Rattle.x7_pipeline.specs.FarAsRead.{has_frame_at}
 use Rattle.x7_pipeline.specs.Faults.{address_fault, copy_fault}
 use Rattle.x7_pipeline.specs.Pipeline.{PipelineData, StandsFor}
 use Rattle.x7_pipeline.specs.Copies.{copied, is_mfw}
-use Rattle.x7_pipeline.specs.Saving.{ChangesAt, address_of, next_put, pair_at, pair_held, pair_of_frame}
+use Rattle.x7_pipeline.specs.Saving.{ChangesAt, address_of, next_put, pair_at, pair_held, pair_of_frame, takes_copies}
 use Rattle.x7_pipeline.proofs.SlotLemmas.{slot_address}
+use Rattle.x7_pipeline.proofs.RunLemmas.{frames-completes, frames-goes_on}
+use Rattle.x7_pipeline.proofs.StateLemmas.{at_slot_more}
 
 -- ---- the pair
 
@@ -102,3 +105,50 @@ unfolding copy_fault address_fault
 copy_changes part p command base run source given old new s f same =
     let at : next_put part p ≡ Some base = copy_at part p (is_mfw command) (is_some source) (has_frame_at part base) (ap is_mfw s.command_is) (ap is_some s.source_is) (ap (has_frame_at part) s.base_is) (rw s.base_is f) ∙ ap Some s.base_is in
     rw at (changes_copy base source old new same)
+
+-- ---- a word
+
+-- a word that lands nothing more changes nothing
+lands_none : (part : PartData) (base : ℕ) (run longer : List ℕ) (old new : FrameMap) → landed part base longer ≡ landed part base run → Lands part base run longer old new → AreSame new old
+unfolding planned
+lands_none part base run longer old new same l = λ far.
+    let none : l.added ≡ [] = append_cancel_right l.added [] (landed part base run) (sym l.grows ∙ same) in
+    l.memory far ∙ ap (λ (ps : List PlanRow). put_over ps old far) none
+
+-- where all frames of a run land but those to come, the newest one is put at its slot
+lands_newest : (part : PartData) (base : ℕ) (run longer : List ℕ) (frames : List (List ℕ)) (n : ℕ) (old new : FrameMap) → frames_of (frame_words part) run ≡ frames → n ≡ length frames
+    → landed part base longer ≡ in_slots (slots_from part base) frames → Lands part base run longer old new → ChangesAt (address_of (if n == 0 then Pad else get_or (slots_from part base) (n - 1) End)) old new
+unfolding landed in_slots
+lands_newest part base run longer [] n old new e count now l =
+    let same : landed part base longer ≡ landed part base run = now ∙ ap (λ (fs : List (List ℕ)). in_slots (slots_from part base) (but_newest fs)) (sym e) in
+    rw count (changes_none None old new (lands_none part base run longer old new same l))
+lands_newest part base run longer (frame ∷ older) n old new e count now l =
+    let slot : Slot = get_or (slots_from part base) (length older) End in
+    let before : landed part base run ≡ in_slots (slots_from part base) older = ap (λ (fs : List (List ℕ)). in_slots (slots_from part base) (but_newest fs)) e in
+    let added : l.added ≡ at_slot slot frame [] =
+    append_cancel_right l.added (at_slot slot frame []) (landed part base run)
+    (sym l.grows ∙ now ∙ at_slot_more slot frame (in_slots (slots_from part base) older) ∙ ap (λ (ps : List PlanRow). at_slot slot frame [] ++ ps) (sym before)) in
+    let some : (n == 0) ≡ false = ne_eqb n 0 (λ z. omega (arith, count, z)) in
+    let one : n - 1 ≡ length older = omega (arith, count) in
+    rw (some, one) (changes_slot slot frame old new (λ far. l.memory far ∙ ap (λ (ps : List PlanRow). put_over ps old far) added))
+
+-- a word changes the address where the next word would put a frame, and no other one
+pub word_changes : (part : PartData) (p : PipelineData) (command : Command) (base : ℕ) (run : List ℕ) (source : Option (List ℕ)) (given word : ℕ) (old new : FrameMap) → StandsFor part p command base run source given
+    → is_mfw command ≡ false → Lands part base run (word ∷ run) old new → ChangesAt (next_put part p) old new
+unfolding landed
+word_changes part p command base run source given word old new s words l =
+    let mfw : is_mfw p.command ≡ false = ap is_mfw s.command_is ∙ words in
+    let copies : takes_copies p ≡ false = rw mfw refl in
+    let rest : length p.rest + 1 ≡ length (rest_of (frame_words part) run) + 1 = ap (λ (r : List ℕ). length r + 1) s.rest_is in
+    elim (cases_eq (length p.rest + 1) p.width) [
+      | inl e ↦
+          let full : length (rest_of (frame_words part) run) + 1 ≡ frame_words part = sym rest ∙ e ∙ s.width_is in
+          rw (copies, eq-eqb (length p.rest + 1) p.width e, s.base_is)
+          (lands_newest part base run (word ∷ run) (frames_of (frame_words part) run) p.frame_count old new refl s.count_is
+          (ap (λ (fs : List (List ℕ)). in_slots (slots_from part base) (but_newest fs)) (frames-completes (frame_words part) word run full)) l)
+      | inr n ↦
+          let inside : length (rest_of (frame_words part) run) + 1 ≡ frame_words part → ⊥ = λ e. n (rest ∙ e ∙ sym s.width_is) in
+          rw (copies, ne_eqb (length p.rest + 1) p.width n)
+          (changes_none None old new
+          (lands_none part base run (word ∷ run) old new (ap (λ (fs : List (List ℕ)). in_slots (slots_from part base) (but_newest fs)) (frames-goes_on (frame_words part) word run inside)) l))
+    ]

@@ -123,7 +123,7 @@ lands_nothing part p w command base run source given old new s short same =
     let inside : length (rest_of (frame_words part) run) + 1 ≡ frame_words part → ⊥ = λ same. (let long = ap length rest in absurd (omega arith)) in
     same_lands part base run (w ∷ run) old new (ap (λ frames. in_slots (slots_from part base) (but_newest frames)) (frames-goes_on (frame_words part) w run inside)) same
 
-at_slot_more : (slot : Slot) (words : List ℕ) (pairs : List PlanRow) → at_slot slot words pairs ≡ at_slot slot words [] ++ pairs
+pub at_slot_more : (slot : Slot) (words : List ℕ) (pairs : List PlanRow) → at_slot slot words pairs ≡ at_slot slot words [] ++ pairs
 at_slot_more (Frame far) words pairs = refl
 at_slot_more Pad words pairs = refl
 at_slot_more End words pairs = refl

@@ -89,10 +89,13 @@ pub fn pipeline_laws()
         StandsFor part p command base run source given → StandsFor part q command base run source given → p ≡ q }
 {}
 
-/// A kept frame leads back where the memory changed at its address alone. A copy changes just the address where it puts one.
+/// A kept frame leads back where the memory changed at its address alone. A copy changes just the address where it puts one,
+/// and so does a word under another command than MFW.
 pub fn saving_laws()
     ensures back { (part : PartData) (at : Option ℕ) (old new : List (List ℕ)) → AreFramesOf part old → AreFramesOf part new → ChangesAt at (frame_at part old) (frame_at part new) →
         AreSame (put_over (pair_at (frame_at part old) at) (frame_at part new)) (frame_at part old) }
     ensures copy { (part : PartData) (p : PipelineData) (command : Command) (base : ℕ) (run : List ℕ) (source : Option (List ℕ)) (given : ℕ) (old new : FrameMap) →
         StandsFor part p command base run source given → copy_fault part command base source ≡ None → AreSame new (put_over (copied base source) old) → ChangesAt (next_put part p) old new }
+    ensures word { (part : PartData) (p : PipelineData) (command : Command) (base : ℕ) (run : List ℕ) (source : Option (List ℕ)) (given word : ℕ) (old new : FrameMap) →
+        StandsFor part p command base run source given → is_mfw command ≡ false → Lands part base run (word ∷ run) old new → ChangesAt (next_put part p) old new }
 {}
