@@ -1,7 +1,7 @@
 //! The commands of a page: x7 itself, and the few others that a page needs to show its files.
 //!
-//! `x7 WORD..`, `cat FILE`, `cmp FILE FILE`, `sed 's/OLD/NEW/' FILE`; then, each at most once and in this order, `| grep TEXT`
-//! or `| head -n N` (whose status is 0), `> FILE`, `; echo $?`.
+//! `x7 WORD..`, `cat FILE..`, `head -c N FILE`, `cmp FILE FILE`, `sed 's/OLD/NEW/' FILE`; then, each at most once and in this
+//! order, `| grep TEXT`, `| head -n N` or `| tail -n N` (whose status is 0), `> FILE`, `; echo $?`.
 use crate::command::Command;
 use crate::fault::Fault;
 use crate::named::{Named, bytes_of, bytes_under, put_under};
@@ -68,9 +68,23 @@ fn x7<C: Command>(
     ran(command, alloc, files, &outside, &turn, ending)
 }
 
-/// `cat FILE`.
-fn cat(files: &[Named], name: &str, out: &mut Vec<u8>) -> Result<(), Fault> {
-    out.extend_from_slice(bytes_of(files, name)?)?;
+/// `cat FILE..`.
+fn cat(files: &[Named], names: &str, out: &mut Vec<u8>) -> Result<(), Fault> {
+    for name in names.split(' ') {
+        out.extend_from_slice(bytes_of(files, name)?)?;
+    }
+    Ok(())
+}
+
+/// `head -c N FILE`.
+fn head(files: &[Named], words: &str, out: &mut Vec<u8>) -> Result<(), Fault> {
+    let Some(words) = words.strip_prefix("-c ") else {
+        return Err(Fault::Line);
+    };
+    let (count, name) = first_word(words);
+    let count = positive(count)? as usize;
+    let bytes = bytes_of(files, name)?;
+    out.extend_from_slice(bytes.get(..count).unwrap_or(bytes))?;
     Ok(())
 }
 
@@ -147,17 +161,33 @@ fn execute<C: Command>(
     match name {
         "x7" => x7(command, alloc, files, rest, ending),
         "cat" => cat(files, rest, &mut ending.out),
+        "head" => head(files, rest, &mut ending.out),
         "cmp" => cmp(files, rest),
         "sed" => sed(files, rest, &mut ending.out),
         _ => Err(Fault::Line),
     }
 }
 
+/// Appends a line and its end.
+fn put_line(out: &mut Vec<u8>, line: &str) -> Result<(), Fault> {
+    out.extend_from_slice(line.as_bytes())?;
+    out.push(b'\n')?;
+    Ok(())
+}
+
 /// Appends the first lines of a text.
 fn put_head(out: &mut Vec<u8>, text: &str, count: u32) -> Result<(), Fault> {
     for line in text.lines().take(count as usize) {
-        out.extend_from_slice(line.as_bytes())?;
-        out.push(b'\n')?;
+        put_line(out, line)?;
+    }
+    Ok(())
+}
+
+/// Appends the last lines of a text.
+fn put_tail(out: &mut Vec<u8>, text: &str, count: u32) -> Result<(), Fault> {
+    let passed = text.lines().count().saturating_sub(count as usize);
+    for line in text.lines().skip(passed) {
+        put_line(out, line)?;
     }
     Ok(())
 }
@@ -166,20 +196,23 @@ fn put_head(out: &mut Vec<u8>, text: &str, count: u32) -> Result<(), Fault> {
 fn put_found(out: &mut Vec<u8>, text: &str, words: &str) -> Result<(), Fault> {
     for line in text.lines() {
         if line.contains(words) {
-            out.extend_from_slice(line.as_bytes())?;
-            out.push(b'\n')?;
+            put_line(out, line)?;
         }
     }
     Ok(())
 }
 
-/// Appends the lines of a text that `grep TEXT` or `head -n N` lets through.
+/// Appends the lines of a text that `grep TEXT`, `head -n N` or `tail -n N` lets through.
 fn put_filtered(out: &mut Vec<u8>, text: &[u8], filter: &str) -> Result<(), Fault> {
     let (name, rest) = first_word(filter);
     match (name, rest.strip_prefix("-n ")) {
         ("head", Some(count)) => {
             let count = positive(count)?;
             put_head(out, text_of(text)?, count)
+        }
+        ("tail", Some(count)) => {
+            let count = positive(count)?;
+            put_tail(out, text_of(text)?, count)
         }
         ("grep", _) => put_found(out, text_of(text)?, rest),
         _ => Err(Fault::Line),
