@@ -1,74 +1,111 @@
 -- Lemmas on a file as a flash: what it counts is what a caller of any flash may know.
-use Rattle.std.proofs.Common.{◌≡◌, ℕ, List, true, false, Option, Result, Ok, Err, OnOk, OnErr, IfErr, refl, ap, ◌∙◌, inl, arith}
+use Rattle.std.proofs.Common.{◌≡◌, ◌≤◌, ℕ, List, true, false, Option, None, Some, Result, Ok, Err, OnOk, OnErr, IfErr, is_some, refl, sym, ap, ◌∙◌, inl, arith}
+use Rattle.std.specs.declared.io.ErrorKind.{ErrorKind}
 use Rattle.x7_words.specs.Count.{HasRisen, raised}
-use Rattle.x7_words.specs.Flash.{Elapses, Unattached, Unwritten}
+use Rattle.x7_words.specs.Flash.{Elapses, OnlyReads, OnlyWrites, Unattached, Unwritten}
 use Rattle.x7_words.proofs.CountLemmas.{raised_risen}
-use Rattle.x7_words.specs.Files.{RealFlash, after_attach, size_told}
-use Rattle.x7_words.specs.declared.input.Failed.{Failed as FailedRead}
+use Rattle.x7_words.specs.Files.{IsExtent, RealFlash, after_opening, size_told}
+use Rattle.x7_words.specs.declared.input.Failed.{Failed as FailedCall}
 use Rattle.x7_words.specs.declared.input.SelectFault.{SelectFault}
 use Rattle.x7_words.specs.declared.input.SelectFault.TheVariants.{Missing, Failed}
 
+-- ---- an attach
+
+-- a file whose end was sought is open
+open-extent : {F : Type 0} → (position : F → Option ℕ) (bytes : F → Option (List ℕ)) (extent : ℕ) (file : Option F) → IsExtent position bytes extent file → is_some file ≡ true
+open-extent position bytes extent None e = absurd e
+open-extent position bytes extent (Some file) e = refl
+
 -- an attach that is Ok attaches
-pub attached-ok : (old new : RealFlash) (extent : ℕ) (answer : Result (Unit {0}) SelectFault) → new ≡ after_attach old extent answer → OnOk answer (new.attached ≡ true)
-attached-ok old new extent (Ok _) e = ap (λ f. f.attached) e
-attached-ok old new extent (Err fault) e = tt
+pub attached-ok : {F : Type 0} → (position : F → Option ℕ) (bytes : F → Option (List ℕ)) (extent : ℕ) (file : Option F) (answer : Result (Unit {0}) SelectFault) → OnOk answer (IsExtent position bytes extent file) → OnOk answer (is_some file ≡ true)
+attached-ok position bytes extent file (Ok _) e = open-extent position bytes extent file e
+attached-ok position bytes extent file (Err fault) e = tt
 
 -- an attach that is not Ok attaches nothing
-pub attached-err : (old new : RealFlash) (extent : ℕ) (answer : Result (Unit {0}) SelectFault) → new ≡ after_attach old extent answer → OnErr answer (new.attached ≡ false)
-attached-err old new extent (Ok _) e = tt
-attached-err old new extent (Err Missing) e = ap (λ f. f.attached) e
-attached-err old new extent (Err Failed) e = ap (λ f. f.attached) e
+pub attached-err : {F : Type 0} → (old new : RealFlash F) (file : Option F) (extent : ℕ) (refusal : Option ErrorKind) (answer : Result (Unit {0}) SelectFault) → new ≡ after_opening old file extent refusal answer → OnErr answer (is_some new.file ≡ false)
+attached-err old new file extent refusal (Ok _) e = tt
+attached-err old new file extent refusal (Err _) e = ap (λ f. is_some f.file) e
 
 -- an attach that is not Ok counts what it answers
-pub attached-refused : (old new : RealFlash) (extent : ℕ) (answer : Result (Unit {0}) SelectFault) → new ≡ after_attach old extent answer → IfErr answer (Unattached (size_told old) (size_told new))
-attached-refused old new extent (Ok _) e = tt
-attached-refused old new extent (Err Missing) e = raised_risen old.absences new.absences (ap (λ f. f.absences) e)
-attached-refused old new extent (Err Failed) e = raised_risen old.faults new.faults (ap (λ f. f.faults) e)
+pub attached-refused : {F : Type 0} → (old new : RealFlash F) (file : Option F) (extent : ℕ) (refusal : Option ErrorKind) (answer : Result (Unit {0}) SelectFault) → new ≡ after_opening old file extent refusal answer → IfErr answer (Unattached (size_told old) (size_told new))
+attached-refused old new file extent refusal (Ok _) e = tt
+attached-refused old new file extent refusal (Err Missing) e = raised_risen old.absences new.absences (ap (λ f. f.absences) e)
+attached-refused old new file extent refusal (Err Failed) e = raised_risen old.faults new.faults (ap (λ f. f.faults) e)
+
+-- an attach leaves the count of faults of writes
+pub attach_write_faults : {F : Type 0} → (old new : RealFlash F) (file : Option F) (extent : ℕ) (refusal : Option ErrorKind) (answer : Result (Unit {0}) SelectFault) → new ≡ after_opening old file extent refusal answer → new.write_faults ≡ old.write_faults
+attach_write_faults old new file extent refusal (Ok _) e = ap (λ f. f.write_faults) e
+attach_write_faults old new file extent refusal (Err _) e = ap (λ f. f.write_faults) e
+
+-- ---- a read
 
 -- a read that fails counts a fault
-pub failed_read_at : (old new : RealFlash) (answer : Result (Unit {0}) FailedRead) → OnErr answer (new ≡ record old { faults = raised old.faults }) → OnErr answer (HasRisen old.faults new.faults)
-failed_read_at old new (Ok _) e = tt
-failed_read_at old new (Err _) e = raised_risen old.faults new.faults (ap (λ f. f.faults) e)
-
--- a read leaves all but the count of faults
-pub read_at_keeps : {A : Type 0} (part : RealFlash → A) → ((f : RealFlash) (n : ℕ) → part (record f { faults = n }) ≡ part f) → (old new : RealFlash) (answer : Result (Unit {0}) FailedRead) → OnOk answer (new ≡ old) → OnErr answer (new ≡ record old { faults = raised old.faults }) → part new ≡ part old
-read_at_keeps part same old new (Ok _) o e = ap part o
-read_at_keeps part same old new (Err _) o e = ap part e ∙ same old (raised old.faults)
+pub failed_read_at : {F : Type 0} → (old new : RealFlash F) (file : Option F) (answer : Result (Unit {0}) FailedCall) → OnErr answer (new ≡ record old { file = file; faults = raised old.faults }) → OnErr answer (HasRisen old.faults new.faults)
+failed_read_at old new file (Ok _) e = tt
+failed_read_at old new file (Err _) e = raised_risen old.faults new.faults (ap (λ f. f.faults) e)
 
 -- of a read nothing is told
-pub untold_read_at : (answer : Result (Unit {0}) FailedRead) → OnOk answer (Unit {0})
+pub untold_read_at : (answer : Result (Unit {0}) FailedCall) → OnOk answer (Unit {0})
 untold_read_at (Ok _) = tt
 untold_read_at (Err _) = tt
 
+-- a call that writes nothing leaves all that may be found
+pub untold_unwritten : {F : Type 0} → (old new : RealFlash F) → new.write_faults ≡ old.write_faults → Unwritten (size_told old) (size_told new) (λ moment found. Unit {0}) (λ moment found. Unit {0})
+untold_unwritten old new e = record { write_faults = e; moments = refl; nothing_else = λ moment found since. tt; keeps = λ moment found since. tt }
+
+-- a read leaves all but the file and the count of faults
+read_keeps : {F A : Type 0} → (part : RealFlash F → A) → ((f : RealFlash F) (file : Option F) (n : ℕ) → part (record f { file = file; faults = n }) ≡ part f) → (old new : RealFlash F) (file : Option F) (answer : Result (Unit {0}) FailedCall)
+    → OnOk answer (new ≡ record old { file = file }) → OnErr answer (new ≡ record old { file = file; faults = raised old.faults }) → part new ≡ part old
+read_keeps part same old new file (Ok _) o e = ap part o ∙ same old file old.faults
+read_keeps part same old new file (Err _) o e = ap part e ∙ same old file (raised old.faults)
+
+pub only_reads : {F : Type 0} → (old new : RealFlash F) (answer : Result (Unit {0}) FailedCall) → is_some old.file ≡ true → is_some new.file ≡ true
+    → OnOk answer (new ≡ record old { file = new.file }) → OnErr answer (new ≡ record old { file = new.file; faults = raised old.faults }) → old.faults ≤ new.faults
+    → OnlyReads (size_told old) (size_told new) (λ moment found. Unit {0}) (λ moment found. Unit {0})
+only_reads old new answer was is o e rises = record {
+  bytes = refl;
+  extent = read_keeps (λ f. f.extent) (λ f file n. refl) old new new.file answer o e;
+  attached = is ∙ sym was;
+  names = refl;
+  faults = rises;
+  absences = read_keeps (λ f. f.absences) (λ f file n. refl) old new new.file answer o e;
+  unwritten = untold_unwritten old new (read_keeps (λ f. f.write_faults) (λ f file n. refl) old new new.file answer o e);
+}
+
+-- ---- a write
+
 -- a write that fails counts a fault of writes
-pub failed_write : (old new : RealFlash) (answer : Result (Unit {0}) FailedRead) → OnErr answer (new ≡ record old { write_faults = raised old.write_faults }) → OnErr answer (HasRisen old.write_faults new.write_faults)
-failed_write old new (Ok _) e = tt
-failed_write old new (Err _) e = raised_risen old.write_faults new.write_faults (ap (λ f. f.write_faults) e)
+pub failed_write : {F : Type 0} → (old new : RealFlash F) (file : Option F) (answer : Result (Unit {0}) FailedCall) → OnErr answer (new ≡ record old { file = file; write_faults = raised old.write_faults }) → OnErr answer (HasRisen old.write_faults new.write_faults)
+failed_write old new file (Ok _) e = tt
+failed_write old new file (Err _) e = raised_risen old.write_faults new.write_faults (ap (λ f. f.write_faults) e)
 
--- a write leaves all but the count of faults of writes
-pub write_keeps : {A : Type 0} (part : RealFlash → A) → ((f : RealFlash) (n : ℕ) → part (record f { write_faults = n }) ≡ part f) → (old new : RealFlash) (answer : Result (Unit {0}) FailedRead) → OnOk answer (new ≡ old) → OnErr answer (new ≡ record old { write_faults = raised old.write_faults }) → part new ≡ part old
-write_keeps part same old new (Ok _) o e = ap part o
-write_keeps part same old new (Err _) o e = ap part e ∙ same old (raised old.write_faults)
+-- a write leaves all but the file and the count of faults of writes
+write_keeps : {F A : Type 0} → (part : RealFlash F → A) → ((f : RealFlash F) (file : Option F) (n : ℕ) → part (record f { file = file; write_faults = n }) ≡ part f) → (old new : RealFlash F) (file : Option F) (answer : Result (Unit {0}) FailedCall)
+    → OnOk answer (new ≡ record old { file = file }) → OnErr answer (new ≡ record old { file = file; write_faults = raised old.write_faults }) → part new ≡ part old
+write_keeps part same old new file (Ok _) o e = ap part o ∙ same old file old.write_faults
+write_keeps part same old new file (Err _) o e = ap part e ∙ same old file (raised old.write_faults)
 
--- an attach leaves the count of faults of writes
-pub attach_write_faults : (old new : RealFlash) (extent : ℕ) (answer : Result (Unit {0}) SelectFault) → new ≡ after_attach old extent answer → new.write_faults ≡ old.write_faults
-attach_write_faults old new extent (Ok _) e = ap (λ f. f.write_faults) e
-attach_write_faults old new extent (Err Missing) e = ap (λ f. f.write_faults) e
-attach_write_faults old new extent (Err Failed) e = ap (λ f. f.write_faults) e
+pub only_writes : {F : Type 0} → (old new : RealFlash F) (answer : Result (Unit {0}) FailedCall) → is_some old.file ≡ true → is_some new.file ≡ true
+    → OnOk answer (new ≡ record old { file = new.file }) → OnErr answer (new ≡ record old { file = new.file; write_faults = raised old.write_faults }) → old.write_faults ≤ new.write_faults
+    → OnlyWrites (size_told old) (size_told new)
+only_writes old new answer was is o e rises = record {
+  extent = write_keeps (λ f. f.extent) (λ f file n. refl) old new new.file answer o e;
+  attached = is ∙ sym was;
+  names = refl;
+  faults = write_keeps (λ f. f.faults) (λ f file n. refl) old new new.file answer o e;
+  absences = write_keeps (λ f. f.absences) (λ f file n. refl) old new new.file answer o e;
+  write_faults = rises;
+}
 
 -- of a write nothing is told
-pub untold_written : (answer : Result (Unit {0}) FailedRead) (known : Option (List ℕ)) → OnOk answer (known ≡ known)
+pub untold_written : (answer : Result (Unit {0}) FailedCall) (known : Option (List ℕ)) → OnOk answer (known ≡ known)
 untold_written (Ok _) known = refl
 untold_written (Err _) known = tt
 
-pub untold_torn : (answer : Result (Unit {0}) FailedRead) → OnErr answer (Unit {0})
+pub untold_torn : (answer : Result (Unit {0}) FailedCall) → OnErr answer (Unit {0})
 untold_torn (Ok _) = tt
 untold_torn (Err _) = tt
 
 -- anything may be found of what isn't told, at any time
 pub untold_passes : Elapses 0 0 (λ moment found. Unit {0}) (λ moment found. Unit {0}) (λ found. Unit {0})
 untold_passes = record { later = omega arith; nothing_else = λ moment found le since. inl tt; keeps = λ moment found le since. tt }
-
--- and so it is after a call that writes nothing
-pub untold_unwritten : (old new : RealFlash) → new.write_faults ≡ old.write_faults → Unwritten (size_told old) (size_told new) (λ moment found. Unit {0}) (λ moment found. Unit {0})
-untold_unwritten old new e = record { write_faults = e; moments = refl; nothing_else = λ moment found since. tt; keeps = λ moment found since. tt }

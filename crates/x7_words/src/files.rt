@@ -1,8 +1,8 @@
 //! The real outside: files as inputs and as a flash, and a writer such as standard output as a sink.
-ghost use Rattle.std.specs.Prelude.{◌≡◌, ◌<◌, ◌≤◌, ◌^◌, ◌↔◌, length, take, None, true, false, IfOk, OnOk, OnErr};
+ghost use Rattle.std.specs.Prelude.{◌≡◌, ◌<◌, ◌≤◌, ◌^◌, ◌↔◌, length, take, None, Some, true, false, IfErr, IfOk, OnOk, OnErr};
 ghost use Rattle.std.specs.Io.KnownBytes.{Appends, Keeps, ReadConsumes, WriteAppends};
 ghost use Rattle.x7_words.specs.Count.{added, raised};
-ghost use Rattle.x7_words.specs.Files.{after_open, told_of, Gives};
+ghost use Rattle.x7_words.specs.Files.{after_open, told_of, faults_after, missing_after, Gives, RefusedFor};
 
 mod flash;
 
@@ -16,13 +16,27 @@ use std::marker::Model;
 use std::rt::Files;
 
 /// Why a file was not opened, by the error's kind. Only a file that isn't there is missing.
-pub(crate) fn refused(kind: ErrorKind) -> SelectFault
-    ensures { (result ≡ SelectFault.Missing) ↔ (kind ≡ ErrorKind.NotFound) }
+fn refused(kind: ErrorKind) -> SelectFault
+    ensures { RefusedFor (Some kind) result }
 {
     if kind == ErrorKind::NotFound {
         return SelectFault::Missing;
     }
     SelectFault::Failed
+}
+
+/// Counts a file that was not opened, by the error's kind, as an absence or a fault.
+pub(crate) fn count_refusal(kind: ErrorKind, faults: &mut u64, absences: &mut u64) -> SelectFault
+    ensures refused { RefusedFor (Some kind) result }
+    ensures faults { faults.new ≡ faults_after result faults.old }
+    ensures absences { absences.new ≡ missing_after result absences.old }
+{
+    let fault = refused(kind);
+    match fault {
+        SelectFault::Missing => *absences = next_count(*absences),
+        SelectFault::Failed => *faults = next_count(*faults),
+    }
+    fault
 }
 
 /// One read, of which every error is a fault.
@@ -44,6 +58,7 @@ fn read_once<F: Read>(file: &mut F, buf: &mut [u8]) -> Result<usize, Failed>
 pub struct FileInputs<'r, R: Files> {
     rt: &'r R,
     file: Option<R::File>,
+    refusal: Option<ErrorKind>,
     given: u64,
     faults: u64,
     absences: u64,
@@ -58,6 +73,7 @@ impl<'r, R: Files> Model for FileInputs<'r, R> {
     ghost view = { λ f. record {
       selected = is_some f.file;
       rest = rest_of R.File.remaining f.file;
+      refusal = f.refusal;
       given = f.given;
       faults = f.faults;
       absences = f.absences;
@@ -69,11 +85,12 @@ impl<'r, R: Files> Model for FileInputs<'r, R> {
 impl<'r, R: Files> FileInputs<'r, R> {
     /// The files of the runtime. None is selected.
     pub fn new(rt: &'r R) -> FileInputs<'r, R>
-        ensures { result ≡ record { selected = false; rest = None; given = 0; faults = 0; absences = 0 } }
+        ensures { result ≡ record { selected = false; rest = None; refusal = None; given = 0; faults = 0; absences = 0 } }
     {
         FileInputs {
             rt,
             file: None,
+            refusal: None,
             given: 0,
             faults: 0,
             absences: 0,
@@ -85,13 +102,15 @@ impl<'r, R: Files> Inputs for FileInputs<'r, R> {
     ghost state = { told_of };
 
     fn select(&mut self, name: &str) -> Result<(), SelectFault>
-        ensures after { self.new ≡ after_open self.old self.new.rest result }
+        ensures after { self.new ≡ after_open self.old self.new.rest self.new.refusal result }
+        ensures refused { IfErr result (RefusedFor self.new.refusal) }
         ensures faults { self.old.faults ≤ self.new.faults }
         ensures absences { self.old.absences ≤ self.new.absences }
         ensures last_fault { self.new.faults < 2 ^ 64 }
         ensures last_absence { self.new.absences < 2 ^ 64 }
     {
         self.file = None;
+        self.refusal = None;
         self.given = 0;
         match fs::open(self.rt, name) {
             Ok(file) => {
@@ -99,12 +118,9 @@ impl<'r, R: Files> Inputs for FileInputs<'r, R> {
                 Ok(())
             }
             Err(error) => {
-                let fault = refused(error.kind());
-                match fault {
-                    SelectFault::Missing => self.absences = next_count(self.absences),
-                    SelectFault::Failed => self.faults = next_count(self.faults),
-                }
-                Err(fault)
+                let kind = error.kind();
+                self.refusal = Some(kind);
+                Err(count_refusal(kind, &mut self.faults, &mut self.absences))
             }
         }
     }

@@ -1,10 +1,12 @@
 //! A file as a flash.
-ghost use Rattle.std.specs.Prelude.{◌≡◌, ◌+◌, ◌*◌, ◌<◌, ◌≤◌, ◌^◌, length, bit_and, None, true, false, IfOk, IfSome, OnOk, OnErr};
+ghost use Rattle.std.specs.Prelude.{◌≡◌, ◌+◌, ◌*◌, ◌<◌, ◌≤◌, ◌^◌, length, bit_and, is_some, None, Some, true, false, IfErr, IfOk, OnOk, OnErr};
+ghost use Rattle.std.specs.Io.KnownBytes.{Consumes};
+ghost use Rattle.std.specs.Io.Seek.{MovesTo};
 ghost use Rattle.x7_words.specs.Count.{raised};
-ghost use Rattle.x7_words.specs.Files.{after_attach, size_told};
+ghost use Rattle.x7_words.specs.Files.{after_opening, size_told, EndsAt, IsExtent, ReadsAt, ReadsOpen, RefusedFor};
 ghost use Rattle.x7_words.specs.Flash.{zip_with};
 
-use super::refused;
+use super::count_refusal;
 use crate::count::next_count;
 use crate::flash::{Flash, SECTOR};
 use crate::input::{Failed, SelectFault};
@@ -15,8 +17,7 @@ use std::rt::Files;
 
 /// The number of a file's bytes: where its end is. A folder is no file.
 fn extent_of<F: OpenFile + Seek>(file: &mut F) -> io::Result<u64>
-    ensures end { IfSome (F.stream_position file.old) (λ _. IfSome (F.stream_bytes file.old)
-        (λ all. IfOk result (λ extent. extent ≡ length all))) }
+    ensures { IfOk result (λ extent. EndsAt F.stream_position F.stream_bytes extent file.old file.new) }
 {
     if file.metadata()?.is_dir() {
         return Err(io::Error::from(ErrorKind::IsADirectory));
@@ -24,12 +25,29 @@ fn extent_of<F: OpenFile + Seek>(file: &mut F) -> io::Result<u64>
     file.seek(SeekFrom::End(0))
 }
 
+/// Goes to the place in a file.
+fn go_to<F: Seek>(file: &mut F, place: u64) -> io::Result<()>
+    ensures { MovesTo (F.stream_position file.old) (F.stream_position file.new) place result }
+{
+    file.seek(SeekFrom::Start(place))?;
+    Ok(())
+}
+
+/// Fills the buffer with a file's next bytes.
+fn fill<F: Read>(file: &mut F, buf: &mut [u8]) -> io::Result<()>
+    ensures length { length buf.new ≡ length buf.old }
+    ensures bytes { OnOk result (Consumes (F.remaining file.old) (F.remaining file.new) buf.new) }
+{
+    file.read_exact(buf)
+}
+
 /// Fills the buffer with the bytes from the place on.
 fn read_from<F: Read + Seek>(file: &mut F, place: u64, buf: &mut [u8]) -> io::Result<()>
     ensures length { length buf.new ≡ length buf.old }
+    ensures read { OnOk result (ReadsAt F.stream_position F.remaining place buf.new file.old file.new) }
 {
-    file.seek(SeekFrom::Start(place))?;
-    file.read_exact(buf)
+    go_to(file, place)?;
+    fill(file, buf)
 }
 
 /// The bytes that a write takes at once.
@@ -44,6 +62,15 @@ fn open_flash<R: Files>(rt: &R, name: &str) -> io::Result<R::File> {
         Ok(file) => Ok(file),
         Err(_) => fs::open(rt, name),
     }
+}
+
+/// Opens a file as a flash, and says the number of its bytes.
+fn open_sized<R: Files>(rt: &R, name: &str) -> io::Result<(R::File, u64)>
+    ensures { IfOk result (λ opened. IsExtent R.File.stream_position R.File.stream_bytes opened.1 (Some opened.0)) }
+{
+    let mut file = open_flash(rt, name)?;
+    let extent = extent_of(&mut file)?;
+    Ok((file, extent))
 }
 
 /// Makes so many pieces from the place on FF, and waits until they are kept.
@@ -97,6 +124,7 @@ fn program_from<F: Read + Write + Seek + OpenFile>(
 pub struct FileFlash<'r, R: Files> {
     rt: &'r R,
     file: Option<R::File>,
+    refusal: Option<ErrorKind>,
     extent: u64,
     faults: u64,
     absences: u64,
@@ -104,12 +132,19 @@ pub struct FileFlash<'r, R: Files> {
 }
 
 impl<'r, R: Files> Model for FileFlash<'r, R> {
-    ghost use Rattle.std.specs.Prelude.{◌<◌, ◌^◌, is_some};
+    ghost use Rattle.std.specs.Prelude.{◌<◌, ◌^◌};
     ghost use Rattle.x7_words.specs.Files.{RealFlash};
 
-    ghost Value = { RealFlash };
+    ghost Value = { RealFlash R.File };
 
-    ghost view = { λ f. record { attached = is_some f.file; extent = f.extent; faults = f.faults; absences = f.absences; write_faults = f.write_faults } };
+    ghost view = { λ f. record {
+      file = f.file;
+      refusal = f.refusal;
+      extent = f.extent;
+      faults = f.faults;
+      absences = f.absences;
+      write_faults = f.write_faults;
+    } };
 
     ghost invariant = { λ f. (f.extent < 2 ^ 64) × (f.faults < 2 ^ 64) × (f.absences < 2 ^ 64) × (f.write_faults < 2 ^ 64) };
 }
@@ -117,11 +152,12 @@ impl<'r, R: Files> Model for FileFlash<'r, R> {
 impl<'r, R: Files> FileFlash<'r, R> {
     /// The files of the runtime, of which none is attached.
     pub fn new(rt: &'r R) -> FileFlash<'r, R>
-        ensures { result ≡ record { attached = false; extent = 0; faults = 0; absences = 0; write_faults = 0 } }
+        ensures { result ≡ record { file = None; refusal = None; extent = 0; faults = 0; absences = 0; write_faults = 0 } }
     {
         FileFlash {
             rt,
             file: None,
+            refusal: None,
             extent: 0,
             faults: 0,
             absences: 0,
@@ -142,46 +178,48 @@ impl<'r, R: Files> Flash for FileFlash<'r, R> {
     ghost only_now = { λ _ _ _. tt };
 
     fn attach(&mut self, name: &str) -> Result<(), SelectFault>
-        ensures after { self.new ≡ after_attach self.old self.new.extent result }
+        ensures after { self.new ≡ after_opening self.old self.new.file self.new.extent self.new.refusal result }
+        ensures extent { OnOk result
+            (IsExtent R.File.stream_position R.File.stream_bytes self.new.extent self.new.file) }
+        ensures refused { IfErr result (RefusedFor self.new.refusal) }
         ensures faults { self.old.faults ≤ self.new.faults }
         ensures absences { self.old.absences ≤ self.new.absences }
         ensures last_fault { self.new.faults < 2 ^ 64 }
         ensures last_absence { self.new.absences < 2 ^ 64 }
     {
         self.file = None;
-        let mut file = match open_flash(self.rt, name) {
-            Ok(file) => file,
-            Err(error) => {
-                let fault = refused(error.kind());
-                match fault {
-                    SelectFault::Missing => self.absences = next_count(self.absences),
-                    SelectFault::Failed => self.faults = next_count(self.faults),
-                }
-                return Err(fault);
+        self.refusal = None;
+        match open_sized(self.rt, name) {
+            Ok((file, extent)) => {
+                self.file = Some(file);
+                self.extent = extent;
+                Ok(())
             }
-        };
-        let Ok(extent) = extent_of(&mut file) else {
-            self.faults = next_count(self.faults);
-            return Err(SelectFault::Failed);
-        };
-        self.file = Some(file);
-        self.extent = extent;
-        Ok(())
+            Err(error) => {
+                let kind = error.kind();
+                self.refusal = Some(kind);
+                Err(count_refusal(kind, &mut self.faults, &mut self.absences))
+            }
+        }
     }
 
     fn size(&self) -> u64
-        requires { self.now.attached ≡ true }
+        requires { is_some self.now.file ≡ true }
         ensures { result ≡ self.now.extent }
     {
         self.extent
     }
 
     fn read_at(&mut self, place: u64, buf: &mut [u8]) -> Result<(), Failed>
-        requires attached { self.old.attached ≡ true }
+        requires attached { is_some self.old.file ≡ true }
         requires within { place + length buf.old ≤ self.old.extent }
+        ensures read { OnOk result
+            (ReadsOpen R.File.stream_position R.File.remaining place buf.new self.old.file self.new.file) }
         ensures length { length buf.new ≡ length buf.old }
-        ensures ok { OnOk result (self.new ≡ self.old) }
-        ensures err { OnErr result (self.new ≡ record self.old { faults = raised self.old.faults }) }
+        ensures open { is_some self.new.file ≡ true }
+        ensures ok { OnOk result (self.new ≡ record self.old { file = self.new.file }) }
+        ensures err { OnErr result (self.new ≡
+            record self.old { file = self.new.file; faults = raised self.old.faults }) }
         ensures faults { self.old.faults ≤ self.new.faults }
         ensures last_fault { self.new.faults < 2 ^ 64 }
     {
@@ -196,10 +234,12 @@ impl<'r, R: Files> Flash for FileFlash<'r, R> {
     }
 
     fn erase(&mut self, sector: u64) -> Result<(), Failed>
-        requires attached { self.old.attached ≡ true }
+        requires attached { is_some self.old.file ≡ true }
         requires within { sector * 65536 + 65536 ≤ self.old.extent }
-        ensures ok { OnOk result (self.new ≡ self.old) }
-        ensures err { OnErr result (self.new ≡ record self.old { write_faults = raised self.old.write_faults }) }
+        ensures open { is_some self.new.file ≡ true }
+        ensures ok { OnOk result (self.new ≡ record self.old { file = self.new.file }) }
+        ensures err { OnErr result (self.new ≡
+            record self.old { file = self.new.file; write_faults = raised self.old.write_faults }) }
         ensures write_faults { self.old.write_faults ≤ self.new.write_faults }
         ensures last_write_fault { self.new.write_faults < 2 ^ 64 }
     {
@@ -214,10 +254,12 @@ impl<'r, R: Files> Flash for FileFlash<'r, R> {
     }
 
     fn program(&mut self, place: u64, given: &[u8]) -> Result<(), Failed>
-        requires attached { self.old.attached ≡ true }
+        requires attached { is_some self.old.file ≡ true }
         requires within { place + length given.now ≤ self.old.extent }
-        ensures ok { OnOk result (self.new ≡ self.old) }
-        ensures err { OnErr result (self.new ≡ record self.old { write_faults = raised self.old.write_faults }) }
+        ensures open { is_some self.new.file ≡ true }
+        ensures ok { OnOk result (self.new ≡ record self.old { file = self.new.file }) }
+        ensures err { OnErr result (self.new ≡
+            record self.old { file = self.new.file; write_faults = raised self.old.write_faults }) }
         ensures write_faults { self.old.write_faults ≤ self.new.write_faults }
         ensures last_write_fault { self.new.write_faults < 2 ^ 64 }
     {

@@ -7,10 +7,10 @@ select-tells g c =
     let old = c.args.self.now in
     let new = c.new.self.now in
     record {
-      ok = opened-ok old new new.rest c.args.name.now c.result c.ensures.after;
-      refused = opened-refused old new new.rest c.args.name.now c.result c.ensures.after;
-      err = opened-err old new new.rest c.result c.ensures.after;
-      asks = opened-asks old new new.rest c.args.name.now c.result c.ensures.after;
+      ok = opened-ok old new new.rest new.refusal c.args.name.now c.result c.ensures.after;
+      refused = opened-refused old new new.rest new.refusal c.args.name.now c.result c.ensures.after;
+      err = opened-err old new new.rest new.refusal c.result c.ensures.after;
+      asks = opened-asks old new new.rest new.refusal c.args.name.now c.result c.ensures.after;
       stays = record { map = refl; faults = c.ensures.faults; absences = c.ensures.absences };
       fits = (c.ensures.last_fault, c.ensures.last_absence);
     }
