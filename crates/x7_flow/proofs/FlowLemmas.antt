@@ -22,18 +22,14 @@ use Rattle.x7_flow.specs.FrameMemory.{landed_more, memory_of, newest_put, puts}
 use Rattle.x7_flow.specs.Sound.{IsSound}
 use Rattle.x7_flow.specs.Later.{flow_from, pairs_from, flow_loaded, pairs_loaded}
 use Rattle.x7_flow.proofs.SettingsLemmas.{Means, asked_means, settings_joined, settings_more}
+use Rattle.x7_pipeline.proofs.StateLemmas.{at_slot_more}
 
 -- ---- landed frames and one word more
-
-at_slot_front : (slot : Slot) (words : List ℕ) (pairs : List PlanRow) → at_slot slot words pairs ≡ at_slot slot words [] ++ pairs
-at_slot_front (Frame far) words pairs = refl
-at_slot_front Pad words pairs = refl
-at_slot_front End words pairs = refl
 
 landed_step : (part : PartData) (base : ℕ) (frames : List (List ℕ)) → in_slots (slots_from part base) frames ≡ newest_put part base frames ++ in_slots (slots_from part base) (but_newest frames)
 unfolding in_slots
 landed_step part base [] = refl
-landed_step part base (frame ∷ older) = at_slot_front (get_or (slots_from part base) (length older) End) frame (in_slots (slots_from part base) older)
+landed_step part base (frame ∷ older) = at_slot_more (get_or (slots_from part base) (length older) End) frame (in_slots (slots_from part base) older)
 
 pub landed_grows : (part : PartData) (base w : ℕ) (run : List ℕ) → landed part base (w ∷ run) ≡ landed_more part base run ++ landed part base run
 unfolding landed landed_more

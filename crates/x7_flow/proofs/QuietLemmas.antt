@@ -70,3 +70,16 @@ pub due_is : (part : PartData) (h : History) (r count due place : ℕ) → (r ==
 due_is part h r count due place t l =
     less_is part h r count due place (ap (λ (b : Bool). if b then Reads count else Other) t) l
     (ap (λ (b : Bool). if b then Reads (count - due) else Other) (read_test (gives_frames (settings_of part.idcode h)) r count t due l))
+
+-- a read of which all words are due has the flow of the history before it
+pub all_due_is : (part : PartData) (h : History) (r count place : ℕ) → (r == 3 && (not (count == 0) && gives_frames (settings_of part.idcode h))) ≡ true →
+    less count (flow_of part (entry (Read r count) place ∷ h)) ≡ flow_of part h
+all_due_is part h r count place t =
+    ap (less count) (flow_more part (entry (Read r count) place) h ∙ ap (λ (b : Bool). flow_by part (if b then Reads count else Other) f) t) ∙ by (has_frame_at part f.base) refl
+  where
+    f : Flow
+    f = flow_of part h
+
+    by : (x : Bool) → has_frame_at part f.base ≡ x → less count (flow_by part (Reads count) f) ≡ f
+    by true t = rw t (ap (λ (n : ℕ). record f { given = n }) (omega arith))
+    by false t = let none = (flow_sound part h).nowhere t in rw t (ap (λ (n : ℕ). record f { given = n }) (omega arith))

@@ -15,7 +15,7 @@ use Rattle.x7_pipeline.specs.Copies.{copied, is_mfw}
 use Rattle.x7_pipeline.specs.Faults.{completes}
 use Rattle.x7_pipeline.specs.Pipeline.{PipelineData}
 use Rattle.x7_pipeline.specs.Saving.{ChangesAt, SavedState, address_of, newest_slot, next_put, takes_copies}
-use Rattle.x7_pipeline.proofs.SavedLemmas.{changes_copy, changes_none, changes_slot, taken_back}
+use Rattle.x7_pipeline.proofs.SavedLemmas.{changes_copy, changes_none, taken_back, word_changes as one_word}
 use Rattle.x7_flow.specs.declared.asked.Asked.{Asked}
 use Rattle.x7_flow.specs.declared.asked.Asked.TheVariants.{Load, Order, Word, Copies, Reads, Other}
 use Rattle.x7_flow.specs.Settings.{Settings, settings_after, settings_of}
@@ -24,39 +24,15 @@ use Rattle.x7_flow.specs.FrameMemory.{landed_more, memory_of, newest_put, puts}
 use Rattle.x7_flow.specs.Saving.{FramesBack, KeepsFrames}
 use Rattle.x7_flow.specs.Sound.{IsSound}
 use Rattle.x7_flow.specs.Standing.{FramesFit, FramesStandFor, FramesState, HasFlow}
-use Rattle.x7_flow.proofs.FlowLemmas.{flow_sound, memory_more, put_none}
+use Rattle.x7_flow.proofs.FlowLemmas.{flow_sound, landed_grows, memory_more, put_none}
 use Rattle.x7_flow.proofs.SettingsLemmas.{Means, asked_means}
 
 -- ---- what an access puts
 
--- the slot of the newest of frames
-abbrev slot_of_newest : PartData → ℕ → List (List ℕ) → Slot
-slot_of_newest part base [] = Pad
-slot_of_newest part base (frame ∷ older) = get_or (slots_from part base) (length older) End
-
-newest_changes : (part : PartData) (base : ℕ) (frames : List (List ℕ)) (old new : FrameMap) → AreSame new (put_over (newest_put part base frames) old) → ChangesAt (address_of (slot_of_newest part base frames)) old new
-newest_changes part base [] old new s = changes_none None old new (λ far. s far ∙ put_none [] old refl far)
-newest_changes part base (frame ∷ older) old new s = changes_slot (get_or (slots_from part base) (length older) End) frame old new s
-
-newest_is : (part : PartData) (base count : ℕ) (frames : List (List ℕ)) → count ≡ length frames → (if count == 0 then Pad else get_or (slots_from part base) (count - 1) End) ≡ slot_of_newest part base frames
-newest_is part base count [] e = rw e refl
-newest_is part base count (frame ∷ older) e =
-    let some : (count == 0) ≡ false = ne_eqb count 0 (λ z. omega (arith, e, z)) in
-    let one : count - 1 ≡ length older = omega (arith, e) in
-    rw (some, one) refl
-
-word_by : (part : PartData) (base : ℕ) (run : List ℕ) (slot : Slot) (b : Bool) (old new : FrameMap) → slot ≡ slot_of_newest part base (frames_of (frame_words part) run)
-    → AreSame new (put_over (if b then newest_put part base (frames_of (frame_words part) run) else []) old) → ChangesAt (if b then address_of slot else None) old new
-word_by part base run slot true old new e s = rw e (newest_changes part base (frames_of (frame_words part) run) old new s)
-word_by part base run slot false old new e s = changes_none None old new (λ far. s far ∙ put_none [] old refl far)
-
-word_changes : (part : PartData) (p : PipelineData) (f : Flow) (old new : FrameMap) → HasFlow part p f → takes_copies p ≡ false → AreSame new (put_over (landed_more part f.base f.run) old) → ChangesAt (next_put part p) old new
-unfolding landed_more
-word_changes part p f old new h words s =
-    let slot : newest_slot part p ≡ slot_of_newest part f.base (frames_of (frame_words part) f.run) =
-    ap (λ (b : ℕ). if p.frame_count == 0 then Pad else get_or (slots_from part b) (p.frame_count - 1) End) h.stands.base_is ∙ newest_is part f.base p.frame_count (frames_of (frame_words part) f.run) h.stands.count_is in
-    let whole : (length p.rest + 1 == p.width) ≡ completes part f.run = ap (λ (r : List ℕ). length r + 1 == p.width) h.stands.rest_is ∙ ap (λ (w : ℕ). length (rest_of (frame_words part) f.run) + 1 == w) h.stands.width_is in
-    rw (words, whole) (word_by part f.base f.run (newest_slot part p) (completes part f.run) old new slot s)
+-- a word, by what lands
+word_changes : (part : PartData) (p : PipelineData) (f : Flow) (w : ℕ) (old new : FrameMap) → HasFlow part p f → is_mfw f.command ≡ false → AreSame new (put_over (landed_more part f.base f.run) old) → ChangesAt (next_put part p) old new
+word_changes part p f w old new h words same =
+    one_word part p f.command f.base f.run f.source f.given w old new h.stands words (record { added = landed_more part f.base f.run; grows = landed_grows part f.base w f.run; memory = same })
 
 copy_by : (part : PartData) (p : PipelineData) (base : ℕ) (source : Option (List ℕ)) (old new : FrameMap) (m b : Bool) → p.base ≡ base → p.source ≡ source → is_mfw p.command ≡ m → has_frame_at part p.base ≡ b
     → AreSame new (put_over (if m && b then copied base source else []) old) → ChangesAt (next_put part p) old new
@@ -65,15 +41,11 @@ copy_by part p base None old new true true e g h i s = changes_none (next_put pa
 copy_by part p base source old new true false e g h i s = changes_none (next_put part p) old new (λ far. s far ∙ put_none [] old refl far)
 copy_by part p base source old new false b e g h i s = changes_none (next_put part p) old new (λ far. s far ∙ put_none [] old refl far)
 
--- a pipeline that takes words takes no copies
-no_copies : (p : PipelineData) → is_mfw p.command ≡ false → takes_copies p ≡ false
-no_copies p e = rw e refl
-
 access_changes : (part : PartData) (s : Settings) (a : Asked) (t : ℕ) (p : PipelineData) (f : Flow) (old new : FrameMap) → Means s a t → IsSound part s f → HasFlow part p f → AreSame new (put_over (puts part a f) old) → ChangesAt (next_put part p) old new
 access_changes part s (Load w) t p f old new m i h same = changes_none (next_put part p) old new (λ far. same far ∙ put_none [] old refl far)
 access_changes part s (Order c) t p f old new m i h same = changes_none (next_put part p) old new (λ far. same far ∙ put_none [] old refl far)
 access_changes part s (Word w) t p f old new m i h same =
-    word_changes part p f old new h (no_copies p (ap is_mfw (h.stands.command_is ∙ i.command_is ∙ ap command_with m.1))) same
+    word_changes part p f w old new h (ap is_mfw (i.command_is ∙ ap command_with m.1)) same
 access_changes part s Copies t p f old new m i h same =
     copy_by part p f.base f.source old new (is_mfw f.command) (has_frame_at part f.base) h.stands.base_is h.stands.source_is (ap is_mfw h.stands.command_is) (ap (has_frame_at part) h.stands.base_is) same
 access_changes part s (Reads count) t p f old new m i h same = changes_none (next_put part p) old new (λ far. same far ∙ put_none [] old refl far)

@@ -143,6 +143,8 @@ pub fn quiet_laws()
     ensures memory { (part : PartData) (later earlier : History) → AreQuiet later → AreSame (memory_of part (later ++ earlier)) (memory_of part earlier) }
     ensures due { (part : PartData) (h : History) (register count due place : ℕ) → reads_frame_data h (Read register count) ≡ true → due < count →
         less due (flow_of part (entry (Read register count) place ∷ h)) ≡ flow_of part (entry (Read register (count - due)) place ∷ h) }
+    ensures all_due { (part : PartData) (h : History) (register count place : ℕ) → reads_frame_data h (Read register count) ≡ true →
+        less count (flow_of part (entry (Read register count) place ∷ h)) ≡ flow_of part h }
 {}
 
 /// A write of whole frames behind a FAR load leaves the memory overridden by a plan of these frames at the slots in order.

@@ -1,4 +1,4 @@
-use Rattle.x7_flow.proofs.QuietLemmas.{due_is, quiet_memory, quiet_pairs}
+use Rattle.x7_flow.proofs.QuietLemmas.{all_due_is, due_is, quiet_memory, quiet_pairs}
 use Rattle.x7_flow.proofs.law.quiet_laws.Goals as goal
 
 pub returns-clause-pairs : goal.returns-clause-pairs
@@ -9,3 +9,6 @@ returns-clause-memory c = quiet_memory
 
 pub returns-clause-due : goal.returns-clause-due
 returns-clause-due c = due_is
+
+pub returns-clause-all_due : goal.returns-clause-all_due
+returns-clause-all_due c = all_due_is
