@@ -1,6 +1,8 @@
 -- The check of a byte list as a stream, and what a value that keeps it stands for (this project's choice: it goes on
 -- across sessions and after a faulty word).
 use Rattle.std.specs.Prelude.{◌==◌, ◌||◌, Bool, ◌≡◌, ◌≤◌, ℕ, List, length, take}
+use Rattle.x7_regs.specs.Register.{number_of}
+use Rattle.x7_regs.specs.declared.register.Reg.TheVariants.{Cmd, Crc, Far, Lout}
 use Rattle.x7_packets.specs.Cutting.{CutterState, CutterStandsFor}
 use Rattle.x7_packets.specs.History.{command_held, History, history_of}
 use Rattle.x7_packets.specs.Reading.{Place, Session}
@@ -45,4 +47,4 @@ pub record Keeps (c : CheckerState) (bytes : List ℕ) : Type 0 where
 
 -- a write to this register may do more than lengthen the check: CRC and FAR and CMD, and LOUT, which is left out
 abbrev pub has_effect : ℕ → Bool
-has_effect register = register == 0 || register == 1 || register == 4 || register == 8
+has_effect register = register == number_of Crc || register == number_of Far || register == number_of Cmd || register == number_of Lout

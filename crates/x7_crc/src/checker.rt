@@ -1,6 +1,8 @@
 //! The running check of a stream's bytes, as they come.
 ghost use Rattle.std.specs.Prelude.{◌≡◌, ℕ, List, [], ◌∷◌, ◌++◌, ◌<◌, ◌%◌, length, Some, ◌||◌, ◌&&◌, ◌==◌, not, if◌then◌else◌};
 ghost use Rattle.x7_words.specs.Word.{words_of_bytes};
+ghost use Rattle.x7_regs.specs.Command.{code_of};
+ghost use Rattle.x7_regs.specs.declared.command.Command.TheVariants.{Rcrc};
 ghost use Rattle.x7_packets.specs.Cutting.{IsRun, run_steps};
 ghost use Rattle.x7_packets.specs.History.{command_held, entered_all, entry, executed_by, executes, History, is_command, Write};
 ghost use Rattle.x7_packets.specs.Packet.{payload_steps};
@@ -10,6 +12,7 @@ ghost use Rattle.x7_crc.specs.Checking.{check_of_bytes, has_effect, IsSum, Check
 use crate::check::{fold, fold_slice};
 use std::marker::Model;
 use x7_packets::{Cut, Cutter};
+use x7_regs::{Command, Reg};
 use x7_words::word_of;
 
 /// The check, and the command that CMD holds.
@@ -21,35 +24,43 @@ pub(crate) struct Sum {
 
 /// Whether a written word executes RCRC.
 fn executes_rcrc(held: u32, register: u8, w: u32) -> bool
-    ensures { result ≡ is_command 7 (executed_by held (Write register w)) }
+    ensures { result ≡ is_command (code_of Rcrc) (executed_by held (Write register w)) }
 {
-    match register {
-        4 => w & 31 == 7,
-        1 => held == 7,
-        _ => false,
+    if register == Reg::Cmd.number() {
+        return w & 31 == Command::Rcrc.code();
     }
+    if register == Reg::Far.number() {
+        return held == Command::Rcrc.code();
+    }
+    false
 }
 
 /// The command that CMD holds after a written word.
 fn held_after(held: u32, register: u8, w: u32) -> u32
     ensures { (h : History) (place : ℕ) → held ≡ command_held h → result ≡ command_held (entry (Write register w) place ∷ h) }
 {
-    if register == 4 { w & 31 } else { held }
+    if register == Reg::Cmd.number() {
+        w & 31
+    } else {
+        held
+    }
 }
 
 /// The check after a written word, where it executes RCRC or not. LOUT is not folded (this project's choice).
 fn check_after(check: u32, register: u8, w: u32, reset: bool) -> u32
     requires { register < 32 }
-    ensures { (h : History) (place : ℕ) → check ≡ running_check h → reset ≡ executes 7 h (Write register w) → result ≡ running_check (entry (Write register w) place ∷ h) }
+    ensures { (h : History) (place : ℕ) → check ≡ running_check h → reset ≡ executes (code_of Rcrc) h (Write register w) → result ≡ running_check (entry (Write register w) place ∷ h) }
 {
     if reset {
         return 0;
     }
-    match register {
-        0 => 0,
-        8 => check,
-        _ => fold(check, register, w),
+    if register == Reg::Crc.number() {
+        return 0;
     }
+    if register == Reg::Lout.number() {
+        return check;
+    }
+    fold(check, register, w)
 }
 
 /// The sum after a written word.
@@ -81,7 +92,10 @@ fn written_each(sum: Sum, register: u8, bytes: &[u8]) -> Sum
 fn has_effect(register: u8) -> bool
     ensures { result ≡ has_effect register }
 {
-    register == 0 || register == 1 || register == 4 || register == 8
+    register == Reg::Crc.number()
+        || register == Reg::Far.number()
+        || register == Reg::Cmd.number()
+        || register == Reg::Lout.number()
 }
 
 /// The sum after words written to one register.

@@ -1,5 +1,7 @@
 //! Laws of the check, for the proofs of crates above.
 ghost use Rattle.std.specs.Prelude.{◌≡◌, ◌≢◌, ◌<◌, ◌*◌, ◌^◌, ◌++◌, false, List, [], ◌∷◌, bit_xor, true, ℕ};
+ghost use Rattle.x7_regs.specs.Register.{number_of};
+ghost use Rattle.x7_regs.specs.declared.register.Reg.TheVariants.{Lout};
 ghost use Rattle.x7_packets.specs.History.{Bad, entry, History, Read, Write};
 ghost use Rattle.x7_packets.specs.RunningCheck.{clears};
 ghost use Rattle.x7_crc.specs.OpenWrites.{running_check};
@@ -31,8 +33,8 @@ pub fn checks_are_linear()
 pub fn checks_of_histories()
     ensures begins { running_check [] ≡ 0 }
     ensures cleared { (h : History) (register word place : ℕ) → clears h (Write register word) ≡ true → running_check (entry (Write register word) place ∷ h) ≡ 0 }
-    ensures written { (h : History) (register word place : ℕ) → clears h (Write register word) ≡ false → register ≢ 8 → running_check (entry (Write register word) place ∷ h) ≡ check_after (running_check h) ((register, word) ∷ []) }
-    ensures left_out { (h : History) (word place : ℕ) → clears h (Write 8 word) ≡ false → running_check (entry (Write 8 word) place ∷ h) ≡ running_check h }
+    ensures written { (h : History) (register word place : ℕ) → clears h (Write register word) ≡ false → register ≢ number_of Lout → running_check (entry (Write register word) place ∷ h) ≡ check_after (running_check h) ((register, word) ∷ []) }
+    ensures left_out { (h : History) (word place : ℕ) → clears h (Write (number_of Lout) word) ≡ false → running_check (entry (Write (number_of Lout) word) place ∷ h) ≡ running_check h }
     ensures read { (h : History) (register count place : ℕ) → running_check (entry (Read register count) place ∷ h) ≡ running_check h }
     ensures bad { (h : History) (word place : ℕ) → running_check (entry (Bad word) place ∷ h) ≡ running_check h }
 {}

@@ -6,8 +6,7 @@ use Rattle.x7_words.specs.Word.{AreBytes, words_of_bytes}
 use Rattle.x7_words.proofs.ListLemmas.{all_front}
 use Rattle.x7_packets.specs.declared.cutter.Cut.{Cut}
 use Rattle.x7_packets.specs.declared.cutter.Cut.TheVariants.{Body, Head, Need, Skip, Sync, Word}
-use Rattle.x7_packets.specs.declared.cutter.Mode.{Mode}
-use Rattle.x7_packets.specs.declared.cutter.Mode.TheVariants as mode
+use Rattle.x7_packets.specs.Mode.{Mode}
 use Rattle.x7_packets.specs.declared.header.Step.{Step}
 use Rattle.x7_packets.specs.declared.header.Step.TheVariants as step
 use Rattle.x7_packets.specs.Cutting.{AtPlace, between, CutterState, CutterStandsFor, IsLent, IsRun, Longer, Went, run_bytes, run_steps}
@@ -58,9 +57,9 @@ holds_run c n (Body r bs) left count cut k e l = omega (arith, ap length e, leng
 
 -- nothing of a lent run is kept before it
 no_tail : (c : CutterState) (m : Mode) (gap tail : List ℕ) (packets : List Packet) → AtPlace c m (Synced gap packets tail) → c.kept ≡ [] → tail ≡ []
-no_tail c mode.Searching gap tail packets a e = absurd a
-no_tail c mode.Due gap tail packets a e = a.1
-no_tail c mode.Synced gap tail packets a e = a.1 ∙ e
+no_tail c Mode.Searching gap tail packets a e = absurd a
+no_tail c Mode.Due gap tail packets a e = a.1
+no_tail c Mode.Synced gap tail packets a e = a.1 ∙ e
 
 -- a session's words end where the bytes do
 words_place : (n : CutterState) (bytes gap tail : List ℕ) (packets : List Packet) (more : List (ℕ × Step)) (sessions new_sessions : List Session) (new : Place) → CutterStandsFor n bytes new_sessions new → Longer gap packets more sessions new_sessions new

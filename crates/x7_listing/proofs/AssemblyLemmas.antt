@@ -12,30 +12,6 @@ use Rattle.x7_listing.specs.Line.{Line, Empty, Comment, Bytes, Sync, Nop, Write,
 use Rattle.x7_text.specs.Reads.{Reads}
 use Rattle.x7_crc.proofs.CheckerLemmas.{still-keeps}
 
--- the bytes of a line that is no check do not depend on it
-pub no-check : (a b : ℕ) (l : Line) → text_of l ≢ codes "crc" → bytes_of a l ≡ bytes_of b l
-no-check a b Empty h = refl
-no-check a b (Comment text) h = refl
-no-check a b (Bytes bs) h = refl
-no-check a b Sync h = refl
-no-check a b Nop h = refl
-no-check a b (Write n k) h = refl
-no-check a b (Read n k) h = refl
-no-check a b (Write2 k) h = refl
-no-check a b (Read2 k) h = refl
-no-check a b (Word w) h = refl
-no-check a b (Data ws) h = refl
-no-check a b (Cmd x) h = refl
-no-check a b Check h = absurd (h refl)
-
-pub read-without : (a b : ℕ) (r : Bool) (t old new : List ℕ) → t ≢ codes "crc" → Reads FitsLine text_of (bytes_of a) r t old new → Reads FitsLine text_of (bytes_of b) r t old new
-read-without a b true t old new h r = (r.0, r.1, r.2, r.3 ∙ ap (λ s. old ++ s) (no-check a b r.0 (λ e. h (r.2 ∙ e))))
-read-without a b false t old new h r = r
-
-pub keeps-after : (c : CheckerState) (a : ℕ) (r : Bool) (t old new : List ℕ) → Reads FitsLine text_of (bytes_of a) r t old new → Keeps c old → Keeps c new
-keeps-after c a true t old new r k = still-keeps c old (bytes_of a r.0) new r.3 k
-keeps-after c a false t old new r k = subst (λ s. Keeps c s) (sym r.1) k
-
 pub one-more : (lines : List Line) (l : Line) → assembled (lines ++ l ∷ []) ≡ with_line (assembled lines) l
 one-more lines l = fold-append with_line [] lines (l ∷ [])
 

@@ -1,5 +1,6 @@
 -- Lemmas on specs/AtOnce, and what a lister stands for after what it tells at once.
 use Rattle.std.proofs.Common.{◌≡◌, ℕ, zero, suc, ◌+◌, ◌*◌, ◌/◌, ◌%◌, ◌^◌, ◌-◌, ◌<◌, ◌≤◌, ◌==◌, Bool, true, false, List, [], ◌∷◌, ◌++◌, codes, decimal, get_or, length, drop, take, take-add, take_all, length-drop, replicate, refl, ap, sym, subst, ◌∙◌, append_assoc, append-nil, arith, Bor, Vec}
+use Rattle.std.proofs.Math.Nat.{mul-suc, mul-zero}
 use Rattle.std.proofs.Math.Seq.{take-append-add}
 use Rattle.std.proofs.lemmas.Bool.Decides.{nat_tests}
 use Rattle.std.proofs.lemmas.Fmt.{decimal_digit, decimal_step}
@@ -48,19 +49,14 @@ pub equal_block : (step : Step) (w n : ℕ) (line : List ℕ) → head_text step
 equal_block step w zero line e = refl
 equal_block step w (suc n) line e = ap (λ t. line ++ t) (equal_block step w n line e) ∙ ap (λ t. t ++ equal_lines step w n) (sym e)
 
-pub nop_front : (n k : ℕ) → k ≤ n → take (4 * k) (nop_lines n) ≡ nop_lines k
-nop_front n zero h = refl
-nop_front zero (suc k) h = absurd (omega (arith, h))
-nop_front (suc n) (suc k) h =
-    let four : 4 * suc k ≡ suc (suc (suc (suc (4 * k)))) = omega arith in
-    ap (λ (m : ℕ). take m (codes "nop\n" ++ nop_lines n)) four ∙ ap (λ t. codes "nop\n" ++ t) (nop_front n k (omega (arith, h)))
-
-pub zero_front : (n k : ℕ) → k ≤ n → take (14 * k) (zero_lines n) ≡ zero_lines k
-zero_front n zero h = refl
-zero_front zero (suc k) h = absurd (omega (arith, h))
-zero_front (suc n) (suc k) h =
-    let size : 14 * suc k ≡ 14 + 14 * k = omega arith in
-    ap (λ (m : ℕ). take m (codes "word 00000000\n" ++ zero_lines n)) size ∙ take-append-add (codes "word 00000000\n") (zero_lines n) (14 * k) ∙ ap (λ t. codes "word 00000000\n" ++ t) (zero_front n k (omega (arith, h)))
+-- the first lines of a block
+pub equal_front : (step : Step) (w size n k : ℕ) → length (head_text step w) ≡ size → k ≤ n → take (size * k) (equal_lines step w n) ≡ equal_lines step w k
+equal_front step w size n zero e h = ap (λ (m : ℕ). take m (equal_lines step w n)) (mul-zero size)
+equal_front step w size zero (suc k) e h = absurd (omega (arith, h))
+equal_front step w size (suc n) (suc k) e h =
+    let more : size * suc k ≡ length (head_text step w) + size * k = omega (arith, mul-suc size k, e) in
+    ap (λ (m : ℕ). take m (head_text step w ++ equal_lines step w n)) more ∙ take-append-add (head_text step w) (equal_lines step w n) (size * k)
+    ∙ ap (λ t. head_text step w ++ t) (equal_front step w size n k e (omega (arith, h)))
 
 equal_lines-add : (step : Step) (w m n : ℕ) → equal_lines step w (m + n) ≡ equal_lines step w m ++ equal_lines step w n
 equal_lines-add step w zero n = let e : 0 + n ≡ n = omega arith in ap (equal_lines step w) e

@@ -86,9 +86,6 @@ pub no-cut : (t digits rest : List ℕ) → IsCut t digits rest → ((field : Li
 no-cut t digits rest c none field more h e =
     none field h (sym (before-space digits rest c.free) ∙ ap before_space (sym c.is ∙ e) ∙ before-space (field_text field) more (field-free field))
 
-pub cut-field : (t digits rest field : List ℕ) → IsCut t digits rest → digits ≡ field_text field → t ≡ field_text field ++ 32 ∷ rest
-cut-field t digits rest field c e = c.is ∙ ap (λ d. d ++ 32 ∷ rest) e
-
 -- a text that is no field's, where its pairs are those of no bytes
 pub no-field : (t : List ℕ) → (t ≡ codes "-" → ⊥) → ((bs : List ℕ) → AreBytes bs → t ≡ flat_map hex_byte bs → ⊥) → (field : List ℕ) → IsField field → t ≡ field_text field → ⊥
 no-field t dash none [] h e = dash e

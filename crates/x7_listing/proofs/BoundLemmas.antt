@@ -18,8 +18,7 @@ use Rattle.x7_listing.specs.HeadLine.{command_line, head_line, head_text, line_t
 use Rattle.x7_listing.specs.Listing.{session_text}
 use Rattle.x7_listing.specs.Telling.{GapTold, ListerStandsFor, ListerState, ToldAt, payload_told, word_next, word_told, words_told}
 use Rattle.x7_listing.specs.Taking.{TakerStandsFor}
-use Rattle.x7_packets.specs.declared.cutter.Mode.{Mode}
-use Rattle.x7_packets.specs.declared.cutter.Mode.TheVariants as mode
+use Rattle.x7_packets.specs.Mode.{Mode}
 use Rattle.x7_listing.specs.declared.line.HeadLine.{HeadLine}
 use Rattle.x7_listing.specs.declared.line.HeadLine.TheVariants as line
 use Rattle.x7_listing.proofs.FrontLemmas.{place_sure, session_over, sure_place, told_behind}
@@ -129,7 +128,7 @@ told_long false line held all start (Synced gap packets tail) m t p =
 told_long true line held all start place m t p = omega (arith, ap length (told_sure_at line held all start place m t), length-append start (sure_place place), place_long place p)
   where
     told_sure_at : (line : ℕ) (held all start : List ℕ) (place : Place) (m : Mode) → ToldAt true line held all start place m → all ≡ start ++ sure_place place
-    told_sure_at line held all start (Searching gap) m t = place_sure true line held all start (Searching gap) mode.Searching (λ e. let f : mode.Searching ≡ mode.Due = e in cc) t
+    told_sure_at line held all start (Searching gap) m t = place_sure true line held all start (Searching gap) Mode.Searching (λ e. let f : Mode.Searching ≡ Mode.Due = e in cc) t
     told_sure_at line held all start (Synced gap packets tail) m t = place_sure true line held all start (Synced gap packets tail) m t.0 t
 
 -- a lister that takes runs is at most four bytes behind too

@@ -11,8 +11,7 @@ use Rattle.x7_packets.specs.Packet.{Packet, count_of, EachPacket, ended, latest_
 use Rattle.x7_packets.specs.Reading.{Place, Searching, Synced, Session, IsReading, IsSession}
 use Rattle.x7_packets.specs.declared.header.Step.{Step}
 use Rattle.x7_packets.specs.declared.header.Step.TheVariants.{Payload}
-use Rattle.x7_packets.specs.declared.cutter.Mode.{Mode}
-use Rattle.x7_packets.specs.declared.cutter.Mode.TheVariants as mode
+use Rattle.x7_packets.specs.Mode.{Mode}
 use Rattle.x7_packets.proofs.ByHandLemmas.{reading_is, reading_is_found}
 use Rattle.x7_text.specs.Digits.{hex_byte}
 use Rattle.x7_text.specs.Row.{bytes_text, close, in_line_after, open_text}
@@ -228,7 +227,7 @@ gap_sure all start line held gap g =
     g.told ∙ ap (λ t. start ++ B 0 t) (sym same)
 
 -- what is told at a place is the sure text there
-pub place_sure : (synced : Bool) (line : ℕ) (held all start : List ℕ) (place : Place) (m : Mode) → (m ≡ mode.Due → ⊥) → ToldAt synced line held all start place m → all ≡ start ++ sure_place place
+pub place_sure : (synced : Bool) (line : ℕ) (held all start : List ℕ) (place : Place) (m : Mode) → (m ≡ Mode.Due → ⊥) → ToldAt synced line held all start place m → all ≡ start ++ sure_place place
 place_sure false line held all start (Searching gap) m d t = gap_sure all start line held gap t
 place_sure false line held all start (Synced gap packets tail) m d t = absurd (d t.0)
 place_sure true line held all start (Searching gap) m d t = t.2 ∙ sym (append-nil start) ∙ ap (λ x. start ++ B 0 (before_last_four x)) (sym t.0)

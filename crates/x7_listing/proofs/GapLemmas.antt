@@ -15,19 +15,6 @@ B i xs = open_text 32 (codes "bytes ") hex_byte i xs
 pub fresh_gap : (all start : List ℕ) (gap : List ℕ) → gap ≡ [] → all ≡ start → GapTold all start 0 [] gap
 fresh_gap all start gap e f = record { front = []; split = e; told = f ∙ sym (append-nil start); count = refl; full = inr refl; few = omega arith }
 
--- a byte more of a gap, where fewer than four are held
-pub held_more : (all start : List ℕ) (line : ℕ) (held held2 gap : List ℕ) (byte : ℕ) → GapTold all start line held gap → length held < 4 → held2 ≡ held ++ byte ∷ [] → GapTold all start line held2 (gap ++ byte ∷ [])
-held_more all start line held held2 gap byte g few e =
-    let none : g.front ≡ [] = elim g.full [ inl a ↦ absurd (omega arith) | inr a ↦ a ] in
-    record {
-      front = g.front;
-      split = ap (λ t. t ++ byte ∷ []) g.split ∙ append_assoc g.front held (byte ∷ []) ∙ ap (λ t. g.front ++ t) (sym e);
-      told = g.told;
-      count = g.count;
-      full = inr none;
-      few = omega (arith, ap length e, length-append held (byte ∷ []));
-    }
-
 -- bytes more of a gap: those held and a front of the new ones are told, and four are held then
 pub told_more : (given old new start : List ℕ) (line line2 : ℕ) (held held2 gap more told : List ℕ) → GapTold (given ++ old) start line held gap → held ++ more ≡ told ++ held2 → length held2 ≡ 4
     → new ≡ old ++ B line told → line2 ≡ in_line_after 32 line told → GapTold (given ++ new) start line2 held2 (gap ++ more)
@@ -40,15 +27,6 @@ told_more given old new start line line2 held held2 gap more told g e four t n =
   full = inl four;
   few = omega arith;
 }
-
--- four elements are the list
-pub four_of : (xs : List ℕ) (n : ℕ) → length xs ≡ 4 → n ≡ 4 → take n xs ≡ slice_index_or xs 0 0 ∷ slice_index_or xs 1 0 ∷ slice_index_or xs 2 0 ∷ slice_index_or xs 3 0 ∷ []
-four_of [] n e f = absurd (omega (arith, e))
-four_of (p ∷ []) n e f = absurd (omega (arith, e))
-four_of (p ∷ q ∷ []) n e f = absurd (omega (arith, e))
-four_of (p ∷ q ∷ r ∷ []) n e f = absurd (omega (arith, e))
-four_of (p ∷ q ∷ r ∷ s ∷ []) n e f = rw f refl
-four_of (p ∷ q ∷ r ∷ s ∷ t ∷ xs) n e f = absurd (omega (arith, e))
 
 last_four_at : (xs : List ℕ) (k : ℕ) → length xs ≡ suc (suc (suc (suc k))) → drop k xs ≡ slice_index_or xs k 0 ∷ slice_index_or xs (suc k) 0 ∷ slice_index_or xs (suc (suc k)) 0 ∷ slice_index_or xs (suc (suc (suc k))) 0 ∷ []
 last_four_at [] k e = absurd (omega (arith, e))

@@ -93,24 +93,6 @@ pub plain-line : (check : ℕ) (b : Bool) (t old new : List ℕ) → ((l : Line)
 plain-line check true t old new only r = (r.0, plain-fits r.0 r.1, r.2, r.3)
 plain-line check false t old new only r = (λ l h e. r.0 l (only l h e) e, r.1)
 
-pub no-words : (t : List ℕ) → t ≢ [] → t ≢ codes "nop" → t ≢ codes "sync" → t ≢ codes "crc" → (l : Line) → IsPlain l → t ≡ text_of l → ⊥
-no-words t a b c d Empty h e = a e
-no-words t a b c d (Comment text) h e = h
-no-words t a b c d (Bytes bs) h e = h
-no-words t a b c d Sync h e = c e
-no-words t a b c d Nop h e = b e
-no-words t a b c d (Write n k) h e = h
-no-words t a b c d (Read n k) h e = h
-no-words t a b c d (Write2 k) h e = h
-no-words t a b c d (Read2 k) h e = h
-no-words t a b c d (Word x) h e = h
-no-words t a b c d (Data ws) h e = h
-no-words t a b c d (Cmd x) h e = h
-no-words t a b c d Check h e = d e
-
-pub count-over : (ds : List ℕ) (count limit : ℕ) → ds ≡ decimal count → count < 2 ^ 32 → limit ≤ 2 ^ 27 → limit ≤ count → (n : ℕ) → n < limit → ds ≡ decimal n → ⊥
-count-over ds count limit e f g h n k l = let same : count ≡ n = decimal_injective count n (omega arith) (omega arith) (sym e ∙ l) in omega arith
-
 pub no-access : (t ds : List ℕ) (r : ℕ) → r < 32 → t ≡ reg_name r ++ 32 ∷ ds → ((n : ℕ) → n < 2048 → ds ≢ decimal n) → (a : ℕ × ℕ) → IsAccess a → t ≡ access_text a → ⊥
 no-access t ds r h e none a i k =
     none a.1 i.1 (sym (after-space (reg_name r) ds (name-free r h)) ∙ ap after_space (sym e ∙ k) ∙ after-space (reg_name a.0) (decimal a.1) (name-free a.0 i.0))

@@ -10,8 +10,7 @@ use Rattle.x7_packets.specs.Reading.{Place, Searching, Synced, Session, IsReadin
 use Rattle.x7_packets.specs.Cutting.{Adds, Longer, Turns}
 use Rattle.x7_packets.specs.declared.header.Step.{Step}
 use Rattle.x7_packets.specs.declared.header.Step.TheVariants.{Filler, Nop, Open, Payload, Read, Bad}
-use Rattle.x7_packets.specs.declared.cutter.Mode.{Mode}
-use Rattle.x7_packets.specs.declared.cutter.Mode.TheVariants as mode
+use Rattle.x7_packets.specs.Mode.{Mode}
 use Rattle.x7_packets.specs.declared.cutter.Cut.TheVariants.{Skip, Sync}
 use Rattle.x7_text.specs.Digits.{hex_byte}
 use Rattle.x7_text.specs.Row.{bytes_text, close, in_line_after, open_text}
@@ -112,7 +111,7 @@ session_ended all start line gap packets s each =
 
 words_by : (line line2 : ℕ) (held2 all all2 before bytes : List ℕ) (sessions new_sessions : List Session) (gap : List ℕ) (packets all_packets : List Packet) (np : Place) (new : Mode) (more : List (ℕ × Step)) (b : Bool)
     → ended all_packets ≡ b → (b ≡ true → line2 ≡ 0)
-    → SessionTold all2 (before ++ flat_map session_text sessions) line2 gap all_packets → (new ≡ mode.Due → ⊥)
+    → SessionTold all2 (before ++ flat_map session_text sessions) line2 gap all_packets → (new ≡ Mode.Due → ⊥)
     → (b ≡ true → (new_sessions ≡ sessions ++ record { gap = gap; packets = all_packets } ∷ []) × (np ≡ Searching []))
     → (b ≡ false → (new_sessions ≡ sessions) × (np ≡ Synced gap all_packets []))
     → IsReading bytes new_sessions np → Told true line2 held2 all2 before new_sessions np new
@@ -132,7 +131,7 @@ words_by line line2 held2 all all2 before bytes sessions new_sessions gap packet
 
 -- words more of a session are told: a header's word, or payload words
 pub words_told_at : (synced : Bool) (line line2 : ℕ) (held held2 all all2 before bytes : List ℕ) (sessions new_sessions : List Session) (gap tail : List ℕ) (packets : List Packet) (np : Place) (old new : Mode) (more : List (ℕ × Step))
-    → Told synced line held all before sessions (Synced gap packets tail) old → (old ≡ mode.Due → ⊥) → (new ≡ mode.Due → ⊥) → Longer gap packets more sessions new_sessions np → IsReading bytes new_sessions np
+    → Told synced line held all before sessions (Synced gap packets tail) old → (old ≡ Mode.Due → ⊥) → (new ≡ Mode.Due → ⊥) → Longer gap packets more sessions new_sessions np → IsReading bytes new_sessions np
     → (synced ≡ true → (all2 ≡ all ++ words_told line more) × (line2 ≡ words_place line more)) → Told true line2 held2 all2 before new_sessions np new
 words_told_at false line line2 held held2 all all2 before bytes sessions new_sessions gap tail packets np old new more t o n l r h = absurd (o t.0)
 words_told_at true line line2 held held2 all all2 before bytes sessions new_sessions gap tail packets np old new more t o n l r h =
@@ -142,7 +141,7 @@ words_told_at true line line2 held held2 all all2 before bytes sessions new_sess
     (session_words all all2 (before ++ flat_map session_text sessions) line line2 gap packets l.all more t.1 l.grown e.0 e.1) n l.ends l.goes_on r
 
 -- the end of a listing in a gap
-pub gap_ended : (all all2 before : List ℕ) (line : ℕ) (held bytes : List ℕ) (sessions : List Session) (at : Place) (m : Mode) → Told false line held all before sessions at m → (m ≡ mode.Due → ⊥)
+pub gap_ended : (all all2 before : List ℕ) (line : ℕ) (held bytes : List ℕ) (sessions : List Session) (at : Place) (m : Mode) → Told false line held all before sessions at m → (m ≡ Mode.Due → ⊥)
     → all2 ≡ all ++ B line held ++ close (in_line_after 32 line held) → all2 ≡ before ++ reading_text sessions at
 gap_ended all all2 before line held bytes sessions (Synced gap packets tail) m t d e = absurd (d t.0)
 gap_ended all all2 before line held bytes sessions (Searching gap) m t d e =

@@ -48,9 +48,6 @@ takes-row l word row text old new a b f i e w r end h n =
       takes = record { lines = l ∷ []; fit = (f, tt); listed = (i, tt); text_is = is ∙ ap (λ t. t ++ drop (a + b + 1) text) (sym (append-nil (ended_text l))); appended = n ∙ ap (λ t. old ++ t) (sym (append-nil (bytes_of 0 l))); count_is = refl };
     }
 
-pub takes-none : (text out : List ℕ) → TakesLines text (drop 0 text) out out 0
-takes-none text out = record { lines = []; fit = tt; listed = tt; text_is = refl; appended = sym (append-nil out); count_is = refl }
-
 pub takes-both : (text mid rest old out new : List ℕ) (j k : ℕ) → TakesLines text mid old out j → TakesLines mid rest out new k → TakesLines text rest old new (j + k)
 takes-both text mid rest old out new j k s t = record {
   lines = s.lines ++ t.lines;
@@ -105,10 +102,6 @@ goes-quick all text rest out new more start k n c checker t limit e g =
       };
       count_is = omega (arith, e, g.count_is);
     }
-
--- a text by a place in it
-pub parts-at : (t : List ℕ) (k : ℕ) → k < length t → get_or t k 0 ≡ 32 → t ≡ take k t ++ 32 ∷ take (length t - (k + 1)) (drop (k + 1) t)
-parts-at t k h e = sym (take-append-drop k t) ∙ ap (λ r. take k t ++ r) (drop_more t k 0 h ∙ ap (λ (c : ℕ). c ∷ drop (k + 1) t) e) ∙ ap (λ r. take k t ++ 32 ∷ r) (sym (left-from (k + 1) t (omega (arith, h))))
 
 -- the same, where the place of the line's end and the size are written otherwise
 pub takes-line : (l : Line) (word row text old new : List ℕ) (a b end size : ℕ) → FitsLine l → IsListed l → text_of l ≡ word ++ row → take a text ≡ word → take b (drop a text) ≡ row → end ≡ a + b → size ≡ a + b + 1 → get_or text end 0 ≡ 10 → a + b < length text → new ≡ old ++ bytes_of 0 l

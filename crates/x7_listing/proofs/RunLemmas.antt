@@ -6,8 +6,7 @@ use Rattle.x7_packets.specs.declared.header.Step.{Step}
 use Rattle.x7_packets.specs.declared.header.Step.TheVariants.{Filler, Nop, Open, Payload, Read, Bad}
 use Rattle.x7_packets.specs.Reading.{Place, Searching, Synced, Session, IsReading}
 use Rattle.x7_packets.specs.Cutting.{Adds, IsRun, Turns}
-use Rattle.x7_packets.specs.declared.cutter.Mode.{Mode}
-use Rattle.x7_packets.specs.declared.cutter.Mode.TheVariants as mode
+use Rattle.x7_packets.specs.Mode.{Mode}
 use Rattle.x7_packets.specs.declared.cutter.Cut.{Cut}
 use Rattle.x7_packets.specs.declared.cutter.Cut.TheVariants.{Need, Skip, Sync, Head, Word, Body}
 use Rattle.x7_text.specs.Row.{close}
@@ -41,21 +40,21 @@ not_payload w (Read a b) h r x e = absurd (cc)
 not_payload w (Bad a) h r x e = absurd (cc)
 
 head_adds : (synced : Bool) (line l2 : ℕ) (held h2 all all2 before bytes : List ℕ) (sessions new_sessions : List Session) (spot np : Place) (o n : Mode) (w : ℕ) (step : Step)
-    → Told synced line held all before sessions spot o → Adds (Head w step) sessions spot new_sessions np → (o ≡ mode.Due → ⊥) → (n ≡ mode.Due → ⊥) → IsReading bytes new_sessions np
+    → Told synced line held all before sessions spot o → Adds (Head w step) sessions spot new_sessions np → (o ≡ Mode.Due → ⊥) → (n ≡ Mode.Due → ⊥) → IsReading bytes new_sessions np
     → (synced ≡ true → (all2 ≡ all ++ words_told line ((w, step) ∷ [])) × (l2 ≡ words_place line ((w, step) ∷ []))) → Told true l2 h2 all2 before new_sessions np n
 head_adds synced line l2 held h2 all all2 before bytes sessions new_sessions (Searching gap) np o n w step t a p q r h = absurd a
 head_adds synced line l2 held h2 all all2 before bytes sessions new_sessions (Synced gap packets tail) np o n w step t a p q r h =
     words_told_at synced line l2 held h2 all all2 before bytes sessions new_sessions gap tail packets np o n ((w, step) ∷ []) t p q a r h
 
 word_adds : (synced : Bool) (line l2 : ℕ) (held h2 all all2 before bytes : List ℕ) (sessions new_sessions : List Session) (spot np : Place) (o n : Mode) (register w : ℕ)
-    → Told synced line held all before sessions spot o → Adds (Word register w) sessions spot new_sessions np → (o ≡ mode.Due → ⊥) → (n ≡ mode.Due → ⊥) → IsReading bytes new_sessions np
+    → Told synced line held all before sessions spot o → Adds (Word register w) sessions spot new_sessions np → (o ≡ Mode.Due → ⊥) → (n ≡ Mode.Due → ⊥) → IsReading bytes new_sessions np
     → (synced ≡ true → (all2 ≡ all ++ words_told line (payload_steps register (w ∷ []))) × (l2 ≡ words_place line (payload_steps register (w ∷ [])))) → Told true l2 h2 all2 before new_sessions np n
 word_adds synced line l2 held h2 all all2 before bytes sessions new_sessions (Searching gap) np o n register w t a p q r h = absurd a
 word_adds synced line l2 held h2 all all2 before bytes sessions new_sessions (Synced gap packets tail) np o n register w t a p q r h =
     words_told_at synced line l2 held h2 all all2 before bytes sessions new_sessions gap tail packets np o n (payload_steps register (w ∷ [])) t p q a r h
 
 body_adds : (synced : Bool) (line l2 : ℕ) (held h2 all all2 before bytes : List ℕ) (sessions new_sessions : List Session) (spot np : Place) (o n : Mode) (register : ℕ) (body : Bor (List ℕ))
-    → Told synced line held all before sessions spot o → Adds (Body register body) sessions spot new_sessions np → (o ≡ mode.Due → ⊥) → (n ≡ mode.Due → ⊥) → IsReading bytes new_sessions np
+    → Told synced line held all before sessions spot o → Adds (Body register body) sessions spot new_sessions np → (o ≡ Mode.Due → ⊥) → (n ≡ Mode.Due → ⊥) → IsReading bytes new_sessions np
     → (synced ≡ true → (all2 ≡ all ++ words_told line (payload_steps register (words_of_bytes body.now))) × (l2 ≡ words_place line (payload_steps register (words_of_bytes body.now)))) → Told true l2 h2 all2 before new_sessions np n
 body_adds synced line l2 held h2 all all2 before bytes sessions new_sessions (Searching gap) np o n register body t a p q r h = absurd a
 body_adds synced line l2 held h2 all all2 before bytes sessions new_sessions (Synced gap packets tail) np o n register body t a p q r h =
@@ -99,6 +98,3 @@ need_adds false line held all before sessions new_sessions (Searching gap) np o 
 need_adds true line held all before sessions new_sessions (Searching gap) np o n t a m = rw (a.0, a.1) t
 need_adds false line held all before sessions new_sessions (Synced gap packets tail) np o n t a m = absurd (m.0 t.0)
 need_adds true line held all before sessions new_sessions (Synced gap packets tail) np o n t a m = rw (a.0, a.2) (m.1, t.1)
-
-pub by_need : (run : Cut) (synced : Bool) (line : ℕ) (held all : List ℕ) → run ≡ Need → Writes run synced line held all synced line held all
-by_need run synced line held all is = as_run run Need synced synced line line held held all all is (λ before bytes sessions new_sessions spot np o n told adds turns is_run reading. need_adds synced line held all before sessions new_sessions spot np o n told adds turns)

@@ -3,8 +3,7 @@ use Rattle.std.proofs.Common.{◌≡◌, ℕ, ◌+◌, ◌-◌, ◌<◌, ◌≤�
 use Rattle.std.specs.declared.alloc.Global.{Global}
 use Rattle.x7_packets.specs.Reading.{Place, Searching, Session, IsReading, tail_of}
 use Rattle.x7_packets.specs.Cutting.{between, CutterState, CutterStandsFor, Goes, IsRun, syncs_due, Went}
-use Rattle.x7_packets.specs.declared.cutter.Mode.{Mode}
-use Rattle.x7_packets.specs.declared.cutter.Mode.TheVariants as mode
+use Rattle.x7_packets.specs.Mode.{Mode}
 use Rattle.x7_packets.specs.declared.cutter.Cut.{Cut}
 use Rattle.x7_packets.specs.declared.cutter.Cut.TheVariants.{Need, Skip, Sync, Head, Word, Body}
 use Rattle.x7_text.specs.Digits.{hex_byte}
@@ -58,7 +57,7 @@ took_all c d run synced line at to held text given before bytes piece s h full i
     } in
     record { tells = subst (λ t. Tells d synced line held text given before t) e all; ready = w.turns.1 }
 
-pub ended_gap : (synced : Bool) (line : ℕ) (held given old new before bytes : List ℕ) (sessions : List Session) (spot : Place) (m : Mode) → synced ≡ false → Told synced line held (given ++ old) before sessions spot m → (m ≡ mode.Due → ⊥)
+pub ended_gap : (synced : Bool) (line : ℕ) (held given old new before bytes : List ℕ) (sessions : List Session) (spot : Place) (m : Mode) → synced ≡ false → Told synced line held (given ++ old) before sessions spot m → (m ≡ Mode.Due → ⊥)
     → new ≡ old ++ open_text 32 (codes "bytes ") hex_byte line held ++ close (in_line_after 32 line held) → given ++ new ≡ before ++ reading_text sessions spot
 ended_gap synced line held given old new before bytes sessions spot m is t d e =
     let t2 : Told false line held (given ++ old) before sessions spot m = subst (λ s. Told s line held (given ++ old) before sessions spot m) is t in
@@ -76,7 +75,7 @@ ended_session synced line held kept given old new before bytes sessions spot m i
     (ap (λ x. given ++ x) e ∙ sym (append_assoc given (old ++ close line ++ B) C) ∙ ap (λ x. x ++ C) (sym (append_assoc given (old ++ close line) B)) ∙ ap (λ x. x ++ B ++ C) (sym (append_assoc given old (close line))))
 
 -- a listing that begins
-pub begins : (c : CutterState) (synced : Bool) (line : ℕ) (held text given before : List ℕ) → CutterStandsFor c [] [] (Searching []) → synced ≡ false → line ≡ 0 → held ≡ [] → given ++ text ≡ before → (c.mode ≡ mode.Due → ⊥)
+pub begins : (c : CutterState) (synced : Bool) (line : ℕ) (held text given before : List ℕ) → CutterStandsFor c [] [] (Searching []) → synced ≡ false → line ≡ 0 → held ≡ [] → given ++ text ≡ before → (c.mode ≡ Mode.Due → ⊥)
     → Rests c synced line held text given before []
 begins c synced line held text given before s e f g t d =
     record {
@@ -91,7 +90,7 @@ begins c synced line held text given before s e f g t d =
     }
 
 -- a new cutter has no sync word to tell
-pub not_due : (c : CutterState) → CutterStandsFor c [] [] (Searching []) → c.mode ≡ mode.Due → ⊥
+pub not_due : (c : CutterState) → CutterStandsFor c [] [] (Searching []) → c.mode ≡ Mode.Due → ⊥
 not_due c s e = let h = s.at in let a = rw e at h in a
 
 -- a text moved to those given
@@ -135,6 +134,6 @@ pub goes_out : (run : Cut) (left before after : ℕ) → run ≡ Need → Goes r
 goes_out run left before after e g = rw e at g
 
 pub one_due : (m : Mode) → syncs_due m ≤ 1
-one_due mode.Searching = omega arith
-one_due mode.Due = omega arith
-one_due mode.Synced = omega arith
+one_due Mode.Searching = omega arith
+one_due Mode.Due = omega arith
+one_due Mode.Synced = omega arith

@@ -6,8 +6,7 @@ use Rattle.x7_packets.specs.Reading.{Place, Searching, Synced, Session, IsReadin
 use Rattle.x7_packets.specs.Cutting.{Adds, CutterStandsFor, IsNeed, IsRun}
 use Rattle.x7_packets.specs.Run.{FitsRun, IsNext, RunAdds, cut_of, is_last, told_bytes}
 use Rattle.x7_packets.specs.declared.cutter.Cut.{Cut}
-use Rattle.x7_packets.specs.declared.cutter.Mode.{Mode}
-use Rattle.x7_packets.specs.declared.cutter.Mode.TheVariants as mode
+use Rattle.x7_packets.specs.Mode.{Mode}
 use Rattle.x7_packets.specs.declared.stream.Run.{Run}
 use Rattle.x7_packets.specs.declared.stream.Run.TheVariants as run
 use Rattle.x7_packets.proofs.RunningLemmas.{bare_after}
@@ -103,7 +102,7 @@ takes_cut l n r k given before bytes due next no_tail no_end same e writes none 
 -- ---- the tail
 
 told_tail : (synced : Bool) (line : ℕ) (held all before : List ℕ) (bytes : Bor (List ℕ)) (sessions new_sessions : List Session) (place new : Place) (old next : Mode)
-    → Told synced line held all before sessions place old → RunAdds (run.Tail bytes) sessions place new_sessions new → (old ≡ mode.Due → ⊥) → (next ≡ mode.Due → ⊥)
+    → Told synced line held all before sessions place old → RunAdds (run.Tail bytes) sessions place new_sessions new → (old ≡ Mode.Due → ⊥) → (next ≡ Mode.Due → ⊥)
     → Told synced line bytes.now all before new_sessions new next × (tail_of new ≡ bytes.now)
 told_tail synced line held all before bytes sessions ns (Searching gap) new old next t a d e = absurd a
 told_tail false line held all before bytes sessions ns (Synced gap packets tail) new old next t a d e = absurd (d t.0)
@@ -129,7 +128,7 @@ takes_tail l n tail given before bytes due next c s i h e t x =
 -- ---- the end
 
 -- a listing that begins
-pub starts : (l : ListerState) (given before : List ℕ) → CutterStandsFor l.cutter [] [] (Searching []) → l.synced ≡ false → l.line ≡ 0 → l.held ≡ [] → given ++ l.text ≡ before → TakerStandsFor l given before [] mode.Searching
+pub starts : (l : ListerState) (given before : List ℕ) → CutterStandsFor l.cutter [] [] (Searching []) → l.synced ≡ false → l.line ≡ 0 → l.held ≡ [] → given ++ l.text ≡ before → TakerStandsFor l given before [] Mode.Searching
 starts l given before c s i h e = record {
   sessions = [];
   at = Searching [];
@@ -140,7 +139,7 @@ starts l given before c s i h e = record {
 }
 
 pub takes_end : (l n : ListerState) (given before bytes : List ℕ) (due next : Mode) → n.cutter ≡ l.cutter → n.synced ≡ false → n.line ≡ 0 → n.held ≡ []
-    → ((given before bytes : List ℕ) (sessions : List Session) (place : Place) (m : Mode) → Told l.synced l.line l.held (given ++ l.text) before sessions place m → (m ≡ mode.Due → ⊥) → IsReading bytes sessions place
+    → ((given before bytes : List ℕ) (sessions : List Session) (place : Place) (m : Mode) → Told l.synced l.line l.held (given ++ l.text) before sessions place m → (m ≡ Mode.Due → ⊥) → IsReading bytes sessions place
     → (l.synced ≡ true → l.held ≡ tail_of place) → given ++ n.text ≡ before ++ reading_text sessions place)
     → TakerStandsFor l given before bytes due → IsNext bytes due run.End next → EndsRuns n given before (bytes ++ [])
 takes_end l n given before bytes due next c s i h writes t x =
@@ -157,17 +156,6 @@ takes_end l n given before bytes due next c s i h writes t x =
       next = starts n given (before ++ listing) cutter s i h told;
     }
 
--- a text moved to those given
-pub taken_moved : (l : ListerState) (given before bytes : List ℕ) (due : Mode) → TakerStandsFor l given before bytes due → TakerStandsFor (record l { text = [] }) (given ++ l.text) before bytes due
-taken_moved l given before bytes due t = record {
-  sessions = t.sessions;
-  at = t.at;
-  reading = t.reading;
-  told = subst (λ x. Told l.synced l.line l.held x before t.sessions t.at due) (sym (append-nil (given ++ l.text))) t.told;
-  tail = t.tail;
-  cutter = t.cutter;
-}
-
 -- the bytes that a pen holds at the end are the tail
 few_taken : (held tail : List ℕ) (count : ℕ) → take count held ≡ tail → length tail < 4 → take (min count 3) held ≡ tail
 few_taken held tail zero e few = e
@@ -178,7 +166,7 @@ few_taken held tail (suc (suc (suc n))) e few =
     ap (λ (k : ℕ). take k held) three ∙ sym (take-take 3 (suc (suc (suc n))) held (omega arith)) ∙ ap (take 3) e ∙ take_all 3 tail (omega (arith, few))
 
 pub last_kept : (synced : Bool) (line count : ℕ) (held all before bytes : List ℕ) (sessions : List Session) (place : Place) (m : Mode) → Told synced line (take count held) all before sessions place m
-    → (m ≡ mode.Due → ⊥) → IsReading bytes sessions place → (synced ≡ true → take count held ≡ tail_of place) → take (if synced then min count 3 else 0) held ≡ tail_of place
+    → (m ≡ Mode.Due → ⊥) → IsReading bytes sessions place → (synced ≡ true → take count held ≡ tail_of place) → take (if synced then min count 3 else 0) held ≡ tail_of place
 last_kept true line count held all before bytes sessions (Searching gap) m t d r k = few_taken held [] count (k refl) (omega arith)
 last_kept true line count held all before bytes sessions (Synced gap packets tail) m t d r k = few_taken held tail count (k refl) r.ends.3
 last_kept false line count held all before bytes sessions (Searching gap) m t d r k = refl

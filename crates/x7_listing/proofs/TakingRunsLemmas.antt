@@ -1,7 +1,7 @@
 -- Lemmas on specs/TakingRuns.
 use Rattle.std.proofs.Common.{◌≡◌, ◌≤◌, ◌+◌, ◌*◌, ℕ, suc, true, false, List, [], ◌++◌, length, Option, Result, Ok, Err, refl, ap, sym, subst, ◌∙◌, arith, append_assoc, append-nil, length-append}
 use Rattle.std.specs.List.{flat_map}
-use Rattle.std.specs.Result.{OnOk, is_err}
+use Rattle.std.specs.Result.{OnErr, OnOk, is_err}
 use Rattle.x7_words.specs.Input.{AtEnd, preceded}
 use Rattle.x7_words.proofs.InputLemmas.{preceded-nil, preceded-preceded}
 use Rattle.x7_packets.specs.Cutting.{AtPlace, CutterState, syncs_due}
@@ -10,8 +10,7 @@ use Rattle.x7_packets.specs.Reading.{Place, Searching, Synced, packet_bytes, pla
 use Rattle.x7_packets.specs.Run.{FitsRun, IsNext, is_last, told_bytes}
 use Rattle.x7_packets.specs.Running.{GivesRun, PacketsStandFor, untold, with_tail}
 use Rattle.x7_packets.specs.SyncWord.{sync_bytes}
-use Rattle.x7_packets.specs.declared.cutter.Mode.{Mode}
-use Rattle.x7_packets.specs.declared.cutter.Mode.TheVariants as mode
+use Rattle.x7_packets.specs.Mode.{Mode}
 use Rattle.x7_packets.specs.declared.stream.Run.{Run}
 use Rattle.x7_packets.specs.declared.stream.Run.TheVariants as run
 use Rattle.x7_listing.specs.Taking.{EndsRuns, TakerStandsFor, TakesRun}
@@ -100,6 +99,11 @@ pub from_ok : {A E : Type 0} {P : Type 0} (r : Result A E) → is_err r ≡ fals
 from_ok (Ok x) e h = h
 from_ok (Err x) e h = absurd (let f : true ≡ false = e in cc)
 
+-- and what one says that is
+pub from_err : {A E : Type 0} {P : Type 0} (r : Result A E) → is_err r ≡ true → OnErr r P → P
+from_err (Ok x) e h = absurd (let f : false ≡ true = e in cc)
+from_err (Err x) e h = h
+
 -- ---- how many runs there are
 
 -- so many runs came: at most twice as many as bytes were told, a sync word that is due counted among them
@@ -109,22 +113,22 @@ pub record TellsEnough (p : PacketsState) (turns : ℕ) : Type 0 where
   pub stands : PacketsStandFor p bytes told
   pub few : turns + syncs_due p.cutter.mode ≤ 2 * length told
 
-none_due : (m : Mode) → (m ≡ mode.Due → ⊥) → syncs_due m ≡ 0
-none_due mode.Searching never = refl
-none_due mode.Due never = absurd (never refl)
-none_due mode.Synced never = refl
+none_due : (m : Mode) → (m ≡ Mode.Due → ⊥) → syncs_due m ≡ 0
+none_due Mode.Searching never = refl
+none_due Mode.Due never = absurd (never refl)
+none_due Mode.Synced never = refl
 
 one_due : (m : Mode) → syncs_due m ≤ 1
-one_due mode.Searching = omega arith
-one_due mode.Due = omega arith
-one_due mode.Synced = omega arith
+one_due Mode.Searching = omega arith
+one_due Mode.Due = omega arith
+one_due Mode.Synced = omega arith
 
 -- behind a sync word that is due, its bytes were told
 due_is_told : (c : CutterState) (m : Mode) (place : Place) (tail : List ℕ) → AtPlace c m (with_tail tail place) → syncs_due m ≤ length (place_bytes place)
-due_is_told c mode.Searching place tail at = omega arith
-due_is_told c mode.Synced place tail at = omega arith
-due_is_told c mode.Due (Searching gap) tail at = absurd at
-due_is_told c mode.Due (Synced gap packets old) tail at =
+due_is_told c Mode.Searching place tail at = omega arith
+due_is_told c Mode.Synced place tail at = omega arith
+due_is_told c Mode.Due (Searching gap) tail at = absurd at
+due_is_told c Mode.Due (Synced gap packets old) tail at =
     let front : List ℕ = gap ++ sync_bytes in
     omega (arith, length-append gap sync_bytes, length-append front (packet_bytes packets), length-append (front ++ packet_bytes packets) old)
 

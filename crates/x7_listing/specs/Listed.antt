@@ -5,6 +5,8 @@ use Rattle.x7_packets.specs.Packet.{Packet, named_by}
 use Rattle.x7_packets.specs.Reading.{Place, Searching, Synced, Session}
 use Rattle.x7_packets.specs.ByHand.{reading_of}
 use Rattle.x7_regs.specs.Command.{code_of, command_by}
+use Rattle.x7_regs.specs.Register.{number_of}
+use Rattle.x7_regs.specs.declared.register.Reg.TheVariants.{Cmd}
 use Rattle.x7_text.specs.Row.{rows}
 use Rattle.x7_listing.specs.HeadLine.{head_line}
 use Rattle.x7_listing.specs.declared.line.HeadLine.{HeadLine}
@@ -33,7 +35,7 @@ abbrev pub cmd_line : ℕ → Line
 cmd_line w = if code_of (command_by w) == w then Cmd (command_by w) else Data (w ∷ [])
 
 abbrev pub payload_lines : ℕ → List ℕ → List Line
-payload_lines register ws = if register == 4 then map cmd_line ws else map Data (rows 8 ws)
+payload_lines register ws = if register == number_of Cmd then map cmd_line ws else map Data (rows 8 ws)
 
 abbrev pub packet_lines : Packet → List Line
 packet_lines p = line_as (head_line p.step p.head) ∷ payload_lines (named_by p.step) p.payload

@@ -4,12 +4,14 @@ use Rattle.std.specs.List.{flat_map}
 use Rattle.x7_packets.specs.Packet.{Packet, named_by}
 use Rattle.x7_packets.specs.Reading.{Place, Searching, Synced, Session, IsReading}
 use Rattle.x7_packets.specs.ByHand.{reading_of}
+use Rattle.x7_regs.specs.Register.{number_of}
+use Rattle.x7_regs.specs.declared.register.Reg.TheVariants.{Cmd}
 use Rattle.x7_text.specs.Row.{bytes_text, data_text}
 use Rattle.x7_listing.specs.HeadLine.{command_line, head_text}
 
 -- the lines of a payload: one a word where the register is CMD, else eight words a line
 abbrev pub payload_text : ℕ → List ℕ → List ℕ
-payload_text register ws = if register == 4 then flat_map command_line ws else data_text ws
+payload_text register ws = if register == number_of Cmd then flat_map command_line ws else data_text ws
 
 -- the lines of a packet
 abbrev pub packet_text : Packet → List ℕ

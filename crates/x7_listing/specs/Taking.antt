@@ -2,8 +2,7 @@
 use Rattle.std.specs.Prelude.{◌≡◌, ℕ, Bool, true, List, [], ◌++◌}
 use Rattle.x7_packets.specs.Reading.{Place, Searching, Session, IsReading, tail_of}
 use Rattle.x7_packets.specs.Cutting.{CutterState, CutterStandsFor}
-use Rattle.x7_packets.specs.declared.cutter.Mode.{Mode}
-use Rattle.x7_packets.specs.declared.cutter.Mode.TheVariants as mode
+use Rattle.x7_packets.specs.Mode.{Mode}
 use Rattle.x7_packets.specs.declared.stream.Run.{Run}
 use Rattle.x7_packets.specs.declared.stream.Run.TheVariants as run
 use Rattle.x7_listing.specs.Telling.{Finished, ListerState, Told}
@@ -24,7 +23,7 @@ pub record TakerStandsFor (l : ListerState) (given before bytes : List ℕ) (due
 -- The end was taken: the listing of these bytes is whole, and a new one begins, of bytes or of runs.
 pub record EndsRuns (l : ListerState) (given before bytes : List ℕ) : Type 0 where
   pub finished : Finished l given before bytes
-  pub next : TakerStandsFor l given (before ++ finished.listing) [] mode.Searching
+  pub next : TakerStandsFor l given (before ++ finished.listing) [] Mode.Searching
 
 -- a run was taken, with which these bytes are told
 abbrev pub TakesRun : Run → ListerState → List ℕ → List ℕ → List ℕ → Mode → Type 0

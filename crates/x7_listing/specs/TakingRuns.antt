@@ -16,3 +16,9 @@ pub record TakesRuns (p q : PacketsState) (l n : ListerState) (rest rest_now : O
   pub more : List ℕ
   pub taken : rest ≡ preceded more rest_now
   pub tells : (bytes told given before : List ℕ) → PacketsStandFor p bytes told → TakerStandsFor l given before told p.cutter.mode → AfterRuns ended q n given before (bytes ++ more) told rest_now
+
+-- a fault came behind some runs, which were taken: what the lister was told of the input before it, it stands for
+pub record StopsBehind (p : PacketsState) (l n : ListerState) (rest : Option (List ℕ)) : Type 0 where
+  pub reader : PacketsState
+  pub rest_then : Option (List ℕ)
+  pub runs : TakesRuns p reader l n rest rest_then false

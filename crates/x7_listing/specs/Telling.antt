@@ -8,8 +8,9 @@ use Rattle.x7_packets.specs.Cutting.{CutterState, CutterStandsFor, Adds, Turns, 
 use Rattle.x7_packets.specs.declared.header.Step.{Step}
 use Rattle.x7_packets.specs.declared.header.Step.TheVariants.{Payload}
 use Rattle.x7_packets.specs.declared.cutter.Cut.{Cut}
-use Rattle.x7_packets.specs.declared.cutter.Mode.{Mode}
-use Rattle.x7_packets.specs.declared.cutter.Mode.TheVariants as mode
+use Rattle.x7_packets.specs.Mode.{Mode}
+use Rattle.x7_regs.specs.Register.{number_of}
+use Rattle.x7_regs.specs.declared.register.Reg.TheVariants.{Cmd}
 use Rattle.x7_text.specs.Digits.{hex_byte}
 use Rattle.x7_text.specs.Row.{bytes_text, close, element_text, in_line_after, next_in_line, open_text, spaced}
 use Rattle.x7_listing.specs.HeadLine.{command_line, head_text}
@@ -24,11 +25,11 @@ payload_next is_cmd i = if is_cmd then 0 else next_in_line 8 i
 
 -- what a word of a session adds, by its step
 abbrev pub word_told : ℕ → ℕ → Step → List ℕ
-word_told i w (Payload register x) = payload_told (register == 4) i w
+word_told i w (Payload register x) = payload_told (register == number_of Cmd) i w
 word_told i w step = close i ++ head_text step w
 
 abbrev pub word_next : ℕ → Step → ℕ
-word_next i (Payload register x) = payload_next (register == 4) i
+word_next i (Payload register x) = payload_next (register == number_of Cmd) i
 word_next i step = 0
 
 -- what words add, the last line being open
@@ -57,9 +58,9 @@ pub record SessionTold (all start : List ℕ) (line : ℕ) (gap : List ℕ) (pac
 -- what was told at a place, where the sessions before it are told
 abbrev pub ToldAt : Bool → ℕ → List ℕ → List ℕ → List ℕ → Place → Mode → Type 0
 ToldAt false line held all start (Searching gap) m = GapTold all start line held gap
-ToldAt false line held all start (Synced gap packets tail) m = (m ≡ mode.Due) × (packets ≡ []) × (tail ≡ []) × GapTold all start line held (gap ++ sync_bytes)
+ToldAt false line held all start (Synced gap packets tail) m = (m ≡ Mode.Due) × (packets ≡ []) × (tail ≡ []) × GapTold all start line held (gap ++ sync_bytes)
 ToldAt true line held all start (Searching gap) m = (gap ≡ []) × (line ≡ 0) × (all ≡ start)
-ToldAt true line held all start (Synced gap packets tail) m = (m ≡ mode.Due → ⊥) × SessionTold all start line gap packets
+ToldAt true line held all start (Synced gap packets tail) m = (m ≡ Mode.Due → ⊥) × SessionTold all start line gap packets
 
 -- what was told, behind the listings before
 abbrev pub Told : Bool → ℕ → List ℕ → List ℕ → List ℕ → List Session → Place → Mode → Type 0
@@ -82,7 +83,7 @@ pub record Tells (c : CutterState) (synced : Bool) (line : ℕ) (held text given
 -- the same, where no sync word is still to be told
 pub record Rests (c : CutterState) (synced : Bool) (line : ℕ) (held text given before bytes : List ℕ) : Type 0 where
   pub tells : Tells c synced line held text given before bytes
-  pub ready : c.mode ≡ mode.Due → ⊥
+  pub ready : c.mode ≡ Mode.Due → ⊥
 
 -- a lister: its cutter, whether a session is open, how many elements stand in the open line, the bytes of a gap that are held, and the text since it was last cleared
 pub record ListerState : Type 0 where

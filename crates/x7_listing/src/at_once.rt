@@ -16,6 +16,7 @@ use crate::line::{put_command, put_head};
 use crate::pen::{Pen, in_session, session_line};
 use crate::rows::{command_row, name_row, write_row};
 use x7_packets::{Cut, Cutter, Step};
+use x7_regs::Reg;
 use x7_text::{hex_of_word, put, put_close, put_first_bytes, put_first_words};
 
 /// How many words a block has.
@@ -90,7 +91,7 @@ fn put_command_write(text: &mut Vec<u8>, in_line: usize, w: u32)
         put_row(text, command_row(in_line, w));
         return;
     }
-    put_head(text, in_line, Step::Open(4, 1), 0x3000_8001);
+    put_head(text, in_line, Step::Open(Reg::Cmd.number(), 1), 0x3000_8001);
     put_command(text, 0, w);
 }
 
@@ -104,7 +105,7 @@ fn put_one_word(text: &mut Vec<u8>, in_line: usize, register: u8, w: u32) -> usi
     ensures count { result ≡ words_place 0 (payload_steps register (w ∷ [])) }
     ensures appends { Appends text.old text.new (close in_line ++ head_text (Step.Open register 1) (write_head register) ++ words_told 0 (payload_steps register (w ∷ []))) 97 }
 {
-    if register == 4 {
+    if register == Reg::Cmd.number() {
         put_command_write(text, in_line, w);
         return 0;
     }
@@ -131,7 +132,7 @@ pub(crate) fn put_idle(text: &mut Vec<u8>, pen: Pen, count: usize) -> Pen
 
 /// Appends what zero words in a row add, one or more.
 #[inline(always)]
-fn put_fill(text: &mut Vec<u8>, pen: Pen, count: usize) -> Pen
+fn put_zero_words(text: &mut Vec<u8>, pen: Pen, count: usize) -> Pen
     requires some { 0 < count }
     requires room { vec_len text.old + (14 * count + 1) ≤ vec_capacity text.old }
     ensures len { vec_len text.new ≤ vec_len text.old + (14 * count + 1) }
@@ -297,7 +298,7 @@ pub(crate) fn take_short(
     let zeros = cutter.zero_count(rest);
     if zeros > 0 {
         return Some(Taken {
-            pen: put_fill(text, pen, zeros),
+            pen: put_zero_words(text, pen, zeros),
             size: 4 * zeros,
         });
     }

@@ -10,7 +10,7 @@ ghost use Rattle.x7_listing.specs.BitLine.{bit_text, IsHeld};
 ghost use Rattle.x7_listing.specs.Listing.{IsListing, listing_of};
 ghost use Rattle.x7_listing.specs.StreamListing.{stream_listing};
 ghost use Rattle.x7_header.specs.Header.{Contents};
-ghost use Rattle.x7_packets.specs.declared.cutter.Mode.{Mode};
+ghost use Rattle.x7_packets.specs.Mode.{Mode};
 ghost use Rattle.x7_listing.specs.Taking.{TakerStandsFor};
 ghost use Rattle.x7_listing.specs.Telling.{ListerStandsFor, ListerState};
 

@@ -1,7 +1,6 @@
 //! A lister of streams that come in pieces.
 ghost use Rattle.std.specs.Prelude.{◌≡◌, ℕ, ◌+◌, ◌*◌, ◌≤◌, List, [], ◌++◌, OnOk, OnErr, length, take, vec_len, vec_capacity};
-ghost use Rattle.x7_packets.specs.declared.cutter.Mode.{Mode};
-ghost use Rattle.x7_packets.specs.declared.cutter.Mode.TheVariants as mode;
+ghost use Rattle.x7_packets.specs.Mode.{Mode};
 ghost use Rattle.x7_listing.specs.Taking.{TakerStandsFor};
 ghost use Rattle.x7_listing.specs.Telling.{Finished, ListerStandsFor, Rests, Tells};
 
@@ -72,7 +71,7 @@ impl Lister {
     pub fn new(alloc: Global) -> Lister
         ensures cleared { result.text ≡ [] }
         ensures begins { ListerStandsFor result [] [] [] }
-        ensures takes { TakerStandsFor result [] [] [] mode.Searching }
+        ensures takes { TakerStandsFor result [] [] [] Mode.Searching }
     {
         Lister {
             cutter: Cutter::new(),

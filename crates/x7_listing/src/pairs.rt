@@ -7,14 +7,15 @@ ghost use Rattle.x7_text.specs.Reads.{StaysWithin};
 ghost use Rattle.x7_listing.specs.AtOnce.{differs, row_text};
 ghost use Rattle.x7_listing.specs.Assembling.{TakesFirst};
 
-use crate::quick::Taken;
+use crate::quick::WholeLines;
 use crate::rows::{command_row, write_row};
 use std::simd::prelude::*;
+use x7_regs::Reg;
 use x7_text::{put, word_of_hex};
 use x7_words::bytes_of;
 
 /// The factor by which the first four bytes of a name give its place in a table of 64, the highest six bits of the product:
-/// no two registers have one place, nor two commands.
+/// no two registers have one place, nor two commands. `bench/name_tables.py` makes the tables.
 const SPREAD: u32 = 0x3F20_35EB;
 
 /// The register numbers by the places of their names, of which a space ends the short ones. A place of no name has 0.
@@ -81,7 +82,7 @@ fn put_two(out: &mut Vec<u8>, one: u32, other: u32)
 
 /// Appends the bytes of a write of one word to this register, if its two lines begin the text.
 #[inline(always)]
-fn put_word_pair(out: &mut Vec<u8>, text: &[u8], register: u8) -> Option<Taken>
+fn put_word_pair(out: &mut Vec<u8>, text: &[u8], register: u8) -> Option<WholeLines>
     requires range { register < 32 }
     requires room { vec_len out.old + 32 ≤ vec_capacity out.old }
     requires long { 77 ≤ length text.now }
@@ -98,7 +99,7 @@ fn put_word_pair(out: &mut Vec<u8>, text: &[u8], register: u8) -> Option<Taken>
         return None;
     };
     put_two(out, 0x3000_0001 + 8192 * u32::from(register), word);
-    Some(Taken {
+    Some(WholeLines {
         size: size + 9,
         count: 2,
     })
@@ -106,7 +107,7 @@ fn put_word_pair(out: &mut Vec<u8>, text: &[u8], register: u8) -> Option<Taken>
 
 /// Appends the bytes of a write of this code to CMD, if its two lines begin the text.
 #[inline(always)]
-fn put_command_pair(out: &mut Vec<u8>, text: &[u8], code: u32) -> Option<Taken>
+fn put_command_pair(out: &mut Vec<u8>, text: &[u8], code: u32) -> Option<WholeLines>
     requires range { code < 32 }
     requires room { vec_len out.old + 32 ≤ vec_capacity out.old }
     requires long { 77 ≤ length text.now }
@@ -117,19 +118,19 @@ fn put_command_pair(out: &mut Vec<u8>, text: &[u8], code: u32) -> Option<Taken>
         return None;
     };
     put_two(out, 0x3000_8001, code);
-    Some(Taken { size, count: 2 })
+    Some(WholeLines { size, count: 2 })
 }
 
 /// Appends the bytes of a write of one word, if its two lines begin the text.
 #[inline(always)]
-pub(crate) fn put_pair(out: &mut Vec<u8>, text: &[u8]) -> Option<Taken>
+pub(crate) fn put_pair(out: &mut Vec<u8>, text: &[u8]) -> Option<WholeLines>
     requires room { vec_len out.old + 32 ≤ vec_capacity out.old }
     requires long { 77 ≤ length text.now }
     ensures takes { MatchOption result (out.new.items ≡ out.old.items) (λ taken. TakesFirst text.now out.old.items out.new.items taken.size taken.count) }
     ensures room { StaysWithin out.old out.new 32 }
 {
     let register = number_at(&REGISTERS, text, 6);
-    if register == 4 {
+    if register == Reg::Cmd.number() {
         put_command_pair(out, text, u32::from(number_at(&COMMANDS, text, 16)))
     } else {
         put_word_pair(out, text, register)

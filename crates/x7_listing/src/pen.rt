@@ -4,8 +4,9 @@ ghost use Rattle.x7_words.specs.Word.{words_of_bytes};
 ghost use Rattle.x7_packets.specs.Packet.{payload_steps};
 ghost use Rattle.x7_packets.specs.Reading.{IsReading, Place, Session, tail_of};
 ghost use Rattle.x7_packets.specs.Cutting.{IsNeed, IsRun, run_bytes};
-ghost use Rattle.x7_packets.specs.declared.cutter.Mode.{Mode};
-ghost use Rattle.x7_packets.specs.declared.cutter.Mode.TheVariants as mode;
+ghost use Rattle.x7_packets.specs.Mode.{Mode};
+ghost use Rattle.x7_regs.specs.Register.{number_of};
+ghost use Rattle.x7_regs.specs.declared.register.Reg.TheVariants.{Cmd};
 ghost use Rattle.x7_text.specs.Appends.{Appends};
 ghost use Rattle.x7_text.specs.Digits.{hex_byte};
 ghost use Rattle.x7_text.specs.Row.{close, in_line_after, open_text};
@@ -14,6 +15,7 @@ ghost use Rattle.x7_listing.specs.Telling.{GapTold, Told, words_place, words_tol
 
 use crate::line::{put_command, put_head, put_sync};
 use x7_packets::Cut;
+use x7_regs::Reg;
 use x7_text::{put_bytes, put_close, put_word, put_words};
 use x7_words::word_of;
 
@@ -158,7 +160,7 @@ fn put_payload(text: &mut Vec<u8>, in_line: usize, register: u8, w: u32) -> usiz
     ensures count { result ≡ words_place in_line (payload_steps register (w ∷ [])) }
     ensures appends { Appends text.old text.new (words_told in_line (payload_steps register (w ∷ []))) 48 }
 {
-    if register == 4 {
+    if register == Reg::Cmd.number() {
         put_command(text, in_line, w);
         return 0;
     }
@@ -169,13 +171,13 @@ fn put_payload(text: &mut Vec<u8>, in_line: usize, register: u8, w: u32) -> usiz
 fn put_body(text: &mut Vec<u8>, in_line: usize, register: u8, body: &[u8]) -> usize
     requires within { in_line < 8 }
     requires whole { length body.now ≡ 4 * (length body.now / 4) }
-    requires one { register ≡ 4 → length body.now ≡ 4 }
+    requires one { register ≡ number_of Cmd → length body.now ≡ 4 }
     requires room { vec_len text.old + (64 + 3 * length body.now) ≤ vec_capacity text.old }
     ensures within { result < 8 }
     ensures count { result ≡ words_place in_line (payload_steps register (words_of_bytes body.now)) }
     ensures appends { Appends text.old text.new (words_told in_line (payload_steps register (words_of_bytes body.now))) (64 + 3 * length body.now) }
 {
-    if register == 4 {
+    if register == Reg::Cmd.number() {
         return put_payload(
             text,
             in_line,
@@ -238,7 +240,7 @@ pub(crate) fn put_end(text: &mut Vec<u8>, pen: Pen, kept: &[u8])
     requires short { length kept.now ≤ 3 }
     requires room { vec_len text.old + 64 ≤ vec_capacity text.old }
     ensures told { (given before bytes : List ℕ) (sessions : List Session) (place : Place) (m : Mode) → Told pen.synced pen.line (take pen.count pen.held) (given ++ text.old.items) before sessions place m
-        → (m ≡ mode.Due → ⊥) → IsReading bytes sessions place → kept.now ≡ tail_of place → given ++ text.new.items ≡ before ++ reading_text sessions place }
+        → (m ≡ Mode.Due → ⊥) → IsReading bytes sessions place → kept.now ≡ tail_of place → given ++ text.new.items ≡ before ++ reading_text sessions place }
 {
     if pen.synced {
         end_session(text, pen.line, kept);

@@ -19,14 +19,14 @@ const NOP_BYTES: &[u8; 32] =
 
 /// Some whole lines that were read: how many bytes of the text they are, and how many lines.
 #[derive(Clone, Copy, Drop)]
-pub(crate) struct Taken {
+pub(crate) struct WholeLines {
     pub(crate) size: usize,
     pub(crate) count: u64,
 }
 
 /// Appends the bytes of eight no-ops, if their lines begin the text.
 #[inline(always)]
-fn put_nops(out: &mut Vec<u8>, text: &[u8]) -> Option<Taken>
+fn put_nops(out: &mut Vec<u8>, text: &[u8]) -> Option<WholeLines>
     requires room { vec_len out.old + 32 ≤ vec_capacity out.old }
     requires long { 77 ≤ length text.now }
     ensures takes { MatchOption result (out.new.items ≡ out.old.items) (λ taken. TakesFirst text.now out.old.items out.new.items taken.size taken.count) }
@@ -36,12 +36,12 @@ fn put_nops(out: &mut Vec<u8>, text: &[u8]) -> Option<Taken>
         return None;
     }
     put(out, NOP_BYTES);
-    Some(Taken { size: 32, count: 8 })
+    Some(WholeLines { size: 32, count: 8 })
 }
 
 /// Appends the bytes of the sync word, if its line begins the text.
 #[inline(always)]
-fn put_sync(out: &mut Vec<u8>, text: &[u8]) -> Option<Taken>
+fn put_sync(out: &mut Vec<u8>, text: &[u8]) -> Option<WholeLines>
     requires room { vec_len out.old + 32 ≤ vec_capacity out.old }
     requires long { 77 ≤ length text.now }
     ensures takes { MatchOption result (out.new.items ≡ out.old.items) (λ taken. TakesFirst text.now out.old.items out.new.items taken.size taken.count) }
@@ -51,7 +51,7 @@ fn put_sync(out: &mut Vec<u8>, text: &[u8]) -> Option<Taken>
         return None;
     }
     put_word(out, 0xAA99_5566);
-    Some(Taken { size: 5, count: 1 })
+    Some(WholeLines { size: 5, count: 1 })
 }
 
 /// Twice eight bytes of the text, from two places on.
@@ -125,7 +125,7 @@ fn bytes_of_digits(digits: u8x64) -> [u8; 32]
 
 /// Appends these bytes, if their full `data` line begins the text.
 #[inline(always)]
-fn put_row(out: &mut Vec<u8>, text: &[u8], bytes: &[u8; 32]) -> Option<Taken>
+fn put_row(out: &mut Vec<u8>, text: &[u8], bytes: &[u8; 32]) -> Option<WholeLines>
     requires room { vec_len out.old + 32 ≤ vec_capacity out.old }
     requires long { 77 ≤ length text.now }
     ensures takes { MatchOption result (out.new.items ≡ out.old.items) (λ taken. TakesFirst text.now out.old.items out.new.items taken.size taken.count) }
@@ -135,12 +135,12 @@ fn put_row(out: &mut Vec<u8>, text: &[u8], bytes: &[u8; 32]) -> Option<Taken>
         return None;
     }
     put(out, bytes);
-    Some(Taken { size: 77, count: 1 })
+    Some(WholeLines { size: 77, count: 1 })
 }
 
 /// Appends the bytes of a full `data` line, if one begins the text.
 #[inline(always)]
-fn put_data(out: &mut Vec<u8>, text: &[u8]) -> Option<Taken>
+fn put_data(out: &mut Vec<u8>, text: &[u8]) -> Option<WholeLines>
     requires room { vec_len out.old + 32 ≤ vec_capacity out.old }
     requires long { 77 ≤ length text.now }
     ensures takes { MatchOption result (out.new.items ≡ out.old.items) (λ taken. TakesFirst text.now out.old.items out.new.items taken.size taken.count) }
@@ -151,7 +151,7 @@ fn put_data(out: &mut Vec<u8>, text: &[u8]) -> Option<Taken>
 
 /// Appends the bytes of a full `bytes` line, if one begins the text.
 #[inline(always)]
-fn put_bytes(out: &mut Vec<u8>, text: &[u8]) -> Option<Taken>
+fn put_bytes(out: &mut Vec<u8>, text: &[u8]) -> Option<WholeLines>
     requires room { vec_len out.old + 32 ≤ vec_capacity out.old }
     requires long { 77 ≤ length text.now }
     ensures takes { MatchOption result (out.new.items ≡ out.old.items) (λ taken. TakesFirst text.now out.old.items out.new.items taken.size taken.count) }
@@ -160,7 +160,7 @@ fn put_bytes(out: &mut Vec<u8>, text: &[u8]) -> Option<Taken>
     if !is_same(&text[..6], b"bytes ") || text[70] != b'\n' || !put_byte_row(out, &text[6..70]) {
         return None;
     }
-    Some(Taken { size: 71, count: 1 })
+    Some(WholeLines { size: 71, count: 1 })
 }
 
 /// The place of the first of these bytes among 16, or one behind them.
@@ -174,7 +174,7 @@ fn place_of(byte: u8, bytes: u8x16) -> usize {
 
 /// Appends the bytes of a `data` line of one word, if one begins the text.
 #[inline(always)]
-fn put_single(out: &mut Vec<u8>, text: &[u8]) -> Option<Taken>
+fn put_single(out: &mut Vec<u8>, text: &[u8]) -> Option<WholeLines>
     requires room { vec_len out.old + 32 ≤ vec_capacity out.old }
     requires long { 77 ≤ length text.now }
     ensures takes { MatchOption result (out.new.items ≡ out.old.items) (λ taken. TakesFirst text.now out.old.items out.new.items taken.size taken.count) }
@@ -183,12 +183,12 @@ fn put_single(out: &mut Vec<u8>, text: &[u8]) -> Option<Taken>
     if !is_same(&text[..5], b"data ") || text[13] != b'\n' || !put_digits(out, &text[5..13]) {
         return None;
     }
-    Some(Taken { size: 14, count: 1 })
+    Some(WholeLines { size: 14, count: 1 })
 }
 
 /// Appends the bytes of a `cmd` line, if one begins the text.
 #[inline(always)]
-fn put_cmd(out: &mut Vec<u8>, text: &[u8]) -> Option<Taken>
+fn put_cmd(out: &mut Vec<u8>, text: &[u8]) -> Option<WholeLines>
     requires room { vec_len out.old + 32 ≤ vec_capacity out.old }
     requires long { 77 ≤ length text.now }
     ensures takes { MatchOption result (out.new.items ≡ out.old.items) (λ taken. TakesFirst text.now out.old.items out.new.items taken.size taken.count) }
@@ -201,7 +201,7 @@ fn put_cmd(out: &mut Vec<u8>, text: &[u8]) -> Option<Taken>
     if !put_command(out, &text[4..4 + size]) {
         return None;
     }
-    Some(Taken {
+    Some(WholeLines {
         size: 5 + size,
         count: 1,
     })
@@ -209,7 +209,7 @@ fn put_cmd(out: &mut Vec<u8>, text: &[u8]) -> Option<Taken>
 
 /// Appends the bytes of a `write` line with a count of one digit, if one begins the text.
 #[inline(always)]
-fn put_write(out: &mut Vec<u8>, text: &[u8]) -> Option<Taken>
+fn put_write(out: &mut Vec<u8>, text: &[u8]) -> Option<WholeLines>
     requires room { vec_len out.old + 32 ≤ vec_capacity out.old }
     requires long { 77 ≤ length text.now }
     ensures takes { MatchOption result (out.new.items ≡ out.old.items) (λ taken. TakesFirst text.now out.old.items out.new.items taken.size taken.count) }
@@ -223,7 +223,7 @@ fn put_write(out: &mut Vec<u8>, text: &[u8]) -> Option<Taken>
         return None;
     };
     put_word(out, 0x3000_0000 + 8192 * u32::from(register) + count);
-    Some(Taken {
+    Some(WholeLines {
         size: 9 + space,
         count: 1,
     })
@@ -231,7 +231,7 @@ fn put_write(out: &mut Vec<u8>, text: &[u8]) -> Option<Taken>
 
 /// Appends the bytes of the two lines of a write of one word, or of a `write` line, if they begin the text.
 #[inline(always)]
-fn put_writes(out: &mut Vec<u8>, text: &[u8]) -> Option<Taken>
+fn put_writes(out: &mut Vec<u8>, text: &[u8]) -> Option<WholeLines>
     requires room { vec_len out.old + 32 ≤ vec_capacity out.old }
     requires long { 77 ≤ length text.now }
     ensures takes { MatchOption result (out.new.items ≡ out.old.items) (λ taken. TakesFirst text.now out.old.items out.new.items taken.size taken.count) }
@@ -245,7 +245,7 @@ fn put_writes(out: &mut Vec<u8>, text: &[u8]) -> Option<Taken>
 
 /// Appends the bytes of a `data` line of eight words or of one, if one begins the text.
 #[inline(always)]
-fn put_words(out: &mut Vec<u8>, text: &[u8]) -> Option<Taken>
+fn put_words(out: &mut Vec<u8>, text: &[u8]) -> Option<WholeLines>
     requires room { vec_len out.old + 32 ≤ vec_capacity out.old }
     requires long { 77 ≤ length text.now }
     ensures takes { MatchOption result (out.new.items ≡ out.old.items) (λ taken. TakesFirst text.now out.old.items out.new.items taken.size taken.count) }
@@ -260,7 +260,7 @@ fn put_words(out: &mut Vec<u8>, text: &[u8]) -> Option<Taken>
 
 /// Appends the bytes of some first lines of the text, if they are of those that are read at once.
 #[inline(always)]
-fn put_some(out: &mut Vec<u8>, text: &[u8]) -> Option<Taken>
+fn put_some(out: &mut Vec<u8>, text: &[u8]) -> Option<WholeLines>
     requires room { vec_len out.old + 32 ≤ vec_capacity out.old }
     ensures takes { MatchOption result (out.new.items ≡ out.old.items) (λ taken. TakesFirst text.now out.old.items out.new.items taken.size taken.count) }
     ensures room { StaysWithin out.old out.new 32 }
@@ -280,12 +280,12 @@ fn put_some(out: &mut Vec<u8>, text: &[u8]) -> Option<Taken>
 }
 
 /// Appends the bytes of the text's first lines, as far as they are read at once and their bytes are within the limit.
-pub(crate) fn put_quick(out: &mut Vec<u8>, text: &[u8]) -> Result<Taken, NoMemory>
+pub(crate) fn put_quick(out: &mut Vec<u8>, text: &[u8]) -> Result<WholeLines, NoMemory>
     ensures takes { IfOk result (λ taken. TakesLines text.now (drop taken.size text.now) out.old.items out.new.items taken.count) }
     ensures few { IfOk result (λ taken. (taken.size ≤ length text.now) × (taken.count ≤ taken.size)) }
     ensures within { vec_len out.old ≤ ASM_LIMIT → vec_len out.new ≤ ASM_LIMIT }
 {
-    let mut all = Taken { size: 0, count: 0 };
+    let mut all = WholeLines { size: 0, count: 0 };
     loop {
         out.reserve(32)?;
         if out.len() > ASM_LIMIT - 32 {
@@ -294,7 +294,7 @@ pub(crate) fn put_quick(out: &mut Vec<u8>, text: &[u8]) -> Result<Taken, NoMemor
         let Some(taken) = put_some(out, &text[all.size..]) else {
             return Ok(all);
         };
-        all = Taken {
+        all = WholeLines {
             size: all.size + taken.size,
             count: all.count + taken.count,
         };

@@ -11,7 +11,7 @@ use Rattle.x7_packets.specs.SyncWord.{sync_bytes}
 use Rattle.x7_packets.specs.declared.header.Step.{Step}
 use Rattle.x7_packets.specs.declared.header.Step.TheVariants.{Filler, Nop, Open, Payload}
 use Rattle.x7_packets.specs.declared.cutter.Cut.TheVariants.{Body, Head, Skip}
-use Rattle.x7_packets.specs.declared.cutter.Mode.TheVariants as mode
+use Rattle.x7_packets.specs.Mode.{Mode}
 use Rattle.x7_packets.specs.AtOnce.{EndsGap, in_short, in_write, short_head, Takes, write_head, WritesFew, WritesOne}
 use Rattle.x7_packets.specs.Cutting.{AtPlace, CutterState, CutterStandsFor, Longer, Went}
 use Rattle.x7_packets.specs.Nops.{nop_word}
@@ -80,7 +80,7 @@ record GoesOn (n : CutterState) (bytes : List ℕ) (sessions : List Session) (ga
   stands : CutterStandsFor n bytes sessions new
   longer : Longer gap packets more sessions sessions new
 
-goes_on : (c n : CutterState) (w : ℕ) (step : Step) (bytes : List ℕ) (sessions : List Session) (gap tail : List ℕ) (packets : List Packet) → c.mode ≡ mode.Synced → n.mode ≡ mode.Synced → c.kept ≡ [] → n.kept ≡ []
+goes_on : (c n : CutterState) (w : ℕ) (step : Step) (bytes : List ℕ) (sessions : List Session) (gap tail : List ℕ) (packets : List Packet) → c.mode ≡ Mode.Synced → n.mode ≡ Mode.Synced → c.kept ≡ [] → n.kept ≡ []
     → is_end step ≡ false → ((ps : List Packet) → MachineStandsFor c.machine ps → Grows ps ((w, step) ∷ []) n.machine)
     → CutterStandsFor c bytes sessions (Synced gap packets tail) → GoesOn n (bytes ++ bytes_of_word w) sessions gap packets ((w, step) ∷ [])
 goes_on c n w step bytes sessions gap tail packets is to none none2 calm grows s =
@@ -104,17 +104,17 @@ goes_on c n w step bytes sessions gap tail packets is to none none2 calm grows s
       longer = record { all = g.packets; grown = g.grown; end = g.end; ends = λ e. absurd (let f : true ≡ false = sym e ∙ g.end ∙ calm in cc); goes_on = λ e. (refl, refl) };
     }
 
-pub takes_head : (c n : CutterState) (w : ℕ) (step : Step) → c.mode ≡ mode.Synced → n.mode ≡ mode.Synced → c.kept ≡ [] → n.kept ≡ [] → is_end step ≡ false
+pub takes_head : (c n : CutterState) (w : ℕ) (step : Step) → c.mode ≡ Mode.Synced → n.mode ≡ Mode.Synced → c.kept ≡ [] → n.kept ≡ [] → is_end step ≡ false
     → ((ps : List Packet) → MachineStandsFor c.machine ps → Grows ps ((w, step) ∷ []) n.machine) → Takes c n (bytes_of_word w) (Head w step)
-takes_head c n w step is to none none2 calm grows bytes sessions (Searching gap) s = absurd (let h : AtPlace c mode.Synced (Searching gap) = rw is at s.at in h)
+takes_head c n w step is to none none2 calm grows bytes sessions (Searching gap) s = absurd (let h : AtPlace c Mode.Synced (Searching gap) = rw is at s.at in h)
 takes_head c n w step is to none none2 calm grows bytes sessions (Synced gap packets tail) s =
     let g : GoesOn n (bytes ++ bytes_of_word w) sessions gap packets ((w, step) ∷ []) = goes_on c n w step bytes sessions gap tail packets is to none none2 calm grows s in
-    record { new_sessions = sessions; new_place = g.new; stands = g.stands; adds = g.longer; turns = (λ e. absurd (let f : mode.Synced ≡ mode.Due = sym is ∙ e in cc), λ e. absurd (let f : mode.Synced ≡ mode.Due = sym to ∙ e in cc)) }
+    record { new_sessions = sessions; new_place = g.new; stands = g.stands; adds = g.longer; turns = (λ e. absurd (let f : Mode.Synced ≡ Mode.Due = sym is ∙ e in cc), λ e. absurd (let f : Mode.Synced ≡ Mode.Due = sym to ∙ e in cc)) }
 
-pub takes_nop : (c : CutterState) → c.mode ≡ mode.Synced → c.kept ≡ [] → c.machine.due ≡ 0 → Takes c c (bytes_of_word nop_word) (Head nop_word Nop)
+pub takes_nop : (c : CutterState) → c.mode ≡ Mode.Synced → c.kept ≡ [] → c.machine.due ≡ 0 → Takes c c (bytes_of_word nop_word) (Head nop_word Nop)
 takes_nop c is none due = takes_head c c nop_word Nop is is none none refl (λ ps s. nop_grows c.machine ps due s)
 
-pub takes_zero : (c : CutterState) → c.mode ≡ mode.Synced → c.kept ≡ [] → c.machine.due ≡ 0 → Takes c c (bytes_of_word 0) (Head 0 Filler)
+pub takes_zero : (c : CutterState) → c.mode ≡ Mode.Synced → c.kept ≡ [] → c.machine.due ≡ 0 → Takes c c (bytes_of_word 0) (Head 0 Filler)
 takes_zero c is none due = takes_head c c 0 Filler is is none none refl (λ ps s. zero_grows c.machine ps due s)
 
 -- the bytes of two words that begin the rest
@@ -129,14 +129,14 @@ first_eight (a ∷ b ∷ c ∷ d ∷ e ∷ f ∷ []) l = absurd (omega arith)
 first_eight (a ∷ b ∷ c ∷ d ∷ e ∷ f ∷ g ∷ []) l = absurd (omega arith)
 first_eight (a ∷ b ∷ c ∷ d ∷ e ∷ f ∷ g ∷ h ∷ bs) l = refl
 
-pub writes_one : (old new : CutterState) (bs : List ℕ) (head register w : ℕ) → old.mode ≡ mode.Synced → new.mode ≡ (if ends_session register w then mode.Searching else mode.Synced) → MatcherStandsFor new.matcher [] → old.kept ≡ [] → new.kept ≡ [] → 8 ≤ length bs
+pub writes_one : (old new : CutterState) (bs : List ℕ) (head register w : ℕ) → old.mode ≡ Mode.Synced → new.mode ≡ (if ends_session register w then Mode.Searching else Mode.Synced) → MatcherStandsFor new.matcher [] → old.kept ≡ [] → new.kept ≡ [] → 8 ≤ length bs
     → bytes_of_word head ≡ get_or bs 0 0 ∷ get_or bs 1 0 ∷ get_or bs 2 0 ∷ get_or bs 3 0 ∷ [] → bytes_of_word w ≡ get_or bs 4 0 ∷ get_or bs 5 0 ∷ get_or bs 6 0 ∷ get_or bs 7 0 ∷ []
     → head ≡ write_head register → register < 32
     → ((ps : List Packet) → MachineStandsFor old.machine ps → Grows ps ((write_head register, Open register 1) ∷ []) (in_write register))
     → ((ps : List Packet) → MachineStandsFor (in_write register) ps → Grows ps ((w, Payload register w) ∷ []) new.machine)
     → WritesOne old new bs register w
 writes_one old new bs head register w is to matcher none none2 long e f g range opens ends =
-    let middle : CutterState = record { mode = mode.Synced; matcher = old.matcher; machine = in_write register; kept = [] } in
+    let middle : CutterState = record { mode = Mode.Synced; matcher = old.matcher; machine = in_write register; kept = [] } in
     record {
       between = middle;
       range = range;
@@ -156,7 +156,7 @@ first_four (a ∷ b ∷ c ∷ []) l = absurd (omega arith)
 first_four (a ∷ b ∷ c ∷ d ∷ bs) l = refl
 
 -- payload words of a register other than CMD, all that are due
-takes_words : (c n : CutterState) (register count : ℕ) (run : Bor (List ℕ)) → c.mode ≡ mode.Synced → n.mode ≡ mode.Synced → c.kept ≡ [] → n.kept ≡ [] → MatcherStandsFor n.matcher [] → AreBytes run.now → length run.now ≡ 4 * count → 0 < count → (register ≡ 4 → ⊥)
+takes_words : (c n : CutterState) (register count : ℕ) (run : Bor (List ℕ)) → c.mode ≡ Mode.Synced → n.mode ≡ Mode.Synced → c.kept ≡ [] → n.kept ≡ [] → MatcherStandsFor n.matcher [] → AreBytes run.now → length run.now ≡ 4 * count → 0 < count → (register ≡ 4 → ⊥)
     → c.machine ≡ in_short register count → ((ps : List Packet) (ws : List ℕ) → AreWords ws → 0 < length ws → MachineStandsFor (in_short register (length ws)) ps → Grows ps (payload_steps register ws) n.machine) → Takes c n run.now (Body register run)
 takes_words c n register count run is to none none2 matcher fits long some other machine grows bytes sessions place s =
     let ws : List ℕ = words_of_bytes run.now in
@@ -166,15 +166,15 @@ takes_words c n register count run is to none none2 matcher fits long some other
     λ ps t. grows ps (words_of_bytes run.now) (words-fit run.now fits) (omega (arith, number, some)) (subst (λ (m : MachineState). MachineStandsFor m ps) same t) in
     let word : flat_map bytes_of_word (map (λ (x : ℕ × Step). x.0) (payload_steps register (words_of_bytes run.now))) ≡ c.kept ++ run.now =
     ap (flat_map bytes_of_word) (words_of_payload register (words_of_bytes run.now)) ∙ bytes-words run.now count fits long ∙ ap (λ t. t ++ run.now) (sym none) in
-    body_more c n bytes run.now sessions place register run s is all fits word none2 (to ∙ ap (λ (b : Bool). if b then mode.Searching else mode.Synced) (sym (calm_words register (words_of_bytes run.now) other))) matcher
+    body_more c n bytes run.now sessions place register run s is all fits word none2 (to ∙ ap (λ (b : Bool). if b then Mode.Searching else Mode.Synced) (sym (calm_words register (words_of_bytes run.now) other))) matcher
 
-pub writes_few : (old new : CutterState) (bs : List ℕ) (head register count : ℕ) → old.mode ≡ mode.Synced → new.mode ≡ mode.Synced → MatcherStandsFor new.matcher [] → old.kept ≡ [] → new.kept ≡ [] → 68 ≤ length bs → AreBytes bs
+pub writes_few : (old new : CutterState) (bs : List ℕ) (head register count : ℕ) → old.mode ≡ Mode.Synced → new.mode ≡ Mode.Synced → MatcherStandsFor new.matcher [] → old.kept ≡ [] → new.kept ≡ [] → 68 ≤ length bs → AreBytes bs
     → bytes_of_word head ≡ get_or bs 0 0 ∷ get_or bs 1 0 ∷ get_or bs 2 0 ∷ get_or bs 3 0 ∷ [] → head ≡ short_head register count → register < 32 → (register ≡ 4 → ⊥) → 0 < count → count ≤ 16
     → ((ps : List Packet) (n : ℕ) → 0 < n → n < 2 ^ 11 → MachineStandsFor old.machine ps → Grows ps ((short_head register n, Open register n) ∷ []) (in_short register n))
     → ((ps : List Packet) (ws : List ℕ) → AreWords ws → 0 < length ws → MachineStandsFor (in_short register (length ws)) ps → Grows ps (payload_steps register ws) new.machine)
     → WritesFew old new bs register count
 writes_few old new bs head register count is to matcher none none2 long fits e g range other some few opens goes =
-    let middle : CutterState = record { mode = mode.Synced; matcher = old.matcher; machine = in_short register count; kept = [] } in
+    let middle : CutterState = record { mode = Mode.Synced; matcher = old.matcher; machine = in_short register count; kept = [] } in
     let behind : AreBytes (drop 4 bs) = all_back (λ b. b < 256) (take 4 bs) (drop 4 bs) (subst AreBytes (sym (take-append-drop 4 bs)) fits) in
     let size : length (take (4 * count) (drop 4 bs)) ≡ 4 * count = length-take-le (4 * count) (drop 4 bs) (omega (arith, length-drop 4 bs, long, few)) in
     record {
@@ -192,10 +192,10 @@ writes_few old new bs head register count is to matcher none none2 long fits e g
 
 -- ---- a gap
 
-pub ends_gap : (old new : CutterState) (bs : List ℕ) (count : ℕ) → old.mode ≡ mode.Searching → new.mode ≡ mode.Synced → new.machine ≡ old.machine → new.kept ≡ [] → IsClear old.matcher
+pub ends_gap : (old new : CutterState) (bs : List ℕ) (count : ℕ) → old.mode ≡ Mode.Searching → new.mode ≡ Mode.Synced → new.machine ≡ old.machine → new.kept ≡ [] → IsClear old.matcher
     → 36 ≤ length bs → AreBytes bs → count + 4 ≤ 32 → IsFirstSync bs count → EndsGap old new bs count
 ends_gap old new bs count is to same none2 clear long fits near i =
-    let middle : CutterState = record { mode = mode.Due; matcher = old.matcher; machine = old.machine; kept = [] } in
+    let middle : CutterState = record { mode = Mode.Due; matcher = old.matcher; machine = old.machine; kept = [] } in
     record {
       between = middle;
       near = near;

@@ -12,36 +12,35 @@ use Rattle.x7_packets.specs.Reading.{Place, Searching, Synced, Session, IsReadin
 use Rattle.x7_packets.specs.Cutting.{CutterState, CutterStandsFor, AtPlace, Cuts, KeepsNone, Longer, Went, run_steps}
 use Rattle.x7_packets.specs.declared.header.Step.{Step}
 use Rattle.x7_packets.specs.declared.header.Step.TheVariants.{Payload}
-use Rattle.x7_packets.specs.declared.cutter.Mode.{Mode}
-use Rattle.x7_packets.specs.declared.cutter.Mode.TheVariants as mode
+use Rattle.x7_packets.specs.Mode.{Mode}
 use Rattle.x7_packets.specs.declared.cutter.Cut.TheVariants.{Need, Skip, Sync, Head, Word, Body}
 use Rattle.x7_packets.proofs.PacketLemmas.{words_grown}
 use Rattle.x7_packets.proofs.SyncLemmas.{none_empty}
 
 -- a cutter that took no byte
-pub fresh : (n : CutterState) → n.mode ≡ mode.Searching → MatcherStandsFor n.matcher [] → MachineStandsFor n.machine [] → CutterStandsFor n [] [] (Searching [])
+pub fresh : (n : CutterState) → n.mode ≡ Mode.Searching → MatcherStandsFor n.matcher [] → MachineStandsFor n.machine [] → CutterStandsFor n [] [] (Searching [])
 fresh n is m a = record { reading = record { fits = tt; joined = refl; each = tt; ends = none_empty }; at = rw is (m, a) }
 
 more_bytes : (bytes more : List ℕ) → AreBytes bytes → AreBytes more → AreBytes (bytes ++ more)
 more_bytes = all-append (λ b. b < 256)
 
 -- a piece used up while searching
-pub none_taken : (c : CutterState) (bytes : List ℕ) (sessions : List Session) (place : Place) → CutterStandsFor c bytes sessions place → c.mode ≡ mode.Searching → Went c c (bytes ++ []) sessions place Need
-none_taken c bytes sessions (Synced gap packets tail) s is = absurd (let h : AtPlace c mode.Searching (Synced gap packets tail) = rw is at s.at in h)
+pub none_taken : (c : CutterState) (bytes : List ℕ) (sessions : List Session) (place : Place) → CutterStandsFor c bytes sessions place → c.mode ≡ Mode.Searching → Went c c (bytes ++ []) sessions place Need
+none_taken c bytes sessions (Synced gap packets tail) s is = absurd (let h : AtPlace c Mode.Searching (Synced gap packets tail) = rw is at s.at in h)
 none_taken c bytes sessions (Searching gap) s is =
     record {
       new_sessions = sessions;
       new_place = Searching gap;
       stands = rw append-nil s;
       adds = (refl, refl);
-      turns = (λ e. absurd (let h : mode.Searching ≡ mode.Due = sym is ∙ e in cc), λ e. absurd (let h : mode.Searching ≡ mode.Due = sym is ∙ e in cc));
+      turns = (λ e. absurd (let h : Mode.Searching ≡ Mode.Due = sym is ∙ e in cc), λ e. absurd (let h : Mode.Searching ≡ Mode.Due = sym is ∙ e in cc));
     }
 
 -- fewer bytes than a word lacks
 pub kept_more : (c n : CutterState) (bytes more : List ℕ) (sessions : List Session) (place : Place) → CutterStandsFor c bytes sessions place
-    → c.mode ≡ mode.Synced → n.mode ≡ mode.Synced → n.machine ≡ c.machine → n.kept ≡ c.kept ++ more → length c.kept + length more < 4 → AreBytes more
+    → c.mode ≡ Mode.Synced → n.mode ≡ Mode.Synced → n.machine ≡ c.machine → n.kept ≡ c.kept ++ more → length c.kept + length more < 4 → AreBytes more
     → Went c n (bytes ++ more) sessions place Need
-kept_more c n bytes more sessions (Searching gap) s is to same kept short fits = absurd (let h : AtPlace c mode.Synced (Searching gap) = rw is at s.at in h)
+kept_more c n bytes more sessions (Searching gap) s is to same kept short fits = absurd (let h : AtPlace c Mode.Synced (Searching gap) = rw is at s.at in h)
 kept_more c n bytes more sessions (Synced gap packets tail) s is to same kept short fits =
     let h : MachineStandsFor c.machine packets × (tail ≡ c.kept) = rw is at s.at in
     record {
@@ -57,14 +56,14 @@ kept_more c n bytes more sessions (Synced gap packets tail) s is to same kept sh
         at = rw (to, same) (h.0, ap (λ t. t ++ more) h.1 ∙ sym kept);
       };
       adds = (refl, more, refl);
-      turns = (λ e. absurd (let f : mode.Synced ≡ mode.Due = sym is ∙ e in cc), λ e. absurd (let f : mode.Synced ≡ mode.Due = sym to ∙ e in cc));
+      turns = (λ e. absurd (let f : Mode.Synced ≡ Mode.Due = sym is ∙ e in cc), λ e. absurd (let f : Mode.Synced ≡ Mode.Due = sym to ∙ e in cc));
     }
 
 -- the sync word is told
 pub sync_told : (c n : CutterState) (bytes : List ℕ) (sessions : List Session) (place : Place) → CutterStandsFor c bytes sessions place
-    → c.mode ≡ mode.Due → n.mode ≡ mode.Synced → n.machine ≡ c.machine → n.kept ≡ []
+    → c.mode ≡ Mode.Due → n.mode ≡ Mode.Synced → n.machine ≡ c.machine → n.kept ≡ []
     → Went c n (bytes ++ []) sessions place Sync
-sync_told c n bytes sessions (Searching gap) s is to same none = absurd (let h : AtPlace c mode.Due (Searching gap) = rw is at s.at in h)
+sync_told c n bytes sessions (Searching gap) s is to same none = absurd (let h : AtPlace c Mode.Due (Searching gap) = rw is at s.at in h)
 sync_told c n bytes sessions (Synced gap packets tail) s is to same none =
     let h : (packets ≡ []) × (tail ≡ []) × MachineStandsFor c.machine [] = rw is at s.at in
     record {
@@ -75,15 +74,15 @@ sync_told c n bytes sessions (Synced gap packets tail) s is to same none =
         at = rw (to, same, h.0) (h.2, h.1 ∙ sym none);
       };
       adds = (h.0, h.1, refl, rw (h.0, h.1) refl);
-      turns = (is, λ e. absurd (let f : mode.Synced ≡ mode.Due = sym to ∙ e in cc));
+      turns = (is, λ e. absurd (let f : Mode.Synced ≡ Mode.Due = sym to ∙ e in cc));
     }
 
 -- bytes taken while searching, up to and with a sync word
 pub skip_found : (c n : CutterState) (bytes rest : List ℕ) (run : Bor (List ℕ)) (count : ℕ) (sessions : List Session) (place : Place)
-    → CutterStandsFor c bytes sessions place → c.mode ≡ mode.Searching → n.mode ≡ mode.Due → n.machine ≡ c.machine
+    → CutterStandsFor c bytes sessions place → c.mode ≡ Mode.Searching → n.mode ≡ Mode.Due → n.machine ≡ c.machine
     → ((gap : List ℕ) → MatcherStandsFor c.matcher gap → HasNoSync gap → Searched gap rest (Some count) n.matcher) → run.now ≡ take count rest → AreBytes (take count rest)
     → Went c n (bytes ++ take count rest) sessions place (Skip run)
-skip_found c n bytes rest run count sessions (Synced gap packets tail) s is to same after e fits = absurd (let h : AtPlace c mode.Searching (Synced gap packets tail) = rw is at s.at in h)
+skip_found c n bytes rest run count sessions (Synced gap packets tail) s is to same after e fits = absurd (let h : AtPlace c Mode.Searching (Synced gap packets tail) = rw is at s.at in h)
 skip_found c n bytes rest run count sessions (Searching gap) s is to same after e fits =
     let h : MatcherStandsFor c.matcher gap × MachineStandsFor c.machine [] = rw is at s.at in
     let a : Searched gap rest (Some count) n.matcher = after gap h.0 s.reading.ends in
@@ -104,10 +103,10 @@ skip_found c n bytes rest run count sessions (Searching gap) s is to same after 
 
 -- bytes taken while searching, without a sync word
 pub skip_all : (c n : CutterState) (bytes rest : List ℕ) (run : Bor (List ℕ)) (sessions : List Session) (place : Place)
-    → CutterStandsFor c bytes sessions place → c.mode ≡ mode.Searching → n.mode ≡ mode.Searching → n.machine ≡ c.machine
+    → CutterStandsFor c bytes sessions place → c.mode ≡ Mode.Searching → n.mode ≡ Mode.Searching → n.machine ≡ c.machine
     → ((gap : List ℕ) → MatcherStandsFor c.matcher gap → HasNoSync gap → Searched gap rest None n.matcher) → run.now ≡ rest → AreBytes rest
     → Went c n (bytes ++ rest) sessions place (Skip run)
-skip_all c n bytes rest run sessions (Synced gap packets tail) s is to same after e fits = absurd (let h : AtPlace c mode.Searching (Synced gap packets tail) = rw is at s.at in h)
+skip_all c n bytes rest run sessions (Synced gap packets tail) s is to same after e fits = absurd (let h : AtPlace c Mode.Searching (Synced gap packets tail) = rw is at s.at in h)
 skip_all c n bytes rest run sessions (Searching gap) s is to same after e fits =
     let h : MatcherStandsFor c.matcher gap × MachineStandsFor c.machine [] = rw is at s.at in
     let a : Searched gap rest None n.matcher = after gap h.0 s.reading.ends in
@@ -126,7 +125,7 @@ skip_all c n bytes rest run sessions (Searching gap) s is to same after e fits =
 pub packet_bytes-grown : (ps qs : List Packet) (more : List (ℕ × Step)) → flat_map stepped qs ≡ flat_map stepped ps ++ more → packet_bytes qs ≡ packet_bytes ps ++ flat_map bytes_of_word (map (λ (s : ℕ × Step). s.0) more)
 packet_bytes-grown ps qs more e = ap (flat_map bytes_of_word) (words_grown ps qs more e) ∙ flat_map-append bytes_of_word (flat_map words ps) (map (λ (s : ℕ × Step). s.0) more)
 
-not_due : {m : Mode} (b : Bool) → m ≡ (if b then mode.Searching else mode.Synced) → m ≡ mode.Due → ⊥
+not_due : {m : Mode} (b : Bool) → m ≡ (if b then Mode.Searching else Mode.Synced) → m ≡ Mode.Due → ⊥
 not_due true e f = absurd (cc)
 not_due false e f = absurd (cc)
 
@@ -139,7 +138,7 @@ joined_more r bytes gap tail new new_session session word e f g = rw (e, f, g) (
 
 by_end : (n : CutterState) (bytes new : List ℕ) (sessions : List Session) (gap tail : List ℕ) (packets : List Packet) (more : List (ℕ × Step)) (b : Bool)
     → ends_by more ≡ b → IsReading bytes sessions (Synced gap packets tail) → (g : Grows packets more n.machine) → AreBytes new
-    → flat_map bytes_of_word (map (λ (s : ℕ × Step). s.0) more) ≡ tail ++ new → n.kept ≡ [] → n.mode ≡ (if b then mode.Searching else mode.Synced) → MatcherStandsFor n.matcher []
+    → flat_map bytes_of_word (map (λ (s : ℕ × Step). s.0) more) ≡ tail ++ new → n.kept ≡ [] → n.mode ≡ (if b then Mode.Searching else Mode.Synced) → MatcherStandsFor n.matcher []
     → WordsMore n (bytes ++ new) sessions gap packets more
 by_end n bytes new sessions gap tail packets more true q r g fits word none to matcher =
     let joined : bytes ++ new ≡ flat_map session_bytes sessions ++ (gap ++ sync_bytes ++ packet_bytes g.packets) =
@@ -178,48 +177,48 @@ by_end n bytes new sessions gap tail packets more false q r g fits word none to 
     )
 
 words_more : (c n : CutterState) (bytes new : List ℕ) (sessions : List Session) (gap tail : List ℕ) (packets : List Packet) (more : List (ℕ × Step))
-    → CutterStandsFor c bytes sessions (Synced gap packets tail) → c.mode ≡ mode.Synced
+    → CutterStandsFor c bytes sessions (Synced gap packets tail) → c.mode ≡ Mode.Synced
     → ((ps : List Packet) → MachineStandsFor c.machine ps → Grows ps more n.machine) → AreBytes new
     → flat_map bytes_of_word (map (λ (s : ℕ × Step). s.0) more) ≡ c.kept ++ new → n.kept ≡ []
-    → n.mode ≡ (if ends_by more then mode.Searching else mode.Synced) → MatcherStandsFor n.matcher []
+    → n.mode ≡ (if ends_by more then Mode.Searching else Mode.Synced) → MatcherStandsFor n.matcher []
     → WordsMore n (bytes ++ new) sessions gap packets more
 words_more c n bytes new sessions gap tail packets more s is grows fits word none to matcher =
     let h : MachineStandsFor c.machine packets × (tail ≡ c.kept) = rw is at s.at in
     by_end n bytes new sessions gap tail packets more (ends_by more) refl s.reading (grows packets h.0) fits (word ∙ ap (λ t. t ++ new) (sym h.1)) none to matcher
 
 pub head_more : (c n : CutterState) (bytes new : List ℕ) (sessions : List Session) (place : Place) (w : ℕ) (step : Step)
-    → CutterStandsFor c bytes sessions place → c.mode ≡ mode.Synced
+    → CutterStandsFor c bytes sessions place → c.mode ≡ Mode.Synced
     → ((ps : List Packet) → MachineStandsFor c.machine ps → Grows ps ((w, step) ∷ []) n.machine) → AreBytes new
-    → bytes_of_word w ≡ c.kept ++ new → n.kept ≡ [] → n.mode ≡ (if ends_by ((w, step) ∷ []) then mode.Searching else mode.Synced) → MatcherStandsFor n.matcher []
+    → bytes_of_word w ≡ c.kept ++ new → n.kept ≡ [] → n.mode ≡ (if ends_by ((w, step) ∷ []) then Mode.Searching else Mode.Synced) → MatcherStandsFor n.matcher []
     → Went c n (bytes ++ new) sessions place (Head w step)
-head_more c n bytes new sessions (Searching gap) w step s is grows fits word none to matcher = absurd (let h : AtPlace c mode.Synced (Searching gap) = rw is at s.at in h)
+head_more c n bytes new sessions (Searching gap) w step s is grows fits word none to matcher = absurd (let h : AtPlace c Mode.Synced (Searching gap) = rw is at s.at in h)
 head_more c n bytes new sessions (Synced gap packets tail) w step s is grows fits word none to matcher =
     let m = words_more c n bytes new sessions gap tail packets ((w, step) ∷ []) s is grows fits (append-nil (bytes_of_word w) ∙ word) none to matcher in
-    record { new_sessions = m.0; new_place = m.1; stands = m.2; adds = m.3; turns = (λ e. absurd (let f : mode.Synced ≡ mode.Due = sym is ∙ e in cc), λ e. absurd (not_due (ends_by ((w, step) ∷ [])) to e)) }
+    record { new_sessions = m.0; new_place = m.1; stands = m.2; adds = m.3; turns = (λ e. absurd (let f : Mode.Synced ≡ Mode.Due = sym is ∙ e in cc), λ e. absurd (not_due (ends_by ((w, step) ∷ [])) to e)) }
 
 pub word_more : (c n : CutterState) (bytes new : List ℕ) (sessions : List Session) (place : Place) (register w : ℕ)
-    → CutterStandsFor c bytes sessions place → c.mode ≡ mode.Synced
+    → CutterStandsFor c bytes sessions place → c.mode ≡ Mode.Synced
     → ((ps : List Packet) → MachineStandsFor c.machine ps → Grows ps ((w, Payload register w) ∷ []) n.machine) → AreBytes new
-    → bytes_of_word w ≡ c.kept ++ new → n.kept ≡ [] → n.mode ≡ (if ends_by ((w, Payload register w) ∷ []) then mode.Searching else mode.Synced) → MatcherStandsFor n.matcher []
+    → bytes_of_word w ≡ c.kept ++ new → n.kept ≡ [] → n.mode ≡ (if ends_by ((w, Payload register w) ∷ []) then Mode.Searching else Mode.Synced) → MatcherStandsFor n.matcher []
     → Went c n (bytes ++ new) sessions place (Word register w)
-word_more c n bytes new sessions (Searching gap) register w s is grows fits word none to matcher = absurd (let h : AtPlace c mode.Synced (Searching gap) = rw is at s.at in h)
+word_more c n bytes new sessions (Searching gap) register w s is grows fits word none to matcher = absurd (let h : AtPlace c Mode.Synced (Searching gap) = rw is at s.at in h)
 word_more c n bytes new sessions (Synced gap packets tail) register w s is grows fits word none to matcher =
     let m = words_more c n bytes new sessions gap tail packets ((w, Payload register w) ∷ []) s is grows fits (append-nil (bytes_of_word w) ∙ word) none to matcher in
-    record { new_sessions = m.0; new_place = m.1; stands = m.2; adds = m.3; turns = (λ e. absurd (let f : mode.Synced ≡ mode.Due = sym is ∙ e in cc), λ e. absurd (not_due (ends_by ((w, Payload register w) ∷ [])) to e)) }
+    record { new_sessions = m.0; new_place = m.1; stands = m.2; adds = m.3; turns = (λ e. absurd (let f : Mode.Synced ≡ Mode.Due = sym is ∙ e in cc), λ e. absurd (not_due (ends_by ((w, Payload register w) ∷ [])) to e)) }
 
 pub body_more : (c n : CutterState) (bytes new : List ℕ) (sessions : List Session) (place : Place) (register : ℕ) (run : Bor (List ℕ))
-    → CutterStandsFor c bytes sessions place → c.mode ≡ mode.Synced
+    → CutterStandsFor c bytes sessions place → c.mode ≡ Mode.Synced
     → ((ps : List Packet) → MachineStandsFor c.machine ps → Grows ps (run_steps (Body register run)) n.machine) → AreBytes new
-    → flat_map bytes_of_word (map (λ (s : ℕ × Step). s.0) (run_steps (Body register run))) ≡ c.kept ++ new → n.kept ≡ [] → n.mode ≡ (if ends_by (run_steps (Body register run)) then mode.Searching else mode.Synced) → MatcherStandsFor n.matcher []
+    → flat_map bytes_of_word (map (λ (s : ℕ × Step). s.0) (run_steps (Body register run))) ≡ c.kept ++ new → n.kept ≡ [] → n.mode ≡ (if ends_by (run_steps (Body register run)) then Mode.Searching else Mode.Synced) → MatcherStandsFor n.matcher []
     → Went c n (bytes ++ new) sessions place (Body register run)
-body_more c n bytes new sessions (Searching gap) register run s is grows fits word none to matcher = absurd (let h : AtPlace c mode.Synced (Searching gap) = rw is at s.at in h)
+body_more c n bytes new sessions (Searching gap) register run s is grows fits word none to matcher = absurd (let h : AtPlace c Mode.Synced (Searching gap) = rw is at s.at in h)
 body_more c n bytes new sessions (Synced gap packets tail) register run s is grows fits word none to matcher =
     let m = words_more c n bytes new sessions gap tail packets (run_steps (Body register run)) s is grows fits word none to matcher in
-    record { new_sessions = m.0; new_place = m.1; stands = m.2; adds = m.3; turns = (λ e. absurd (let f : mode.Synced ≡ mode.Due = sym is ∙ e in cc), λ e. absurd (not_due (ends_by (run_steps (Body register run))) to e)) }
+    record { new_sessions = m.0; new_place = m.1; stands = m.2; adds = m.3; turns = (λ e. absurd (let f : Mode.Synced ≡ Mode.Due = sym is ∙ e in cc), λ e. absurd (not_due (ends_by (run_steps (Body register run))) to e)) }
 
 -- a call that skipped bytes, up to and with a sync word
 pub cuts_found : (c n : CutterState) (rest : List ℕ) (run : Bor (List ℕ)) (count taken : ℕ)
-    → c.mode ≡ mode.Searching → n.mode ≡ mode.Due → n.machine ≡ c.machine → c.kept ≡ [] → n.kept ≡ [] → 0 < count → count ≤ length rest → taken ≡ count
+    → c.mode ≡ Mode.Searching → n.mode ≡ Mode.Due → n.machine ≡ c.machine → c.kept ≡ [] → n.kept ≡ [] → 0 < count → count ≤ length rest → taken ≡ count
     → ((gap : List ℕ) → MatcherStandsFor c.matcher gap → HasNoSync gap → Searched gap rest (Some count) n.matcher) → run.now ≡ take count rest → AreBytes (take count rest)
     → Cuts c n rest taken (Skip run)
 cuts_found c n rest run count taken is to same none none2 some most t after e fits =
@@ -235,7 +234,7 @@ cuts_found c n rest run count taken is to same none none2 some most t after e fi
 
 -- a call that skipped all bytes
 pub cuts_all : (c n : CutterState) (rest : List ℕ) (run : Bor (List ℕ)) (taken : ℕ)
-    → c.mode ≡ mode.Searching → n.mode ≡ mode.Searching → n.machine ≡ c.machine → c.kept ≡ [] → n.kept ≡ [] → 0 < length rest → taken ≡ length rest
+    → c.mode ≡ Mode.Searching → n.mode ≡ Mode.Searching → n.machine ≡ c.machine → c.kept ≡ [] → n.kept ≡ [] → 0 < length rest → taken ≡ length rest
     → ((gap : List ℕ) → MatcherStandsFor c.matcher gap → HasNoSync gap → Searched gap rest None n.matcher) → run.now ≡ rest → AreBytes rest
     → Cuts c n rest taken (Skip run)
 cuts_all c n rest run taken is to same none none2 some t after e fits =
@@ -259,5 +258,5 @@ pub no_count : (kept : List ℕ) (count : ℕ) → count ≤ length kept → tak
 no_count kept count h e = sym (length-take-le count kept h) ∙ ap length e
 
 -- bytes behind a mode that keeps none
-pub keeps_none : (m : Mode) → m ≡ mode.Searching → KeepsNone m
+pub keeps_none : (m : Mode) → m ≡ Mode.Searching → KeepsNone m
 keeps_none m e = rw e tt

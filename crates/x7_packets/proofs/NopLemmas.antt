@@ -8,7 +8,7 @@ use Rattle.x7_words.proofs.ListLemmas.{all-append, all_take}
 use Rattle.x7_words.proofs.WordLemmas.{bytes-words}
 use Rattle.x7_packets.specs.SyncWord.{sync_bytes}
 use Rattle.x7_packets.specs.declared.header.Step.TheVariants.{Filler, Nop}
-use Rattle.x7_packets.specs.declared.cutter.Mode.TheVariants as mode
+use Rattle.x7_packets.specs.Mode.{Mode}
 use Rattle.x7_packets.specs.Cutting.{AtPlace, CutterState, CutterStandsFor}
 use Rattle.x7_packets.specs.History.{history}
 use Rattle.x7_packets.specs.Nops.{Idles, equal_bytes, nop_bytes, nop_word}
@@ -90,7 +90,7 @@ record AfterNops (c : CutterState) (bytes : List ℕ) (sessions : List Session) 
   stands : CutterStandsFor c bytes sessions (Synced gap all [])
   nothing : history sessions (Synced gap all []) ≡ history sessions (Synced gap packets [])
 
-one_nop : (c : CutterState) (bytes : List ℕ) (sessions : List Session) (gap : List ℕ) (packets : List Packet) → c.mode ≡ mode.Synced → c.machine.due ≡ 0
+one_nop : (c : CutterState) (bytes : List ℕ) (sessions : List Session) (gap : List ℕ) (packets : List Packet) → c.mode ≡ Mode.Synced → c.machine.due ≡ 0
     → CutterStandsFor c bytes sessions (Synced gap packets []) → AfterNops c (bytes ++ bytes_of_word nop_word) sessions gap packets
 one_nop c bytes sessions gap packets synced none s =
     let word : List ℕ = bytes_of_word nop_word in
@@ -114,7 +114,7 @@ one_nop c bytes sessions gap packets synced none s =
       nothing = grown_goes_on gap [] packets g.packets ((nop_word, Nop) ∷ []) sessions g.grown;
     }
 
-all_nops : (k : ℕ) (c : CutterState) (bytes : List ℕ) (sessions : List Session) (gap : List ℕ) (packets : List Packet) → c.mode ≡ mode.Synced → c.machine.due ≡ 0
+all_nops : (k : ℕ) (c : CutterState) (bytes : List ℕ) (sessions : List Session) (gap : List ℕ) (packets : List Packet) → c.mode ≡ Mode.Synced → c.machine.due ≡ 0
     → CutterStandsFor c bytes sessions (Synced gap packets []) → AfterNops c (bytes ++ nop_bytes k) sessions gap packets
 all_nops zero c bytes sessions gap packets synced none s = record { all = packets; stands = subst (λ (b : List ℕ). CutterStandsFor c b sessions (Synced gap packets [])) (sym (append-nil bytes)) s; nothing = refl }
 all_nops (suc k) c bytes sessions gap packets synced none s =
@@ -129,8 +129,8 @@ all_nops (suc k) c bytes sessions gap packets synced none s =
 pub idles_none : (c : CutterState) (bytes : List ℕ) (sessions : List Session) (place : Place) → CutterStandsFor c bytes sessions place → Idles c (bytes ++ []) sessions place
 idles_none c bytes sessions place s = record { new_place = place; stands = subst (λ (b : List ℕ). CutterStandsFor c b sessions place) (sym (append-nil bytes)) s; nothing = refl }
 
-pub idles_nops : (k : ℕ) (c : CutterState) (bytes : List ℕ) (sessions : List Session) (place : Place) → c.mode ≡ mode.Synced → c.kept ≡ [] → c.machine.due ≡ 0 → CutterStandsFor c bytes sessions place → Idles c (bytes ++ nop_bytes k) sessions place
-idles_nops k c bytes sessions (Searching gap) synced empty none s = absurd (let h : AtPlace c mode.Synced (Searching gap) = rw synced at s.at in h)
+pub idles_nops : (k : ℕ) (c : CutterState) (bytes : List ℕ) (sessions : List Session) (place : Place) → c.mode ≡ Mode.Synced → c.kept ≡ [] → c.machine.due ≡ 0 → CutterStandsFor c bytes sessions place → Idles c (bytes ++ nop_bytes k) sessions place
+idles_nops k c bytes sessions (Searching gap) synced empty none s = absurd (let h : AtPlace c Mode.Synced (Searching gap) = rw synced at s.at in h)
 idles_nops k c bytes sessions (Synced gap packets tail) synced empty none s =
     let h : MachineStandsFor c.machine packets × (tail ≡ c.kept) = rw synced at s.at in
     let bare : tail ≡ [] = h.1 ∙ empty in

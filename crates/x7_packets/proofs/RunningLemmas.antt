@@ -12,10 +12,8 @@ use Rattle.x7_packets.specs.Cutting.{Adds, AtPlace, CompletesNone, CutterState, 
 use Rattle.x7_packets.specs.declared.header.Step.{Step}
 use Rattle.x7_packets.specs.declared.cutter.Cut.{Cut}
 use Rattle.x7_packets.specs.declared.cutter.Cut.TheVariants as cut
-use Rattle.x7_packets.specs.declared.cutter.Mode.{Mode}
-use Rattle.x7_packets.specs.declared.cutter.Mode.TheVariants as mode
-use Rattle.x7_packets.specs.declared.stream.Found.{Found}
-use Rattle.x7_packets.specs.declared.stream.Found.TheVariants as found
+use Rattle.x7_packets.specs.Mode.{Mode}
+use Rattle.x7_packets.specs.Found.{Found}
 use Rattle.x7_packets.specs.declared.stream.Run.{Run}
 use Rattle.x7_packets.specs.declared.stream.Run.TheVariants as run
 use Rattle.x7_packets.specs.PacketsState.{PacketsState}
@@ -126,27 +124,27 @@ Lends (cut.Body register bytes) all = bytes.now ≡ all
 Lends c all = ⊤
 
 same_run : (f : Found) (c : Cut) (r : Run) (bytes kept : List ℕ) → IsFound f c → IsRunOf f bytes kept r → Lends c bytes → Same c r
-same_run found.Skip c r bytes kept i l h =
+same_run Found.Skip c r bytes kept i l h =
     let there : Lends (cut.Skip i.0) bytes = subst (λ x. Lends x bytes) i.1 h in
     rw (i.1, l.1) (same_skip i.0 l.0 (l.2 ∙ sym there))
-same_run found.Sync c r bytes kept i l h = rw (i, l) (record { bytes = refl; adds = λ s ns p n x. x; turns = λ o n p x. x; is = λ x. x; goes_on = refl })
-same_run (found.Head w step) c r bytes kept i l h = rw (i, l) (record { bytes = refl; adds = λ s ns p n x. x; turns = λ o n p x. x; is = λ x. x; goes_on = refl })
-same_run (found.Word register w) c r bytes kept i l h = rw (i, l) (record { bytes = refl; adds = λ s ns p n x. x; turns = λ o n p x. x; is = λ x. x; goes_on = refl })
-same_run (found.Body register) c r bytes kept i l h =
+same_run Found.Sync c r bytes kept i l h = rw (i, l) (record { bytes = refl; adds = λ s ns p n x. x; turns = λ o n p x. x; is = λ x. x; goes_on = refl })
+same_run (Found.Head w step) c r bytes kept i l h = rw (i, l) (record { bytes = refl; adds = λ s ns p n x. x; turns = λ o n p x. x; is = λ x. x; goes_on = refl })
+same_run (Found.Word register w) c r bytes kept i l h = rw (i, l) (record { bytes = refl; adds = λ s ns p n x. x; turns = λ o n p x. x; is = λ x. x; goes_on = refl })
+same_run (Found.Body register) c r bytes kept i l h =
     let there : Lends (cut.Body register i.0) bytes = subst (λ x. Lends x bytes) i.1 h in
     rw (i.1, l.1) (same_body register i.0 l.0 (l.2 ∙ sym there))
-same_run found.Tail c r bytes kept i l h = absurd i
-same_run found.End c r bytes kept i l h = absurd i
+same_run Found.Tail c r bytes kept i l h = absurd i
+same_run Found.End c r bytes kept i l h = absurd i
 
 -- a run that is found is no want of bytes
 found_needs_none : (f : Found) (c : Cut) → IsFound f c → IsNeed c → ⊥
-found_needs_none found.Skip c i n = let h : IsNeed (cut.Skip i.0) = subst IsNeed i.1 n in h
-found_needs_none found.Sync c i n = let h : IsNeed cut.Sync = subst IsNeed i n in h
-found_needs_none (found.Head w step) c i n = let h : IsNeed (cut.Head w step) = subst IsNeed i n in h
-found_needs_none (found.Word register w) c i n = let h : IsNeed (cut.Word register w) = subst IsNeed i n in h
-found_needs_none (found.Body register) c i n = let h : IsNeed (cut.Body register i.0) = subst IsNeed i.1 n in h
-found_needs_none found.Tail c i n = i
-found_needs_none found.End c i n = i
+found_needs_none Found.Skip c i n = let h : IsNeed (cut.Skip i.0) = subst IsNeed i.1 n in h
+found_needs_none Found.Sync c i n = let h : IsNeed cut.Sync = subst IsNeed i n in h
+found_needs_none (Found.Head w step) c i n = let h : IsNeed (cut.Head w step) = subst IsNeed i n in h
+found_needs_none (Found.Word register w) c i n = let h : IsNeed (cut.Word register w) = subst IsNeed i n in h
+found_needs_none (Found.Body register) c i n = let h : IsNeed (cut.Body register i.0) = subst IsNeed i.1 n in h
+found_needs_none Found.Tail c i n = i
+found_needs_none Found.End c i n = i
 
 -- ---- one call of the cutter
 
@@ -220,7 +218,7 @@ need_tells_none (cut.Head w step) n = absurd n
 need_tells_none (cut.Word register w) n = absurd n
 need_tells_none (cut.Body register bytes) n = absurd n
 
-need_turns : (c : Cut) (old new : Mode) (place : Place) → IsNeed c → Turns c old new place → (old ≡ mode.Due → ⊥) × (new ≡ mode.Due → ⊥)
+need_turns : (c : Cut) (old new : Mode) (place : Place) → IsNeed c → Turns c old new place → (old ≡ Mode.Due → ⊥) × (new ≡ Mode.Due → ⊥)
 need_turns cut.Need old new place n t = t
 need_turns (cut.Skip bytes) old new place n t = absurd n
 need_turns cut.Sync old new place n t = absurd n
@@ -241,14 +239,14 @@ parted told kept left n = ap (λ t. told ++ (kept ++ t)) (sym (take-append-drop 
 
 -- after a call that needs more bytes the reader stands for the same bytes
 pub needs : (old new : PacketsState) (bytes told : List ℕ) (s : Steps old new false) → old.done ≡ false → PacketsStandFor old bytes told
-    → PacketsStandFor new bytes told × (old.cutter.mode ≡ mode.Due → ⊥) × (new.cutter.mode ≡ mode.Due → ⊥)
+    → PacketsStandFor new bytes told × (old.cutter.mode ≡ Mode.Due → ⊥) × (new.cutter.mode ≡ Mode.Due → ⊥)
 needs old new bytes told s on p =
     let none : untold old ≡ old.cutter.kept = untold_on old on in
     let still : new.done ≡ false = s.done ∙ on in
     let w : Went old.cutter new.cutter ((told ++ untold old) ++ take s.count old.left) p.sessions (with_tail old.cutter.kept p.place) s.run = s.cuts.adds _ p.sessions _ p.cutter in
     let k : new.cutter.kept ≡ tail_of w.new_place = s.kept _ w.new_sessions w.new_place w.stands in
     let at : (w.new_sessions ≡ p.sessions) × (w.new_place ≡ with_tail new.cutter.kept p.place) = need_place s.run p.sessions w.new_sessions p.place w.new_place old.cutter.kept new.cutter.kept s.is w.adds k in
-    let t : (old.cutter.mode ≡ mode.Due → ⊥) × (new.cutter.mode ≡ mode.Due → ⊥) = need_turns s.run old.cutter.mode new.cutter.mode w.new_place s.is w.turns in
+    let t : (old.cutter.mode ≡ Mode.Due → ⊥) × (new.cutter.mode ≡ Mode.Due → ⊥) = need_turns s.run old.cutter.mode new.cutter.mode w.new_place s.is w.turns in
     let joined : old.cutter.kept ++ take s.count old.left ≡ new.cutter.kept = s.cuts.joined ∙ ap (λ x. x ++ new.cutter.kept) (need_tells_none s.run s.is) in
     let taken : (told ++ untold old) ++ take s.count old.left ≡ told ++ untold new = ap (λ x. (told ++ x) ++ take s.count old.left) none ∙ append_assoc told old.cutter.kept (take s.count old.left) ∙ ap (λ x. told ++ x) (joined ∙ sym (untold_on new still)) in
     let stands : CutterStandsFor new.cutter (told ++ untold new) p.sessions (with_tail new.cutter.kept p.place) = rw (← taken, ← at.0, ← at.1) w.stands in (
@@ -355,9 +353,9 @@ turns_fall kept [] new (b ∷ piece) s e h = omega (arith, e)
 turns_fall kept (c ∷ left) new (b ∷ piece) s e h = let few : length kept + suc (length left) < 4 = h (omega arith) in omega (arith, e, few)
 
 few_left : (c : CutterState) (m : Mode) (left : ℕ) → CompletesNone c m left → 0 < left → length c.kept + left < 4
-few_left c mode.Searching left h s = absurd (omega (arith, h))
-few_left c mode.Due left h s = absurd h
-few_left c mode.Synced left h s = h
+few_left c Mode.Searching left h s = absurd (omega (arith, h))
+few_left c Mode.Due left h s = absurd h
+few_left c Mode.Synced left h s = h
 
 pub turns_go : (old new : PacketsState) (s : Steps old new false) (piece : List ℕ) → 0 < length piece → turns_left new.cutter.kept piece < turns_left old.cutter.kept old.left
 turns_go old new s piece some =
@@ -366,7 +364,7 @@ turns_go old new s piece some =
     let joined : old.cutter.kept ++ old.left ≡ new.cutter.kept = ap (λ t. old.cutter.kept ++ t) (sym whole) ∙ s.cuts.joined ∙ ap (λ x. x ++ new.cutter.kept) (need_tells_none s.run s.is) in
     turns_fall old.cutter.kept old.left new.cutter.kept piece some (ap length (sym joined) ∙ length-append old.cutter.kept old.left) (few_left old.cutter old.cutter.mode (length old.left) (s.cuts.need.0 s.is))
 
-same_due : (old now new : Mode) → SameDue old now → (now ≡ mode.Due → ⊥) → (new ≡ mode.Due → ⊥) → SameDue old new
+same_due : (old now new : Mode) → SameDue old now → (now ≡ Mode.Due → ⊥) → (new ≡ Mode.Due → ⊥) → SameDue old new
 same_due old now new s n m = (λ e. absurd (n (s.0 e)), λ e. absurd (m e))
 
 -- after a call that needs more bytes, and a read
@@ -407,13 +405,13 @@ not_last r e f = let h : false ≡ true = sym e ∙ f in cc
 
 -- a run that tells nothing of the end; whether it is one shows in its kind alone
 kind_goes_on : (f : Found) (c : Cut) (r : Run) (bytes kept : List ℕ) → IsFound f c → IsRunOf f bytes kept r → is_last r ≡ false
-kind_goes_on found.Skip c r bytes kept i l = ap is_last l.1
-kind_goes_on found.Sync c r bytes kept i l = ap is_last l
-kind_goes_on (found.Head w step) c r bytes kept i l = ap is_last l
-kind_goes_on (found.Word register w) c r bytes kept i l = ap is_last l
-kind_goes_on (found.Body register) c r bytes kept i l = ap is_last l.1
-kind_goes_on found.Tail c r bytes kept i l = absurd i
-kind_goes_on found.End c r bytes kept i l = absurd i
+kind_goes_on Found.Skip c r bytes kept i l = ap is_last l.1
+kind_goes_on Found.Sync c r bytes kept i l = ap is_last l
+kind_goes_on (Found.Head w step) c r bytes kept i l = ap is_last l
+kind_goes_on (Found.Word register w) c r bytes kept i l = ap is_last l
+kind_goes_on (Found.Body register) c r bytes kept i l = ap is_last l.1
+kind_goes_on Found.Tail c r bytes kept i l = absurd i
+kind_goes_on Found.End c r bytes kept i l = absurd i
 
 pub tells_run : (first old new : PacketsState) (more : List ℕ) (r : Run) (s : Steps old new true) → old.done ≡ false → old.failed ≡ false → IsLast new r → Reads first old more → Tells first new more r
 tells_run first old new more r s on good last reads =
@@ -443,8 +441,8 @@ short_tail kept (Searching gap) p k = omega (arith, ap length k)
 short_tail kept (Synced gap packets tail) p k = p.3
 
 -- the reader stands for its bytes, all told, once it is done
-ends_tail : (p : PacketsState) (bytes told : List ℕ) (lent : Bor (List ℕ)) → p.done ≡ false → p.left ≡ [] → 0 < length p.cutter.kept → lent.now ≡ p.cutter.kept → (p.cutter.mode ≡ mode.Due → ⊥) → PacketsStandFor p bytes told
-    → PacketsStandFor (record p { found = found.Tail; done = true }) bytes (told ++ lent.now) × IsNext told p.cutter.mode (run.Tail lent) p.cutter.mode × (told ++ lent.now ≡ bytes)
+ends_tail : (p : PacketsState) (bytes told : List ℕ) (lent : Bor (List ℕ)) → p.done ≡ false → p.left ≡ [] → 0 < length p.cutter.kept → lent.now ≡ p.cutter.kept → (p.cutter.mode ≡ Mode.Due → ⊥) → PacketsStandFor p bytes told
+    → PacketsStandFor (record p { found = Found.Tail; done = true }) bytes (told ++ lent.now) × IsNext told p.cutter.mode (run.Tail lent) p.cutter.mode × (told ++ lent.now ≡ bytes)
 ends_tail p bytes told lent on none some e due s =
     let keeps : untold p ≡ p.cutter.kept = untold_on p on in
     let bare : tail_of s.place ≡ [] = tail_on s.place p.done p.cutter.kept on s.tail in
@@ -479,8 +477,8 @@ ends_tail p bytes told lent on none some e due s =
     )
 
 -- the end, of a reader that has no byte more to tell
-ends_none : (p : PacketsState) (bytes told : List ℕ) → p.left ≡ [] → untold p ≡ [] → (p.cutter.mode ≡ mode.Due → ⊥) → (s : PacketsStandFor p bytes told) → tail_of s.place ≡ p.cutter.kept
-    → PacketsStandFor (record p { found = found.End; done = true }) bytes (told ++ []) × IsNext told p.cutter.mode run.End p.cutter.mode × (told ++ [] ≡ bytes)
+ends_none : (p : PacketsState) (bytes told : List ℕ) → p.left ≡ [] → untold p ≡ [] → (p.cutter.mode ≡ Mode.Due → ⊥) → (s : PacketsStandFor p bytes told) → tail_of s.place ≡ p.cutter.kept
+    → PacketsStandFor (record p { found = Found.End; done = true }) bytes (told ++ []) × IsNext told p.cutter.mode run.End p.cutter.mode × (told ++ [] ≡ bytes)
 ends_none p bytes told none nothing due s own =
     let now : told ++ untold p ≡ told ++ [] = ap (λ t. told ++ t) nothing in
     let all : bytes ≡ told ++ [] = s.split ∙ ap (λ t. told ++ (untold p ++ t)) none ∙ ap (λ t. told ++ t) (append-nil (untold p)) ∙ now in
@@ -516,30 +514,30 @@ record Ends (old new : PacketsState) (r : Run) : Type 0 where
   pub done : new.done ≡ true
   pub failed : new.failed ≡ old.failed
   pub taken : new.taken ≡ old.taken
-  pub stands : (bytes told : List ℕ) → (old.cutter.mode ≡ mode.Due → ⊥) → PacketsStandFor old bytes told
+  pub stands : (bytes told : List ℕ) → (old.cutter.mode ≡ Mode.Due → ⊥) → PacketsStandFor old bytes told
       → PacketsStandFor new bytes (told ++ told_bytes r) × IsNext told old.cutter.mode r new.cutter.mode × (told ++ told_bytes r ≡ bytes)
 
-tail_ends : (p : PacketsState) (lent : Bor (List ℕ)) → p.done ≡ false → p.left ≡ [] → 0 < length p.cutter.kept → lent.now ≡ p.cutter.kept → Ends p (record p { found = found.Tail; done = true }) (run.Tail lent)
+tail_ends : (p : PacketsState) (lent : Bor (List ℕ)) → p.done ≡ false → p.left ≡ [] → 0 < length p.cutter.kept → lent.now ≡ p.cutter.kept → Ends p (record p { found = Found.Tail; done = true }) (run.Tail lent)
 tail_ends p lent on none some e = record { last = refl; done = refl; failed = refl; taken = refl; stands = λ bytes told due s. ends_tail p bytes told lent on none some e due s }
 
-none_ends : (p : PacketsState) → p.left ≡ [] → untold p ≡ [] → ((bytes told : List ℕ) (s : PacketsStandFor p bytes told) → tail_of s.place ≡ p.cutter.kept) → Ends p (record p { found = found.End; done = true }) run.End
+none_ends : (p : PacketsState) → p.left ≡ [] → untold p ≡ [] → ((bytes told : List ℕ) (s : PacketsStandFor p bytes told) → tail_of s.place ≡ p.cutter.kept) → Ends p (record p { found = Found.End; done = true }) run.End
 none_ends p none nothing own = record { last = refl; done = refl; failed = refl; taken = refl; stands = λ bytes told due s. ends_none p bytes told none nothing due s (own bytes told s) }
 
 -- the end behind bytes of no whole word, or behind none
 finishes : (p new : PacketsState) (r : Run) (kept : List ℕ) → p.cutter.kept ≡ kept → p.done ≡ false → p.left ≡ []
-    → (p.cutter.kept ≢ [] → new ≡ record p { found = found.Tail; done = true }) → (p.cutter.kept ≡ [] → new ≡ record p { found = found.End; done = true }) → IsLast new r → Ends p new r
+    → (p.cutter.kept ≢ [] → new ≡ record p { found = Found.Tail; done = true }) → (p.cutter.kept ≡ [] → new ≡ record p { found = Found.End; done = true }) → IsLast new r → Ends p new r
 finishes p new r [] k on none tail end last =
-    let is : new ≡ record p { found = found.End; done = true } = end k in
+    let is : new ≡ record p { found = Found.End; done = true } = end k in
     let at : r ≡ run.End = subst (λ (x : PacketsState). IsLast x r) is last in
     rw (is, at) (none_ends p none (untold_on p on ∙ k) (λ bytes told s. tail_on s.place p.done p.cutter.kept on s.tail ∙ sym k))
 finishes p new r (x ∷ xs) k on none tail end last =
-    let is : new ≡ record p { found = found.Tail; done = true } = tail (λ e. absurd (let f : x ∷ xs ≡ [] = sym k ∙ e in cc)) in
+    let is : new ≡ record p { found = Found.Tail; done = true } = tail (λ e. absurd (let f : x ∷ xs ≡ [] = sym k ∙ e in cc)) in
     let at : (lent : Bor (List ℕ)) × (r ≡ run.Tail lent) × (lent.now ≡ p.cutter.kept) = subst (λ (x : PacketsState). IsLast x r) is last in
     rw (is, at.1) (tail_ends p at.0 on none (omega (arith, ap length k)) at.2)
 
 -- after a call that needs more bytes, and a read that gave none
 pub tells_end : (first old now new : PacketsState) (more : List ℕ) (r : Run) (s : Steps old now false) → old.done ≡ false → old.failed ≡ false → Reads first old more
-    → (now.cutter.kept ≢ [] → new ≡ record (filled now []) { found = found.Tail; done = true }) → (now.cutter.kept ≡ [] → new ≡ record (filled now []) { found = found.End; done = true })
+    → (now.cutter.kept ≢ [] → new ≡ record (filled now []) { found = Found.Tail; done = true }) → (now.cutter.kept ≡ [] → new ≡ record (filled now []) { found = Found.End; done = true })
     → IsLast new r → Tells first new more r × (is_last r ≡ true)
 tells_end first old now new more r s on good reads tail end last =
     let e : Ends (filled now []) new r = finishes (filled now []) new r now.cutter.kept refl (s.done ∙ on) refl tail end last in (
@@ -572,13 +570,13 @@ untold_off : (p : PacketsState) → p.done ≡ true → untold p ≡ []
 untold_off p e = rw e refl
 
 -- the end is told again
-again : (p : PacketsState) → p.done ≡ true → p.failed ≡ false → Tells p (record p { found = found.End; done = true }) [] run.End
+again : (p : PacketsState) → p.done ≡ true → p.failed ≡ false → Tells p (record p { found = Found.End; done = true }) [] run.End
 again p off good = record {
   count = omega arith;
   stands = λ bytes told s.
       let due = s.all off in
       let t = ends_none p bytes told due.0 (untold_off p off) due.1 s (own_tail s.place p.done p.cutter.kept off s.tail) in
-      (subst (λ x. PacketsStandFor (record p { found = found.End; done = true }) x (told ++ [])) (sym (append-nil bytes)) t.0, t.1);
+      (subst (λ x. PacketsStandFor (record p { found = Found.End; done = true }) x (told ++ [])) (sym (append-nil bytes)) t.0, t.1);
   all = λ _ bytes told s.
       let due = s.all off in
       (ends_none p bytes told due.0 (untold_off p off) due.1 s (own_tail s.place p.done p.cutter.kept off s.tail)).2 ∙ sym (append-nil bytes);
@@ -586,20 +584,20 @@ again p off good = record {
   good = good;
 }
 
-pub gives_again : (p : PacketsState) (rest : Option (List ℕ)) (r : Run) → p.done ≡ true → p.failed ≡ false → AtEnd rest → r ≡ run.End → GivesRun p (record p { found = found.End }) rest rest r
+pub gives_again : (p : PacketsState) (rest : Option (List ℕ)) (r : Run) → p.done ≡ true → p.failed ≡ false → AtEnd rest → r ≡ run.End → GivesRun p (record p { found = Found.End }) rest rest r
 gives_again p rest r off good end at =
-    let same : record p { found = found.End } ≡ record p { found = found.End; done = true } = ap (λ (d : Bool). record p { found = found.End; done = d }) off in
+    let same : record p { found = Found.End } ≡ record p { found = Found.End; done = true } = ap (λ (d : Bool). record p { found = Found.End; done = d }) off in
     rw (same, at) (record { more = []; taken = sym (preceded-nil rest); tells = again p off good; end = λ _. end })
 
 -- a read that gave none, and then the end
 pub gives_end : (first old now mid new : PacketsState) (more piece : List ℕ) (rest rest_mid rest_now : Option (List ℕ)) (r : Run) (s : Steps old now false) → old.done ≡ false → old.failed ≡ false → Reads first old more
     → rest ≡ preceded more rest_mid → rest_mid ≡ preceded piece rest_now → mid ≡ filled now piece → piece ≡ [] → AtEnd rest_now
-    → (mid.cutter.kept ≢ [] → new ≡ record mid { found = found.Tail; done = true }) → (mid.cutter.kept ≡ [] → new ≡ record mid { found = found.End; done = true })
+    → (mid.cutter.kept ≢ [] → new ≡ record mid { found = Found.Tail; done = true }) → (mid.cutter.kept ≡ [] → new ≡ record mid { found = Found.End; done = true })
     → IsLast new r → GivesRun first new rest rest_now r
 gives_end first old now mid new more piece rest rest_mid rest_now r s on good reads t u is none end tail no_tail last =
     let at : mid ≡ filled now [] = is ∙ ap (filled now) none in
-    let by_tail : now.cutter.kept ≢ [] → new ≡ record (filled now []) { found = found.Tail; done = true } = subst (λ (m : PacketsState). m.cutter.kept ≢ [] → new ≡ record m { found = found.Tail; done = true }) at tail in
-    let by_none : now.cutter.kept ≡ [] → new ≡ record (filled now []) { found = found.End; done = true } = subst (λ (m : PacketsState). m.cutter.kept ≡ [] → new ≡ record m { found = found.End; done = true }) at no_tail in
+    let by_tail : now.cutter.kept ≢ [] → new ≡ record (filled now []) { found = Found.Tail; done = true } = subst (λ (m : PacketsState). m.cutter.kept ≢ [] → new ≡ record m { found = Found.Tail; done = true }) at tail in
+    let by_none : now.cutter.kept ≡ [] → new ≡ record (filled now []) { found = Found.End; done = true } = subst (λ (m : PacketsState). m.cutter.kept ≡ [] → new ≡ record m { found = Found.End; done = true }) at no_tail in
     record {
       more = more;
       taken = t ∙ ap (preceded more) (u ∙ ap (λ (p : List ℕ). preceded p rest_now) none ∙ preceded-nil rest_now);
@@ -654,10 +652,10 @@ begins first old rest new n e f h =
     ap (take (length first)) all ∙ take_at first rest (length first) refl
 
 -- a cutter that took no byte is searching
-pub searches : (c : CutterState) → CutterStandsFor c [] [] (Searching []) → c.mode ≡ mode.Searching
+pub searches : (c : CutterState) → CutterStandsFor c [] [] (Searching []) → c.mode ≡ Mode.Searching
 searches c s = by_mode c.mode s.at
   where
-    by_mode : (m : Mode) → AtPlace c m (Searching []) → m ≡ mode.Searching
-    by_mode mode.Searching a = refl
-    by_mode mode.Due a = absurd a
-    by_mode mode.Synced a = absurd a
+    by_mode : (m : Mode) → AtPlace c m (Searching []) → m ≡ Mode.Searching
+    by_mode Mode.Searching a = refl
+    by_mode Mode.Due a = absurd a
+    by_mode Mode.Synced a = absurd a

@@ -2,6 +2,8 @@
 use Rattle.std.specs.Prelude.{◌≡◌, ℕ, ◌+◌, ◌*◌, ◌<◌, ◌≤◌, List, [], ◌++◌, length, take, drop, Some}
 use Rattle.std.specs.Borrow.{Bor}
 use Rattle.x7_words.specs.Word.{bytes_of_word}
+use Rattle.x7_regs.specs.Register.{number_of}
+use Rattle.x7_regs.specs.declared.register.Reg.TheVariants.{Cmd}
 use Rattle.x7_packets.specs.Cutting.{CutterState, CutterStandsFor, Went}
 use Rattle.x7_packets.specs.Taking.{MachineState}
 use Rattle.x7_packets.specs.Reading.{Place, Session}
@@ -44,7 +46,7 @@ in_short register count = record { due = count; register = register; latest = So
 pub record WritesFew (old new : CutterState) (rest : List ℕ) (register count : ℕ) : Type 0 where
   pub between : CutterState
   pub range : register < 32
-  pub other : register ≡ 4 → ⊥
+  pub other : register ≡ number_of Cmd → ⊥
   pub some : 0 < count
   pub few : count ≤ 16
   pub long : 68 ≤ length rest

@@ -2,6 +2,8 @@
 use Rattle.std.specs.Prelude.{◌≡◌, ℕ, ◌+◌, ◌*◌, ◌-◌, ◌/◌, ◌<◌, ◌==◌, List, [], ◌∷◌, ◌++◌, length, min, true, false, ◌⊎◌, take, drop, ◌↔◌, if◌then◌else◌}
 use Rattle.std.specs.List.{flat_map}
 use Rattle.x7_words.specs.Word.{bytes_of_word, words_of_bytes}
+use Rattle.x7_regs.specs.Register.{number_of}
+use Rattle.x7_regs.specs.declared.register.Reg.TheVariants.{Cmd}
 use Rattle.x7_packets.specs.SyncWord.{sync_bytes}
 use Rattle.x7_packets.specs.Matching.{LastThree, MatcherStandsFor}
 use Rattle.x7_packets.specs.Packet.{Packet, stepped, ended, payload_steps}
@@ -9,8 +11,7 @@ use Rattle.x7_packets.specs.Taking.{ends_by, MachineState, MachineStandsFor}
 use Rattle.x7_packets.specs.Reading.{Place, Searching, Synced, Session, IsReading}
 use Rattle.x7_packets.specs.declared.header.Step.{Step}
 use Rattle.x7_packets.specs.declared.header.Step.TheVariants.{Payload}
-use Rattle.x7_packets.specs.declared.cutter.Mode.{Mode}
-use Rattle.x7_packets.specs.declared.cutter.Mode.TheVariants as mode
+use Rattle.x7_packets.specs.Mode.{Mode}
 use Rattle.x7_packets.specs.declared.cutter.Cut.{Cut}
 use Rattle.x7_packets.specs.declared.cutter.Cut.TheVariants.{Need, Skip, Sync, Head, Word, Body}
 
@@ -23,12 +24,12 @@ pub record CutterState : Type 0 where
 
 -- the cutter's parts are those of the place
 abbrev pub AtPlace : CutterState → Mode → Place → Type 0
-AtPlace c mode.Searching (Searching gap) = MatcherStandsFor c.matcher gap × MachineStandsFor c.machine []
-AtPlace c mode.Due (Synced gap packets tail) = (packets ≡ []) × (tail ≡ []) × MachineStandsFor c.machine []
-AtPlace c mode.Synced (Synced gap packets tail) = MachineStandsFor c.machine packets × (tail ≡ c.kept)
-AtPlace c mode.Searching (Synced gap packets tail) = ⊥
-AtPlace c mode.Due (Searching gap) = ⊥
-AtPlace c mode.Synced (Searching gap) = ⊥
+AtPlace c Mode.Searching (Searching gap) = MatcherStandsFor c.matcher gap × MachineStandsFor c.machine []
+AtPlace c Mode.Due (Synced gap packets tail) = (packets ≡ []) × (tail ≡ []) × MachineStandsFor c.machine []
+AtPlace c Mode.Synced (Synced gap packets tail) = MachineStandsFor c.machine packets × (tail ≡ c.kept)
+AtPlace c Mode.Searching (Synced gap packets tail) = ⊥
+AtPlace c Mode.Due (Searching gap) = ⊥
+AtPlace c Mode.Synced (Searching gap) = ⊥
 
 -- the cutter took these bytes, and this is their reading
 pub record CutterStandsFor (c : CutterState) (bytes : List ℕ) (sessions : List Session) (place : Place) : Type 0 where
@@ -80,33 +81,33 @@ Adds (Body register bytes) sessions (Synced gap packets tail) new_sessions new =
 
 -- how a run goes with what the cutter is at before and after it: the sync word is due just after it came, and told at once
 abbrev pub Turns : Cut → Mode → Mode → Place → Type 0
-Turns Need old new place = (old ≡ mode.Due → ⊥) × (new ≡ mode.Due → ⊥)
+Turns Need old new place = (old ≡ Mode.Due → ⊥) × (new ≡ Mode.Due → ⊥)
 Turns (Skip bytes) old new (Searching gap) = Unit {0}
-Turns (Skip bytes) old new (Synced gap packets tail) = new ≡ mode.Due
-Turns Sync old new place = (old ≡ mode.Due) × (new ≡ mode.Due → ⊥)
-Turns (Head w step) old new place = (old ≡ mode.Due → ⊥) × (new ≡ mode.Due → ⊥)
-Turns (Word register w) old new place = (old ≡ mode.Due → ⊥) × (new ≡ mode.Due → ⊥)
-Turns (Body register bytes) old new place = (old ≡ mode.Due → ⊥) × (new ≡ mode.Due → ⊥)
+Turns (Skip bytes) old new (Synced gap packets tail) = new ≡ Mode.Due
+Turns Sync old new place = (old ≡ Mode.Due) × (new ≡ Mode.Due → ⊥)
+Turns (Head w step) old new place = (old ≡ Mode.Due → ⊥) × (new ≡ Mode.Due → ⊥)
+Turns (Word register w) old new place = (old ≡ Mode.Due → ⊥) × (new ≡ Mode.Due → ⊥)
+Turns (Body register bytes) old new place = (old ≡ Mode.Due → ⊥) × (new ≡ Mode.Due → ⊥)
 
 -- what a run is apart from the reading: a header's step is no payload, a register has a number below 32, and a lent slice has whole words, one where the register is CMD
 abbrev pub IsRun : Cut → Type 0
 IsRun (Head w (Payload register x)) = ⊥
 IsRun (Word register w) = register < 32
-IsRun (Body register bytes) = (register < 32) × (0 < length bytes.now) × (length bytes.now ≡ 4 * (length bytes.now / 4)) × (register ≡ 4 → length bytes.now ≡ 4)
+IsRun (Body register bytes) = (register < 32) × (0 < length bytes.now) × (length bytes.now ≡ 4 * (length bytes.now / 4)) × (register ≡ number_of Cmd → length bytes.now ≡ 4)
 IsRun (Skip bytes) = 0 < length bytes.now
 IsRun _ = Unit {0}
 
 -- where no byte is kept, a payload's whole words that lie in the piece are lent at once, all of one packet (one word of CMD); a word whose bytes lie in two pieces comes by itself
 abbrev pub IsLent : CutterState → ℕ → Cut → Type 0
 IsLent c left (Word register w) = 0 < length c.kept
-IsLent c left (Body register bytes) = (c.kept ≡ []) × (length bytes.now ≡ 4 * min (min c.machine.due (left / 4)) (if register == 4 then 1 else left / 4))
+IsLent c left (Body register bytes) = (c.kept ≡ []) × (length bytes.now ≡ 4 * min (min c.machine.due (left / 4)) (if register == number_of Cmd then 1 else left / 4))
 IsLent c left _ = Unit {0}
 
 -- bytes that complete no run, after those that are kept
 abbrev pub CompletesNone : CutterState → Mode → ℕ → Type 0
-CompletesNone c mode.Searching left = left ≡ 0
-CompletesNone c mode.Due left = ⊥
-CompletesNone c mode.Synced left = length c.kept + left < 4
+CompletesNone c Mode.Searching left = left ≡ 0
+CompletesNone c Mode.Due left = ⊥
+CompletesNone c Mode.Synced left = length c.kept + left < 4
 
 abbrev pub IsNeed : Cut → Type 0
 IsNeed Need = Unit {0}
@@ -114,9 +115,9 @@ IsNeed _ = ⊥
 
 -- no byte is kept but in a session
 abbrev pub KeepsNone : Mode → Type 0
-KeepsNone mode.Searching = Unit {0}
-KeepsNone mode.Due = Unit {0}
-KeepsNone mode.Synced = ⊥
+KeepsNone Mode.Searching = Unit {0}
+KeepsNone Mode.Due = Unit {0}
+KeepsNone Mode.Synced = ⊥
 
 -- one word of a session: a header's, or one of a payload of which words are due
 abbrev pub IsOneWord : ℕ → Cut → Type 0
@@ -131,7 +132,7 @@ IsBody register body _ = ⊥
 
 -- 1 where a sync word is still to be told
 abbrev pub syncs_due : Mode → ℕ
-syncs_due mode.Due = 1
+syncs_due Mode.Due = 1
 syncs_due _ = 0
 
 -- how many calls there are at most until a piece is used up, of which this many bytes are left

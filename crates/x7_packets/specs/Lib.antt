@@ -1,3 +1,5 @@
+pub mod Found
+pub mod Mode
 pub mod ByHand
 pub mod Cutting
 pub mod Examples

@@ -3,6 +3,10 @@
 use Rattle.std.specs.Prelude.{◌≡◌, ℕ, ◌/◌, ◌%◌, ◌^◌, ◌≤◌, ◌==◌, ◌||◌, ◌&&◌, Bool, false, if◌then◌else◌, List, [], ◌∷◌, length, map, Option, None, Some}
 use Rattle.std.specs.List.{flat_map}
 use Rattle.x7_words.specs.Word.{AreWords, field_of}
+use Rattle.x7_regs.specs.Register.{number_of}
+use Rattle.x7_regs.specs.Command.{code_of}
+use Rattle.x7_regs.specs.declared.register.Reg.TheVariants.{Cmd}
+use Rattle.x7_regs.specs.declared.command.Command.TheVariants.{Desync}
 use Rattle.x7_packets.specs.declared.header.Step.{Step}
 use Rattle.x7_packets.specs.declared.header.Step.TheVariants.{Filler, Nop, Open, Payload, Read, Bad}
 
@@ -70,9 +74,9 @@ abbrev pub latest_of : Option ℕ → List Packet → Option ℕ
 latest_of latest [] = latest
 latest_of latest (p ∷ ps) = latest_of (latest_after latest p.step) ps
 
--- DESYNC written to CMD: the register is 4, and the low five bits are 13
+-- DESYNC written to CMD, by its low five bits
 abbrev pub ends_session : ℕ → ℕ → Bool
-ends_session register w = register == 4 && w % 2 ^ 5 == 13
+ends_session register w = register == number_of Cmd && w % 2 ^ 5 == code_of Desync
 
 -- no word of them ends the session
 abbrev pub NoneEnds : ℕ → List ℕ → Type 0

@@ -4,7 +4,7 @@ use Rattle.x7_packets.specs.Reading.{Place, Searching, Synced, Session, IsReadin
 use Rattle.x7_packets.specs.Cutting.{Adds, IsRun, Turns, run_bytes}
 use Rattle.x7_packets.specs.declared.cutter.Cut.{Cut}
 use Rattle.x7_packets.specs.declared.cutter.Cut.TheVariants as cut
-use Rattle.x7_packets.specs.declared.cutter.Mode.{Mode}
+use Rattle.x7_packets.specs.Mode.{Mode}
 use Rattle.x7_packets.specs.declared.stream.Run.{Run}
 use Rattle.x7_packets.specs.declared.stream.Run.TheVariants as run
 

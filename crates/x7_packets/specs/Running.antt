@@ -8,10 +8,8 @@ use Rattle.x7_packets.specs.Reading.{Place, Searching, Synced, Session, IsReadin
 use Rattle.x7_packets.specs.Cutting.{CutterStandsFor, Cuts, IsNeed}
 use Rattle.x7_packets.specs.declared.cutter.Cut.{Cut}
 use Rattle.x7_packets.specs.declared.cutter.Cut.TheVariants as cut
-use Rattle.x7_packets.specs.declared.cutter.Mode.{Mode}
-use Rattle.x7_packets.specs.declared.cutter.Mode.TheVariants as mode
-use Rattle.x7_packets.specs.declared.stream.Found.{Found}
-use Rattle.x7_packets.specs.declared.stream.Found.TheVariants as found
+use Rattle.x7_packets.specs.Mode.{Mode}
+use Rattle.x7_packets.specs.Found.{Found}
 use Rattle.x7_packets.specs.declared.stream.Run.{Run}
 use Rattle.x7_packets.specs.declared.stream.Run.TheVariants as run
 use Rattle.x7_packets.specs.contracts.stream.Packets.{the_row}
@@ -36,27 +34,27 @@ pub record PacketsStandFor (p : PacketsState) (bytes told : List ℕ) : Type 0 w
   pub tail : tail_of place ≡ (if p.done then p.cutter.kept else [])
   pub cutter : CutterStandsFor p.cutter (told ++ untold p) sessions (with_tail p.cutter.kept place)
   pub kept : p.cutter.kept ≡ tail_of (with_tail p.cutter.kept place)
-  pub all : p.done ≡ true → (p.left ≡ []) × (p.cutter.mode ≡ mode.Due → ⊥)
+  pub all : p.done ≡ true → (p.left ≡ []) × (p.cutter.mode ≡ Mode.Due → ⊥)
   pub count : p.taken ≡ length bytes
 
 -- what a run is that was cut
 abbrev pub IsFound : Found → Cut → Type 0
-IsFound found.Skip c = (bytes : Bor (List ℕ)) × (c ≡ cut.Skip bytes)
-IsFound found.Sync c = c ≡ cut.Sync
-IsFound (found.Head w step) c = c ≡ cut.Head w step
-IsFound (found.Word register w) c = c ≡ cut.Word register w
-IsFound (found.Body register) c = (bytes : Bor (List ℕ)) × (c ≡ cut.Body register bytes)
+IsFound Found.Skip c = (bytes : Bor (List ℕ)) × (c ≡ cut.Skip bytes)
+IsFound Found.Sync c = c ≡ cut.Sync
+IsFound (Found.Head w step) c = c ≡ cut.Head w step
+IsFound (Found.Word register w) c = c ≡ cut.Word register w
+IsFound (Found.Body register) c = (bytes : Bor (List ℕ)) × (c ≡ cut.Body register bytes)
 IsFound f c = ⊥
 
 -- the run that was found, where these are its bytes in the buffer, and these the ones that the cutter keeps
 abbrev pub IsRunOf : Found → List ℕ → List ℕ → Run → Type 0
-IsRunOf found.Skip bytes kept r = (lent : Bor (List ℕ)) × (r ≡ run.Skip lent) × (lent.now ≡ bytes)
-IsRunOf found.Sync bytes kept r = r ≡ run.Sync
-IsRunOf (found.Head w step) bytes kept r = r ≡ run.Head w step
-IsRunOf (found.Word register w) bytes kept r = r ≡ run.Word register w
-IsRunOf (found.Body register) bytes kept r = (lent : Bor (List ℕ)) × (r ≡ run.Body register lent) × (lent.now ≡ bytes)
-IsRunOf found.Tail bytes kept r = (lent : Bor (List ℕ)) × (r ≡ run.Tail lent) × (lent.now ≡ kept)
-IsRunOf found.End bytes kept r = r ≡ run.End
+IsRunOf Found.Skip bytes kept r = (lent : Bor (List ℕ)) × (r ≡ run.Skip lent) × (lent.now ≡ bytes)
+IsRunOf Found.Sync bytes kept r = r ≡ run.Sync
+IsRunOf (Found.Head w step) bytes kept r = r ≡ run.Head w step
+IsRunOf (Found.Word register w) bytes kept r = r ≡ run.Word register w
+IsRunOf (Found.Body register) bytes kept r = (lent : Bor (List ℕ)) × (r ≡ run.Body register lent) × (lent.now ≡ bytes)
+IsRunOf Found.Tail bytes kept r = (lent : Bor (List ℕ)) × (r ≡ run.Tail lent) × (lent.now ≡ kept)
+IsRunOf Found.End bytes kept r = r ≡ run.End
 
 -- the run is the last one that was found
 abbrev pub IsLast : PacketsState → Run → Type 0
@@ -95,7 +93,7 @@ pub record Fills (old new : PacketsState) (rest rest_now : Option (List ℕ)) (a
 
 -- a sync word is due to be told in both, or in neither
 abbrev pub SameDue : Mode → Mode → Type 0
-SameDue old new = (old ≡ mode.Due) ↔ (new ≡ mode.Due)
+SameDue old new = (old ≡ Mode.Due) ↔ (new ≡ Mode.Due)
 
 -- the reader took more bytes of the input, and told none
 pub record Reads (old new : PacketsState) (more : List ℕ) : Type 0 where

@@ -1,11 +1,15 @@
 -- What the running check is over: the writes since it was last cleared (UG470, cyclic redundancy check).
 -- That a write to LOUT is left out is this project's choice.
 use Rattle.std.specs.Prelude.{ℕ, ◌==◌, ◌||◌, Bool, if◌then◌else◌, List, [], ◌∷◌}
+use Rattle.x7_regs.specs.Register.{number_of}
+use Rattle.x7_regs.specs.Command.{code_of}
+use Rattle.x7_regs.specs.declared.register.Reg.TheVariants.{Crc, Lout}
+use Rattle.x7_regs.specs.declared.command.Command.TheVariants.{Rcrc}
 use Rattle.x7_packets.specs.History.{Access, Write, History, writes, executes}
 
 -- the access clears the running check: it executes RCRC, or writes CRC
 abbrev pub clears : History → Access → Bool
-clears h access = executes 7 h access || writes 0 access
+clears h access = executes (code_of Rcrc) h access || writes (number_of Crc) access
 
 -- a word written, and its register
 pub record RegisterWrite : Type 0 where
@@ -14,7 +18,7 @@ pub record RegisterWrite : Type 0 where
 
 -- writes with that of one access more; LOUT is left out
 abbrev pub with_write : Access → List RegisterWrite → List RegisterWrite
-with_write (Write r w) writes = if r == 8 then writes else record { register = r; word = w } ∷ writes
+with_write (Write r w) writes = if r == number_of Lout then writes else record { register = r; word = w } ∷ writes
 with_write _ writes = writes
 
 -- the writes since the last clearing access, the newest first

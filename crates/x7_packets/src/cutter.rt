@@ -1,12 +1,14 @@
 //! A stream cut into its parts, in whatever pieces it comes.
 ghost use Rattle.std.specs.Prelude.{◌≡◌, ℕ, List, [], ◌∷◌, ◌++◌, ◌≤◌, ◌<◌, ◌+◌, ◌-◌, ◌*◌, ◌/◌, ◌%◌, ◌^◌, ◌↔◌, IfNone, IfSome, IsTrue, take, length, if◌then◌else◌};
 ghost use Rattle.x7_words.specs.Word.{bytes_of_word};
+ghost use Rattle.x7_regs.specs.Register.{number_of};
+ghost use Rattle.x7_regs.specs.declared.register.Reg.TheVariants.{Cmd};
 ghost use Rattle.x7_packets.specs.AtOnce.{EndsGap, Takes, WritesFew, WritesOne};
 ghost use Rattle.x7_packets.specs.Cutting.{between, calls_left, CompletesNone, Cuts, CutterStandsFor, Goes, IsBody, IsLent, IsNeed, IsOneWord, IsRun, run_bytes, syncs_due, Went};
 ghost use Rattle.x7_packets.specs.Matching.{IsClear};
 ghost use Rattle.x7_packets.specs.Nops.{Idles, equal_bytes, nop_bytes, nop_word};
 ghost use Rattle.x7_packets.specs.Reading.{is_synced, Place, Session, tail_of};
-ghost use Rattle.x7_packets.specs.declared.cutter.Mode.TheVariants as mode;
+ghost use Rattle.x7_packets.specs.Mode.{Mode, mode_of};
 
 mod copied;
 
@@ -15,11 +17,12 @@ use crate::machine::Machine;
 use crate::nops::count_equal;
 use crate::sync::{Matcher, near_sync};
 use std::marker::Model;
+use x7_regs::Reg;
 use x7_words::word_of;
 
 /// What a cutter is at.
-#[derive(Clone, Copy, Debug, PartialEq, Eq)]
-pub(crate) enum Mode {
+#[derive(Clone, Copy)]
+pub(crate) enum Stage {
     /// In a gap.
     Searching,
     /// Just behind a sync word that is still to be told.
@@ -80,16 +83,16 @@ const LONGEST_WRITE: usize = 68;
 const LONGEST_GAP: usize = 36;
 
 /// What a cutter is at behind a word.
-fn after_word(ended: bool) -> Mode
-    ensures { result ≡ (if ended then mode.Searching else mode.Synced) }
+fn after_word(ended: bool) -> Stage
+    ensures { mode_of result ≡ (if ended then Mode.Searching else Mode.Synced) }
 {
-    if ended { Mode::Searching } else { Mode::Synced }
+    if ended { Stage::Searching } else { Stage::Synced }
 }
 
 /// Cuts a stream, and lends what it can of the caller's pieces.
 #[derive(Drop)]
 pub struct Cutter {
-    mode: Mode,
+    stage: Stage,
     matcher: Matcher,
     machine: Machine,
     kept: [u8; 3],
@@ -99,12 +102,13 @@ pub struct Cutter {
 impl Model for Cutter {
     ghost use Rattle.std.specs.Prelude.{◌≡◌, ◌≤◌, take};
     ghost use Rattle.x7_packets.specs.Cutting.{CutterState, KeepsNone};
+    ghost use Rattle.x7_packets.specs.Mode.{mode_of};
 
     ghost Value = { CutterState };
 
-    ghost view = { λ c. record { mode = c.mode; matcher = c.matcher; machine = c.machine; kept = take c.count c.kept } };
+    ghost view = { λ c. record { mode = mode_of c.stage; matcher = c.matcher; machine = c.machine; kept = take c.count c.kept } };
 
-    ghost invariant = { λ c. (c.count ≤ 3) × (KeepsNone c.mode → c.count ≡ 0) };
+    ghost invariant = { λ c. (c.count ≤ 3) × (KeepsNone (mode_of c.stage) → c.count ≡ 0) };
 }
 
 impl Cutter {
@@ -113,7 +117,7 @@ impl Cutter {
         ensures { CutterStandsFor result [] [] (Place.Searching []) }
     {
         Cutter {
-            mode: Mode::Searching,
+            stage: Stage::Searching,
             matcher: Matcher::new(),
             machine: Machine::new(),
             kept: [0; 3],
@@ -135,16 +139,16 @@ impl Cutter {
     pub(crate) fn keeps_the_tail(&self)
         ensures { (bytes : List ℕ) (sessions : List Session) (place : Place) → CutterStandsFor self.now bytes sessions place → self.now.kept ≡ tail_of place }
     {
-        let _ = &self.mode;
+        let _ = &self.stage;
     }
 
     /// Whether the bytes taken end in a session. It begins just behind its sync word, before that is told.
     pub fn is_synced(&self) -> bool
         ensures synced { (bytes : List ℕ) (sessions : List Session) (place : Place) → CutterStandsFor self.now bytes sessions place → result ≡ is_synced place }
     {
-        match self.mode {
-            Mode::Searching => false,
-            Mode::Due | Mode::Synced => true,
+        match self.stage {
+            Stage::Searching => false,
+            Stage::Due | Stage::Synced => true,
         }
     }
 
@@ -209,7 +213,7 @@ impl Cutter {
         if head != 0x3000_0001 + 8192 * u32::from(register) {
             return None;
         }
-        self.mode = after_word(self.machine.pass_write(register, w));
+        self.stage = after_word(self.machine.pass_write(register, w));
         self.matcher = Matcher::new();
         Some((register, w))
     }
@@ -233,7 +237,7 @@ impl Cutter {
         if head != 0x3000_0000 + 8192 * u32::from(register) + count {
             return None;
         }
-        if register == 4 {
+        if register == Reg::Cmd.number() {
             return None;
         }
         if count == 0 {
@@ -263,32 +267,32 @@ impl Cutter {
         let Some(count) = near_sync(rest) else {
             return None;
         };
-        self.mode = Mode::Synced;
+        self.stage = Stage::Synced;
         Some(count)
     }
 
     /// Whether the next byte stands in a gap, of which no byte that may begin a sync word was taken last.
     #[inline(always)]
     fn is_in_clear_gap(&self) -> bool
-        ensures mode { IsTrue result → self.now.mode ≡ mode.Searching }
+        ensures mode { IsTrue result → self.now.mode ≡ Mode.Searching }
         ensures clear { IsTrue result → IsClear self.now.matcher }
     {
-        if self.mode != Mode::Searching {
+        let Stage::Searching = self.stage else {
             return false;
-        }
+        };
         self.matcher.is_clear()
     }
 
     /// Whether the next byte begins a word in a header's place.
     #[inline(always)]
     fn is_at_header(&self) -> bool
-        ensures mode { IsTrue result → self.now.mode ≡ mode.Synced }
+        ensures mode { IsTrue result → self.now.mode ≡ Mode.Synced }
         ensures kept { IsTrue result → self.now.kept ≡ [] }
         ensures due { IsTrue result → self.now.machine.due ≡ 0 }
     {
-        if self.mode != Mode::Synced {
+        let Stage::Synced = self.stage else {
             return false;
-        }
+        };
         if self.count != 0 {
             return false;
         }
@@ -310,20 +314,20 @@ impl Cutter {
             → Went self.old self.new (bytes ++ between piece.now at.old at.new) sessions place result }
     {
         let rest = &piece[*at..];
-        match self.mode {
-            Mode::Searching => self.skip(rest, at),
-            Mode::Due => {
-                self.mode = Mode::Synced;
+        match self.stage {
+            Stage::Searching => self.skip(rest, at),
+            Stage::Due => {
+                self.stage = Stage::Synced;
                 Cut::Sync
             }
-            Mode::Synced => self.take(rest, at),
+            Stage::Synced => self.take(rest, at),
         }
     }
 
     /// Takes bytes of a gap, up to and with a sync word.
     #[inline(never)]
     fn skip<'p>(&mut self, rest: &'p [u8], at: &mut usize) -> Cut<'p>
-        requires searching { self.old.mode ≡ mode.Searching }
+        requires searching { self.old.mode ≡ Mode.Searching }
         requires fits { at.old + length rest.now < 2 ^ 64 }
         ensures forward { at.old ≤ at.new }
         ensures within { at.new ≤ at.old + length rest.now }
@@ -334,7 +338,7 @@ impl Cutter {
         }
         let count = match self.matcher.search(rest) {
             Some(count) => {
-                self.mode = Mode::Due;
+                self.stage = Stage::Due;
                 count
             }
             None => rest.len(),
@@ -346,7 +350,7 @@ impl Cutter {
     /// Takes words of a session.
     #[inline(always)]
     fn take<'p>(&mut self, rest: &'p [u8], at: &mut usize) -> Cut<'p>
-        requires synced { self.old.mode ≡ mode.Synced }
+        requires synced { self.old.mode ≡ Mode.Synced }
         requires fits { at.old + length rest.now < 2 ^ 64 }
         ensures forward { at.old ≤ at.new }
         ensures within { at.new ≤ at.old + length rest.now }
@@ -372,7 +376,7 @@ impl Cutter {
     /// Keeps bytes that complete no word.
     #[inline(never)]
     fn hold(&mut self, rest: &[u8])
-        requires synced { self.old.mode ≡ mode.Synced }
+        requires synced { self.old.mode ≡ Mode.Synced }
         requires few { length self.old.kept + length rest.now < 4 }
         ensures same { self.new ≡ record self.old { kept = self.old.kept ++ rest.now } }
         ensures adds { (bytes : List ℕ) (sessions : List Session) (place : Place) → CutterStandsFor self.old bytes sessions place
@@ -384,7 +388,7 @@ impl Cutter {
     /// Takes one word, of the bytes that are kept and those that it lacks.
     #[inline(always)]
     fn word<'p>(&mut self, missing: &[u8]) -> Cut<'p>
-        requires synced { self.old.mode ≡ mode.Synced }
+        requires synced { self.old.mode ≡ Mode.Synced }
         requires whole { length self.old.kept + length missing.now ≡ 4 }
         ensures word { IsOneWord self.old.machine.due result }
         ensures told { syncs_due self.new.mode ≡ 0 }
@@ -397,7 +401,7 @@ impl Cutter {
         let w = whole(&self.kept, self.count, missing);
         let step = self.machine.take(w);
         self.count = 0;
-        self.mode = after_word(step.is_end());
+        self.stage = after_word(step.is_end());
         self.matcher = Matcher::new();
         match step {
             Step::Payload(register, _) => Cut::Word(register, w),
@@ -408,12 +412,12 @@ impl Cutter {
     /// Lends payload words of one packet.
     #[inline(always)]
     fn lend<'p>(&mut self, body: &'p [u8]) -> Cut<'p>
-        requires synced { self.old.mode ≡ mode.Synced }
+        requires synced { self.old.mode ≡ Mode.Synced }
         requires none_kept { self.old.kept ≡ [] }
         requires whole { length body.now ≡ 4 * (length body.now / 4) }
         requires some { 0 < length body.now }
         requires due { length body.now / 4 ≤ self.old.machine.due }
-        requires one { self.old.machine.register ≡ 4 → length body.now ≡ 4 }
+        requires one { self.old.machine.register ≡ number_of Cmd → length body.now ≡ 4 }
         ensures body { IsBody self.old.machine.register body.now result }
         ensures told { syncs_due self.new.mode ≡ 0 }
         ensures none_kept { self.new.kept ≡ [] }
@@ -423,7 +427,7 @@ impl Cutter {
     {
         let register = self.machine.register();
         let ended = self.machine.pass(body);
-        self.mode = after_word(ended);
+        self.stage = after_word(ended);
         self.matcher = Matcher::new();
         Cut::Body(register, body)
     }

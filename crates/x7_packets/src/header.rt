@@ -4,6 +4,8 @@ ghost use Rattle.std.specs.Option.{ForSome};
 ghost use Rattle.x7_packets.specs.Packet.{ends_session, meaning};
 ghost use Rattle.x7_packets.specs.Taking.{is_end};
 
+use x7_regs::{Command, Reg};
+
 /// What a word of a session is, by its place among the packets.
 #[derive(Clone, Copy, Debug, PartialEq, Eq)]
 pub enum Step {
@@ -47,7 +49,7 @@ pub(crate) fn header(latest: Option<u8>, w: u32) -> Step
 pub(crate) fn is_desync(register: u8, w: u32) -> bool
     ensures { result ≡ ends_session register w }
 {
-    register == 4 && w & 31 == 13
+    register == Reg::Cmd.number() && w & 31 == Command::Desync.code()
 }
 
 impl Step {

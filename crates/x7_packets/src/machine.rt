@@ -1,12 +1,15 @@
 //! The words of a session as packets (UG470, packet types).
 ghost use Rattle.std.specs.Prelude.{◌≡◌, ℕ, List, [], ◌∷◌, ◌++◌, ◌≤◌, ◌<◌, ◌*◌, ◌/◌, ◌^◌, ◌==◌, length, min, if◌then◌else◌};
 ghost use Rattle.x7_words.specs.Word.{AreWords, words_of_bytes};
+ghost use Rattle.x7_regs.specs.Register.{number_of};
+ghost use Rattle.x7_regs.specs.declared.register.Reg.TheVariants.{Cmd};
 ghost use Rattle.x7_packets.specs.AtOnce.{in_short, in_write, short_head, write_head};
 ghost use Rattle.x7_packets.specs.Packet.{Packet, ends_session, payload_steps};
 ghost use Rattle.x7_packets.specs.Taking.{ends_by, Grows, MachineStandsFor};
 
 use crate::header::{Step, header, is_desync};
 use std::marker::Model;
+use x7_regs::Reg;
 use x7_words::word_of;
 
 /// Takes the words of a session, and says what each is.
@@ -82,10 +85,10 @@ impl Machine {
     /// How many payload words of the open packet may be taken at once, at most `most`: one of CMD, since it may end the session.
     #[inline(always)]
     pub(crate) fn payload_words(&self, most: usize) -> usize
-        ensures { result ≡ min (min self.now.due most) (if self.now.register == 4 then 1 else most) }
+        ensures { result ≡ min (min self.now.due most) (if self.now.register == number_of Cmd then 1 else most) }
     {
         let words = (self.due as usize).min(most);
-        words.min(if self.register == 4 { 1 } else { most })
+        words.min(if self.register == Reg::Cmd.number() { 1 } else { most })
     }
 
     /// Takes payload words of the open packet at once, and says whether the last one ends the session.
@@ -94,12 +97,12 @@ impl Machine {
         requires whole { length body.now ≡ 4 * (length body.now / 4) }
         requires some { 0 < length body.now }
         requires due { length body.now / 4 ≤ self.old.due }
-        requires one { self.old.register ≡ 4 → length body.now ≡ 4 }
+        requires one { self.old.register ≡ number_of Cmd → length body.now ≡ 4 }
         ensures ends { result ≡ ends_by (payload_steps self.old.register (words_of_bytes body.now)) }
         ensures register { self.old.register < 32 }
         ensures grows { (ps : List Packet) → MachineStandsFor self.old ps → Grows ps (payload_steps self.old.register (words_of_bytes body.now)) self.new }
     {
-        if self.register == 4 {
+        if self.register == Reg::Cmd.number() {
             return self
                 .take(word_of([body[0], body[1], body[2], body[3]]))
                 .is_end();
@@ -131,7 +134,7 @@ impl Machine {
     pub(crate) fn pass_words(&mut self, register: u8)
         requires at_header { self.old.due ≡ 0 }
         requires range { register < 32 }
-        requires other { register ≡ 4 → ⊥ }
+        requires other { register ≡ number_of Cmd → ⊥ }
         ensures head { (ps : List Packet) (count : ℕ) → 0 < count → count < 2 ^ 11 → MachineStandsFor self.old ps
             → Grows ps ((short_head register count, Step.Open register count) ∷ []) (in_short register count) }
         ensures words { (ps : List Packet) (ws : List ℕ) → AreWords ws → 0 < length ws → MachineStandsFor (in_short register (length ws)) ps

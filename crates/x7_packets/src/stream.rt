@@ -2,7 +2,8 @@
 ghost use Rattle.std.specs.Prelude.{◌≡◌, ◌≢◌, ◌≤◌, ◌<◌, ◌+◌, ◌^◌, ◌⊎◌, ◌↔◌, ℕ, List, [], length, take, vec_len, true, false, IfNone, IfOk, IfSome, OnErr, OnOk};
 ghost use Rattle.x7_words.specs.Input.{AtEnd, Fails, Stays, preceded};
 ghost use Rattle.x7_packets.specs.Cutting.{IsNeed};
-ghost use Rattle.x7_packets.specs.declared.cutter.Mode.TheVariants as mode;
+ghost use Rattle.x7_packets.specs.Mode.{Mode};
+ghost use Rattle.x7_packets.specs.Found.{Found, found_of};
 ghost use Rattle.x7_packets.specs.PacketsState.{PacketsState};
 ghost use Rattle.x7_packets.specs.Running.{Fills, GivesRun, GivesUp, IsFound, IsLast, PacketsStandFor, Steps};
 
@@ -36,7 +37,7 @@ pub enum Run<'b> {
 
 /// What the last run is. The bytes that it lends stand in the buffer; those of the tail are the ones that the cutter keeps.
 #[derive(Clone, Copy)]
-pub(crate) enum Found {
+pub(crate) enum Last {
     Skip,
     Sync,
     Head(u32, Step),
@@ -47,17 +48,17 @@ pub(crate) enum Found {
 }
 
 /// What a run is that was cut; `None` where the piece was used up.
-fn found_of(cut: Cut) -> Option<Found>
-    ensures some { IfSome result (λ found. IsFound found cut.entry) }
+fn last_of(cut: Cut) -> Option<Last>
+    ensures some { IfSome result (λ last. IsFound (found_of last) cut.entry) }
     ensures none { IfNone result (IsNeed cut.entry) }
 {
     match cut {
         Cut::Need => None,
-        Cut::Skip(_) => Some(Found::Skip),
-        Cut::Sync => Some(Found::Sync),
-        Cut::Head(w, step) => Some(Found::Head(w, step)),
-        Cut::Word(register, w) => Some(Found::Word(register, w)),
-        Cut::Body(register, _) => Some(Found::Body(register)),
+        Cut::Skip(_) => Some(Last::Skip),
+        Cut::Sync => Some(Last::Sync),
+        Cut::Head(w, step) => Some(Last::Head(w, step)),
+        Cut::Word(register, w) => Some(Last::Word(register, w)),
+        Cut::Body(register, _) => Some(Last::Body(register)),
     }
 }
 
@@ -81,7 +82,7 @@ pub struct Packets {
     start: usize,
     at: usize,
     end: usize,
-    found: Found,
+    found: Last,
     done: bool,
     failed: bool,
     taken: u64,
@@ -90,11 +91,12 @@ pub struct Packets {
 impl Model for Packets {
     ghost use Rattle.std.specs.Prelude.{◌≡◌, ◌≤◌, vec_len};
     ghost use Rattle.x7_packets.specs.Cutting.{between};
+    ghost use Rattle.x7_packets.specs.Found.{found_of};
     ghost use Rattle.x7_packets.specs.PacketsState.{PacketsState};
 
     ghost Value = { PacketsState };
 
-    ghost view = { λ p. record { cutter = p.cutter; left = between p.buffer.items p.at p.end; found = p.found; bytes = between p.buffer.items p.start p.at; done = p.done; failed = p.failed; taken = p.taken } };
+    ghost view = { λ p. record { cutter = p.cutter; left = between p.buffer.items p.at p.end; found = found_of p.found; bytes = between p.buffer.items p.start p.at; done = p.done; failed = p.failed; taken = p.taken } };
 
     ghost invariant = { λ p. (p.start ≤ p.at) × (p.at ≤ p.end) × (p.end ≤ vec_len p.buffer) × (vec_len p.buffer ≡ 65536) };
 }
@@ -107,7 +109,7 @@ impl Packets {
     pub fn new(alloc: Global, first: &[u8]) -> Result<Packets, NoMemory>
         requires { length first.now ≤ 65536 }
         ensures ok { IfOk result (λ p. PacketsStandFor p first.now []) }
-        ensures fresh { IfOk result (λ p. (p.done ≡ false) × (p.failed ≡ false) × (p.cutter.mode ≡ mode.Searching)) }
+        ensures fresh { IfOk result (λ p. (p.done ≡ false) × (p.failed ≡ false) × (p.cutter.mode ≡ Mode.Searching)) }
     {
         let buffer = buffer_of(alloc, first)?;
         let cutter = Cutter::new();
@@ -118,7 +120,7 @@ impl Packets {
             start: 0,
             at: 0,
             end: first.len(),
-            found: Found::End,
+            found: Last::End,
             done: false,
             failed: false,
             taken: first.len() as u64,
@@ -167,7 +169,7 @@ impl Packets {
             return Err(Failed);
         }
         if self.done {
-            self.found = Found::End;
+            self.found = Last::End;
             return Ok(());
         }
         loop {
@@ -191,13 +193,13 @@ impl Packets {
     {
         let bytes = &self.buffer[self.start..self.at];
         match self.found {
-            Found::Skip => Run::Skip(bytes),
-            Found::Sync => Run::Sync,
-            Found::Head(w, step) => Run::Head(w, step),
-            Found::Word(register, w) => Run::Word(register, w),
-            Found::Body(register) => Run::Body(register, bytes),
-            Found::Tail => Run::Tail(self.cutter.kept()),
-            Found::End => Run::End,
+            Last::Skip => Run::Skip(bytes),
+            Last::Sync => Run::Sync,
+            Last::Head(w, step) => Run::Head(w, step),
+            Last::Word(register, w) => Run::Word(register, w),
+            Last::Body(register) => Run::Body(register, bytes),
+            Last::Tail => Run::Tail(self.cutter.kept()),
+            Last::End => Run::End,
         }
     }
 
@@ -206,7 +208,7 @@ impl Packets {
         ensures { Steps self.old self.new result }
     {
         let mut count = 0;
-        let found = found_of(self.cutter.cut(&self.buffer[self.at..self.end], &mut count));
+        let found = last_of(self.cutter.cut(&self.buffer[self.at..self.end], &mut count));
         self.cutter.keeps_the_tail();
         self.start = self.at;
         self.at += count;
@@ -253,9 +255,9 @@ impl Packets {
     {
         self.done = true;
         self.found = if self.cutter.kept().is_empty() {
-            Found::End
+            Last::End
         } else {
-            Found::Tail
+            Last::Tail
         };
     }
 }

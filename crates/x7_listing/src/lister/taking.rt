@@ -3,8 +3,7 @@ ghost use Rattle.std.specs.Prelude.{◌≡◌, ℕ, ◌+◌, ◌*◌, ◌≤◌,
 ghost use Rattle.x7_packets.specs.Cutting.{CutterState};
 ghost use Rattle.x7_packets.specs.Reading.{IsReading, Place, Session, tail_of};
 ghost use Rattle.x7_packets.specs.Run.{cut_of, FitsRun, IsNext, told_bytes};
-ghost use Rattle.x7_packets.specs.declared.cutter.Mode.{Mode};
-ghost use Rattle.x7_packets.specs.declared.cutter.Mode.TheVariants as mode;
+ghost use Rattle.x7_packets.specs.Mode.{Mode};
 ghost use Rattle.x7_listing.specs.Listing.{reading_text};
 ghost use Rattle.x7_listing.specs.Telling.{Told};
 ghost use Rattle.x7_listing.specs.Taking.{lister_of, TakerStandsFor, TakesRun};
@@ -69,7 +68,7 @@ fn tail_len(pen: Pen) -> usize
 fn put_last(text: &mut Vec<u8>, pen: Pen)
     requires room { vec_len text.old + 64 ≤ vec_capacity text.old }
     ensures told { (given before bytes : List ℕ) (sessions : List Session) (place : Place) (m : Mode) → Told pen.synced pen.line (take pen.count pen.held) (given ++ text.old.items) before sessions place m
-        → (m ≡ mode.Due → ⊥) → IsReading bytes sessions place → (pen.synced ≡ true → take pen.count pen.held ≡ tail_of place) → given ++ text.new.items ≡ before ++ reading_text sessions place }
+        → (m ≡ Mode.Due → ⊥) → IsReading bytes sessions place → (pen.synced ≡ true → take pen.count pen.held ≡ tail_of place) → given ++ text.new.items ≡ before ++ reading_text sessions place }
 {
     put_end(text, pen, &pen.held[..tail_len(pen)]);
 }

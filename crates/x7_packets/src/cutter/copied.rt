@@ -9,7 +9,7 @@ impl Cutter {
         ensures { result ≡ self.now }
     {
         Cutter {
-            mode: self.mode,
+            stage: self.stage,
             matcher: self.matcher,
             machine: self.machine,
             kept: self.kept,

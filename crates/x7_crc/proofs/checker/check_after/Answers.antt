@@ -5,5 +5,5 @@ use Rattle.x7_crc.proofs.checker.check_after.Goals as goal
 pub returns-then-reset : goal.returns-then-reset
 returns-then-reset c = λ h place e f. sym (check-reset h c.args.register c.args.w place (sym f ∙ c.if-reset.true))
 
-pub returns-in-0 : goal.returns-in-0
-returns-in-0 c = λ h place e f. rw c.in-0.is (sym (check-cleared h 0 c.args.w place refl))
+pub returns-then-register-number : goal.returns-then-register-number
+returns-then-register-number c = λ h place e f. rw (c.if-register-number.true ∙ c.number.ensures.value) (sym (check-cleared h 0 c.args.w place refl))

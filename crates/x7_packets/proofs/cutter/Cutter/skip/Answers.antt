@@ -1,7 +1,7 @@
 use Rattle.std.proofs.Common.{◌≡◌, ◌<◌, [], arith, ap, ◌∙◌, take, length, refl, take_all}
 use Rattle.std.proofs.lemmas.Bool.Decides.{nat_tests}
 use Rattle.x7_words.proofs.ListLemmas.{all_from_places, all_take}
-use Rattle.x7_packets.specs.declared.cutter.Mode.TheVariants as mode
+use Rattle.x7_packets.specs.Mode.{Mode, mode_of}
 use Rattle.x7_packets.specs.Cutting.{CutterState}
 use Rattle.x7_packets.proofs.CutLemmas.{cuts_all, cuts_found, keeps_none, none_kept}
 use Rattle.x7_packets.proofs.cutter.Cutter.skip.Goals.{in-Some, in-None}
@@ -9,10 +9,10 @@ use Rattle.x7_packets.proofs.cutter.Cutter.skip.Goals as goal
 
 pub returns-clause-cuts : goal.returns-clause-cuts
 returns-clause-cuts c =
-    let old : CutterState = record { mode = c.self.inside.mode; matcher = c.self.inside.matcher; machine = c.self.inside.machine; kept = take c.self.inside.count c.self.inside.kept } in
+    let old : CutterState = record { mode = mode_of c.self.inside.stage; matcher = c.self.inside.matcher; machine = c.self.inside.machine; kept = take c.self.inside.count c.self.inside.kept } in
     let rest = c.args.rest.now in
-    let searching : c.self.inside.mode ≡ mode.Searching = ap (λ (o : CutterState). o.mode) c.self.view_is ∙ c.requires.searching in
-    let none : take c.self.inside.count c.self.inside.kept ≡ [] = none_kept c.self.inside.kept c.self.inside.count (c.self.invariant.1 (keeps_none c.self.inside.mode searching)) in
+    let searching : mode_of c.self.inside.stage ≡ Mode.Searching = ap (λ (o : CutterState). o.mode) c.self.view_is ∙ c.requires.searching in
+    let none : take c.self.inside.count c.self.inside.kept ≡ [] = none_kept c.self.inside.kept c.self.inside.count (c.self.invariant.1 (keeps_none (mode_of c.self.inside.stage) searching)) in
     let fits = all_from_places (λ b. b < 256) c.args.rest.now (λ k h. omega (arith, c.type_inv.rest k)) in
     let some : 0 < length c.args.rest.now = grind (arith, nat_tests, c.is_empty.ensures, c.if-is_empty.false) in
     rw (← c.self.view_is) (elim c.match-search.branch [

@@ -1,6 +1,6 @@
 use Rattle.std.proofs.Common.{◌≡◌, ◌<◌, [], ap, arith, rules, sym, subst, ◌∙◌, refl, take}
 use Rattle.x7_words.proofs.ListLemmas.{all_from_places}
-use Rattle.x7_packets.specs.declared.cutter.Mode.TheVariants as mode
+use Rattle.x7_packets.specs.Mode.{Mode, mode_of}
 use Rattle.x7_packets.specs.Cutting.{CutterState}
 use Rattle.x7_packets.specs.Taking.{MachineStandsFor, MachineState}
 use Rattle.x7_packets.proofs.AtOnceLemmas.{writes_few}
@@ -9,11 +9,11 @@ use Rattle.x7_packets.proofs.cutter.Cutter.take_short_write.Goals as goal
 pub returns-clause-some : goal.returns-clause-some
 returns-clause-some c =
     let here = c.if-not-is_at_header.ensures in
-    let synced : c.args.self.now.mode ≡ mode.Synced = here.mode refl in
+    let synced : c.args.self.now.mode ≡ Mode.Synced = here.mode refl in
     let none : c.args.self.now.kept ≡ [] = here.kept refl in
-    let same_mode : c.self.inside.mode ≡ mode.Synced = ap (λ (o : CutterState). o.mode) c.self.view_is ∙ synced in
+    let same_mode : mode_of c.self.inside.stage ≡ Mode.Synced = ap (λ (o : CutterState). o.mode) c.self.view_is ∙ synced in
     let same_kept : take c.self.inside.count c.self.inside.kept ≡ [] = ap (λ (o : CutterState). o.kept) c.self.view_is ∙ none in
     let fits = all_from_places (λ b. b < 256) c.args.rest.now (λ k h. omega (arith, c.type_inv.rest k)) in
     writes_few c.args.self.now _ c.args.rest.now c.word_of-head.result _ _ synced same_mode c.new-self-inside.ensures none same_kept (omega (arith, c.if-rest-lt-LONGEST_WRITE.false)) fits c.word_of-head.ensures.back
-    (omega (arith, c.if-head-from.false, c.from.ensures)) (search rules) c.if-register-eq4.false (omega (arith, c.if-count-eq0.false)) (omega (arith, c.if-count-gt16.false))
+    (omega (arith, c.if-head-from.false, c.from.ensures)) (search rules) (λ e. c.if-register-number.false (e ∙ sym c.number.ensures.value)) (omega (arith, c.if-count-eq0.false)) (omega (arith, c.if-count-gt16.false))
     (λ ps n some few s. c.pass_words.ensures.head ps n some few (subst (λ (m : MachineState). MachineStandsFor m ps) (sym (ap (λ (o : CutterState). o.machine) c.self.view_is)) s)) c.pass_words.ensures.words

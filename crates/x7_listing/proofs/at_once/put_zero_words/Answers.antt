@@ -1,6 +1,6 @@
 use Rattle.x7_packets.specs.declared.header.Step.TheVariants.{Filler}
 use Rattle.x7_listing.proofs.AtOnceLemmas.{equal_told}
-use Rattle.x7_listing.proofs.at_once.put_fill.Goals as goal
+use Rattle.x7_listing.proofs.at_once.put_zero_words.Goals as goal
 
 pub returns-clause-told : goal.returns-clause-told
 returns-clause-told c = λ k given before bytes takes s.
