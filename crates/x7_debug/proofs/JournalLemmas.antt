@@ -11,7 +11,7 @@ use Rattle.x7_engine.specs.Kept.{on_the_bench}
 use Rattle.x7_engine.specs.Standing.{DeviceState, DeviceStandsFor, NoWordDue, fed_of}
 use Rattle.x7_engine.proofs.BootLemmas.{none_due_at_first}
 use Rattle.x7_engine.specs.Undo.{AreEqual, IsUndoOf, Keeps, UndoState}
-use Rattle.x7_debug.specs.Journal.{GoesWith, IsOn, IsRecord, JournalState, Leads, oldest_by, records_of}
+use Rattle.x7_debug.specs.Journal.{IsFed, GoesWith, IsOn, IsRecord, JournalState, Leads, oldest_by, records_of}
 use Rattle.x7_debug.specs.Session.{SessionState, StandsAt}
 use Rattle.x7_debug.proofs.PositionLemmas.{by-taken, own}
 use Rattle.std.proofs.lemmas.Option.{none-some}
@@ -97,7 +97,7 @@ reaches_now start at us few r =
 refed : (part : PartData) (stream : List ℕ) (d e : DeviceState) (n : ℕ) → AreEqual d e → StandsAt part stream e n → StandsAt part stream d n
 refed part stream d e n q s =
     let t : DeviceStandsFor part on_the_bench false e (take n stream) = s.stands in
-    let there : StandsAt part stream (record e { fed_before = d.fed_before }) n = record {
+    let there : StandsAt part stream (record e { fed = d.fed }) n = record {
       stands = record {
         fits = t.fits;
         part_is = t.part_is;
@@ -251,9 +251,12 @@ stands_first part stream d s = record { stands = s; taken = s.taken_is; within =
 
 -- ---- what a move comes to
 
--- a device that was fed up to another position
-pub is_fed : (d new : DeviceState) → new.fed_before ≡ d.fed_before → d.taken ≤ new.taken → (fed_of d ≤ fed_of new) × (fed_of new ≤ fed_of d + (new.taken - d.taken))
-is_fed d new e l = (omega (arith, e, l), omega (arith, e, l))
+-- a device that was fed nothing yet, and one that was fed on
+pub fed_none : (d : DeviceState) → IsFed d d (d.taken - d.taken)
+fed_none d = record { never_less = omega arith; most = omega arith }
+
+pub fed_on : (d e f : DeviceState) → d.taken ≤ e.taken → e.taken ≤ f.taken → IsFed d e (e.taken - d.taken) → IsFed e f (f.taken - e.taken) → IsFed d f (f.taken - d.taken)
+fed_on d e f l m i j = record { never_less = omega (arith, i.never_less, j.never_less); most = omega (arith, l, m, i.most, j.most) }
 
 pub goes_nowhere : (s : SessionState) → s.oldest ≤ s.at → GoesWith s s
 goes_nowhere s within = record {

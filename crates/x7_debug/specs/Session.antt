@@ -1,8 +1,10 @@
 -- A session: a device that stands at a position of a stream.
-use Rattle.std.specs.Prelude.{◌≡◌, ◌≤◌, ℕ, List, false, take}
+use Rattle.std.specs.Prelude.{◌≡◌, ◌≤◌, ◌++◌, ℕ, List, false, take}
 use Rattle.x7_part.specs.Part.{PartData}
 use Rattle.x7_engine.specs.Kept.{on_the_bench}
+use Rattle.x7_engine.specs.Past.{OfPast}
 use Rattle.x7_engine.specs.Standing.{DeviceState, DeviceStandsFor, NoWordDue}
+use Rattle.x7_engine.specs.State.{taken_of}
 use Rattle.x7_debug.specs.Position.{last_of}
 
 -- the part, the bytes of the stream, the position, the least one that the records lead back to, and how many bytes the device was ever fed
@@ -25,3 +27,7 @@ pub record StandsAt (part : PartData) (stream : List ℕ) (d : DeviceState) (n :
   pub taken : d.taken ≡ n
   pub within : n ≤ last_of part stream
   pub none_due : NoWordDue d
+
+-- a device takes a piece, up to what stops it
+abbrev pub TakesPiece : DeviceState → DeviceState → List ℕ → Type 0
+TakesPiece old new piece = OfPast old (λ p. DeviceStandsFor p.part p.kept p.wrapped new (take (taken_of p.part p.kept (p.bytes ++ piece)) (p.bytes ++ piece)))

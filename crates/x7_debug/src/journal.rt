@@ -1,11 +1,13 @@
 //! Records of a device on its way, which lead it back.
-ghost use Rattle.std.specs.Prelude.{◌≡◌, ◌≤◌, ◌<◌, ◌+◌, ◌^◌, ◌++◌, ◌∷◌, ℕ, List, Bool, length, take, IfOk};
+ghost use Rattle.std.specs.Prelude.{◌≡◌, ◌≤◌, ◌<◌, ◌+◌, ◌-◌, ◌^◌, ◌++◌, ◌∷◌, ℕ, List, Bool, length, take, IfOk};
 ghost use Rattle.x7_part.specs.Part.{PartData};
 ghost use Rattle.x7_engine.specs.declared.kept.Kept.{Kept as KeptData};
+ghost use Rattle.x7_engine.specs.Past.{OfPast};
 ghost use Rattle.x7_engine.specs.Standing.{DeviceStandsFor, NoWordDue, fed_of};
 ghost use Rattle.x7_engine.specs.State.{taken_of};
 ghost use Rattle.x7_engine.specs.Undo.{IsUndoOf, Keeps, UndoState};
-ghost use Rattle.x7_debug.specs.Journal.{AreRecordsOf, IsOn, JournalState, oldest_by, records_of};
+ghost use Rattle.x7_debug.specs.Journal.{AreRecordsOf, IsFed, IsOn, JournalState, oldest_by, records_of};
+ghost use Rattle.x7_debug.specs.Session.{TakesPiece};
 
 use circular_buffer::HeapCircularBuffer;
 use std::alloc::Global;
@@ -42,10 +44,9 @@ fn feed(device: &mut Device, piece: &[u8], undo: &mut Undo)
     requires fits { device.old.taken + length piece.now ≤ 2 ^ 63 }
     requires none_due { NoWordDue device.old }
     requires undo { IsUndoOf device.old.part undo.old }
-    ensures stands { (part : PartData) (kept : KeptData) (wrapped : Bool) (bytes : List ℕ) → DeviceStandsFor part kept wrapped device.old bytes
-        → DeviceStandsFor part kept wrapped device.new (take (taken_of part kept (bytes ++ piece.now)) (bytes ++ piece.now)) }
-    ensures none_due { (part : PartData) (kept : KeptData) (wrapped : Bool) (bytes : List ℕ) → DeviceStandsFor part kept wrapped device.old bytes → NoWordDue device.new }
-    ensures fed_before { device.new.fed_before ≡ device.old.fed_before }
+    ensures stands { TakesPiece device.old device.new piece.now }
+    ensures none_due { OfPast device.old (λ p. NoWordDue device.new) }
+    ensures fed { IsFed device.old device.new (device.new.taken - device.old.taken) }
     ensures keeps { Keeps undo.new device.old }
     ensures undo { IsUndoOf device.old.part undo.new }
 {
@@ -95,10 +96,9 @@ impl Journal {
         requires fits { device.old.taken + length piece.now ≤ 2 ^ 63 }
         requires none_due { NoWordDue device.old }
         requires records { AreRecordsOf device.old.part self.old }
-        ensures stands { (part : PartData) (kept : KeptData) (wrapped : Bool) (bytes : List ℕ) → DeviceStandsFor part kept wrapped device.old bytes
-            → DeviceStandsFor part kept wrapped device.new (take (taken_of part kept (bytes ++ piece.now)) (bytes ++ piece.now)) }
-        ensures none_due { (part : PartData) (kept : KeptData) (wrapped : Bool) (bytes : List ℕ) → DeviceStandsFor part kept wrapped device.old bytes → NoWordDue device.new }
-        ensures fed_before { device.new.fed_before ≡ device.old.fed_before }
+        ensures stands { TakesPiece device.old device.new piece.now }
+        ensures none_due { OfPast device.old (λ p. NoWordDue device.new) }
+        ensures fed { IsFed device.old device.new (device.new.taken - device.old.taken) }
         ensures records { AreRecordsOf device.old.part self.new }
         ensures more { (u : UndoState) × Keeps u device.old × (records_of self.new ≡ u ∷ take 63 (records_of self.old)) }
     {
@@ -116,7 +116,7 @@ impl Journal {
         requires records { AreRecordsOf device.old.part self.old }
         ensures back { (stream : List ℕ) → IsOn device.old.part stream device.old self.old → IsOn device.new.part stream device.new self.new }
         ensures less { (stream : List ℕ) → IsOn device.old.part stream device.old self.old → device.new.taken ≤ device.old.taken × device.old.taken ≤ device.new.taken + 4 }
-        ensures fed { (stream : List ℕ) → IsOn device.old.part stream device.old self.old → fed_of device.new ≡ fed_of device.old }
+        ensures fed { fed_of device.new ≡ fed_of device.old }
         ensures oldest { (stream : List ℕ) → IsOn device.old.part stream device.old self.old → oldest_by device.new.taken (records_of self.new) ≡ oldest_by device.old.taken (records_of self.old) }
         ensures few { (stream : List ℕ) → IsOn device.old.part stream device.old self.old → length (records_of self.new) ≤ 63 }
         ensures count { self.new.count + 1 ≡ self.old.count }

@@ -3,26 +3,17 @@ ghost use Rattle.std.specs.Prelude.{◌≡◌, ◌≤◌, ◌<◌, ◌+◌, ◌-
 ghost use Rattle.x7_part.specs.Part.{PartData};
 ghost use Rattle.x7_engine.specs.declared.kept.Kept.{Kept as KeptData};
 ghost use Rattle.x7_engine.specs.Kept.{on_the_bench};
+ghost use Rattle.x7_engine.specs.Past.{OfPast};
 ghost use Rattle.x7_engine.specs.Standing.{DeviceStandsFor, NoWordDue, fed_of};
 ghost use Rattle.x7_engine.specs.State.{taken_of};
 ghost use Rattle.x7_engine.specs.Undo.{UndoState};
 ghost use Rattle.x7_debug.specs.Journal.{GoesWith, IsFed, IsOn, oldest_by, records_of};
 ghost use Rattle.x7_debug.specs.Kept.{session_of};
 ghost use Rattle.x7_debug.specs.Position.{last_of};
-ghost use Rattle.x7_debug.specs.Session.{StandsAt};
+ghost use Rattle.x7_debug.specs.Session.{StandsAt, TakesPiece};
 
 use crate::journal::Journal;
-use x7_engine::{Device, Kept, ReadBuf};
-use x7_regs::Kind;
-
-/// What a device on the bench keeps over a reset.
-const ON_THE_BENCH: Kept = Kept {
-    wbstar: 0,
-    timer: 0,
-    bspi: 0,
-    kind: Kind::Bench,
-    before: None,
-};
+use x7_engine::{Device, ON_THE_BENCH, ReadBuf};
 
 /// How many bytes before a position records lead back to: 63 of four bytes, and one of a byte.
 const REACH: u64 = 253;
@@ -30,10 +21,9 @@ const REACH: u64 = 253;
 /// Feeds a piece to a device, up to what stops it. Words read out are dropped.
 fn take(device: &mut Device, piece: &[u8])
     requires { device.old.taken + length piece.now ≤ 2 ^ 63 }
-    ensures stands { (part : PartData) (kept : KeptData) (wrapped : Bool) (bytes : List ℕ) → DeviceStandsFor part kept wrapped device.old bytes
-        → DeviceStandsFor part kept wrapped device.new (take (taken_of part kept (bytes ++ piece.now)) (bytes ++ piece.now)) }
-    ensures none_due { (part : PartData) (kept : KeptData) (wrapped : Bool) (bytes : List ℕ) → DeviceStandsFor part kept wrapped device.old bytes → NoWordDue device.new }
-    ensures fed_before { device.new.fed_before ≡ device.old.fed_before }
+    ensures stands { TakesPiece device.old device.new piece.now }
+    ensures none_due { OfPast device.old (λ p. NoWordDue device.new) }
+    ensures fed { IsFed device.old device.new (device.new.taken - device.old.taken) }
 {
     let mut read = ReadBuf::dropping();
     device.feed(piece, &mut read);
@@ -45,7 +35,7 @@ pub(crate) fn advance(device: &mut Device, stream: &[u8], to: u64)
     requires within { to ≤ last_of device.old.part stream.now }
     requires forward { device.old.taken ≤ to }
     ensures stands { StandsAt device.old.part stream.now device.new to }
-    ensures fed_before { device.new.fed_before ≡ device.old.fed_before }
+    ensures fed { IsFed device.old device.new (device.new.taken - device.old.taken) }
 {
     let from = device.taken() as usize;
     take(device, &stream[from..to as usize]);
@@ -74,7 +64,7 @@ pub(crate) fn record_to(device: &mut Device, journal: &mut Journal, stream: &[u8
     ensures on { IsOn device.new.part stream.now device.new journal.new }
     ensures taken { device.new.taken ≡ to }
     ensures part { device.new.part ≡ device.old.part }
-    ensures fed_before { device.new.fed_before ≡ device.old.fed_before }
+    ensures fed { IsFed device.old device.new (device.new.taken - device.old.taken) }
     ensures more { (u : UndoState) × (u.taken ≡ device.old.taken) × (records_of journal.new ≡ u ∷ take 63 (records_of journal.old)) }
 {
     let from = device.taken() as usize;
@@ -89,7 +79,7 @@ fn go_by_words(device: &mut Device, journal: &mut Journal, stream: &[u8], to: u6
     ensures on { IsOn device.new.part stream.now device.new journal.new }
     ensures taken { device.new.taken ≡ to }
     ensures part { device.new.part ≡ device.old.part }
-    ensures fed_before { device.new.fed_before ≡ device.old.fed_before }
+    ensures fed { IsFed device.old device.new (device.new.taken - device.old.taken) }
     ensures oldest { oldest_by device.new.taken (records_of journal.new) ≤ max device.old.taken (to - 253) }
 {
     while to - device.taken() >= 4 {
@@ -109,7 +99,7 @@ fn leap(device: &mut Device, journal: &mut Journal, stream: &[u8], to: u64)
     ensures on { IsOn device.new.part stream.now device.new journal.new }
     ensures taken { device.new.taken ≡ to }
     ensures part { device.new.part ≡ device.old.part }
-    ensures fed_before { device.new.fed_before ≡ device.old.fed_before }
+    ensures fed { IsFed device.old device.new (device.new.taken - device.old.taken) }
 {
     advance(device, stream, to);
     journal.forget();
@@ -123,7 +113,7 @@ fn go_forward(device: &mut Device, journal: &mut Journal, stream: &[u8], to: u64
     ensures on { IsOn device.new.part stream.now device.new journal.new }
     ensures taken { device.new.taken ≡ to }
     ensures part { device.new.part ≡ device.old.part }
-    ensures fed_before { device.new.fed_before ≡ device.old.fed_before }
+    ensures fed { IsFed device.old device.new (device.new.taken - device.old.taken) }
     ensures oldest { oldest_by device.new.taken (records_of journal.new) ≤ max device.old.taken (to - 253) }
 {
     if to - device.taken() > REACH {

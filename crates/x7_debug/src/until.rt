@@ -1,7 +1,7 @@
 //! A device is brought forward to where something holds.
 ghost use Rattle.std.specs.Prelude.{◌≡◌, ◌≤◌, ◌<◌, ◌+◌, ◌-◌, ◌∷◌, ℕ, List, true, false, take, max};
 ghost use Rattle.x7_engine.specs.Undo.{UndoState};
-ghost use Rattle.x7_debug.specs.Journal.{GoesWith, IsOn, oldest_by, records_of};
+ghost use Rattle.x7_debug.specs.Journal.{GoesWith, IsFed, IsOn, oldest_by, records_of};
 ghost use Rattle.x7_debug.specs.Kept.{session_of};
 ghost use Rattle.x7_debug.specs.Position.{holds_at, holds_in, last_of, until_of};
 
@@ -33,7 +33,7 @@ fn seek(device: &mut Device, journal: &Journal, stream: &[u8], end: u64, stop: S
     requires some { (u : UndoState) × (older : List UndoState) × (records_of journal.now ≡ u ∷ older) × (end ≤ u.taken + 4) }
     ensures on { IsOn device.new.part stream.now device.new journal.now }
     ensures part { device.new.part ≡ device.old.part }
-    ensures fed_before { device.new.fed_before ≡ device.old.fed_before }
+    ensures fed { IsFed device.old device.new (device.new.taken - device.old.taken) }
     ensures forward { device.old.taken ≤ device.new.taken × device.new.taken ≤ end }
     ensures found { result ≡ true → holds_at device.old.part stream.now stop device.new.taken ≡ true }
     ensures end { result ≡ false → device.new.taken ≡ end }
@@ -66,7 +66,7 @@ fn seek_word(
     requires before { device.old.taken < last }
     ensures on { IsOn device.new.part stream.now device.new journal.new }
     ensures part { device.new.part ≡ device.old.part }
-    ensures fed_before { device.new.fed_before ≡ device.old.fed_before }
+    ensures fed { IsFed device.old device.new (device.new.taken - device.old.taken) }
     ensures more { (u : UndoState) × (u.taken ≡ device.old.taken) × (records_of journal.new ≡ u ∷ take 63 (records_of journal.old)) }
     ensures forward { device.old.taken < device.new.taken × device.new.taken ≤ last × device.new.taken ≤ device.old.taken + 4 }
     ensures whole { result ≡ false → device.new.taken < last → device.new.taken ≡ device.old.taken + 4 }
@@ -86,7 +86,7 @@ fn forward_until(device: &mut Device, journal: &mut Journal, stream: &[u8], last
     requires before { device.old.taken < last }
     ensures on { IsOn device.new.part stream.now device.new journal.new }
     ensures part { device.new.part ≡ device.old.part }
-    ensures fed_before { device.new.fed_before ≡ device.old.fed_before }
+    ensures fed { IsFed device.old device.new (device.new.taken - device.old.taken) }
     ensures taken { device.new.taken ≡ until_of device.old.part stream.now stop device.old.taken }
     ensures forward { device.old.taken < device.new.taken }
     ensures oldest { oldest_by device.new.taken (records_of journal.new) ≤ max device.old.taken (device.new.taken - 253) }

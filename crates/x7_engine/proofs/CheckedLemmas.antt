@@ -20,13 +20,10 @@ use Rattle.x7_engine.specs.Startup.{phase_by, startup_progress}
 use Rattle.x7_engine.specs.State.{history_by, history_taken, last_counted, state_of, stop_in, taken_by, taken_of}
 use Rattle.x7_engine.specs.Stops.{Stopped, asks_decryption, line_at, needs_match, or_else, stop_of, stopped_at, write_line}
 use Rattle.x7_engine.proofs.BeginsLemmas.{begins_by}
-use Rattle.x7_engine.proofs.StateLemmas.{counted_least, no_stop_before, stop_place}
+use Rattle.x7_engine.proofs.StateLemmas.{counted_least, no_stop_before, stop_place, parts_none}
+use Rattle.x7_engine.proofs.TurnLemmas.{until_until}
 
-parts_none : {A : Type 0} (first second : Option A) → or_else first second ≡ None → (first ≡ None) × (second ≡ None)
-parts_none None second e = (refl, e)
-parts_none (Some x) second e = absurd (cc)
-
-none_at : (place : ℕ) (o : Option Stop) → stopped_at place o ≡ None → o ≡ None
+pub none_at : (place : ℕ) (o : Option Stop) → stopped_at place o ≡ None → o ≡ None
 none_at place None e = refl
 none_at place (Some line) e = absurd (cc)
 
@@ -50,14 +47,6 @@ until_keeps m (x ∷ newer) older access place l = by (nat_lt m x.place) (until_
         → (kept : History) × ((if b then until m (newer ++ entry access place ∷ older) else x ∷ (newer ++ entry access place ∷ older)) ≡ kept ++ entry access place ∷ older)
     by true more = more
     by false more = (x ∷ newer, refl)
-
-until_until : (m k : ℕ) (h : History) → m ≤ k → until m (until k h) ≡ until m h
-until_until m k [] l = refl
-until_until m k (x ∷ h) l = by (nat_lt k x.place) refl (until_until m k h l)
-  where
-    by : (b : Bool) → nat_lt k x.place ≡ b → until m (until k h) ≡ until m h → until m (if b then until k h else x ∷ h) ≡ until m (x ∷ h)
-    by true e i = let less : nat_lt m x.place ≡ true = grind (arith, nat_tests, e, l) in i ∙ sym (ap (λ (c : Bool). if c then until m h else x ∷ h) less)
-    by false e i = refl
 
 placed_until : (n k : ℕ) (h : History) → Placed n h → Placed k (until k h)
 placed_until n k [] p = tt

@@ -58,7 +58,7 @@ or_fired : (o p : Option ℕ) (b : Bool) (n : ℕ) → fired_or (or_else o p) b 
 or_fired None p b n = refl
 or_fired (Some x) p b n = refl
 
-or_none : {A : Type 0} (o : Option A) → or_else o None ≡ o
+pub or_none : {A : Type 0} (o : Option A) → or_else o None ≡ o
 or_none None = refl
 or_none (Some x) = refl
 

@@ -17,7 +17,8 @@ use Rattle.x7_engine.specs.FirstStop.{IsFirstStop, line_at_byte, newest_line}
 use Rattle.x7_engine.specs.State.{stop_in}
 use Rattle.x7_engine.specs.Stops.{Stopped, line_at, or_else, stop_of, stopped_at, stopped_by_watchdog}
 use Rattle.x7_engine.specs.Watching.{fired_or, fires, first_firing}
-use Rattle.x7_engine.proofs.ClockLemmas.{stop_more_bytes}
+use Rattle.x7_engine.proofs.ClockLemmas.{stop_more_bytes, or_none}
+use Rattle.x7_engine.proofs.TurnLemmas.{newest_within}
 
 -- ---- a byte more of a list
 
@@ -29,19 +30,11 @@ split_at (x ∷ bytes) (suc n) l = let more = split_at bytes n (omega (arith, l)
 pub bytes_taken : (bytes : List ℕ) (n : ℕ) → AreBytes bytes → AreBytes (take n bytes)
 bytes_taken bytes n f = all_front (λ b. b < 256) (take n bytes) (drop n bytes) (subst AreBytes (sym (take-append-drop n bytes)) f)
 
-pub newest_within : (n : ℕ) (h : History) → Placed n h → newest_place h ≤ n
-newest_within n [] p = omega arith
-newest_within n (e ∷ h) p = p.1
-
 -- ---- the stop of a byte more
 
 or_assoc : {A : Type 0} (a b c : Option A) → or_else (or_else a b) c ≡ or_else a (or_else b c)
 or_assoc (Some x) b c = refl
 or_assoc None b c = refl
-
-or_none : {A : Type 0} (o : Option A) → or_else o None ≡ o
-or_none None = refl
-or_none (Some x) = refl
 
 -- the line of the watchdog, and of an access
 abbrev line_by_fire : Bool → Option Stop → Option Stop

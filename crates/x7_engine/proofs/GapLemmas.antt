@@ -30,6 +30,7 @@ use Rattle.x7_engine.specs.Values.{read_out}
 use Rattle.x7_engine.specs.Watching.{timer_held, turns_on}
 use Rattle.x7_engine.proofs.DeviceLemmas.{going_taken}
 use Rattle.x7_engine.proofs.RestLemmas.{stop_on}
+use Rattle.x7_engine.proofs.CheckedLemmas.{none_at}
 
 -- ---- CMD after a session
 
@@ -93,12 +94,8 @@ no_sync_phase part kept wrapped bytes fits e n = gap_phase part kept wrapped byt
 
 -- ---- a device in its first gap
 
-goes_on : (n : ℕ) (o : Option Stop) → stopped_at n o ≡ None → o ≡ None
-goes_on n None e = refl
-goes_on n (Some line) e = absurd cc
-
 pub gap_going : (part : PartData) (kept : Kept) (wrapped : Bool) (d : DeviceState) (bytes : List ℕ) → DeviceStandsFor part kept wrapped d bytes → stop_in part kept bytes ≡ None → d.registers.stop ≡ None
-gap_going part kept wrapped d bytes s e = goes_on (length bytes) d.registers.stop (sym s.stop_is ∙ e)
+gap_going part kept wrapped d bytes s e = none_at (length bytes) d.registers.stop (sym s.stop_is ∙ e)
 
 -- its cutter searches there
 pub gap_searches : (part : PartData) (kept : Kept) (wrapped : Bool) (d : DeviceState) (bytes : List ℕ) (synced : Bool) → DeviceStandsFor part kept wrapped d bytes
@@ -128,7 +125,7 @@ pub gap_again : (part : PartData) (kept keep : Kept) (wrapped : Bool) (d e : Dev
     → DeviceStandsFor part keep false e bytes
 gap_again part kept keep wrapped d e bytes left s g fallback registers all part_is unwrapped taken cutter none_due =
     let n : ℕ = 0 + (d.taken - left) in
-    let going : e.registers.stop ≡ None = goes_on n e.registers.stop (sym registers.stop ∙ none_stops part keep n fallback) in
+    let going : e.registers.stop ≡ None = none_at n e.registers.stop (sym registers.stop ∙ none_stops part keep n fallback) in
     let was : d.taken ≡ length bytes = s.taken_is in
     let count : n ≡ length bytes = omega (arith, all going, was) in
     let same : history_taken part keep bytes ≡ [] = gap_taken part keep bytes fallback g.nothing in

@@ -13,8 +13,8 @@ use Rattle.x7_startup.proofs.PhaseLemmas.{arrival_grows, phase_first}
 use Rattle.x7_engine.specs.Registers.{takes_shutdown}
 use Rattle.x7_engine.specs.Startup.{phase_by, phase_of, startup_call, startup_calls, startup_progress}
 use Rattle.x7_engine.proofs.ClockLemmas.{startup_more}
-use Rattle.x7_engine.proofs.FirstStopLemmas.{newest_within}
 use Rattle.x7_engine.proofs.StartupLemmas.{phase_is}
+use Rattle.x7_engine.proofs.TurnLemmas.{newest_within}
 
 -- k bytes after a progress: not begun, gone on, or begun since then
 abbrev pub Reaches : Progress → Progress → ℕ → Type 0

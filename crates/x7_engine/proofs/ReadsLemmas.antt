@@ -15,7 +15,7 @@ use Rattle.x7_engine.specs.State.{history_by, history_taken, last_counted, reads
 use Rattle.x7_engine.specs.Stops.{Stopped, line_at, or_else, stop_of, stopped_at, stopped_by_watchdog}
 use Rattle.x7_engine.specs.Values.{answer_of, read_out}
 use Rattle.x7_engine.specs.Watching.{fired_or, fires, first_firing}
-use Rattle.x7_engine.proofs.StateLemmas.{stop_is_final-reads}
+use Rattle.x7_engine.proofs.StateLemmas.{stop_is_final-reads, parts_none, counted_most}
 
 -- ---- where there is no stop in the first bytes, one comes behind them
 
@@ -52,10 +52,6 @@ watchdog_behind part kept h from first n s l none e = by (first_firing part kept
         place_of None = 0
         place_of (Some t) = t.place
 
-parts_none : {A : Type 0} (first second : Option A) → or_else first second ≡ None → (first ≡ None) × (second ≡ None)
-parts_none None second e = (refl, e)
-parts_none (Some x) second e = absurd (cc)
-
 stop_behind : (part : PartData) (kept : Kept) (h : History) (first n : ℕ) (s : Stopped) → first ≤ n → stop_of part kept h first ≡ None → stop_of part kept h n ≡ Some s → first < s.place
 stop_behind part kept [] first n s l none e =
     let less : 0 + first < s.place = watchdog_behind part kept [] 0 first n s l none e in
@@ -87,13 +83,7 @@ newer_stop part kept (x ∷ newer) h first most n s a l none e =
         let less : x.place + 0 < s.place = watchdog_behind part kept (x ∷ (newer ++ h)) x.place 0 (n - x.place) s (omega arith) refl g in
         omega (arith, less, a.0)
 
--- ---- so all accesses of the first bytes are counted
-
-counted : (line : Stop) (place first : ℕ) → first < place → first ≤ last_counted line place
-counted (stop.Fault fault.Watchdog) place first k = omega (arith, k)
-counted (stop.Fault (fault.Packet w)) place first k = omega (arith, k)
-counted (stop.Fault f) place first k = omega (arith, k)
-counted stop.Iprog place first k = omega (arith, k)
+-- ---- so all accesses of the first bytes are counted_most
 
 until_all : (first n : ℕ) (h : History) → Placed first h → first ≤ n → until n h ≡ h
 until_all first n [] p l = refl
@@ -133,7 +123,7 @@ reads_on part kept bytes more fits all none =
         let long : length bytes ≤ length (bytes ++ more) = omega (arith, length-append bytes more) in
         let at : stop_of part kept (newer ++ history_of bytes) (length (bytes ++ more)) ≡ Some t = ap (λ (x : History). stop_of part kept x (length (bytes ++ more))) (sym e) ∙ s in
         let behind : length bytes < t.place = newer_stop part kept newer (history_of bytes) (length bytes) (length (bytes ++ more)) (length (bytes ++ more)) t a long none at in
-        let front = until_front (length bytes) (length (bytes ++ more)) (last_counted t.line t.place) newer (history_of bytes) (placed_of bytes fits) (counted t.line t.place (length bytes) behind) in
+        let front = until_front (length bytes) (length (bytes ++ more)) (last_counted t.line t.place) newer (history_of bytes) (placed_of bytes fits) (counted_most t.line t.place (length bytes) behind) in
         (front.0, ap (λ (o : Option Stopped). history_by o (history_of (bytes ++ more))) s ∙ ap (λ (x : History). until (last_counted t.line t.place) x) e ∙ front.1)
 
 pub reads_grow : (part : PartData) (kept : Kept) (bytes more : List ℕ) → AreBytes (bytes ++ more) → (rest : List ℕ) × (reads_of part kept (bytes ++ more) ≡ reads_of part kept bytes ++ rest)

@@ -24,7 +24,8 @@ use Rattle.x7_flow.specs.Controls.{forbids_reading}
 use Rattle.x7_engine.specs.Stops.{Stopped, or_else, stop_of, stopped_by_watchdog}
 use Rattle.x7_engine.specs.Watching.{first_firing, timer_held, turns_on}
 use Rattle.x7_engine.proofs.ClockLemmas.{last_of, none_fires, phase_rises, startup_more, stop_more_bytes}
-use Rattle.x7_engine.proofs.FirstStopLemmas.{newest_within}
+use Rattle.x7_engine.proofs.SequenceLemmas.{and_false}
+use Rattle.x7_engine.proofs.TurnLemmas.{newest_within}
 
 -- ---- the reading and the history
 
@@ -57,16 +58,12 @@ never_on true false eos off e = refl
 never_on true true true off e = refl
 never_on true true false off e = e
 
-never_fires : (on full : Bool) → on ≡ false → (on && full) ≡ false
-never_fires true full e = absurd (cc)
-never_fires false full e = refl
-
 pub stop_on : (part : PartData) (kept : Kept) (h : History) (n k : ℕ) → newest_place h ≤ n → (turns_on (timer_held kept h) && not (is_fallback kept.kind)) ≡ false → stop_of part kept h n ≡ None → stop_of part kept h (n + k) ≡ None
 stop_on part kept h n k l off none =
     stop_more_bytes part kept h n k l
     ∙ ap (λ (o : Option Stopped). or_else o (stopped_by_watchdog (first_firing part kept h n k))) none
     ∙ ap stopped_by_watchdog (none_fires part kept h n k (λ i m.
-    never_fires (is_on (is_fallback kept.kind) (timer_held kept h) (has_ended part h (n + i + 1))) _
+    and_false (is_on (is_fallback kept.kind) (timer_held kept h) (has_ended part h (n + i + 1))) _
     (never_on (cfg_mon_of (timer_held kept h) == 1) (not (timer_value_of (timer_held kept h) == 0)) (has_ended part h (n + i + 1)) (is_fallback kept.kind) off)))
 
 startup_on : (part : PartData) (h : History) (n k : ℕ) → newest_place h ≤ n → (startup_progress h n ≡ NotBegun) ⊎ (phase_of part h n ≡ 7) → (startup_progress h (n + k) ≡ NotBegun) ⊎ (phase_of part h (n + k) ≡ 7)

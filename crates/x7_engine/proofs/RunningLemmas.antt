@@ -6,26 +6,11 @@ use Rattle.x7_packets.specs.RunningCheck.{clears, open_writes}
 use Rattle.x7_crc.specs.OpenWrites.{in_order, running_check}
 use Rattle.x7_crc.specs.RunningCheck.{check_after, writes_to}
 use Rattle.x7_crc.proofs.CheckLemmas.{check_after-append, check_after-none, check_after_fits, check_of-more}
+use Rattle.x7_crc.proofs.CheckerLemmas.{check-folded}
 
 -- the running check is one of 32 bits
 pub check_fits : (h : History) → running_check h < 2 ^ 32
 check_fits h = check_after_fits 0 (in_order (open_writes h))
-
--- no write has the check 0
-pub check-none : running_check [] ≡ 0
-check-none = check_after-none 0 (lit< tt)
-
--- a write that clears it
-pub check-cleared : (h : History) (register word place : ℕ) → clears h (Write register word) ≡ true → running_check (entry (Write register word) place ∷ h) ≡ 0
-check-cleared h register word place e = rw e (check_after-none 0 (lit< tt))
-
--- any other write but one to LOUT
-pub check-folded : (h : History) (register word place : ℕ) → clears h (Write register word) ≡ false → (register == 8) ≡ false → running_check (entry (Write register word) place ∷ h) ≡ check_after (running_check h) ((register, word) ∷ [])
-check-folded h register word place e n = rw (e, n) (sym (check_of-more (running_check h) (in_order (open_writes h)) ((register, word) ∷ []) refl))
-
--- a write to LOUT
-pub check-left : (h : History) (word place : ℕ) → clears h (Write 8 word) ≡ false → running_check (entry (Write 8 word) place ∷ h) ≡ running_check h
-check-left h word place e = refl
 
 -- words written to a register, none of which clears the check
 pub check-all_folded : (register n : ℕ) (ws : List ℕ) (h : History) → (register == 8) ≡ false → ((h : History) (w : ℕ) → clears h (Write register w) ≡ false)

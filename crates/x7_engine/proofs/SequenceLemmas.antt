@@ -13,7 +13,7 @@ or_false : (a b : Bool) → a ≡ false → b ≡ false → (a || b) ≡ false
 or_false true b e f = absurd (cc)
 or_false false b e f = f
 
-and_false : (a b : Bool) → a ≡ false → (a && b) ≡ false
+pub and_false : (a b : Bool) → a ≡ false → (a && b) ≡ false
 and_false true b e = absurd (cc)
 and_false false b e = refl
 

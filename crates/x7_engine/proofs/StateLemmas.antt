@@ -191,3 +191,20 @@ no_stop_before part kept bytes more s f e l = by_stop (stop_in part kept bytes) 
     by_stop (Some t) g =
         let same : t ≡ s = (let later : stop_in part kept (bytes ++ more) ≡ Some t = stop_is_final-stop part kept bytes more t f g in cc) in
         absurd (omega (arith, (stop_place part kept bytes t (all_front (λ b. b < 256) bytes more f) g).1, ap (λ (x : Stopped). x.place) same, l))
+
+-- the last byte that counts is none of those before the last one
+pub counted_most : (line : Stop) (place n : ℕ) → n < place → n ≤ last_counted line place
+counted_most (stop.Fault (fault.Packet w)) place n l = omega (arith, l)
+counted_most (stop.Fault (fault.Id want got)) place n l = omega (arith, l)
+counted_most (stop.Fault (fault.Crc want got)) place n l = omega (arith, l)
+counted_most (stop.Fault (fault.Address far)) place n l = omega (arith, l)
+counted_most (stop.Fault fault.Overrun) place n l = omega (arith, l)
+counted_most (stop.Fault fault.Multi) place n l = omega (arith, l)
+counted_most (stop.Fault fault.Encrypted) place n l = omega (arith, l)
+counted_most (stop.Fault fault.Watchdog) place n l = omega (arith, l)
+counted_most stop.Iprog place n l = omega (arith, l)
+
+-- the first of two is none where both are
+pub parts_none : {A : Type 0} (first second : Option A) → or_else first second ≡ None → (first ≡ None) × (second ≡ None)
+parts_none None second e = (refl, e)
+parts_none (Some x) second e = absurd (cc)

@@ -12,7 +12,8 @@ use Rattle.x7_engine.specs.Startup.{has_ended}
 use Rattle.x7_engine.specs.Timeout.{before_byte, counted_at, fires_at, is_on_at, last_load, loads, on_behind}
 use Rattle.x7_engine.specs.Watching.{fires, timer_held, watch_call, watch_calls}
 use Rattle.x7_engine.proofs.ClockLemmas.{one_watched, timer_is, watch_entered}
-use Rattle.x7_engine.proofs.FirstStopLemmas.{newest_within, one_more}
+use Rattle.x7_engine.proofs.FirstStopLemmas.{one_more}
+use Rattle.x7_engine.proofs.TurnLemmas.{newest_within}
 
 -- ---- the last load
 

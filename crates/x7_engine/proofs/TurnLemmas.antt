@@ -23,7 +23,7 @@ use Rattle.x7_engine.specs.Stops.{Stopped, line_at, or_else, stop_of, stopped_at
 use Rattle.x7_engine.specs.Values.{read_out}
 use Rattle.x7_engine.specs.Watching.{first_firing}
 use Rattle.x7_engine.proofs.ClockLemmas.{firing_more, stop_more_bytes}
-use Rattle.x7_engine.proofs.StateLemmas.{firing_within}
+use Rattle.x7_engine.proofs.StateLemmas.{firing_within, counted_least}
 
 -- ---- accesses behind a place
 
@@ -63,17 +63,6 @@ until_until k m (e ∷ h) l = by (until_until k m h l) (nat_lt m e.place) refl
     by i false f = refl
 
 -- ---- the stop at the last byte taken
-
-counted_least : (line : Stop) (place : ℕ) → last_counted line place ≤ place
-counted_least (stop.Fault (fault.Packet w)) place = omega arith
-counted_least (stop.Fault (fault.Id want got)) place = omega arith
-counted_least (stop.Fault (fault.Crc want got)) place = omega arith
-counted_least (stop.Fault (fault.Address far)) place = omega arith
-counted_least (stop.Fault fault.Overrun) place = omega arith
-counted_least (stop.Fault fault.Multi) place = omega arith
-counted_least (stop.Fault fault.Encrypted) place = omega arith
-counted_least (stop.Fault fault.Watchdog) place = omega arith
-counted_least stop.Iprog place = omega arith
 
 pub counted_within : (d : Option Stop) (n : ℕ) → counted_in d n ≤ n
 counted_within None n = omega arith

@@ -28,25 +28,13 @@ use Rattle.x7_engine.specs.State.{history_by, history_taken, last_counted, memor
 use Rattle.x7_engine.specs.Stops.{Stopped, stopped_at}
 use Rattle.x7_engine.specs.Undo.{AreEqual, Back, Keeps, KeepsValues, UndoState, ValuesState, dropping, registers_with, values_of}
 use Rattle.x7_engine.proofs.DeviceLemmas.{going_taken}
-use Rattle.x7_engine.proofs.FrameLemmas.{frames_of, goes_on}
-use Rattle.x7_engine.proofs.StateLemmas.{stop_is_final-stop}
+use Rattle.x7_engine.proofs.FrameLemmas.{frames_of, goes_on, none_frames}
+use Rattle.x7_engine.proofs.StateLemmas.{stop_is_final-stop, counted_most}
 
 -- ---- the history of up to four bytes more
 
 abbrev OneEntry : History → History → Type 0
 OneEntry h g = (g ≡ h) ⊎ ((e : Entry) × (g ≡ e ∷ h))
-
--- the last byte that counts is none of those before the last one
-counted_most : (line : Stop) (place n : ℕ) → n < place → n ≤ last_counted line place
-counted_most (stop.Fault (fault.Packet w)) place n l = omega (arith, l)
-counted_most (stop.Fault (fault.Id want got)) place n l = omega (arith, l)
-counted_most (stop.Fault (fault.Crc want got)) place n l = omega (arith, l)
-counted_most (stop.Fault (fault.Address far)) place n l = omega (arith, l)
-counted_most (stop.Fault fault.Overrun) place n l = omega (arith, l)
-counted_most (stop.Fault fault.Multi) place n l = omega (arith, l)
-counted_most (stop.Fault fault.Encrypted) place n l = omega (arith, l)
-counted_most (stop.Fault fault.Watchdog) place n l = omega (arith, l)
-counted_most stop.Iprog place n l = omega (arith, l)
 
 until_one : (n k : ℕ) (h g : History) → n ≤ k → Placed n h → OneEntry h g → OneEntry h (until k g)
 until_one n k h g l p (inl same) = inl (ap (until k) same ∙ until_placed k h (placed_within n k h l p))
@@ -88,11 +76,6 @@ no_stop part kept bytes more (Some now) line f some e g = by line g
 
 -- ---- back
 
-no_frames_due : (d : Due) → due_count d ≡ 0 → frames_due d ≡ 0
-no_frames_due due.Nothing e = refl
-no_frames_due (due.Same w count) e = refl
-no_frames_due (due.Frames count) e = e
-
 memory_stands : (part : PartData) (kept : Kept) (wrapped : Bool) (d : DeviceState) (bytes : List ℕ) → DeviceStandsFor part kept wrapped d bytes → AreSame (frame_at part d.registers.frames.memory) (memory_in part kept bytes)
 memory_stands part kept wrapped d bytes s = λ far. s.registers_are.frames.stands.memory far ∙ s.registers_are.frames.memory_same far
 
@@ -105,7 +88,7 @@ module _ (part : PartData) (kept : Kept) (wrapped : Bool) (u : UndoState) (old n
       let h : History = history_of bytes in
       let taken : history_taken part kept bytes ≡ h = going_taken part kept bytes before in
       let stands : FramesStandFor part old.registers.frames h 0 =
-      subst (λ (k : ℕ). FramesStandFor part old.registers.frames h k) (no_frames_due old.registers.due none)
+      subst (λ (k : ℕ). FramesStandFor part old.registers.frames h k) (none_frames old.registers.due none)
       (subst (λ (x : History). FramesStandFor part old.registers.frames x (frames_due old.registers.due)) taken
       (frames_of part old.registers.frames old.registers.stop (history_taken part kept bytes) (frames_due old.registers.due) (goes_on old.registers.stop going) s.registers_are.frames)) in
       let memory : AreSame (frame_at part new.registers.frames.memory) (memory_in part kept (bytes ++ more)) = memory_stands part kept wrapped new (bytes ++ more) t in

@@ -1,8 +1,10 @@
 pub mod Checked
 pub mod Clock
+pub mod Entering
 pub mod FirstGap
 pub mod FirstStop
 pub mod Kept
+pub mod Past
 pub mod Phases
 pub mod ReadBuffer
 pub mod Readout

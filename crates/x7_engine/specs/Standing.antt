@@ -1,5 +1,5 @@
 -- What a device stands for: all bytes that it took since its reset. Each stored value is that of the bytes.
-use Rattle.std.specs.Prelude.{◌≡◌, ℕ, ◌<◌, ◌≤◌, ◌==◌, ◌+◌, ◌++◌, ◌-◌, ◌^◌, min, Bool, true, false, if◌then◌else◌, take, List, [], ◌∷◌, length, slice_index, Option, None, Some, replicate}
+use Rattle.std.specs.Prelude.{◌≡◌, ℕ, ◌<◌, ◌≤◌, ◌==◌, ◌+◌, ◌++◌, ◌-◌, ◌^◌, min, Bool, true, false, if◌then◌else◌, take, List, [], ◌∷◌, length, slice_index, Option, None, Some, IsSome, replicate}
 use Rattle.x7_words.specs.Word.{AreBytes}
 use Rattle.x7_packets.specs.Cutting.{CutterState, CutterStandsFor}
 use Rattle.x7_packets.specs.declared.cutter.Cut.{Cut}
@@ -197,18 +197,26 @@ EndsWords (Word register w) from n count = (n < from + 4) × (from + 4 ≡ n + c
 EndsWords (Body register bytes) from n count = (from ≡ n) × (length bytes.now ≡ count)
 EndsWords _ from n count = Unit {0}
 
--- a device: its part, its stored values, whether the flash has ended in this attempt, and how many bytes it was fed beside those that it took since its reset
+-- a device: its part, its stored values, whether the flash has ended in this attempt, the bytes taken since its reset, and those that it was ever fed
 pub record DeviceState : Type 0 where
   pub part : PartData
   pub cutter : CutterState
   pub registers : RegistersState
   pub wrapped : Bool
   pub taken : ℕ
-  pub fed_before : ℕ
+  pub fed : ℕ
 
 -- the bytes that it was ever fed, counted up to the last number of 64 bits
 abbrev pub fed_of : DeviceState → ℕ
-fed_of d = min (d.fed_before + d.taken) (2 ^ 64 - 1)
+fed_of d = min d.fed (2 ^ 64 - 1)
+
+-- the same after so many bytes more
+abbrev pub fed_more : DeviceState → ℕ → ℕ
+fed_more d count = min (d.fed + count) (2 ^ 64 - 1)
+
+-- something stopped the device
+abbrev pub HasStopped : DeviceState → Type 0
+HasStopped d = IsSome d.registers.stop
 
 -- no word that was read out is still to be given
 abbrev pub NoWordDue : DeviceState → Type 0
@@ -255,6 +263,10 @@ pub record DeviceStandsFor (part : PartData) (kept : Kept) (wrapped : Bool) (d :
 -- the words read out so far, without those that are still due
 abbrev pub told_of : PartData → Kept → DeviceState → List ℕ → List ℕ
 told_of part kept d bytes = take (length (reads_of part kept bytes) - due_count d.registers.due) (reads_of part kept bytes)
+
+-- the words read out that are still due
+abbrev pub due_of : PartData → Kept → DeviceState → List ℕ → List ℕ
+due_of part kept d bytes = words_left part (history_taken part kept bytes) d.registers.due
 
 -- what a feed answers: that all bytes were taken and no word is due, the stop, at which no word is due either, or that a word is due and the buffer full
 abbrev pub taken_in : ℕ → Fed → ℕ

@@ -78,7 +78,7 @@ pub record Back (u : UndoState) (new old : DeviceState) : Type 0 where
 
 -- two devices are equal but for the count of all bytes that they were fed
 abbrev pub AreEqual : DeviceState → DeviceState → Type 0
-AreEqual d e = d ≡ record e { fed_before = d.fed_before }
+AreEqual d e = d ≡ record e { fed = d.fed }
 
 -- a buffer that drops each word
 abbrev pub dropping : ReadBufState

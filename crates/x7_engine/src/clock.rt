@@ -57,7 +57,7 @@ fn are_same(a: bool, b: bool) -> bool
 }
 
 /// Startup and the watchdog as the bytes taken and the accesses have left them.
-#[derive(Clone, Copy, Debug)]
+#[derive(Clone, Copy)]
 pub(crate) struct Clock {
     pub(crate) startup: Startup,
     pub(crate) watchdog: Watchdog,

@@ -23,7 +23,7 @@ pub(crate) fn is_dec(ctl0: u32) -> bool
 }
 
 /// CTL0 and CTL1.
-#[derive(Clone, Copy, Debug)]
+#[derive(Clone, Copy)]
 pub(crate) struct Controls {
     pub(crate) ctl0: u32,
     pub(crate) ctl1: u32,

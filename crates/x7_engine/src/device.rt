@@ -8,13 +8,14 @@ ghost use Rattle.x7_memory.specs.Frames.{AreFramesOf, frame_at};
 ghost use Rattle.x7_engine.specs.Kept.{on_the_bench};
 ghost use Rattle.x7_engine.specs.Readout.{Gives};
 ghost use Rattle.x7_engine.specs.ReadBuffer.{IsFull, with_words};
-ghost use Rattle.x7_engine.specs.Standing.{Answers, DeviceStandsFor, MayWrap, NoWordDue, due_count, fed_by, fed_of, frames_due, taken_in, told_of, with_wrap};
+ghost use Rattle.x7_engine.specs.Standing.{Answers, DeviceStandsFor, MayWrap, NoWordDue, due_count, fed_by, fed_more, fed_of, frames_due, taken_in, told_of, with_wrap};
 ghost use Rattle.x7_engine.specs.State.{attempt_in, end_by, kept_after, line_by, memory_in, state_of, state_owing, stop_in};
 ghost use Rattle.x7_engine.specs.Stops.{fault_of};
 ghost use Rattle.x7_engine.specs.UntilStarted.{CommandsLast};
 ghost use Rattle.x7_engine.specs.Values.{cause_of};
 ghost use Rattle.x7_engine.specs.declared.fault.Fault.{Fault as FaultData};
 ghost use Rattle.x7_engine.specs.declared.kept.Kept.{Kept as KeptData};
+ghost use Rattle.x7_engine.specs.Past.{AnswersFor, OfPast, Takes, TellsNext, TellsNone, part_taken, state_at, stop_at};
 
 mod boot;
 mod gap;
@@ -23,7 +24,7 @@ mod undo;
 
 use crate::fault::Fault;
 use crate::fed::Fed;
-use crate::kept::Kept;
+use crate::kept::{Kept, ON_THE_BENCH};
 use crate::read_buffer::ReadBuf;
 use crate::registers::Registers;
 use crate::regs::{End, Regs};
@@ -48,8 +49,8 @@ pub struct Device {
     // the flash has ended in this attempt
     wrapped: bool,
     taken: u64,
-    // the bytes that were fed and are not counted in `taken`
-    fed_before: u64,
+    // the bytes that were ever fed, counted up to the last number of 64 bits
+    fed: u64,
 }
 
 impl Model for Device {
@@ -57,7 +58,7 @@ impl Model for Device {
 
     ghost Value = { DeviceState };
 
-    ghost view = { λ d. record { part = d.part; cutter = d.cutter; registers = registers_in d.registers; wrapped = d.wrapped; taken = d.taken; fed_before = d.fed_before } };
+    ghost view = { λ d. record { part = d.part; cutter = d.cutter; registers = registers_in d.registers; wrapped = d.wrapped; taken = d.taken; fed = d.fed } };
 
     ghost use Rattle.x7_flow.specs.Standing.{FramesFit};
 
@@ -118,15 +119,6 @@ fn cause_with(cause: Option<Cause>, wrapped: bool) -> Option<Cause>
     }
 }
 
-/// What a device on the bench keeps.
-const ON_THE_BENCH: Kept = Kept {
-    wbstar: 0,
-    timer: 0,
-    bspi: 0,
-    kind: Kind::Bench,
-    before: None,
-};
-
 impl Device {
     /// A device of this part as after a reset on the bench. It takes room for all frames, and no other call takes memory.
     pub fn new(alloc: Global, part: &Part) -> Result<Device, NoMemory>
@@ -144,7 +136,7 @@ impl Device {
                 registers: Registers::new(&ON_THE_BENCH, frames),
                 wrapped: false,
                 taken: 0,
-                fed_before: 0,
+                fed: 0,
             }),
             Err(NoMemory) => Err(NoMemory),
         }
@@ -156,7 +148,6 @@ impl Device {
         ensures stands { DeviceStandsFor self.old.part keep false self.new [] }
         ensures fed { fed_of self.new ≡ fed_of self.old }
     {
-        self.fed_before = self.fed();
         self.cutter = Cutter::new();
         self.registers.reset(&keep);
         self.wrapped = false;
@@ -165,7 +156,7 @@ impl Device {
 
     /// The present boot attempt.
     fn attempt(&self) -> Attempt
-        ensures { (part : PartData) (kept : KeptData) (wrapped : Bool) (bytes : List ℕ) → DeviceStandsFor part kept wrapped self.now bytes → result ≡ attempt_in part kept wrapped bytes }
+        ensures { OfPast self.now (λ p. result ≡ attempt_in p.part p.kept p.wrapped p.bytes) }
     {
         let attempt = self.registers.attempt();
         Attempt {
@@ -177,14 +168,14 @@ impl Device {
 
     /// The word of BOOTSTS.
     fn boot_status(&self) -> u32
-        ensures { (part : PartData) (kept : KeptData) (wrapped : Bool) (bytes : List ℕ) → DeviceStandsFor part kept wrapped self.now bytes → result ≡ (state_of part kept wrapped bytes).bootsts }
+        ensures { OfPast self.now (λ p. result ≡ (state_at p).bootsts) }
     {
         boot_word(self.attempt(), self.registers.before)
     }
 
     /// What a next attempt of this kind keeps: WBSTAR, TIMER and BSPI, and this attempt as the one before.
     pub fn kept(&self, kind: Kind) -> Kept
-        ensures { (part : PartData) (kept : KeptData) (wrapped : Bool) (bytes : List ℕ) → DeviceStandsFor part kept wrapped self.now bytes → result ≡ kept_after part kept wrapped bytes kind }
+        ensures { OfPast self.now (λ p. result ≡ kept_after p.part p.kept p.wrapped p.bytes kind) }
     {
         Kept {
             wbstar: self.registers.value(&self.part, Reg::Wbstar),
@@ -195,19 +186,11 @@ impl Device {
         }
     }
 
-    /// Whether the flash may end here: the attempt is one of a boot that hasn't started, failed or left by an IPROG, and no word is due.
-    pub fn may_wrap(&self) -> bool
-        ensures yes { IsTrue result → MayWrap self.now }
-        ensures no { result ≡ false → MayWrap self.now → ⊥ }
-    {
-        self.registers.may_wrap()
-    }
-
     /// Says that the flash has ended before the attempt did: BOOTSTS shows it until the next reset, and all else stays.
     pub fn wrap(&mut self)
         requires { MayWrap self.old }
         ensures same { self.new ≡ with_wrap self.old }
-        ensures stands { (part : PartData) (kept : KeptData) (wrapped : Bool) (bytes : List ℕ) → DeviceStandsFor part kept wrapped self.old bytes → DeviceStandsFor part kept true self.new bytes }
+        ensures stands { OfPast self.old (λ p. DeviceStandsFor p.part p.kept true self.new p.bytes) }
     {
         self.wrapped = true;
     }
@@ -233,10 +216,10 @@ impl Device {
         ensures full { 0 < due_count self.new.registers.due → IsFull read.new }
         ensures going { self.new.registers.stop ≡ None }
         ensures taken { self.new.taken ≡ self.old.taken }
-        ensures fed_before { self.new.fed_before ≡ self.old.fed_before }
+        ensures part { self.new.part ≡ self.old.part }
+        ensures fed { self.new.fed ≡ self.old.fed }
         ensures cutter { self.new.cutter ≡ self.old.cutter }
-        ensures given { (part : PartData) (kept : KeptData) (wrapped : Bool) (bytes : List ℕ) → DeviceStandsFor part kept wrapped self.old bytes
-            → Gives part kept wrapped self.old self.new bytes read.old read.new }
+        ensures given { OfPast self.old (λ p. Gives p.part p.kept p.wrapped self.old self.new p.bytes read.old read.new) }
     {
         self.registers.give(&self.part, read)
     }
@@ -250,20 +233,19 @@ impl Device {
         ensures forward { at.old ≤ at.new }
         ensures within { at.new ≤ length piece.now }
         ensures taken { self.new.taken ≡ self.old.taken + (at.new - at.old) }
-        ensures fed_before { self.new.fed_before ≡ self.old.fed_before }
+        ensures part { self.new.part ≡ self.old.part }
+        ensures fed { fed_of self.new ≡ fed_more self.old (at.new - at.old) }
         ensures due { NoWordDue self.new }
         ensures cutter { self.new.cutter ≡ self.old.cutter }
-        ensures stands { (part : PartData) (kept : KeptData) (wrapped : Bool) (bytes : List ℕ) → DeviceStandsFor part kept wrapped self.old bytes
-            → DeviceStandsFor part kept wrapped self.new (bytes ++ between piece.now at.old at.new) }
-        ensures told { (part : PartData) (kept : KeptData) (wrapped : Bool) (bytes : List ℕ) → DeviceStandsFor part kept wrapped self.old bytes
-            → told_of part kept self.new (bytes ++ between piece.now at.old at.new) ≡ told_of part kept self.old bytes }
-        ensures quiet { (part : PartData) (kept : KeptData) (wrapped : Bool) (bytes : List ℕ) → DeviceStandsFor part kept wrapped self.old bytes
-            → history_of (bytes ++ between piece.now at.old at.new) ≡ history_of bytes }
+        ensures stands { Takes self.old self.new (between piece.now at.old at.new) }
+        ensures told { TellsNone self.old self.new (between piece.now at.old at.new) }
+        ensures quiet { OfPast self.old (λ p. history_of (p.bytes ++ between piece.now at.old at.new) ≡ history_of p.bytes) }
     {
         let count = self.cutter.nops(&piece[*at..]);
         let left = self.registers.tick(&self.part, count);
         *at += count - left;
         self.taken += (count - left) as u64;
+        self.fed = self.fed.saturating_add((count - left) as u64);
     }
 
     /// Takes the next run of the piece from `at` on, which it moves behind the bytes taken, and says whether the piece is
@@ -276,13 +258,11 @@ impl Device {
         ensures forward { at.old ≤ at.new }
         ensures within { at.new ≤ length piece.now }
         ensures taken { self.new.taken ≡ self.old.taken + (at.new - at.old) }
-        ensures fed_before { self.new.fed_before ≡ self.old.fed_before }
-        ensures stands { (part : PartData) (kept : KeptData) (wrapped : Bool) (bytes : List ℕ) → DeviceStandsFor part kept wrapped self.old bytes
-            → DeviceStandsFor part kept wrapped self.new (bytes ++ between piece.now at.old at.new) }
-        ensures told { (part : PartData) (kept : KeptData) (wrapped : Bool) (bytes : List ℕ) → DeviceStandsFor part kept wrapped self.old bytes
-            → told_of part kept self.new (bytes ++ between piece.now at.old at.new) ≡ told_of part kept self.old bytes }
-        ensures commands { (part : PartData) (kept : KeptData) (wrapped : Bool) (bytes : List ℕ) → DeviceStandsFor part kept wrapped self.old bytes
-            → CommandsLast bytes (between piece.now at.old at.new) }
+        ensures part { self.new.part ≡ self.old.part }
+        ensures fed { fed_of self.new ≡ fed_more self.old (at.new - at.old) }
+        ensures stands { Takes self.old self.new (between piece.now at.old at.new) }
+        ensures told { TellsNone self.old self.new (between piece.now at.old at.new) }
+        ensures commands { OfPast self.old (λ p. CommandsLast p.bytes (between piece.now at.old at.new)) }
         ensures used_up { IsTrue result → (at.new ≡ length piece.now) × (self.new.registers.stop ≡ None) × NoWordDue self.new }
         ensures goes { result ≡ false → self.new.registers.stop ≡ None
             → calls_left self.new.cutter (length piece.now - at.new) < calls_left self.old.cutter (length piece.now - at.old) }
@@ -293,6 +273,7 @@ impl Device {
         let left = self.registers.run(&self.part, run, *at - from);
         *at -= left;
         self.taken += (*at - from) as u64;
+        self.fed = self.fed.saturating_add((*at - from) as u64);
         is_done(used_up, self.registers.stop())
     }
 
@@ -306,13 +287,11 @@ impl Device {
         ensures forward { at.old ≤ at.new }
         ensures within { at.new ≤ length piece.now }
         ensures taken { self.new.taken ≡ self.old.taken + (at.new - at.old) }
-        ensures fed_before { self.new.fed_before ≡ self.old.fed_before }
-        ensures stands { (part : PartData) (kept : KeptData) (wrapped : Bool) (bytes : List ℕ) → DeviceStandsFor part kept wrapped self.old bytes
-            → DeviceStandsFor part kept wrapped self.new (bytes ++ between piece.now at.old at.new) }
-        ensures told { (part : PartData) (kept : KeptData) (wrapped : Bool) (bytes : List ℕ) → DeviceStandsFor part kept wrapped self.old bytes
-            → told_of part kept self.new (bytes ++ between piece.now at.old at.new) ≡ told_of part kept self.old bytes }
-        ensures commands { (part : PartData) (kept : KeptData) (wrapped : Bool) (bytes : List ℕ) → DeviceStandsFor part kept wrapped self.old bytes
-            → CommandsLast bytes (between piece.now at.old at.new) }
+        ensures part { self.new.part ≡ self.old.part }
+        ensures fed { fed_of self.new ≡ fed_more self.old (at.new - at.old) }
+        ensures stands { Takes self.old self.new (between piece.now at.old at.new) }
+        ensures told { TellsNone self.old self.new (between piece.now at.old at.new) }
+        ensures commands { OfPast self.old (λ p. CommandsLast p.bytes (between piece.now at.old at.new)) }
         ensures used_up { IsTrue result → (at.new ≡ length piece.now) × (self.new.registers.stop ≡ None) × NoWordDue self.new }
         ensures goes { result ≡ false → self.new.registers.stop ≡ None
             → calls_left self.new.cutter (length piece.now - at.new) < calls_left self.old.cutter (length piece.now - at.old) }
@@ -329,17 +308,14 @@ impl Device {
     pub fn feed(&mut self, piece: &[u8], read: &mut ReadBuf) -> Fed
         requires { self.old.taken + length piece.now ≤ 2 ^ 63 }
         ensures within { taken_in (length piece.now) result ≤ length piece.now }
-        ensures taken { self.new.taken ≤ self.old.taken + length piece.now }
-        ensures fed_before { self.new.fed_before ≡ self.old.fed_before }
-        ensures stands { (part : PartData) (kept : KeptData) (wrapped : Bool) (bytes : List ℕ) → DeviceStandsFor part kept wrapped self.old bytes
-            → DeviceStandsFor part kept wrapped self.new (bytes ++ take (taken_in (length piece.now) result) piece.now) }
-        ensures answer { (part : PartData) (kept : KeptData) (wrapped : Bool) (bytes : List ℕ) → DeviceStandsFor part kept wrapped self.old bytes
-            → Answers part kept self.new (bytes ++ take (taken_in (length piece.now) result) piece.now) read.new result }
-        ensures reads { (part : PartData) (kept : KeptData) (wrapped : Bool) (bytes : List ℕ) → DeviceStandsFor part kept wrapped self.old bytes
-            → (more : List ℕ) × (read.new ≡ with_words read.old more)
-            × (told_of part kept self.new (bytes ++ take (taken_in (length piece.now) result) piece.now) ≡ told_of part kept self.old bytes ++ more) }
-        ensures stopped { (part : PartData) (kept : KeptData) (wrapped : Bool) (bytes : List ℕ) → DeviceStandsFor part kept wrapped self.old bytes → IsSome (stop_in part kept bytes)
-            → (self.new ≡ self.old) × (read.new ≡ read.old) × (taken_in (length piece.now) result ≡ 0) }
+        ensures part { self.new.part ≡ self.old.part }
+        ensures taken { self.new.taken ≡ self.old.taken + taken_in (length piece.now) result }
+        ensures fed { fed_of self.new ≡ fed_more self.old (taken_in (length piece.now) result) }
+        ensures stands { Takes self.old self.new (part_taken piece.now result) }
+        ensures answer { AnswersFor self.old self.new (part_taken piece.now result) read.new result }
+        ensures reads { TellsNext self.old self.new (part_taken piece.now result) read.old read.new }
+        ensures stopped { OfPast self.old (λ p. IsSome (stop_at p) → (self.new ≡ self.old) × (read.new ≡ read.old) × (taken_in (length piece.now) result ≡ 0)) }
+        ensures stays { (line : Stop) → self.old.registers.stop ≡ Some line → (self.new ≡ self.old) × (read.new ≡ read.old) × (result ≡ fed_by line 0) }
     {
         let mut at = 0;
         'runs: loop {
@@ -359,8 +335,7 @@ impl Device {
     pub fn memory(&self) -> &Memory
         ensures now { result.now ≡ self.now.registers.frames.memory }
         ensures frames { AreFramesOf self.now.part result.now }
-        ensures shows { (part : PartData) (kept : KeptData) (wrapped : Bool) (bytes : List ℕ) → DeviceStandsFor part kept wrapped self.now bytes
-            → AreSame (frame_at part result.now) (memory_in part kept bytes) }
+        ensures shows { OfPast self.now (λ p. AreSame (frame_at p.part result.now) (memory_in p.part p.kept p.bytes)) }
     {
         self.registers.frames.memory()
     }
@@ -368,9 +343,8 @@ impl Device {
     /// The registers and all else that a report shows but the memory. While words of frame data are still due, FAR is that of
     /// the words given so far.
     pub fn state(&self) -> Regs
-        ensures owing { (part : PartData) (kept : KeptData) (wrapped : Bool) (bytes : List ℕ) → DeviceStandsFor part kept wrapped self.now bytes
-            → result ≡ state_owing part kept wrapped bytes (frames_due self.now.registers.due) }
-        ensures value { (part : PartData) (kept : KeptData) (wrapped : Bool) (bytes : List ℕ) → DeviceStandsFor part kept wrapped self.now bytes → NoWordDue self.now → result ≡ state_of part kept wrapped bytes }
+        ensures owing { OfPast self.now (λ p. result ≡ state_owing p.part p.kept p.wrapped p.bytes (frames_due self.now.registers.due)) }
+        ensures value { OfPast self.now (λ p. NoWordDue self.now → result ≡ state_at p) }
     {
         Regs {
             taken: self.taken,
@@ -397,7 +371,7 @@ impl Device {
 
     /// Where the bytes taken end.
     fn end(&self) -> End
-        ensures { (part : PartData) (kept : KeptData) (wrapped : Bool) (bytes : List ℕ) → DeviceStandsFor part kept wrapped self.now bytes → result ≡ (state_of part kept wrapped bytes).end }
+        ensures { OfPast self.now (λ p. result ≡ (state_at p).end) }
     {
         end_of(
             self.registers.stop(),
@@ -409,14 +383,14 @@ impl Device {
     /// The part.
     pub fn part(&self) -> &Part
         ensures now { result.now ≡ self.now.part }
-        ensures value { (part : PartData) (kept : KeptData) (wrapped : Bool) (bytes : List ℕ) → DeviceStandsFor part kept wrapped self.now bytes → result.now ≡ part }
+        ensures value { OfPast self.now (λ p. result.now ≡ p.part) }
     {
         &self.part
     }
 
     /// The fault that stopped the device.
     pub fn fault(&self) -> Option<Fault>
-        ensures { (part : PartData) (kept : KeptData) (wrapped : Bool) (bytes : List ℕ) → DeviceStandsFor part kept wrapped self.now bytes → result ≡ fault_of (line_by (stop_in part kept bytes)) }
+        ensures { OfPast self.now (λ p. result ≡ fault_of (line_by (stop_at p))) }
     {
         match self.registers.stop() {
             Some(Stop::Fault(fault)) => Some(fault),
@@ -426,7 +400,7 @@ impl Device {
 
     /// Whether startup has ended.
     pub fn started(&self) -> bool
-        ensures { (part : PartData) (kept : KeptData) (wrapped : Bool) (bytes : List ℕ) → DeviceStandsFor part kept wrapped self.now bytes → result ≡ ((state_of part kept wrapped bytes).phase == 7) }
+        ensures { OfPast self.now (λ p. result ≡ ((state_at p).phase == 7)) }
     {
         self.registers.clock.has_ended()
     }
@@ -434,7 +408,7 @@ impl Device {
     /// The bytes taken since the reset.
     pub fn taken(&self) -> u64
         ensures now { result ≡ self.now.taken }
-        ensures value { (part : PartData) (kept : KeptData) (wrapped : Bool) (bytes : List ℕ) → DeviceStandsFor part kept wrapped self.now bytes → result ≡ length bytes }
+        ensures value { OfPast self.now (λ p. result ≡ length p.bytes) }
     {
         self.taken
     }

@@ -1,7 +1,7 @@
 //! The words of a read that are still to be given.
 
 /// The words of the last read that are still to be given.
-#[derive(Clone, Copy, Debug, PartialEq, Eq)]
+#[derive(Clone, Copy)]
 pub enum Due {
     /// None.
     Nothing,

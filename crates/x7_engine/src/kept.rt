@@ -16,3 +16,12 @@ pub struct Kept {
     /// The attempt before, if there was one.
     pub before: Option<Attempt>,
 }
+
+/// What a device on the bench keeps: nothing.
+pub const ON_THE_BENCH: Kept = Kept {
+    wbstar: 0,
+    timer: 0,
+    bspi: 0,
+    kind: Kind::Bench,
+    before: None,
+};

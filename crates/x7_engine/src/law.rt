@@ -16,6 +16,7 @@ ghost use Rattle.x7_flow.specs.Controls.{masked, same_idcode};
 ghost use Rattle.x7_engine.specs.Registers.{HasMaskedBits, has_ghigh, is_clearance, is_pending, takes_shutdown};
 ghost use Rattle.x7_engine.specs.Rest.{AtRest, GoesOn};
 ghost use Rattle.x7_engine.specs.Sequence.{Begins, HasGhigh, IsPending};
+ghost use Rattle.x7_engine.specs.Standing.{DeviceStandsFor, DeviceState, NoWordDue, due_of, told_of};
 ghost use Rattle.x7_engine.specs.Startup.{phase_of, startup_progress};
 ghost use Rattle.x7_engine.specs.State.{history_taken, line_by, memory_in, reads_of, state_of, stop_in, taken_of};
 ghost use Rattle.x7_engine.specs.Stops.{Stopped, fault_of, line_at};
@@ -95,6 +96,13 @@ pub fn rest_lasts()
     ensures stays { (part : PartData) (kept : Kept) (bytes more : List ℕ) → AreBytes (bytes ++ more) → GoesOn bytes more → AtRest part kept bytes → AtRest part kept (bytes ++ more) }
     ensures history { (bytes more : List ℕ) → AreBytes (bytes ++ more) → GoesOn bytes more → history_of (bytes ++ more) ≡ history_of bytes }
     ensures new { (part : PartData) → AtRest part on_the_bench [] }
+{}
+
+/// The words read out are those told, and then those that are still due.
+pub fn reads_are_told_or_due()
+    ensures all { (part : PartData) (kept : Kept) (wrapped : Bool) (d : DeviceState) (bytes : List ℕ) → DeviceStandsFor part kept wrapped d bytes
+        → told_of part kept d bytes ++ due_of part kept d bytes ≡ reads_of part kept bytes }
+    ensures none { (part : PartData) (kept : Kept) (d : DeviceState) (bytes : List ℕ) → NoWordDue d → due_of part kept d bytes ≡ [] }
 {}
 
 /// The words that further bytes read out come after those read out so far.

@@ -22,15 +22,17 @@ mod value;
 mod words;
 
 pub use device::{Device, Undo, flash_may_end};
+pub use due::Due;
 pub use fault::Fault;
 pub use fed::Fed;
-pub use kept::Kept;
+pub use kept::{Kept, ON_THE_BENCH};
 pub use law::{
     checks_before_startup, controls_take_masked_bits, fallbacks_wait_for_the_sync_word,
-    phases_are_the_greatest_begun, reads_grow, rest_lasts, shutdowns_and_ghigh, startup_begins,
+    phases_are_the_greatest_begun, reads_are_told_or_due, reads_grow, rest_lasts, shutdowns_and_ghigh, startup_begins,
     stops_are_final, stops_are_first, watchdog_fires, wraps_show_in_bootsts,
 };
 pub use read_buffer::ReadBuf;
 pub use regs::{End, Regs};
+pub use stop::Stop;
 pub use text::{end_words, frame_line, phase_line, put_frame, reg_lines};
 pub use until_started::UntilStarted;

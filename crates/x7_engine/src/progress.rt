@@ -84,7 +84,7 @@ fn check_after(check: u32, reg: Reg, word: u32, reset: bool) -> u32
 }
 
 /// What is known of all accesses so far.
-#[derive(Clone, Copy, Debug)]
+#[derive(Clone, Copy)]
 pub(crate) struct Progress {
     pub(crate) check: u32,
     pub(crate) matched: bool,

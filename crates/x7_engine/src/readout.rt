@@ -8,6 +8,7 @@ ghost use Rattle.x7_engine.specs.Standing.{due_count};
 ghost use Rattle.x7_engine.specs.Values.{answer_of};
 ghost use Rattle.x7_engine.specs.declared.kept.Kept.{Kept as KeptData};
 ghost use Rattle.x7_engine.specs.declared.stop.Stop.{Stop};
+ghost use Rattle.x7_engine.specs.Entering.{EntersAt, OfHistory};
 
 use crate::due::Due;
 use crate::read_buffer::ReadBuf;
@@ -60,9 +61,9 @@ impl Registers {
         ensures at_rest { (line : Stop) → self.new.stop ≡ Some line → due_count self.new.due ≡ 0 }
         ensures counts { (n : ℕ) → counted_in self.new.stop n ≡ n }
         ensures frames { self.new.frames ≡ self.old.frames }
-        ensures stands { (kept : KeptData) (h : History) (place : ℕ) → IsNext place h → RegistersStandFor part.now kept (registers_in self.old) h place → RegistersStandFor part.now kept (registers_in self.new) (entry (Read register count) place ∷ h) place }
-        ensures reads { (kept : KeptData) (h : History) (place : ℕ) → RegistersStandFor part.now kept (registers_in self.old) h place
-            → answer_of part.now kept h (Read register count) place ≡ words_left part.now (entry (Read register count) place ∷ h) self.new.due }
+        ensures stands { EntersAt part.now (registers_in self.old) (registers_in self.new) (λ place h. entry (Read register count) place ∷ h) }
+        ensures reads { OfHistory part.now (registers_in self.old) (λ kept h place.
+            answer_of part.now kept h (Read register count) place ≡ words_left part.now (entry (Read register count) place ∷ h) self.new.due) }
     {
         if !reads_frames(self.settings(), register, count) {
             self.due = Due::Same(self.read_value(part, register), count);
@@ -81,8 +82,7 @@ impl Registers {
         ensures full { 0 < due_count self.new.due → IsFull read.new }
         ensures going { self.new.stop ≡ None }
         ensures frames { FramesFit part.now self.new.frames }
-        ensures given { (kept : KeptData) (h : History) (n : ℕ) → RegistersStandFor part.now kept (registers_in self.old) h n
-            → Gave part.now kept (registers_in self.old) (registers_in self.new) h n read.old read.new }
+        ensures given { OfHistory part.now (registers_in self.old) (λ kept h n. Gave part.now kept (registers_in self.old) (registers_in self.new) h n read.old read.new) }
     {
         match self.due {
             Due::Nothing => (),
@@ -105,8 +105,7 @@ impl Registers {
         ensures full { 0 < due_count self.new.due → IsFull read.new }
         ensures going { self.new.stop ≡ None }
         ensures frames { FramesFit part.now self.new.frames }
-        ensures given { (kept : KeptData) (h : History) (n : ℕ) → RegistersStandFor part.now kept (registers_in self.old) h n
-            → Gave part.now kept (registers_in self.old) (registers_in self.new) h n read.old read.new }
+        ensures given { OfHistory part.now (registers_in self.old) (λ kept h n. Gave part.now kept (registers_in self.old) (registers_in self.new) h n read.old read.new) }
     {
         self.give_due(part, read);
         count_of(self.due) == 0

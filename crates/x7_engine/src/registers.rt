@@ -16,6 +16,7 @@ ghost use Rattle.x7_engine.specs.State.{last_counted};
 ghost use Rattle.x7_engine.specs.Stops.{access_line, fault_of, frame_line, or_else, stop_by};
 ghost use Rattle.x7_engine.specs.Values.{cause_of, read_out};
 ghost use Rattle.x7_engine.specs.declared.kept.Kept.{Kept as KeptData};
+ghost use Rattle.x7_engine.specs.Entering.{AreRead, Enters, EntersAt, EntersIf, OfHistory, ReadsIf, RunEnters, RunReads, up_to_stop, words_entered};
 
 use crate::clock::Clock;
 use crate::controls::{Controls, is_dec, masked};
@@ -23,7 +24,6 @@ use crate::due::Due;
 use crate::fault::Fault;
 use crate::kept::Kept;
 use crate::progress::{Progress, is, is_same_idcode};
-use crate::readout::count_of;
 use crate::stop::Stop;
 use crate::words::Words;
 use x7_flow::{FrameSettings, Frames};
@@ -99,30 +99,6 @@ fn is_a_fallback(kind: Kind) -> bool
     }
 }
 
-/// Whether an attempt is of a boot, and not on the bench.
-fn is_boot(kind: Kind) -> bool
-    ensures yes { IsTrue result → kind ≡ Kind.Bench → ⊥ }
-    ensures no { result ≡ false → kind ≡ Kind.Bench }
-{
-    match kind {
-        Kind::Bench => false,
-        _ => true,
-    }
-}
-
-/// Whether a boot attempt has ended at this stop: by a fault that a fallback follows, or by an obeyed IPROG.
-fn has_left(stop: Option<Stop>) -> bool
-    ensures yes { IsTrue result → (cause_of (fault_of stop) false ≡ None) → stop ≡ Some Stop.Iprog }
-    ensures cause { result ≡ false → cause_of (fault_of stop) false ≡ None }
-    ensures iprog { result ≡ false → stop ≡ Some Stop.Iprog → ⊥ }
-{
-    match stop {
-        Some(Stop::Iprog) => true,
-        Some(Stop::Fault(Fault::Id { .. } | Fault::Crc { .. } | Fault::Watchdog)) => true,
-        _ => false,
-    }
-}
-
 /// The line of a refused word, copy or read of frame data.
 pub(crate) fn stop_of_refused(fault: RunFault) -> Stop
     ensures value { result ≡ stop_by fault }
@@ -162,7 +138,7 @@ pub(crate) struct Registers {
 }
 
 impl Registers {
-    ghost use Rattle.x7_engine.specs.Standing.{EndsWords, HoldsRun, IsHeaderStep, IsNext, MayWrapWith, RegistersStandFor, registers_in, TellsNothing, words_left};
+    ghost use Rattle.x7_engine.specs.Standing.{EndsWords, HoldsRun, IsHeaderStep, IsNext, RegistersStandFor, registers_in, TellsNothing, words_left};
 
     /// Those of a device that took nothing, with what the reset kept and frames after a reset.
     pub(crate) fn new(kept: &Kept, frames: Frames) -> Registers
@@ -207,23 +183,6 @@ impl Registers {
         ensures { result ≡ self.now.stop }
     {
         self.stop
-    }
-
-    /// Whether the flash may end here.
-    pub(crate) fn may_wrap(&self) -> bool
-        ensures yes { IsTrue result → MayWrapWith (registers_in self.now) }
-        ensures no { result ≡ false → MayWrapWith (registers_in self.now) → ⊥ }
-    {
-        if !is_boot(self.kind) {
-            return false;
-        }
-        if self.clock.has_ended() {
-            return false;
-        }
-        if has_left(self.stop) {
-            return false;
-        }
-        count_of(self.due) == 0
     }
 
     /// The command that CMD holds, five bits.
@@ -283,8 +242,7 @@ impl Registers {
         requires going { self.old.stop ≡ None }
         requires none_due { due_count self.old.due ≡ 0 }
         requires frames { FramesFit part.now self.old.frames }
-        ensures stands { (kept : KeptData) (h : History) (place : ℕ) → IsNext place h → RegistersStandFor part.now kept (registers_in self.old) h place
-            → RegistersStandFor part.now kept (registers_in self.new) (entry (Write (number_of reg) word) place ∷ h) place }
+        ensures stands { EntersAt part.now (registers_in self.old) (registers_in self.new) (λ place h. entry (Write (number_of reg) word) place ∷ h) }
         ensures counts { (n : ℕ) → counted_in self.new.stop n ≡ n }
         ensures due { self.new.due ≡ self.old.due }
         ensures frames { FramesFit part.now self.new.frames }
@@ -310,8 +268,7 @@ impl Registers {
         requires plain { has_effect register ≡ false }
         requires going { self.old.stop ≡ None }
         requires none_due { due_count self.old.due ≡ 0 }
-        ensures stands { (part : PartData) (kept : KeptData) (h : History) (place : ℕ) → IsNext place h → RegistersStandFor part kept (registers_in self.old) h place
-            → RegistersStandFor part kept (registers_in self.new) (entry (Write register word) place ∷ h) place }
+        ensures stands { (part : PartData) → EntersAt part (registers_in self.old) (registers_in self.new) (λ place h. entry (Write register word) place ∷ h) }
         ensures stop { self.new.stop ≡ self.old.stop }
         ensures due { self.new.due ≡ self.old.due }
         ensures frames { self.new.frames ≡ self.old.frames }
@@ -326,8 +283,7 @@ impl Registers {
         requires going { self.old.stop ≡ None }
         requires none_due { due_count self.old.due ≡ 0 }
         requires frames { FramesFit part.now self.old.frames }
-        ensures stands { (kept : KeptData) (h : History) (place : ℕ) → IsNext place h → RegistersStandFor part.now kept (registers_in self.old) h place
-            → RegistersStandFor part.now kept (registers_in self.new) (entry (Write register word) place ∷ h) place }
+        ensures stands { EntersAt part.now (registers_in self.old) (registers_in self.new) (λ place h. entry (Write register word) place ∷ h) }
         ensures counts { (n : ℕ) → counted_in self.new.stop n ≡ n }
         ensures due { self.new.due ≡ self.old.due }
         ensures frames { FramesFit part.now self.new.frames }
@@ -349,7 +305,7 @@ impl Registers {
         ensures fired { (line : Stop) → self.new.stop ≡ Some line → (line ≡ Stop.Fault Fault.Watchdog) × (result < count) }
         ensures due { self.new.due ≡ self.old.due }
         ensures frames { self.new.frames ≡ self.old.frames }
-        ensures stands { (kept : KeptData) (h : History) (n : ℕ) → RegistersStandFor part.now kept (registers_in self.old) h n → RegistersStandFor part.now kept (registers_in self.new) h (n + (count - result)) }
+        ensures stands { Enters part.now (registers_in self.old) (registers_in self.new) (λ n h. h) (count - result) }
     {
         let Some(taken) = self.clock.bytes(part, count) else {
             return 0;
@@ -369,8 +325,8 @@ impl Registers {
         ensures goes_on { self.new.stop ≡ None → result ≡ 0 }
         ensures due { self.new.due ≡ self.old.due }
         ensures frames { FramesFit part.now self.new.frames }
-        ensures stands { (kept : KeptData) (h : History) (n : ℕ) → 0 < count → RegistersStandFor part.now kept (registers_in self.old) h n
-            → RegistersStandFor part.now kept (registers_in self.new) (until (counted_in self.new.stop (n + (count - result))) (entry (Write register word) (n + count) ∷ h)) (n + (count - result)) }
+        ensures stands { EntersIf (0 < count) part.now (registers_in self.old) (registers_in self.new)
+            (up_to_stop (registers_in self.new) (λ n h. entry (Write register word) (n + count) ∷ h) (count - result)) (count - result) }
     {
         let left = self.tick(part, count);
         if self.stop.is_some() {
@@ -392,8 +348,8 @@ impl Registers {
         ensures goes_on { self.new.stop ≡ None → result ≡ length bytes.now }
         ensures due { self.new.due ≡ self.old.due }
         ensures frames { self.new.frames ≡ self.old.frames }
-        ensures stands { (kept : KeptData) (h : History) (n : ℕ) → length bytes.now % 4 ≡ 0 → RegistersStandFor part.now kept (registers_in self.old) h n
-            → RegistersStandFor part.now kept (registers_in self.new) (until (counted_in self.new.stop (n + result)) (entered_all n (payload_steps register (words_of_bytes bytes.now)) h)) (n + result) }
+        ensures stands { EntersIf (length bytes.now % 4 ≡ 0) part.now (registers_in self.old) (registers_in self.new)
+            (up_to_stop (registers_in self.new) (words_entered register bytes.now) result) result }
     {
         let left = self.tick(part, bytes.len());
         let taken = bytes.len() - left;
@@ -416,8 +372,7 @@ impl Registers {
         ensures going { self.new.stop ≡ None }
         ensures due { self.new.due ≡ self.old.due }
         ensures frames { FramesFit part.now self.new.frames }
-        ensures stands { (kept : KeptData) (h : History) (n : ℕ) → RegistersStandFor part.now kept (registers_in self.old) h n
-            → RegistersStandFor part.now kept (registers_in self.new) (entered_all n (payload_steps 2 (words_of_bytes (take result bytes.now))) h) (n + result) }
+        ensures stands { Enters part.now (registers_in self.old) (registers_in self.new) (words_entered 2 (take result bytes.now)) result }
     {
         let settings = self.settings();
         let before = self.clock.before_firing(part, bytes.len()) / 4 * 4;
@@ -440,8 +395,7 @@ impl Registers {
         ensures going { self.new.stop ≡ None }
         ensures due { self.new.due ≡ self.old.due }
         ensures frames { FramesFit part.now self.new.frames }
-        ensures stands { (kept : KeptData) (h : History) (n : ℕ) → RegistersStandFor part.now kept (registers_in self.old) h n
-            → RegistersStandFor part.now kept (registers_in self.new) (entered_all n (payload_steps (number_of reg) (words_of_bytes (take result bytes.now))) h) (n + result) }
+        ensures stands { Enters part.now (registers_in self.old) (registers_in self.new) (words_entered (number_of reg) (take result bytes.now)) result }
     {
         match reg {
             Reg::Fdri if self.progress.matched => self.frame_data(part, bytes),
@@ -461,8 +415,7 @@ impl Registers {
         ensures goes_on { self.new.stop ≡ None → result ≡ length bytes.now }
         ensures due { self.new.due ≡ self.old.due }
         ensures frames { FramesFit part.now self.new.frames }
-        ensures stands { (kept : KeptData) (h : History) (n : ℕ) → RegistersStandFor part.now kept (registers_in self.old) h n
-            → RegistersStandFor part.now kept (registers_in self.new) (until (counted_in self.new.stop (n + result)) (entered_all n (payload_steps register (words_of_bytes bytes.now)) h)) (n + result) }
+        ensures stands { Enters part.now (registers_in self.old) (registers_in self.new) (up_to_stop (registers_in self.new) (words_entered register bytes.now) result) result }
     {
         let (words, _) = bytes.as_chunks::<4>();
         let mut taken = 0;
@@ -489,8 +442,7 @@ impl Registers {
         ensures goes_on { self.new.stop ≡ None → result ≡ length bytes.now }
         ensures due { self.new.due ≡ self.old.due }
         ensures frames { FramesFit part.now self.new.frames }
-        ensures stands { (kept : KeptData) (h : History) (n : ℕ) → RegistersStandFor part.now kept (registers_in self.old) h n
-            → RegistersStandFor part.now kept (registers_in self.new) (until (counted_in self.new.stop (n + result)) (entered_all n (payload_steps register (words_of_bytes bytes.now)) h)) (n + result) }
+        ensures stands { Enters part.now (registers_in self.old) (registers_in self.new) (up_to_stop (registers_in self.new) (words_entered register bytes.now) result) result }
     {
         let Some(reg) = effective(register) else {
             return self.pass_all(part, register, bytes);
@@ -508,9 +460,8 @@ impl Registers {
         ensures at_rest { (line : Stop) → self.new.stop ≡ Some line → due_count self.new.due ≡ 0 }
         ensures counts { (n : ℕ) → counted_in self.new.stop n ≡ n }
         ensures frames { FramesFit part.now self.new.frames }
-        ensures stands { (kept : KeptData) (h : History) (place : ℕ) → IsNext place h → RegistersStandFor part.now kept (registers_in self.old) h place → RegistersStandFor part.now kept (registers_in self.new) (entered place step h) place }
-        ensures reads { (kept : KeptData) (h : History) (place : ℕ) → RegistersStandFor part.now kept (registers_in self.old) h place
-            → read_out part.now kept (entered place step h) ≡ read_out part.now kept h ++ words_left part.now (entered place step h) self.new.due }
+        ensures stands { EntersAt part.now (registers_in self.old) (registers_in self.new) (λ place h. entered place step h) }
+        ensures reads { OfHistory part.now (registers_in self.old) (λ kept h place. AreRead part.now kept h (entered place step h) self.new.due) }
     {
         match step {
             Step::Read(register, count) if count > 0 => self.read(part, register, count),
@@ -530,11 +481,9 @@ impl Registers {
         ensures goes_on { self.new.stop ≡ None → result ≡ 0 }
         ensures at_rest { (line : Stop) → self.new.stop ≡ Some line → due_count self.new.due ≡ 0 }
         ensures frames { FramesFit part.now self.new.frames }
-        ensures stands { (kept : KeptData) (h : History) (n : ℕ) → 0 < count → RegistersStandFor part.now kept (registers_in self.old) h n
-            → RegistersStandFor part.now kept (registers_in self.new) (until (counted_in self.new.stop (n + (count - result))) (entered (n + count) step h)) (n + (count - result)) }
-        ensures reads { (kept : KeptData) (h : History) (n : ℕ) → 0 < count → RegistersStandFor part.now kept (registers_in self.old) h n
-            → read_out part.now kept (until (counted_in self.new.stop (n + (count - result))) (entered (n + count) step h))
-            ≡ read_out part.now kept h ++ words_left part.now (until (counted_in self.new.stop (n + (count - result))) (entered (n + count) step h)) self.new.due }
+        ensures stands { EntersIf (0 < count) part.now (registers_in self.old) (registers_in self.new)
+            (up_to_stop (registers_in self.new) (λ n h. entered (n + count) step h) (count - result)) (count - result) }
+        ensures reads { ReadsIf (0 < count) part.now (registers_in self.old) (registers_in self.new) (up_to_stop (registers_in self.new) (λ n h. entered (n + count) step h) (count - result)) }
     {
         let left = self.tick(part, count);
         if self.stop.is_some() {
@@ -558,11 +507,8 @@ impl Registers {
         ensures quiet { TellsNothing run.entry → due_count self.new.due ≡ 0 }
         ensures at_rest { (line : Stop) → self.new.stop ≡ Some line → due_count self.new.due ≡ 0 }
         ensures frames { FramesFit part.now self.new.frames }
-        ensures stands { (kept : KeptData) (h : History) (from n : ℕ) → EndsWords run.entry from n count → RegistersStandFor part.now kept (registers_in self.old) h n
-            → RegistersStandFor part.now kept (registers_in self.new) (until (counted_in self.new.stop (n + (count - result))) (entered_all from (run_steps run.entry) h)) (n + (count - result)) }
-        ensures reads { (kept : KeptData) (h : History) (from n : ℕ) → EndsWords run.entry from n count → RegistersStandFor part.now kept (registers_in self.old) h n
-            → read_out part.now kept (until (counted_in self.new.stop (n + (count - result))) (entered_all from (run_steps run.entry) h))
-            ≡ read_out part.now kept h ++ words_left part.now (until (counted_in self.new.stop (n + (count - result))) (entered_all from (run_steps run.entry) h)) self.new.due }
+        ensures stands { RunEnters run.entry count part.now (registers_in self.old) (registers_in self.new) (count - result) }
+        ensures reads { RunReads run.entry count part.now (registers_in self.old) (registers_in self.new) (count - result) }
     {
         match run {
             Cut::Need => self.tick(part, count),

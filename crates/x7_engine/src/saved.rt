@@ -1,15 +1,17 @@
 //! The stored values of registers, kept.
-ghost use Rattle.std.specs.Prelude.{◌≡◌};
+ghost use Rattle.std.specs.Prelude.{◌≡◌, []};
+ghost use Rattle.x7_part.specs.Part.{PartData};
 ghost use Rattle.x7_pipeline.specs.Saving.{IsSavedOf};
 ghost use Rattle.x7_flow.specs.Saving.{FramesBack};
-ghost use Rattle.x7_flow.specs.Standing.{FramesFit};
-ghost use Rattle.x7_engine.specs.Standing.{RegistersState};
-ghost use Rattle.x7_engine.specs.Undo.{values_in, values_of};
+ghost use Rattle.x7_flow.specs.Standing.{FramesFit, FramesStandFor, FramesState};
+ghost use Rattle.x7_engine.specs.Kept.{on_the_bench};
+ghost use Rattle.x7_engine.specs.Standing.{RegistersStandFor, RegistersState};
+ghost use Rattle.x7_engine.specs.Undo.{registers_with, values_in, values_of};
 
 use crate::clock::Clock;
 use crate::controls::Controls;
 use crate::due::Due;
-use crate::kept::Kept;
+use crate::kept::ON_THE_BENCH;
 use crate::progress::Progress;
 use crate::registers::Registers;
 use crate::stop::Stop;
@@ -18,17 +20,8 @@ use x7_part::Part;
 use x7_pipeline::Saved;
 use x7_regs::{Attempt, Kind};
 
-/// Nothing kept over a reset.
-const NONE_KEPT: Kept = Kept {
-    wbstar: 0,
-    timer: 0,
-    bspi: 0,
-    kind: Kind::Bench,
-    before: None,
-};
-
 /// The stored values of registers but their frames.
-#[derive(Clone, Copy, Debug)]
+#[derive(Clone, Copy)]
 pub(crate) struct SavedRegisters {
     pub(crate) words: Words,
     pub(crate) controls: Controls,
@@ -41,10 +34,12 @@ pub(crate) struct SavedRegisters {
 }
 
 impl SavedRegisters {
-    /// Some values, where none were kept yet.
-    pub(crate) fn new() -> SavedRegisters {
+    /// Those of a device on the bench that took nothing.
+    pub(crate) fn new() -> SavedRegisters
+        ensures { (part : PartData) (f : FramesState) → FramesStandFor part f [] 0 → RegistersStandFor part on_the_bench (registers_with (values_in result) f) [] 0 }
+    {
         SavedRegisters {
-            words: Words::new(&NONE_KEPT),
+            words: Words::new(&ON_THE_BENCH),
             controls: Controls::new(),
             progress: Progress::new(),
             kind: Kind::Bench,

@@ -3,8 +3,8 @@
 use crate::fault::Fault;
 
 /// What stopped a device.
-#[derive(Clone, Copy, Debug, PartialEq, Eq)]
-pub(crate) enum Stop {
+#[derive(Clone, Copy)]
+pub enum Stop {
     /// A fault.
     Fault(Fault),
     /// An IPROG command that is obeyed.

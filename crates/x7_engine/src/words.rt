@@ -12,7 +12,7 @@ use x7_regs::Reg;
 use x7_words::word_of;
 
 /// The last word written to each register number; where none was, what the reset kept, or 0.
-#[derive(Clone, Copy, Debug)]
+#[derive(Clone, Copy)]
 pub(crate) struct Words {
     last: [u32; 32],
 }

@@ -8,13 +8,14 @@ ghost use Rattle.x7_engine.specs.Stops.{fault_of};
 ghost use Rattle.x7_engine.specs.Values.{cause_of};
 ghost use Rattle.x7_engine.specs.declared.kept.Kept.{Kept as KeptData};
 ghost use Rattle.x7_engine.specs.declared.stop.Stop.TheVariants as stop;
+ghost use Rattle.x7_engine.specs.Past.{OfPast, state_at};
 
 use super::Device;
 
 impl Device {
     /// The phase of startup, 0 to 7.
     pub fn phase(&self) -> u8
-        ensures { (part : PartData) (kept : KeptData) (wrapped : Bool) (bytes : List ℕ) → DeviceStandsFor part kept wrapped self.now bytes → result ≡ (state_of part kept wrapped bytes).phase }
+        ensures { OfPast self.now (λ p. result ≡ (state_at p).phase) }
     {
         self.registers.clock.phase()
     }

@@ -5,6 +5,7 @@ ghost use Rattle.x7_engine.specs.FirstGap.{IsFirstGap, IsInFirstGap};
 ghost use Rattle.x7_engine.specs.Kept.{is_fallback};
 ghost use Rattle.x7_engine.specs.Standing.{DeviceStandsFor, NoWordDue, fed_of};
 ghost use Rattle.x7_engine.specs.declared.kept.Kept.{Kept as KeptData};
+ghost use Rattle.x7_engine.specs.Past.{OfPast};
 
 use super::Device;
 use crate::kept::Kept;
@@ -15,7 +16,7 @@ impl Device {
     /// Whether the bytes taken are one gap, in which nothing stopped the device. After a session that ended, CMD holds DESYNC.
     pub fn is_in_first_gap(&self) -> bool
         ensures yes { IsTrue result → IsInFirstGap self.now }
-        ensures no { (part : PartData) (kept : KeptData) (wrapped : Bool) (bytes : List ℕ) → DeviceStandsFor part kept wrapped self.now bytes → result ≡ false → IsFirstGap part kept bytes → ⊥ }
+        ensures no { OfPast self.now (λ p. result ≡ false → IsFirstGap p.part p.kept p.bytes → ⊥) }
     {
         if self.has_stopped() {
             return false;
@@ -32,8 +33,7 @@ impl Device {
         requires gap { IsInFirstGap self.old }
         requires fallback { is_fallback keep.kind ≡ true }
         ensures part { self.new.part ≡ self.old.part }
-        ensures stands { (part : PartData) (kept : KeptData) (wrapped : Bool) (bytes : List ℕ) → DeviceStandsFor part kept wrapped self.old bytes
-            → DeviceStandsFor part keep false self.new bytes }
+        ensures stands { OfPast self.old (λ p. DeviceStandsFor p.part keep false self.new p.bytes) }
         ensures due { NoWordDue self.new }
         ensures taken { self.new.taken ≡ self.old.taken }
         ensures fed { fed_of self.new ≡ fed_of self.old }

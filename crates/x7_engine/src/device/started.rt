@@ -4,11 +4,12 @@ ghost use Rattle.x7_packets.specs.Cutting.{between, calls_left};
 ghost use Rattle.x7_part.specs.Part.{PartData};
 ghost use Rattle.x7_engine.specs.Phases.{soonest};
 ghost use Rattle.x7_engine.specs.ReadBuffer.{with_words};
-ghost use Rattle.x7_engine.specs.Standing.{DeviceStandsFor, NoWordDue, told_of};
+ghost use Rattle.x7_engine.specs.Standing.{DeviceStandsFor, HasStopped, NoWordDue, fed_more, fed_of, told_of};
 ghost use Rattle.x7_engine.specs.State.{state_of, stop_in};
 ghost use Rattle.x7_engine.specs.UntilStarted.{AnswersUntil, HasNotBegun, NoneStarted, has_started, says_started, taken_until};
 ghost use Rattle.x7_engine.specs.declared.kept.Kept.{Kept as KeptData};
 ghost use Rattle.x7_engine.specs.declared.until_started.UntilStarted.TheVariants as until;
+ghost use Rattle.x7_engine.specs.Past.{AnswersUntilFor, OfPast, Takes, TellsNext, TellsNone, later, part_until, started_at, state_at, stop_at};
 
 use super::{Device, stopped};
 use crate::fed::Fed;
@@ -41,8 +42,7 @@ impl Device {
         ensures within { result ≤ length }
         ensures forward { (result ≡ length) ⊎ (at < result) }
         ensures order { at ≤ result }
-        ensures few { (part : PartData) (kept : KeptData) (wrapped : Bool) (bytes : List ℕ) → DeviceStandsFor part kept wrapped self.now bytes
-            → HasNotBegun part kept bytes ⊎ (result ≤ at + soonest (state_of part kept wrapped bytes).phase) }
+        ensures few { OfPast self.now (λ p. HasNotBegun p.part p.kept p.bytes ⊎ (result ≤ at + soonest (state_at p).phase)) }
     {
         if self.registers.clock.startup.has_begun() {
             return at + soonest(self.phase()).min(length - at);
@@ -59,16 +59,14 @@ impl Device {
         ensures forward { at.old ≤ at.new }
         ensures within { at.new ≤ length piece.now }
         ensures taken { self.new.taken ≡ self.old.taken + (at.new - at.old) }
-        ensures fed_before { self.new.fed_before ≡ self.old.fed_before }
-        ensures stands { (part : PartData) (kept : KeptData) (wrapped : Bool) (bytes : List ℕ) → DeviceStandsFor part kept wrapped self.old bytes
-            → DeviceStandsFor part kept wrapped self.new (bytes ++ between piece.now at.old at.new) }
-        ensures told { (part : PartData) (kept : KeptData) (wrapped : Bool) (bytes : List ℕ) → DeviceStandsFor part kept wrapped self.old bytes
-            → told_of part kept self.new (bytes ++ between piece.now at.old at.new) ≡ told_of part kept self.old bytes }
+        ensures part { self.new.part ≡ self.old.part }
+        ensures fed { fed_of self.new ≡ fed_more self.old (at.new - at.old) }
+        ensures stands { Takes self.old self.new (between piece.now at.old at.new) }
+        ensures told { TellsNone self.old self.new (between piece.now at.old at.new) }
         ensures used_up { IsTrue result → (at.new ≡ length piece.now) × (self.new.registers.stop ≡ None) × NoWordDue self.new }
         ensures goes { result ≡ false → self.new.registers.stop ≡ None
             → calls_left self.new.cutter (length piece.now - at.new) < calls_left self.old.cutter (length piece.now - at.old) }
-        ensures first { (part : PartData) (kept : KeptData) (wrapped : Bool) (bytes : List ℕ) → DeviceStandsFor part kept wrapped self.old bytes → has_started part kept bytes ≡ false
-            → NoneStarted part kept bytes (between piece.now at.old at.new) (at.new - at.old) }
+        ensures first { OfPast self.old (λ p. started_at p ≡ false → NoneStarted p.part p.kept p.bytes (between piece.now at.old at.new) (at.new - at.old)) }
     {
         let end = self.turn_end(*at, piece.len());
         if self.turn(&piece[..end], at) {
@@ -82,20 +80,16 @@ impl Device {
     pub fn feed_until_started(&mut self, piece: &[u8], read: &mut ReadBuf) -> UntilStarted
         requires { self.old.taken + length piece.now ≤ 2 ^ 63 }
         ensures within { taken_until (length piece.now) result ≤ length piece.now }
-        ensures fed_before { self.new.fed_before ≡ self.old.fed_before }
-        ensures stands { (part : PartData) (kept : KeptData) (wrapped : Bool) (bytes : List ℕ) → DeviceStandsFor part kept wrapped self.old bytes
-            → DeviceStandsFor part kept wrapped self.new (bytes ++ take (taken_until (length piece.now) result) piece.now) }
-        ensures first { (part : PartData) (kept : KeptData) (wrapped : Bool) (bytes : List ℕ) → DeviceStandsFor part kept wrapped self.old bytes
-            → NoneStarted part kept bytes piece.now (taken_until (length piece.now) result) }
-        ensures started { (part : PartData) (kept : KeptData) (wrapped : Bool) (bytes : List ℕ) → DeviceStandsFor part kept wrapped self.old bytes → NoWordDue self.new
-            → says_started result ≡ has_started part kept (bytes ++ take (taken_until (length piece.now) result) piece.now) }
-        ensures answer { (part : PartData) (kept : KeptData) (wrapped : Bool) (bytes : List ℕ) → DeviceStandsFor part kept wrapped self.old bytes
-            → AnswersUntil part kept self.new (bytes ++ take (taken_until (length piece.now) result) piece.now) read.new result }
-        ensures reads { (part : PartData) (kept : KeptData) (wrapped : Bool) (bytes : List ℕ) → DeviceStandsFor part kept wrapped self.old bytes
-            → (more : List ℕ) × (read.new ≡ with_words read.old more)
-            × (told_of part kept self.new (bytes ++ take (taken_until (length piece.now) result) piece.now) ≡ told_of part kept self.old bytes ++ more) }
-        ensures stopped { (part : PartData) (kept : KeptData) (wrapped : Bool) (bytes : List ℕ) → DeviceStandsFor part kept wrapped self.old bytes → IsSome (stop_in part kept bytes)
-            → (self.new ≡ self.old) × (read.new ≡ read.old) × (taken_until (length piece.now) result ≡ 0) }
+        ensures part { self.new.part ≡ self.old.part }
+        ensures taken { self.new.taken ≡ self.old.taken + taken_until (length piece.now) result }
+        ensures fed { fed_of self.new ≡ fed_more self.old (taken_until (length piece.now) result) }
+        ensures stands { Takes self.old self.new (part_until piece.now result) }
+        ensures first { OfPast self.old (λ p. NoneStarted p.part p.kept p.bytes piece.now (taken_until (length piece.now) result)) }
+        ensures started { OfPast self.old (λ p. NoWordDue self.new → says_started result ≡ started_at (later p (part_until piece.now result))) }
+        ensures answer { AnswersUntilFor self.old self.new (part_until piece.now result) read.new result }
+        ensures reads { TellsNext self.old self.new (part_until piece.now result) read.old read.new }
+        ensures stopped { OfPast self.old (λ p. IsSome (stop_at p) → (self.new ≡ self.old) × (read.new ≡ read.old) × (taken_until (length piece.now) result ≡ 0)) }
+        ensures stays { HasStopped self.old → (self.new ≡ self.old) × (read.new ≡ read.old) × (taken_until (length piece.now) result ≡ 0) }
     {
         let mut at = 0;
         'runs: loop {

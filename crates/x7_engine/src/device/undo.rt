@@ -1,11 +1,13 @@
 //! A device goes back over bytes that it took.
-ghost use Rattle.std.specs.Prelude.{◌≡◌, ◌≤◌, ◌+◌, ◌++◌, ◌^◌, ℕ, Bool, List, length, max, take, IfOk, IsSome};
+ghost use Rattle.std.specs.Prelude.{◌≡◌, ◌≤◌, ◌+◌, ◌++◌, ◌^◌, ℕ, Bool, List, length, take, IfOk, IsSome, Option, None, Some};
 ghost use Rattle.x7_part.specs.Part.{PartData};
 ghost use Rattle.x7_flow.specs.Standing.{FramesFit};
-ghost use Rattle.x7_engine.specs.Standing.{Answers, DeviceStandsFor, DeviceState, NoWordDue, fed_of, taken_in};
+ghost use Rattle.x7_engine.specs.Standing.{Answers, DeviceStandsFor, DeviceState, NoWordDue, fed_by, fed_more, fed_of, taken_in};
 ghost use Rattle.x7_engine.specs.State.{stop_in};
 ghost use Rattle.x7_engine.specs.Undo.{AreEqual, Back, IsUndoOf, Keeps, dropping};
 ghost use Rattle.x7_engine.specs.declared.kept.Kept.{Kept as KeptData};
+ghost use Rattle.x7_engine.specs.declared.stop.Stop.{Stop};
+ghost use Rattle.x7_engine.specs.Past.{AnswersFor, OfPast, Takes, part_taken, stop_at};
 
 use super::Device;
 use crate::fed::Fed;
@@ -64,7 +66,7 @@ impl Device {
     pub fn fed(&self) -> u64
         ensures { result ≡ fed_of self.now }
     {
-        self.fed_before.saturating_add(self.taken)
+        self.fed
     }
 
     /// Keeps the device.
@@ -87,15 +89,15 @@ impl Device {
         requires none_due { NoWordDue self.old }
         requires undo { IsUndoOf self.old.part undo.old }
         ensures within { taken_in (length piece.now) result ≤ length piece.now }
-        ensures stands { (part : PartData) (kept : KeptData) (wrapped : Bool) (bytes : List ℕ) → DeviceStandsFor part kept wrapped self.old bytes
-            → DeviceStandsFor part kept wrapped self.new (bytes ++ take (taken_in (length piece.now) result) piece.now) }
-        ensures answer { (part : PartData) (kept : KeptData) (wrapped : Bool) (bytes : List ℕ) → DeviceStandsFor part kept wrapped self.old bytes
-            → Answers part kept self.new (bytes ++ take (taken_in (length piece.now) result) piece.now) dropping result }
-        ensures fed_before { self.new.fed_before ≡ self.old.fed_before }
+        ensures stands { Takes self.old self.new (part_taken piece.now result) }
+        ensures answer { AnswersFor self.old self.new (part_taken piece.now result) dropping result }
+        ensures part { self.new.part ≡ self.old.part }
+        ensures taken { self.new.taken ≡ self.old.taken + taken_in (length piece.now) result }
+        ensures fed { fed_of self.new ≡ fed_more self.old (taken_in (length piece.now) result) }
+        ensures stays { (line : Stop) → self.old.registers.stop ≡ Some line → (self.new ≡ self.old) × (result ≡ fed_by line 0) }
         ensures keeps { Keeps undo.new self.old }
-        ensures back { (part : PartData) (kept : KeptData) (wrapped : Bool) (bytes : List ℕ) → DeviceStandsFor part kept wrapped self.old bytes → Back undo.new self.new self.old }
-        ensures stopped { (part : PartData) (kept : KeptData) (wrapped : Bool) (bytes : List ℕ) → DeviceStandsFor part kept wrapped self.old bytes → IsSome (stop_in part kept bytes)
-            → (self.new ≡ self.old) × (taken_in (length piece.now) result ≡ 0) }
+        ensures back { OfPast self.old (λ p. Back undo.new self.new self.old) }
+        ensures stopped { OfPast self.old (λ p. IsSome (stop_at p) → (self.new ≡ self.old) × (taken_in (length piece.now) result ≡ 0)) }
         ensures undo { IsUndoOf self.old.part undo.new }
     {
         self.save(undo);
@@ -108,13 +110,13 @@ impl Device {
     fn feed_dropping(&mut self, piece: &[u8]) -> Fed
         requires { self.old.taken + length piece.now ≤ 2 ^ 63 }
         ensures within { taken_in (length piece.now) result ≤ length piece.now }
-        ensures stands { (part : PartData) (kept : KeptData) (wrapped : Bool) (bytes : List ℕ) → DeviceStandsFor part kept wrapped self.old bytes
-            → DeviceStandsFor part kept wrapped self.new (bytes ++ take (taken_in (length piece.now) result) piece.now) }
-        ensures answer { (part : PartData) (kept : KeptData) (wrapped : Bool) (bytes : List ℕ) → DeviceStandsFor part kept wrapped self.old bytes
-            → Answers part kept self.new (bytes ++ take (taken_in (length piece.now) result) piece.now) dropping result }
-        ensures fed_before { self.new.fed_before ≡ self.old.fed_before }
-        ensures stopped { (part : PartData) (kept : KeptData) (wrapped : Bool) (bytes : List ℕ) → DeviceStandsFor part kept wrapped self.old bytes → IsSome (stop_in part kept bytes)
-            → (self.new ≡ self.old) × (taken_in (length piece.now) result ≡ 0) }
+        ensures stands { Takes self.old self.new (part_taken piece.now result) }
+        ensures answer { AnswersFor self.old self.new (part_taken piece.now result) dropping result }
+        ensures part { self.new.part ≡ self.old.part }
+        ensures taken { self.new.taken ≡ self.old.taken + taken_in (length piece.now) result }
+        ensures fed { fed_of self.new ≡ fed_more self.old (taken_in (length piece.now) result) }
+        ensures stays { (line : Stop) → self.old.registers.stop ≡ Some line → (self.new ≡ self.old) × (result ≡ fed_by line 0) }
+        ensures stopped { OfPast self.old (λ p. IsSome (stop_at p) → (self.new ≡ self.old) × (taken_in (length piece.now) result ≡ 0)) }
     {
         let mut read = ReadBuf::dropping();
         self.feed(piece, &mut read)
@@ -136,8 +138,7 @@ impl Device {
         ensures more { (part : PartData) (kept : KeptData) (wrapped : Bool) (bytes more : List ℕ) (old : DeviceState) → Keeps undo.now old → NoWordDue old → length more ≤ 4
             → DeviceStandsFor part kept wrapped old bytes → DeviceStandsFor part kept wrapped self.old (bytes ++ more) → AreEqual self.new old }
         ensures part { self.new.part ≡ self.old.part }
-        ensures fed { undo.now.taken ≤ self.old.taken → fed_of self.new ≡ fed_of self.old }
-        ensures counts { fed_of self.new ≡ max (fed_of self.old) undo.now.taken }
+        ensures fed { fed_of self.new ≡ fed_of self.old }
     {
         self.frames_fit();
         self.go_back(undo);
@@ -148,10 +149,8 @@ impl Device {
         requires { IsUndoOf self.old.part undo.now }
         ensures back { (old : DeviceState) → Back undo.now self.old old → AreEqual self.new old }
         ensures part { self.new.part ≡ self.old.part }
-        ensures fed { undo.now.taken ≤ self.old.taken → fed_of self.new ≡ fed_of self.old }
-        ensures counts { fed_of self.new ≡ max (fed_of self.old) undo.now.taken }
+        ensures fed { fed_of self.new ≡ fed_of self.old }
     {
-        self.fed_before = self.fed().saturating_sub(undo.taken);
         self.cutter = undo.cutter.copy();
         self.registers
             .restore(&self.part, &undo.registers, &undo.frames);

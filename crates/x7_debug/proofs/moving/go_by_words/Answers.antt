@@ -1,6 +1,6 @@
 use Rattle.std.proofs.Common.{◌≡◌, ◌+◌, ◌<◌, ◌≤◌, ℕ, refl, ap, sym, subst, ◌∙◌, arith, max, ◌-◌, ◌∷◌, take}
 use Rattle.x7_debug.specs.Journal.{oldest_by, records_of}
-use Rattle.x7_debug.proofs.JournalLemmas.{Reaches, reaches_first, reaches_last, reaches_now, reaches_whole}
+use Rattle.x7_debug.proofs.JournalLemmas.{Reaches, fed_none, fed_on, reaches_first, reaches_last, reaches_now, reaches_whole}
 use Rattle.x7_debug.proofs.moving.go_by_words.Goals as goal
 
 pub loop-device-init : goal.loop-device-init
@@ -9,7 +9,7 @@ loop-device-init c = record {
   within = c.requires.forward;
   since = omega arith;
   part = refl;
-  fed_before = refl;
+  fed = fed_none c.args.device.now;
   reaches = reaches_first c.args.device.now.part c.args.stream.now c.args.device.now.taken (records_of c.args.journal.now) c.requires.on.leads;
 }
 
@@ -23,7 +23,7 @@ loop-device-preserved c =
       within = omega (arith, next, c.loop-device-test.true, c.taken.ensures.now);
       since = omega (arith, next, c.loop-device.invariant.since);
       part = c.record_to.ensures.part ∙ c.loop-device.invariant.part;
-      fed_before = c.record_to.ensures.fed_before ∙ c.loop-device.invariant.fed_before;
+      fed = fed_on c.args.device.now c.loop-device.device c.record_to.new.device c.loop-device.invariant.since (omega (arith, next)) c.loop-device.invariant.fed c.record_to.ensures.fed;
       reaches = subst (Reaches c.args.device.now.taken to) (sym c.record_to.ensures.more.2)
           (reaches_whole c.args.device.now.taken before to c.record_to.ensures.more.0 (records_of c.loop-device.journal) c.record_to.ensures.more.1 next c.loop-device.invariant.reaches);
     }
@@ -42,3 +42,8 @@ pub returns-else-taken-to-clause-oldest : goal.returns-else-taken-to-clause-olde
 returns-else-taken-to-clause-oldest c =
     let now = reaches_now c.args.device.now.taken c.loop-device.device.taken (records_of c.loop-device.journal) c.loop-device.invariant.on.few c.loop-device.invariant.reaches in
     omega (arith, now, c.if-taken-to.false, c.taken-2.ensures.now, c.loop-device.invariant.within)
+
+pub returns-then-taken-to-clause-fed : goal.returns-then-taken-to-clause-fed
+returns-then-taken-to-clause-fed c =
+    let l : c.loop-device.device.taken < c.args.to = omega (arith, c.if-taken-to.true, c.taken-2.ensures.now) in
+    fed_on c.args.device.now c.loop-device.device c.record_to-then-taken-to.new.device c.loop-device.invariant.since (omega (arith, l, c.record_to-then-taken-to.ensures.taken)) c.loop-device.invariant.fed c.record_to-then-taken-to.ensures.fed

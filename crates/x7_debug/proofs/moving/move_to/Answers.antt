@@ -1,7 +1,7 @@
 use Rattle.std.proofs.Common.{◌<◌, arith}
 use Rattle.x7_debug.specs.Journal.{records_of}
 use Rattle.x7_debug.specs.Kept.{session_of}
-use Rattle.x7_debug.proofs.JournalLemmas.{goes_forward, goes_nowhere, is_fed, oldest_within}
+use Rattle.x7_debug.proofs.JournalLemmas.{goes_forward, goes_nowhere, oldest_within}
 use Rattle.x7_debug.proofs.moving.move_to.Goals as goal
 
 pub returns-then-to-from-clause-goes : goal.returns-then-to-from-clause-goes
@@ -14,4 +14,4 @@ returns-then-from-to-clause-goes c =
     let oldest = c.go_forward.ensures.oldest in
     goes_forward (session_of c.args.device.now c.args.stream.now c.args.journal.now) (session_of c.go_forward.new.device c.args.stream.now c.go_forward.new.journal) l
     (oldest_within c.args.device.now.part c.args.stream.now c.args.device.now.taken (records_of c.args.journal.now) c.requires.on.leads) (omega (arith, oldest, c.go_forward.ensures.taken))
-    (is_fed c.args.device.now c.go_forward.new.device c.go_forward.ensures.fed_before (omega (arith, l)))
+    (c.go_forward.ensures.fed.never_less, c.go_forward.ensures.fed.most)

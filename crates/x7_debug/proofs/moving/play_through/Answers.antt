@@ -26,4 +26,4 @@ returns-clause-stands c =
     stands_first part c.args.stream.now c.reset.new.self (subst (λ (p : PartData). DeviceStandsFor p on_the_bench false c.reset.new.self []) (at_end c).stands.part_is c.reset.ensures.stands)
 
 pub returns-clause-fed : goal.returns-clause-fed
-returns-clause-fed c = omega (arith, c.reset.ensures.fed, c.take.ensures.fed_before, c.requires.fed, (at_end c).taken)
+returns-clause-fed c = omega (arith, c.reset.ensures.fed, c.take.ensures.fed.most, c.requires.fed, (at_end c).taken)

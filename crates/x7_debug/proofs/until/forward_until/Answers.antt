@@ -2,7 +2,7 @@ use Rattle.std.proofs.Common.{◌≡◌, ◌-◌, ◌<◌, ◌≤◌, ◌∷◌,
 use Rattle.x7_part.specs.Part.{PartData}
 use Rattle.x7_debug.specs.Journal.{oldest_by, records_of}
 use Rattle.x7_debug.specs.Position.{holds_at}
-use Rattle.x7_debug.proofs.JournalLemmas.{Reaches, none_between, none_up_to, reaches_first, reaches_last, reaches_whole}
+use Rattle.x7_debug.proofs.JournalLemmas.{Reaches, none_between, none_up_to, reaches_first, reaches_last, reaches_whole, fed_none, fed_on}
 use Rattle.x7_debug.proofs.PositionLemmas.{until-last, until-there}
 use Rattle.x7_debug.proofs.until.forward_until.Goals as goal
 
@@ -10,7 +10,7 @@ pub loop-stop-init : goal.loop-stop-init
 loop-stop-init c = record {
   on = c.requires.on;
   part = refl;
-  fed_before = refl;
+  fed = fed_none c.args.device.now;
   since = omega arith;
   within = omega (arith, c.requires.before);
   none = λ k h j. absurd (omega (arith, h, j));
@@ -39,6 +39,10 @@ returns-then-seek_word-clause-oldest c =
     reaches_last c.args.device.now.taken c.loop-stop.device.taken m c.seek_word.ensures.more.0 (records_of c.loop-stop.journal) c.seek_word.ensures.more.1 c.seek_word.ensures.forward.0 (c.loop-stop.invariant.reaches some) in
     omega (arith, ap (oldest_by m) c.seek_word.ensures.more.2, last)
 
+pub returns-then-seek_word-clause-fed : goal.returns-then-seek_word-clause-fed
+returns-then-seek_word-clause-fed c =
+    fed_on c.args.device.now c.loop-stop.device c.seek_word.new.device c.loop-stop.invariant.since (omega (arith, c.seek_word.ensures.forward.0)) c.loop-stop.invariant.fed c.seek_word.ensures.fed
+
 pub loop-stop-preserved : goal.loop-stop-preserved
 loop-stop-preserved c =
     let part : PartData = c.args.device.now.part in
@@ -55,7 +59,7 @@ loop-stop-preserved c =
     record {
       on = c.seek_word.ensures.on;
       part = c.seek_word.ensures.part ∙ same;
-      fed_before = c.seek_word.ensures.fed_before ∙ c.loop-stop.invariant.fed_before;
+      fed = fed_on c.args.device.now c.loop-stop.device c.seek_word.new.device c.loop-stop.invariant.since (omega (arith, c.seek_word.ensures.forward.0)) c.loop-stop.invariant.fed c.seek_word.ensures.fed;
       since = omega (arith, c.loop-stop.invariant.since, c.seek_word.ensures.forward.0);
       within = c.seek_word.ensures.forward.1;
       none = none_up_to (holds_at part stream c.args.stop) from m (none_between (holds_at part stream c.args.stop) from n m c.loop-stop.invariant.none later) here;

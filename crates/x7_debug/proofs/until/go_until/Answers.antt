@@ -5,7 +5,7 @@ use Rattle.x7_debug.specs.declared.order.Stop.{Stop}
 use Rattle.x7_debug.specs.Journal.{records_of}
 use Rattle.x7_debug.specs.Kept.{session_of}
 use Rattle.x7_debug.specs.Position.{until_of}
-use Rattle.x7_debug.proofs.JournalLemmas.{goes_forward, goes_nowhere, is_fed, oldest_within}
+use Rattle.x7_debug.proofs.JournalLemmas.{goes_forward, goes_nowhere, oldest_within}
 use Rattle.x7_debug.proofs.LeastLemmas.{until-stopped}
 use Rattle.x7_debug.proofs.until.go_until.Goals as goal
 
@@ -28,5 +28,5 @@ returns-in_default c = record {
   taken = c.forward_until.ensures.taken;
   goes = goes_forward (session_of c.args.device.now c.args.stream.now c.args.journal.now) (session_of c.forward_until.new.device c.args.stream.now c.forward_until.new.journal) c.forward_until.ensures.forward
       (oldest_within c.args.device.now.part c.args.stream.now c.args.device.now.taken (records_of c.args.journal.now) c.requires.on.leads) c.forward_until.ensures.oldest
-      (is_fed c.args.device.now c.forward_until.new.device c.forward_until.ensures.fed_before (omega (arith, c.forward_until.ensures.forward)));
+      (c.forward_until.ensures.fed.never_less, c.forward_until.ensures.fed.most);
 }

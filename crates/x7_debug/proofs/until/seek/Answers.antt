@@ -3,7 +3,7 @@ use Rattle.x7_part.specs.Part.{PartData}
 use Rattle.x7_engine.specs.Kept.{on_the_bench}
 use Rattle.x7_debug.specs.Position.{holds_at}
 use Rattle.x7_debug.specs.Session.{StandsAt}
-use Rattle.x7_debug.proofs.JournalLemmas.{none_there, on_further, stands_of}
+use Rattle.x7_debug.proofs.JournalLemmas.{none_there, on_further, stands_of, fed_on}
 use Rattle.x7_debug.proofs.PositionLemmas.{holds-is}
 use Rattle.x7_debug.proofs.until.seek.Goals as goal
 
@@ -33,7 +33,7 @@ loop-stop-preserved c =
       on = on_further c.loop-stop.device.part stream c.loop-stop.device c.advance.new.device c.args.journal.now (c.taken-at.result + 1) c.requires.some.0 c.requires.some.1 c.loop-stop.invariant.on c.requires.some.2 c.advance.ensures.stands
           (omega (arith, at)) (omega (arith, at, less, c.requires.some.3));
       part = c.advance.ensures.stands.stands.part_is ∙ c.loop-stop.invariant.part;
-      fed_before = c.advance.ensures.fed_before ∙ c.loop-stop.invariant.fed_before;
+      fed = fed_on c.args.device.now c.loop-stop.device c.advance.new.device c.loop-stop.invariant.since (omega (arith, next)) c.loop-stop.invariant.fed c.advance.ensures.fed;
       since = omega (arith, next, c.loop-stop.invariant.since);
       within = omega (arith, next, less);
       none = none_there (holds_at part stream c.args.stop) c.args.device.now.taken n c.advance.new.device.taken next c.loop-stop.invariant.none here;

@@ -1,8 +1,8 @@
 use Rattle.std.proofs.Common.{◌||◌, refl, sym, ap, ◌∙◌}
 use Rattle.x7_packets.specs.History.{Write, writes}
 use Rattle.x7_regs.specs.Register.{number_of}
-use Rattle.x7_engine.proofs.RunningLemmas.{check-cleared}
 use Rattle.x7_engine.proofs.progress.check_after.Goals as goal
+use Rattle.x7_crc.proofs.CheckerLemmas.{check-cleared}
 
 pub returns-in-Crc : goal.returns-in-Crc
 returns-in-Crc c = λ h place e f. sym (check-cleared h (number_of c.args.reg) c.args.word place (rw c.in-Crc.is refl))

@@ -58,7 +58,7 @@ pub returns-clause-less : goal.returns-clause-less
 returns-clause-less c = λ stream o. let w = went c stream o in (omega (arith, w.1, w.2), omega (arith, w.1, w.3))
 
 pub returns-clause-fed : goal.returns-clause-fed
-returns-clause-fed c = λ stream o. c.undo.ensures.fed (went c stream o).2
+returns-clause-fed c = c.undo.ensures.fed
 
 pub returns-clause-oldest : goal.returns-clause-oldest
 returns-clause-oldest c = λ stream o.

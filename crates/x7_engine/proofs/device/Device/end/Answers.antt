@@ -21,7 +21,7 @@ same_end (Some stop.Iprog) b c w f = refl
 pub returns : goal.returns
 returns c = λ given kept wrapped bytes s.
     let part : PartData = c.self.inside.part in
-    let fields : DeviceState = record { part = part; cutter = c.self.inside.cutter; registers = registers_in c.self.inside.registers; wrapped = c.self.inside.wrapped; taken = c.self.inside.taken; fed_before = c.self.inside.fed_before } in
+    let fields : DeviceState = record { part = part; cutter = c.self.inside.cutter; registers = registers_in c.self.inside.registers; wrapped = c.self.inside.wrapped; taken = c.self.inside.taken; fed = c.self.inside.fed } in
     let here : part ≡ given = ap (λ (d : DeviceState). d.part) c.self.view_is ∙ s.part_is in
     let now : DeviceStandsFor part kept wrapped c.args.self.now bytes = subst (λ (p : PartData). DeviceStandsFor p kept wrapped c.args.self.now bytes) (sym here) s in
     let stands : DeviceStandsFor part kept wrapped fields bytes = subst (λ (d : DeviceState). DeviceStandsFor part kept wrapped d bytes) (sym c.self.view_is) now in

@@ -11,7 +11,8 @@ use Rattle.x7_engine.proofs.device.Device.feed.Goals as goal
 pub runs-init : goal.runs-init
 runs-init c = record {
   within = omega arith;
-  fed_before = refl;
+  part = refl;
+  fed = omega arith;
   taken = omega arith;
   fits = omega (arith, c.requires);
   stands = λ part kept wrapped bytes s. subst (λ (b : List ℕ). DeviceStandsFor part kept wrapped c.args.self.now b) (sym (append-nil bytes)) s;
@@ -79,7 +80,8 @@ runs-preserved c =
     let taken : c.give.new.self.taken ≡ c.runs.self.taken = c.give.ensures.taken in
     record {
       within = c.turn.ensures.within;
-      fed_before = c.turn.ensures.fed_before ∙ c.give.ensures.fed_before ∙ c.runs.invariant.fed_before;
+      part = c.turn.ensures.part ∙ c.give.ensures.part ∙ c.runs.invariant.part;
+      fed = omega (arith, c.turn.ensures.fed, c.give.ensures.fed, c.runs.invariant.fed, c.turn.ensures.forward);
       taken = omega (arith, taken, c.turn.ensures.taken, c.turn.ensures.forward, c.runs.invariant.taken);
       fits = omega (arith, taken, c.turn.ensures.taken, c.turn.ensures.forward, c.turn.ensures.within, c.runs.invariant.fits);
       stands = λ part kept wrapped bytes s.

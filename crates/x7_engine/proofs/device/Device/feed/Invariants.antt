@@ -4,13 +4,14 @@ use Rattle.x7_packets.specs.Cutting.{calls_left}
 use Rattle.x7_part.specs.Part.{PartData}
 use Rattle.x7_engine.specs.declared.kept.Kept.{Kept}
 use Rattle.x7_engine.specs.ReadBuffer.{with_words}
-use Rattle.x7_engine.specs.Standing.{DeviceStandsFor, told_of}
+use Rattle.x7_engine.specs.Standing.{DeviceStandsFor, fed_more, fed_of, told_of}
 use Rattle.x7_engine.proofs.device.Device.feed.Given as goal
 
 abbrev pub invariant-runs : goal.invariant-runs
 invariant-runs l = record {
   within : l.at ≤ length l.piece;
-  fed_before : l.self.fed_before ≡ l.initial.self.fed_before;
+  part : l.self.part ≡ l.initial.self.part;
+  fed : fed_of l.self ≡ fed_more l.initial.self l.at;
   taken : l.self.taken ≡ l.initial.self.taken + l.at;
   fits : l.self.taken + (length l.piece - l.at) ≤ 2 ^ 63;
   stands : (part : PartData) (kept : Kept) (wrapped : Bool) (bytes : List ℕ) → DeviceStandsFor part kept wrapped l.initial.self bytes → DeviceStandsFor part kept wrapped l.self (bytes ++ take l.at l.piece);

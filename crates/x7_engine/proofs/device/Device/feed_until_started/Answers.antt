@@ -14,7 +14,9 @@ use Rattle.x7_engine.proofs.device.Device.feed_until_started.Goals as goal
 pub runs-init : goal.runs-init
 runs-init c = record {
   within = omega arith;
-  fed_before = refl;
+  part = refl;
+  taken = omega arith;
+  fed = omega arith;
   fits = omega (arith, c.requires);
   stands = λ part kept wrapped bytes s. subst (λ (b : List ℕ). DeviceStandsFor part kept wrapped c.args.self.now b) (sym (append-nil bytes)) s;
   first = λ part kept wrapped bytes s k l. absurd (omega (arith, l));
@@ -159,7 +161,9 @@ runs-preserved c =
     let same : c.give.new.self.taken ≡ c.runs.self.taken = c.give.ensures.taken in
     record {
       within = c.turn_until_started.ensures.within;
-      fed_before = c.turn_until_started.ensures.fed_before ∙ c.give.ensures.fed_before ∙ c.runs.invariant.fed_before;
+      part = c.turn_until_started.ensures.part ∙ c.give.ensures.part ∙ c.runs.invariant.part;
+      taken = omega (arith, same, c.turn_until_started.ensures.taken, c.turn_until_started.ensures.forward, c.runs.invariant.taken);
+      fed = omega (arith, c.turn_until_started.ensures.fed, c.give.ensures.fed, c.runs.invariant.fed, c.turn_until_started.ensures.forward);
       fits = omega (arith, same, c.turn_until_started.ensures.taken, c.turn_until_started.ensures.forward, c.turn_until_started.ensures.within, c.runs.invariant.fits);
       stands = λ part kept wrapped bytes s.
           stands_on part kept wrapped c.give.new.self c.turn_until_started.new.self bytes piece c.runs.at at c.turn_until_started.ensures.forward (c.turn_until_started.ensures.stands part kept wrapped)

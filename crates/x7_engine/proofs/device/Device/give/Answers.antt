@@ -10,7 +10,7 @@ use Rattle.x7_engine.proofs.device.Device.give.Goals as goal
 pub returns-clause-given : goal.returns-clause-given
 returns-clause-given c = λ wanted kept wrapped bytes s.
     let part : PartData = c.self.inside.part in
-    let fields : DeviceState = record { part = part; cutter = c.self.inside.cutter; registers = registers_in c.self.inside.registers; wrapped = c.self.inside.wrapped; taken = c.self.inside.taken; fed_before = c.self.inside.fed_before } in
+    let fields : DeviceState = record { part = part; cutter = c.self.inside.cutter; registers = registers_in c.self.inside.registers; wrapped = c.self.inside.wrapped; taken = c.self.inside.taken; fed = c.self.inside.fed } in
     let here : part ≡ wanted = ap (λ (d : DeviceState). d.part) c.self.view_is ∙ s.part_is in
     let stands : DeviceStandsFor part kept wrapped fields bytes = subst (λ (d : DeviceState). DeviceStandsFor part kept wrapped d bytes) (sym c.self.view_is) (subst (λ (p : PartData). DeviceStandsFor p kept wrapped c.args.self.now bytes) (sym here) s) in
     let after : DeviceState = record fields { registers = registers_in c.give.new.self } in

@@ -16,7 +16,7 @@ false_not true t = cc
 
 pub returns-then-is_synced-clause-no : goal.returns-then-is_synced-clause-no
 returns-then-is_synced-clause-no c = λ given kept wrapped bytes s answer g.
-    let fields : DeviceState = record { part = c.self.inside.part; cutter = c.self.inside.cutter; registers = registers_in c.self.inside.registers; wrapped = c.self.inside.wrapped; taken = c.self.inside.taken; fed_before = c.self.inside.fed_before } in
+    let fields : DeviceState = record { part = c.self.inside.part; cutter = c.self.inside.cutter; registers = registers_in c.self.inside.registers; wrapped = c.self.inside.wrapped; taken = c.self.inside.taken; fed = c.self.inside.fed } in
     let stands : DeviceStandsFor given kept wrapped fields bytes = subst (λ (d : DeviceState). DeviceStandsFor given kept wrapped d bytes) (sym c.self.view_is) s in
     let searching : c.is_synced.result ≡ false = gap_searches given kept wrapped fields bytes c.is_synced.result stands (c.is_synced.ensures.synced bytes) g in
     let synced : c.is_synced.result ≡ true = c.if-is_synced.true in
@@ -25,7 +25,7 @@ returns-then-is_synced-clause-no c = λ given kept wrapped bytes s answer g.
 pub returns-clause-yes : goal.returns-clause-yes
 returns-clause-yes c = λ yes given kept wrapped bytes s.
     let part : PartData = c.self.inside.part in
-    let fields : DeviceState = record { part = part; cutter = c.self.inside.cutter; registers = registers_in c.self.inside.registers; wrapped = c.self.inside.wrapped; taken = c.self.inside.taken; fed_before = c.self.inside.fed_before } in
+    let fields : DeviceState = record { part = part; cutter = c.self.inside.cutter; registers = registers_in c.self.inside.registers; wrapped = c.self.inside.wrapped; taken = c.self.inside.taken; fed = c.self.inside.fed } in
     let here : part ≡ given = ap (λ (d : DeviceState). d.part) c.self.view_is ∙ s.part_is in
     let now : DeviceStandsFor part kept wrapped c.args.self.now bytes = subst (λ (p : PartData). DeviceStandsFor p kept wrapped c.args.self.now bytes) (sym here) s in
     let stands : DeviceStandsFor part kept wrapped fields bytes = subst (λ (d : DeviceState). DeviceStandsFor part kept wrapped d bytes) (sym c.self.view_is) now in

@@ -12,20 +12,20 @@ use Rattle.x7_engine.proofs.PassLemmas.{passed, told_same}
 use Rattle.x7_engine.proofs.device.Device.pass_nops.Goals as goal
 
 -- the device before the no-ops, and behind them
-abbrev device_before : goal.After-self-1 → DeviceState
-device_before c = record { part = c.self.inside.part; cutter = c.self.inside.cutter; registers = registers_in c.self.inside.registers; wrapped = c.self.inside.wrapped; taken = c.self.inside.taken; fed_before = c.self.inside.fed_before }
+abbrev device_before : goal.After-self-2-1 → DeviceState
+device_before c = record { part = c.self.inside.part; cutter = c.self.inside.cutter; registers = registers_in c.self.inside.registers; wrapped = c.self.inside.wrapped; taken = c.self.inside.taken; fed = c.self.inside.fed }
 
-abbrev device_after : goal.After-self-1 → DeviceState
+abbrev device_after : goal.After-self-2-1 → DeviceState
 device_after c = record {
   part = c.self.inside.part;
   cutter = c.self.inside.cutter;
   registers = registers_in c.tick-left.new.self;
   wrapped = c.self.inside.wrapped;
   taken = c.self.inside.taken + (c.nops-count.result - c.tick-left.result);
-  fed_before = c.self.inside.fed_before;
+  fed = c.saturating_add-self-inside.result;
 }
 
-passed_here : (c : goal.After-self-1) (kept : Kept) (wrapped : Bool) (bytes : List ℕ) → (let part : PartData = c.self.inside.part in DeviceStandsFor part kept wrapped c.args.self.now bytes
+passed_here : (c : goal.After-self-2-1) (kept : Kept) (wrapped : Bool) (bytes : List ℕ) → (let part : PartData = c.self.inside.part in DeviceStandsFor part kept wrapped c.args.self.now bytes
     → (let more : List ℕ = between c.args.piece.now c.args.at.now (c.args.at.now + (c.nops-count.result - c.tick-left.result)) in
     DeviceStandsFor part kept wrapped (device_after c) (bytes ++ more) × (reads_of part kept (bytes ++ more) ≡ reads_of part kept bytes) × (history_of (bytes ++ more) ≡ history_of bytes)))
 passed_here c kept wrapped bytes s =

@@ -8,8 +8,8 @@ use Rattle.x7_engine.proofs.device.Device.reset_in_gap.Goals as goal
 pub returns-clause-stands : goal.returns-clause-stands
 returns-clause-stands c = λ given kept wrapped bytes s.
     let part : PartData = c.self.inside.part in
-    let old : DeviceState = record { part = part; cutter = c.self.inside.cutter; registers = registers_in c.self.inside.registers; wrapped = c.self.inside.wrapped; taken = c.self.inside.taken; fed_before = c.self.inside.fed_before } in
-    let new : DeviceState = record { part = part; cutter = c.self.inside.cutter; registers = registers_in c.tick-left.new.self; wrapped = false; taken = c.self.inside.taken; fed_before = c.self.inside.fed_before } in
+    let old : DeviceState = record { part = part; cutter = c.self.inside.cutter; registers = registers_in c.self.inside.registers; wrapped = c.self.inside.wrapped; taken = c.self.inside.taken; fed = c.self.inside.fed } in
+    let new : DeviceState = record { part = part; cutter = c.self.inside.cutter; registers = registers_in c.tick-left.new.self; wrapped = false; taken = c.self.inside.taken; fed = c.self.inside.fed } in
     let here : part ≡ given = ap (λ (d : DeviceState). d.part) c.self.view_is ∙ s.part_is in
     let now : DeviceStandsFor part kept wrapped c.args.self.now bytes = subst (λ (p : PartData). DeviceStandsFor p kept wrapped c.args.self.now bytes) (sym here) s in
     let stands : DeviceStandsFor part kept wrapped old bytes = subst (λ (d : DeviceState). DeviceStandsFor part kept wrapped d bytes) (sym c.self.view_is) now in

@@ -7,7 +7,7 @@ use Rattle.x7_engine.proofs.device.Device.started.Goals as goal
 
 pub returns : goal.returns
 returns c = λ part kept wrapped bytes s.
-    let fields : DeviceState = record { part = c.self.inside.part; cutter = c.self.inside.cutter; registers = registers_in c.self.inside.registers; wrapped = c.self.inside.wrapped; taken = c.self.inside.taken; fed_before = c.self.inside.fed_before } in
+    let fields : DeviceState = record { part = c.self.inside.part; cutter = c.self.inside.cutter; registers = registers_in c.self.inside.registers; wrapped = c.self.inside.wrapped; taken = c.self.inside.taken; fed = c.self.inside.fed } in
     let stands : DeviceStandsFor part kept wrapped fields bytes = subst (λ (d : DeviceState). DeviceStandsFor part kept wrapped d bytes) (sym c.self.view_is) s in
     c.has_ended.ensures.value part (history_taken part kept bytes) (length bytes) stands.registers_are.clock.startup
     ∙ ap (has_ended part (history_taken part kept bytes)) (sym (taken_is part kept wrapped fields bytes stands))

@@ -17,7 +17,7 @@ use Rattle.x7_engine.proofs.device.Device.state.Goals as goal
 
 -- the device as its fields
 abbrev fields_of : goal.After-value-14 → DeviceState
-fields_of c = record { part = c.self.inside.part; cutter = c.self.inside.cutter; registers = registers_in c.self.inside.registers; wrapped = c.self.inside.wrapped; taken = c.self.inside.taken; fed_before = c.self.inside.fed_before }
+fields_of c = record { part = c.self.inside.part; cutter = c.self.inside.cutter; registers = registers_in c.self.inside.registers; wrapped = c.self.inside.wrapped; taken = c.self.inside.taken; fed = c.self.inside.fed }
 
 pub returns-clause-owing : goal.returns-clause-owing
 returns-clause-owing c = λ given kept wrapped bytes s.

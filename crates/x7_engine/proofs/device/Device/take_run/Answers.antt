@@ -17,7 +17,7 @@ run-left-requires-clause-holds c =
 
 -- the device before the run, and behind it
 abbrev device_before : goal.After-is_done → DeviceState
-device_before c = record { part = c.self.inside.part; cutter = c.self.inside.cutter; registers = registers_in c.self.inside.registers; wrapped = c.self.inside.wrapped; taken = c.self.inside.taken; fed_before = c.self.inside.fed_before }
+device_before c = record { part = c.self.inside.part; cutter = c.self.inside.cutter; registers = registers_in c.self.inside.registers; wrapped = c.self.inside.wrapped; taken = c.self.inside.taken; fed = c.self.inside.fed }
 
 abbrev device_after : goal.After-is_done → DeviceState
 device_after c = record {
@@ -26,7 +26,7 @@ device_after c = record {
   registers = registers_in c.run-left.new.self;
   wrapped = c.self.inside.wrapped;
   taken = c.self.inside.taken + (c.cut-run.new.at - c.run-left.result - c.args.at.now);
-  fed_before = c.self.inside.fed_before;
+  fed = c.saturating_add-self-inside.result;
 }
 
 turned_here : (c : goal.After-is_done) (kept : Kept) (wrapped : Bool) (bytes : List ℕ) → (let part : PartData = c.self.inside.part in DeviceStandsFor part kept wrapped c.args.self.now bytes

@@ -1,0 +1,13 @@
+use Rattle.std.proofs.Common.{ap, sym, ◌∙◌, ◌++◌, List, ℕ}
+use Rattle.x7_engine.specs.Standing.{due_of}
+use Rattle.x7_engine.specs.State.{history_taken}
+use Rattle.x7_engine.proofs.DeviceLemmas.{told_by}
+use Rattle.x7_engine.proofs.FrameLemmas.{none_left}
+use Rattle.x7_engine.proofs.law.reads_are_told_or_due.Goals as goal
+
+pub returns-clause-all : goal.returns-clause-all
+returns-clause-all c = λ part kept wrapped d bytes s.
+    ap (λ (ws : List ℕ). ws ++ due_of part kept d bytes) (told_by part kept d bytes s.due_are.told (history_taken part kept bytes) s.due_are.all) ∙ sym s.due_are.all
+
+pub returns-clause-none : goal.returns-clause-none
+returns-clause-none c = λ part kept d bytes none. none_left part (history_taken part kept bytes) d.registers.due none

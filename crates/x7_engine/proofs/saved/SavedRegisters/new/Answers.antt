@@ -1,0 +1,18 @@
+use Rattle.std.proofs.Common.{None, [], refl}
+use Rattle.x7_engine.proofs.FrameLemmas.{frames_at}
+use Rattle.x7_engine.proofs.saved.SavedRegisters.new.Goals as goal
+use Rattle.x7_engine.specs.Kept.{on_the_bench}
+
+pub returns : goal.returns
+returns c = λ part f are. record {
+  places = tt;
+  words = c.new.ensures;
+  controls = c.new-2.ensures;
+  progress = c.new-3.ensures part.idcode;
+  kind = refl;
+  before = refl;
+  clock = c.new-4.ensures part on_the_bench refl refl;
+  stop = refl;
+  frames = frames_at part f None [] 0 refl are;
+  due_kind = refl;
+}

@@ -1,0 +1,62 @@
+-- How the registers of a device go on: accesses enter the history that they stand for, up to what stops the device.
+use Rattle.std.specs.Prelude.{◌≡◌, ℕ, ◌+◌, ◌++◌, List}
+use Rattle.x7_words.specs.Word.{words_of_bytes}
+use Rattle.x7_packets.specs.Cutting.{run_steps}
+use Rattle.x7_packets.specs.declared.cutter.Cut.{Cut}
+use Rattle.x7_packets.specs.History.{History, entered_all, until}
+use Rattle.x7_packets.specs.Packet.{payload_steps}
+use Rattle.x7_part.specs.Part.{PartData}
+use Rattle.x7_engine.specs.declared.due.Due.{Due}
+use Rattle.x7_engine.specs.declared.kept.Kept.{Kept}
+use Rattle.x7_engine.specs.Standing.{EndsWords, IsNext, RegistersStandFor, RegistersState, counted_in, words_left}
+use Rattle.x7_engine.specs.Values.{read_out}
+
+-- what holds of what the registers stand for: what the reset kept, the history, and the number of bytes
+abbrev pub OfHistory : PartData → RegistersState → (Kept → History → ℕ → Type 0) → Type 0
+OfHistory part d Fact = (kept : Kept) (h : History) (n : ℕ) → RegistersStandFor part kept d h n → Fact kept h n
+
+-- a longer history, by the place at which its accesses begin
+abbrev pub Longer : Type 0
+Longer = ℕ → History → History
+
+-- so many bytes were taken, and these accesses entered
+abbrev pub Enters : PartData → RegistersState → RegistersState → Longer → ℕ → Type 0
+Enters part old new longer taken = OfHistory part old (λ kept h n. RegistersStandFor part kept new (longer n h) (n + taken))
+
+-- the same up to the stop, where it came
+abbrev pub up_to_stop : RegistersState → Longer → ℕ → Longer
+up_to_stop new longer taken n h = until (counted_in new.stop (n + taken)) (longer n h)
+
+-- the same where a condition holds
+abbrev pub EntersIf : Type 0 → PartData → RegistersState → RegistersState → Longer → ℕ → Type 0
+EntersIf Condition part old new longer taken = (kept : Kept) (h : History) (n : ℕ) → Condition → RegistersStandFor part kept old h n → RegistersStandFor part kept new (longer n h) (n + taken)
+
+-- an access entered at the next place
+abbrev pub EntersAt : PartData → RegistersState → RegistersState → Longer → Type 0
+EntersAt part old new longer = (kept : Kept) (h : History) (place : ℕ) → IsNext place h → RegistersStandFor part kept old h place → RegistersStandFor part kept new (longer place h) place
+
+-- the longer history reads out the words that are due, and no others
+abbrev pub AreRead : PartData → Kept → History → History → Due → Type 0
+AreRead part kept h longer due = read_out part kept longer ≡ read_out part kept h ++ words_left part longer due
+
+abbrev pub ReadsIf : Type 0 → PartData → RegistersState → RegistersState → Longer → Type 0
+ReadsIf Condition part old new longer = (kept : Kept) (h : History) (n : ℕ) → Condition → RegistersStandFor part kept old h n → AreRead part kept h (longer n h) new.due
+
+-- ---- words and runs
+
+-- words written to a register, four bytes each
+abbrev pub words_entered : ℕ → List ℕ → Longer
+words_entered register bytes n h = entered_all n (payload_steps register (words_of_bytes bytes)) h
+
+-- the words of a run, the first of which begins at `from`
+abbrev pub run_entered : Cut → ℕ → History → History
+run_entered run from h = entered_all from (run_steps run) h
+
+-- a run was taken, so many bytes of which were new, and its words entered up to the stop
+abbrev pub RunEnters : Cut → ℕ → PartData → RegistersState → RegistersState → ℕ → Type 0
+RunEnters run count part old new taken = (kept : Kept) (h : History) (from n : ℕ) → EndsWords run from n count → RegistersStandFor part kept old h n
+    → RegistersStandFor part kept new (until (counted_in new.stop (n + taken)) (run_entered run from h)) (n + taken)
+
+abbrev pub RunReads : Cut → ℕ → PartData → RegistersState → RegistersState → ℕ → Type 0
+RunReads run count part old new taken = (kept : Kept) (h : History) (from n : ℕ) → EndsWords run from n count → RegistersStandFor part kept old h n
+    → AreRead part kept h (until (counted_in new.stop (n + taken)) (run_entered run from h)) new.due

@@ -1,0 +1,71 @@
+-- The past of a device: all that its state is a function of. It stands for what bytes came to in each clause on a device.
+use Rattle.std.specs.Prelude.{◌≡◌, ℕ, ◌++◌, Bool, List, length, take, Option}
+use Rattle.x7_part.specs.Part.{PartData}
+use Rattle.x7_engine.specs.declared.fed.Fed.{Fed}
+use Rattle.x7_engine.specs.declared.kept.Kept.{Kept}
+use Rattle.x7_engine.specs.declared.regs.Regs.{Regs}
+use Rattle.x7_engine.specs.declared.until_started.UntilStarted.{UntilStarted}
+use Rattle.x7_engine.specs.ReadBuffer.{ReadBufState, with_words}
+use Rattle.x7_engine.specs.Standing.{Answers, DeviceStandsFor, DeviceState, taken_in, told_of}
+use Rattle.x7_engine.specs.State.{state_of, stop_in}
+use Rattle.x7_engine.specs.Stops.{Stopped}
+use Rattle.x7_engine.specs.UntilStarted.{AnswersUntil, has_started, taken_until}
+
+-- its part, what its reset kept, whether the flash has ended since then, and the bytes taken since then
+pub record Past : Type 0 where
+  pub part : PartData
+  pub kept : Kept
+  pub wrapped : Bool
+  pub bytes : List ℕ
+
+-- the past after more bytes
+abbrev pub later : Past → List ℕ → Past
+later p more = record { part = p.part; kept = p.kept; wrapped = p.wrapped; bytes = p.bytes ++ more }
+
+abbrev pub HasPast : DeviceState → Past → Type 0
+HasPast d p = DeviceStandsFor p.part p.kept p.wrapped d p.bytes
+
+-- what holds of a past that the device has
+abbrev pub OfPast : DeviceState → (Past → Type 0) → Type 0
+OfPast d Fact = (part : PartData) (kept : Kept) (wrapped : Bool) (bytes : List ℕ) → DeviceStandsFor part kept wrapped d bytes → Fact (record { part = part; kept = kept; wrapped = wrapped; bytes = bytes })
+
+-- the state, the stop, the words told, and whether startup has ended
+abbrev pub state_at : Past → Regs
+state_at p = state_of p.part p.kept p.wrapped p.bytes
+
+abbrev pub stop_at : Past → Option Stopped
+stop_at p = stop_in p.part p.kept p.bytes
+
+abbrev pub told_at : DeviceState → Past → List ℕ
+told_at d p = told_of p.part p.kept d p.bytes
+
+abbrev pub started_at : Past → Bool
+started_at p = has_started p.part p.kept p.bytes
+
+-- ---- what a call does that takes bytes
+
+-- it takes just these
+abbrev pub Takes : DeviceState → DeviceState → List ℕ → Type 0
+Takes old new more = OfPast old (λ p. HasPast new (later p more))
+
+-- it takes them, and tells no word
+abbrev pub TellsNone : DeviceState → DeviceState → List ℕ → Type 0
+TellsNone old new more = OfPast old (λ p. told_at new (later p more) ≡ told_at old p)
+
+-- it takes them, and the buffer gets the next words that they read out
+abbrev pub TellsNext : DeviceState → DeviceState → List ℕ → ReadBufState → ReadBufState → Type 0
+TellsNext old new more before after = OfPast old (λ p. (words : List ℕ) × (after ≡ with_words before words) × (told_at new (later p more) ≡ told_at old p ++ words))
+
+-- it takes them, and answers so
+abbrev pub AnswersFor : DeviceState → DeviceState → List ℕ → ReadBufState → Fed → Type 0
+AnswersFor old new more read answer = OfPast old (λ p. Answers p.part p.kept new (p.bytes ++ more) read answer)
+
+abbrev pub AnswersUntilFor : DeviceState → DeviceState → List ℕ → ReadBufState → UntilStarted → Type 0
+AnswersUntilFor old new more read answer = OfPast old (λ p. AnswersUntil p.part p.kept new (p.bytes ++ more) read answer)
+
+-- the bytes taken of a piece, by what is answered
+abbrev pub part_taken : List ℕ → Fed → List ℕ
+part_taken piece answer = take (taken_in (length piece) answer) piece
+
+abbrev pub part_until : List ℕ → UntilStarted → List ℕ
+part_until piece answer = take (taken_until (length piece) answer) piece
