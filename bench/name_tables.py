@@ -1,0 +1,71 @@
+#!/usr/bin/env python3
+"""The tables by which names are read back: where a register's or a command's name stands in a table of 64.
+
+x7_regs (src/named.rt) looks at a name's first two letters, its last one and its length; x7_listing (src/pairs.rt) at its
+first four bytes, of which the byte behind a short name is one. The factors are such that no two names have one place.
+
+    python3 bench/name_tables.py           compares the tables with those of the two files
+    python3 bench/name_tables.py --print   writes them
+"""
+import re
+import sys
+
+REGISTERS = {0: "CRC", 1: "FAR", 2: "FDRI", 3: "FDRO", 4: "CMD", 5: "CTL0", 6: "MASK", 7: "STAT", 8: "LOUT", 9: "COR0",
+             10: "MFWR", 11: "CBC", 12: "IDCODE", 13: "AXSS", 14: "COR1", 16: "WBSTAR", 17: "TIMER", 22: "BOOTSTS",
+             24: "CTL1", 31: "BSPI"}
+COMMANDS = {0: "NULL", 1: "WCFG", 2: "MFW", 3: "LFRM", 4: "RCFG", 5: "START", 6: "RCAP", 7: "RCRC", 8: "AGHIGH",
+            9: "SWITCH", 10: "GRESTORE", 11: "SHUTDOWN", 12: "GCAPTURE", 13: "DESYNC", 15: "IPROG", 16: "CRCC",
+            17: "LTIMER", 18: "BSPI_READ", 19: "FALL_EDGE"}
+SPREAD = 0x3F20_35EB
+
+
+def register_name(number):
+    return REGISTERS.get(number, f"R{number:02}")
+
+
+def by_letters(name, _behind):
+    return (ord(name[0]) + 13 * ord(name[1]) + 3 * ord(name[-1]) + 2 * len(name)) % 64
+
+
+def by_four_bytes(name, behind):
+    four = (name + behind).encode()[:4]
+    return (int.from_bytes(four, "little") * SPREAD % 2**32) >> 26
+
+
+def table(names, place, behind):
+    result = [0] * 64
+    taken = {}
+    for number, name in names.items():
+        at = place(name, behind)
+        if at in taken:
+            sys.exit(f"{name} and {taken[at]} have one place")
+        taken[at] = name
+        result[at] = number
+    return result
+
+
+def table_in(path, name):
+    text = open(path).read()
+    body = re.search(name + r": \[u8; 64\] = \[(.*?)\];", text, re.S).group(1)
+    return [int(n) for n in re.findall(r"\d+", body)]
+
+
+def main():
+    registers = {number: register_name(number) for number in range(32)}
+    wanted = [
+        ("crates/x7_regs/src/named.rt", "REGISTERS", table(registers, by_letters, "")),
+        ("crates/x7_regs/src/named.rt", "COMMANDS", table(COMMANDS, by_letters, "")),
+        ("crates/x7_listing/src/pairs.rt", "REGISTERS", table(registers, by_four_bytes, " ")),
+        ("crates/x7_listing/src/pairs.rt", "COMMANDS", table(COMMANDS, by_four_bytes, "\n")),
+    ]
+    for path, name, numbers in wanted:
+        if "--print" in sys.argv:
+            print(f"{path} {name}")
+            for row in range(0, 64, 16):
+                print("    " + ", ".join(f"{n:2}" for n in numbers[row:row + 16]) + ",")
+        elif table_in(path, name) != numbers:
+            sys.exit(f"{path} has another table {name}")
+    print("the tables are these")
+
+
+main()
