@@ -17,7 +17,7 @@ use Rattle.x7_engine.specs.declared.kept.Kept.{Kept}
 use Rattle.x7_engine.specs.Clock.{newest_place}
 use Rattle.x7_engine.specs.Rest.{AtRest}
 use Rattle.x7_engine.specs.Startup.{phase_by, phase_of, startup_call, startup_calls, startup_progress}
-use Rattle.x7_engine.proofs.FirstStopLemmas.{newest_within}
+use Rattle.x7_engine.proofs.TurnLemmas.{newest_within}
 use Rattle.x7_effects.proofs.Items.{items_entered}
 use Rattle.x7_effects.proofs.Checking.{ArePieces, ClearFirst, Piece, at_first, checking_of, pieces_length, with_checks}
 use Rattle.x7_effects.proofs.Streams.{stream_of}
