@@ -1,0 +1,186 @@
+-- Lemmas on what may be left of a flash: from one case to the next.
+use Rattle.std.proofs.Common.{◌≡◌, ℕ, ◌+◌, ◌*◌, ◌%◌, ◌<◌, ◌≤◌, ◌⊎◌, inl, inr, ⊎_elim, List, length, get_or, Bool, true, false, refl, ap, sym, subst, ◌∙◌, arith}
+use Rattle.std.proofs.lemmas.Bool.{cases_eq, cases_lt}
+use Rattle.x7_words.specs.Flash.{FlashState, WhereTold}
+use Rattle.x7_update.specs.Layout.{HasLayout, HasSlots, IsOpen, IsFree, IsNext, switch_of, open_word, free_word, spent_word, update_place}
+use Rattle.x7_update.specs.After.{ClosesTo, already, spends, IsAfter, IsBetween, MayBeLeft, untouched, between, after, switched, with_stream}
+use Rattle.x7_update.specs.Writing.{AtAnyMoment, Closing, HasWanted, KeepsBelow, OnlySwitch, Opening, Replaced, Replacing}
+use Rattle.x7_update.specs.Slots.{Finds}
+use Rattle.x7_update.specs.declared.slots.Slots.{Slots}
+use Rattle.x7_update.proofs.StreamLemmas.{length-with_stream, with_stream_below, with_stream_wanted}
+use Rattle.x7_update.proofs.SwitchLemmas.{length-switched, switched_others, switch_switched, switch_other}
+use Rattle.x7_update.proofs.ToldLemmas.{told_map}
+
+pub true_or_false : (b : Bool) → b ≡ true → b ≡ false → ⊥
+true_or_false b t f = let same : true ≡ false = sym t ∙ f in cc
+
+-- the same switch word, by its four bytes
+pub same_switch : (old new : List ℕ) (slot : ℕ) → ((i : ℕ) → 32 * slot ≤ i → i < 32 * slot + 4 → get_or new i 0 ≡ get_or old i 0) → switch_of new slot ≡ switch_of old slot
+same_switch old new slot h =
+    rw (h (32 * slot) (omega arith) (omega arith), h (32 * slot + 1) (omega arith) (omega arith), h (32 * slot + 2) (omega arith) (omega arith), h (32 * slot + 3) (omega arith) (omega arith)) refl
+
+open_not_free : (flash : List ℕ) (slot : ℕ) → IsOpen flash slot → IsFree flash slot → ⊥
+open_not_free flash slot o f =
+    let same : open_word ≡ free_word = sym o ∙ f in
+    let first : 0xAA ≡ 0xFF = ap (λ l. get_or l 0 0) same in
+    absurd (omega (arith, first))
+
+open_not_spent : spent_word ≡ open_word → ⊥
+open_not_spent same = let first : 0 ≡ 0xAA = ap (λ l. get_or l 0 0) same in absurd (omega (arith, first))
+
+-- what is behind a switch word is in no switch word
+behind : (slot i : ℕ) → 4 ≤ i % 32 → (i < 32 * slot) ⊎ (32 * slot + 4 ≤ i)
+behind slot i h = elim (cases_lt i (32 * slot)) [
+  | inl less ↦ inl less
+  | inr from ↦ elim (cases_lt i (32 * slot + 4)) [ inl inside ↦ absurd (omega arith) | inr above ↦ inr above ]
+]
+
+-- another slot's word
+other_slot : (slot other i : ℕ) → (other ≡ slot → ⊥) → 32 * other ≤ i → i < 32 * other + 4 → (i < 32 * slot) ⊎ (32 * slot + 4 ≤ i)
+other_slot slot other i n h k = elim (cases_lt other slot) [ inl less ↦ inl (omega arith) | inr more ↦ elim (cases_eq other slot) [ inl same ↦ absurd (n same) | inr d ↦ inr (omega arith) ] ]
+
+only_other : (slot other : ℕ) (old found : List ℕ) → (other ≡ slot → ⊥) → OnlySwitch slot old found → switch_of found other ≡ switch_of old other
+only_other slot other old found n only = same_switch old found other (λ i h k. only.others i (other_slot slot other i n h k))
+
+-- ---- from the flash itself
+
+-- the open slot alone is torn
+pub between_closing : (size slot : ℕ) (all found : List ℕ) → HasSlots size all → slot < 2048 → IsOpen all slot → OnlySwitch slot all found → IsBetween all found
+between_closing size slot all found has h is only = record {
+  size = only.size;
+  slots = λ i k b. only.others i (behind slot i b);
+  closed = closed;
+  golden = λ i k b. only.others i (inr (omega arith));
+}
+  where
+    closed : (other : ℕ) → other < 2048 → IsOpen found other → ⊥
+    closed other k o = elim (cases_eq other slot) [
+      | inl same ↦ only.shut (subst (λ n. IsOpen found n) same o)
+      | inr n ↦ n (has.one_open other slot k h (sym (only_other slot other all found n only) ∙ o) is)
+    ]
+
+-- the slot is spent
+pub only_spent : (slot : ℕ) (all : List ℕ) → 32 * slot + 4 ≤ length all → OnlySwitch slot all (switched slot spent_word all)
+only_spent slot all within = record {
+  size = length-switched slot spent_word all refl within;
+  others = switched_others slot spent_word all refl within;
+  shut = λ o. open_not_spent (sym (switch_switched slot 0 0 0 0 all within) ∙ o);
+}
+
+pub between_closed : (all closed : List ℕ) → HasSlots (length all) all → ClosesTo all closed → IsBetween all closed
+between_closed all closed has (already shut same) = subst (λ l. IsBetween all l) (sym same) (record { size = refl; slots = λ i h k. refl; closed = shut; golden = λ i h k. refl })
+between_closed all closed has (spends slot h is same) =
+    subst (λ l. IsBetween all l) (sym same) (between_closing (length all) slot all (switched slot spent_word all) has h is (only_spent slot all (omega (arith, has.place.least, has.place.most, h))))
+
+-- ---- from what is between
+
+pub between_below : (size : ℕ) (all mid found : List ℕ) → HasSlots size all → IsBetween all mid → KeepsBelow (update_place all) mid found → IsBetween all found
+between_below size all mid found has b keeps = record {
+  size = keeps.size ∙ b.size;
+  slots = λ i h k. keeps.below i (omega (arith, has.place.least, h)) ∙ b.slots i h k;
+  closed = λ slot h o. b.closed slot h (sym (same_switch mid found slot (λ i k l. keeps.below i (omega (arith, has.place.least, h, l)))) ∙ o);
+  golden = λ i h k. keeps.below i k ∙ b.golden i h k;
+}
+
+pub stream_keeps : (place : ℕ) (stream all : List ℕ) → place + length stream ≤ length all → KeepsBelow place all (with_stream place stream all)
+stream_keeps place stream all fits = record { size = length-with_stream place stream all fits; below = with_stream_below place stream all fits }
+
+-- the next slot alone is torn
+pub between_opening : (slot : ℕ) (all mid found : List ℕ) → IsBetween all mid → slot < 2048 → OnlySwitch slot mid found → IsBetween all found
+between_opening slot all mid found b h only = record {
+  size = only.size ∙ b.size;
+  slots = λ i k l. only.others i (behind slot i l) ∙ b.slots i k l;
+  closed = closed;
+  golden = λ i k l. only.others i (inr (omega arith)) ∙ b.golden i k l;
+}
+  where
+    closed : (other : ℕ) → other < 2048 → IsOpen found other → ⊥
+    closed other k o = elim (cases_eq other slot) [
+      | inl same ↦ only.shut (subst (λ n. IsOpen found n) same o)
+      | inr n ↦ b.closed other k (sym (only_other slot other mid found n only) ∙ o)
+    ]
+
+-- a slot that is free is closed
+pub only_free : (slot : ℕ) (all : List ℕ) → IsFree all slot → OnlySwitch slot all all
+only_free slot all is = record { size = refl; others = λ i h. refl; shut = λ o. open_not_free all slot o is }
+
+-- the next slot is free still when the stream is written
+pub next_free : (next : ℕ) (all closed found : List ℕ) → HasSlots (length all) all → IsNext all next → ClosesTo all closed → KeepsBelow (update_place all) closed found → IsFree found next
+next_free next all closed found has n closes keeps =
+    same_switch closed found next (λ i h k. keeps.below i (omega (arith, has.place.least, n.within, k))) ∙ free closes
+  where
+    free : ClosesTo all closed → IsFree closed next
+    free (already shut same) = ap (λ l. switch_of l next) same ∙ n.free next (omega arith) n.within
+    free (spends slot h is same) =
+        ap (λ l. switch_of l next) same
+        ∙ switch_other slot next spent_word all refl (omega (arith, has.place.least, has.place.most, h)) (λ same. open_not_free all slot is (subst (λ m. IsFree all m) same (n.free next (omega arith) n.within)))
+        ∙ n.free next (omega arith) n.within
+
+-- ---- the steps, by the slots that were found
+
+module _ (all : List ℕ) (slots : Slots) (finds : Finds (length all) all slots) where
+  layout : HasLayout all
+  layout = record { size = finds.sized; slots = finds.has }
+
+  -- while the open slot is closed
+  pub closing_replaces : (slot : ℕ) (found : List ℕ) → slot < 2048 → IsOpen all slot → Closing slot all found → Replacing all found
+  closing_replaces slot found h is (inl same) = inl same
+  closing_replaces slot found h is (inr only) = inr (between_closing (length all) slot all found finds.has h is only)
+
+  -- while the stream is written behind closed slots
+  pub writing_replaces : (closed found : List ℕ) → ClosesTo all closed → KeepsBelow slots.update closed found → Replacing all found
+  writing_replaces closed found closes keeps =
+      inr (between_below (length all) all closed found finds.has (between_closed all closed finds.has closes) (subst (λ u. KeepsBelow u closed found) finds.update keeps))
+
+  -- it may be left so
+  pub replacing_left : (stream found : List ℕ) → Replacing all found → MayBeLeft stream all found
+  replacing_left stream found (inl same) = untouched same
+  replacing_left stream found (inr b) = between layout b
+
+  module _ (stream now : List ℕ) (fits : slots.update + length stream ≤ length all) (r : Replaced slots.update stream all now) where
+    shut : IsBetween all r.closed
+    shut = between_closed all r.closed finds.has r.closes
+
+    inside : slots.update + length stream ≤ length r.closed
+    inside = omega (arith, fits, shut.size)
+
+    keeps : KeepsBelow (update_place all) r.closed (with_stream slots.update stream r.closed)
+    keeps = subst (λ u. KeepsBelow u r.closed (with_stream slots.update stream r.closed)) finds.update (stream_keeps slots.update stream r.closed inside)
+
+    -- the stream stands as it is wanted
+    pub replaced_wanted : HasWanted slots.update stream now
+    replaced_wanted = subst (HasWanted slots.update stream) (sym r.stands) (with_stream_wanted slots.update stream r.closed inside)
+
+    -- the next slot is free still
+    pub replaced_free : IsFree now slots.next
+    replaced_free = subst (λ l. IsFree l slots.next) (sym r.stands) (next_free slots.next all r.closed (with_stream slots.update stream r.closed) finds.has finds.next r.closes keeps)
+
+    -- the slot is open: the flash is updated
+    pub opened_after : IsAfter stream all (switched slots.next open_word now)
+    opened_after = record {
+      closed = r.closed;
+      closes = r.closes;
+      next = slots.next;
+      is_next = finds.next;
+      fits = omega (arith, fits, finds.update);
+      is = ap (λ l. switched slots.next open_word l) r.stands ∙ ap (λ u. switched slots.next open_word (with_stream u stream r.closed)) finds.update;
+    }
+
+    -- while the next slot is opened
+    pub opening_left : (found : List ℕ) → Opening slots.next now found → MayBeLeft stream all found
+    opening_left found (inl is) = after layout (subst (IsAfter stream all) (sym is) opened_after)
+    opening_left found (inr only) = between layout (between_opening slots.next all now found written finds.next.within only)
+      where
+        written : IsBetween all now
+        written = subst (λ l. IsBetween all l) (sym r.stands) (between_below (length all) all r.closed (with_stream slots.update stream r.closed) finds.has shut keeps)
+
+-- before it is opened a free slot is shut
+pub opening_free : (slot : ℕ) (all : List ℕ) → IsFree all slot → Opening slot all all
+opening_free slot all is = inr (only_free slot all is)
+
+-- what may be found since a call's start is what was there then, or was found within it
+pub found_left : (stream : List ℕ) (old new : FlashState) (past since : ℕ → List ℕ → Type 0) → ((found : List ℕ) → past old.moments found → WhereTold old.bytes (λ all. found ≡ all)) → AtAnyMoment old new past since (MayBeLeft stream)
+    → (found : List ℕ) → since old.moments found → WhereTold old.bytes (λ all. MayBeLeft stream all found)
+found_left stream old new past since only m found had =
+    let now : old.moments ≤ old.moments = omega arith in
+    ⊎_elim (λ before. told_map old.bytes (λ all. found ≡ all) (λ all. MayBeLeft stream all found) (λ all e same. untouched same) (only found before)) (λ within. within) (m.elapses.nothing_else old.moments found now had)

@@ -1,0 +1,137 @@
+-- Lemmas for the laws: closed slots have no sync word, and an update has one outcome.
+use Rattle.std.proofs.Common.{◌≡◌, ◌≢◌, ℕ, zero, suc, ◌+◌, ◌-◌, ◌*◌, ◌/◌, ◌%◌, ◌<◌, ◌≤◌, inl, inr, false, nat_eq, List, [], ◌∷◌, length, get_or, take, drop, refl, ap, sym, ◌∙◌, arith}
+use Rattle.std.proofs.lemmas.Bool.{cases_eq, cases_lt, cases_order}
+use Rattle.std.proofs.lemmas.List.{get_or-drop, get_or-take}
+use Rattle.x7_update.specs.Layout.{HasLayout, IsNext, first_slot, four_at, open_word}
+use Rattle.x7_update.specs.After.{ClosesTo, already, spends, IsAfter, IsBetween, switched, with_stream}
+use Rattle.x7_update.specs.Layout.{spent_word, update_place}
+use Rattle.x7_update.proofs.CaseLemmas.{true_or_false}
+
+-- none of the bytes is AA, with which a sync word begins
+abbrev NoStart : List ℕ → Type 0
+NoStart [] = Unit {0}
+NoStart (x ∷ xs) = (x ≢ 0xAA) × NoStart xs
+
+apart : (a : ℕ) → nat_eq a 0xAA ≡ false → a ≢ 0xAA
+apart a t e = true_or_false (nat_eq a 0xAA) (ap (λ n. nat_eq n 0xAA) e) t
+
+no_start : (xs : List ℕ) → NoStart xs → (i : ℕ) → i < length xs → get_or xs i 0 ≢ 0xAA
+no_start [] h i k = absurd (omega arith)
+no_start (x ∷ xs) h zero k = h.0
+no_start (x ∷ xs) h (suc i) k = no_start xs h.1 i (omega arith)
+
+front_apart : (flash : List ℕ) → NoStart (take 8 (drop 4 (first_slot flash)))
+front_apart flash = (apart 0x20 refl, (apart 0 refl, (apart 0 refl, (apart 0 refl, (apart 0x30 refl, (apart 2 refl, (apart 0 refl, (apart 1 refl, tt))))))))
+
+back_apart : (flash : List ℕ) → NoStart (drop 16 (first_slot flash))
+back_apart flash = (
+  apart 0x30 refl,
+  (
+    apart 0 refl,
+    (
+      apart 0x80 refl,
+      (
+        apart 1 refl,
+        (
+          apart 0 refl,
+          (
+            apart 0 refl,
+            (
+              apart 0 refl,
+              (
+                apart 0x0F refl,
+                (apart 0x30 refl, (apart 0 refl, (apart 0x80 refl, (apart 1 refl, (apart 0 refl, (apart 0 refl, (apart 0 refl, (apart 0x0D refl, tt)))))))),
+              ),
+            ),
+          ),
+        ),
+      ),
+    ),
+  ),
+)
+
+module _ (flash found : List ℕ) (l : HasLayout flash) (b : IsBetween flash found) where
+  -- a byte behind a switch word
+  byte_at : (i m : ℕ) → i < 65536 → i % 32 ≡ m → 4 ≤ m → get_or found i 0 ≡ get_or (first_slot flash) m 0
+  byte_at i m h e k =
+      let at : 32 * (i / 32) + m ≡ i = omega arith in
+      b.slots i h (omega (arith, e, k)) ∙ ap (λ n. get_or flash n 0) (sym at) ∙ l.slots.leads (i / 32) (omega arith) m k (omega arith)
+
+  -- no sync word begins in the first sector
+  pub no_sync : (place : ℕ) → place < 65536 → four_at found place ≢ open_word
+  no_sync place h e =
+      let e0 : get_or found place 0 ≡ 0xAA = ap (λ w. get_or w 0 0) e in
+      let e1 : get_or found (place + 1) 0 ≡ 0x99 = ap (λ w. get_or w 1 0) e in
+      let e2 : get_or found (place + 2) 0 ≡ 0x55 = ap (λ w. get_or w 2 0) e in
+      let e3 : get_or found (place + 3) 0 ≡ 0x66 = ap (λ w. get_or w 3 0) e in
+      let j = place % 32 in
+      elim (cases_lt j 16) [
+        | inr high ↦
+            let at : 16 + (j - 16) ≡ j = omega arith in
+            no_start (drop 16 (first_slot flash)) (back_apart flash) (j - 16) (omega arith)
+            (get_or-drop 16 (first_slot flash) (j - 16) 0 ∙ ap (λ n. get_or (first_slot flash) n 0) at ∙ sym (byte_at place j h refl (omega arith)) ∙ e0)
+        | inl low ↦ elim (cases_lt j 4) [
+          | inl switch ↦ elim (cases_eq j 0) [
+            | inl zero_j ↦
+                let at : place ≡ 32 * (place / 32) = omega arith in
+                b.closed (place / 32) (omega arith) (ap (λ n. four_at found n) (sym at) ∙ e)
+            | inr not0 ↦ elim (cases_eq j 1) [
+              | inl one ↦ let byte : 0x20 ≡ 0x66 = sym (byte_at (place + 3) 4 (omega arith) (omega arith) (omega arith)) ∙ e3 in absurd (omega (arith, byte))
+              | inr not1 ↦ elim (cases_eq j 2) [
+                | inl two ↦ let byte : 0x20 ≡ 0x55 = sym (byte_at (place + 2) 4 (omega arith) (omega arith) (omega arith)) ∙ e2 in absurd (omega (arith, byte))
+                | inr not2 ↦ let byte : 0x20 ≡ 0x99 = sym (byte_at (place + 1) 4 (omega arith) (omega arith) (omega arith)) ∙ e1 in absurd (omega (arith, byte))
+              ]
+            ]
+          ]
+          | inr behind ↦ elim (cases_lt j 12) [
+            | inl front ↦
+                let at : 4 + (j - 4) ≡ j = omega arith in
+                no_start (take 8 (drop 4 (first_slot flash))) (front_apart flash) (j - 4) (omega arith)
+                (get_or-take 8 (drop 4 (first_slot flash)) (j - 4) 0 (omega arith) ∙ get_or-drop 4 (first_slot flash) (j - 4) 0 ∙ ap (λ n. get_or (first_slot flash) n 0) at ∙ sym (byte_at place j h refl behind) ∙ e0)
+            | inr start ↦ elim (cases_eq j 12) [
+              | inl twelve ↦
+                  let c : get_or flash 14 0 ≡ 0x55 = sym (byte_at (place + 2) 14 (omega arith) (omega arith) (omega arith)) ∙ e2 in
+                  let d : get_or flash 15 0 ≡ 0x66 = sym (byte_at (place + 3) 15 (omega arith) (omega arith) (omega arith)) ∙ e3 in
+                  absurd (omega (arith, l.slots.place.whole, c, d))
+              | inr not12 ↦ elim (cases_eq j 13) [
+                | inl thirteen ↦ let byte : 0x30 ≡ 0x66 = sym (byte_at (place + 3) 16 (omega arith) (omega arith) (omega arith)) ∙ e3 in absurd (omega (arith, byte))
+                | inr not13 ↦ elim (cases_eq j 14) [
+                  | inl fourteen ↦ let byte : 0x30 ≡ 0x55 = sym (byte_at (place + 2) 16 (omega arith) (omega arith) (omega arith)) ∙ e2 in absurd (omega (arith, byte))
+                  | inr not14 ↦ let byte : 0x30 ≡ 0x99 = sym (byte_at (place + 1) 16 (omega arith) (omega arith) (omega arith)) ∙ e1 in absurd (omega (arith, byte))
+                ]
+              ]
+            ]
+          ]
+        ]
+      ]
+
+-- ---- an update has one outcome
+
+next_least : (flash : List ℕ) (one other : ℕ) → IsNext flash one → IsNext flash other → one < other → ⊥
+next_least flash one other a b less =
+    let before : suc (other - 1) ≡ other = omega arith in
+    b.first (other - 1) before (a.free (other - 1) (omega arith) (omega (arith, b.within)))
+
+pub one_next : (flash : List ℕ) (one other : ℕ) → IsNext flash one → IsNext flash other → one ≡ other
+one_next flash one other a b = elim (cases_order one other) [
+  | inl same ↦ same
+  | inr differ ↦ elim differ [
+    | inl less ↦ absurd (next_least flash one other a b less)
+    | inr more ↦ absurd (next_least flash other one b a more)
+  ]
+]
+
+pub one_closed : (flash one other : List ℕ) → HasLayout flash → ClosesTo flash one → ClosesTo flash other → one ≡ other
+one_closed flash one other l (already s e) (already t f) = e ∙ sym f
+one_closed flash one other l (already s e) (spends slot h is f) = absurd (s slot h is)
+one_closed flash one other l (spends slot h is e) (already t f) = absurd (t slot h is)
+one_closed flash one other l (spends slot h is e) (spends slot_2 h_2 is_2 f) =
+    let same : slot ≡ slot_2 = l.slots.one_open slot slot_2 h h_2 is is_2 in
+    e ∙ ap (λ k. switched k spent_word flash) same ∙ sym f
+
+pub one_after : (stream flash one other : List ℕ) → HasLayout flash → IsAfter stream flash one → IsAfter stream flash other → one ≡ other
+one_after stream flash one other l a b =
+    a.is
+    ∙ ap (λ k. switched k open_word (with_stream (update_place flash) stream a.closed)) (one_next flash a.next b.next a.is_next b.is_next)
+    ∙ ap (λ c. switched b.next open_word (with_stream (update_place flash) stream c)) (one_closed flash a.closed b.closed l a.closes b.closes)
+    ∙ sym b.is

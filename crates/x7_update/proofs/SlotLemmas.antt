@@ -1,0 +1,105 @@
+-- Lemmas on the slots of a first sector.
+use Rattle.std.proofs.Common.{◌≡◌, ℕ, suc, ◌+◌, ◌*◌, ◌<◌, ◌≤◌, inl, inr, List, Option, None, Some, get_or, refl, ap, sym, subst, ◌∙◌, arith}
+use Rattle.std.proofs.lemmas.Bool.{cases_eq, cases_order}
+use Rattle.x7_update.specs.Layout.{CanStandAt, HasSize, IsFree, IsOpen, Leads, free_word, open_word, update_place}
+use Rattle.x7_update.specs.Refused.{BeginsWell, IsBad, IsGood, NoLayoutAt, OpensAgain, last_taken}
+use Rattle.x7_update.specs.Slots.{Finds, OpenAmong, SoFar}
+use Rattle.x7_update.specs.declared.slots.Seen.{Seen}
+use Rattle.x7_update.specs.declared.slots.Slots.{Slots}
+
+-- before the first slot
+pub so_far_none : (first : List ℕ) → SoFar first 0 (record { opened = None; next = 0 })
+so_far_none first = record {
+  leads = λ slot h. absurd (omega arith);
+  once = λ slot h again. absurd (omega arith);
+  opens = λ slot h is. absurd (omega arith);
+  within = omega arith;
+  free = λ slot h k. absurd (omega arith);
+  first = λ slot e is. absurd (omega arith);
+}
+
+-- what holds of the slots before one and of it
+up_to : (P : ℕ → Type 0) (count : ℕ) → ((k : ℕ) → k < count → P k) → P count → (k : ℕ) → k < count + 1 → P k
+up_to P count before here k h = elim (cases_eq k count) [
+  | inl is ↦ subst P (sym is) here
+  | inr n ↦ before k (omega arith)
+]
+
+module _ (first : List ℕ) (slot : ℕ) (leads : Leads first slot) where
+  -- the slot is open
+  pub so_far_open : (next : ℕ) → IsOpen first slot → SoFar first slot (record { opened = None; next = next }) → SoFar first (slot + 1) (record { opened = Some slot; next = slot + 1 })
+  so_far_open next is so = record {
+    leads = up_to (λ k. Leads first k) slot so.leads leads;
+    once = up_to (λ k. OpensAgain first k → ⊥) slot so.once (λ again. so.opens again.other again.before again.first);
+    opens = (omega arith, is);
+    within = omega arith;
+    free = λ k h l. absurd (omega arith);
+    first = λ k e is_free. let same : k ≡ slot = omega arith in let free_here : IsFree first slot = subst (λ n. IsFree first n) same is_free in absurd (not_both is free_here);
+  }
+    where
+      not_both : IsOpen first slot → IsFree first slot → ⊥
+      not_both o f =
+          let same : open_word ≡ free_word = sym o ∙ f in
+          let first : 0xAA ≡ 0xFF = ap (λ l. get_or l 0 0) same in
+          absurd (omega (arith, first))
+
+  closed_more : (count : ℕ) (one : Option ℕ) → count ≡ slot → (IsOpen first slot → ⊥) → OpenAmong first slot one → OpenAmong first (slot + 1) one
+  closed_more count None e n o = up_to (λ k. IsOpen first k → ⊥) slot o n
+  closed_more count (Some k) e n o = (omega (arith, o.0), o.1)
+
+  once_more : (seen : Seen) → (IsOpen first slot → ⊥) → SoFar first slot seen → (k : ℕ) → k < slot + 1 → OpensAgain first k → ⊥
+  once_more seen n so = up_to (λ k. OpensAgain first k → ⊥) slot so.once (λ again. n again.second)
+
+  -- it is free
+  pub so_far_free : (seen : Seen) → (IsOpen first slot → ⊥) → IsFree first slot → SoFar first slot seen → SoFar first (slot + 1) seen
+  so_far_free seen n is so = record {
+    leads = up_to (λ k. Leads first k) slot so.leads leads;
+    once = once_more seen n so;
+    opens = closed_more slot seen.opened refl n so.opens;
+    within = omega (arith, so.within);
+    free = λ k h l. elim (cases_eq k slot) [ inl e ↦ subst (λ m. IsFree first m) (sym e) is | inr d ↦ so.free k h (omega arith) ];
+    first = so.first;
+  }
+
+  -- it is spent
+  pub so_far_spent : (seen : Seen) → (IsOpen first slot → ⊥) → (IsFree first slot → ⊥) → SoFar first slot seen → SoFar first (slot + 1) (record { opened = seen.opened; next = slot + 1 })
+  so_far_spent seen n f so = record {
+    leads = up_to (λ k. Leads first k) slot so.leads leads;
+    once = once_more seen n so;
+    opens = closed_more slot seen.opened refl n so.opens;
+    within = omega arith;
+    free = λ k h l. absurd (omega arith);
+    first = λ k e is_free. let same : k ≡ slot = omega arith in f (subst (λ m. IsFree first m) same is_free);
+  }
+
+  -- it is open, and so is one before it
+  pub opens_again : (one : ℕ) → IsOpen first slot → OpenAmong first slot (Some one) → IsBad first slot (32 * slot)
+  opens_again one is o = inr (leads, record { other = one; before = o.0; first = o.1; second = is }, refl)
+
+pub so_far_good : (first : List ℕ) (count : ℕ) (seen : Seen) → SoFar first count seen → (slot : ℕ) → slot < count → IsGood first slot
+so_far_good first count seen so slot h = (so.leads slot h, so.once slot h)
+
+-- all slots are good
+pub all_found : (size : ℕ) (first : List ℕ) (slots : Slots) → HasSize size → CanStandAt size (update_place first) → SoFar first 2048 (record { opened = slots.opened; next = slots.next }) → slots.next < 2048 → slots.update ≡ update_place first → Finds size first slots
+all_found size first slots sized place so some is = record {
+  sized = sized;
+  has = record { place = place; leads = so.leads; one_open = one_open; last_free = so.free 2047 (omega arith) (omega arith) };
+  update = is;
+  opens = so.opens;
+  next = record { within = some; free = so.free; first = so.first };
+}
+  where
+    one_open : (slot other : ℕ) → slot < 2048 → other < 2048 → IsOpen first slot → IsOpen first other → slot ≡ other
+    one_open slot other h k o p = elim (cases_order slot other) [
+      | inl same ↦ same
+      | inr differ ↦ elim differ [
+        | inl less ↦ absurd (so.once other k (record { other = slot; before = less; first = o; second = p }))
+        | inr more ↦ absurd (so.once slot h (record { other = other; before = more; first = p; second = o }))
+      ]
+    ]
+
+-- all slots are good, but none is free
+pub none_free : (size : ℕ) (first : List ℕ) (seen : Seen) (place : ℕ) → BeginsWell size first → SoFar first 2048 seen → 2048 ≤ seen.next → place ≡ 65504 → NoLayoutAt size first place
+none_free size first seen place begins so all is =
+    let last : suc 2047 ≡ seen.next = omega (arith, so.within) in
+    last_taken begins (so_far_good first 2048 seen so) (so.first 2047 last) is

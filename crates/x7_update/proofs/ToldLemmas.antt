@@ -1,0 +1,162 @@
+-- Lemmas on bytes that may be told, and on what calls leave of them one after the other.
+use Rattle.std.proofs.Common.{◌≡◌, ℕ, ◌+◌, ◌≤◌, List, length, Option, None, Some, option_map, Result, Ok, Err, OnOk, OnErr, refl, ap, sym, subst, ◌∙◌, arith}
+use Rattle.x7_words.specs.Flash.{Elapses, FlashState, IsTorn, OnlyReads, OnlyWrites, TornFrom, WhereTold, WithinWrite, replaced}
+use Rattle.x7_words.proofs.FlashLemmas.{elapses_none, elapses_on, elapses_unwritten, elapses_weaker, left_is_torn}
+use Rattle.x7_update.specs.Writing.{AtAnyMoment, Becomes, BecomesBytes, Leaves}
+
+pub told_at : (told : Option (List ℕ)) (P : List ℕ → Type 0) → WhereTold told P → (all : List ℕ) → told ≡ Some all → P all
+told_at told P t all e = let Q : Option (List ℕ) → Type 0 = λ o. WhereTold o P in let at : WhereTold (Some all) P = subst Q e t in at
+
+pub told_all : (told : Option (List ℕ)) (P : List ℕ → Type 0) → ((all : List ℕ) → told ≡ Some all → P all) → WhereTold told P
+told_all None P f = tt
+told_all (Some all) P f = f all refl
+
+pub told_map : (told : Option (List ℕ)) (P Q : List ℕ → Type 0) → ((all : List ℕ) → told ≡ Some all → P all → Q all) → WhereTold told P → WhereTold told Q
+told_map None P Q f t = tt
+told_map (Some all) P Q f t = f all refl t
+
+pub on_ok_map : {E : Type 0} (P Q : Type 0) (answer : Result (Unit {0}) E) → OnOk answer P → (P → Q) → OnOk answer Q
+on_ok_map P Q (Ok _) p f = f p
+on_ok_map P Q (Err _) p f = tt
+
+-- what is written is the same, said otherwise
+pub written_as : {E : Type 0} (f g : List ℕ → List ℕ) (old new : Option (List ℕ)) (answer : Result (Unit {0}) E) → OnOk answer (new ≡ option_map f old) → ((all : List ℕ) → old ≡ Some all → f all ≡ g all) → OnOk answer (new ≡ option_map g old)
+written_as f g None new (Ok _) done same = done
+written_as f g (Some all) new (Ok _) done same = done ∙ ap Some (same all refl)
+written_as f g None new (Err _) done same = tt
+written_as f g (Some all) new (Err _) done same = tt
+
+-- ---- what calls leave
+
+-- bytes that are told still, where a relation of them is known
+pub leaves_map : (old new : FlashState) (P Q : List ℕ → List ℕ → Type 0) → ((all now : List ℕ) → old.bytes ≡ Some all → P all now → Q all now) → Leaves old new P → Leaves old new Q
+leaves_map old new P Q f l = told_map old.bytes (λ all. (now : List ℕ) × (new.bytes ≡ Some now) × P all now) (λ all. (now : List ℕ) × (new.bytes ≡ Some now) × Q all now) (λ all e p. (p.0, p.1, f all p.0 e p.2)) l
+
+-- an equation of bytes that may be told
+pub becomes_of : (old new : FlashState) (f : List ℕ → List ℕ) (P : List ℕ → List ℕ → Type 0) → new.bytes ≡ option_map f old.bytes → ((all : List ℕ) → old.bytes ≡ Some all → P all (f all)) → Becomes old new P
+becomes_of old new f P is h = go old.bytes is h
+  where
+    go : (told : Option (List ℕ)) → new.bytes ≡ option_map f told → ((all : List ℕ) → told ≡ Some all → P all (f all)) → BecomesBytes P told new.bytes
+    go None is h = is
+    go (Some all) is h = (f all, is, h all refl)
+
+-- no call yet
+pub becomes_same : (s : FlashState) (P : List ℕ → List ℕ → Type 0) → ((all : List ℕ) → s.bytes ≡ Some all → P all all) → Becomes s s P
+becomes_same s P h = go s.bytes h
+  where
+    go : (told : Option (List ℕ)) → ((all : List ℕ) → told ≡ Some all → P all all) → BecomesBytes P told told
+    go None h = refl
+    go (Some all) h = (all, refl, h all refl)
+
+pub becomes_leaves : (old new : FlashState) (P : List ℕ → List ℕ → Type 0) → Becomes old new P → Leaves old new P
+becomes_leaves old new P b = go old.bytes b
+  where
+    go : (told : Option (List ℕ)) → BecomesBytes P told new.bytes → WhereTold told (λ all. (now : List ℕ) × (new.bytes ≡ Some now) × P all now)
+    go None b = tt
+    go (Some all) b = b
+
+pub becomes_map : (old new : FlashState) (P Q : List ℕ → List ℕ → Type 0) → ((all now : List ℕ) → old.bytes ≡ Some all → P all now → Q all now) → Becomes old new P → Becomes old new Q
+becomes_map old new P Q f b = go old.bytes f b
+  where
+    go : (told : Option (List ℕ)) → ((all now : List ℕ) → told ≡ Some all → P all now → Q all now) → BecomesBytes P told new.bytes → BecomesBytes Q told new.bytes
+    go None f b = b
+    go (Some all) f b = (b.0, b.1, f all b.0 refl b.2)
+
+-- one call and then another
+pub becomes_on : (a b c : FlashState) (P Q R : List ℕ → List ℕ → Type 0) → ((all mid now : List ℕ) → a.bytes ≡ Some all → P all mid → Q mid now → R all now) → Becomes a b P → Becomes b c Q → Becomes a c R
+becomes_on a b c P Q R f p q = go a.bytes f p
+  where
+    at : (told : Option (List ℕ)) (now : Option (List ℕ)) → told ≡ now → BecomesBytes Q told c.bytes → BecomesBytes Q now c.bytes
+    at told now e q = let S : Option (List ℕ) → Type 0 = λ o. BecomesBytes Q o c.bytes in subst S e q
+
+    go : (told : Option (List ℕ)) → ((all mid now : List ℕ) → told ≡ Some all → P all mid → Q mid now → R all now) → BecomesBytes P told b.bytes → BecomesBytes R told c.bytes
+    go None f p = at b.bytes None p q
+    go (Some all) f p = let m : BecomesBytes Q (Some p.0) c.bytes = at b.bytes (Some p.0) p.1 q in (m.0, m.1, f all p.0 m.0 refl p.2 m.2)
+
+-- what holds of the bytes then
+pub becomes_then : (a b : FlashState) (P : List ℕ → List ℕ → Type 0) (Q : List ℕ → Type 0) → ((all now : List ℕ) → a.bytes ≡ Some all → P all now → Q now) → Becomes a b P → WhereTold b.bytes Q
+becomes_then a b P Q f p = go a.bytes f p
+  where
+    at : (told now : Option (List ℕ)) → told ≡ now → WhereTold now Q → WhereTold told Q
+    at told now e w = let S : Option (List ℕ) → Type 0 = λ o. WhereTold o Q in subst S (sym e) w
+
+    go : (told : Option (List ℕ)) → ((all now : List ℕ) → told ≡ Some all → P all now → Q now) → BecomesBytes P told b.bytes → WhereTold b.bytes Q
+    go None f p = at b.bytes None p tt
+    go (Some all) f p = at b.bytes (Some p.0) p.1 (f all p.0 refl p.2)
+
+-- what is left after one call and another
+pub leaves_on : (a b c : FlashState) (P Q R : List ℕ → List ℕ → Type 0) → ((all mid now : List ℕ) → a.bytes ≡ Some all → P all mid → Q mid now → R all now) → Leaves a b P → Leaves b c Q → Leaves a c R
+leaves_on a b c P Q R f l m = told_map a.bytes (λ all. (now : List ℕ) × (b.bytes ≡ Some now) × P all now) (λ all. (now : List ℕ) × (c.bytes ≡ Some now) × R all now)
+    (λ all e p. let q = told_at b.bytes (λ mid. (now : List ℕ) × (c.bytes ≡ Some now) × Q mid now) m p.0 p.1 in (q.0, q.1, f all p.0 q.0 e p.2 q.2)) l
+
+-- ---- at any moment
+
+-- no call yet
+pub moments_none : (s : FlashState) (since : ℕ → List ℕ → Type 0) (P : List ℕ → List ℕ → Type 0) → ((all : List ℕ) → s.bytes ≡ Some all → P all all) → AtAnyMoment s s since since P
+moments_none s since P h = record {
+  leaves = told_all s.bytes (λ all. (now : List ℕ) × (s.bytes ≡ Some now) × P all now) (λ all e. (all, e, h all e));
+  elapses = elapses_none s.moments since (λ found. WhereTold s.bytes (λ all. P all found));
+}
+
+-- the same said weaker
+pub moments_weaker : (a b : FlashState) (past since : ℕ → List ℕ → Type 0) (P Q : List ℕ → List ℕ → Type 0) → ((all found : List ℕ) → a.bytes ≡ Some all → P all found → Q all found) → AtAnyMoment a b past since P → AtAnyMoment a b past since Q
+moments_weaker a b past since P Q f m = record {
+  leaves = leaves_map a b P Q (λ all now e p. f all now e p) m.leaves;
+  elapses = elapses_weaker a.moments b.moments past since (λ found. WhereTold a.bytes (λ all. P all found)) (λ found. WhereTold a.bytes (λ all. Q all found)) m.elapses
+      (λ found w. told_map a.bytes (λ all. P all found) (λ all. Q all found) (λ all e p. f all found e p) w);
+}
+
+-- one call more: of what the first left, and of what is found within the second
+pub moments_on : (a b c : FlashState) (past mids since : ℕ → List ℕ → Type 0) (P Q R : List ℕ → List ℕ → Type 0) → ((all mid found : List ℕ) → a.bytes ≡ Some all → P all mid → Q mid found → R all found)
+    → AtAnyMoment a b past mids R → Leaves a b P → AtAnyMoment b c mids since Q → AtAnyMoment a c past since R
+moments_on a b c past mids since P Q R f m l n = record {
+  leaves = leaves_on a b c P Q R f l n.leaves;
+  elapses = elapses_on a.moments b.moments c.moments past mids since (λ found. WhereTold a.bytes (λ all. R all found)) (λ found. WhereTold b.bytes (λ mid. Q mid found)) m.elapses n.elapses
+      (λ found w. told_map a.bytes (λ all. (mid : List ℕ) × (b.bytes ≡ Some mid) × P all mid) (λ all. R all found) (λ all e p. f all p.0 found e p.2 (told_at b.bytes (λ mid. Q mid found) w p.0 p.1)) l);
+}
+
+-- a read after them
+pub moments_read : (a b c : FlashState) (past mids since : ℕ → List ℕ → Type 0) (P : List ℕ → List ℕ → Type 0) → AtAnyMoment a b past mids P → OnlyReads b c mids since → AtAnyMoment a c past since P
+moments_read a b c past mids since P m r = record {
+  leaves = told_map a.bytes (λ all. (now : List ℕ) × (b.bytes ≡ Some now) × P all now) (λ all. (now : List ℕ) × (c.bytes ≡ Some now) × P all now) (λ all e p. (p.0, r.bytes ∙ p.1, p.2)) m.leaves;
+  elapses = elapses_unwritten a.moments b c past mids since (λ found. WhereTold a.bytes (λ all. P all found)) m.elapses r.unwritten;
+}
+
+-- a read before them
+pub read_moments : (a b c : FlashState) (past mids since : ℕ → List ℕ → Type 0) (P : List ℕ → List ℕ → Type 0) → ((all : List ℕ) → a.bytes ≡ Some all → P all all) → OnlyReads a b past mids → AtAnyMoment b c mids since P → AtAnyMoment a c past since P
+read_moments a b c past mids since P h r n =
+    moments_on a b c past mids since (λ all mid. mid ≡ all) P P (λ all mid found e same p. subst (λ x. P x found) same p)
+    (moments_read a a b past past mids P (moments_none a past P h) r)
+    (told_all a.bytes (λ all. (mid : List ℕ) × (b.bytes ≡ Some mid) × (mid ≡ all)) (λ all e. (all, r.bytes ∙ e, refl))) n
+
+-- only reads
+pub only_read : (a b : FlashState) (past since : ℕ → List ℕ → Type 0) (P : List ℕ → List ℕ → Type 0) → ((all : List ℕ) → a.bytes ≡ Some all → P all all) → OnlyReads a b past since → AtAnyMoment a b past since P
+only_read a b past since P h r = moments_read a a b past past since P (moments_none a past P h) r
+
+-- what is found within a write, and what it leaves, is torn
+pub write_moments : {E : Type 0} (place : ℕ) (target : List ℕ → List ℕ) (old new : FlashState) (past since : ℕ → List ℕ → Type 0) (answer : Result (Unit {0}) E)
+    → ((all : List ℕ) → old.bytes ≡ Some all → place + length (target all) ≤ length all)
+    → OnOk answer (new.bytes ≡ option_map (λ all. replaced place (target all) all) old.bytes) → OnErr answer (TornFrom place target old.bytes new.bytes) → Elapses old.moments new.moments past since (WithinWrite place target old.bytes)
+    → AtAnyMoment old new past since (λ all found. IsTorn place (target all) all found)
+write_moments place target old new past since answer within done torn passes = record { leaves = left answer done torn; elapses = passes }
+  where
+    left : {E : Type 0} (answer : Result (Unit {0}) E) → OnOk answer (new.bytes ≡ option_map (λ all. replaced place (target all) all) old.bytes) → OnErr answer (TornFrom place target old.bytes new.bytes) → Leaves old new (λ all now. IsTorn place (target all) all now)
+    left (Ok _) done torn = becomes_leaves old new (λ all now. IsTorn place (target all) all now) (becomes_of old new (λ all. replaced place (target all) all) (λ all now. IsTorn place (target all) all now) done (λ all e. left_is_torn None place (target all) all (within all e)))
+    left (Err _) done torn =
+        told_all old.bytes (λ all. (now : List ℕ) × (new.bytes ≡ Some now) × IsTorn place (target all) all now)
+        (λ all e. let Q : Option (List ℕ) → Type 0 = λ o. TornFrom place target o new.bytes in let at : TornFrom place target (Some all) new.bytes = subst Q e torn in at)
+
+-- ---- what stays
+
+pub writes_at : (s : FlashState) → OnlyWrites s s
+writes_at s = record { extent = refl; attached = refl; names = refl; faults = refl; absences = refl; write_faults = omega arith }
+
+pub writes_on : (a b c : FlashState) → OnlyWrites a b → OnlyWrites b c → OnlyWrites a c
+writes_on a b c p q = record {
+  extent = q.extent ∙ p.extent;
+  attached = q.attached ∙ p.attached;
+  names = q.names ∙ p.names;
+  faults = q.faults ∙ p.faults;
+  absences = q.absences ∙ p.absences;
+  write_faults = omega (arith, p.write_faults, q.write_faults);
+}

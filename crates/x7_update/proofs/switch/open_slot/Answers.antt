@@ -1,0 +1,20 @@
+use Rattle.std.proofs.Common.{◌≡◌, ◌*◌, ◌+◌, ◌≤◌, ℕ, List, Some, length, arith}
+use Rattle.x7_words.specs.Flash.{IsTorn, cleared}
+use Rattle.x7_words.proofs.FlashLemmas.{length-cleared}
+use Rattle.x7_update.specs.Layout.{open_word}
+use Rattle.x7_update.specs.Writing.{Opening}
+use Rattle.x7_update.proofs.SwitchLemmas.{opening}
+use Rattle.x7_update.proofs.ToldLemmas.{moments_weaker, told_at, write_moments}
+use Rattle.x7_update.proofs.switch.open_slot.Goals as goal
+
+pub returns-clause-any_moment : goal.returns-clause-any_moment
+returns-clause-any_moment g c =
+    let s = g.F.Flash.state c.args.flash.now in
+    let n = g.F.Flash.state c.program.new.self in
+    let place = 32 * c.args.slot in
+    let inside : (all : List ℕ) → s.bytes ≡ Some all → place + 4 ≤ length all =
+    λ all e. omega (arith, told_at s.bytes (λ all. s.extent ≡ length all) (g.met.F.Flash.counted c.args.flash.now) all e, c.requires.within) in
+    moments_weaker s n _ _ (λ all found. IsTorn place (cleared place open_word all) all found) (Opening c.args.slot)
+    (λ all found e torn. opening c.args.slot (cleared place open_word all) all found (length-cleared place open_word all (inside all e)) (inside all e) torn)
+    (write_moments place (cleared place open_word) s n _ _ c.program.result (λ all e. omega (arith, inside all e, length-cleared place open_word all (inside all e)))
+    c.program.ensures.programmed c.program.ensures.torn c.program.ensures.passes)

@@ -1,0 +1,11 @@
+use Rattle.std.proofs.Common.{◌≡◌, length}
+use Rattle.x7_words.specs.Flash.{OnlyReads}
+use Rattle.x7_update.proofs.verify.verify_stream.Given as goal
+
+abbrev pub invariant-loop-sector : goal.invariant-loop-sector
+invariant-loop-sector g l =
+    let f = g.F.Flash in
+    record {
+      only : OnlyReads (f.state l.fn.flash) (f.state l.flash) (f.found_since l.fn.flash) (f.found_since l.flash);
+      buffer : length l.buffer ≡ 65536;
+    }

@@ -1,0 +1,42 @@
+-- What an update leaves of a flash, and what a power loss may leave of it (this project's choice).
+use Rattle.std.specs.Prelude.{◌≡◌, ℕ, ◌+◌, ◌-◌, ◌*◌, ◌%◌, ◌<◌, ◌≤◌, List, ◌++◌, length, get_or, take, replicate}
+use Rattle.x7_words.specs.Flash.{replaced}
+use Rattle.x7_update.specs.Layout.{HasLayout, IsClosed, IsNext, IsOpen, open_word, spent_word, update_place}
+
+-- the flash with this switch word in a slot
+abbrev pub switched : ℕ → List ℕ → List ℕ → List ℕ
+switched slot word flash = replaced (32 * slot) word flash
+
+-- the flash with this stream at its place, and FF from its end to the flash's
+abbrev pub with_stream : ℕ → List ℕ → List ℕ → List ℕ
+with_stream place stream flash = take place flash ++ (stream ++ replicate (length flash - (place + length stream)) 255)
+
+-- the flash with its open slot spent, if it has one
+pub data ClosesTo (flash closed : List ℕ) : Type 0 where
+  already : IsClosed flash → closed ≡ flash → ClosesTo flash closed
+  spends : (slot : ℕ) → slot < 2048 → IsOpen flash slot → closed ≡ switched slot spent_word flash → ClosesTo flash closed
+
+-- The flash after an update with a stream: its open slot is spent, the stream stands at U with FF behind it, and the first slot
+-- from which on all are free is open.
+pub record IsAfter (stream flash after : List ℕ) : Type 0 where
+  pub closed : List ℕ
+  pub closes : ClosesTo flash closed
+  pub next : ℕ
+  pub is_next : IsNext flash next
+  pub fits : update_place flash + length stream ≤ length flash
+  pub is : after ≡ switched next open_word (with_stream (update_place flash) stream closed)
+
+-- Between closing the open slot and opening the next: no slot is open, all slots lead to U still, the golden stream stands, and
+-- from U on there may be anything.
+pub record IsBetween (flash found : List ℕ) : Type 0 where
+  pub size : length found ≡ length flash
+  pub slots : (i : ℕ) → i < 65536 → 4 ≤ i % 32 → get_or found i 0 ≡ get_or flash i 0
+  pub closed : IsClosed found
+  pub golden : (i : ℕ) → 65536 ≤ i → i < update_place flash → get_or found i 0 ≡ get_or flash i 0
+
+-- What a power loss may leave of a flash that is being updated with a stream: itself; and of one with a layout what is between, or
+-- the flash after the update.
+pub data MayBeLeft (stream flash found : List ℕ) : Type 0 where
+  untouched : found ≡ flash → MayBeLeft stream flash found
+  between : HasLayout flash → IsBetween flash found → MayBeLeft stream flash found
+  after : HasLayout flash → IsAfter stream flash found → MayBeLeft stream flash found

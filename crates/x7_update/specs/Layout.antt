@@ -1,0 +1,89 @@
+-- The layout of a flash that can be updated (UG470, MultiBoot; the layout is this project's choice).
+--
+--     place     what stands there
+--     0         2,048 slots of 32 bytes: a switch word, and then the words that lead a device to the update's place U
+--     65,536    the golden stream
+--     U         the update stream, and FF behind it
+--
+-- A device takes the one slot whose switch word is the sync word: that slot is open. A slot of FFFFFFFF is free, any other is spent.
+use Rattle.std.specs.Prelude.{◌≡◌, ◌≢◌, ℕ, suc, ◌+◌, ◌*◌, ◌%◌, ◌<◌, ◌≤◌, List, [], ◌∷◌, ◌++◌, length, get_or}
+use Rattle.x7_words.specs.Flash.{flash_limit}
+use Rattle.x7_words.specs.Word.{word_of_bytes}
+
+-- the four bytes from a place on
+abbrev pub four_at : List ℕ → ℕ → List ℕ
+four_at flash place = get_or flash place 0 ∷ get_or flash (place + 1) 0 ∷ get_or flash (place + 2) 0 ∷ get_or flash (place + 3) 0 ∷ []
+
+-- the switch word of a slot, by its bytes
+abbrev pub switch_of : List ℕ → ℕ → List ℕ
+switch_of flash slot = four_at flash (32 * slot)
+
+-- AA995566
+abbrev pub open_word : List ℕ
+open_word = 0xAA ∷ 0x99 ∷ 0x55 ∷ 0x66 ∷ []
+
+-- FFFFFFFF
+abbrev pub free_word : List ℕ
+free_word = 0xFF ∷ 0xFF ∷ 0xFF ∷ 0xFF ∷ []
+
+-- 00000000
+abbrev pub spent_word : List ℕ
+spent_word = 0 ∷ 0 ∷ 0 ∷ 0 ∷ []
+
+-- U, which is the start address of the first slot
+abbrev pub update_place : List ℕ → ℕ
+update_place flash = word_of_bytes (four_at flash 12)
+
+-- a slot with this switch word and these bytes of a start address: a write to WBSTAR and IPROG, and then DESYNC for a fallback
+abbrev pub slot_with : List ℕ → List ℕ → List ℕ
+slot_with switch start =
+    switch ++ (0x20 ∷ 0x00 ∷ 0x00 ∷ 0x00 ∷ 0x30 ∷ 0x02 ∷ 0x00 ∷ 0x01 ∷ [])
+    ++ start ++ (0x30 ∷ 0x00 ∷ 0x80 ∷ 0x01 ∷ 0x00 ∷ 0x00 ∷ 0x00 ∷ 0x0F ∷ 0x30 ∷ 0x00 ∷ 0x80 ∷ 0x01 ∷ 0x00 ∷ 0x00 ∷ 0x00 ∷ 0x0D ∷ [])
+
+-- a slot that leads to where the first one leads
+abbrev pub first_slot : List ℕ → List ℕ
+first_slot flash = slot_with open_word (four_at flash 12)
+
+-- the flash is whole sectors, two at least, and not too large
+pub record HasSize (size : ℕ) : Type 0 where
+  pub whole : size % 65536 ≡ 0
+  pub least : 131072 ≤ size
+  pub most : size ≤ flash_limit
+
+-- a place at which an update may stand in a flash of a size
+pub record CanStandAt (size place : ℕ) : Type 0 where
+  pub whole : place % 65536 ≡ 0
+  pub least : 131072 ≤ place
+  pub most : place ≤ size
+
+-- the slot leads to U: behind its switch word it is as the first one has to be
+abbrev pub Leads : List ℕ → ℕ → Type 0
+Leads flash slot = (i : ℕ) → 4 ≤ i → i < 32 → get_or flash (32 * slot + i) 0 ≡ get_or (first_slot flash) i 0
+
+abbrev pub IsOpen : List ℕ → ℕ → Type 0
+IsOpen flash slot = switch_of flash slot ≡ open_word
+
+abbrev pub IsFree : List ℕ → ℕ → Type 0
+IsFree flash slot = switch_of flash slot ≡ free_word
+
+-- The first sector of a flash of a size is slots that all lead to one U, of which at most one is open and from some on, one at least, all are free.
+pub record HasSlots (size : ℕ) (flash : List ℕ) : Type 0 where
+  pub place : CanStandAt size (update_place flash)
+  pub leads : (slot : ℕ) → slot < 2048 → Leads flash slot
+  pub one_open : (slot other : ℕ) → slot < 2048 → other < 2048 → IsOpen flash slot → IsOpen flash other → slot ≡ other
+  pub last_free : IsFree flash 2047
+
+-- a flash that can be updated
+pub record HasLayout (flash : List ℕ) : Type 0 where
+  pub size : HasSize (length flash)
+  pub slots : HasSlots (length flash) flash
+
+-- no slot is open
+abbrev pub IsClosed : List ℕ → Type 0
+IsClosed flash = (slot : ℕ) → slot < 2048 → switch_of flash slot ≢ open_word
+
+-- the first slot from which on all are free
+pub record IsNext (flash : List ℕ) (next : ℕ) : Type 0 where
+  pub within : next < 2048
+  pub free : (slot : ℕ) → next ≤ slot → slot < 2048 → IsFree flash slot
+  pub first : (slot : ℕ) → suc slot ≡ next → switch_of flash slot ≢ free_word

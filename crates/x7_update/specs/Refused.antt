@@ -1,0 +1,80 @@
+-- Why an update is refused, and where a flash has no layout (this project's choice).
+use Rattle.std.specs.Prelude.{◌≡◌, ◌≢◌, ℕ, ◌+◌, ◌*◌, ◌<◌, ◌≤◌, ◌⊎◌, true, false, List, length, get_or, None, Some}
+use Rattle.x7_words.specs.Flash.{FlashFails, FlashState, WhereTold, WriteFails}
+use Rattle.x7_update.specs.Layout.{CanStandAt, HasLayout, HasSize, IsFree, IsOpen, Leads, first_slot, update_place}
+use Rattle.x7_update.specs.declared.fault.UpdateFault.{UpdateFault}
+use Rattle.x7_update.specs.declared.fault.UpdateFault.TheVariants.{Differs, Failed, NoLayout, NoMemory, TooLong}
+
+-- the first place of a slot, behind its switch word, at which it differs from what it has to be
+pub record DiffersAt (flash : List ℕ) (slot place : ℕ) : Type 0 where
+  pub i : ℕ
+  pub behind : 4 ≤ i
+  pub within : i < 32
+  pub is : place ≡ 32 * slot + i
+  pub differs : get_or flash place 0 ≢ get_or (first_slot flash) i 0
+  pub first : (j : ℕ) → 4 ≤ j → j < i → get_or flash (32 * slot + j) 0 ≡ get_or (first_slot flash) j 0
+
+-- the slot is open, and so is one before it
+pub record OpensAgain (flash : List ℕ) (slot : ℕ) : Type 0 where
+  pub other : ℕ
+  pub before : other < slot
+  pub first : IsOpen flash other
+  pub second : IsOpen flash slot
+
+-- a slot leads to U, and isn't open where one before it is
+abbrev pub IsGood : List ℕ → ℕ → Type 0
+IsGood flash slot = Leads flash slot × (OpensAgain flash slot → ⊥)
+
+-- why a slot is none of a layout, and the place that tells it: it doesn't lead to U (there), or is open as one before it (its place)
+abbrev pub IsBad : List ℕ → ℕ → ℕ → Type 0
+IsBad flash slot place = DiffersAt flash slot place ⊎ (Leads flash slot × OpensAgain flash slot × (place ≡ 32 * slot))
+
+-- the size and the first slot are good
+pub record BeginsWell (size : ℕ) (flash : List ℕ) : Type 0 where
+  pub sized : HasSize size
+  pub leads : Leads flash 0
+  pub place : CanStandAt size (update_place flash)
+
+-- The place at which a flash of a size has no layout. The first of these lines that holds gives it: the size is bad (the size); the
+-- first slot differs (there); U is no place for an update (12); a further slot is bad, the slots in their order; the last slot
+-- isn't free (its place).
+pub data NoLayoutAt (size : ℕ) (flash : List ℕ) (place : ℕ) : Type 0 where
+  bad_size : (HasSize size → ⊥) → place ≡ size → NoLayoutAt size flash place
+  bad_first : HasSize size → DiffersAt flash 0 place → NoLayoutAt size flash place
+  bad_place : HasSize size → Leads flash 0 → (CanStandAt size (update_place flash) → ⊥) → place ≡ 12 → NoLayoutAt size flash place
+  bad_slot : BeginsWell size flash → (slot : ℕ) → slot < 2048 → ((earlier : ℕ) → earlier < slot → IsGood flash earlier)
+      → IsBad flash slot place → NoLayoutAt size flash place
+  last_taken : BeginsWell size flash → ((slot : ℕ) → slot < 2048 → IsGood flash slot) → (IsFree flash 2047 → ⊥) → place ≡ 65504
+      → NoLayoutAt size flash place
+
+-- the stream passes the end of a flash with a layout
+pub record IsTooLong (stream flash : List ℕ) : Type 0 where
+  pub layout : HasLayout flash
+  pub passes : length flash < update_place flash + length stream
+
+-- Each refusal has its cause: a failed write or read its count, which rose; of told bytes, the stream doesn't fit or there is no
+-- layout; and a byte read back differs only where the bytes aren't told. Want of memory has none.
+abbrev pub HasCause : List ℕ → FlashState → FlashState → UpdateFault → Type 0
+HasCause stream old new (Failed true) = WriteFails old new
+HasCause stream old new (Failed false) = FlashFails old new
+HasCause stream old new TooLong = WhereTold old.bytes (IsTooLong stream)
+HasCause stream old new (NoLayout place) = WhereTold old.bytes (λ flash. NoLayoutAt (length flash) flash place)
+HasCause stream old new (Differs place wrote read) = (wrote ≢ read) × (old.bytes ≡ None)
+HasCause stream old new NoMemory = Unit {0}
+
+-- such a refusal comes before the first write
+abbrev pub IsEarly : UpdateFault → Type 0
+IsEarly (Failed writing) = ⊥
+IsEarly TooLong = Unit {0}
+IsEarly (NoLayout place) = Unit {0}
+IsEarly (Differs place wrote read) = ⊥
+IsEarly NoMemory = Unit {0}
+
+-- the flash told bytes with a layout in which the stream fits, and no write and no read failed
+pub record CanBeUpdated (stream : List ℕ) (old new : FlashState) : Type 0 where
+  pub flash : List ℕ
+  pub told : old.bytes ≡ Some flash
+  pub layout : HasLayout flash
+  pub fits : update_place flash + length stream ≤ length flash
+  pub writes : WriteFails old new → ⊥
+  pub reads : FlashFails old new → ⊥

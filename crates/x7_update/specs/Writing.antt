@@ -1,0 +1,99 @@
+-- What the steps of an update do to the flash (this project's choice).
+use Rattle.std.specs.Prelude.{◌≡◌, ◌≢◌, ℕ, ◌+◌, ◌-◌, ◌*◌, ◌<◌, ◌≤◌, ◌⊎◌, List, length, get_or, Option, Some, None, nat_lt, if◌then◌else◌, true, false}
+use Rattle.x7_words.specs.Flash.{Elapses, FlashFails, FlashState, WhereTold, WriteFails}
+use Rattle.x7_update.specs.After.{ClosesTo, IsBetween, switched, with_stream}
+use Rattle.x7_update.specs.Layout.{open_word, switch_of}
+use Rattle.x7_update.specs.declared.fault.UpdateFault.{UpdateFault}
+use Rattle.x7_update.specs.declared.fault.UpdateFault.TheVariants.{Differs, Failed, NoLayout, NoMemory, TooLong}
+
+-- where the bytes were told they are told still, and in this relation to what they were
+abbrev pub Leaves : FlashState → FlashState → (List ℕ → List ℕ → Type 0) → Type 0
+Leaves old new Relates = WhereTold old.bytes (λ all. (now : List ℕ) × (new.bytes ≡ Some now) × Relates all now)
+
+-- bytes that were told are told still, and in this relation to what they were; bytes that weren't told aren't
+abbrev pub BecomesBytes : (List ℕ → List ℕ → Type 0) → Option (List ℕ) → Option (List ℕ) → Type 0
+BecomesBytes Relates None new = new ≡ None
+BecomesBytes Relates (Some all) new = (now : List ℕ) × (new ≡ Some now) × Relates all now
+
+-- the same of two states
+abbrev pub Becomes : FlashState → FlashState → (List ℕ → List ℕ → Type 0) → Type 0
+Becomes old new Relates = BecomesBytes Relates old.bytes new.bytes
+
+-- At any moment from one state to the next, and at the end, the bytes are in this relation to those at the start.
+pub record AtAnyMoment (old new : FlashState) (past since : ℕ → List ℕ → Type 0) (Relates : List ℕ → List ℕ → Type 0) : Type 0 where
+  pub leaves : Leaves old new Relates
+  pub elapses : Elapses old.moments new.moments past since (λ found. WhereTold old.bytes (λ all. Relates all found))
+
+-- the flash is used: nothing changed but its bytes, the moment and the counts of faults, which don't fall
+pub record OnlyUses (old new : FlashState) : Type 0 where
+  pub extent : new.extent ≡ old.extent
+  pub attached : new.attached ≡ old.attached
+  pub names : new.names ≡ old.names
+  pub absences : new.absences ≡ old.absences
+  pub faults : old.faults ≤ new.faults
+  pub write_faults : old.write_faults ≤ new.write_faults
+
+-- nothing below the place has changed
+pub record KeepsBelow (place : ℕ) (old found : List ℕ) : Type 0 where
+  pub size : length found ≡ length old
+  pub below : (i : ℕ) → i < place → get_or found i 0 ≡ get_or old i 0
+
+-- from the place up to the end all is FF, and nothing below the place has changed
+pub record ErasedTo (place end : ℕ) (old now : List ℕ) : Type 0 where
+  pub size : length now ≡ length old
+  pub below : (i : ℕ) → i < place → get_or now i 0 ≡ get_or old i 0
+  pub ones : (i : ℕ) → place ≤ i → i < end → get_or now i 0 ≡ 255
+
+-- only the slot's switch word may have changed, and the slot isn't open
+pub record OnlySwitch (slot : ℕ) (old found : List ℕ) : Type 0 where
+  pub size : length found ≡ length old
+  pub others : (i : ℕ) → (i < 32 * slot) ⊎ (32 * slot + 4 ≤ i) → get_or found i 0 ≡ get_or old i 0
+  pub shut : switch_of found slot ≢ open_word
+
+-- while an open slot is closed nothing has changed, or the slot is shut
+abbrev pub Closing : ℕ → List ℕ → List ℕ → Type 0
+Closing slot old found = (found ≡ old) ⊎ OnlySwitch slot old found
+
+-- while a free slot is opened the slot is shut, or open
+abbrev pub Opening : ℕ → List ℕ → List ℕ → Type 0
+Opening slot old found = (found ≡ switched slot open_word old) ⊎ OnlySwitch slot old found
+
+-- while the update is replaced nothing has changed, or no slot is open
+abbrev pub Replacing : List ℕ → List ℕ → Type 0
+Replacing old found = (found ≡ old) ⊎ IsBetween old found
+
+-- the stream stands at its place, with FF behind it
+abbrev pub Stands : ℕ → List ℕ → List ℕ → List ℕ → Type 0
+Stands place stream old now = now ≡ with_stream place stream old
+
+-- the open slot is spent, and the stream stands at its place
+pub record Replaced (place : ℕ) (stream old now : List ℕ) : Type 0 where
+  pub closed : List ℕ
+  pub closes : ClosesTo old closed
+  pub stands : Stands place stream closed now
+
+-- the byte that is wanted at a place from U on: the stream's, or FF behind it
+abbrev pub wanted_at : ℕ → List ℕ → ℕ → ℕ
+wanted_at update stream place = if nat_lt (place - update) (length stream) then get_or stream (place - update) 0 else 255
+
+-- all from U on is as it is wanted
+abbrev pub HasWanted : ℕ → List ℕ → List ℕ → Type 0
+HasWanted update stream flash = (place : ℕ) → update ≤ place → place < length flash → get_or flash place 0 ≡ wanted_at update stream place
+
+-- a byte of what was read from a place on is another than the one wanted there
+abbrev pub IsWrong : ℕ → List ℕ → ℕ → List ℕ → UpdateFault → Type 0
+IsWrong update stream place buffer (Differs at wrote read) =
+    (i : ℕ) × (i < length buffer) × (at ≡ place + i) × (wrote ≡ wanted_at update stream at) × (read ≡ get_or buffer i 0) × (wrote ≢ read)
+IsWrong update stream place buffer (Failed writing) = ⊥
+IsWrong update stream place buffer TooLong = ⊥
+IsWrong update stream place buffer (NoLayout at) = ⊥
+IsWrong update stream place buffer NoMemory = ⊥
+
+-- why the end of an update fails: a read or a write failed, or a byte is another than the one written, which told bytes never are
+abbrev pub EndFails : FlashState → FlashState → UpdateFault → Type 0
+EndFails old new (Differs at wrote read) = (wrote ≢ read) × (old.bytes ≡ None)
+EndFails old new (Failed true) = WriteFails old new
+EndFails old new (Failed false) = FlashFails old new
+EndFails old new TooLong = ⊥
+EndFails old new (NoLayout at) = ⊥
+EndFails old new NoMemory = ⊥

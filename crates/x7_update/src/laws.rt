@@ -1,0 +1,22 @@
+//! Laws of layouts and updates.
+ghost use Rattle.std.specs.Prelude.{◌≡◌, ◌≢◌, ◌<◌, ℕ, List, length};
+ghost use Rattle.x7_update.specs.After.{IsAfter, IsBetween};
+ghost use Rattle.x7_update.specs.Layout.{HasLayout, four_at, open_word};
+ghost use Rattle.x7_update.specs.Refused.{NoLayoutAt};
+
+/// A flash with a layout lacks it at no place.
+pub fn layouts_are_not_refused()
+    ensures { (flash : List ℕ) (place : ℕ) → HasLayout flash → NoLayoutAt (length flash) flash place → ⊥ }
+{}
+
+/// An update of a flash with a stream has one outcome.
+pub fn updates_have_one_outcome()
+    ensures { (stream flash one other : List ℕ) → HasLayout flash → IsAfter stream flash one → IsAfter stream flash other → one ≡ other }
+{}
+
+/// A flash that was left between closing a slot and opening the next has no sync word in its first sector, nor one that
+/// begins there: a device that searches from its first byte on comes to the golden stream.
+pub fn closed_slots_hold_no_sync_word()
+    ensures { (flash found : List ℕ) → HasLayout flash → IsBetween flash found
+        → (place : ℕ) → place < 65536 → four_at found place ≢ open_word }
+{}

@@ -1,0 +1,15 @@
+//! The update of a flash that may lose its power at any moment: it closes the open slot, writes the stream, and opens the next.
+#![tactic(auto)]
+
+mod fault;
+mod laws;
+mod layout;
+mod slots;
+mod steps;
+mod switch;
+mod verify;
+mod write;
+
+pub use fault::UpdateFault;
+pub use laws::{closed_slots_hold_no_sync_word, layouts_are_not_refused, updates_have_one_outcome};
+pub use steps::update;

@@ -1,0 +1,107 @@
+//! What was written is read back and compared.
+ghost use Rattle.std.specs.Prelude.{◌≡◌, ◌+◌, ◌*◌, ◌%◌, ◌<◌, ◌≤◌, ◌^◌, ℕ, true, length, IfErr};
+ghost use Rattle.x7_words.specs.Flash.{OnlyReads, WhereTold};
+ghost use Rattle.x7_update.specs.Layout.{IsOpen};
+ghost use Rattle.x7_update.specs.Writing.{EndFails, HasWanted, IsWrong, wanted_at};
+
+use crate::fault::UpdateFault;
+use crate::layout::OPEN;
+use x7_words::{Flash, SECTOR};
+
+/// The byte that is wanted so far behind the update's place: the stream's, or FF behind it.
+fn wanted(stream: &[u8], behind: u64) -> u8
+    ensures { (update : ℕ) → result ≡ wanted_at update stream.now (update + behind) }
+{
+    if behind < stream.len() as u64 {
+        stream[behind as usize]
+    } else {
+        0xFF
+    }
+}
+
+/// Compares what was read from a place on with what is wanted there.
+fn compare(buffer: &[u8], behind: u64, update: u64, stream: &[u8]) -> Result<(), UpdateFault>
+    requires { update + behind + length buffer.now < 2 ^ 63 }
+    ensures { IfErr result (IsWrong update stream.now (update + behind) buffer.now) }
+{
+    for i in 0..buffer.len() {
+        let at = behind + i as u64;
+        let wrote = wanted(stream, at);
+        let read = buffer[i];
+        if read != wrote {
+            return Err(UpdateFault::Differs {
+                place: update + at,
+                wrote,
+                read,
+            });
+        }
+    }
+    Ok(())
+}
+
+/// Reads all from the update's place on, and compares it with the stream and FF behind it.
+pub(crate) fn verify_stream<F: Flash>(
+    flash: &mut F,
+    update: u64,
+    stream: &[u8],
+    buffer: &mut [u8],
+) -> Result<(), UpdateFault>
+    requires attached { (F.state flash.old).attached ≡ true }
+    requires size { (F.state flash.old).extent % 65536 ≡ 0 }
+    requires limit { (F.state flash.old).extent ≤ 134217728 }
+    requires place { update % 65536 ≡ 0 }
+    requires buffer { length buffer.old ≡ 65536 }
+    requires written { WhereTold (F.state flash.old).bytes (HasWanted update stream.now) }
+    ensures fault { IfErr result (EndFails (F.state flash.old) (F.state flash.new)) }
+    ensures only { OnlyReads (F.state flash.old) (F.state flash.new) (F.found_since flash.old) (F.found_since flash.new) }
+{
+    for sector in update / SECTOR..flash.size() / SECTOR {
+        match verify_sector(flash, sector, update, stream, buffer) {
+            Ok(()) => (),
+            Err(fault) => return Err(fault),
+        }
+    }
+    Ok(())
+}
+
+/// Reads a sector of the update, and compares it.
+fn verify_sector<F: Flash>(
+    flash: &mut F,
+    sector: u64,
+    update: u64,
+    stream: &[u8],
+    buffer: &mut [u8],
+) -> Result<(), UpdateFault>
+    requires attached { (F.state flash.old).attached ≡ true }
+    requires limit { (F.state flash.old).extent ≤ 134217728 }
+    requires within { sector * 65536 + 65536 ≤ (F.state flash.old).extent }
+    requires place { update ≤ sector * 65536 }
+    requires buffer { length buffer.old ≡ 65536 }
+    requires written { WhereTold (F.state flash.old).bytes (HasWanted update stream.now) }
+    ensures fault { IfErr result (EndFails (F.state flash.old) (F.state flash.new)) }
+    ensures only { OnlyReads (F.state flash.old) (F.state flash.new) (F.found_since flash.old) (F.found_since flash.new) }
+    ensures buffer { length buffer.new ≡ 65536 }
+{
+    match flash.read_at(sector * SECTOR, buffer) {
+        Ok(()) => (),
+        Err(_) => return Err(UpdateFault::Failed { writing: false }),
+    }
+    compare(buffer, sector * SECTOR - update, update, stream)
+}
+
+/// Reads the switch word of the slot that was opened, and compares it.
+pub(crate) fn verify_switch<F: Flash>(flash: &mut F, slot: u64) -> Result<(), UpdateFault>
+    requires attached { (F.state flash.old).attached ≡ true }
+    requires slot { slot < 2048 }
+    requires within { 32 * slot + 4 ≤ (F.state flash.old).extent }
+    requires opened { WhereTold (F.state flash.old).bytes (λ all. IsOpen all slot) }
+    ensures fault { IfErr result (EndFails (F.state flash.old) (F.state flash.new)) }
+    ensures only { OnlyReads (F.state flash.old) (F.state flash.new) (F.found_since flash.old) (F.found_since flash.new) }
+{
+    let mut word = [0; 4];
+    match flash.read_at(32 * slot, &mut word) {
+        Ok(()) => (),
+        Err(_) => return Err(UpdateFault::Failed { writing: false }),
+    }
+    compare(&word, 0, 32 * slot, &OPEN)
+}
