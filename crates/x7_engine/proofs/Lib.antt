@@ -26,4 +26,5 @@ pub mod TimeoutLemmas
 pub mod TurnLemmas
 pub mod UndoLemmas
 pub mod UntilLemmas
+pub mod UntilReadLemmas
 pub mod WrapLemmas

@@ -31,7 +31,7 @@ use Rattle.x7_engine.specs.Standing.{Answers, DeviceStandsFor, DeviceState, Ends
 use Rattle.x7_engine.specs.Startup.{phase_by, phase_of, startup_call, startup_calls, startup_progress}
 use Rattle.x7_engine.specs.State.{history_by, history_taken, state_of, stop_in, taken_by, taken_of}
 use Rattle.x7_engine.specs.Stops.{Stopped, stopped_at}
-use Rattle.x7_engine.specs.UntilStarted.{AnswersUntil, CommandsLast, HasNotBegun, NoneStarted, WritesNoCommand, has_started, says_started, taken_until}
+use Rattle.x7_engine.specs.UntilStarted.{AnswersUntil, AreOtherWrites, CommandsLast, HasNotBegun, IsOtherWrite, NoneStarted, has_started, says_started, taken_until}
 use Rattle.x7_engine.proofs.ClockLemmas.{last_of}
 use Rattle.x7_engine.proofs.DeviceLemmas.{ends_words, length_between}
 use Rattle.x7_engine.proofs.FeedLemmas.{taken_more}
@@ -52,6 +52,11 @@ no_desync h (Write r w) e = rw e (by (r == 1) (command_held h == 13) (command_he
     by true true y f = refl
     by true false true f = refl
     by true false false f = f
+
+no_command : (access : Access) → IsOtherWrite access → writes 4 access ≡ false
+no_command (Write r w) e = e
+no_command (Read r n) e = absurd e
+no_command (Bad w) e = absurd e
 
 -- bytes begin none
 bytes_begin_none : (k : ℕ) (p : Progress) → p ≡ NotBegun → further k p ≡ NotBegun
@@ -75,23 +80,23 @@ called calls false true desyncs d e p = progress_drop calls
 called calls false false true d e p = absurd (cc)
 called calls false false false d e p = ap progress_of (append-nil calls) ∙ p
 
-unbegun_later : (newer h : History) → WritesNoCommand newer → ((n : ℕ) → startup_progress h n ≡ NotBegun) → (m : ℕ) → startup_progress (newer ++ h) m ≡ NotBegun
+unbegun_later : (newer h : History) → AreOtherWrites newer → ((n : ℕ) → startup_progress h n ≡ NotBegun) → (m : ℕ) → startup_progress (newer ++ h) m ≡ NotBegun
 unbegun_later [] h w f m = f m
 unbegun_later (x ∷ newer) h w f m =
     let old : History = newer ++ h in
     let calls : List Call = startup_calls old x.place ++ startup_call old x.access in
     let here : progress_of calls ≡ NotBegun =
-    called (startup_calls old x.place) (executes 5 old x.access) (takes_shutdown old x.access) (executes 13 old x.access) (last_word 9 0 old) (no_desync old x.access w.0) (unbegun_later newer h w.1 f x.place) in
+    called (startup_calls old x.place) (executes 5 old x.access) (takes_shutdown old x.access) (executes 13 old x.access) (last_word 9 0 old) (no_desync old x.access (no_command x.access w.0)) (unbegun_later newer h w.1 f x.place) in
     progress_bytes calls (m - x.place) ∙ bytes_begin_none (m - x.place) (progress_of calls) here
 
 -- ---- the accesses of a run
 
--- newer accesses that write no CMD
+-- newer accesses that write other registers than CMD
 abbrev IsQuieter : History → History → Type 0
-IsQuieter h all = (newer : History) × (all ≡ newer ++ h) × WritesNoCommand newer
+IsQuieter h all = (newer : History) × (all ≡ newer ++ h) × AreOtherWrites newer
 
 -- those of them up to a byte
-quieter_until : (m : ℕ) (newer h : History) → until m h ≡ h → WritesNoCommand newer → IsQuieter h (until m (newer ++ h))
+quieter_until : (m : ℕ) (newer h : History) → until m h ≡ h → AreOtherWrites newer → IsQuieter h (until m (newer ++ h))
 quieter_until m [] h e w = ([], e, tt)
 quieter_until m (x ∷ newer) h e w = by (nat_lt m x.place) (quieter_until m newer h e w.1)
   where

@@ -21,4 +21,5 @@ pub mod Timeout
 pub mod Values
 pub mod Watching
 pub mod Undo
+pub mod UntilRead
 pub mod UntilStarted

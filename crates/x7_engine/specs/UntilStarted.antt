@@ -1,6 +1,6 @@
 -- Feeding up to the end of startup: the bytes taken are those up to the least one at which startup has ended (this project's choice).
 use Rattle.std.specs.Prelude.{◌≡◌, ℕ, ◌<◌, ◌==◌, ◌++◌, Bool, true, false, List, [], ◌∷◌, length, take}
-use Rattle.x7_packets.specs.History.{History, history_of, writes}
+use Rattle.x7_packets.specs.History.{Access, Bad, History, Read, Write, history_of}
 use Rattle.x7_part.specs.Part.{PartData}
 use Rattle.x7_regs.specs.declared.register.Reg.TheVariants.{Cmd}
 use Rattle.x7_regs.specs.Register.{number_of}
@@ -40,11 +40,17 @@ abbrev pub AnswersUntil : PartData → Kept → DeviceState → List ℕ → Rea
 AnswersUntil part kept d bytes read (until.Started n) = NoWordDue d
 AnswersUntil part kept d bytes read (until.Fed answer) = Answers part kept d bytes read answer
 
--- no access of this history writes CMD
-abbrev pub WritesNoCommand : History → Type 0
-WritesNoCommand [] = Unit {0}
-WritesNoCommand (e ∷ h) = (writes (number_of Cmd) e.access ≡ false) × WritesNoCommand h
+-- an access that writes a register other than CMD
+abbrev pub IsOtherWrite : Access → Type 0
+IsOtherWrite (Write register word) = (register == number_of Cmd) ≡ false
+IsOtherWrite (Read register count) = ⊥
+IsOtherWrite (Bad word) = ⊥
 
--- of the bytes behind others none but the last ends a write to CMD
+-- all accesses of this history are such writes
+abbrev pub AreOtherWrites : History → Type 0
+AreOtherWrites [] = Unit {0}
+AreOtherWrites (e ∷ h) = IsOtherWrite e.access × AreOtherWrites h
+
+-- of the bytes after others none but the last ends a write to CMD, a read or a word that is no header
 abbrev pub CommandsLast : List ℕ → List ℕ → Type 0
-CommandsLast bytes more = (k : ℕ) → k < length more → (newer : History) × (history_of (bytes ++ take k more) ≡ newer ++ history_of bytes) × WritesNoCommand newer
+CommandsLast bytes more = (k : ℕ) → k < length more → (newer : History) × (history_of (bytes ++ take k more) ≡ newer ++ history_of bytes) × AreOtherWrites newer

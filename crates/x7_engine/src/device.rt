@@ -21,6 +21,7 @@ mod boot;
 mod gap;
 mod started;
 mod undo;
+mod until_read;
 
 use crate::fault::Fault;
 use crate::fed::Fed;

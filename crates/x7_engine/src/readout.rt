@@ -1,5 +1,5 @@
 //! The words that a device reads out: a read makes them due, and a buffer takes them.
-ghost use Rattle.std.specs.Prelude.{◌≡◌, ◌≤◌, ◌<◌, ◌+◌, ℕ, ◌∷◌, ◌++◌, List, IsTrue, ◌↔◌, None, Some};
+ghost use Rattle.std.specs.Prelude.{◌≡◌, ◌≤◌, ◌<◌, ◌+◌, ℕ, nat_lt, ◌∷◌, ◌++◌, List, IsTrue, ◌↔◌, None, Some};
 ghost use Rattle.x7_packets.specs.History.{entry, History, Read};
 ghost use Rattle.x7_flow.specs.Standing.{FramesFit, FramesStandFor};
 ghost use Rattle.x7_engine.specs.Readout.{GaveFrames};
@@ -73,6 +73,13 @@ impl Registers {
             Some(fault) => self.stop = Some(stop_of_refused(fault)),
             None => self.due = Due::Frames(count),
         }
+    }
+
+    /// Whether a word is due.
+    pub(crate) fn has_word_due(&self) -> bool
+        ensures { result ≡ nat_lt 0 (due_count self.now.due) }
+    {
+        count_of(self.due) > 0
     }
 
     /// Gives the words due to a buffer, as many as it has room for.

@@ -1,0 +1,58 @@
+-- Lemmas on specs/UntilRead: in a turn a word is read out at the last byte at the soonest.
+use Rattle.std.proofs.Common.{◌≡◌, ◌+◌, ◌-◌, ◌<◌, ◌≤◌, inl, inr, ℕ, Bool, true, false, Option, None, Some, List, [], ◌∷◌, ◌++◌, length, take, drop, refl, ap, sym, subst, ◌∙◌, append_assoc, append-nil, arith}
+use Rattle.std.proofs.lemmas.Bool.{cases_lt}
+use Rattle.std.proofs.lemmas.List.{length-drop, take-append-drop, take-take}
+use Rattle.x7_packets.specs.Cutting.{between}
+use Rattle.x7_packets.specs.History.{Access, Bad, History, Read, Write, history_of}
+use Rattle.x7_part.specs.Part.{PartData}
+use Rattle.x7_engine.specs.declared.kept.Kept.{Kept}
+use Rattle.x7_engine.specs.Standing.{DeviceStandsFor, DeviceState, NoWordDue, told_of}
+use Rattle.x7_engine.specs.State.{history_by, reads_of, stop_in}
+use Rattle.x7_engine.specs.Stops.{Stopped, stopped_at}
+use Rattle.x7_engine.specs.UntilRead.{ReadBefore}
+use Rattle.x7_engine.specs.UntilStarted.{AreOtherWrites, CommandsLast, IsOtherWrite}
+use Rattle.x7_engine.specs.Values.{answer_of, read_out}
+use Rattle.x7_engine.proofs.DeviceLemmas.{length_between}
+use Rattle.x7_engine.proofs.FeedLemmas.{taken_more, told_all}
+use Rattle.x7_engine.proofs.UntilLemmas.{going_before}
+
+-- writes read out nothing
+writes_read_none : (part : PartData) (kept : Kept) (newer h : History) → AreOtherWrites newer → read_out part kept (newer ++ h) ≡ read_out part kept h
+writes_read_none part kept [] h w = refl
+writes_read_none part kept (e ∷ newer) h w =
+    ap (λ t. read_out part kept (newer ++ h) ++ t) (none e.access w.0) ∙ append-nil (read_out part kept (newer ++ h)) ∙ writes_read_none part kept newer h w.1
+  where
+    none : (access : Access) → IsOtherWrite access → answer_of part kept (newer ++ h) access e.place ≡ []
+    none (Write r x) f = refl
+    none (Read r n) f = absurd f
+    none (Bad x) f = absurd f
+
+-- the words read out of bytes in which nothing stopped the device
+reads_going : (part : PartData) (kept : Kept) (bytes : List ℕ) → stop_in part kept bytes ≡ None → reads_of part kept bytes ≡ read_out part kept (history_of bytes)
+reads_going part kept bytes none = ap (λ (o : Option Stopped). read_out part kept (history_by o (history_of bytes))) none
+
+turn_reads_none : (part : PartData) (kept : Kept) (wrapped : Bool) (d e : DeviceState) (bytes more : List ℕ) → d.registers.stop ≡ None → DeviceStandsFor part kept wrapped d bytes → DeviceStandsFor part kept wrapped e (bytes ++ more) → CommandsLast bytes more
+    → (k : ℕ) → k < length more → reads_of part kept (bytes ++ take k more) ≡ reads_of part kept bytes
+turn_reads_none part kept wrapped d e bytes more going s after f k l =
+    let front : List ℕ = take k more in
+    let joined : (bytes ++ front) ++ drop k more ≡ bytes ++ more = append_assoc bytes front (drop k more) ∙ ap (λ (t : List ℕ). bytes ++ t) (take-append-drop k more) in
+    let all : DeviceStandsFor part kept wrapped e ((bytes ++ front) ++ drop k more) = subst (DeviceStandsFor part kept wrapped e) (sym joined) after in
+    let none : stop_in part kept (bytes ++ front) ≡ None = going_before part kept wrapped e (bytes ++ front) (drop k more) all (omega (arith, length-drop k more, l)) in
+    let before : stop_in part kept bytes ≡ None = s.stop_is ∙ ap (stopped_at (length bytes)) going in
+    let q = f k l in
+    reads_going part kept (bytes ++ front) none ∙ ap (read_out part kept) q.1 ∙ writes_read_none part kept q.0 (history_of bytes) q.2 ∙ sym (reads_going part kept bytes before)
+
+-- nothing before, and nothing in a turn more but at its last byte
+pub none_read_on : (part : PartData) (kept : Kept) (wrapped : Bool) (d e : DeviceState) (bytes piece words : List ℕ) (from to : ℕ) → from ≤ to → to ≤ length piece → d.registers.stop ≡ None → NoWordDue d
+    → DeviceStandsFor part kept wrapped d (bytes ++ take from piece) → DeviceStandsFor part kept wrapped e ((bytes ++ take from piece) ++ between piece from to) → CommandsLast (bytes ++ take from piece) (between piece from to)
+    → told_of part kept d (bytes ++ take from piece) ≡ words → ReadBefore part kept bytes piece from words → ReadBefore part kept bytes piece to words
+none_read_on part kept wrapped d e bytes piece words from to l m going due s after f told before = λ k n. elim (cases_lt k from) [
+  | inl less ↦ before k less
+  | inr more ↦
+      let taken : List ℕ = bytes ++ take from piece in
+      let j : ℕ = k - from in
+      let here : take j (between piece from to) ≡ between piece from k = take-take j (to - from) (drop from piece) (omega (arith, n, more)) in
+      let all : taken ++ take j (between piece from to) ≡ bytes ++ take k piece = ap (λ (t : List ℕ). taken ++ t) here ∙ taken_more bytes piece from k more in
+      let inside : j < length (between piece from to) = omega (arith, length_between piece from to l m, n, more) in
+      ap (reads_of part kept) (sym all) ∙ turn_reads_none part kept wrapped d e taken (between piece from to) going s after f j inside ∙ sym (told_all part kept d taken due) ∙ told
+]
