@@ -1,5 +1,7 @@
 -- A device that goes on through a stream, and what it has at the end.
 use Rattle.std.proofs.Common.{◌≡◌, ◌+◌, ◌*◌, ◌%◌, ◌^◌, ℕ, Bool, false, None, List, [], ◌∷◌, ◌++◌, length, refl, ap, ◌∙◌, arith}
+use Rattle.x7_regs.specs.declared.command.Command.TheVariants.{Rcrc}
+use Rattle.x7_regs.specs.declared.register.Reg.TheVariants.{Idcode}
 use Rattle.x7_words.specs.Word.{AreBytes}
 use Rattle.x7_packets.specs.ByHand.{reading_of}
 use Rattle.x7_packets.specs.History as access
@@ -14,6 +16,7 @@ use Rattle.x7_engine.specs.Rest.{AtRest}
 use Rattle.x7_engine.specs.Startup.{phase_by, phase_of, startup_progress}
 use Rattle.x7_engine.specs.State.{history_by, memory_in, reads_of, state_of, stop_in, taken_by}
 use Rattle.x7_engine.specs.Values.{read_out}
+use Rattle.x7_engine.proofs.UntilLemmas.{phase_going}
 use Rattle.x7_effects.proofs.Items.{Write, item_entered}
 use Rattle.x7_effects.proofs.Checking.{ArePieces, Check, ClearFirst, Piece, Put, pieces_length}
 use Rattle.x7_effects.proofs.Items as item
@@ -29,16 +32,13 @@ use Rattle.x7_effects.proofs.WalkLemmas.{IsReady, going_one, quiet_one}
 pub memory_all : (part : PartData) (kept : Kept) (bytes : List ℕ) → stop_in part kept bytes ≡ None → memory_in part kept bytes ≡ memory_of part (history_of bytes)
 memory_all part kept bytes e = ap (λ o. memory_of part (history_by o (history_of bytes))) e
 
-pub phase_all : (part : PartData) (kept : Kept) (wrapped : Bool) (bytes : List ℕ) → stop_in part kept bytes ≡ None → (state_of part kept wrapped bytes).phase ≡ phase_of part (history_of bytes) (length bytes)
-phase_all part kept wrapped bytes e = ap (λ o. phase_by part (startup_progress (history_by o (history_of bytes)) (taken_by o (length bytes)))) e
-
 pub reads_all : (part : PartData) (kept : Kept) (bytes : List ℕ) → stop_in part kept bytes ≡ None → reads_of part kept bytes ≡ read_out part kept (history_of bytes)
 reads_all part kept bytes e = ap (λ o. read_out part kept (history_by o (history_of bytes))) e
 
 -- ---- the beginning of a partial stream: RCRC, and IDCODE
 
 pub ready_begin : (part : PartData) (kept : Kept) (phase : ℕ) (h : History) (n : ℕ) → IsGoing part kept phase h n → forbids_reading (ctl0_held h) ≡ false
-    → IsReady part kept phase (written n (Put item.Noop ∷ command 7 ∷ Put item.Noop ∷ one 12 part.idcode ∷ []) h) (n + 4 + 8 + 4 + 8) (memory_of part h)
+    → IsReady part kept phase (written n (Put item.Noop ∷ command Rcrc ∷ Put item.Noop ∷ one Idcode part.idcode ∷ []) h) (n + 4 + 8 + 4 + 8) (memory_of part h)
 ready_begin part kept phase h n g c =
     let first : History = entry (access.Write 4 7) (n + 4 + 4 + 4) ∷ h in
     let rcrc : IsGoing part kept phase first (n + 4 + 8) = going_one part kept phase h (n + 4) 4 7 (quiet_rcrc h) refl refl g.calm.off (going_bytes part kept phase h n (n + 4) (omega arith) g) in
@@ -83,6 +83,6 @@ played part kept phase bytes pieces noops m f s a c g r e =
     let again : AtRest part kept all = rests part kept phase all whole (n + 8 + 4 * noops) history count (stream_ends bytes pieces noops f s a) g r in
     record {
       memory = λ far. ap (λ (x : FrameMap). x far) (memory_all part kept all again.no_stop) ∙ ap (λ (x : History). memory_of part x far) history ∙ quiet_one part h (access.Write 4 13) (n + 8) m refl e far;
-      phase_is = λ wrapped. phase_all part kept wrapped all again.no_stop ∙ ap (λ (x : History). phase_of part x (length all)) history ∙ ap (phase_of part whole) count ∙ still_phase part phase whole (n + 8 + 4 * noops) g.still;
+      phase_is = λ wrapped. phase_going part kept wrapped all again.no_stop ∙ ap (λ (x : History). phase_of part x (length all)) history ∙ ap (phase_of part whole) count ∙ still_phase part phase whole (n + 8 + 4 * noops) g.still;
       rests_again = again;
     }

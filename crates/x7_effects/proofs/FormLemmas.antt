@@ -17,11 +17,11 @@ use Rattle.x7_part.specs.declared.slot.Slot.TheVariants.{Frame, Pad, End}
 use Rattle.x7_part.proofs.PartLemmas.{slots_count}
 use Rattle.x7_memory.specs.Planned.{PlanRow, PlanData, IsPlan, planned, planned_addresses}
 use Rattle.x7_memory.proofs.PlanLemmas.{planned_here, planned_behind}
-use Rattle.x7_effects.proofs.Items.{Item, WriteLong, items_entered, item_words, sync_word, items_words, bytes_of_words, closed, opened, desync, bus_width_head}
+use Rattle.x7_effects.proofs.Items.{Item, Write, WriteLong, items_entered, item_words, sync_word, items_words, bytes_of_words, closed, opened, desync, bus_width_head}
 use Rattle.x7_effects.proofs.Checking.{Checking, Piece, Put, Check, IsPiece, ArePieces, ClearFirst, at_first, with_checks, piece_item, piece_length, pieces_length, after_item, ChecksAgree}
 use Rattle.x7_effects.proofs.Frames.{joined, AreWide, zero_frame, frame_of, frames_at, row_frames}
 use Rattle.x7_planner.specs.Partial.{Stretch, Copies, Rows}
-use Rattle.x7_effects.proofs.Streams.{one, stream_of, full_pieces, full_stream, copy_pieces, stretch_pieces, stretches_pieces, partial_pieces, read_pieces, read_stream, HaveWords, IsStretch, AreStretches}
+use Rattle.x7_effects.proofs.Streams.{stream_of, full_pieces, full_stream, copy_pieces, stretch_pieces, stretches_pieces, partial_pieces, read_pieces, read_stream, HaveWords, IsStretch, AreStretches}
 use Rattle.x7_effects.proofs.FrameLemmas.{all_wide, plan_wide, first_small}
 use Rattle.x7_effects.proofs.StreamLemmas.{bytes_count, appended_history, appended_ends, head_leads, items_entered-append}
 use Rattle.x7_effects.proofs.CheckingLemmas.{pieces_fit, checks_appended}
@@ -33,7 +33,7 @@ use Rattle.x7_packets.specs.Reading.{is_synced}
 
 -- ---- pieces that can be written
 
-one_fits : (r w : ℕ) → r < 2 ^ 5 → (r ≡ 0 → ⊥) → ends_session r w ≡ false → w < 2 ^ 32 → IsPiece (one r w)
+one_fits : (r w : ℕ) → r < 2 ^ 5 → (r ≡ 0 → ⊥) → ends_session r w ≡ false → w < 2 ^ 32 → IsPiece (Put (Write r (w ∷ [])))
 one_fits r w f n e g = ((f, omega arith, (g, tt), (e, tt)), λ s. n (let e : ◌≡◌ {A = ℕ} r 0 = cc in e))
 
 none_of_data : (ws : List ℕ) → NoneEnds 2 ws

@@ -34,12 +34,10 @@ use Rattle.x7_effects.proofs.Frames.{joined, AreWide, zero_frame, frame_of, fram
 
 -- ---- lists
 
-reverse-cons : {X : Type 0} → (x : X) (xs : List X) → reverse (x ∷ xs) ≡ reverse xs ++ x ∷ []
-reverse-cons x xs = reverse_onto xs x []
 
 map_of_reverse : {X Y : Type 0} → (f : X → Y) (xs : List X) → map f (reverse xs) ≡ reverse (map f xs)
 map_of_reverse f [] = refl
-map_of_reverse f (x ∷ xs) = ap (map f) (reverse-cons x xs) ∙ map_append f (reverse xs) (x ∷ []) ∙ ap (λ t. t ++ f x ∷ []) (map_of_reverse f xs) ∙ sym (reverse-cons (f x) (map f xs))
+map_of_reverse f (x ∷ xs) = ap (map f) (reverse_onto xs x []) ∙ map_append f (reverse xs) (x ∷ []) ∙ ap (λ t. t ++ f x ∷ []) (map_of_reverse f xs) ∙ sym (reverse_onto (map f xs) (f x) [])
   where
     map_append : {X Y : Type 0} → (f : X → Y) (xs ys : List X) → map f (xs ++ ys) ≡ map f xs ++ map f ys
     map_append f [] ys = refl
@@ -47,8 +45,8 @@ map_of_reverse f (x ∷ xs) = ap (map f) (reverse-cons x xs) ∙ map_append f (r
 
 in_reverse : (xs : List ℕ) (x : ℕ) → Contains xs x → Contains (reverse xs) x
 in_reverse [] x (k, low, e) = absurd (omega arith)
-in_reverse (y ∷ xs) x (zero, low, e) = rw (reverse-cons y xs, e) (Contains-push (reverse xs) x)
-in_reverse (y ∷ xs) x (suc k, low, e) = rw (reverse-cons y xs) (Contains-append_left (reverse xs) (y ∷ []) x (in_reverse xs x (k, omega arith, e)))
+in_reverse (y ∷ xs) x (zero, low, e) = rw (reverse_onto xs y [], e) (Contains-push (reverse xs) x)
+in_reverse (y ∷ xs) x (suc k, low, e) = rw (reverse_onto xs y []) (Contains-append_left (reverse xs) (y ∷ []) x (in_reverse xs x (k, omega arith, e)))
 
 out_of_reverse : (xs : List ℕ) (x : ℕ) → Contains (reverse xs) x → Contains xs x
 out_of_reverse xs x h = rw (reverse-reverse xs) at (in_reverse (reverse xs) x h)

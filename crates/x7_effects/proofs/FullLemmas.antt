@@ -2,6 +2,8 @@
 use Rattle.std.proofs.Common.{◌≡◌, ◌==◌, ◌&&◌, ◌||◌, ◌+◌, ◌*◌, ◌-◌, ◌/◌, ◌%◌, ◌^◌, ◌≤◌, ◌<◌, inl, inr, ℕ, Bool, true, false, not, if◌then◌else◌, Option, None, Some, List, [], ◌∷◌, length, get_or, refl, ap, subst, ◌∙◌, arith, bit_and, bit_or}
 use Rattle.std.specs.Prelude.{Contains}
 use Rattle.std.specs.Int.{bit_at}
+use Rattle.x7_regs.specs.declared.command.Command.TheVariants.{Lfrm, Rcrc, Shutdown, Start, Wcfg}
+use Rattle.x7_regs.specs.declared.register.Reg.TheVariants.{Cor0, Ctl0, Far, Idcode, Mask}
 use Rattle.x7_words.specs.Word.{AreBytes}
 use Rattle.x7_packets.specs.History as access
 use Rattle.x7_packets.specs.History.{Access, History, command_held, entry, history_of, last_word}
@@ -118,7 +120,7 @@ words_leave r kept place (w ∷ ws) h e = words_leave r kept (place + 4) ws (ent
 
 -- ---- the shutdown, and RCRC, which takes it
 
-pub shut_down : (part : PartData) (kept : Kept) (phase : ℕ) (h : History) (n : ℕ) → IsGoing part kept phase h n → IsGoing part kept 0 (written n (Put item.Noop ∷ command 11 ∷ command 7 ∷ []) h) (n + 4 + 8 + 8)
+pub shut_down : (part : PartData) (kept : Kept) (phase : ℕ) (h : History) (n : ℕ) → IsGoing part kept phase h n → IsGoing part kept 0 (written n (Put item.Noop ∷ command Shutdown ∷ command Rcrc ∷ []) h) (n + 4 + 8 + 8)
 shut_down part kept phase h n g =
     let a : History = entry (access.Write 4 11) (n + 4 + 4 + 4) ∷ h in
     let b : History = entry (access.Write 4 7) (n + 4 + 8 + 4 + 4) ∷ a in
@@ -136,7 +138,7 @@ quiet : (h : History) (r w : ℕ) → (r == 1) ≡ false → (r == 4) ≡ false 
 quiet h r w a b = record { start = rw (b, a) refl; shutdown = rw (b, a) refl; desync = rw (b, a) refl }
 
 pub settings_ready : (part : PartData) (kept : Kept) (phase : ℕ) (h : History) (n : ℕ) (m : FrameMap) → IsGoing part kept phase h n → AreSame (memory_of part h) m → forbids_reading (ctl0_held h) ≡ false → has_dec (ctl0_held h) ≡ false
-    → IsReady part kept phase (written n (Put item.Noop ∷ one 12 part.idcode ∷ one 9 0x02003FE5 ∷ one 6 0x501 ∷ one 5 0x101 ∷ []) h) (n + 4 + 8 + 8 + 8 + 8) m
+    → IsReady part kept phase (written n (Put item.Noop ∷ one Idcode part.idcode ∷ one Cor0 0x02003FE5 ∷ one Mask 0x501 ∷ one Ctl0 0x101 ∷ []) h) (n + 4 + 8 + 8 + 8 + 8) m
 settings_ready part kept phase h n m g same s d =
     let a : History = entry (access.Write 12 part.idcode) (n + 4 + 4 + 4) ∷ h in
     let b : History = entry (access.Write 9 0x02003FE5) (n + 4 + 8 + 4 + 4) ∷ a in
@@ -160,7 +162,7 @@ idle_startup part h n (inl s) = s.0
 idle_startup part h n (inr s) = absurd (let no : 0 ≡ 7 = s.1 in omega (arith, no))
 
 pub starts : (part : PartData) (kept : Kept) (h : History) (n noops : ℕ) → IsGoing part kept 0 h n → is_matched part.idcode h ≡ true → last_word 9 0 h ≡ 0x02003FE5 → 7 ≤ noops
-    → (let g : History = written n (command 3 ∷ command 5 ∷ Check ∷ []) h in IsGoing part kept 7 (entry (access.Write 4 13) (n + 8 + 8 + 8 + 8) ∷ g) (n + 8 + 8 + 8 + 8 + 4 * noops))
+    → (let g : History = written n (command Lfrm ∷ command Start ∷ Check ∷ []) h in IsGoing part kept 7 (entry (access.Write 4 13) (n + 8 + 8 + 8 + 8) ∷ g) (n + 8 + 8 + 8 + 8 + 4 * noops))
 starts part kept h n noops g m o few =
     let a : History = entry (access.Write 4 3) (n + 4 + 4) ∷ h in
     let b : History = entry (access.Write 4 5) (n + 8 + 4 + 4) ∷ a in
@@ -208,14 +210,14 @@ full_plays part kept bytes plan f r is p e within =
     let there : Contains (addresses_in part) first = first_in (addresses_in part) (some_address part.far 0 part.rows is.rows is.some) in
     let t : IsTarget part first = target part first is there in
     let going : IsGoing part kept phase h n = going_bytes part kept phase h (length bytes) n (omega arith) (going_at_rest part kept bytes f r) in
-    let down : History = written n (Put item.Noop ∷ command 11 ∷ command 7 ∷ []) h in
+    let down : History = written n (Put item.Noop ∷ command Shutdown ∷ command Rcrc ∷ []) h in
     let k : ℕ = n + 4 + 8 + 8 in
     let shut : IsGoing part kept 0 down k = shut_down part kept phase h n going in
     let same : AreSame (memory_of part down) m = quiet_one part _ (access.Write 4 7) _ m refl (quiet_one part h (access.Write 4 11) _ m refl (λ x. refl)) in
-    let set : History = written k (Put item.Noop ∷ one 12 part.idcode ∷ one 9 0x02003FE5 ∷ one 6 0x501 ∷ one 5 0x101 ∷ []) down in
+    let set : History = written k (Put item.Noop ∷ one Idcode part.idcode ∷ one Cor0 0x02003FE5 ∷ one Mask 0x501 ∷ one Ctl0 0x101 ∷ []) down in
     let ready : IsReady part kept 0 set (k + 4 + 8 + 8 + 8 + 8) m = settings_ready part kept 0 down k m shut same r.sbits (no_dec part kept h (length bytes) r.no_stop) in
     let at : ℕ = k + 4 + 8 + 8 + 8 + 8 in
-    let load : History = written at (command 1 ∷ one 1 first ∷ []) set in
+    let load : History = written at (command Wcfg ∷ one Far first ∷ []) set in
     let loaded : IsLoaded part kept 0 1 first load (at + 8 + 8) m = ready_load part kept 0 first set at m ready t.0 in
     let slots : slots_from part first ≡ slots_in part = slots_all part is in
     let room : length ws ≤ frame_words part * length (slots_from part first) = omega (arith, frames_long part plan (slots_in part) p e, ap (λ x. frame_words part * length x) slots) in
@@ -225,7 +227,7 @@ full_plays part kept bytes plan f r is p e within =
     let checked : History = written data_at (Check ∷ []) data_in in
     let check : IsReady part kept 0 checked (data_at + 8) (put_over (landed part first (onto ws [])) m) = ready_check part kept 0 data_in data_at (put_over (landed part first (onto ws [])) m) put.ready in
     let cor0 : last_word 9 0 checked ≡ 0x02003FE5 = words_leave 9 0 (at + 8 + 8 + 8) ws load refl in
-    let whole : History = written (data_at + 8) (command 3 ∷ command 5 ∷ Check ∷ []) checked in
+    let whole : History = written (data_at + 8) (command Lfrm ∷ command Start ∷ Check ∷ []) checked in
     let ended : IsGoing part kept 7 (entry (access.Write 4 13) (data_at + 8 + 8 + 8 + 8 + 8) ∷ whole) (data_at + 8 + 8 + 8 + 8 + 8 + 4 * 16) = starts part kept checked (data_at + 8) 16 check.going check.matched cor0 (omega arith) in
     let pieces : List Piece = full_pieces part plan in
     let last : data_at + 8 + 8 + 8 + 8 ≡ n + 4 * pieces_length pieces = omega arith in

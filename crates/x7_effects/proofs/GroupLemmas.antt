@@ -15,6 +15,7 @@ use Rattle.x7_pipeline.proofs.LawLemmas.{put_twice}
 use Rattle.x7_planner.specs.Partial.{Stretch, Copies, Rows}
 use Rattle.x7_planner.specs.Partial.{same_words, with_content, is_shared, leads_group, groups_led, others, follows, with_row, runs_of, stretches_of}
 use Rattle.x7_planner.specs.Partial.{joined_runs, IsRun, AreLongest, pairs_of}
+use Rattle.x7_planner.proofs.ContentLemmas.{same_words-true}
 use Rattle.x7_effects.proofs.Groups.{put_stretches}
 
 -- ---- the address is one of these rows'
@@ -154,16 +155,6 @@ stretches_put rows stretches memory a c far =
     ∙ override_same memory memory (planned (newest stretches)) (planned rows) (λ x. refl) (same_map rows (newest stretches) (newest_agrees rows stretches a) (cover_newest rows stretches c)) far
 
 -- ---- the groups and the runs of a plan
-
-same_words-true : (xs ys : List ℕ) → same_words xs ys ≡ true → xs ≡ ys
-same_words-true [] [] e = refl
-same_words-true [] (y ∷ ys) e = absurd (cc)
-same_words-true (x ∷ xs) [] e = absurd (cc)
-same_words-true (x ∷ xs) (y ∷ ys) e = both (x == y) refl e (same_words-true xs ys)
-  where
-    both : (b : Bool) → (x == y) ≡ b → (b && same_words xs ys) ≡ true → (same_words xs ys ≡ true → xs ≡ ys) → x ∷ xs ≡ y ∷ ys
-    both true t e ih = let h : x ≡ y = eqb-true x y t in let r : xs ≡ ys = ih e in cc
-    both false t e ih = absurd (cc)
 
 same_words-own : (xs : List ℕ) → same_words xs xs ≡ true
 same_words-own [] = refl

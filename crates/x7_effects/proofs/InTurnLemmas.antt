@@ -1,5 +1,5 @@
 -- Streams one after another: each begins where the one before has left the device at rest.
-use Rattle.std.proofs.Common.{◌≡◌, ℕ, ◌<◌, List, [], ◌∷◌, ◌++◌, replicate, ap, ◌∙◌}
+use Rattle.std.proofs.Common.{◌≡◌, ℕ, ◌<◌, List, [], ◌∷◌, ◌++◌, ap, ◌∙◌}
 use Rattle.std.specs.List.{flat_map, fold}
 use Rattle.x7_words.specs.Word.{AreBytes}
 use Rattle.x7_words.proofs.ListLemmas.{all-append}
@@ -7,16 +7,16 @@ use Rattle.x7_crc.specs.Checking.{check_of_bytes}
 use Rattle.x7_part.specs.Part.{PartData}
 use Rattle.x7_part.specs.PartRange.{IsPart}
 use Rattle.x7_memory.specs.FrameMap.{FrameMap, AreSame, or_else, override}
-use Rattle.x7_memory.specs.Planned.{PlanData, PlanRow, planned, total}
+use Rattle.x7_memory.specs.Planned.{IsPlanFor, PlanData, PlanRow, planned, total}
 use Rattle.x7_planner.specs.Full.{full_pieces, full_stream}
-use Rattle.x7_planner.specs.Partial.{partial_stream, stretch_words, stretches_of}
+use Rattle.x7_planner.specs.Partial.{partial_ending, partial_opening, partial_stream, stretch_words, stretches_of}
 use Rattle.x7_planner.specs.Readback.{read_stream}
 use Rattle.x7_planner.specs.Refusals.{CanRead}
-use Rattle.x7_planner.specs.Stream.{Piece, Words, Check, bytes_of_words, check_words, desync, head, idcode, no_op, rcrc, stream_of, with_piece, write_one}
+use Rattle.x7_planner.specs.Stream.{Piece, Words, Check, bytes_of_words, check_words, stream_of, with_piece}
 use Rattle.x7_engine.specs.declared.kept.Kept.{Kept}
 use Rattle.x7_engine.specs.Rest.{AtRest}
 use Rattle.x7_engine.specs.State.{memory_in, reads_of}
-use Rattle.x7_effects.specs.Played.{IsPlanFor, PlaysBoth, PlaysFull, PlaysPartial, PlaysRead, ReadsBack, words_along}
+use Rattle.x7_effects.specs.Played.{PlaysBoth, PlaysFull, PlaysPartial, PlaysRead, ReadsBack, words_along}
 use Rattle.x7_effects.proofs.LawLemmas.{full_law, partial_law, read_law}
 use Rattle.x7_effects.proofs.ReadbackLemmas.{along_same}
 use Rattle.x7_effects.proofs.StreamLemmas.{bytes_fit}
@@ -39,7 +39,7 @@ full_fits part bytes plan f = longer_fits bytes (full_pieces part plan) f
 partial_fits : (part : PartData) (bytes : List ℕ) (rows : List PlanRow) → AreBytes bytes → AreBytes (bytes ++ partial_stream part rows)
 partial_fits part bytes rows f =
     longer_fits bytes
-    (Words (head ++ (rcrc ++ (no_op ∷ (write_one idcode part.idcode ++ flat_map (stretch_words part) (stretches_of part rows))))) ∷ Check ∷ Words (desync ++ replicate 4 no_op) ∷ []) f
+    (Words (partial_opening part ++ flat_map (stretch_words part) (stretches_of part rows)) ∷ Check ∷ Words partial_ending ∷ []) f
 
 -- ---- in turn
 
@@ -60,21 +60,21 @@ reads_back part kept bytes written m far n f r is can none same =
 pub full_reads_back : (part : PartData) (kept : Kept) (bytes : List ℕ) (plan : PlanData) (far n : ℕ) → AreBytes bytes → AtRest part kept bytes → IsPart part → IsPlanFor part plan → CanRead part far n
     → ReadsBack part kept bytes (bytes ++ full_stream part plan) (total part plan) far n
 full_reads_back part kept bytes plan far n f r is p can =
-    let full : PlaysFull part kept bytes (full_stream part plan) plan = full_law part kept bytes plan f r is p.plan_is p.width p.addressed in
+    let full : PlaysFull part kept bytes (full_stream part plan) plan = full_law part kept bytes plan f r is p.is_plan p.width p.addressed in
     reads_back part kept bytes (bytes ++ full_stream part plan) (total part plan) far n (full_fits part bytes plan f) full.rests is can full.reads full.memory
 
 pub partial_reads_back : (part : PartData) (kept : Kept) (bytes : List ℕ) (plan : PlanData) (far n : ℕ) → AreBytes bytes → AtRest part kept bytes → IsPart part → IsPlanFor part plan → CanRead part far n
     → ReadsBack part kept bytes (bytes ++ partial_stream part plan.rows) (override (memory_in part kept bytes) (planned plan.rows)) far n
 partial_reads_back part kept bytes plan far n f r is p can =
-    let partial : PlaysPartial part kept bytes (partial_stream part plan.rows) plan = partial_law part kept bytes plan f r is p.plan_is p.width p.addressed in
+    let partial : PlaysPartial part kept bytes (partial_stream part plan.rows) plan = partial_law part kept bytes plan f r is p.is_plan p.width p.addressed in
     reads_back part kept bytes (bytes ++ partial_stream part plan.rows) (override (memory_in part kept bytes) (planned plan.rows)) far n (partial_fits part bytes plan.rows f) partial.rests is can partial.reads partial.memory
 
 pub both_play : (part : PartData) (kept : Kept) (bytes : List ℕ) (plan later : PlanData) → AreBytes bytes → AtRest part kept bytes → IsPart part → IsPlanFor part plan → IsPlanFor part later
     → PlaysBoth part kept ((bytes ++ full_stream part plan) ++ partial_stream part later.rows) plan later
 both_play part kept bytes plan later f r is p q =
     let longer : List ℕ = bytes ++ full_stream part plan in
-    let full : PlaysFull part kept bytes (full_stream part plan) plan = full_law part kept bytes plan f r is p.plan_is p.width p.addressed in
-    let partial : PlaysPartial part kept longer (partial_stream part later.rows) later = partial_law part kept longer later (full_fits part bytes plan f) full.rests is q.plan_is q.width q.addressed in
+    let full : PlaysFull part kept bytes (full_stream part plan) plan = full_law part kept bytes plan f r is p.is_plan p.width p.addressed in
+    let partial : PlaysPartial part kept longer (partial_stream part later.rows) later = partial_law part kept longer later (full_fits part bytes plan f) full.rests is q.is_plan q.width q.addressed in
     record {
       memory = λ far. partial.memory far ∙ ap (λ o. or_else (planned later.rows far) o) (full.memory far);
       phase = λ wrapped. partial.phase wrapped ∙ full.phase wrapped;

@@ -5,10 +5,10 @@ use Rattle.x7_words.specs.Word.{AreBytes}
 use Rattle.x7_part.specs.AddressOrder.{addresses_in}
 use Rattle.x7_part.specs.Part.{PartData, frame_words}
 use Rattle.x7_part.specs.PartRange.{IsPart}
-use Rattle.x7_memory.specs.Planned.{IsPlan, PlanData}
+use Rattle.x7_memory.specs.Planned.{AreAddressed, IsPlan, PlanData}
 use Rattle.x7_planner.specs.Full.{full_stream}
 use Rattle.x7_planner.specs.Readback.{read_stream}
-use Rattle.x7_planner.specs.Refusals.{AreAddressed, CanRead}
+use Rattle.x7_planner.specs.Refusals.{CanRead}
 use Rattle.x7_engine.specs.declared.kept.Kept.{Kept}
 use Rattle.x7_engine.specs.Rest.{AtRest}
 use Rattle.x7_planner.specs.Partial.{partial_stream}

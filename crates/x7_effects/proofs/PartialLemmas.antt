@@ -3,6 +3,8 @@ use Rattle.std.proofs.Common.{◌≡◌, ◌+◌, ◌*◌, ◌^◌, ◌≤◌, �
 use Rattle.std.specs.Prelude.{All, Contains}
 use Rattle.std.specs.List.{AllByRecursion}
 use Rattle.std.proofs.Math.Nat.{mul-le-mul_left}
+use Rattle.x7_regs.specs.declared.command.Command.TheVariants.{Rcrc}
+use Rattle.x7_regs.specs.declared.register.Reg.TheVariants.{Idcode}
 use Rattle.x7_words.specs.Word.{AreBytes, AreWords}
 use Rattle.x7_packets.specs.History.{History, history_of}
 use Rattle.x7_part.specs.AddressOrder.{addresses_in}
@@ -14,6 +16,7 @@ use Rattle.x7_flow.specs.FrameMemory.{memory_of}
 use Rattle.x7_engine.specs.declared.kept.Kept.{Kept}
 use Rattle.x7_engine.specs.Rest.{AtRest}
 use Rattle.x7_engine.specs.Startup.{phase_of}
+use Rattle.x7_engine.proofs.UntilLemmas.{phase_going}
 use Rattle.x7_effects.proofs.Items as item
 use Rattle.x7_effects.proofs.Checking.{ArePieces, Check, Piece, Put, pieces_length}
 use Rattle.x7_planner.specs.Partial.{stretches_of}
@@ -22,7 +25,7 @@ use Rattle.x7_effects.specs.Played.{PlaysPartial}
 use Rattle.x7_planner.specs.Partial.{Stretch}
 use Rattle.x7_planner.proofs.FewLemmas as few
 use Rattle.x7_effects.proofs.Streams.{HaveWords, command, one, stream_of, stretches_pieces}
-use Rattle.x7_effects.proofs.EndLemmas.{HasPlayed, memory_all, phase_all, played, ready_begin, ready_check}
+use Rattle.x7_effects.proofs.EndLemmas.{HasPlayed, memory_all, played, ready_begin, ready_check}
 use Rattle.x7_effects.proofs.FormLemmas.{partial_clears}
 use Rattle.x7_effects.proofs.FrameLemmas.{address_small}
 use Rattle.x7_effects.proofs.GoingLemmas.{IsGoing, going_bytes, written, written_append}
@@ -76,7 +79,7 @@ partial_plays part kept bytes plan f r is p e within =
     let some : 0 < frame_words part = omega (arith, is.words) in
     let going : IsGoing part kept phase h n = going_bytes part kept phase h (length bytes) n (omega arith) (going_at_rest part kept bytes f r) in
     let k : ℕ = n + 4 + 8 + 4 + 8 in
-    let first : History = written n (Put item.Noop ∷ command 7 ∷ Put item.Noop ∷ one 12 part.idcode ∷ []) h in
+    let first : History = written n (Put item.Noop ∷ command Rcrc ∷ Put item.Noop ∷ one Idcode part.idcode ∷ []) h in
     let begun : IsReady part kept phase first k (memory_of part h) = ready_begin part kept phase h n going r.sbits in
     let stretched : IsReady part kept phase (written k middle first) (k + 4 * pieces_length middle) (put_stretches (memory_of part h) stretches) =
     stretches_ready part kept phase stretches first k (memory_of part h) some begun (stretches_land part rows is wide within) (stretches_stand part rows is wide within) in
@@ -91,7 +94,7 @@ partial_plays part kept bytes plan f r is p e within =
     (going_closed part kept phase (written n (plan_pieces part rows) h) (n + 4 * pieces_length (plan_pieces part rows)) 4 whole.going) whole.allows whole.memory in
     record {
       memory = λ far. all.memory far ∙ plan_put part rows (memory_of part h) p.order far ∙ ap (λ (x : FrameMap). override x (planned rows) far) (sym (memory_all part kept bytes r.no_stop));
-      phase = λ wrapped. all.phase_is wrapped ∙ sym (phase_all part kept wrapped bytes r.no_stop);
+      phase = λ wrapped. all.phase_is wrapped ∙ sym (phase_going part kept wrapped bytes r.no_stop);
       reads = stream_silent part kept bytes (plan_pieces part rows) 4 f r.searching (partial_fits_plan part plan is p e within) (partial_clears part stretches)
           (tt, (tt, (tt, (tt, stretches_silent part stretches (Check ∷ []) (tt, tt))))) r.no_stop all.rests_again.no_stop;
       rests = all.rests_again;

@@ -19,6 +19,7 @@ use Rattle.x7_memory.specs.Planned.{PlanRow, planned_addresses}
 use Rattle.x7_pipeline.specs.Runs.{frames_of, slots_from, in_slots, landed, onto, but_newest}
 use Rattle.x7_pipeline.specs.Copies.{newest_of}
 use Rattle.x7_pipeline.proofs.SlotLemmas.{addresses_among-slots, slot_among}
+use Rattle.x7_planner.proofs.FewLemmas.{rises_in, rises_rest}
 use Rattle.x7_effects.proofs.Frames.{joined, AreWide, zero_frame, row_frames}
 use Rattle.x7_planner.specs.Partial.{Copies, Rows}
 use Rattle.x7_effects.proofs.Streams.{HaveWords, IsStretch, AreStretches}
@@ -31,14 +32,6 @@ use Rattle.x7_effects.proofs.Checking.{ArePieces}
 use Rattle.x7_effects.proofs.GroupLemmas.{run_rows, runs_joined}
 
 -- ---- slots that follow one another
-
-pub rises_in : (l : ℕ) (xs : List ℕ) (x : ℕ) → Rises l xs → Contains xs x → l ≤ x
-rises_in _ _ x (risen l) (k, low, e) = absurd (omega arith)
-rises_in _ _ x (rise l y ys le more) (zero, low, e) = omega (arith, e)
-rises_in _ _ x (rise l y ys le more) (suc k, low, e) = let h : y + 1 ≤ x = rises_in (y + 1) ys x more (k, omega arith, e) in omega arith
-
-pub rises_rest : (l y : ℕ) (ys : List ℕ) → Rises l (y ∷ ys) → Rises (y + 1) ys
-rises_rest _ _ _ (rise l y ys le more) = more
 
 -- from an address on the first slot is its frame
 record Begins (far : ℕ) (places : List Slot) : Type 0 where

@@ -4,6 +4,9 @@ use Rattle.std.specs.Prelude.{Contains, fold}
 use Rattle.std.specs.List.{flat_map, AllByRecursion}
 use Rattle.std.proofs.lemmas.Grind.{flat_map-append}
 use Rattle.std.proofs.lemmas.List.{length-replicate}
+use Rattle.x7_regs.specs.Register.{number_of}
+use Rattle.x7_regs.specs.declared.command.Command.TheVariants.{Desync, Lfrm, Mfw, Rcrc, Shutdown, Start, Wcfg}
+use Rattle.x7_regs.specs.declared.register.Reg.TheVariants.{Cor0, Ctl0, Far, Fdri, Idcode, Mask}
 use Rattle.x7_words.specs.Word.{bytes_of_word}
 use Rattle.x7_words.proofs.ListLemmas.{all-append}
 use Rattle.x7_crc.specs.Checking.{check_of_bytes}
@@ -78,11 +81,11 @@ spelled_all prefix (p ∷ pieces) f g =
     ∙ ap bytes_so (append_assoc prefix (p ∷ []) pieces)
 
 -- DESYNC and the no-ops
-spelled_end : (pieces : List Piece) (noops : ℕ) → planner.with_piece (bytes_so pieces) (planner.Words (planner.desync ++ replicate noops planner.no_op)) ≡ stream_of pieces noops
+spelled_end : (pieces : List Piece) (noops : ℕ) → planner.with_piece (bytes_so pieces) (planner.Words ((planner.command Desync) ++ replicate noops planner.no_op)) ≡ stream_of pieces noops
 spelled_end pieces noops =
     let items : List Item = with_checks at_first pieces in
-    ap (λ t. bytes_so pieces ++ t) (flat_map-append bytes_of_word planner.desync (replicate noops planner.no_op))
-    ∙ sym (append_assoc (bytes_so pieces) (bytes_of_words planner.desync) (bytes_of_words (replicate noops planner.no_op)))
+    ap (λ t. bytes_so pieces ++ t) (flat_map-append bytes_of_word (planner.command Desync) (replicate noops planner.no_op))
+    ∙ sym (append_assoc (bytes_so pieces) (bytes_of_words (planner.command Desync)) (bytes_of_words (replicate noops planner.no_op)))
     ∙ ap (λ t. t ++ bytes_of_words (replicate noops planner.no_op)) (sym (item_more items desync))
     ∙ sym (flat_map-append bytes_of_word (opened bus_width_head (items ++ desync ∷ [])) (replicate noops planner.no_op))
 
@@ -108,16 +111,16 @@ slots_same part plan (s ∷ places) = ap (λ t. t ++ full.slot_words part plan p
 
 -- the pieces up to the frame data
 abbrev opening : PartData → List ℕ → List Piece
-opening part ws = Put item.Noop ∷ command 11 ∷ command 7 ∷ Put item.Noop ∷ one 12 part.idcode ∷ one 9 0x02003FE5 ∷ one 6 0x501 ∷ one 5 0x101 ∷ command 1 ∷ one 1 (get_or (addresses_in part) 0 0) ∷ Put (WriteLong 2 ws) ∷ []
+opening part ws = Put item.Noop ∷ command Shutdown ∷ command Rcrc ∷ Put item.Noop ∷ one Idcode part.idcode ∷ one Cor0 0x02003FE5 ∷ one Mask 0x501 ∷ one Ctl0 0x101 ∷ command Wcfg ∷ one Far (get_or (addresses_in part) 0 0) ∷ Put (WriteLong (number_of Fdri) ws) ∷ []
 
 abbrev closing : List Piece
-closing = Check ∷ command 3 ∷ command 5 ∷ Check ∷ []
+closing = Check ∷ command Lfrm ∷ command Start ∷ Check ∷ []
 
 -- the words before frame data of so many words
 abbrev words_before : PartData → ℕ → List ℕ
 words_before part count =
-    planner.head ++ (planner.shutdown ++ (planner.rcrc ++ (planner.no_op ∷ (planner.write_one planner.idcode part.idcode ++ (planner.write_one planner.cor0 0x02003FE5 ++ (planner.write_one planner.mask 0x501 ++ (planner.write_one planner.ctl0 0x101
-    ++ (planner.wcfg ++ (planner.write_one planner.far (get_or (addresses_in part) 0 0) ++ planner.frame_data count)))))))))
+    planner.head ++ ((planner.command Shutdown) ++ ((planner.command Rcrc) ++ (planner.no_op ∷ (planner.write_one Idcode part.idcode ++ (planner.write_one Cor0 0x02003FE5 ++ (planner.write_one Mask 0x501 ++ (planner.write_one Ctl0 0x101
+    ++ ((planner.command Wcfg) ++ (planner.write_one Far (get_or (addresses_in part) 0 0) ++ planner.frame_data count)))))))))
 
 opening_same : (part : PartData) (ws : List ℕ) → opened bus_width_head (with_checks at_first (opening part ws)) ≡ words_before part (length ws) ++ (ws ++ [])
 opening_same part ws = refl
@@ -136,9 +139,9 @@ full_same part plan is p e =
     ∙ ap bytes_of_words (sym (opening_same part ws)) in
     let prefix_fits : ArePieces prefix = (fits.0, (fits.1.0, (fits.1.1.0, (fits.1.1.1.0, (fits.1.1.1.1.0, (fits.1.1.1.1.1.0, (fits.1.1.1.1.1.1.0, (fits.1.1.1.1.1.1.1.0, (fits.1.1.1.1.1.1.1.1.0, (fits.1.1.1.1.1.1.1.1.1.0, (fits.1.1.1.1.1.1.1.1.1.1.0, tt))))))))))) in
     let closing_fits : ArePieces closing = fits.1.1.1.1.1.1.1.1.1.1.1 in
-    ap (λ b. fold planner.with_piece b (planner.Check ∷ planner.Words (planner.lfrm ++ planner.start) ∷ planner.Check ∷ planner.Words (planner.desync ++ replicate 16 planner.no_op) ∷ [])) first
-    ∙ ap (λ b. planner.with_piece (planner.with_piece b planner.Check) (planner.Words (planner.desync ++ replicate 16 planner.no_op))) (words_twice (planner.with_piece (bytes_so prefix) planner.Check) planner.lfrm planner.start)
-    ∙ ap (λ b. planner.with_piece b (planner.Words (planner.desync ++ replicate 16 planner.no_op))) (spelled_all prefix closing prefix_fits closing_fits)
+    ap (λ b. fold planner.with_piece b (planner.Check ∷ planner.Words full.start_words ∷ planner.Check ∷ planner.Words full.full_ending ∷ [])) first
+    ∙ ap (λ b. planner.with_piece (planner.with_piece b planner.Check) (planner.Words full.full_ending)) (words_twice (planner.with_piece (bytes_so prefix) planner.Check) (planner.command Lfrm) (planner.command Start))
+    ∙ ap (λ b. planner.with_piece b (planner.Words full.full_ending)) (spelled_all prefix closing prefix_fits closing_fits)
     ∙ spelled_end (full_pieces part plan) 16
 
 -- ---- a partial stream
@@ -168,14 +171,14 @@ HasWidth part (stretch.Rows rows) = AllByRecursion (λ row. length row.words ≡
 
 stretch_spelled : (part : PartData) (c : Checking) (s : Stretch) → HasWidth part s → items_words (with_checks c (stretch_pieces part s)) ≡ stretch_words part s
 stretch_spelled part c (stretch.Copies words fars) w =
-    let first : Checking = after_pieces c (command 1 ∷ one 1 (get_or fars 0 0) ∷ Put (WriteLong 2 words) ∷ command 2 ∷ []) in
-    ap (λ t. planner.wcfg ++ (planner.write_one planner.far (get_or fars 0 0) ++ (planner.frame_data (length words) ++ (words ++ (planner.mfw ++ t))))) (copies_spelled first fars)
-    ∙ ap (λ (k : ℕ). planner.wcfg ++ (planner.write_one planner.far (get_or fars 0 0) ++ (planner.frame_data k ++ (words ++ (planner.mfw ++ flat_map copy_words fars))))) w
+    let first : Checking = after_pieces c (command Wcfg ∷ one Far (get_or fars 0 0) ∷ Put (WriteLong (number_of Fdri) words) ∷ command Mfw ∷ []) in
+    ap (λ t. (planner.command Wcfg) ++ (planner.write_one Far (get_or fars 0 0) ++ (planner.frame_data (length words) ++ (words ++ ((planner.command Mfw) ++ t))))) (copies_spelled first fars)
+    ∙ ap (λ (k : ℕ). (planner.command Wcfg) ++ (planner.write_one Far (get_or fars 0 0) ++ (planner.frame_data k ++ (words ++ ((planner.command Mfw) ++ flat_map copy_words fars))))) w
 stretch_spelled part c (stretch.Rows rows) w =
     let ws : List ℕ = joined (row_frames rows ++ zero_frame part ∷ []) in
     let far : ℕ = get_or (planned_addresses rows) 0 0 in
-    ap (λ t. planner.wcfg ++ (planner.write_one planner.far far ++ (planner.frame_data (length ws) ++ t))) (append-nil ws ∙ run_words part rows)
-    ∙ ap (λ (k : ℕ). planner.wcfg ++ (planner.write_one planner.far far ++ (planner.frame_data k ++ (frames_words rows ++ zero_frame part)))) (run_length part rows w)
+    ap (λ t. (planner.command Wcfg) ++ (planner.write_one Far far ++ (planner.frame_data (length ws) ++ t))) (append-nil ws ∙ run_words part rows)
+    ∙ ap (λ (k : ℕ). (planner.command Wcfg) ++ (planner.write_one Far far ++ (planner.frame_data k ++ (frames_words rows ++ zero_frame part)))) (run_length part rows w)
 
 stretches_spelled : (part : PartData) (c : Checking) (stretches : List Stretch) → AllByRecursion (HasWidth part) stretches → items_words (with_checks c (stretches_pieces part stretches)) ≡ flat_map (stretch_words part) stretches
 stretches_spelled part c [] w = refl
@@ -205,7 +208,7 @@ stretches_width part rows w =
 
 -- the pieces before the check
 abbrev before_check : PartData → List PlanRow → List Piece
-before_check part rows = Put item.Noop ∷ command 7 ∷ Put item.Noop ∷ one 12 part.idcode ∷ stretches_pieces part (stretches_of part rows)
+before_check part rows = Put item.Noop ∷ command Rcrc ∷ Put item.Noop ∷ one Idcode part.idcode ∷ stretches_pieces part (stretches_of part rows)
 
 prefix_of : (P : Piece → Type 0) (xs ys : List Piece) → AllByRecursion P (xs ++ ys) → AllByRecursion P xs
 prefix_of P [] ys a = tt
@@ -214,10 +217,10 @@ prefix_of P (x ∷ xs) ys a = (a.0, prefix_of P xs ys a.1)
 pub partial_same : (part : PartData) (rows : List PlanRow) → AllByRecursion (λ row. length row.words ≡ frame_words part) rows → ArePieces (plan_pieces part rows) → partial_stream part rows ≡ stream_of (plan_pieces part rows) 4
 partial_same part rows w fits =
     let prefix : List Piece = before_check part rows in
-    let c : Checking = after_pieces at_first (Put item.Noop ∷ command 7 ∷ Put item.Noop ∷ one 12 part.idcode ∷ []) in
+    let c : Checking = after_pieces at_first (Put item.Noop ∷ command Rcrc ∷ Put item.Noop ∷ one Idcode part.idcode ∷ []) in
     let words : flat_map (stretch_words part) (stretches_of part rows) ≡ items_words (with_checks c (stretches_pieces part (stretches_of part rows))) = sym (stretches_spelled part c (stretches_of part rows) (stretches_width part rows w)) in
-    ap (λ t. planner.with_piece (planner.with_piece (bytes_of_words (planner.head ++ (planner.rcrc ++ (planner.no_op ∷ (planner.write_one planner.idcode part.idcode ++ t))))) planner.Check) (planner.Words (planner.desync ++ replicate 4 planner.no_op))) words
-    ∙ ap (λ b. planner.with_piece b (planner.Words (planner.desync ++ replicate 4 planner.no_op))) (spelled_one prefix Check (prefix_of IsPiece prefix (Check ∷ []) fits))
+    ap (λ t. planner.with_piece (planner.with_piece (bytes_of_words (planner.head ++ ((planner.command Rcrc) ++ (planner.no_op ∷ (planner.write_one Idcode part.idcode ++ t))))) planner.Check) (planner.Words stretch.partial_ending)) words
+    ∙ ap (λ b. planner.with_piece b (planner.Words stretch.partial_ending)) (spelled_one prefix Check (prefix_of IsPiece prefix (Check ∷ []) fits))
     ∙ spelled_end (plan_pieces part rows) 4
 
 -- ---- addresses

@@ -32,10 +32,11 @@ use Rattle.x7_engine.specs.Startup.{phase_of}
 use Rattle.x7_engine.specs.State.{reads_of}
 use Rattle.x7_engine.specs.Stops.{line_at}
 use Rattle.x7_engine.specs.Values.{answer_of, read_out, read_value, words_read}
+use Rattle.x7_engine.proofs.UntilLemmas.{phase_going}
 use Rattle.x7_effects.proofs.Checking.{Piece, pieces_length}
 use Rattle.x7_effects.specs.Played.{PlaysRead, slot_words, words_along}
 use Rattle.x7_effects.proofs.Streams.{read_pieces, read_stream, stream_of}
-use Rattle.x7_effects.proofs.EndLemmas.{HasPlayed, memory_all, phase_all, played, reads_all}
+use Rattle.x7_effects.proofs.EndLemmas.{HasPlayed, memory_all, played, reads_all}
 use Rattle.x7_effects.proofs.FormLemmas.{read_clears, read_fits}
 use Rattle.x7_effects.proofs.FrameLemmas.{address_small}
 use Rattle.x7_effects.proofs.GoingLemmas.{IsGoing, far_line, going_access, going_bytes, line_none, quiet_far, quiet_rcrc}
@@ -145,6 +146,6 @@ read_plays part kept bytes far n f r is has l =
           ∙ ap (λ x. x ++ words_along part (memory_of part h) far n) (sym (reads_all part kept bytes r.no_stop))
           ∙ ap (λ (m : FrameMap). reads_of part kept bytes ++ words_along part m far n) (sym (memory_all part kept bytes r.no_stop));
       memory = λ x. all.memory x ∙ ap (λ (m : FrameMap). m x) (sym (memory_all part kept bytes r.no_stop));
-      phase = λ wrapped. all.phase_is wrapped ∙ sym (phase_all part kept wrapped bytes r.no_stop);
+      phase = λ wrapped. all.phase_is wrapped ∙ sym (phase_going part kept wrapped bytes r.no_stop);
       rests = all.rests_again;
     }

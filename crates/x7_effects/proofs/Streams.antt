@@ -1,6 +1,12 @@
 -- The streams that a planner makes: of a whole plan, of a plan's frames alone, and of a readback.
 use Rattle.std.specs.Prelude.{ℕ, ◌+◌, ◌*◌, ◌^◌, ◌<◌, List, [], ◌∷◌, ◌++◌, length, slice_index, All}
 use Rattle.std.specs.List.{flat_map, AllByRecursion}
+use Rattle.x7_regs.specs.Command.{code_of}
+use Rattle.x7_regs.specs.Register.{number_of}
+use Rattle.x7_regs.specs.declared.command.Command.{Command}
+use Rattle.x7_regs.specs.declared.register.Reg.{Reg}
+use Rattle.x7_regs.specs.declared.command.Command.TheVariants.{Lfrm, Mfw, Rcfg, Rcrc, Shutdown, Start, Wcfg}
+use Rattle.x7_regs.specs.declared.register.Reg.TheVariants.{Cmd, Cor0, Ctl0, Far, Fdri, Fdro, Idcode, Mask, Mfwr}
 use Rattle.x7_words.specs.Word.{AreWords}
 use Rattle.x7_part.specs.AddressOrder.{addresses_in}
 use Rattle.x7_part.specs.Part.{PartData, frame_words}
@@ -12,11 +18,11 @@ use Rattle.x7_planner.specs.Partial.{Stretch, Copies, Rows}
 use Rattle.x7_effects.proofs.Frames.{joined, frames_at, row_frames, zero_frame}
 
 -- a command, and one word written to a register
-abbrev pub command : ℕ → Piece
-command code = Put (Write 4 (code ∷ []))
+abbrev pub command : Command → Piece
+command c = Put (Write (number_of Cmd) (code_of c ∷ []))
 
-abbrev pub one : ℕ → ℕ → Piece
-one register word = Put (Write register (word ∷ []))
+abbrev pub one : Reg → ℕ → Piece
+one register word = Put (Write (number_of register) (word ∷ []))
 
 -- pieces between the head with its sync word and a DESYNC with so many no-ops
 abbrev pub stream_of : List Piece → ℕ → List ℕ
@@ -25,8 +31,8 @@ stream_of pieces noops = bytes_of_words (closed bus_width_head (with_checks at_f
 -- a whole plan, by the idcode, the first address and the words of all slots from there on: SHUTDOWN, RCRC, the idcode, startup's settings, the words, LFRM, START
 abbrev pub full_with : ℕ → ℕ → List ℕ → List Piece
 full_with idcode first words =
-    Put Noop ∷ command 11 ∷ command 7 ∷ Put Noop ∷ one 12 idcode ∷ one 9 0x02003FE5 ∷ one 6 0x501 ∷ one 5 0x101
-    ∷ command 1 ∷ one 1 first ∷ Put (WriteLong 2 words) ∷ Check ∷ command 3 ∷ command 5 ∷ Check ∷ []
+    Put Noop ∷ command Shutdown ∷ command Rcrc ∷ Put Noop ∷ one Idcode idcode ∷ one Cor0 0x02003FE5 ∷ one Mask 0x501 ∷ one Ctl0 0x101
+    ∷ command Wcfg ∷ one Far first ∷ Put (WriteLong (number_of Fdri) words) ∷ Check ∷ command Lfrm ∷ command Start ∷ Check ∷ []
 
 abbrev pub full_pieces : PartData → PlanData → List Piece
 full_pieces part plan = full_with part.idcode (slice_index (addresses_in part) 0) (joined (frames_at part plan (slots_in part)))
@@ -35,24 +41,24 @@ abbrev pub full_stream : PartData → PlanData → List ℕ
 full_stream part plan = stream_of (full_pieces part plan) 16
 
 abbrev pub copy_pieces : ℕ → List Piece
-copy_pieces far = one 1 far ∷ one 10 0 ∷ []
+copy_pieces far = one Far far ∷ one Mfwr 0 ∷ []
 
 abbrev pub stretch_pieces : PartData → Stretch → List Piece
-stretch_pieces part (Copies words fars) = command 1 ∷ one 1 (slice_index fars 0) ∷ Put (WriteLong 2 words) ∷ command 2 ∷ flat_map copy_pieces fars
-stretch_pieces part (Rows rows) = command 1 ∷ one 1 (slice_index (planned_addresses rows) 0) ∷ Put (WriteLong 2 (joined (row_frames rows ++ zero_frame part ∷ []))) ∷ []
+stretch_pieces part (Copies words fars) = command Wcfg ∷ one Far (slice_index fars 0) ∷ Put (WriteLong (number_of Fdri) words) ∷ command Mfw ∷ flat_map copy_pieces fars
+stretch_pieces part (Rows rows) = command Wcfg ∷ one Far (slice_index (planned_addresses rows) 0) ∷ Put (WriteLong (number_of Fdri) (joined (row_frames rows ++ zero_frame part ∷ []))) ∷ []
 
 abbrev pub stretches_pieces : PartData → List Stretch → List Piece
 stretches_pieces part stretches = flat_map (stretch_pieces part) stretches
 
 abbrev pub partial_pieces : PartData → List Stretch → List Piece
-partial_pieces part stretches = Put Noop ∷ command 7 ∷ Put Noop ∷ one 12 part.idcode ∷ (stretches_pieces part stretches ++ Check ∷ [])
+partial_pieces part stretches = Put Noop ∷ command Rcrc ∷ Put Noop ∷ one Idcode part.idcode ∷ (stretches_pieces part stretches ++ Check ∷ [])
 
 abbrev pub partial_stream : PartData → List Stretch → List ℕ
 partial_stream part stretches = stream_of (partial_pieces part stretches) 4
 
 -- a readback of so many words, and of n slots, from an address on
 abbrev pub read_with : ℕ → ℕ → List Piece
-read_with far count = Put Noop ∷ command 7 ∷ Put Noop ∷ command 4 ∷ one 1 far ∷ Put (ReadLong 3 count) ∷ []
+read_with far count = Put Noop ∷ command Rcrc ∷ Put Noop ∷ command Rcfg ∷ one Far far ∷ Put (ReadLong (number_of Fdro) count) ∷ []
 
 abbrev pub read_pieces : PartData → ℕ → ℕ → List Piece
 read_pieces part far n = read_with far (frame_words part * (n + 1))

@@ -2,6 +2,8 @@
 use Rattle.std.proofs.Common.{◌≡◌, ◌+◌, ◌*◌, ◌≤◌, ◌<◌, ℕ, Bool, true, if◌then◌else◌, Option, None, Some, List, [], ◌∷◌, ◌++◌, length, map, reverse, get_or, refl, sym, ap, subst, ◌∙◌, append-nil, arith}
 use Rattle.std.specs.List.{flat_map, AllByRecursion}
 use Rattle.std.proofs.lemmas.Grind.{reverse_onto}
+use Rattle.x7_regs.specs.declared.command.Command.TheVariants.{Mfw, Wcfg}
+use Rattle.x7_regs.specs.declared.register.Reg.TheVariants.{Far}
 use Rattle.x7_packets.specs.History as access
 use Rattle.x7_packets.specs.History.{History, command_held, entry}
 use Rattle.x7_part.specs.Part.{PartData, frame_words}
@@ -45,7 +47,7 @@ record IsCopying (part : PartData) (kept : Kept) (phase : ℕ) (words : List ℕ
 
 -- MFW after the words of one frame
 begins_copies : (part : PartData) (kept : Kept) (phase far : ℕ) (words : List ℕ) (h : History) (n : ℕ) (m : FrameMap) → 0 < frame_words part → length words ≡ frame_words part → HasWritten part kept phase far words h n m
-    → landed part far (onto words []) ≡ [] → IsCopying part kept phase words (written n (command 2 ∷ []) h) (n + 8) m
+    → landed part far (onto words []) ≡ [] → IsCopying part kept phase words (written n (command Mfw ∷ []) h) (n + 8) m
 begins_copies part kept phase far words h n m some wide w none =
     let run : run_of part h ≡ onto (flat_map (λ frame. frame) ([] ++ words ∷ [])) [] = w.run_is ∙ ap (λ t. onto t []) (sym (append-nil words)) in
     record {
@@ -152,9 +154,9 @@ rows_ready : (part : PartData) (kept : Kept) (phase : ℕ) (rows : List PlanRow)
 rows_ready part kept phase rows h n m r l s =
     let far : ℕ = get_or (planned_addresses rows) 0 0 in
     let ws : List ℕ = joined (row_frames rows ++ zero_frame part ∷ []) in
-    let loaded : IsLoaded part kept phase 1 far (written n (command 1 ∷ one 1 far ∷ []) h) (n + 8 + 8) m = ready_load part kept phase far h n m r s.begins.0 in
-    let w : HasWritten part kept phase far ws (written (n + 8 + 8) (Put (WriteLong 2 ws) ∷ []) (written n (command 1 ∷ one 1 far ∷ []) h)) (n + 8 + 8 + 4 * piece_length (Put (WriteLong 2 ws))) m =
-    loaded_words part kept phase far (written n (command 1 ∷ one 1 far ∷ []) h) (n + 8 + 8) m ws loaded s.begins.1 s.few in
+    let loaded : IsLoaded part kept phase 1 far (written n (command Wcfg ∷ one Far far ∷ []) h) (n + 8 + 8) m = ready_load part kept phase far h n m r s.begins.0 in
+    let w : HasWritten part kept phase far ws (written (n + 8 + 8) (Put (WriteLong 2 ws) ∷ []) (written n (command Wcfg ∷ one Far far ∷ []) h)) (n + 8 + 8 + 4 * piece_length (Put (WriteLong 2 ws))) m =
+    loaded_words part kept phase far (written n (command Wcfg ∷ one Far far ∷ []) h) (n + 8 + 8) m ws loaded s.begins.1 s.few in
     let end : n + 8 + 8 + 4 * piece_length (Put (WriteLong 2 ws)) ≡ n + 4 * pieces_length (stretch_pieces part (Rows rows)) = omega arith in
     subst (λ (k : ℕ). IsReady part kept phase (written n (stretch_pieces part (Rows rows)) h) k (put_over (reverse rows) m)) end (record {
       going = w.ready.going;
@@ -167,16 +169,16 @@ copies_ready : (part : PartData) (kept : Kept) (phase : ℕ) (words fars : List 
     → IsReady part kept phase (written n (stretch_pieces part (stretch.Copies words fars)) h) (n + 4 * pieces_length (stretch_pieces part (stretch.Copies words fars))) (put_over (reverse (Pairs words fars)) m)
 copies_ready part kept phase words fars h n m some r l s =
     let far : ℕ = get_or fars 0 0 in
-    let prefix : History = written n (command 1 ∷ one 1 far ∷ []) h in
+    let prefix : History = written n (command Wcfg ∷ one Far far ∷ []) h in
     let loaded : IsLoaded part kept phase 1 far prefix (n + 8 + 8) m = ready_load part kept phase far h n m r s.0.begins.0 in
     let k : ℕ = n + 8 + 8 + 4 * piece_length (Put (WriteLong 2 words)) in
     let data_in : History = written (n + 8 + 8) (Put (WriteLong 2 words) ∷ []) prefix in
     let w : HasWritten part kept phase far words data_in k m = loaded_words part kept phase far prefix (n + 8 + 8) m words loaded s.0.begins.1 s.0.few in
-    let copying : IsCopying part kept phase words (written k (command 2 ∷ []) data_in) (k + 8) m = begins_copies part kept phase far words data_in k m some s.1 w l.0 in
-    let all : IsCopying part kept phase words (written (k + 8) (flat_map copy_pieces fars) (written k (command 2 ∷ []) data_in)) (k + 8 + 16 * length fars) (put_over (reverse (Pairs words fars)) m) =
-    copy_all part kept phase words fars (written k (command 2 ∷ []) data_in) (k + 8) m copying s.0.targets in
+    let copying : IsCopying part kept phase words (written k (command Mfw ∷ []) data_in) (k + 8) m = begins_copies part kept phase far words data_in k m some s.1 w l.0 in
+    let all : IsCopying part kept phase words (written (k + 8) (flat_map copy_pieces fars) (written k (command Mfw ∷ []) data_in)) (k + 8 + 16 * length fars) (put_over (reverse (Pairs words fars)) m) =
+    copy_all part kept phase words fars (written k (command Mfw ∷ []) data_in) (k + 8) m copying s.0.targets in
     let end : k + 8 + 16 * length fars ≡ n + 4 * pieces_length (stretch_pieces part (stretch.Copies words fars)) = omega (arith, copies_length fars) in
-    subst (λ (x : ℕ). IsReady part kept phase (written (k + 8) (flat_map copy_pieces fars) (written k (command 2 ∷ []) data_in)) x (put_over (reverse (Pairs words fars)) m)) end all.ready
+    subst (λ (x : ℕ). IsReady part kept phase (written (k + 8) (flat_map copy_pieces fars) (written k (command Mfw ∷ []) data_in)) x (put_over (reverse (Pairs words fars)) m)) end all.ready
 
 stretch_ready : (part : PartData) (kept : Kept) (phase : ℕ) (s : Stretch) (h : History) (n : ℕ) (m : FrameMap) → 0 < frame_words part → IsReady part kept phase h n m → LandsAs part s → Stands part s
     → IsReady part kept phase (written n (stretch_pieces part s) h) (n + 4 * pieces_length (stretch_pieces part s)) (put_over (reverse (pairs_of s)) m)

@@ -1,6 +1,8 @@
 -- Item by item through what a planner writes: nothing stops the device, and what the memory gets.
 use Rattle.std.proofs.Common.{◌≡◌, ◌==◌, ◌||◌, ◌+◌, ◌*◌, ◌/◌, ◌%◌, ◌^◌, ◌≤◌, ℕ, Bool, true, false, not, None, List, [], ◌∷◌, length, refl, sym, ap, subst, ◌∙◌, arith}
 use Rattle.std.proofs.lemmas.Bool.Decides.{nat_tests}
+use Rattle.x7_regs.specs.declared.command.Command.TheVariants.{Wcfg}
+use Rattle.x7_regs.specs.declared.register.Reg.TheVariants.{Far}
 use Rattle.x7_packets.specs.History as access
 use Rattle.x7_packets.specs.History.{History, command_held, entered_all, entry, executes}
 use Rattle.x7_packets.specs.Packet.{payload_steps}
@@ -92,7 +94,7 @@ pub quiet_one : (part : PartData) (h : History) (a : access.Access) (place : ℕ
 quiet_one part h a place m q s = same_then (memory_of part (entry a place ∷ h)) (memory_of part h) m (quiet_memory part (entry a place ∷ []) h (q, tt)) s
 
 pub ready_load : (part : PartData) (kept : Kept) (phase far : ℕ) (h : History) (n : ℕ) (m : FrameMap) → IsReady part kept phase h n m → loaded_base part far ≡ far
-    → IsLoaded part kept phase 1 far (written n (command 1 ∷ one 1 far ∷ []) h) (n + 8 + 8) m
+    → IsLoaded part kept phase 1 far (written n (command Wcfg ∷ one Far far ∷ []) h) (n + 8 + 8) m
 ready_load part kept phase far h n m r s =
     let g : History = entry (access.Write 4 1) (n + 4 + 4) ∷ h in
     let first : IsGoing part kept phase g (n + 8) = going_one part kept phase h n 4 1 (record { start = refl; shutdown = refl; desync = refl }) refl refl r.going.calm.off r.going in

@@ -5,13 +5,12 @@ use Rattle.x7_part.specs.Part.{PartData, frame_words}
 use Rattle.x7_part.specs.declared.slot.Slot.{Slot}
 use Rattle.x7_part.specs.declared.slot.Slot.TheVariants.{Frame, Pad, End}
 use Rattle.x7_memory.specs.FrameMap.{AreSame, FrameMap, override}
-use Rattle.x7_memory.specs.Planned.{IsPlan, PlanData, planned, total}
+use Rattle.x7_memory.specs.Planned.{PlanData, planned, total}
 use Rattle.x7_pipeline.specs.Runs.{slots_from}
 use Rattle.x7_engine.specs.declared.kept.Kept.{Kept}
 use Rattle.x7_engine.specs.Rest.{AtRest}
 use Rattle.x7_engine.specs.State.{memory_in, reads_of, state_of}
 use Rattle.x7_planner.specs.Readback.{read_stream}
-use Rattle.x7_planner.specs.Refusals.{AreAddressed}
 
 -- the words of a memory at a slot: its frame at an address, zeros at a pad
 abbrev pub slot_words : PartData → FrameMap → Slot → List ℕ
@@ -45,12 +44,6 @@ pub record PlaysRead (part : PartData) (kept : Kept) (bytes stream : List ℕ) (
   pub rests : AtRest part kept (bytes ++ stream)
 
 -- ---- streams one after another
-
--- a plan for a part: its frames have the part's width and stand at addresses of the part
-pub record IsPlanFor (part : PartData) (plan : PlanData) : Type 0 where
-  pub plan_is : IsPlan plan
-  pub width : plan.width ≡ frame_words part
-  pub addressed : AreAddressed part plan.rows
 
 -- The read stream of n slots from an address on, behind streams that left this memory over these bytes and read nothing out: it reads that memory out, and leaves it.
 pub record ReadsBack (part : PartData) (kept : Kept) (bytes written : List ℕ) (memory : FrameMap) (far n : ℕ) : Type 0 where

@@ -1,34 +1,33 @@
 //! What planned streams do on a device at rest. The functions do nothing: their contracts are the laws.
 ghost use Rattle.std.specs.Prelude.{◌≡◌, ◌++◌, ℕ, List, []};
 ghost use Rattle.x7_planner.specs.Partial.{AreLongest, WritesOnce, joined_runs, pairs_in, partial_stream, runs_of, stretches_of};
-ghost use Rattle.x7_effects.specs.Played.{IsPlanFor, PlaysBoth, PlaysFull, PlaysPartial, PlaysRead, ReadsBack};
+ghost use Rattle.x7_effects.specs.Played.{PlaysBoth, PlaysFull, PlaysPartial, PlaysRead, ReadsBack};
 ghost use Rattle.x7_engine.specs.Kept.{on_the_bench};
 ghost use Rattle.x7_engine.specs.Rest.{AtRest};
 ghost use Rattle.x7_engine.specs.State.{memory_in};
 ghost use Rattle.x7_engine.specs.declared.kept.Kept.{Kept};
 ghost use Rattle.x7_memory.specs.FrameMap.{override};
-ghost use Rattle.x7_memory.specs.Planned.{AreInOrder, IsPlan, PlanData, PlanRow, planned, total};
-ghost use Rattle.x7_part.specs.Part.{PartData, frame_words};
+ghost use Rattle.x7_memory.specs.Planned.{AreInOrder, IsPlanFor, PlanData, PlanRow, planned, total};
+ghost use Rattle.x7_part.specs.Part.{PartData};
 ghost use Rattle.x7_part.specs.PartRange.{IsPart};
 ghost use Rattle.x7_planner.specs.Full.{full_stream};
 ghost use Rattle.x7_planner.specs.Readback.{read_stream};
-ghost use Rattle.x7_planner.specs.Refusals.{AreAddressed, CanRead};
+ghost use Rattle.x7_planner.specs.Refusals.{CanRead};
 ghost use Rattle.x7_words.specs.Word.{AreBytes};
 
 /// After any bytes at rest the full stream of a plan at addresses of the part leaves the plan over zeros and ends startup,
 /// without a stop, and the device is at rest again; so also on a new device.
 pub fn full_streams_play()
-    ensures plays { (part : PartData) (kept : Kept) (bytes : List ℕ) (plan : PlanData) → AreBytes bytes → AtRest part kept bytes → IsPart part → IsPlan plan
-        → plan.width ≡ frame_words part → AreAddressed part plan.rows → PlaysFull part kept bytes (full_stream part plan) plan }
-    ensures new { (part : PartData) (plan : PlanData) → IsPart part → IsPlan plan → plan.width ≡ frame_words part → AreAddressed part plan.rows
-        → PlaysFull part on_the_bench [] (full_stream part plan) plan }
+    ensures plays { (part : PartData) (kept : Kept) (bytes : List ℕ) (plan : PlanData) → AreBytes bytes → AtRest part kept bytes → IsPart part → IsPlanFor part plan
+        → PlaysFull part kept bytes (full_stream part plan) plan }
+    ensures new { (part : PartData) (plan : PlanData) → IsPart part → IsPlanFor part plan → PlaysFull part on_the_bench [] (full_stream part plan) plan }
 {}
 
 /// After any bytes at rest the partial stream of a plan at addresses of the part overrides the memory by just the plan; the
 /// phase stays, there is no stop, and the device is at rest again.
 pub fn partial_streams_play()
-    ensures { (part : PartData) (kept : Kept) (bytes : List ℕ) (plan : PlanData) → AreBytes bytes → AtRest part kept bytes → IsPart part → IsPlan plan
-        → plan.width ≡ frame_words part → AreAddressed part plan.rows → PlaysPartial part kept bytes (partial_stream part plan.rows) plan }
+    ensures { (part : PartData) (kept : Kept) (bytes : List ℕ) (plan : PlanData) → AreBytes bytes → AtRest part kept bytes → IsPart part → IsPlanFor part plan
+        → PlaysPartial part kept bytes (partial_stream part plan.rows) plan }
 {}
 
 /// The groups and runs of a plan write each of its rows once, with its frame, and no other address. Runs are their rows in

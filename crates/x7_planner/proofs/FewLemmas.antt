@@ -11,10 +11,12 @@ use Rattle.x7_part.specs.PartRange.{IsPart}
 use Rattle.x7_part.proofs.RowLemmas.{part_rises}
 use Rattle.x7_memory.specs.Planned.{AreInOrder, PlanRow, planned_addresses}
 
-rises_rest : (l y : ℕ) (ys : List ℕ) → Rises l (y ∷ ys) → Rises (y + 1) ys
+-- numbers that rise behind the first
+pub rises_rest : (l y : ℕ) (ys : List ℕ) → Rises l (y ∷ ys) → Rises (y + 1) ys
 rises_rest _ _ _ (rise l y ys le more) = more
 
-rises_in : (l : ℕ) (xs : List ℕ) (x : ℕ) → Rises l xs → Contains xs x → l ≤ x
+-- each is at least where they begin
+pub rises_in : (l : ℕ) (xs : List ℕ) (x : ℕ) → Rises l xs → Contains xs x → l ≤ x
 rises_in _ _ x (risen l) (k, low, e) = absurd (omega arith)
 rises_in _ _ x (rise l y ys le more) (zero, low, e) = omega (arith, e)
 rises_in _ _ x (rise l y ys le more) (suc k, low, e) = let h : y + 1 ≤ x = rises_in (y + 1) ys x more (k, omega arith, e) in omega arith

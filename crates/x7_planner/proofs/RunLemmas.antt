@@ -13,8 +13,8 @@ use Rattle.std.proofs.lemmas.List.{append-nil, length-drop, take_rest, drop-drop
 use Rattle.x7_memory.specs.Planned.{AreInOrder, PlanRow, planned_addresses}
 use Rattle.x7_part.specs.Part.{PartData, frame_words}
 use Rattle.x7_planner.specs.Contents.{IsRunLength, row_of, rows_of}
-use Rattle.x7_planner.specs.Partial.{Rows, follows, frames_words, groups_led, is_shared, others, partial_opening, partial_stream, stretches_of, runs_of, runs_words, stretch_words, with_row}
-use Rattle.x7_planner.specs.Stream.{Check, Words, bytes_of_words, desync, no_op, with_piece}
+use Rattle.x7_planner.specs.Partial.{Rows, follows, frames_words, groups_led, is_shared, others, partial_ending, partial_opening, partial_stream, stretches_of, runs_of, runs_words, stretch_words, with_row}
+use Rattle.x7_planner.specs.Stream.{Check, Words, bytes_of_words, with_piece}
 use Rattle.x7_planner.specs.declared.content.Content.{Content}
 use Rattle.x7_planner.proofs.ContentLemmas.{row-at}
 use Rattle.x7_planner.proofs.SlotLemmas.{written-on}
@@ -183,8 +183,8 @@ stretches_written part rows alone old mid new e g h =
     ∙ ap (λ t. old ++ bytes_of_words t) (sym (flat_map-append (stretch_words part) (groups_led rows rows) (map Rows (runs_of part (others rows rows)))))
 
 pub stream_written : (part : PartData) (rows : List PlanRow) (none one two three new : List ℕ) → none ≡ [] → one ≡ none ++ bytes_of_words (partial_opening part)
-    → two ≡ one ++ bytes_of_words (flat_map (stretch_words part) (stretches_of part rows)) → three ≡ with_piece two Check → new ≡ with_piece three (Words (desync ++ replicate 4 no_op)) → new ≡ partial_stream part rows
+    → two ≡ one ++ bytes_of_words (flat_map (stretch_words part) (stretches_of part rows)) → three ≡ with_piece two Check → new ≡ with_piece three (Words partial_ending) → new ≡ partial_stream part rows
 stream_written part rows none one two three new z a b c d =
     let words : List ℕ = flat_map (stretch_words part) (stretches_of part rows) in
-    d ∙ ap (λ t. with_piece t (Words (desync ++ replicate 4 no_op)))
+    d ∙ ap (λ t. with_piece t (Words partial_ending))
     (c ∙ ap (λ t. with_piece t Check) (written-on none one two (partial_opening part) words a b ∙ ap (λ t. t ++ bytes_of_words (partial_opening part ++ words)) z))

@@ -1,5 +1,5 @@
 -- What was told of a full stream, and what is left of it.
-use Rattle.std.proofs.Common.{◌≡◌, ℕ, ◌+◌, ◌-◌, ◌<◌, ◌≤◌, List, [], ◌∷◌, ◌++◌, length, take, drop, min, fold, refl, replicate, sym, ap, subst, ◌∙◌, arith, append_assoc, append-nil, take-add, take_all}
+use Rattle.std.proofs.Common.{◌≡◌, ℕ, ◌+◌, ◌-◌, ◌<◌, ◌≤◌, List, [], ◌∷◌, ◌++◌, length, take, drop, min, fold, refl, sym, ap, subst, ◌∙◌, arith, append_assoc, append-nil, take-add, take_all}
 use Rattle.std.proofs.Math.Seq.{drop-append_seam}
 use Rattle.std.proofs.lemmas.List.{drop-take, take-append-drop, take_rest}
 use Rattle.std.proofs.lemmas.Grind.{flat_map-append}
@@ -8,12 +8,12 @@ use Rattle.x7_part.specs.Part.{PartData}
 use Rattle.x7_part.specs.Slots.{slots_in}
 use Rattle.x7_part.specs.declared.slot.Slot.{Slot}
 use Rattle.x7_memory.specs.Planned.{PlanData}
-use Rattle.x7_planner.specs.Full.{frame_at_slot, full_opening, full_stream, slot_words}
-use Rattle.x7_planner.specs.Stream.{Piece, Words, Check, bytes_of_words, check_words, desync, lfrm, no_op, start, stream_of, with_piece}
+use Rattle.x7_planner.specs.Full.{frame_at_slot, full_ending, full_opening, full_stream, slot_words, start_words}
+use Rattle.x7_planner.specs.Stream.{Piece, Words, Check, bytes_of_words, check_words, stream_of, with_piece}
 use Rattle.x7_crc.specs.Checking.{check_of_bytes, HasTaken}
 use Rattle.x7_planner.specs.Telling.{FullStreamState, HasTold, IsFullStream, TellsMore, Writes, calls_from, calls_left, frame_pieces, pieces_before, pieces_to, slot_next}
-use Rattle.x7_planner.specs.declared.whole.Next.{Next}
-use Rattle.x7_planner.specs.declared.whole.Next.TheVariants as next
+use Rattle.x7_planner.specs.declared.whole.NextPiece.{NextPiece}
+use Rattle.x7_planner.specs.declared.whole.NextPiece.TheVariants as next
 
 -- what pieces add to bytes
 pub rest_of : (bytes : List ℕ) (pieces : List Piece) → (left : List ℕ) × (bytes ++ left ≡ fold with_piece bytes pieces)
@@ -34,18 +34,18 @@ slots_on part plan n =
     ∙ ap bytes_of_words (sym (flat_map-append (frame_at_slot part plan) (take n places) (drop n places)) ∙ ap (slot_words part plan) (take-append-drop n places))
 
 -- the bytes before what is next begin the stream
-pub left_of : (part : PartData) (plan : PlanData) (behind : Next) → (left : List ℕ) × (stream_of (pieces_before part plan behind) ++ left ≡ full_stream part plan)
+pub left_of : (part : PartData) (plan : PlanData) (behind : NextPiece) → (left : List ℕ) × (stream_of (pieces_before part plan behind) ++ left ≡ full_stream part plan)
 left_of part plan next.Opening = (full_stream part plan, refl)
 left_of part plan (next.Slot n) =
     let front : List ℕ = bytes_of_words (full_opening part) in
     let first : List ℕ = bytes_of_words (slot_words part plan (take n (slots_in part))) in
     let second : List ℕ = bytes_of_words (slot_words part plan (drop n (slots_in part))) in
-    let rest = rest_of (stream_of (frame_pieces part plan)) (Check ∷ Words (lfrm ++ start) ∷ Check ∷ Words (desync ++ replicate 16 no_op) ∷ []) in
+    let rest = rest_of (stream_of (frame_pieces part plan)) (Check ∷ Words start_words ∷ Check ∷ Words full_ending ∷ []) in
     (second ++ rest.0, sym (append_assoc (front ++ first) second rest.0) ∙ ap (λ (t : List ℕ). t ++ rest.0) (append_assoc front first second ∙ ap (λ (t : List ℕ). front ++ t) (slots_on part plan n)) ∙ rest.1)
-left_of part plan next.Check = rest_of (stream_of (pieces_before part plan next.Check)) (Check ∷ Words (lfrm ++ start) ∷ Check ∷ Words (desync ++ replicate 16 no_op) ∷ [])
-left_of part plan next.Start = rest_of (stream_of (pieces_before part plan next.Start)) (Words (lfrm ++ start) ∷ Check ∷ Words (desync ++ replicate 16 no_op) ∷ [])
-left_of part plan next.LastCheck = rest_of (stream_of (pieces_before part plan next.LastCheck)) (Check ∷ Words (desync ++ replicate 16 no_op) ∷ [])
-left_of part plan next.Desync = rest_of (stream_of (pieces_before part plan next.Desync)) (Words (desync ++ replicate 16 no_op) ∷ [])
+left_of part plan next.Check = rest_of (stream_of (pieces_before part plan next.Check)) (Check ∷ Words start_words ∷ Check ∷ Words full_ending ∷ [])
+left_of part plan next.Start = rest_of (stream_of (pieces_before part plan next.Start)) (Words start_words ∷ Check ∷ Words full_ending ∷ [])
+left_of part plan next.LastCheck = rest_of (stream_of (pieces_before part plan next.LastCheck)) (Check ∷ Words full_ending ∷ [])
+left_of part plan next.Desync = rest_of (stream_of (pieces_before part plan next.Desync)) (Words full_ending ∷ [])
 left_of part plan next.Nothing = ([], append-nil (full_stream part plan))
 
 -- ---- what is next, told
@@ -64,14 +64,14 @@ slots_to part plan n to h =
 
 -- the slot that is next, by its name
 pub inside_at : (s : FullStreamState) (n : ℕ) → s.next ≡ next.Slot n → IsFullStream s → n ≤ length (slots_in s.part)
-inside_at s n e is = subst (λ (x : Next). slot_next x ≤ length (slots_in s.part)) e is.inside
+inside_at s n e is = subst (λ (x : NextPiece). slot_next x ≤ length (slots_in s.part)) e is.inside
 
 -- the bytes before what is next, by its name
-before_at : (s : FullStreamState) (told : List ℕ) (at : Next) → s.next ≡ at → HasTold s told → told ≡ stream_of (pieces_before s.part s.plan at)
-before_at s told at e h = h.before ∙ ap (λ (x : Next). stream_of (pieces_before s.part s.plan x)) e
+before_at : (s : FullStreamState) (told : List ℕ) (at : NextPiece) → s.next ≡ at → HasTold s told → told ≡ stream_of (pieces_before s.part s.plan at)
+before_at s told at e h = h.before ∙ ap (λ (x : NextPiece). stream_of (pieces_before s.part s.plan x)) e
 
-calls_at : (s : FullStreamState) (at behind : Next) → s.next ≡ at → calls_from (length (slots_in s.part)) behind < calls_from (length (slots_in s.part)) at → calls_from (length (slots_in s.part)) behind < calls_left s
-calls_at s at behind e h = subst (λ (x : Next). calls_from (length (slots_in s.part)) behind < calls_from (length (slots_in s.part)) x) (sym e) h
+calls_at : (s : FullStreamState) (at behind : NextPiece) → s.next ≡ at → calls_from (length (slots_in s.part)) behind < calls_from (length (slots_in s.part)) at → calls_from (length (slots_in s.part)) behind < calls_left s
+calls_at s at behind e h = subst (λ (x : NextPiece). calls_from (length (slots_in s.part)) behind < calls_from (length (slots_in s.part)) x) (sym e) h
 
 module _ (s : FullStreamState) (old new : List ℕ) where
   pub wrote_opening : s.next ≡ next.Opening → new ≡ old ++ bytes_of_words (full_opening s.part) → Writes s old new (next.Slot 0)
@@ -112,7 +112,7 @@ module _ (s : FullStreamState) (old new : List ℕ) where
     fewer = λ _. calls_at s (next.Slot n) next.Check e (omega arith);
   }
 
-  checked_before : (at : Next) (check : ℕ) → s.next ≡ at → check ≡ s.check.check → (told : List ℕ) → HasTold s told →
+  checked_before : (at : NextPiece) (check : ℕ) → s.next ≡ at → check ≡ s.check.check → (told : List ℕ) → HasTold s told →
       told ++ bytes_of_words (check_words check) ≡ with_piece (stream_of (pieces_before s.part s.plan at)) Check
   checked_before at check e k told h =
       ap (λ (c : ℕ). told ++ bytes_of_words (check_words c)) (k ∙ h.checked.sum.check_is) ∙ ap (λ (t : List ℕ). with_piece t Check) (before_at s told at e h)
@@ -126,11 +126,11 @@ module _ (s : FullStreamState) (old new : List ℕ) where
     fewer = λ _. calls_at s next.Check next.Start e (omega arith);
   }
 
-  pub wrote_start : s.next ≡ next.Start → new ≡ old ++ bytes_of_words (lfrm ++ start) → Writes s old new next.LastCheck
+  pub wrote_start : s.next ≡ next.Start → new ≡ old ++ bytes_of_words start_words → Writes s old new next.LastCheck
   wrote_start e adds = record {
-    piece = bytes_of_words (lfrm ++ start);
+    piece = bytes_of_words start_words;
     adds = adds;
-    before = λ told h. ap (λ (t : List ℕ). t ++ bytes_of_words (lfrm ++ start)) (before_at s told next.Start e h);
+    before = λ told h. ap (λ (t : List ℕ). t ++ bytes_of_words start_words) (before_at s told next.Start e h);
     inside = omega arith;
     fewer = λ _. calls_at s next.Start next.LastCheck e (omega arith);
   }
@@ -144,11 +144,11 @@ module _ (s : FullStreamState) (old new : List ℕ) where
     fewer = λ _. calls_at s next.LastCheck next.Desync e (omega arith);
   }
 
-  pub wrote_desync : s.next ≡ next.Desync → new ≡ old ++ bytes_of_words (desync ++ replicate 16 no_op) → Writes s old new next.Nothing
+  pub wrote_desync : s.next ≡ next.Desync → new ≡ old ++ bytes_of_words full_ending → Writes s old new next.Nothing
   wrote_desync e adds = record {
-    piece = bytes_of_words (desync ++ replicate 16 no_op);
+    piece = bytes_of_words full_ending;
     adds = adds;
-    before = λ told h. ap (λ (t : List ℕ). t ++ bytes_of_words (desync ++ replicate 16 no_op)) (before_at s told next.Desync e h);
+    before = λ told h. ap (λ (t : List ℕ). t ++ bytes_of_words full_ending) (before_at s told next.Desync e h);
     inside = omega arith;
     fewer = λ _. calls_at s next.Desync next.Nothing e (omega arith);
   }

@@ -7,7 +7,9 @@ use Rattle.x7_part.specs.Slots.{slots_in}
 use Rattle.x7_part.specs.declared.slot.Slot.{Slot}
 use Rattle.x7_part.specs.declared.slot.Slot.TheVariants.{Frame, Pad, End}
 use Rattle.x7_memory.specs.Planned.{PlanData, planned}
-use Rattle.x7_planner.specs.Stream.{Piece, Words, Check, head, no_op, far, ctl0, mask, cor0, idcode, write_one, wcfg, lfrm, start, rcrc, shutdown, desync, frame_data, stream_of}
+use Rattle.x7_regs.specs.declared.command.Command.TheVariants.{Desync, Lfrm, Rcrc, Shutdown, Start, Wcfg}
+use Rattle.x7_regs.specs.declared.register.Reg.TheVariants.{Cor0, Ctl0, Far, Idcode, Mask}
+use Rattle.x7_planner.specs.Stream.{Piece, Words, Check, command, frame_data, head, no_op, stream_of, write_one}
 
 abbrev pub zero_frame : PartData → List ℕ
 zero_frame part = replicate (frame_words part) 0
@@ -22,15 +24,27 @@ frame_at_slot part plan End = zero_frame part
 abbrev pub slot_words : PartData → PlanData → List Slot → List ℕ
 slot_words part plan places = flat_map (frame_at_slot part plan) places
 
--- what stands before the frame data: the settings of startup, and where the data begins
+-- the settings of startup, and where the frame data begins
+abbrev pub full_settings : PartData → List ℕ
+full_settings part =
+    command Shutdown ++ (command Rcrc ++ (no_op ∷ (write_one Idcode part.idcode ++ (write_one Cor0 0x02003FE5 ++ (write_one Mask 0x501 ++ (write_one Ctl0 0x101
+    ++ (command Wcfg ++ (write_one Far (slice_index (addresses_in part) 0) ++ frame_data (frame_words part * length (slots_in part))))))))))
+
+-- what stands before the frame data
 abbrev pub full_opening : PartData → List ℕ
-full_opening part =
-    head ++ (shutdown ++ (rcrc ++ (no_op ∷ (write_one idcode part.idcode ++ (write_one cor0 0x02003FE5 ++ (write_one mask 0x501 ++ (write_one ctl0 0x101
-    ++ (wcfg ++ (write_one far (slice_index (addresses_in part) 0) ++ frame_data (frame_words part * length (slots_in part)))))))))))
+full_opening part = head ++ full_settings part
+
+-- the end of frame data, and the start of the device
+abbrev pub start_words : List ℕ
+start_words = command Lfrm ++ command Start
+
+-- the end of the session, and no-ops
+abbrev pub full_ending : List ℕ
+full_ending = command Desync ++ replicate 16 no_op
 
 abbrev pub full_pieces : PartData → PlanData → List Piece
 full_pieces part plan =
-    Words (full_opening part) ∷ Words (slot_words part plan (slots_in part)) ∷ Check ∷ Words (lfrm ++ start) ∷ Check ∷ Words (desync ++ replicate 16 no_op) ∷ []
+    Words (full_opening part) ∷ Words (slot_words part plan (slots_in part)) ∷ Check ∷ Words start_words ∷ Check ∷ Words full_ending ∷ []
 
 -- the full stream of a plan
 abbrev pub full_stream : PartData → PlanData → List ℕ

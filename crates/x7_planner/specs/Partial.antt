@@ -6,7 +6,9 @@ use Rattle.x7_part.specs.Slots.{from, slots_in}
 use Rattle.x7_part.specs.declared.slot.Slot.{Slot}
 use Rattle.x7_part.specs.declared.slot.Slot.TheVariants.{Frame, Pad, End}
 use Rattle.x7_memory.specs.Planned.{AreApart, PlanRow, planned, planned_addresses}
-use Rattle.x7_planner.specs.Stream.{Words, Check, head, no_op, far, idcode, mfwr, write_one, wcfg, mfw, rcrc, desync, frame_data, stream_of}
+use Rattle.x7_regs.specs.declared.command.Command.TheVariants.{Desync, Mfw, Rcrc, Wcfg}
+use Rattle.x7_regs.specs.declared.register.Reg.TheVariants.{Far, Idcode, Mfwr}
+use Rattle.x7_planner.specs.Stream.{Words, Check, command, frame_data, head, no_op, stream_of, write_one}
 use Rattle.x7_planner.specs.Full.{zero_frame}
 
 -- what a partial stream writes after one command: a content at some addresses, or frames from an address on
@@ -71,7 +73,7 @@ stretches_of part rows = groups_led rows rows ++ map Rows (runs_of part (others 
 
 -- a copy of the frame to an address
 abbrev pub copy_words : ℕ → List ℕ
-copy_words address = write_one far address ++ write_one mfwr 0
+copy_words address = write_one Far address ++ write_one Mfwr 0
 
 -- the words of frames in order
 abbrev pub frames_words : List PlanRow → List ℕ
@@ -80,22 +82,25 @@ frames_words rows = flat_map (λ row. row.words) rows
 -- the words of a stretch: a content at its first address, and copies of it; or frames from an address on, and a frame of zeros
 abbrev pub stretch_words : PartData → Stretch → List ℕ
 stretch_words part (Copies words fars) =
-    wcfg ++ (write_one far (slice_index fars 0) ++ (frame_data (frame_words part) ++ (words ++ (mfw ++ flat_map copy_words fars))))
+    command Wcfg ++ (write_one Far (slice_index fars 0) ++ (frame_data (frame_words part) ++ (words ++ (command Mfw ++ flat_map copy_words fars))))
 stretch_words part (Rows rows) =
-    wcfg ++ (write_one far (slice_index (planned_addresses rows) 0) ++ (frame_data (frame_words part * (length rows + 1)) ++ (frames_words rows ++ zero_frame part)))
+    command Wcfg ++ (write_one Far (slice_index (planned_addresses rows) 0) ++ (frame_data (frame_words part * (length rows + 1)) ++ (frames_words rows ++ zero_frame part)))
 
 -- what stands before the groups
 abbrev pub partial_opening : PartData → List ℕ
-partial_opening part = head ++ (rcrc ++ (no_op ∷ write_one idcode part.idcode))
+partial_opening part = head ++ (command Rcrc ++ (no_op ∷ write_one Idcode part.idcode))
 
 -- the words of the longest runs of rows
 abbrev pub runs_words : PartData → List PlanRow → List ℕ
 runs_words part rows = flat_map (stretch_words part) (map Rows (runs_of part rows))
 
+-- the end of the session, and no-ops
+abbrev pub partial_ending : List ℕ
+partial_ending = command Desync ++ replicate 4 no_op
+
 -- the partial stream of a plan's rows
 abbrev pub partial_stream : PartData → List PlanRow → List ℕ
-partial_stream part rows = stream_of (
-    Words (head ++ (rcrc ++ (no_op ∷ (write_one idcode part.idcode ++ flat_map (stretch_words part) (stretches_of part rows))))) ∷ Check ∷ Words (desync ++ replicate 4 no_op) ∷ [])
+partial_stream part rows = stream_of (Words (partial_opening part ++ flat_map (stretch_words part) (stretches_of part rows)) ∷ Check ∷ Words partial_ending ∷ [])
 
 -- ---- the same in other words
 

@@ -1,12 +1,14 @@
 -- The stream of a readback: a frame of zeros and the frames of n slots from an address on (UG470, readback; this sequence is this project's choice).
 use Rattle.std.specs.Prelude.{ℕ, ◌+◌, ◌*◌, List, [], ◌∷◌, ◌++◌, replicate}
 use Rattle.x7_part.specs.Part.{PartData, frame_words}
-use Rattle.x7_planner.specs.Stream.{Words, head, no_op, far, write_one, rcrc, rcfg, desync, frame_read, stream_of}
+use Rattle.x7_regs.specs.declared.command.Command.TheVariants.{Desync, Rcfg, Rcrc}
+use Rattle.x7_regs.specs.declared.register.Reg.TheVariants.{Far}
+use Rattle.x7_planner.specs.Stream.{Words, command, frame_read, head, no_op, stream_of, write_one}
 
 -- a read of so many words from an address on
 abbrev pub read_of_words : ℕ → ℕ → List ℕ
 read_of_words address count =
-    stream_of (Words (head ++ (rcrc ++ (no_op ∷ (rcfg ++ (write_one far address ++ (frame_read count ++ (desync ++ replicate 4 no_op))))))) ∷ [])
+    stream_of (Words (head ++ (command Rcrc ++ (no_op ∷ (command Rcfg ++ (write_one Far address ++ (frame_read count ++ (command Desync ++ replicate 4 no_op))))))) ∷ [])
 
 -- the read stream of n slots from an address on
 abbrev pub read_stream : PartData → ℕ → ℕ → List ℕ

@@ -3,13 +3,9 @@ use Rattle.std.specs.Prelude.{◌≡◌, ◌⊎◌, ℕ, ◌<◌, ◌≤◌, Lis
 use Rattle.x7_part.specs.AddressOrder.{addresses_in}
 use Rattle.x7_part.specs.Part.{PartData}
 use Rattle.x7_part.specs.Slots.{slots_in, from}
-use Rattle.x7_memory.specs.Planned.{PlanRow, PlanData}
+use Rattle.x7_memory.specs.Planned.{AreAddressed, PlanRow, PlanData}
 use Rattle.x7_planner.specs.declared.fault.PlanFault.{PlanFault}
 use Rattle.x7_planner.specs.declared.fault.PlanFault.TheVariants as fault
-
--- all rows stand at addresses of the part
-abbrev pub AreAddressed : PartData → List PlanRow → Type 0
-AreAddressed part rows = All (λ row. Contains (addresses_in part) row.far) rows
 
 -- the first row at an address that the part lacks has this one
 pub record IsFirstForeign (part : PartData) (rows : List PlanRow) (address : ℕ) : Type 0 where

@@ -4,16 +4,16 @@ use Rattle.x7_crc.specs.Checking.{HasTaken, PieceCheckerState}
 use Rattle.x7_part.specs.Part.{PartData, frame_words}
 use Rattle.x7_part.specs.Slots.{slots_in}
 use Rattle.x7_memory.specs.Planned.{PlanData}
-use Rattle.x7_planner.specs.Full.{full_opening, full_pieces, full_stream, slot_words}
-use Rattle.x7_planner.specs.Stream.{Piece, Words, Check, lfrm, start, stream_of}
-use Rattle.x7_planner.specs.declared.whole.Next.{Next}
-use Rattle.x7_planner.specs.declared.whole.Next.TheVariants as next
+use Rattle.x7_planner.specs.Full.{full_opening, full_pieces, full_stream, slot_words, start_words}
+use Rattle.x7_planner.specs.Stream.{Piece, Words, Check, stream_of}
+use Rattle.x7_planner.specs.declared.whole.NextPiece.{NextPiece}
+use Rattle.x7_planner.specs.declared.whole.NextPiece.TheVariants as next
 
 -- what a full stream that is written piece by piece keeps
 pub record FullStreamState : Type 0 where
   pub part : PartData
   pub plan : PlanData
-  pub next : Next
+  pub next : NextPiece
   pub check : PieceCheckerState
 
 -- the frame data up to a slot, and what stands before them
@@ -25,22 +25,22 @@ abbrev pub frame_pieces : PartData → PlanData → List Piece
 frame_pieces part plan = Words (full_opening part) ∷ Words (slot_words part plan (slots_in part)) ∷ []
 
 -- what stands before what is next
-abbrev pub pieces_before : PartData → PlanData → Next → List Piece
+abbrev pub pieces_before : PartData → PlanData → NextPiece → List Piece
 pieces_before part plan next.Opening = []
 pieces_before part plan (next.Slot n) = pieces_to part plan n
 pieces_before part plan next.Check = frame_pieces part plan
 pieces_before part plan next.Start = frame_pieces part plan ++ Check ∷ []
-pieces_before part plan next.LastCheck = frame_pieces part plan ++ Check ∷ Words (lfrm ++ start) ∷ []
-pieces_before part plan next.Desync = frame_pieces part plan ++ Check ∷ Words (lfrm ++ start) ∷ Check ∷ []
+pieces_before part plan next.LastCheck = frame_pieces part plan ++ Check ∷ Words start_words ∷ []
+pieces_before part plan next.Desync = frame_pieces part plan ++ Check ∷ Words start_words ∷ Check ∷ []
 pieces_before part plan next.Nothing = full_pieces part plan
 
 -- the slot that is next, 0 at all else
-abbrev pub slot_next : Next → ℕ
+abbrev pub slot_next : NextPiece → ℕ
 slot_next (next.Slot n) = n
 slot_next _ = 0
 
 -- how often there may be a piece more
-abbrev pub calls_from : ℕ → Next → ℕ
+abbrev pub calls_from : ℕ → NextPiece → ℕ
 calls_from slots next.Opening = slots + 6
 calls_from slots (next.Slot n) = slots - n + 5
 calls_from slots next.Check = 4
@@ -64,6 +64,10 @@ pub record HasTold (s : FullStreamState) (told : List ℕ) : Type 0 where
   pub left : List ℕ
   pub whole : told ++ left ≡ full_stream s.part s.plan
 
+-- the bytes of a piece at most: 160 frames of 255 words
+abbrev pub piece_limit : ℕ
+piece_limit = 163200
+
 -- a piece more was appended to bytes, and told
 pub record TellsMore (s : FullStreamState) (told old new : List ℕ) : Type 0 where
   pub piece : List ℕ
@@ -71,7 +75,7 @@ pub record TellsMore (s : FullStreamState) (told old new : List ℕ) : Type 0 wh
   pub more : HasTold s (told ++ piece)
 
 -- what is next was appended to bytes, and this is next behind it
-pub record Writes (s : FullStreamState) (old new : List ℕ) (behind : Next) : Type 0 where
+pub record Writes (s : FullStreamState) (old new : List ℕ) (behind : NextPiece) : Type 0 where
   pub piece : List ℕ
   pub adds : new ≡ old ++ piece
   pub before : (told : List ℕ) → HasTold s told → told ++ piece ≡ stream_of (pieces_before s.part s.plan behind)

@@ -1,6 +1,7 @@
 //! Whether a plan is one for a part.
 ghost use Rattle.std.specs.Prelude.{◌≡◌, IfNone, IfSome};
-ghost use Rattle.x7_planner.specs.Refusals.{AreAddressed, IsFirstForeign};
+ghost use Rattle.x7_memory.specs.Planned.{AreAddressed};
+ghost use Rattle.x7_planner.specs.Refusals.{IsFirstForeign};
 
 use x7_memory::Plan;
 use x7_part::Part;
@@ -12,7 +13,7 @@ pub(crate) fn first_foreign(part: &Part, plan: &Plan) -> Option<u32>
 {
     for i in 0..plan.len() {
         let Some((far, _)) = plan.row(i) else {
-            return None;
+            unreachable!()
         };
         if !part.is_address(far) {
             return Some(far);

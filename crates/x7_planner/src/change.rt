@@ -1,10 +1,11 @@
 //! The stream of a partial reconfiguration.
 ghost use Rattle.std.specs.Prelude.{◌≡◌, ◌⊎◌, ◌<◌, ◌++◌, length, IfOk, IfErr, OnOk};
 ghost use Rattle.std.specs.List.{flat_map};
+ghost use Rattle.x7_memory.specs.Planned.{AreAddressed};
 ghost use Rattle.x7_part.specs.Part.{frame_words};
 ghost use Rattle.x7_planner.specs.Contents.{AreGrouped, AreStarts, rows_of};
 ghost use Rattle.x7_planner.specs.Partial.{others, partial_opening, partial_stream, stretch_words, stretches_of};
-ghost use Rattle.x7_planner.specs.Refusals.{AreAddressed, IsPartialFault};
+ghost use Rattle.x7_planner.specs.Refusals.{IsPartialFault};
 ghost use Rattle.x7_planner.specs.Stream.{with_piece, Words};
 ghost use Rattle.x7_planner.specs.declared.fault.PlanFault.{PlanFault};
 
@@ -13,7 +14,7 @@ use crate::content::{Content, grouped, starts_of};
 use crate::fault::PlanFault;
 use crate::group::{others_of, put_groups};
 use crate::run::put_runs;
-use crate::writer::Writer;
+use crate::writer::{HEAD, Writer};
 use std::alloc::{AllocError, Global};
 use x7_memory::Plan;
 use x7_part::Part;
@@ -50,23 +51,15 @@ fn grouping_of(alloc: Global, plan: &Plan) -> Result<Grouping<'_>, AllocError>
 fn put_opening(writer: &mut Writer, part: &Part) -> Result<(), NoMemory>
     ensures { OnOk result (writer.new ≡ with_piece writer.old (Words (partial_opening part.now))) }
 {
+    writer.words(&HEAD)?;
     writer.words(&[
-        0xFFFF_FFFF,
-        0xFFFF_FFFF,
-        0xFFFF_FFFF,
-        0xFFFF_FFFF,
-        0x0000_00BB,
-        0x1122_0044,
-        0xFFFF_FFFF,
-        0xFFFF_FFFF,
-        0xAA99_5566,
-        0x2000_0000,
         0x3000_8001,
         7,
         0x2000_0000,
         0x3001_8001,
         part.idcode(),
-    ])
+    ])?;
+    Ok(())
 }
 
 /// Writes the groups and the runs of a plan.
@@ -82,6 +75,7 @@ fn put_stretches(
     requires addresses { AreAddressed part.now plan.now.rows }
     ensures { OnOk result (writer.new ≡ with_piece writer.old (Words (flat_map (stretch_words part.now) (stretches_of part.now plan.now.rows)))) }
 {
+    // The part is in range, and the plan in order: so its rows are few.
     let _frames = part.frames();
     let _rows = plan.len();
     put_groups(writer, part, plan, &grouping.contents, &grouping.starts)?;

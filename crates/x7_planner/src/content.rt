@@ -30,7 +30,7 @@ fn contents_of(alloc: Global, plan: &Plan) -> Result<Vec<Content<'_>>, AllocErro
     let mut contents = Vec::with_capacity(alloc, plan.len())?;
     for row in 0..plan.len() {
         let Some((far, words)) = plan.row(row) else {
-            return Ok(contents);
+            unreachable!()
         };
         contents.push(Content { far, words, row })?;
     }

@@ -123,7 +123,7 @@ pub(crate) fn put_groups(
 {
     for i in 0..plan.len() {
         let Some((far, words)) = plan.row(i) else {
-            return Err(NoMemory);
+            unreachable!()
         };
         put_led(writer, part, contents, starts[i], far, words)?;
     }
@@ -158,7 +158,7 @@ pub(crate) fn others_of<'p>(
     let mut alone = Vec::new(alloc);
     for row in 0..plan.len() {
         let Some((far, words)) = plan.row(row) else {
-            return Err(AllocError);
+            unreachable!()
         };
         let shared = is_group(contents, starts[row], words);
         add_unless(&mut alone, shared, Content { far, words, row })?;

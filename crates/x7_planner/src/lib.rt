@@ -14,4 +14,4 @@ mod writer;
 pub use change::partial;
 pub use fault::PlanFault;
 pub use reading::readback;
-pub use whole::{FullStream, full};
+pub use whole::{FullStream, NextPiece, full};

@@ -5,7 +5,7 @@ ghost use Rattle.x7_planner.specs.Refusals.{CanRead, IsReadFault};
 ghost use Rattle.x7_planner.specs.declared.fault.PlanFault.{PlanFault};
 
 use crate::fault::PlanFault;
-use crate::writer::Writer;
+use crate::writer::{HEAD, Writer};
 use std::alloc::Global;
 use x7_part::Part;
 use x7_words::NoMemory;
@@ -19,17 +19,8 @@ fn read_of(alloc: Global, far: u32, words: u32) -> Result<Vec<u8>, NoMemory>
     ensures { IfOk result (λ bytes. bytes.items ≡ read_of_words far words) }
 {
     let mut writer = Writer::new(alloc, READ_WORDS)?;
+    writer.words(&HEAD)?;
     writer.words(&[
-        0xFFFF_FFFF,
-        0xFFFF_FFFF,
-        0xFFFF_FFFF,
-        0xFFFF_FFFF,
-        0x0000_00BB,
-        0x1122_0044,
-        0xFFFF_FFFF,
-        0xFFFF_FFFF,
-        0xAA99_5566,
-        0x2000_0000,
         0x3000_8001,
         7,
         0x2000_0000,
@@ -61,6 +52,7 @@ pub fn readback(alloc: Global, part: &Part, far: u32, n: u32) -> Result<Vec<u8>,
     if n == 0 || u64::from(n) > part.slots_from(far) {
         return Err(PlanFault::Range(n));
     }
+    // The part is in range: so the counts are too.
     let _frames = part.frames();
     Ok(read_of(alloc, far, part.words() * (n + 1))?)
 }

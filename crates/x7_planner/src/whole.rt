@@ -1,20 +1,21 @@
 //! The stream of a whole configuration.
-ghost use Rattle.std.specs.Prelude.{◌≡◌, ◌⊎◌, ◌+◌, ◌*◌, ◌^◌, ◌<◌, ◌≤◌, ◌++◌, ℕ, List, [], ◌∷◌, true, false, length, take, drop, replicate, slice_index, Contains, IfOk, IfErr, OnOk, OnErr};
+ghost use Rattle.std.specs.Prelude.{◌≡◌, ◌⊎◌, ◌+◌, ◌-◌, ◌*◌, ◌^◌, ◌<◌, ◌≤◌, ◌++◌, ℕ, List, [], ◌∷◌, true, false, length, take, drop, replicate, slice_index, Contains, IfOk, IfErr, OnOk, OnErr};
 ghost use Rattle.x7_crc.specs.Checking.{check_of_bytes};
+ghost use Rattle.x7_memory.specs.Planned.{AreAddressed};
 ghost use Rattle.x7_part.specs.AddressOrder.{addresses_in};
 ghost use Rattle.x7_part.specs.Part.{frame_words};
 ghost use Rattle.x7_part.specs.PartRange.{IsPart};
 ghost use Rattle.x7_part.specs.Slots.{slots_in};
-ghost use Rattle.x7_planner.specs.Full.{frame_at_slot, full_opening, full_stream, slot_words};
-ghost use Rattle.x7_planner.specs.Refusals.{AreAddressed, IsFullFault};
+ghost use Rattle.x7_planner.specs.Full.{frame_at_slot, full_opening, full_settings, full_stream, slot_words};
+ghost use Rattle.x7_planner.specs.Refusals.{IsFullFault};
 ghost use Rattle.x7_planner.specs.Stream.{bytes_of_words};
-ghost use Rattle.x7_planner.specs.Telling.{HasTold, TellsMore, Writes, calls_left, slot_next};
+ghost use Rattle.x7_planner.specs.Telling.{HasTold, TellsMore, Writes, calls_left, piece_limit, slot_next};
 ghost use Rattle.x7_planner.specs.declared.fault.PlanFault.{PlanFault};
-ghost use Rattle.x7_planner.specs.declared.whole.Next.{Next};
+ghost use Rattle.x7_planner.specs.declared.whole.NextPiece.{NextPiece};
 
 use crate::address::first_foreign;
 use crate::fault::PlanFault;
-use crate::writer::{CHECK_HEADER, put_words};
+use crate::writer::{CHECK_HEADER, HEAD, put_words};
 use std::alloc::Global;
 use std::marker::Model;
 use x7_crc::PieceChecker;
@@ -28,6 +29,13 @@ const OTHER_WORDS: usize = 55;
 /// How many slots are written at once.
 const PIECE_SLOTS: u64 = 160;
 
+/// The end of the session: DESYNC and no-ops.
+#[rattlefmt::skip]
+const ENDING: [u32; 18] = [
+    0x3000_8001, 13, 0x2000_0000, 0x2000_0000, 0x2000_0000, 0x2000_0000, 0x2000_0000, 0x2000_0000, 0x2000_0000,
+    0x2000_0000, 0x2000_0000, 0x2000_0000, 0x2000_0000, 0x2000_0000, 0x2000_0000, 0x2000_0000, 0x2000_0000, 0x2000_0000,
+];
+
 /// A frame of zeros, of the most words that a frame may have.
 static ZEROS: [u32; 255] = [0; 255];
 
@@ -35,7 +43,9 @@ static ZEROS: [u32; 255] = [0; 255];
 fn first_address(part: &Part) -> u32
     ensures first { result ≡ slice_index (addresses_in part.now) 0 }
     ensures address { Contains (addresses_in part.now) result }
+    ensures part { IsPart part.now }
 {
+    // A part has a frame.
     let _frames = part.frames();
     let Some(first) = part.address(0) else {
         unreachable!()
@@ -49,29 +59,19 @@ fn slot_count(part: &Part) -> u64
     ensures few { result ≤ 131456 }
     ensures words { frame_words part.now * result ≤ 13277056 }
 {
-    let _frames = part.frames();
-    let _words = part.words();
     part.slots_from(first_address(part))
 }
 
-/// Writes what stands before the frame data.
-fn put_opening(out: &mut Vec<u8>, part: &Part) -> Result<(), NoMemory>
-    ensures { OnOk result (out.new.items ≡ out.old.items ++ bytes_of_words (full_opening part.now)) }
+/// Writes the settings of startup, and where the frame data begins.
+fn put_settings(out: &mut Vec<u8>, part: &Part) -> Result<(), NoMemory>
+    ensures items { OnOk result (out.new.items ≡ out.old.items ++ bytes_of_words (full_settings part.now)) }
+    ensures long { OnOk result (length out.new.items ≡ length out.old.items + 76) }
+    ensures failed { OnErr result (out.new.items ≡ out.old.items) }
 {
     let words = part.words() * slot_count(part) as u32;
     put_words(
         out,
         &[
-            0xFFFF_FFFF,
-            0xFFFF_FFFF,
-            0xFFFF_FFFF,
-            0xFFFF_FFFF,
-            0x0000_00BB,
-            0x1122_0044,
-            0xFFFF_FFFF,
-            0xFFFF_FFFF,
-            0xAA99_5566,
-            0x2000_0000,
             0x3000_8001,
             11,
             0x3000_8001,
@@ -95,6 +95,17 @@ fn put_opening(out: &mut Vec<u8>, part: &Part) -> Result<(), NoMemory>
     )
 }
 
+/// Writes what stands before the frame data.
+fn put_opening(out: &mut Vec<u8>, part: &Part) -> Result<(), NoMemory>
+    ensures items { OnOk result (out.new.items ≡ out.old.items ++ bytes_of_words (full_opening part.now)) }
+    ensures long { OnOk result (length out.new.items ≡ length out.old.items + 116) }
+    ensures failed { OnErr result (take (length out.old.items) out.new.items ≡ out.old.items) }
+{
+    put_words(out, &HEAD)?;
+    put_settings(out, part)?;
+    Ok(())
+}
+
 /// So many words of some.
 fn first_words(words: &[u32], count: u32) -> &[u32]
     requires { count ≤ length words.now }
@@ -106,7 +117,8 @@ fn first_words(words: &[u32], count: u32) -> &[u32]
 /// A frame of zeros.
 pub(crate) fn zeros(count: u32) -> &'static [u32]
     requires { count ≤ 255 }
-    ensures { result.now ≡ replicate count 0 }
+    ensures words { result.now ≡ replicate count 0 }
+    ensures long { length result.now ≡ count }
 {
     first_words(&ZEROS, count)
 }
@@ -114,14 +126,16 @@ pub(crate) fn zeros(count: u32) -> &'static [u32]
 /// The frame at a slot.
 fn frame_at<'p>(part: &Part, plan: &'p Plan, slot: Slot) -> &'p [u32]
     requires { plan.now.width ≡ frame_words part.now }
-    ensures { result.now ≡ frame_at_slot part.now plan.now slot }
+    ensures words { result.now ≡ frame_at_slot part.now plan.now slot }
+    ensures few { length result.now ≤ 255 }
 {
+    let width = part.words();
     let Slot::Frame(far) = slot else {
-        return zeros(part.words());
+        return zeros(width);
     };
     match plan.get(far) {
         Some(words) => words,
-        None => zeros(part.words()),
+        None => zeros(width),
     }
 }
 
@@ -136,9 +150,10 @@ fn put_slots(
     requires width { plan.now.width ≡ frame_words part.now }
     requires order { from ≤ to }
     requires within { to ≤ length (slots_in part.now) }
-    ensures { OnOk result (out.new.items ≡ out.old.items ++ bytes_of_words (slot_words part.now plan.now (drop from (take to (slots_in part.now))))) }
+    ensures items { OnOk result (out.new.items ≡ out.old.items ++ bytes_of_words (slot_words part.now plan.now (drop from (take to (slots_in part.now))))) }
+    ensures few { OnOk result (length out.new.items ≤ length out.old.items + 1020 * (to - from)) }
+    ensures failed { OnErr result (take (length out.old.items) out.new.items ≡ out.old.items) }
 {
-    let _frames = part.frames();
     let first = first_address(part);
     for n in from..to {
         put_words(out, frame_at(part, plan, part.slot_after(first, n)))?;
@@ -148,7 +163,7 @@ fn put_slots(
 
 /// What a full stream writes next.
 #[derive(Clone, Copy, Drop)]
-pub(crate) enum Next {
+pub enum NextPiece {
     /// What stands before the frame data.
     Opening,
     /// The frames from this slot on.
@@ -170,7 +185,7 @@ pub(crate) enum Next {
 pub struct FullStream<'p> {
     part: &'p Part,
     plan: &'p Plan,
-    next: Next,
+    next: NextPiece,
     /// The check of what was written.
     checker: PieceChecker,
 }
@@ -201,75 +216,83 @@ impl<'p> FullStream<'p> {
         Ok(FullStream {
             part,
             plan,
-            next: Next::Opening,
+            next: NextPiece::Opening,
             checker: PieceChecker::new(),
         })
     }
 
-    /// Appends the next piece, of 160 frames at most, and says whether there was one. After an error the same piece is next,
-    /// and a part of it may stand in `out`.
+    /// Appends the next piece, of 160 frames at most, and says whether there was one. After an error nothing was appended, and
+    /// the same piece is next.
     pub fn put_next(&mut self, out: &mut Vec<u8>) -> Result<bool, NoMemory>
         ensures more { (told : List ℕ) → HasTold self.old told → IfOk result (λ more. more ≡ true → TellsMore self.new told out.old.items out.new.items) }
         ensures fewer { IfOk result (λ more. more ≡ true → calls_left self.new < calls_left self.old) }
         ensures end { (told : List ℕ) → HasTold self.old told → IfOk result (λ more. more ≡ false → told ≡ full_stream self.old.part self.old.plan) }
         ensures nothing { IfOk result (λ more. more ≡ false → out.new.items ≡ out.old.items) }
+        ensures few { length out.new.items ≤ length out.old.items + piece_limit }
         ensures part { self.new.part ≡ self.old.part }
         ensures plan { self.new.plan ≡ self.old.plan }
         ensures failed { OnErr result (self.new ≡ self.old) }
+        ensures kept { OnErr result (out.new.items ≡ out.old.items) }
     {
-        if let Next::Nothing = self.next {
+        if let NextPiece::Nothing = self.next {
             return Ok(false);
         }
         let start = out.len();
-        let next = self.put(out)?;
+        let Ok(next) = self.put(out) else {
+            out.truncate(start);
+            return Err(NoMemory);
+        };
         self.checker.take(&out[start..]);
         self.next = next;
         Ok(true)
     }
 
     /// Appends what is next, and tells what is written behind it.
-    fn put(&self, out: &mut Vec<u8>) -> Result<Next, NoMemory>
-        ensures { IfOk result (Writes self.now out.old.items out.new.items) }
+    fn put(&self, out: &mut Vec<u8>) -> Result<NextPiece, NoMemory>
+        ensures writes { IfOk result (Writes self.now out.old.items out.new.items) }
+        ensures few { OnOk result (length out.new.items ≤ length out.old.items + piece_limit) }
+        ensures failed { OnErr result (take (length out.old.items) out.new.items ≡ out.old.items) }
     {
         match self.next {
-            Next::Opening => {
+            NextPiece::Opening => {
                 put_opening(out, self.part)?;
-                Ok(Next::Slot(0))
+                Ok(NextPiece::Slot(0))
             }
-            Next::Slot(n) => self.put_frames(out, n),
-            Next::Check => {
+            NextPiece::Slot(n) => self.put_frames(out, n),
+            NextPiece::Check => {
                 put_words(out, &[CHECK_HEADER, self.checker.check()])?;
-                Ok(Next::Start)
+                Ok(NextPiece::Start)
             }
-            Next::Start => {
+            NextPiece::Start => {
                 put_words(out, &[0x3000_8001, 3, 0x3000_8001, 5])?;
-                Ok(Next::LastCheck)
+                Ok(NextPiece::LastCheck)
             }
-            Next::LastCheck => {
+            NextPiece::LastCheck => {
                 put_words(out, &[CHECK_HEADER, self.checker.check()])?;
-                Ok(Next::Desync)
+                Ok(NextPiece::Desync)
             }
-            Next::Desync => {
-                put_words(out, &[0x3000_8001, 13])?;
-                put_words(out, &[0x2000_0000; 16])?;
-                Ok(Next::Nothing)
+            NextPiece::Desync => {
+                put_words(out, &ENDING)?;
+                Ok(NextPiece::Nothing)
             }
-            Next::Nothing => Ok(Next::Nothing),
+            NextPiece::Nothing => Ok(NextPiece::Nothing),
         }
     }
 
     /// Appends the frames of the slots from one on, and tells what is written behind them.
-    fn put_frames(&self, out: &mut Vec<u8>, n: u64) -> Result<Next, NoMemory>
-        requires { self.now.next ≡ Next.Slot n }
-        ensures { IfOk result (Writes self.now out.old.items out.new.items) }
+    fn put_frames(&self, out: &mut Vec<u8>, n: u64) -> Result<NextPiece, NoMemory>
+        requires { self.now.next ≡ NextPiece.Slot n }
+        ensures writes { IfOk result (Writes self.now out.old.items out.new.items) }
+        ensures few { OnOk result (length out.new.items ≤ length out.old.items + piece_limit) }
+        ensures failed { OnErr result (take (length out.old.items) out.new.items ≡ out.old.items) }
     {
         let count = slot_count(self.part);
         let end = count.min(n + PIECE_SLOTS);
         put_slots(out, self.part, self.plan, n, end)?;
         if end == count {
-            Ok(Next::Check)
+            Ok(NextPiece::Check)
         } else {
-            Ok(Next::Slot(end))
+            Ok(NextPiece::Slot(end))
         }
     }
 }

@@ -8,6 +8,13 @@ use std::marker::Model;
 use x7_crc::Checker;
 use x7_words::NoMemory;
 
+/// What each stream begins with: dummy words, the bus width pattern, the sync word and a no-op.
+#[rattlefmt::skip]
+pub(crate) const HEAD: [u32; 10] = [
+    0xFFFF_FFFF, 0xFFFF_FFFF, 0xFFFF_FFFF, 0xFFFF_FFFF, 0x0000_00BB, 0x1122_0044, 0xFFFF_FFFF, 0xFFFF_FFFF,
+    0xAA99_5566, 0x2000_0000,
+];
+
 /// The header of a write of one word to CRC (UG470, packet types).
 pub(crate) const CHECK_HEADER: u32 = 0x3000_0001;
 
@@ -70,6 +77,7 @@ impl Writer {
 /// Appends words, the highest byte first. After an error nothing was appended.
 pub(crate) fn put_words(out: &mut Vec<u8>, words: &[u32]) -> Result<(), NoMemory>
     ensures items { OnOk result (out.new.items ≡ out.old.items ++ bytes_of_words words.now) }
+    ensures long { OnOk result (length out.new.items ≡ length out.old.items + 4 * length words.now) }
     ensures failed { OnErr result (out.new.items ≡ out.old.items) }
 {
     let start = out.len();

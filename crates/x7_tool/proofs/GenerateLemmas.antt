@@ -9,7 +9,7 @@ use Rattle.std.proofs.lemmas.List.FromFn.{length-range_with_len, map-range_with_
 use Rattle.x7_part.specs.AddressOrder.{Rises, addresses_in, rise}
 use Rattle.x7_part.specs.Part.{PartData, frame_words}
 use Rattle.x7_memory.specs.FrameMap.{AreSame, FrameMap}
-use Rattle.x7_memory.specs.Planned.{AreApart, AreInOrder, IsPlan, IsPlanRow, PlanData, PlanRow, total}
+use Rattle.x7_memory.specs.Planned.{AreAddressed, AreApart, AreInOrder, IsPlan, IsPlanRow, PlanData, PlanRow, total}
 use Rattle.x7_memory.proofs.PlanLemmas.{words_by_place}
 use Rattle.x7_part.proofs.RowLemmas.{part_rises}
 use Rattle.x7_words.specs.Word.{AreWords}
@@ -23,7 +23,7 @@ use Rattle.x7_part.specs.Slots.{slots_in}
 use Rattle.x7_part.proofs.SlotLemmas.{slots_number}
 use Rattle.x7_planner.specs.Full.{full_stream}
 use Rattle.x7_planner.specs.Telling.{FullStreamState, HasTold, TellsMore}
-use Rattle.x7_planner.specs.Refusals.{AreAddressed, IsFullFault}
+use Rattle.x7_planner.specs.Refusals.{IsFullFault}
 use Rattle.x7_planner.specs.declared.fault.PlanFault.{PlanFault}
 use Rattle.x7_planner.specs.declared.fault.PlanFault.TheVariants as fault
 use Rattle.x7_engine.specs.Kept.{on_the_bench}

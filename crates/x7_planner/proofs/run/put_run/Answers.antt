@@ -9,4 +9,4 @@ pub returns : goal.returns
 returns c =
     run_written c.args.part.now c.args.writer.now c.words-2.new.self c.put_frames.new.writer c.words-4.new.self (rows_of c.args.run.now) _ c.words.result (length c.args.run.now) c.words.ensures.value
     (first_address c.args.run.now _ c.requires.some) (sym (length-map c.args.run.now row_of)) c.in_ok-words.ensures c.in_ok-put_frames.ensures
-    (c.in_ok-words-2.ensures ∙ ap (λ t. c.put_frames.new.writer ++ bytes_of_words t) (c.zeros.ensures ∙ ap (λ (n : ℕ). replicate n 0) (c.words-3.ensures.value ∙ sym c.words.ensures.value)))
+    (c.in_ok-words-2.ensures ∙ ap (λ t. c.put_frames.new.writer ++ bytes_of_words t) (c.zeros.ensures.words ∙ ap (λ (n : ℕ). replicate n 0) (c.words-3.ensures.value ∙ sym c.words.ensures.value)))

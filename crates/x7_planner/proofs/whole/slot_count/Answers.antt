@@ -4,10 +4,10 @@ use Rattle.x7_planner.proofs.SlotLemmas.{few-slots}
 use Rattle.x7_planner.proofs.whole.slot_count.Goals as goal
 
 pub returns-clause-count : goal.returns-clause-count
-returns-clause-count c = (few-slots c.args.part.now c.first_address.result (frame_words c.args.part.now) c.slots_from.result c.frames-frames.ensures.part (sym c.first_address.ensures.first) refl c.slots_from.ensures).count
+returns-clause-count c = (few-slots c.args.part.now c.first_address.result (frame_words c.args.part.now) c.slots_from.result c.first_address.ensures.part (sym c.first_address.ensures.first) refl c.slots_from.ensures).count
 
 pub returns-clause-few : goal.returns-clause-few
-returns-clause-few c = (few-slots c.args.part.now c.first_address.result (frame_words c.args.part.now) c.slots_from.result c.frames-frames.ensures.part (sym c.first_address.ensures.first) refl c.slots_from.ensures).most
+returns-clause-few c = (few-slots c.args.part.now c.first_address.result (frame_words c.args.part.now) c.slots_from.result c.first_address.ensures.part (sym c.first_address.ensures.first) refl c.slots_from.ensures).most
 
 pub returns-clause-words : goal.returns-clause-words
-returns-clause-words c = (few-slots c.args.part.now c.first_address.result (frame_words c.args.part.now) c.slots_from.result c.frames-frames.ensures.part (sym c.first_address.ensures.first) refl c.slots_from.ensures).words
+returns-clause-words c = (few-slots c.args.part.now c.first_address.result (frame_words c.args.part.now) c.slots_from.result c.first_address.ensures.part (sym c.first_address.ensures.first) refl c.slots_from.ensures).words

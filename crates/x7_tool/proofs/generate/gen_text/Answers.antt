@@ -1,6 +1,5 @@
 use Rattle.std.proofs.Common.{ap, refl, sym, subst}
-use Rattle.x7_memory.specs.Planned.{PlanData}
-use Rattle.x7_planner.specs.Refusals.{AreAddressed}
+use Rattle.x7_memory.specs.Planned.{AreAddressed, PlanData}
 use Rattle.x7_planner.specs.Full.{full_stream}
 use Rattle.x7_tool.proofs.GenerateLemmas.{few_reads, gen_is, generated_addressed, planned_is}
 use Rattle.x7_tool.proofs.generate.gen_text.Goals as goal

@@ -8,8 +8,8 @@ use Rattle.x7_planner.proofs.whole.FullStream.put_next.Goals as goal
 pub returns : goal.returns
 returns c =
     let s : FullStreamState = record { part = c.self.inside.part.now; plan = c.self.inside.plan.now; next = c.self.inside.next; check = c.self.inside.checker } in
-    let t : FullStreamState = record { part = c.self.inside.part.now; plan = c.self.inside.plan.now; next = c.in_ok-next.next; check = c.take.new.self } in
-    let wrote : Writes s c.args.out.now.items c.put.new.out.items c.in_ok-next.next = subst (λ x. Writes x c.args.out.now.items c.put.new.out.items c.in_ok-next.next) (sym c.self.view_is) c.in_ok-next.ensures in
+    let t : FullStreamState = record { part = c.self.inside.part.now; plan = c.self.inside.plan.now; next = c.in-Ok.next; check = c.take.new.self } in
+    let wrote : Writes s c.args.out.now.items c.put.new.out.items c.in-Ok.next = subst (λ x. Writes x c.args.out.now.items c.put.new.out.items c.in-Ok.next) (sym c.self.view_is) c.in-Ok.ensures.writes in
     let less : calls_left t < calls_left s = wrote.fewer c.in_default.not-Nothing in
     record {
       more = λ told h _. told_more s t told c.args.out.now.items c.put.new.out.items c.len-start.result refl refl (omega (arith, c.len-start.ensures, c.args.out.now.ok.0)) wrote
@@ -19,5 +19,7 @@ returns c =
       nothing = λ e. absurd (false≢true (sym e));
       part = ap (λ x. x.part) c.self.view_is;
       plan = ap (λ x. x.plan) c.self.view_is;
+      few = omega (arith, c.in-Ok.ensures.few);
       failed = tt;
+      kept = tt;
     }
