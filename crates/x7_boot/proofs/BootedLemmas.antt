@@ -16,6 +16,7 @@ use Rattle.x7_boot.specs.declared.boots.Tried.{Tried}
 use Rattle.x7_boot.specs.declared.next.Next.{Next}
 use Rattle.x7_boot.specs.declared.next.Next.TheVariants.{Again, Ends}
 
+-- what holds of all bytes holds of those that are told
 pub where_all : (known : Option (List ℕ)) (P : List ℕ → Type 0) → ((all : List ℕ) → P all) → WhereTold known P
 where_all None P f = tt
 where_all (Some all) P f = f all

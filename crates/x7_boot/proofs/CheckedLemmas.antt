@@ -7,7 +7,7 @@ use Rattle.x7_words.proofs.ListLemmas.{all_back, all_front}
 use Rattle.x7_packets.specs.History.{Write}
 use Rattle.x7_part.specs.Part.{PartData}
 use Rattle.x7_engine.specs.Kept.{is_fallback}
-use Rattle.x7_engine.specs.State.{line_by, state_of, stop_in}
+use Rattle.x7_engine.specs.State.{line_by, state_of, stop_in, taken_of}
 use Rattle.x7_engine.specs.Values.{cause_of}
 use Rattle.x7_engine.specs.declared.kept.Kept.{Kept}
 use Rattle.x7_engine.specs.declared.stop.Stop.{Stop}
@@ -22,6 +22,7 @@ use Rattle.x7_boot.specs.declared.attempt.Ending.TheVariants as ending
 use Rattle.x7_boot.specs.declared.boots.BootEnd.{BootEnd}
 use Rattle.x7_boot.specs.declared.boots.BootEnd.TheVariants as boot_end
 use Rattle.x7_boot.specs.declared.next.Next.TheVariants.{Again, Ends}
+use Rattle.x7_boot.proofs.StartLemmas.{front_fits, seven_late}
 
 -- a stop is no start
 no_cause_starts : (c : Option Cause) → failed_by c ≡ Some ending.Started → ⊥
@@ -37,24 +38,32 @@ starts_by : (b : Bool) (o : Option Stop) → (if b then Some ending.Started else
 starts_by true o e = refl
 starts_by false o e = absurd (no_stop_starts o e)
 
-seven_is_late : (n : ℕ) → (n == 7) ≡ true → 0 < n
-seven_is_late n e = grind (arith, e, nat_tests)
-
 started_late : (part : PartData) (kept : Kept) (bytes : List ℕ) → ending_at part kept bytes ≡ Some ending.Started → 0 < (state_of part kept false bytes).phase
-started_late part kept bytes e = seven_is_late (state_of part kept false bytes).phase (starts_by ((state_of part kept false bytes).phase == 7) (line_by (stop_in part kept bytes)) e)
+started_late part kept bytes e = seven_late (state_of part kept false bytes).phase (starts_by ((state_of part kept false bytes).phase == 7) (line_by (stop_in part kept bytes)) e)
 
-checked : (part : PartData) (kept : Kept) (bytes : List ℕ) → AreBytes bytes → 0 < (state_of part kept false bytes).phase → HasChecked part kept bytes
-checked part kept bytes fits late = record {
-  started = phase_started part kept false bytes fits late;
+pub checked : (part : PartData) (kept : Kept) (wrapped : Bool) (bytes : List ℕ) → AreBytes bytes → 0 < (state_of part kept wrapped bytes).phase → HasChecked part kept bytes
+checked part kept wrapped bytes fits late = record {
+  started = phase_started part kept wrapped bytes fits late;
   checks = λ w place older s l. check_equals part kept older w (lines_before part kept bytes (Write 0 w) place older fits s l);
   idcodes = λ w place older s l. idcode_matches part kept older w (lines_before part kept bytes (Write 12 w) place older fits s l);
 }
 
+-- the bytes of an attempt are those of the flash
+trial_fits : (part : PartData) (flash : List ℕ) (t : Trial) → AreBytes flash → IsTrial part flash t → AreBytes t.bytes
+trial_fits part flash t fits is = by is
+  where
+    behind : AreBytes (drop t.address flash)
+    behind = all_back (λ b. b < 256) (take t.address flash) (drop t.address flash) (subst AreBytes (sym (take-append-drop t.address flash)) fits)
+    by : IsTrial part flash t → AreBytes t.bytes
+    by (inl first) = all_front (λ b. b < 256) t.bytes first.rest (subst AreBytes first.taken behind)
+    by (inr out) = subst AreBytes (sym out.taken) (front_fits (taken_of part t.kept (drop t.address flash)) (drop t.address flash) behind)
+
+pub attempt_checked : (part : PartData) (flash : List ℕ) (t : Trial) → AreBytes flash → IsTrial part flash t → 0 < (end_state part t).phase → HasChecked part t.kept t.bytes
+attempt_checked part flash t fits is late = checked part t.kept t.wrapped t.bytes (trial_fits part flash t fits is) late
+
 pub start_checked : (part : PartData) (flash : List ℕ) (t : Trial) → AreBytes flash → IsTrial part flash t → t.ending ≡ ending.Started → HasChecked part t.kept t.bytes
 start_checked part flash t fits (inl first) is =
-    let behind : AreBytes (drop t.address flash) = all_back (λ b. b < 256) (take t.address flash) (drop t.address flash) (subst AreBytes (sym (take-append-drop t.address flash)) fits) in
-    let here : AreBytes t.bytes = all_front (λ b. b < 256) t.bytes first.rest (subst AreBytes first.taken behind) in
-    checked part t.kept t.bytes here (started_late part t.kept t.bytes (first.ends ∙ ap Some is))
+    checked part t.kept false t.bytes (trial_fits part flash t fits (inl first)) (started_late part t.kept t.bytes (first.ends ∙ ap Some is))
 start_checked part flash t fits (inr out) is = let failed : t.ending ≡ ending.Failed _ = out.failed in absurd (cc)
 
 -- ---- the last attempt of a boot that started

@@ -15,7 +15,7 @@ use Rattle.x7_part.specs.PartRange.{IsPart}
 use Rattle.x7_part.specs.Slots.{slots_in}
 use Rattle.x7_regs.specs.BootStatus.{boot_status_of}
 use Rattle.x7_memory.specs.FrameMap.{AreSame, FrameMap}
-use Rattle.x7_memory.specs.Planned.{PlanData, total}
+use Rattle.x7_memory.specs.Planned.{IsPlanFor, PlanData, total}
 use Rattle.x7_planner.specs.Full.{full_stream}
 use Rattle.x7_flow.specs.FrameMemory.{memory_of}
 use Rattle.x7_engine.specs.Kept.{is_fallback}
@@ -38,9 +38,9 @@ use Rattle.x7_effects.proofs.PlannerLemmas.{full_same}
 use Rattle.x7_effects.proofs.RestingLemmas.{stream_history}
 use Rattle.x7_effects.proofs.StreamLemmas.{bytes_fit}
 use Rattle.x7_effects.proofs.Streams as items
+use Rattle.x7_engine.proofs.DeviceLemmas.{going_taken}
 use Rattle.x7_boot.specs.Attempt.{IsTrial, NoneBefore, Trial, ending_at}
 use Rattle.x7_boot.specs.Boot.{end_state}
-use Rattle.x7_boot.specs.ImageBoot.{IsPlanFor}
 use Rattle.x7_boot.specs.declared.attempt.Ending.TheVariants.{Started}
 use Rattle.x7_boot.proofs.LeastLemmas.{IsLeast, least_of}
 use Rattle.x7_boot.proofs.StartLemmas.{NeverStarts, front_fits, front_goes, front_history, goes_on, never_seven, never_until}
@@ -109,9 +109,6 @@ pub record StartsWith (part : PartData) (kept : Kept) (address : ℕ) (flash : L
   pub ending_is : trial.ending ≡ Started
   pub memory : AreSame (memory_in part trial.kept trial.bytes) (total part plan)
   pub bootsts : (end_state part trial).bootsts ≡ boot_status_of (record { kind = kept.kind; cause = None; ignored = ignored }) kept.before
-
-history_all : (part : PartData) (kept : Kept) (bytes : List ℕ) → stop_in part kept bytes ≡ None → history_taken part kept bytes ≡ history_of bytes
-history_all part kept bytes none = ap (λ (o : Option Stopped). history_by o (history_of bytes)) none
 
 bootsts_is : (part : PartData) (kept : Kept) (bytes : List ℕ) (ignored : Bool) → stop_in part kept bytes ≡ None → (is_fallback kept.kind && wrote_iprog (history_of bytes)) ≡ ignored
     → (state_of part kept false bytes).bootsts ≡ boot_status_of (record { kind = kept.kind; cause = None; ignored = ignored }) kept.before

@@ -14,7 +14,7 @@ use Rattle.x7_regs.specs.declared.boot_status.Cause.TheVariants.{Wrap}
 use Rattle.x7_regs.specs.declared.boot_status.Kind.{Kind}
 use Rattle.x7_regs.specs.declared.boot_status.Kind.TheVariants.{Power, Iprog, Fallback}
 use Rattle.x7_memory.specs.FrameMap.{AreSame}
-use Rattle.x7_memory.specs.Planned.{PlanData, total}
+use Rattle.x7_memory.specs.Planned.{IsPlanFor, PlanData, total}
 use Rattle.x7_planner.specs.Full.{full_stream}
 use Rattle.x7_engine.specs.Kept.{is_fallback}
 use Rattle.x7_engine.specs.Registers.{wrote_iprog}
@@ -30,7 +30,7 @@ use Rattle.x7_engine.specs.declared.stop.Stop.TheVariants as stop
 use Rattle.x7_boot.specs.Attempt.{IsTrial, NoneBefore, Trial, ending_at, ending_by, failed_by}
 use Rattle.x7_boot.specs.Boot.{BootedState, IsBoot, LeadsTo, LeadsToEnd, at_power, end_state, forbids_fallback, next_by, start_address, tried}
 use Rattle.x7_boot.specs.Image.{first_sector, flash_limit, image_size}
-use Rattle.x7_boot.specs.ImageBoot.{BootsImage, EndsAtUpdate, FallsBack, HasImage, IsPlanFor, StartsUpdate, TriesUpdate, UpdateEnds, UpdateFails, golden_image, kept_at_update, place_behind}
+use Rattle.x7_boot.specs.ImageBoot.{BootsImage, EndsAtUpdate, FallsBack, FallsBackFrom, HasImage, StartsUpdate, TriesUpdate, UpdateEnds, UpdateFails, golden_image, kept_at_update, place_behind}
 use Rattle.x7_boot.specs.declared.attempt.Ending.{Ending}
 use Rattle.x7_boot.specs.declared.attempt.Ending.TheVariants as ending
 use Rattle.x7_boot.specs.declared.boots.BootEnd.{BootEnd}
@@ -41,6 +41,7 @@ use Rattle.x7_boot.specs.declared.next.Next.TheVariants.{Again, Ends}
 use Rattle.x7_boot.proofs.FirstSlotLemmas.{power_behind, power_bytes, power_ends, power_first, power_history, power_stop, sector_history, sector_never, sector_rest, sector_rests}
 use Rattle.x7_boot.proofs.FullTrialLemmas.{StartsWith, full_starts, full_stream_fits, iprog_later}
 use Rattle.x7_boot.proofs.OneBootLemmas.{GoesThrough, goes_through, one_chain}
+use Rattle.x7_boot.proofs.TrialLemmas.{no_cause}
 use Rattle.x7_boot.proofs.SlotLemmas.{image_begins, image_has, place_whole, sector_fits, size_behind, start_small, start_whole}
 
 -- ---- the start address
@@ -175,19 +176,10 @@ failed_is : (o : Option Cause) (cause : Cause) → failed_by o ≡ Some (ending.
 failed_is None cause e = absurd (cc)
 failed_is (Some c) cause e = cc
 
-failed_none : (o : Option Cause) → failed_by o ≡ None → o ≡ None
-failed_none None e = refl
-failed_none (Some c) e = absurd (cc)
-
 cause_by : (o : Option Stop) (cause : Cause) → ending_by o ≡ Some (ending.Failed cause) → cause_of (fault_of o) false ≡ Some cause
 cause_by None cause e = failed_is None cause e
 cause_by (Some stop.Iprog) cause e = absurd (cc)
 cause_by (Some (stop.Fault f)) cause e = failed_is (cause_of (Some f) false) cause e
-
-none_by : (o : Option Stop) → ending_by o ≡ None → cause_of (fault_of o) false ≡ None
-none_by None e = refl
-none_by (Some stop.Iprog) e = refl
-none_by (Some (stop.Fault f)) e = failed_none (cause_of (Some f) false) e
 
 not_started : (b : Bool) (o : Option Ending) (cause : Cause) → (if b then Some ending.Started else o) ≡ Some (ending.Failed cause) → o ≡ Some (ending.Failed cause)
 not_started true o cause e = absurd (cc)
@@ -230,7 +222,7 @@ cause_is part flash t cause (inr out) e =
     let line : Option Stop = line_by (stop_in part t.kept t.bytes) in
     let none : ending_at part t.kept t.bytes ≡ None = ap (ending_at part t.kept) out.taken ∙ never_ends part t.kept from (taken_of part t.kept from) out.none in
     let open_end : ending_by line ≡ None = not_ended ((state_of part t.kept false t.bytes).phase == 7) (ending_by line) none in
-    ap (cause_of (fault_of line)) out.past_end ∙ wrapped_by (fault_of line) (none_by line open_end) ∙ some_failed Wrap cause (sym out.failed ∙ e)
+    ap (cause_of (fault_of line)) out.past_end ∙ wrapped_by (fault_of line) (no_cause line open_end) ∙ some_failed Wrap cause (sym out.failed ∙ e)
 
 -- the attempt, as the next one keeps it
 attempt_is : (part : PartData) (golden : PlanData) (update : List ℕ) (t : Trial) (cause : Cause) → UpdateFails part golden update t cause false → attempt_in part t.kept t.wrapped t.bytes ≡ record { kind = Iprog; cause = Some cause; ignored = false }
@@ -378,3 +370,9 @@ pub boot_tries : (part : PartData) (golden : PlanData) (update : List ℕ) (b : 
 boot_tries part golden update b boots =
     let is : IsBoot part (golden_image part golden update) b = boots.boot in
     subst (λ (a : List Tried). TriesUpdate part golden update a) (sym is.attempts) (tries_update part golden update (is.last ∷ is.older) b.end boots.image is.leads)
+
+-- the image by its bytes
+pub falls_back_from : (part : PartData) (golden : PlanData) (update image : List ℕ) → HasImage part golden update → image ≡ golden_image part golden update → FallsBackFrom part golden update image
+falls_back_from part golden update image has e b t cause is fails =
+    let leads : LeadsToEnd part (golden_image part golden update) (is.last ∷ is.older) b.end = subst (λ (x : List ℕ). LeadsToEnd part x (is.last ∷ is.older) b.end) e is.leads in
+    boot_falls_back part golden update b t cause (record { image = has; boot = record { last = is.last; older = is.older; leads = leads; attempts = is.attempts; device = is.device } }) fails

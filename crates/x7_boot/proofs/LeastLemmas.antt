@@ -15,7 +15,7 @@ no_more holds n none here k l = elim (cases_lt k n) [
 ]
 
 -- none of the first n, or the least of them
-search_to : (holds : ℕ → Bool) (n : ℕ) → ((k : ℕ) → k < n → holds k ≡ false) ⊎ IsLeast holds n
+pub search_to : (holds : ℕ → Bool) (n : ℕ) → ((k : ℕ) → k < n → holds k ≡ false) ⊎ IsLeast holds n
 search_to holds zero = inl (λ k l. absurd (omega (arith, l)))
 search_to holds (suc n) = elim (search_to holds n) [
   | inr l ↦ inr (record { least = l.least; within = omega (arith, l.within); here = l.here; none_before = l.none_before })

@@ -10,7 +10,9 @@ use Rattle.lru.proofs.CallerLemmas.{Contains-lookup, Contains-lookup_entry, Cont
 use Rattle.lru.proofs.Splits.{Contains-nil}
 use Rattle.x7_words.specs.Flash.{WhereTold}
 use Rattle.x7_boot.specs.Image.{flash_limit}
-use Rattle.x7_boot.specs.Pages.{AreFrom, ArePages, HasPage, IsBlock, IsRest, Pages, block_end, page_end, page_size}
+use Rattle.x7_boot.specs.Pages.{AreFrom, ArePages, HasPage, IsBlock, IsLoaded, IsRest, Pages, Reaches, block_end, page_end, page_size}
+use Rattle.x7_boot.specs.declared.cache.Loaded.{Loaded}
+use Rattle.x7_boot.specs.declared.cache.Loaded.TheVariants.{Kept, Read}
 
 -- ---- pages that are kept
 
@@ -217,10 +219,15 @@ from_block known extent at count block lent within some b e =
     } in
     subst (AreFrom known extent at) (sym (take_rest lent (at % page_size) ∙ ap (drop (at % page_size)) e)) from
 
--- a block that was read from a flash whose bytes and size are these
-pub block_read : (known told : Option (List ℕ)) (extent size number count : ℕ) (block : List ℕ) → told ≡ known → size ≡ extent → (0 < count → IsBlock told size number count block) → 0 < count → IsBlock known extent number count block
-block_read known told extent size number count block e f read some =
-    subst (λ (k : Option (List ℕ)). IsBlock k extent number count block) e (subst (λ (n : ℕ). IsBlock told n number count block) f (read some))
+-- what was loaded from a flash whose bytes and size are these
+pub loaded_from : (known told : Option (List ℕ)) (extent size number : ℕ) (block : List ℕ) (loaded : Loaded) → told ≡ known → size ≡ extent → IsLoaded told size number block loaded → IsLoaded known extent number block loaded
+loaded_from known told extent size number block loaded e f read =
+    subst (λ (k : Option (List ℕ)). IsLoaded k extent number block loaded) e (subst (λ (n : ℕ). IsLoaded told n number block loaded) f read)
+
+-- a block that was read reaches the place for which it was
+pub reaches : (known : Option (List ℕ)) (extent at : ℕ) (block : List ℕ) (loaded : Loaded) → at < extent → IsLoaded known extent (at / page_size) block loaded → Reaches at block loaded
+reaches known extent at block Kept within read = tt
+reaches known extent at block (Read count) within read = place_in_block known extent at count block within read.0 read.1
 
 -- bytes of a flash that is no larger than one may be
 pub from_limited : (known : Option (List ℕ)) (extent at : ℕ) (bytes : List ℕ) → extent ≤ flash_limit → AreFrom known extent at bytes → at + length bytes ≤ flash_limit

@@ -11,6 +11,7 @@ use Rattle.x7_words.proofs.ListLemmas.{all-append}
 use Rattle.x7_packets.specs.Appended.{LacksFirst}
 use Rattle.x7_packets.specs.SyncWord.{HasNoSync, sync_bytes}
 use Rattle.x7_packets.proofs.SyncLemmas.{none_empty}
+use Rattle.x7_effects.proofs.StreamLemmas.{bytes_fit}
 use Rattle.x7_boot.specs.Image.{closed_slot, closed_slots, filled_to, first_sector, image_of, image_size, flash_limit, open_slot, sector_from, slot, update_place}
 
 -- ---- no sync word in the closed slots
@@ -66,79 +67,7 @@ closed_none start whole low = slots_none 2047 start whole low
 
 slot_fits : (switch start : ℕ) → AreBytes (slot switch start)
 unfolding slot
-slot_fits switch start = (
-  omega arith,
-  (
-    omega arith,
-    (
-      omega arith,
-      (
-        omega arith,
-        (
-          omega arith,
-          (
-            omega arith,
-            (
-              omega arith,
-              (
-                omega arith,
-                (
-                  omega arith,
-                  (
-                    omega arith,
-                    (
-                      omega arith,
-                      (
-                        omega arith,
-                        (
-                          omega arith,
-                          (
-                            omega arith,
-                            (
-                              omega arith,
-                              (
-                                omega arith,
-                                (
-                                  omega arith,
-                                  (
-                                    omega arith,
-                                    (
-                                      omega arith,
-                                      (
-                                        omega arith,
-                                        (
-                                          omega arith,
-                                          (
-                                            omega arith,
-                                            (
-                                              omega arith,
-                                              (
-                                                omega arith,
-                                                (omega arith, (omega arith, (omega arith, (omega arith, (omega arith, (omega arith, (omega arith, (omega arith, tt)))))))),
-                                              ),
-                                            ),
-                                          ),
-                                        ),
-                                      ),
-                                    ),
-                                  ),
-                                ),
-                              ),
-                            ),
-                          ),
-                        ),
-                      ),
-                    ),
-                  ),
-                ),
-              ),
-            ),
-          ),
-        ),
-      ),
-    ),
-  ),
-)
+slot_fits switch start = bytes_fit (switch ∷ 0x20000000 ∷ 0x30020001 ∷ start ∷ 0x30008001 ∷ 0x0000000F ∷ 0x30008001 ∷ 0x0000000D ∷ [])
 
 repeat_fits : (n : ℕ) (bytes : List ℕ) → AreBytes bytes → AreBytes (repeat n bytes)
 repeat_fits zero bytes f = tt
@@ -176,8 +105,8 @@ place_whole golden = elim (cases_lt (sector_from (65536 + golden)) 131072) [
   | inr l ↦ ap (λ (n : ℕ). n % 65536) (max-eq_right l) ∙ omega arith
 ]
 
-pub place_behind : (golden : ℕ) → 65536 + golden ≤ update_place golden
-place_behind golden = let m : sector_from (65536 + golden) ≤ update_place golden = le-max_right 131072 (sector_from (65536 + golden)) in omega (arith, m)
+pub update_behind : (golden : ℕ) → 65536 + golden ≤ update_place golden
+update_behind golden = let m : sector_from (65536 + golden) ≤ update_place golden = le-max_right 131072 (sector_from (65536 + golden)) in omega (arith, m)
 
 pub size_behind : (golden update : ℕ) → update_place golden + update ≤ image_size golden update
 size_behind golden update = omega arith
@@ -229,7 +158,7 @@ image_has unit golden update =
     let size : ℕ = image_size (length golden) (length update) in
     let end : List ℕ = replicate (size - length (filled_to place front ++ update)) 255 in
     let long : length front ≡ 65536 + length golden = length-append (first_sector (place / unit)) golden ∙ ap (λ (n : ℕ). n + length golden) (sector_long (place / unit)) in
-    let filled : length (filled_to place front) ≡ place = length-append front (replicate (place - length front) 255) ∙ omega (arith, length-replicate {A = ℕ} (place - length front) 255, long, place_behind (length golden)) in (
+    let filled : length (filled_to place front) ≡ place = length-append front (replicate (place - length front) 255) ∙ omega (arith, length-replicate {A = ℕ} (place - length front) 255, long, update_behind (length golden)) in (
       end,
       ap (drop place) (append_assoc (filled_to place front) update end)
           ∙ ap (λ (n : ℕ). drop n (filled_to place front ++ (update ++ end))) (sym filled)

@@ -60,7 +60,8 @@ phase_none part kept wrapped bytes fits never late =
     let s : HasStarted part.idcode (history_taken part kept bytes) (taken_of part kept bytes) = phase_started part kept wrapped bytes fits late in
     no_pair s.newer s.between s.older s.desync s.start (subst NeverStarts s.split (never_taken part kept bytes never)) s.desync_is s.start_is
 
-seven_late : (n : ℕ) → (n == 7) ≡ true → 0 < n
+-- phase 7 is a phase above 0
+pub seven_late : (n : ℕ) → (n == 7) ≡ true → 0 < n
 seven_late n e = grind (arith, e, nat_tests)
 
 pub never_seven : (part : PartData) (kept : Kept) (bytes : List ℕ) → AreBytes bytes → NeverStarts (history_of bytes) → ((state_of part kept false bytes).phase == 7) ≡ false

@@ -29,6 +29,7 @@ use Rattle.x7_boot.specs.declared.attempt.Ending.{Ending}
 use Rattle.x7_boot.specs.declared.attempt.Ending.TheVariants.{Started, Iprog, Failed}
 use Rattle.x7_boot.specs.declared.attempt.Step.{Step}
 use Rattle.x7_boot.specs.declared.attempt.Step.TheVariants.{Goes, Ends, Stops}
+use Rattle.x7_boot.proofs.BootedLemmas.{where_all}
 use Rattle.x7_boot.proofs.TookLemmas.{ends_by_stop, ends_started}
 
 -- ---- nothing ends it
@@ -44,7 +45,8 @@ not_started part kept bytes none = by ((state_of part kept false bytes).phase ==
 no_ending : (part : PartData) (kept : Kept) (bytes : List ℕ) → ending_at part kept bytes ≡ None → ending_by (line_by (stop_in part kept bytes)) ≡ None
 no_ending part kept bytes none = sym (ends_by_stop part kept bytes (not_started part kept bytes none)) ∙ none
 
-no_cause : (o : Option Stop) → ending_by o ≡ None → cause_of (fault_of o) false ≡ None
+-- what ends no attempt is no cause of a failure
+pub no_cause : (o : Option Stop) → ending_by o ≡ None → cause_of (fault_of o) false ≡ None
 no_cause None e = refl
 no_cause (Some stop.Iprog) e = refl
 no_cause (Some (stop.Fault f)) e = by (cause_of (Some f) false) e
@@ -71,10 +73,6 @@ none_at_first part kept = refl
 empty_range : (all : List ℕ) (at : ℕ) → [] ≡ slice_range all at at
 empty_range all at = let e : at - at ≡ 0 = omega arith in sym (ap (λ (n : ℕ). take n (drop at all)) e)
 
-where_told : (known : Option (List ℕ)) (P : List ℕ → Type 0) → ((all : List ℕ) → P all) → WhereTold known P
-where_told None P f = tt
-where_told (Some all) P f = f all
-
 pub feeds_first : (part : PartData) (kept : Kept) (address : ℕ) (known : Option (List ℕ)) (d : DeviceState) → DeviceStandsFor part kept false d [] → Feeds part kept address known d address
 feeds_first part kept address known d s = record {
   bytes = [];
@@ -84,7 +82,7 @@ feeds_first part kept address known d s = record {
   due = none_due_at_first part kept false d s;
   count = omega arith;
   few = omega arith;
-  read = where_told known (λ all. [] ≡ slice_range all address address) (λ all. empty_range all address);
+  read = where_all known (λ all. [] ≡ slice_range all address address) (λ all. empty_range all address);
   none = λ k l. absurd (omega (arith, l));
 }
 
@@ -343,7 +341,7 @@ leaves_first part kept address known d s = record {
   stands = s;
   few = omega arith;
   read = let same : address + 0 ≡ address = omega arith in
-      where_told known (λ all. [] ≡ slice_range all address (address + 0)) (λ all. empty_range all address ∙ sym (ap (slice_range all address) same));
+      where_all known (λ all. [] ≡ slice_range all address (address + 0)) (λ all. empty_range all address ∙ sym (ap (slice_range all address) same));
 }
 
 -- so does one where the flash has ended

@@ -56,6 +56,13 @@ LeadsTo part flash (t ∷ older) next = LeadsTo part flash older (Again t.kept t
 abbrev pub LeadsToEnd : PartData → List ℕ → List Trial → BootEnd → Type 0
 LeadsToEnd part flash trials end = LeadsTo part flash trials (Ends end)
 
+-- it leads through attempts, one at least, to an end
+pub record HasBoot (part : PartData) (flash : List ℕ) : Type 0 where
+  pub last : Trial
+  pub older : List Trial
+  pub end : BootEnd
+  pub leads : LeadsToEnd part flash (last ∷ older) end
+
 -- how an attempt is told
 abbrev pub tried : Trial → Tried
 tried t = record { kind = t.kept.kind; address = t.address; ending = t.ending }

@@ -1,14 +1,13 @@
 -- What a boot from the image of a golden and an update stream comes to (UG470, MultiBoot and fallback; the layout of the image is this project's choice).
 use Rattle.std.specs.Prelude.{◌≡◌, ℕ, ◌/◌, ◌≤◌, Bool, false, true, List, [], ◌∷◌, length, None, Some}
-use Rattle.x7_part.specs.Part.{PartData, frame_words}
+use Rattle.x7_part.specs.Part.{PartData}
 use Rattle.x7_part.specs.PartRange.{IsPart}
 use Rattle.x7_regs.specs.BootStatus.{boot_status_of}
 use Rattle.x7_regs.specs.declared.boot_status.Cause.{Cause}
 use Rattle.x7_regs.specs.declared.boot_status.Kind.TheVariants.{Power, Iprog, Fallback}
 use Rattle.x7_memory.specs.FrameMap.{AreSame}
-use Rattle.x7_memory.specs.Planned.{IsPlan, PlanData, total}
+use Rattle.x7_memory.specs.Planned.{IsPlanFor, PlanData, total}
 use Rattle.x7_planner.specs.Full.{full_stream}
-use Rattle.x7_planner.specs.Refusals.{AreAddressed}
 use Rattle.x7_engine.specs.State.{memory_in}
 use Rattle.x7_engine.specs.declared.kept.Kept.{Kept}
 use Rattle.x7_boot.specs.Attempt.{IsTrial, Trial}
@@ -19,12 +18,6 @@ use Rattle.x7_boot.specs.declared.attempt.Ending.TheVariants as ending
 use Rattle.x7_boot.specs.declared.boots.BootEnd.{BootEnd}
 use Rattle.x7_boot.specs.declared.boots.BootEnd.TheVariants as boot_end
 use Rattle.x7_boot.specs.declared.boots.Tried.{Tried}
-
--- the plan has frames of the part's width, at addresses of the part
-pub record IsPlanFor (part : PartData) (plan : PlanData) : Type 0 where
-  pub is_plan : IsPlan plan
-  pub width : plan.width ≡ frame_words part
-  pub addressed : AreAddressed part plan.rows
 
 -- where the update stands behind the full stream of a plan, and the image of both
 abbrev pub place_behind : PartData → PlanData → ℕ
@@ -94,3 +87,8 @@ pub record EndsAtUpdate (part : PartData) (golden : PlanData) (t : Trial) (by_en
   pub attempts_are : attempts ≡ through_update (place_behind part golden) t.ending []
   pub end_is : end ≡ by_end
   pub last_is : last ≡ t
+
+-- every boot from these bytes falls back, where the attempt at the update fails and CTL0 allows it
+abbrev pub FallsBackFrom : PartData → PlanData → List ℕ → List ℕ → Type 0
+FallsBackFrom part golden update image =
+    (b : BootedState) (t : Trial) (cause : Cause) → (is : IsBoot part image b) → UpdateFails part golden update t cause false → FallsBack part golden cause b.attempts b.end is.last

@@ -1,8 +1,10 @@
 -- Pages of a flash (this project's choice).
-use Rattle.std.specs.Prelude.{◌≡◌, ℕ, ◌+◌, ◌-◌, ◌*◌, ◌/◌, ◌<◌, ◌≤◌, min, List, length, slice_range, Option, IsSome, Contains, Vec, nat_eq}
+use Rattle.std.specs.Prelude.{◌≡◌, ℕ, ◌+◌, ◌-◌, ◌*◌, ◌/◌, ◌%◌, ◌<◌, ◌≤◌, min, List, length, slice_range, Option, IsSome, Contains, Vec, nat_eq}
 use Rattle.std.specs.declared.alloc.Global.{Global}
 use Rattle.std.specs.Map.{lookup}
 use Rattle.x7_words.specs.Flash.{WhereTold}
+use Rattle.x7_boot.specs.declared.cache.Loaded.{Loaded}
+use Rattle.x7_boot.specs.declared.cache.Loaded.TheVariants.{Kept, Read}
 
 -- the bytes of a page, but of a last one that is shorter
 abbrev pub page_size : ℕ
@@ -30,6 +32,16 @@ pub record IsBlock (known : Option (List ℕ)) (extent number count : ℕ) (byte
   pub within : number * page_size < extent
   pub long : length bytes ≡ block_end number count extent - number * page_size
   pub told : WhereTold known (λ all. bytes ≡ slice_range all (number * page_size) (block_end number count extent))
+
+-- what loading the page of a number came to: it was there, or it begins so many pages that were read into this block
+abbrev pub IsLoaded : Option (List ℕ) → ℕ → ℕ → List ℕ → Loaded → Type 0
+IsLoaded known extent number block Kept = Unit {0}
+IsLoaded known extent number block (Read count) = (0 < count) × IsBlock known extent number count block
+
+-- the block has the place of its first page that this one has in its own
+abbrev pub Reaches : ℕ → List ℕ → Loaded → Type 0
+Reaches at block Kept = Unit {0}
+Reaches at block (Read count) = at % page_size < length block
 
 -- these are bytes of a flash from a place on, one at least
 pub record AreFrom (known : Option (List ℕ)) (extent at : ℕ) (bytes : List ℕ) : Type 0 where

@@ -22,7 +22,7 @@ pub enum Ending {
 }
 
 /// What bytes of a flash did to an attempt.
-#[derive(Clone, Copy, Debug, PartialEq, Eq)]
+#[derive(Clone, Copy)]
 pub(crate) enum Step {
     /// Nothing: it goes on behind them.
     Goes,

@@ -1,6 +1,6 @@
 //! The boot of a device from a flash.
 ghost use Rattle.std.specs.Prelude.{◌≡◌, ◌≤◌, ◌<◌, ◌↔◌, List, true, Err, IfOk, IsErrOf};
-ghost use Rattle.x7_words.specs.Flash.{FlashFails, OnlyFaults, WhereTold};
+ghost use Rattle.x7_words.specs.Flash.{FlashFails, OnlyReads, WhereTold};
 ghost use Rattle.x7_words.specs.Word.{AreBytes};
 ghost use Rattle.x7_engine.specs.Standing.{NoWordDue};
 ghost use Rattle.x7_boot.specs.Boot.{BootedState, IsBoot};
@@ -105,7 +105,7 @@ pub fn boot<F: Flash>(alloc: Global, part: &Part, flash: &mut F) -> Result<Boote
     ensures due { IfOk result (λ booted. NoWordDue booted.device) }
     ensures failed { IsErrOf result BootFault.Failed → FlashFails (F.state flash.old) (F.state flash.new) }
     ensures too_large { (result ≡ Err BootFault.TooLarge) ↔ (flash_limit < (F.state flash.old).extent) }
-    ensures flash { OnlyFaults (F.state flash.old) (F.state flash.new) }
+    ensures flash { OnlyReads (F.state flash.old) (F.state flash.new) (F.found_since flash.old) (F.found_since flash.new) }
 {
     if flash.size() > FLASH_LIMIT {
         return Err(BootFault::TooLarge);

@@ -1,8 +1,8 @@
 //! The pages of a flash that were used last, so that none of them is read again.
 ghost use Rattle.std.specs.Prelude.{◌≡◌, ◌+◌, ◌*◌, ◌/◌, ◌%◌, ◌<◌, ◌≤◌, ℕ, List, Option, None, [], length, true, nat_eq, IfOk, OnOk, IsErrOf, IsSome};
-ghost use Rattle.x7_words.specs.Flash.{FlashFails, OnlyFaults};
+ghost use Rattle.x7_words.specs.Flash.{FlashFails, OnlyReads};
 ghost use Rattle.std.specs.Map.{lookup};
-ghost use Rattle.x7_boot.specs.Pages.{AreFrom, ArePages, HasPage, IsBlock, IsRest, KeepsPages, block_pages, page_size};
+ghost use Rattle.x7_boot.specs.Pages.{AreFrom, ArePages, HasPage, IsBlock, IsLoaded, IsRest, KeepsPages, Reaches, block_pages, page_size};
 
 use crate::fault::BootFault;
 use crate::pages::{BLOCK_PAGES, PAGE, read_block};
@@ -14,6 +14,15 @@ use x7_words::Flash;
 
 /// The pages that are kept.
 const KEPT_PAGES: usize = 64;
+
+/// Where the bytes of a page are that was asked for.
+#[derive(Clone, Copy)]
+pub(crate) enum Loaded {
+    /// In the page, which was there already.
+    Kept,
+    /// In the block, which was read now and has so many pages from that one on.
+    Read(u64),
+}
 
 /// The pages of a flash that were used last, by their numbers.
 #[derive(Drop)]
@@ -41,22 +50,21 @@ impl PageCache {
         })
     }
 
-    /// Has the page of a number from then on, read from the flash where it isn't there, with those that follow it. Gives how
-    /// many pages were read.
-    pub(crate) fn load<F: Flash>(&mut self, flash: &mut F, number: u64) -> Result<u64, BootFault>
+    /// Has the page of a number from then on, read from the flash where it isn't there, with those that follow it.
+    pub(crate) fn load<F: Flash>(&mut self, flash: &mut F, number: u64) -> Result<Loaded, BootFault>
         requires attached { (F.state flash.old).attached ≡ true }
         requires within { number * page_size < (F.state flash.old).extent }
         requires limit { (F.state flash.old).extent ≤ 134217728 }
         requires pages { ArePages (F.state flash.old).bytes (F.state flash.old).extent self.old.pages.entries }
         ensures pages { ArePages (F.state flash.old).bytes (F.state flash.old).extent self.new.pages.entries }
         ensures there { OnOk result (IsSome (lookup (nat_eq number) self.new.pages.entries)) }
-        ensures read { IfOk result (λ count. 0 < count → IsBlock (F.state flash.old).bytes (F.state flash.old).extent number count self.new.block.items) }
+        ensures read { IfOk result (IsLoaded (F.state flash.old).bytes (F.state flash.old).extent number self.new.block.items) }
         ensures failed { IsErrOf result BootFault.Failed → FlashFails (F.state flash.old) (F.state flash.new) }
         ensures not_large { IsErrOf result BootFault.TooLarge → ⊥ }
-        ensures flash { OnlyFaults (F.state flash.old) (F.state flash.new) }
+        ensures flash { OnlyReads (F.state flash.old) (F.state flash.new) (F.found_since flash.old) (F.found_since flash.new) }
     {
         if self.pages.promote(&number) {
-            return Ok(0);
+            return Ok(Loaded::Kept);
         }
         let count = self.absent_pages(number, flash.size());
         match read_block(flash, number, count, &mut self.block) {
@@ -64,7 +72,7 @@ impl PageCache {
             Err(fault) => return Err(fault),
         }
         match self.keep_block(number, count) {
-            Ok(()) => Ok(count),
+            Ok(()) => Ok(Loaded::Read(count)),
             Err(fault) => Err(fault),
         }
     }
@@ -138,18 +146,17 @@ impl PageCache {
         }
     }
 
-    /// The bytes from a place on that are there. Where so many pages were read for its page, they are those of all of them, and
-    /// else those to the end of its page.
-    pub(crate) fn bytes_from(&self, at: u64, count: u64) -> &[u8]
+    /// The bytes from a place on whose page was loaded: to the end of the block that was read then, or else of the page.
+    pub(crate) fn bytes_from(&self, at: u64, loaded: Loaded) -> &[u8]
         requires page { HasPage self.now.pages.entries at }
-        requires block { 0 < count → at % page_size < length self.now.block.items }
-        ensures { (known : Option (List ℕ)) (extent : ℕ) → at < extent → ArePages known extent self.now.pages.entries → (0 < count → IsBlock known extent (at / page_size) count self.now.block.items)
-            → AreFrom known extent at result.now }
+        requires block { Reaches at self.now.block.items loaded }
+        ensures { (known : Option (List ℕ)) (extent : ℕ) → at < extent → ArePages known extent self.now.pages.entries
+            → IsLoaded known extent (at / page_size) self.now.block.items loaded → AreFrom known extent at result.now }
     {
-        if count > 0 {
-            return &self.block[(at % PAGE) as usize..];
+        match loaded {
+            Loaded::Kept => self.rest_of_page(at),
+            Loaded::Read(_) => &self.block[(at % PAGE) as usize..],
         }
-        self.rest_of_page(at)
     }
 
     /// The bytes from a place to the end of its page, which is there.

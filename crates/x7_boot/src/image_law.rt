@@ -1,12 +1,15 @@
-//! What a boot from an image of a golden and an update stream comes to. The function does nothing: its contract is the law.
-ghost use Rattle.std.specs.Prelude.{◌≡◌, List, ℕ, true, false};
+//! What a boot from an image of a golden and an update stream comes to. The functions do nothing: their contracts are the laws.
+ghost use Rattle.std.specs.Prelude.{◌≡◌, List, [], ℕ, true, false};
 ghost use Rattle.x7_part.specs.Part.{PartData};
+ghost use Rattle.x7_part.specs.PartRange.{IsPart};
+ghost use Rattle.x7_regs.specs.declared.boot_status.Cause.TheVariants.{Wrap};
+ghost use Rattle.x7_boot.specs.Example.{nothing_planned, tiny};
 ghost use Rattle.x7_regs.specs.declared.boot_status.Cause.{Cause};
-ghost use Rattle.x7_memory.specs.Planned.{PlanData};
+ghost use Rattle.x7_memory.specs.Planned.{IsPlanFor, PlanData};
 ghost use Rattle.x7_planner.specs.Full.{full_stream};
 ghost use Rattle.x7_boot.specs.Attempt.{Trial};
 ghost use Rattle.x7_boot.specs.Boot.{BootedState};
-ghost use Rattle.x7_boot.specs.ImageBoot.{BootsImage, EndsAtUpdate, FallsBack, IsPlanFor, StartsUpdate, TriesUpdate, UpdateEnds, UpdateFails};
+ghost use Rattle.x7_boot.specs.ImageBoot.{BootsImage, EndsAtUpdate, FallsBack, FallsBackFrom, HasImage, StartsUpdate, TriesUpdate, UpdateEnds, UpdateFails, golden_image};
 ghost use Rattle.x7_boot.specs.declared.attempt.Ending.TheVariants as ending;
 ghost use Rattle.x7_boot.specs.declared.boots.BootEnd.TheVariants as boot_end;
 
@@ -23,4 +26,16 @@ pub fn images_boot()
         → UpdateEnds part golden update t ending.Started → EndsAtUpdate part golden t boot_end.Started b.attempts b.end boots.boot.last }
     ensures full { (part : PartData) (golden update : PlanData) (b : BootedState) → (boots : BootsImage part golden (full_stream part update) b)
         → IsPlanFor part update → StartsUpdate part golden update b.attempts b.end boots.boot.last }
+{}
+
+/// Every boot from bytes that are the image of a plan's full stream and an update falls back where the update fails.
+pub fn images_fall_back()
+    ensures { (part : PartData) (golden : PlanData) (update image : List ℕ) → HasImage part golden update → image ≡ golden_image part golden update → FallsBackFrom part golden update image }
+{}
+
+/// These laws speak of something: there is a part with a plan, and for every part and plan an update that fails.
+pub fn premises_hold()
+    ensures part { IsPart tiny }
+    ensures plan { IsPlanFor tiny nothing_planned }
+    ensures fails { (part : PartData) (golden : PlanData) → (t : Trial) × UpdateFails part golden [] t Wrap false }
 {}

@@ -1,9 +1,11 @@
 //! What a boot promises. The functions do nothing: their contracts are the laws.
-ghost use Rattle.std.specs.Prelude.{◌≡◌, ℕ, List};
+ghost use Rattle.std.specs.Prelude.{◌≡◌, ◌<◌, ℕ, Bool, List};
 ghost use Rattle.x7_words.specs.Word.{AreBytes};
 ghost use Rattle.x7_part.specs.Part.{PartData};
+ghost use Rattle.x7_engine.specs.State.{state_of};
+ghost use Rattle.x7_engine.specs.declared.kept.Kept.{Kept};
 ghost use Rattle.x7_boot.specs.Attempt.{IsTrial, Trial};
-ghost use Rattle.x7_boot.specs.Boot.{BootedState, IsBoot};
+ghost use Rattle.x7_boot.specs.Boot.{BootedState, HasBoot, IsBoot, end_state};
 ghost use Rattle.x7_boot.specs.Checked.{HasChecked};
 ghost use Rattle.x7_boot.specs.declared.attempt.Ending.TheVariants as ending;
 ghost use Rattle.x7_boot.specs.declared.boots.BootEnd.TheVariants as boot_end;
@@ -15,9 +17,23 @@ pub fn starts_are_checked()
     ensures boot { (part : PartData) (flash : List ℕ) (b : BootedState) → AreBytes flash → (is : IsBoot part flash b) → b.end ≡ boot_end.Started → HasChecked part is.last.kept is.last.bytes }
 {}
 
-/// A flash has one boot of a part: an attempt is determined by what it keeps and its address, and a boot's attempts and its
-/// end by the bytes.
+/// Startup has begun only behind its checks: after any bytes, at the end of an attempt, and at the end of a boot, also where
+/// it didn't start.
+pub fn startup_is_checked()
+    ensures state { (part : PartData) (kept : Kept) (wrapped : Bool) (bytes : List ℕ) → AreBytes bytes → 0 < (state_of part kept wrapped bytes).phase → HasChecked part kept bytes }
+    ensures attempt { (part : PartData) (flash : List ℕ) (t : Trial) → AreBytes flash → IsTrial part flash t → 0 < (end_state part t).phase → HasChecked part t.kept t.bytes }
+    ensures boot { (part : PartData) (flash : List ℕ) (b : BootedState) → AreBytes flash → (is : IsBoot part flash b) → 0 < (end_state part is.last).phase → HasChecked part is.last.kept is.last.bytes }
+{}
+
+/// Every flash leads a boot of a part to an end.
+pub fn every_flash_boots()
+    ensures { (part : PartData) (flash : List ℕ) → HasBoot part flash }
+{}
+
+/// A flash has one boot of a part: an attempt is determined by what it keeps and its address, and a boot's attempts, its
+/// last one and its end by the bytes.
 pub fn one_boot()
     ensures attempt { (part : PartData) (flash : List ℕ) (s t : Trial) → IsTrial part flash s → IsTrial part flash t → s.kept ≡ t.kept → s.address ≡ t.address → s ≡ t }
     ensures boot { (part : PartData) (flash : List ℕ) (a b : BootedState) → IsBoot part flash a → IsBoot part flash b → (a.attempts ≡ b.attempts) × (a.end ≡ b.end) }
+    ensures last { (part : PartData) (flash : List ℕ) (a b : BootedState) → (x : IsBoot part flash a) → (y : IsBoot part flash b) → x.last ≡ y.last }
 {}

@@ -104,9 +104,39 @@ fn whole(
     Ok(all)
 }
 
-/// The flash image of a golden and an update stream for a part: the first sector leads to the update, and a device whose
-/// update fails falls back to the golden one (UG470, MultiBoot; the layout is this project's choice).
-pub fn image(
+/// The image of two streams, for a part of which one step of the start address stands for so many bytes.
+fn image_by(
+    alloc: Global,
+    unit: u32,
+    golden: &[u8],
+    update: &[u8],
+) -> Result<Vec<u8>, ImageFault>
+    requires { 0 < unit }
+    ensures bytes { IfOk result (λ all. all.items ≡ image_of unit golden.now update.now) }
+    ensures too_long { (result ≡ Err ImageFault.TooLong) ↔ (flash_limit < image_size (length golden.now) (length update.now)) }
+{
+    let Some((place, size)) = places(golden.len() as u64, update.len() as u64) else {
+        return Err(ImageFault::TooLong);
+    };
+    let start = place as u32 / unit;
+    match whole(alloc, start, golden, place, update, size) {
+        Ok(image) => Ok(image),
+        Err(NoMemory) => Err(ImageFault::NoMemory),
+    }
+}
+
+/// The flash image of a golden and an update stream, for parts whose start address counts bytes: the first sector leads to
+/// the update, and a device whose update fails falls back to the golden one (UG470, MultiBoot; the layout is this project's
+/// choice).
+pub fn image(alloc: Global, golden: &[u8], update: &[u8]) -> Result<Vec<u8>, ImageFault>
+    ensures bytes { IfOk result (λ all. all.items ≡ image_of 1 golden.now update.now) }
+    ensures too_long { (result ≡ Err ImageFault.TooLong) ↔ (flash_limit < image_size (length golden.now) (length update.now)) }
+{
+    image_by(alloc, 1, golden, update)
+}
+
+/// The same for a part, by the unit of its start address.
+pub fn image_for(
     alloc: Global,
     part: &Part,
     golden: &[u8],
@@ -115,12 +145,5 @@ pub fn image(
     ensures bytes { IfOk result (λ all. all.items ≡ image_of part.now.start_unit golden.now update.now) }
     ensures too_long { (result ≡ Err ImageFault.TooLong) ↔ (flash_limit < image_size (length golden.now) (length update.now)) }
 {
-    let Some((place, size)) = places(golden.len() as u64, update.len() as u64) else {
-        return Err(ImageFault::TooLong);
-    };
-    let start = place as u32 / part.start_unit();
-    match whole(alloc, start, golden, place, update, size) {
-        Ok(image) => Ok(image),
-        Err(NoMemory) => Err(ImageFault::NoMemory),
-    }
+    image_by(alloc, part.start_unit(), golden, update)
 }

@@ -17,9 +17,9 @@ use x7_regs::Kind;
 /// The attempts of a boot that may end by IPROG.
 const ATTEMPTS: u32 = 16;
 
-/// What comes after an attempt.
-#[derive(Clone, Copy, Debug, PartialEq, Eq)]
-pub(crate) enum Next {
+/// What comes after an attempt of a boot.
+#[derive(Clone, Copy)]
+pub enum Next {
     /// An attempt that keeps this, at this address.
     Again {
         /// What the device keeps over the reset.

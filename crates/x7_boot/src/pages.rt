@@ -1,6 +1,6 @@
 //! Reading a flash by pages.
 ghost use Rattle.std.specs.Prelude.{◌≡◌, ◌*◌, ◌<◌, ◌≤◌, ◌^◌, true, OnOk, IsErrOf};
-ghost use Rattle.x7_words.specs.Flash.{FlashFails, OnlyFaults};
+ghost use Rattle.x7_words.specs.Flash.{FlashFails, OnlyReads};
 ghost use Rattle.x7_boot.specs.Pages.{IsBlock, block_pages, page_size};
 
 use crate::fault::BootFault;
@@ -26,7 +26,7 @@ pub(crate) fn read_block<F: Flash>(
     ensures read { OnOk result (IsBlock (F.state flash.old).bytes (F.state flash.old).extent number count block.new.items) }
     ensures failed { IsErrOf result BootFault.Failed → FlashFails (F.state flash.old) (F.state flash.new) }
     ensures not_large { IsErrOf result BootFault.TooLarge → ⊥ }
-    ensures flash { OnlyFaults (F.state flash.old) (F.state flash.new) }
+    ensures flash { OnlyReads (F.state flash.old) (F.state flash.new) (F.found_since flash.old) (F.found_since flash.new) }
     ensures last_fault { (F.state flash.old).faults < 2 ^ 64 → (F.state flash.new).faults < 2 ^ 64 }
 {
     let start = number * PAGE;

@@ -2,7 +2,7 @@
 ghost use Rattle.std.specs.Prelude.{◌≡◌, ◌≤◌, ◌<◌, ◌^◌, ℕ, List, Option, length, true, false, IfOk, IsErrOf, IsTrue};
 ghost use Rattle.x7_regs.specs.declared.boot_status.Kind.TheVariants.{Bench};
 ghost use Rattle.x7_regs.specs.declared.boot_status.Cause.TheVariants.{Wrap};
-ghost use Rattle.x7_words.specs.Flash.{FlashFails, OnlyFaults, WhereTold};
+ghost use Rattle.x7_words.specs.Flash.{FlashFails, OnlyReads, WhereTold};
 ghost use Rattle.x7_words.specs.Word.{AreBytes};
 ghost use Rattle.x7_part.specs.Part.{PartData};
 ghost use Rattle.x7_engine.specs.FirstGap.{IsInFirstGap};
@@ -87,7 +87,7 @@ pub(crate) fn try_once<F: Flash>(
     ensures due { IfOk result (λ ending. NoWordDue device.new) }
     ensures failed { IsErrOf result BootFault.Failed → FlashFails (F.state flash.old) (F.state flash.new) }
     ensures not_large { IsErrOf result BootFault.TooLarge → ⊥ }
-    ensures flash { OnlyFaults (F.state flash.old) (F.state flash.new) }
+    ensures flash { OnlyReads (F.state flash.old) (F.state flash.new) (F.found_since flash.old) (F.found_since flash.new) }
 {
     let size = flash.size();
     let mut at = begin(device, keep, address, last_address);
@@ -95,11 +95,8 @@ pub(crate) fn try_once<F: Flash>(
         if at >= size {
             return Ok(run_out(device));
         }
-        let count = match pages.load(flash, at / PAGE) {
-            Ok(count) => count,
-            Err(fault) => return Err(fault),
-        };
-        let bytes = pages.bytes_from(at, count);
+        let loaded = pages.load(flash, at / PAGE)?;
+        let bytes = pages.bytes_from(at, loaded);
         match take_page(device, bytes) {
             Step::Goes => at += bytes.len() as u64,
             Step::Ends(ending) => return Ok(ending),

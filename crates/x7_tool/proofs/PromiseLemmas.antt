@@ -13,12 +13,12 @@ use Rattle.x7_boot.specs.declared.boots.BootEnd.{BootEnd}
 use Rattle.x7_boot.specs.declared.boots.BootEnd.TheVariants as boot_end
 use Rattle.x7_boot.specs.Attempt.{Trial}
 use Rattle.x7_boot.specs.Boot.{tried}
-use Rattle.x7_boot.specs.ImageBoot.{FallsBack, HasImage, IsPlanFor, StartsUpdate, UpdateFails, golden_image}
+use Rattle.x7_boot.specs.ImageBoot.{FallsBack, HasImage, StartsUpdate, UpdateFails, golden_image}
 use Rattle.x7_boot.proofs.CheckedLemmas.{last_checked}
 use Rattle.x7_boot.proofs.FullTrialLemmas.{full_stream_fits}
 use Rattle.x7_boot.proofs.ImageBootLemmas.{full_update_starts, update_falls_back}
 use Rattle.x7_boot.proofs.SlotLemmas.{image_fits}
-use Rattle.x7_memory.specs.Planned.{PlanData}
+use Rattle.x7_memory.specs.Planned.{IsPlanFor, PlanData}
 use Rattle.x7_planner.specs.Full.{full_stream}
 use Rattle.x7_regs.specs.declared.boot_status.Cause.{Cause}
 use Rattle.x7_effects.specs.Played.{PlaysFull, PlaysPartial, PlaysRead}

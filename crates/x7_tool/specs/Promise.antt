@@ -2,7 +2,7 @@
 use Rattle.std.specs.Prelude.{◌≡◌, ℕ, List, false, Option, Some, Result, Ok}
 use Rattle.x7_words.specs.Word.{AreBytes}
 use Rattle.x7_part.specs.Part.{PartData}
-use Rattle.x7_memory.specs.Planned.{PlanData}
+use Rattle.x7_memory.specs.Planned.{IsPlanFor, PlanData}
 use Rattle.x7_frames.specs.FramesText.{IsPlanOf}
 use Rattle.x7_engine.specs.declared.kept.Kept.{Kept}
 use Rattle.x7_engine.specs.Rest.{AtRest}
@@ -10,7 +10,7 @@ use Rattle.x7_regs.specs.declared.boot_status.Cause.{Cause}
 use Rattle.x7_planner.specs.Full.{full_stream}
 use Rattle.x7_boot.specs.Attempt.{Trial}
 use Rattle.x7_boot.specs.Checked.{HasChecked}
-use Rattle.x7_boot.specs.ImageBoot.{FallsBack, HasImage, IsPlanFor, StartsUpdate, UpdateFails, golden_image}
+use Rattle.x7_boot.specs.ImageBoot.{FallsBack, HasImage, StartsUpdate, UpdateFails, golden_image}
 use Rattle.x7_boot.specs.declared.boots.BootEnd.{BootEnd}
 use Rattle.x7_boot.specs.declared.boots.Tried.{Tried}
 use Rattle.x7_effects.specs.Played.{PlaysFull, PlaysPartial, PlaysRead}

@@ -25,7 +25,7 @@ fn image_text<'w>(
     ensures ok { IfOk result (λ text. image_for name.now part.now golden.now update.now ≡ Ok (whole_of text)) }
     ensures err { IfErr result (λ r. (event_of r ≡ no_memory) ⊎ (image_for name.now part.now golden.now update.now ≡ Err (event_of r))) }
 {
-    match x7_boot::image(alloc, part, golden, update) {
+    match x7_boot::image_for(alloc, part, golden, update) {
         Ok(text) => Ok(Text {
             stopped: false,
             text,

@@ -1,5 +1,5 @@
 use Rattle.std.proofs.Common.{ℕ, List, Option, ◌∙◌, subst, sym, arith}
-use Rattle.x7_words.proofs.FlashLemmas.{only_on}
+use Rattle.x7_words.proofs.FlashLemmas.{reads_on}
 use Rattle.x7_boot.specs.Attempt.{Leaves}
 use Rattle.x7_boot.proofs.BootedLemmas.{attempts_next, boot_ends, led_next}
 use Rattle.x7_boot.proofs.PageLemmas.{pages_of}
@@ -21,7 +21,7 @@ attempts-preserved g c =
       room = next.few c.in-Again.kept c.in-Again.place c.in-Again.is;
       limit = i.limit;
       pages = pages_of (f.state c.args.flash.now).bytes (f.state c.attempts.flash).bytes (f.state c.args.flash.now).extent (f.state c.attempts.flash).extent c.try_once.new.pages.pages.entries i.flash.bytes i.flash.extent c.try_once.ensures.pages;
-      flash = only_on _ _ _ i.flash t.flash;
+      flash = reads_on _ _ _ _ _ _ i.flash t.flash;
     }
 
 pub returns-in-Ends-clause-booted : goal.returns-in-Ends-clause-booted
@@ -42,3 +42,9 @@ pub try_once-requires-clause-left : goal.try_once-requires-clause-left
 try_once-requires-clause-left g c =
     let i = c.attempts.invariant in
     subst (λ (k : Option (List ℕ)). Leaves c.attempts.last_address k c.attempts.device) (sym i.flash.bytes) i.leaves
+
+pub returns-in_err-ending-clause-flash : goal.returns-in_err-ending-clause-flash
+returns-in_err-ending-clause-flash g c = reads_on _ _ _ _ _ _ c.attempts.invariant.flash c.try_once.ensures.flash
+
+pub returns-in_default-push-clause-flash : goal.returns-in_default-push-clause-flash
+returns-in_default-push-clause-flash g c = reads_on _ _ _ _ _ _ c.attempts.invariant.flash c.try_once.ensures.flash

@@ -1,5 +1,5 @@
 use Rattle.std.proofs.Common.{◌≡◌, ◌-◌, ◌<◌, ◌≤◌, false}
-use Rattle.x7_words.specs.Flash.{OnlyFaults, WhereTold}
+use Rattle.x7_words.specs.Flash.{OnlyReads, WhereTold}
 use Rattle.x7_words.specs.Word.{AreBytes}
 use Rattle.x7_regs.specs.declared.boot_status.Kind.TheVariants.{Bench}
 use Rattle.x7_engine.specs.Kept.{is_fallback}
@@ -21,7 +21,7 @@ invariant-attempts g l =
       room : is_fallback l.keep.kind ≡ false → l.number < 16;
       limit : (f.state l.fn.flash).extent ≤ flash_limit;
       pages : ArePages (f.state l.fn.flash).bytes (f.state l.fn.flash).extent l.pages.pages.entries;
-      flash : OnlyFaults (f.state l.fn.flash) (f.state l.flash);
+      flash : OnlyReads (f.state l.fn.flash) (f.state l.flash) (f.found_since l.fn.flash) (f.found_since l.flash);
     }
 
 abbrev pub decreases-attempts : goal.decreases-attempts

@@ -1,8 +1,8 @@
 use Rattle.std.proofs.Common.{◌≡◌, ℕ, subst, ◌+◌, ◌/◌, ◌<◌, false, length, sym, refl, ◌∙◌, arith, true}
 use Rattle.x7_words.specs.Flash.{WhereTold}
-use Rattle.x7_words.proofs.FlashLemmas.{only_at, only_on}
+use Rattle.x7_words.proofs.FlashLemmas.{reads_at, reads_on}
 use Rattle.x7_boot.specs.Pages.{page_size}
-use Rattle.x7_boot.proofs.PageLemmas.{block_read, from_limited, pages_of}
+use Rattle.x7_boot.proofs.PageLemmas.{from_limited, loaded_from, pages_of, reaches}
 use Rattle.x7_boot.proofs.TrialLemmas.{ends_here, feeds_on, feeds_ready, leaves_out, leaves_page, known_ended, known_out, known_stopped, stops_here}
 use Rattle.x7_boot.proofs.trial.try_once.Goals as goal
 
@@ -10,7 +10,7 @@ pub pages-init : goal.pages-init
 pages-init g c = record {
   feeds = c.begin-at.ensures (g.F.Flash.state c.args.flash.now).bytes c.requires.left;
   kept = c.requires.pages;
-  flash = only_at _;
+  flash = reads_at _ _;
   size = c.size-size.ensures.extent;
 }
 
@@ -30,14 +30,14 @@ pages-preserved g c =
     let extent = (g.F.Flash.state c.args.flash.now).extent in
     let below : c.pages.at < extent = omega (arith, c.if-at-size.false, c.pages.invariant.size) in
     let are = pages_of known (g.F.Flash.state c.pages.flash).bytes extent (g.F.Flash.state c.pages.flash).extent c.load.new.self.pages.entries c.pages.invariant.flash.bytes c.pages.invariant.flash.extent c.load.ensures.pages in
-    let read = block_read known (g.F.Flash.state c.pages.flash).bytes extent (g.F.Flash.state c.pages.flash).extent (c.pages.at / page_size) c.in-Ok.count c.load.new.self.block.items c.pages.invariant.flash.bytes c.pages.invariant.flash.extent c.in-Ok.ensures.read in
+    let read = loaded_from known (g.F.Flash.state c.pages.flash).bytes extent (g.F.Flash.state c.pages.flash).extent (c.pages.at / page_size) c.load.new.self.block.items c.in_ok-loaded.loaded c.pages.invariant.flash.bytes c.pages.invariant.flash.extent c.in_ok-loaded.ensures.read in
     let from = c.bytes_from-bytes.ensures known extent below are read in
     let t = c.take_page.ensures c.args.device.now.part c.args.keep f.bytes f.stands f.going f.open_end in
     record {
       feeds = feeds_on c.args.device.now.part c.args.keep c.args.address (g.F.Flash.state c.args.flash.now).bytes c.pages.device c.take_page.new.device c.bytes_from-bytes.result.now c.pages.at (c.pages.at + length c.bytes_from-bytes.result.now) c.take_page.result refl
           (from_limited known extent c.pages.at c.bytes_from-bytes.result.now c.requires.limit from) f from.told t c.in-Goes.is;
       kept = are;
-      flash = only_on _ _ _ c.pages.invariant.flash c.in-Ok.ensures.flash;
+      flash = reads_on _ _ _ _ _ _ c.pages.invariant.flash c.in_ok-loaded.ensures.flash;
       size = c.pages.invariant.size;
     }
 
@@ -48,7 +48,7 @@ returns-in-Ends-clause-tried g c =
     let extent = (g.F.Flash.state c.args.flash.now).extent in
     let below : c.pages.at < extent = omega (arith, c.if-at-size.false, c.pages.invariant.size) in
     let are = pages_of known (g.F.Flash.state c.pages.flash).bytes extent (g.F.Flash.state c.pages.flash).extent c.load.new.self.pages.entries c.pages.invariant.flash.bytes c.pages.invariant.flash.extent c.load.ensures.pages in
-    let read = block_read known (g.F.Flash.state c.pages.flash).bytes extent (g.F.Flash.state c.pages.flash).extent (c.pages.at / page_size) c.in-Ok.count c.load.new.self.block.items c.pages.invariant.flash.bytes c.pages.invariant.flash.extent c.in-Ok.ensures.read in
+    let read = loaded_from known (g.F.Flash.state c.pages.flash).bytes extent (g.F.Flash.state c.pages.flash).extent (c.pages.at / page_size) c.load.new.self.block.items c.in_ok-loaded.loaded c.pages.invariant.flash.bytes c.pages.invariant.flash.extent c.in_ok-loaded.ensures.read in
     let from = c.bytes_from-bytes.ensures known extent below are read in
     let t = c.take_page.ensures c.args.device.now.part c.args.keep f.bytes f.stands f.going f.open_end in
     known_ended c.args.device.now.part c.args.keep c.args.address (g.F.Flash.state c.args.flash.now).bytes c.pages.device c.take_page.new.device c.bytes_from-bytes.result.now c.pages.at c.take_page.result c.in-Ends.ending f from.told t c.in-Ends.is
@@ -65,7 +65,7 @@ returns-in-Stops-clause-tried g c =
     let extent = (g.F.Flash.state c.args.flash.now).extent in
     let below : c.pages.at < extent = omega (arith, c.if-at-size.false, c.pages.invariant.size) in
     let are = pages_of known (g.F.Flash.state c.pages.flash).bytes extent (g.F.Flash.state c.pages.flash).extent c.load.new.self.pages.entries c.pages.invariant.flash.bytes c.pages.invariant.flash.extent c.load.ensures.pages in
-    let read = block_read known (g.F.Flash.state c.pages.flash).bytes extent (g.F.Flash.state c.pages.flash).extent (c.pages.at / page_size) c.in-Ok.count c.load.new.self.block.items c.pages.invariant.flash.bytes c.pages.invariant.flash.extent c.in-Ok.ensures.read in
+    let read = loaded_from known (g.F.Flash.state c.pages.flash).bytes extent (g.F.Flash.state c.pages.flash).extent (c.pages.at / page_size) c.load.new.self.block.items c.in_ok-loaded.loaded c.pages.invariant.flash.bytes c.pages.invariant.flash.extent c.in_ok-loaded.ensures.read in
     let from = c.bytes_from-bytes.ensures known extent below are read in
     let t = c.take_page.ensures c.args.device.now.part c.args.keep f.bytes f.stands f.going f.open_end in
     known_stopped c.args.device.now.part c.args.keep c.args.address (g.F.Flash.state c.args.flash.now).bytes c.pages.device c.take_page.new.device c.run_out-in-Stops.new.device c.bytes_from-bytes.result.now c.pages.at c.take_page.result c.run_out-in-Stops.result f from.told t c.in-Stops.is
@@ -83,7 +83,7 @@ returns-in-Ends-clause-leaves g c =
     let extent = (g.F.Flash.state c.args.flash.now).extent in
     let below : c.pages.at < extent = omega (arith, c.if-at-size.false, c.pages.invariant.size) in
     let are = pages_of known (g.F.Flash.state c.pages.flash).bytes extent (g.F.Flash.state c.pages.flash).extent c.load.new.self.pages.entries c.pages.invariant.flash.bytes c.pages.invariant.flash.extent c.load.ensures.pages in
-    let read = block_read known (g.F.Flash.state c.pages.flash).bytes extent (g.F.Flash.state c.pages.flash).extent (c.pages.at / page_size) c.in-Ok.count c.load.new.self.block.items c.pages.invariant.flash.bytes c.pages.invariant.flash.extent c.in-Ok.ensures.read in
+    let read = loaded_from known (g.F.Flash.state c.pages.flash).bytes extent (g.F.Flash.state c.pages.flash).extent (c.pages.at / page_size) c.load.new.self.block.items c.in_ok-loaded.loaded c.pages.invariant.flash.bytes c.pages.invariant.flash.extent c.in_ok-loaded.ensures.read in
     let from = c.bytes_from-bytes.ensures known extent below are read in
     let t = c.take_page.ensures c.args.device.now.part c.args.keep f.bytes f.stands f.going f.open_end in
     leaves_page c.args.device.now.part c.args.keep false c.args.address known c.pages.device c.take_page.new.device c.take_page.new.device c.bytes_from-bytes.result.now c.pages.at c.take_page.result f
@@ -96,7 +96,7 @@ returns-in-Stops-clause-leaves g c =
     let extent = (g.F.Flash.state c.args.flash.now).extent in
     let below : c.pages.at < extent = omega (arith, c.if-at-size.false, c.pages.invariant.size) in
     let are = pages_of known (g.F.Flash.state c.pages.flash).bytes extent (g.F.Flash.state c.pages.flash).extent c.load.new.self.pages.entries c.pages.invariant.flash.bytes c.pages.invariant.flash.extent c.load.ensures.pages in
-    let read = block_read known (g.F.Flash.state c.pages.flash).bytes extent (g.F.Flash.state c.pages.flash).extent (c.pages.at / page_size) c.in-Ok.count c.load.new.self.block.items c.pages.invariant.flash.bytes c.pages.invariant.flash.extent c.in-Ok.ensures.read in
+    let read = loaded_from known (g.F.Flash.state c.pages.flash).bytes extent (g.F.Flash.state c.pages.flash).extent (c.pages.at / page_size) c.load.new.self.block.items c.in_ok-loaded.loaded c.pages.invariant.flash.bytes c.pages.invariant.flash.extent c.in_ok-loaded.ensures.read in
     let from = c.bytes_from-bytes.ensures known extent below are read in
     let t = c.take_page.ensures c.args.device.now.part c.args.keep f.bytes f.stands f.going f.open_end in
     leaves_page c.args.device.now.part c.args.keep true c.args.address known c.pages.device c.take_page.new.device c.run_out-in-Stops.new.device c.bytes_from-bytes.result.now c.pages.at c.take_page.result f
@@ -116,7 +116,7 @@ take_page-requires g c =
     let extent = (g.F.Flash.state c.args.flash.now).extent in
     let below : c.pages.at < extent = omega (arith, c.if-at-size.false, c.pages.invariant.size) in
     let are = pages_of known (g.F.Flash.state c.pages.flash).bytes extent (g.F.Flash.state c.pages.flash).extent c.load.new.self.pages.entries c.pages.invariant.flash.bytes c.pages.invariant.flash.extent c.load.ensures.pages in
-    let read = block_read known (g.F.Flash.state c.pages.flash).bytes extent (g.F.Flash.state c.pages.flash).extent (c.pages.at / page_size) c.in-Ok.count c.load.new.self.block.items c.pages.invariant.flash.bytes c.pages.invariant.flash.extent c.in-Ok.ensures.read in
+    let read = loaded_from known (g.F.Flash.state c.pages.flash).bytes extent (g.F.Flash.state c.pages.flash).extent (c.pages.at / page_size) c.load.new.self.block.items c.in_ok-loaded.loaded c.pages.invariant.flash.bytes c.pages.invariant.flash.extent c.in_ok-loaded.ensures.read in
     let from = c.bytes_from-bytes.ensures known extent below are read in
     feeds_ready c.args.device.now.part c.args.keep c.args.address known c.pages.device c.pages.at (length c.bytes_from-bytes.result.now)
     (let limit = from_limited known extent c.pages.at c.bytes_from-bytes.result.now c.requires.limit from in omega (arith, limit)) c.pages.invariant.feeds
@@ -127,10 +127,24 @@ pages-smaller g c =
     let extent = (g.F.Flash.state c.args.flash.now).extent in
     let below : c.pages.at < extent = omega (arith, c.if-at-size.false, c.pages.invariant.size) in
     let are = pages_of known (g.F.Flash.state c.pages.flash).bytes extent (g.F.Flash.state c.pages.flash).extent c.load.new.self.pages.entries c.pages.invariant.flash.bytes c.pages.invariant.flash.extent c.load.ensures.pages in
-    let read = block_read known (g.F.Flash.state c.pages.flash).bytes extent (g.F.Flash.state c.pages.flash).extent (c.pages.at / page_size) c.in-Ok.count c.load.new.self.block.items c.pages.invariant.flash.bytes c.pages.invariant.flash.extent c.in-Ok.ensures.read in
+    let read = loaded_from known (g.F.Flash.state c.pages.flash).bytes extent (g.F.Flash.state c.pages.flash).extent (c.pages.at / page_size) c.load.new.self.block.items c.in_ok-loaded.loaded c.pages.invariant.flash.bytes c.pages.invariant.flash.extent c.in_ok-loaded.ensures.read in
     let from = c.bytes_from-bytes.ensures known extent below are read in
     let some = from.some in
     omega (arith, some, c.if-at-size.false)
 
 pub begin-at-requires : goal.begin-at-requires
 begin-at-requires g c = let left = c.requires.left in let few = left.few in let taken = left.stands.taken_is in omega (arith, few, taken)
+
+pub bytes_from-bytes-requires-clause-block : goal.bytes_from-bytes-requires-clause-block
+bytes_from-bytes-requires-clause-block g c =
+    reaches (g.F.Flash.state c.pages.flash).bytes (g.F.Flash.state c.pages.flash).extent c.pages.at c.load.new.self.block.items c.in_ok-loaded.loaded
+    (omega (arith, c.if-at-size.false, c.pages.invariant.size, c.pages.invariant.flash.extent)) c.in_ok-loaded.ensures.read
+
+pub bytes_from-bytes-requires-clause-page : goal.bytes_from-bytes-requires-clause-page
+bytes_from-bytes-requires-clause-page g c = record {
+  known = (g.F.Flash.state c.pages.flash).bytes;
+  extent = (g.F.Flash.state c.pages.flash).extent;
+  are = c.load.ensures.pages;
+  within = omega (arith, c.if-at-size.false, c.pages.invariant.size, c.pages.invariant.flash.extent);
+  there = c.in_ok-loaded.ensures.there;
+}

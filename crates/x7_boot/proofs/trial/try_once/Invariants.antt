@@ -1,5 +1,5 @@
 use Rattle.std.proofs.Common.{◌≡◌, ◌-◌, ◌≤◌}
-use Rattle.x7_words.specs.Flash.{OnlyFaults}
+use Rattle.x7_words.specs.Flash.{OnlyReads}
 use Rattle.x7_boot.specs.Attempt.{Feeds}
 use Rattle.x7_boot.specs.Pages.{ArePages}
 use Rattle.x7_boot.proofs.trial.try_once.Given as goal
@@ -10,7 +10,7 @@ invariant-pages g l =
     record {
       feeds : Feeds l.fn.device.part l.fn.keep l.fn.address (f.state l.fn.flash).bytes l.device l.at;
       kept : ArePages (f.state l.fn.flash).bytes (f.state l.fn.flash).extent l.pages.pages.entries;
-      flash : OnlyFaults (f.state l.fn.flash) (f.state l.flash);
+      flash : OnlyReads (f.state l.fn.flash) (f.state l.flash) (f.found_since l.fn.flash) (f.found_since l.flash);
       size : l.size ≡ (f.state l.fn.flash).extent;
     }
 

@@ -1,11 +1,13 @@
-use Rattle.std.proofs.Common.{◌<◌, arith}
+use Rattle.std.proofs.Common.{◌/◌, ◌<◌, subst}
+use Rattle.x7_boot.specs.Pages.{IsBlock, IsLoaded, page_size}
 use Rattle.x7_boot.proofs.PageLemmas.{from_block, from_rest}
 use Rattle.x7_boot.proofs.cache.PageCache.bytes_from.Goals as goal
 
-pub returns-then-count-gt0 : goal.returns-then-count-gt0
-returns-then-count-gt0 c = λ known extent within are block.
-    let some : 0 < c.args.count = omega (arith, c.if-count-gt0.true) in
-    from_block known extent c.args.at c.args.count c.args.self.now.block.items c.deref.result.now within some (block some) c.deref.ensures.value
+pub returns-in-Read : goal.returns-in-Read
+returns-in-Read c = λ known extent within are read.
+    let r : (0 < c.in-Read.field-0) × IsBlock known extent (c.args.at / page_size) c.in-Read.field-0 c.args.self.now.block.items =
+    subst (IsLoaded known extent (c.args.at / page_size) c.args.self.now.block.items) c.in-Read.is read in
+    from_block known extent c.args.at c.in-Read.field-0 c.args.self.now.block.items c.deref.result.now within r.0 r.1 c.deref.ensures.value
 
-pub returns : goal.returns
-returns c = λ known extent within are block. from_rest known extent c.args.at c.rest_of_page.result.now within (c.rest_of_page.ensures known extent are within)
+pub returns-in-Kept : goal.returns-in-Kept
+returns-in-Kept c = λ known extent within are read. from_rest known extent c.args.at c.rest_of_page.result.now within (c.rest_of_page.ensures known extent are within)

@@ -1,0 +1,23 @@
+-- A small part, and a plan of no frame: laws on parts, plans and images speak of something (this project's choice).
+use Rattle.std.specs.Prelude.{[], ◌∷◌}
+use Rattle.x7_part.specs.Part.{PartData, RowData, FieldWidths}
+use Rattle.x7_memory.specs.Planned.{PlanData}
+
+-- two rows of one column of two frames each
+abbrev pub tiny : PartData
+tiny = record {
+  name = 0x74 ∷ [];
+  idcode = 0x0362D093;
+  mode = 1;
+  bus_width = 0;
+  lock = 0;
+  matched = 0;
+  words = 101;
+  far = record { minor = 7; column = 10; row = 5; half = 1; block = 3 };
+  start_unit = 1;
+  rows = record { block = 0; half = 0; row = 0; minors = 2 ∷ [] } ∷ record { block = 0; half = 1; row = 0; minors = 2 ∷ [] } ∷ [];
+}
+
+-- a plan of no frame
+abbrev pub nothing_planned : PlanData
+nothing_planned = record { width = 101; rows = [] }
