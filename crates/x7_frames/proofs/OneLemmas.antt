@@ -24,7 +24,7 @@ use Rattle.x7_frames.specs.declared.fault.FramesFault.TheVariants as fault
 row-is : (a b : PlanRow) → a.far ≡ b.far → a.words ≡ b.words → a ≡ b
 row-is a b e f = ap₂ (λ (x : ℕ) (w : List ℕ). let r : PlanRow = record { far = x; words = w } in r) e f
 
-one-row : (width : ℕ) (line : List ℕ) (a b : PlanRow) → IsFrameLine width line a → IsFrameLine width line b → a ≡ b
+pub one-row : (width : ℕ) (line : List ℕ) (a b : PlanRow) → IsFrameLine width line a → IsFrameLine width line b → a ≡ b
 one-row width line a b is other =
     let e : frame_head a.far ++ is.digits ≡ frame_head b.far ++ other.digits = sym is.is ∙ other.is in
     let head : frame_head a.far ≡ frame_head b.far = same_front (frame_head a.far) (frame_head b.far) is.digits other.digits refl e in
@@ -36,7 +36,7 @@ one-row width line a b is other =
 no-comment : (width : ℕ) (line : List ℕ) (row : PlanRow) → IsFrameLine width line row → means_nothing line ≡ true → ⊥
 no-comment width line row is e = false≢true (sym (ap means_nothing is.is) ∙ e)
 
-one-rows : (width : ℕ) (lines others : List (List ℕ)) (xs ys : List PlanRow) → lines ≡ others → AreLines width lines xs → AreLines width others ys → xs ≡ ys
+pub one-rows : (width : ℕ) (lines others : List (List ℕ)) (xs ys : List PlanRow) → lines ≡ others → AreLines width lines xs → AreLines width others ys → xs ≡ ys
 one-rows width _ _ _ _ e (no_line w) (no_line v) = refl
 one-rows width _ _ _ _ e (no_line w) (no_frame v t ts ys g rest) = absurd cc
 one-rows width _ _ _ _ e (no_line w) (frame v t ts b ys is rest) = absurd cc

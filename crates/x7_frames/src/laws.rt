@@ -5,10 +5,11 @@ ghost use Rattle.x7_memory.specs.Planned.{IsPlanFor, PlanData};
 ghost use Rattle.x7_frames.specs.FramesText.{IsPlanOf, plan_text};
 ghost use Rattle.x7_frames.specs.declared.fault.FramesFault.{FramesFault};
 
-/// A text has at most one plan, and one that has a plan has no fault.
+/// A text comes to one thing: it has at most one plan, one that has a plan has no fault, and another has one fault.
 pub fn one_plan()
     ensures plan { (part : PartData) (text : List ℕ) (p q : PlanData) → IsPlanOf part text (Ok p) → IsPlanOf part text (Ok q) → p ≡ q }
     ensures fault { (part : PartData) (text : List ℕ) (p : PlanData) (fault : FramesFault) → IsPlanOf part text (Ok p) → IsPlanOf part text (Err fault) → ⊥ }
+    ensures one_fault { (part : PartData) (text : List ℕ) (f g : FramesFault) → IsPlanOf part text (Err f) → IsPlanOf part text (Err g) → f ≡ g }
 {}
 
 /// The text of a plan for the part is that of the plan.

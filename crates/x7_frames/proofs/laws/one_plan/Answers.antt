@@ -1,3 +1,4 @@
+use Rattle.x7_frames.proofs.OneFaultLemmas.{one-fault}
 use Rattle.x7_frames.proofs.OneLemmas.{no-fault, one-plan}
 use Rattle.x7_frames.proofs.laws.one_plan.Goals as goal
 
@@ -6,3 +7,6 @@ returns-clause-plan c = one-plan
 
 pub returns-clause-fault : goal.returns-clause-fault
 returns-clause-fault c = no-fault
+
+pub returns-clause-one_fault : goal.returns-clause-one_fault
+returns-clause-one_fault c = one-fault
