@@ -8,9 +8,9 @@ use x7_tool::run;
 use x7_words::{MemoryFlash, MemoryInputs, MemorySink};
 
 /// The files of cases, each with the end `.txt`.
-const SUBJECTS: [&str; 16] = [
+const SUBJECTS: [&str; 17] = [
     "list", "asm", "play", "frames", "startup", "mcs", "plan", "partial", "image", "boot",
-    "attempts", "chains", "parts", "debug", "faults", "limits",
+    "attempts", "chains", "parts", "debug", "faults", "damaged", "limits",
 ];
 
 /// The command `x7`.

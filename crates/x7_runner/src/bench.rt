@@ -2,7 +2,7 @@
 use crate::case::Case;
 use crate::command::Command;
 use crate::comparing::compare;
-use crate::failing::{compare_failed, compare_spared};
+use crate::failing::{Blamed, compare_failed, compare_spared};
 use crate::fault::Fault;
 use crate::named::Named;
 use crate::notes::Notes;
@@ -45,12 +45,13 @@ impl<'a> Bench<'a> {
         compare(notes, &self.case.outside, &self.case.expected, turn, ending)
     }
 
-    /// One run in which a call of the object fails, beside the whole run. True where the run had no such call.
+    /// One run in which a call fails, beside the whole run. True where the run had no such call.
     fn is_past<C: Command>(
         &self,
         command: &C,
         notes: &mut Notes,
         turn: &Turn,
+        blamed: &mut Blamed,
         whole: &Ending,
         came: &mut Ending,
     ) -> Result<bool, Fault> {
@@ -59,28 +60,64 @@ impl<'a> Bench<'a> {
             compare_spared(notes, whole, came)?;
         } else {
             let words = &self.case.outside.words;
-            compare_failed(notes, words, turn.object, whole, came)?;
+            compare_failed(notes, words, blamed, turn.object, whole, came)?;
         }
         Ok(came.is_spared)
     }
 
     /// Runs with each call of the object failing in turn, until a run has no such call.
-    fn run_each<C: Command>(
+    fn run_calls<C: Command>(
         &self,
         command: &C,
         notes: &mut Notes,
-        piece: u32,
-        object: Object,
+        turn: &Turn,
+        blamed: &mut Blamed,
         whole: &Ending,
         came: &mut Ending,
     ) -> Result<(), Fault> {
         for call in 1..=1_000_000u64 {
-            let turn = Turn::new(piece, object, call);
-            if self.is_past(command, notes, &turn, whole, came)? {
+            let failing = turn.failing(turn.object, call);
+            if self.is_past(command, notes, &failing, blamed, whole, came)? {
                 return Ok(());
             }
         }
         notes.compare("fails_each", "an end", "none")
+    }
+
+    /// Runs with each call of the object failing in turn. Where the whole run reads all that the words name, each
+    /// of these inputs fails in one of them.
+    fn run_each<C: Command>(
+        &self,
+        command: &C,
+        notes: &mut Notes,
+        turn: &Turn,
+        whole: &Ending,
+        came: &mut Ending,
+    ) -> Result<(), Fault> {
+        let mut blamed = Blamed::new(self.alloc);
+        self.run_calls(command, notes, turn, &mut blamed, whole, came)?;
+        if turn.object != Object::In || whole.status > 1 {
+            return Ok(());
+        }
+        let words = &self.case.outside.words;
+        blamed.compare_all(notes, words, self.shared)?;
+        blamed.compare_all(notes, words, &self.case.outside.inputs)
+    }
+
+    /// Runs in pieces of other sizes, which should come to the same as the whole run.
+    fn run_alike<C: Command>(
+        &self,
+        command: &C,
+        notes: &mut Notes,
+        turn: &Turn,
+        whole: &Ending,
+        came: &mut Ending,
+    ) -> Result<(), Fault> {
+        for piece in &self.case.outside.alike {
+            self.ran(command, notes, &turn.in_pieces(*piece), came)?;
+            compare_spared(notes, whole, came)?;
+        }
+        Ok(())
     }
 
     /// The run without a failing call, and those that stand beside it.
@@ -88,33 +125,71 @@ impl<'a> Bench<'a> {
         &self,
         command: &C,
         notes: &mut Notes,
-        piece: u32,
+        turn: &Turn,
         whole: &mut Ending,
         came: &mut Ending,
     ) -> Result<(), Fault> {
-        let turn = Turn::new(piece, Object::In, 0);
-        self.compared(command, notes, &turn, whole)?;
+        self.compared(command, notes, turn, whole)?;
+        self.run_alike(command, notes, turn, whole, came)?;
         for object in &self.case.outside.each {
-            self.run_each(command, notes, piece, *object, whole, came)?;
+            let failing = turn.failing(*object, 0);
+            self.run_each(command, notes, &failing, whole, came)?;
         }
         Ok(())
     }
 
-    /// All runs whose reads give at most so many bytes.
+    /// A run in which a call fails, and where `err` is among those that fail in turn, one in which it fails too.
+    fn run_failing<C: Command>(
+        &self,
+        command: &C,
+        notes: &mut Notes,
+        turn: &Turn,
+        came: &mut Ending,
+    ) -> Result<(), Fault> {
+        self.compared(command, notes, turn, came)?;
+        for object in &self.case.outside.each {
+            if *object == Object::Err {
+                self.compared(command, notes, &turn.mute(), came)?;
+            }
+        }
+        Ok(())
+    }
+
+    /// All runs whose reads give so many bytes, and whose input has one damage.
     fn run_piece<C: Command>(
         &self,
         command: &C,
         notes: &mut Notes,
-        piece: u32,
+        turn: &Turn,
         whole: &mut Ending,
         came: &mut Ending,
     ) -> Result<(), Fault> {
         if self.case.outside.failing.is_empty() {
-            return self.run_whole(command, notes, piece, whole, came);
+            return self.run_whole(command, notes, turn, whole, came);
         }
         for failing in &self.case.outside.failing {
-            let turn = Turn::new(piece, failing.object, failing.call);
-            self.compared(command, notes, &turn, came)?;
+            let failed = turn.failing(failing.object, failing.call);
+            self.run_failing(command, notes, &failed, came)?;
+        }
+        Ok(())
+    }
+
+    /// All runs with one damage of an input, or with none.
+    fn run_pieces<C: Command>(
+        &self,
+        command: &C,
+        notes: &mut Notes,
+        damage: Option<u32>,
+        whole: &mut Ending,
+        came: &mut Ending,
+    ) -> Result<(), Fault> {
+        if self.case.outside.pieces.is_empty() {
+            let turn = Turn::new(damage, u32::MAX);
+            return self.run_piece(command, notes, &turn, whole, came);
+        }
+        for piece in &self.case.outside.pieces {
+            let turn = Turn::new(damage, *piece);
+            self.run_piece(command, notes, &turn, whole, came)?;
         }
         Ok(())
     }
@@ -127,11 +202,11 @@ impl<'a> Bench<'a> {
         whole: &mut Ending,
         came: &mut Ending,
     ) -> Result<(), Fault> {
-        if self.case.outside.pieces.is_empty() {
-            return self.run_piece(command, notes, u32::MAX, whole, came);
-        }
-        for piece in &self.case.outside.pieces {
-            self.run_piece(command, notes, *piece, whole, came)?;
+        let Some(damaged) = self.case.outside.damaged.first() else {
+            return self.run_pieces(command, notes, None, whole, came);
+        };
+        for number in damaged.from..damaged.to {
+            self.run_pieces(command, notes, Some(number), whole, came)?;
         }
         Ok(())
     }

@@ -1,4 +1,5 @@
 //! A case: what a run is given, and what it should come to.
+use crate::damage::Damage;
 use crate::expected::Expected;
 use crate::fault::Fault;
 use crate::named::{Named, put_slice, slice_of};
@@ -50,6 +51,8 @@ impl Case {
         match key {
             "slice" => put_slice(self.alloc, &mut self.outside.inputs, shared, rest),
             "flash_slice" => self.outside.put_flash_slice(shared, rest),
+            "cut_each" => self.outside.put_damaged(Damage::Cut, shared, rest),
+            "change_each" => self.outside.put_damaged(Damage::Bit, shared, rest),
             "out_slice" => self.put_out_slice(shared, rest),
             "keep" => self.put_kept(rest),
             _ => self.take_plain(key, rest),

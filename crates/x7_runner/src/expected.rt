@@ -12,6 +12,8 @@ pub enum Extent {
     Prefix,
     /// The text has the lines and the length that are given.
     Parts,
+    /// Whatever it comes to: the runs beside it come to the same.
+    Any,
 }
 
 /// What a run should come to.
@@ -52,6 +54,12 @@ impl Expected {
         put_line(self.alloc, &mut self.lines, line)
     }
 
+    /// Whatever a run comes to.
+    fn put_any(&mut self) -> Result<(), Fault> {
+        self.extent = Extent::Any;
+        Ok(())
+    }
+
     /// Takes the number of bytes of the text.
     fn put_length(&mut self, number: &str) -> Result<(), Fault> {
         self.extent = Extent::Parts;
@@ -87,6 +95,7 @@ impl Expected {
             "has" => self.put_has(rest),
             "length" => self.put_length(rest),
             "prefix" => self.put_prefix(),
+            "any" => self.put_any(),
             "err" => put_line(self.alloc, &mut self.err, rest),
             "flash_after" => self.put_flash(rest),
             _ => return Ok(false),

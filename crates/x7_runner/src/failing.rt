@@ -1,15 +1,17 @@
 //! A run in which a call failed, beside the one in which none did.
 use crate::fault::Fault;
+use crate::named::{Named, has_name};
 use crate::notes::Notes;
 use crate::outside::Object;
 use crate::running::Ending;
+use std::alloc::Global;
 
 /// The status of a run in which a read failed, and of one in which a write did.
 const READ_FAULT: u64 = 6;
 
 const WRITE_FAULT: u64 = 7;
 
-/// That a run in which nothing failed is the first one again.
+/// That a run is the first one again.
 pub fn compare_spared(notes: &mut Notes, whole: &Ending, came: &Ending) -> Result<(), Fault> {
     notes.compare_numbers("status", u64::from(whole.status), u64::from(came.status))?;
     notes.compare_texts("out", &whole.out, &came.out)?;
@@ -37,21 +39,56 @@ fn name_of(message: &[u8]) -> Option<&[u8]> {
         .strip_suffix(b"\n")
 }
 
-/// Whether the name is one of the words behind the first.
-fn is_word(words: &[String], name: &[u8]) -> bool {
-    for word in words.iter().skip(1) {
-        if word.as_bytes() == name {
-            return true;
-        }
-    }
-    false
+/// The inputs that the messages of read faults have named, while the calls fail in turn: by the
+/// places of their words, which only rise, since each input is read whole before the next.
+#[derive(Drop)]
+pub struct Blamed {
+    places: Vec<usize>,
 }
 
-/// Whether the message is that of a read fault, with one of the words as the name.
-fn is_read_fault(words: &[String], message: &[u8]) -> bool {
-    match name_of(message) {
-        Some(name) => is_word(words, name),
-        None => false,
+impl Blamed {
+    /// No input yet.
+    pub fn new(alloc: Global) -> Blamed {
+        Blamed {
+            places: Vec::new(alloc),
+        }
+    }
+
+    /// Takes the name that a message tells. False where it is no word at or after the one told last.
+    fn take(&mut self, words: &[String], name: &[u8]) -> Result<bool, Fault> {
+        let last = self.places.last().copied().unwrap_or(1);
+        for (place, word) in words.iter().enumerate().skip(last) {
+            if word.as_bytes() == name {
+                self.places.push(place)?;
+                return Ok(true);
+            }
+        }
+        Ok(false)
+    }
+
+    /// Whether a message told this name.
+    fn has(&self, words: &[String], name: &str) -> bool {
+        for place in &self.places {
+            if words.get(*place).is_some_and(|word| word.as_str() == name) {
+                return true;
+            }
+        }
+        false
+    }
+
+    /// That each of these inputs that the words name was told.
+    pub fn compare_all(
+        &self,
+        notes: &mut Notes,
+        words: &[String],
+        inputs: &[Named],
+    ) -> Result<(), Fault> {
+        for word in words.iter().skip(1) {
+            if has_name(inputs, word.as_str()) && !self.has(words, word.as_str()) {
+                notes.compare("fails_each in", word.as_str(), "no read fault of this name")?;
+            }
+        }
+        Ok(())
     }
 }
 
@@ -67,12 +104,17 @@ fn out_after_read_fault<'a>(words: &[String], whole: &'a Ending) -> &'a [u8] {
 fn compare_read_failed(
     notes: &mut Notes,
     words: &[String],
+    blamed: &mut Blamed,
     whole: &Ending,
     came: &Ending,
 ) -> Result<(), Fault> {
     notes.compare_numbers("status", READ_FAULT, u64::from(came.status))?;
     notes.compare_prefix("out", out_after_read_fault(words, whole), &came.out)?;
-    if !is_read_fault(words, &came.err) {
+    let is_named = match name_of(&came.err) {
+        Some(name) => blamed.take(words, name)?,
+        None => false,
+    };
+    if !is_named {
         notes.compare_texts("err", b"x7: read fault NAME\n", &came.err)?;
     }
     Ok(())
@@ -82,6 +124,7 @@ fn compare_read_failed(
 pub fn compare_failed(
     notes: &mut Notes,
     words: &[String],
+    blamed: &mut Blamed,
     object: Object,
     whole: &Ending,
     came: &Ending,
@@ -89,6 +132,6 @@ pub fn compare_failed(
     match object {
         Object::Err => compare_err_failed(notes, whole, came),
         Object::Out => compare_out_failed(notes, whole, came),
-        Object::In | Object::Flash => compare_read_failed(notes, words, whole, came),
+        Object::In | Object::Flash => compare_read_failed(notes, words, blamed, whole, came),
     }
 }

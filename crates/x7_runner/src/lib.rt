@@ -5,6 +5,7 @@ mod bench;
 mod case;
 mod command;
 mod comparing;
+mod damage;
 mod expected;
 mod failing;
 mod fault;

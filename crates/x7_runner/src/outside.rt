@@ -1,4 +1,5 @@
 //! What a run is given: words, inputs, a flash, and what fails.
+use crate::damage::{Damage, Damaged};
 use crate::fault::Fault;
 use crate::named::{Named, put_bytes, put_slice, put_text, put_texts};
 use crate::token::positive;
@@ -49,10 +50,14 @@ pub struct Outside {
     alloc: Global,
     pub words: Vec<String>,
     pub inputs: Vec<Named>,
+    /// At most one: an input that has another damage in each run.
+    pub damaged: Vec<Damaged>,
     /// At most one.
     pub flash: Vec<Named>,
     /// The most bytes of one read: a run for each, or one run without a limit.
     pub pieces: Vec<u32>,
+    /// The most bytes of one read of a run that should come to the same as the one beside it.
+    pub alike: Vec<u32>,
     /// The most bytes of one write.
     pub write_piece: u32,
     /// A run for each, or one run without a failing call.
@@ -70,8 +75,10 @@ impl Outside {
             alloc,
             words: Vec::new(alloc),
             inputs: Vec::new(alloc),
+            damaged: Vec::new(alloc),
             flash: Vec::new(alloc),
             pieces: Vec::new(alloc),
+            alike: Vec::new(alloc),
             write_piece: u32::MAX,
             failing: Vec::new(alloc),
             each: Vec::new(alloc),
@@ -92,6 +99,29 @@ impl Outside {
         for number in numbers.split(' ') {
             self.pieces.push(positive(number)?)?;
         }
+        Ok(())
+    }
+
+    /// Appends sizes of pieces of runs that should come to the same.
+    fn put_alike(&mut self, numbers: &str) -> Result<(), Fault> {
+        for number in numbers.split(' ') {
+            self.alike.push(positive(number)?)?;
+        }
+        Ok(())
+    }
+
+    /// Takes an input that is damaged in many ways; there is at most one.
+    pub fn put_damaged(
+        &mut self,
+        damage: Damage,
+        shared: &[Named],
+        line: &str,
+    ) -> Result<(), Fault> {
+        if !self.damaged.is_empty() {
+            return Err(Fault::Line);
+        }
+        self.damaged
+            .push(Damaged::new(self.alloc, damage, shared, line)?)?;
         Ok(())
     }
 
@@ -167,6 +197,7 @@ impl Outside {
             "text_lines" => put_texts(self.alloc, &mut self.inputs, rest),
             "flash" => self.put_flash(rest),
             "piece" => self.put_pieces(rest),
+            "alike" => self.put_alike(rest),
             "write_piece" => self.put_write_piece(rest),
             "room" => self.put_room(rest),
             _ => return self.take_failing(key, rest),

@@ -1,5 +1,6 @@
 //! One run of the command over objects in memory.
 use crate::command::Command;
+use crate::damage::Damaged;
 use crate::fault::Fault;
 use crate::named::Named;
 use crate::outside::{Object, Outside};
@@ -7,28 +8,59 @@ use std::alloc::Global;
 use x7_words::{Flash, Inputs, MemoryFlash, MemoryInputs, MemorySink, SelectFault, Sink};
 
 /// What differs from run to run of one case.
-#[derive(Drop)]
+#[derive(Clone, Copy, Drop)]
 pub struct Turn {
+    /// The number of the damage that an input has, where the case damages one.
+    damage: Option<u32>,
     /// The most bytes of one read.
     piece: u32,
     /// The object whose call fails.
     pub object: Object,
     /// The number of that call, 0 for none.
     call: u64,
+    /// Whether the first call of `err` fails too.
+    is_mute: bool,
 }
 
 impl Turn {
-    /// Reads of so many bytes, and this call of the object failing.
-    pub fn new(piece: u32, object: Object, call: u64) -> Turn {
+    /// This damage, reads of so many bytes, and no call that fails.
+    pub fn new(damage: Option<u32>, piece: u32) -> Turn {
         Turn {
+            damage,
             piece,
+            object: Object::In,
+            call: 0,
+            is_mute: false,
+        }
+    }
+
+    /// The same with this call of the object failing.
+    pub fn failing(self, object: Object, call: u64) -> Turn {
+        Turn {
             object,
             call,
+            ..self
+        }
+    }
+
+    /// The same with reads of so many bytes.
+    pub fn in_pieces(self, piece: u32) -> Turn {
+        Turn { piece, ..self }
+    }
+
+    /// The same with the first call of `err` failing too.
+    pub fn mute(self) -> Turn {
+        Turn {
+            is_mute: true,
+            ..self
         }
     }
 
     /// What differs, as it is printed behind a case's name.
     pub fn put_name(&self, name: &mut String) -> Result<(), Fault> {
+        if let Some(number) = self.damage {
+            write!(name, ", damage {number}")?;
+        }
         if self.piece != u32::MAX {
             let piece = self.piece;
             write!(name, ", piece {piece}")?;
@@ -37,12 +69,19 @@ impl Turn {
             let (object, call) = (self.object.name(), self.call);
             write!(name, ", {object} call {call} fails")?;
         }
+        if self.is_mute {
+            name.push_str(", and err fails")?;
+        }
         Ok(())
     }
 
     /// The number of the object's call that fails, 0 for none.
     pub fn call_of(&self, object: Object) -> u64 {
-        if self.object == object { self.call } else { 0 }
+        if self.object == object && self.call > 0 {
+            self.call
+        } else {
+            u64::from(self.is_mute && object == Object::Err)
+        }
     }
 }
 
@@ -88,15 +127,31 @@ fn put_all(inputs: &mut MemoryInputs, list: &[Named]) -> Result<(), Fault> {
     Ok(())
 }
 
+/// Puts the damaged input, where the case has one.
+fn put_damaged(
+    inputs: &mut MemoryInputs,
+    alloc: Global,
+    damaged: &[Damaged],
+    turn: &Turn,
+) -> Result<(), Fault> {
+    if let (Some(damaged), Some(number)) = (damaged.first(), turn.damage) {
+        let bytes = damaged.bytes_of(alloc, number)?;
+        inputs.put(damaged.name.as_str(), &bytes)?;
+    }
+    Ok(())
+}
+
 /// Puts the inputs of the file of cases, and the case's own, which come before them.
 fn put_inputs(
     inputs: &mut MemoryInputs,
+    alloc: Global,
     shared: &[Named],
-    own: &[Named],
+    given: &Outside,
     turn: &Turn,
 ) -> Result<(), Fault> {
     put_all(inputs, shared)?;
-    put_all(inputs, own)?;
+    put_all(inputs, &given.inputs)?;
+    put_damaged(inputs, alloc, &given.damaged, turn)?;
     if turn.piece > 0 {
         inputs.piece(turn.piece as usize);
     }
@@ -144,8 +199,14 @@ impl Objects {
     }
 
     /// Puts the inputs, and says what each call takes and which of them fails.
-    fn prepare(&mut self, shared: &[Named], given: &Outside, turn: &Turn) -> Result<(), Fault> {
-        put_inputs(&mut self.inputs, shared, &given.inputs, turn)?;
+    fn prepare(
+        &mut self,
+        alloc: Global,
+        shared: &[Named],
+        given: &Outside,
+        turn: &Turn,
+    ) -> Result<(), Fault> {
+        put_inputs(&mut self.inputs, alloc, shared, given, turn)?;
         self.flash.fail_at(turn.call_of(Object::Flash))?;
         let piece = given.write_piece;
         limit(&mut self.out, piece, turn.call_of(Object::Out))?;
@@ -194,7 +255,7 @@ pub fn ran<C: Command>(
     ending: &mut Ending,
 ) -> Result<(), Fault> {
     let mut objects = Objects::new(alloc, given)?;
-    objects.prepare(shared, given, turn)?;
+    objects.prepare(alloc, shared, given, turn)?;
     ending.status = objects.run(command, alloc, &given.words);
     objects.leave(turn, ending)
 }

@@ -5,7 +5,7 @@
 use crate::command::Command;
 use crate::fault::Fault;
 use crate::named::{Named, bytes_of, bytes_under, put_under};
-use crate::outside::{Object, Outside};
+use crate::outside::Outside;
 use crate::running::{Ending, Turn, ran};
 use crate::token::{first_word, positive};
 use std::alloc::Global;
@@ -62,7 +62,7 @@ fn x7<C: Command>(
     words: &str,
     ending: &mut Ending,
 ) -> Result<(), Fault> {
-    let turn = Turn::new(u32::MAX, Object::In, 0);
+    let turn = Turn::new(None, u32::MAX);
     let mut outside = Outside::new(alloc);
     put_outside(alloc, &mut outside, files, words)?;
     ran(command, alloc, files, &outside, &turn, ending)

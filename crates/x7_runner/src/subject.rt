@@ -5,7 +5,6 @@ use crate::command::Command;
 use crate::fault::Fault;
 use crate::named::{Named, has_name, put_bytes, put_under};
 use crate::notes::Notes;
-use crate::outside::Object;
 use crate::running::{Ending, Turn, ran};
 use crate::token::first_word;
 use std::alloc::Global;
@@ -35,7 +34,7 @@ fn keep<C: Command>(
     if has_name(shared, name) {
         return Err(Fault::Line);
     }
-    let turn = Turn::new(u32::MAX, Object::In, 0);
+    let turn = Turn::new(None, u32::MAX);
     let mut ending = Ending::new(alloc);
     ran(command, alloc, shared, &case.outside, &turn, &mut ending)?;
     put_under(alloc, shared, name, &ending.out)

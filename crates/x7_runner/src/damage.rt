@@ -1,0 +1,78 @@
+//! An input that is damaged in each of many ways, one after the other.
+use crate::fault::Fault;
+use crate::named::{Named, bytes_of};
+use crate::token::first_word;
+use std::alloc::Global;
+
+/// How an input is damaged.
+#[derive(Clone, Copy, Drop, PartialEq, Eq)]
+pub enum Damage {
+    /// It ends after so many bytes.
+    Cut,
+    /// This bit is changed, counted from 0 at the highest bit of its first byte.
+    Bit,
+}
+
+/// An input, and the numbers of its damages: a run for each.
+#[derive(Drop)]
+pub struct Damaged {
+    pub name: String,
+    bytes: Vec<u8>,
+    damage: Damage,
+    pub from: u32,
+    /// The first number after the last.
+    pub to: u32,
+}
+
+/// The bit with this number in its byte, from 0 at the highest.
+fn bit_of(number: u32) -> u8 {
+    match number % 8 {
+        0 => 0x80,
+        1 => 0x40,
+        2 => 0x20,
+        3 => 0x10,
+        4 => 0x08,
+        5 => 0x04,
+        6 => 0x02,
+        _ => 0x01,
+    }
+}
+
+/// Changes the bit of this number, where there is one.
+fn change_bit(bytes: &mut [u8], number: u32) {
+    let place = (number / 8) as usize;
+    if let Some(byte) = bytes.get_mut(place) {
+        *byte ^= bit_of(number);
+    }
+}
+
+impl Damaged {
+    /// The damages of `NAME OTHER FROM TO`: of the other, which stands in `others`, under the name.
+    pub fn new(
+        alloc: Global,
+        damage: Damage,
+        others: &[Named],
+        line: &str,
+    ) -> Result<Damaged, Fault> {
+        let (name, rest) = first_word(line);
+        let (other, places) = first_word(rest);
+        let (from, to) = first_word(places);
+        Ok(Damaged {
+            name: String::from_str(alloc, name)?,
+            bytes: Vec::from_slice(alloc, bytes_of(others, other)?)?,
+            damage,
+            from: from.parse::<u32>()?,
+            to: to.parse::<u32>()?,
+        })
+    }
+
+    /// The bytes with the damage of this number.
+    pub fn bytes_of(&self, alloc: Global, number: u32) -> Result<Vec<u8>, Fault> {
+        let mut bytes = Vec::from_slice(alloc, &self.bytes)?;
+        match self.damage {
+            Damage::Cut => bytes.truncate(number as usize),
+            Damage::Bit => change_bit(&mut bytes, number),
+        }
+        Ok(bytes)
+    }
+}
