@@ -1,0 +1,16 @@
+pub mod BitLemmas
+pub mod PieceLemmas
+pub mod SvfLemmas
+pub mod OutcomeLemmas
+pub mod TookLemmas
+pub mod StandingLemmas
+pub mod PortLemmas
+pub mod LawLemmas
+pub mod ShortLemmas
+pub mod PlayLemmas
+pub mod QueueLemmas
+pub mod EventLemmas
+pub mod ValueLemmas
+pub mod ByteLemmas
+pub mod GiveLemmas
+pub mod DigitLemmas

@@ -1,0 +1,48 @@
+-- The first word of a text.
+use Rattle.std.proofs.Common.{◌≡◌, ℕ, zero, suc, ◌<◌, ◌≤◌, Bool, true, false, if◌then◌else◌, List, [], ◌∷◌, length, slice_index, take, drop, refl, ap, ◌∙◌, arith}
+use Rattle.x7_jtag.specs.Pieces.{byte_mark, is_blank, is_word_byte, line_after, Piece, pieces, joined, extend, Word}
+
+-- a word's byte is no line end
+pub word-line : (c line : ℕ) → is_word_byte c ≡ true → line_after c line ≡ line
+word-line c line h = grind (arith, h)
+
+abbrev pub word_piece : ℕ → List ℕ → Piece
+word_piece line bytes = record { line = line; mark = Word bytes }
+
+front : (line c : ℕ) (cs : List ℕ) → is_word_byte c ≡ true → pieces line (c ∷ cs) ≡ joined line c cs (pieces line cs)
+front line c cs h = rw (h, word-line c line h) refl
+
+pub word-at : (line : ℕ) (xs : List ℕ) (n : ℕ) → 0 < n → n ≤ length xs
+    → ((k : ℕ) → k < n → is_word_byte (slice_index xs k) ≡ true) → (n < length xs → is_word_byte (slice_index xs n) ≡ false)
+    → pieces line xs ≡ word_piece line (take n xs) ∷ pieces line (drop n xs)
+word-at line [] n p w h s = absurd (omega (arith, p, w))
+word-at line (x ∷ xs) zero p w h s = absurd (omega (arith, p))
+word-at line (x ∷ []) (suc zero) p w h s = front line x [] (h 0 (omega arith))
+word-at line (x ∷ y ∷ ys) (suc zero) p w h s =
+    let stop : is_word_byte y ≡ false = s (omega arith) in
+    front line x (y ∷ ys) (h 0 (omega arith)) ∙ ap (λ (b : Bool). if b then extend line x (pieces line (y ∷ ys)) else word_piece line (x ∷ []) ∷ pieces line (y ∷ ys)) stop
+word-at line (x ∷ []) (suc (suc m)) p w h s = absurd (omega (arith, w))
+word-at line (x ∷ y ∷ ys) (suc (suc m)) p w h s =
+    let more : is_word_byte y ≡ true = h 1 (omega arith) in
+    let rest : pieces line (y ∷ ys) ≡ word_piece line (take (suc m) (y ∷ ys)) ∷ pieces line (drop (suc m) (y ∷ ys)) =
+    word-at line (y ∷ ys) (suc m) (omega arith) (omega (arith, w)) (λ k l. h (suc k) (omega (arith, l))) (λ l. s (omega (arith, l))) in
+    front line x (y ∷ ys) (h 0 (omega arith))
+    ∙ ap (λ (b : Bool). if b then extend line x (pieces line (y ∷ ys)) else word_piece line (x ∷ []) ∷ pieces line (y ∷ ys)) more
+    ∙ ap (extend line x) rest
+
+-- a text that begins with a blank
+blank-front : (line c : ℕ) (cs : List ℕ) → is_blank c ≡ true → pieces line (c ∷ cs) ≡ pieces (line_after c line) cs
+blank-front line c cs h = grind (arith, h)
+
+pub blank-at : (line : ℕ) (xs : List ℕ) → 0 < length xs → is_blank (slice_index xs 0) ≡ true → pieces line xs ≡ pieces (line_after (slice_index xs 0) line) (drop 1 xs)
+blank-at line [] p h = absurd (omega (arith, p))
+blank-at line (c ∷ cs) p h = blank-front line c cs h
+
+-- a text that begins with another byte
+mark-front : (line c : ℕ) (cs : List ℕ) → is_blank c ≡ false → is_word_byte c ≡ false → pieces line (c ∷ cs) ≡ record { line = line; mark = byte_mark c } ∷ pieces line cs
+mark-front line c cs h k = grind (arith, h, k)
+
+pub mark-at : (line : ℕ) (xs : List ℕ) → 0 < length xs → is_blank (slice_index xs 0) ≡ false → is_word_byte (slice_index xs 0) ≡ false
+    → pieces line xs ≡ record { line = line; mark = byte_mark (slice_index xs 0) } ∷ pieces line (drop 1 xs)
+mark-at line [] p h k = absurd (omega (arith, p))
+mark-at line (c ∷ cs) p h k = mark-front line c cs h k

@@ -1,0 +1,105 @@
+-- Lemmas on specs/Port: what a tap and its device stand for after each action.
+use Rattle.std.proofs.Common.{◌≡◌, ℕ, ◌+◌, ◌/◌, ◌%◌, ◌^◌, ◌==◌, Bool, true, false, if◌then◌else◌, List, [], ◌∷◌, ◌++◌, refl, ap, sym, subst, ◌∙◌}
+use Rattle.std.proofs.lemmas.List.Sums.{fold-append}
+use Rattle.x7_part.specs.Part.{PartData}
+use Rattle.x7_engine.specs.declared.regs.Regs.{Regs}
+use Rattle.x7_engine.specs.Kept.{on_the_bench}
+use Rattle.x7_engine.specs.Standing.{DeviceStandsFor, DeviceState}
+use Rattle.x7_engine.specs.State.{state_owing}
+use Rattle.x7_jtag.specs.declared.instruction.Instruction.{Instruction}
+use Rattle.x7_jtag.specs.declared.instruction.Instruction.TheVariants as instruction
+use Rattle.x7_jtag.specs.declared.state.State.{State}
+use Rattle.x7_jtag.specs.declared.state.State.TheVariants as state
+use Rattle.x7_jtag.specs.Instructions.{instruction_of}
+use Rattle.x7_jtag.specs.Port.{Port, acted, clocked, data_shifted, idled, new_port, port_after, programmed, words_read, status, status_of, updated, with_bit}
+use Rattle.x7_jtag.specs.Queue.{Queue, empty, offered}
+use Rattle.x7_jtag.specs.States.{Clock, next_of}
+use Rattle.x7_jtag.specs.Tap.{QueueStandsFor, QueueState, StandsForPort, TapState, TapStandsFor, Took}
+use Rattle.x7_jtag.proofs.StandingLemmas.{resets}
+use Rattle.x7_jtag.proofs.TookLemmas.{state-took}
+
+-- what a device shows, whatever words of it are due
+pub status-is : (part : PartData) (given bytes : List ℕ) (regs : Regs) (due n : ℕ) → Took part given bytes → regs ≡ state_owing part on_the_bench false bytes due → n ≡ status regs.lines.done (regs.stat / 2 ^ 12 % 2 == 1) → n ≡ status_of part given
+status-is part given bytes regs due n t e f =
+    f ∙ ap (λ (r : Regs). status r.lines.done (r.stat / 2 ^ 12 % 2 == 1)) e ∙ ap (λ (r : Regs). status r.lines.done (r.stat / 2 ^ 12 % 2 == 1)) (sym (state-took part given bytes t))
+
+-- a new tap
+pub begins : (part : PartData) (t : TapState) (d : DeviceState) → DeviceStandsFor part on_the_bench false d [] → t ≡ record { state = state.TestLogicReset; instruction = instruction.Idcode; register = 0; count = 0; queue = t.queue } → t.queue ≡ record { held = []; word = 0; left = 0 }
+    → StandsForPort part t d new_port
+begins part t d s e q = record {
+  state_is = ap (λ (x : TapState). x.state) e;
+  instruction_is = ap (λ (x : TapState). x.instruction) e;
+  register_is = ap (λ (x : TapState). x.register) e;
+  count_is = ap (λ (x : TapState). x.count) e;
+  queue_is = resets part t.queue d d part s refl (ap (λ (x : QueueState). x.held) q) (ap (λ (x : QueueState). x.left) q);
+}
+
+-- a byte that is due where eight are counted
+eighth : (part : PartData) (n : QueueState) (e : DeviceState) (p : Port) (q : Queue) (count : ℕ) → count ≡ p.count → true ≡ (count == 7) → QueueStandsFor part n e q → QueueStandsFor part n e (if p.count == 7 then q else p.queue)
+eighth part n e p q count is seven s = subst (λ (b : Bool). QueueStandsFor part n e (if b then q else p.queue)) (seven ∙ ap (λ (c : ℕ). c == 7) is) s
+
+pub idles : (part : PartData) (k n : TapState) (d e : DeviceState) (p : Port) → StandsForPort part k d p → k.instruction ≡ instruction.Jstart → true ≡ (k.count == 7) → n ≡ record k { count = (k.count + 1) % 8; queue = n.queue }
+    → QueueStandsFor part n.queue e (offered (words_read part) p.queue 255) → StandsForPort part n e (idled part p.instruction p)
+idles part k n d e p s is seven with q =
+    let P : Instruction → Type 0 = λ i. StandsForPort part n e (idled part i p) in
+    subst P (sym is ∙ s.instruction_is) (record {
+      state_is = ap (λ (x : TapState). x.state) with ∙ s.state_is;
+      instruction_is = ap (λ (x : TapState). x.instruction) with ∙ s.instruction_is;
+      register_is = ap (λ (x : TapState). x.register) with ∙ s.register_is;
+      count_is = ap (λ (x : TapState). x.count) with ∙ ap (λ (c : ℕ). (c + 1) % 8) s.count_is;
+      queue_is = eighth part n.queue e p (offered (words_read part) p.queue 255) k.count s.count_is seven q;
+    })
+
+pub completes : (part : PartData) (k n : TapState) (d e : DeviceState) (p : Port) (tdi : Bool) (byte : ℕ) → StandsForPort part k d p → byte ≡ with_bit k.register tdi → true ≡ (k.count == 7) → n ≡ record k { register = byte; count = (k.count + 1) % 8; queue = n.queue }
+    → QueueStandsFor part n.queue e (offered (words_read part) p.queue byte) → StandsForPort part n e (data_shifted part instruction.CfgIn p tdi)
+completes part k n d e p tdi byte s is seven with q =
+    let all : byte ≡ with_bit p.register tdi = is ∙ ap (λ (r : ℕ). with_bit r tdi) s.register_is in
+    record {
+      state_is = ap (λ (x : TapState). x.state) with ∙ s.state_is;
+      instruction_is = ap (λ (x : TapState). x.instruction) with ∙ s.instruction_is;
+      register_is = ap (λ (x : TapState). x.register) with ∙ all;
+      count_is = ap (λ (x : TapState). x.count) with ∙ ap (λ (c : ℕ). (c + 1) % 8) s.count_is;
+      queue_is = eighth part n.queue e p (offered (words_read part) p.queue (with_bit p.register tdi)) k.count s.count_is seven (subst (λ (b : ℕ). QueueStandsFor part n.queue e (offered (words_read part) p.queue b)) all q);
+    }
+
+-- JPROGRAM
+pub programs : (part : PartData) (k n : TapState) (d e : DeviceState) (p : Port) (i : Instruction) → StandsForPort part k d p → i ≡ instruction_of k.register → i ≡ instruction.Jprogram → n ≡ record k { instruction = i; count = 0; queue = n.queue }
+    → QueueStandsFor part n.queue e empty → StandsForPort part n e (updated p)
+programs part k n d e p i s is named with q =
+    let all : i ≡ instruction_of p.register = is ∙ ap instruction_of s.register_is in
+    record {
+      state_is = ap (λ (x : TapState). x.state) with ∙ s.state_is;
+      instruction_is = ap (λ (x : TapState). x.instruction) with ∙ all;
+      register_is = ap (λ (x : TapState). x.register) with ∙ s.register_is;
+      count_is = ap (λ (x : TapState). x.count) with;
+      queue_is = subst (λ (j : Instruction). QueueStandsFor part n.queue e (programmed j p.queue)) (sym named ∙ all) q;
+    }
+
+-- the action of the state that the tap is in
+pub acts : (part : PartData) (k n : TapState) (d e : DeviceState) (p : Port) (tdi : Bool) (s : State) → StandsForPort part k d p → k.state ≡ s → StandsForPort part n e (acted part s p tdi) → StandsForPort part n e (acted part p.state p tdi)
+acts part k n d e p tdi s t is a = subst (λ (x : State). StandsForPort part n e (acted part x p tdi)) (sym is ∙ t.state_is) a
+
+pub captures : (part : PartData) (k n : TapState) (d : DeviceState) (p : Port) (r : ℕ) → StandsForPort part k d p → r ≡ status_of part p.queue.given → n ≡ record k { register = r } → StandsForPort part n d (record p { register = status_of part p.queue.given })
+captures part k n d p r s is with = record {
+  state_is = ap (λ (x : TapState). x.state) with ∙ s.state_is;
+  instruction_is = ap (λ (x : TapState). x.instruction) with ∙ s.instruction_is;
+  register_is = ap (λ (x : TapState). x.register) with ∙ is;
+  count_is = ap (λ (x : TapState). x.count) with ∙ s.count_is;
+  queue_is = subst (λ (q : QueueState). QueueStandsFor part q d p.queue) (sym (ap (λ (x : TapState). x.queue) with)) s.queue_is;
+}
+
+-- a clock
+moves : (part : PartData) (m n : TapState) (e : DeviceState) (p : Port) (tms tdi : Bool) → StandsForPort part m e (acted part p.state p tdi) → m.state ≡ p.state → n ≡ record m { state = next_of m.state tms } → StandsForPort part n e (clocked part p (record { tms = tms; tdi = tdi }))
+moves part m n e p tms tdi s is with = record {
+  state_is = ap (λ (x : TapState). x.state) with ∙ ap (λ (x : State). next_of x tms) is;
+  instruction_is = ap (λ (x : TapState). x.instruction) with ∙ s.instruction_is;
+  register_is = ap (λ (x : TapState). x.register) with ∙ s.register_is;
+  count_is = ap (λ (x : TapState). x.count) with ∙ s.count_is;
+  queue_is = subst (λ (q : QueueState). QueueStandsFor part q e (acted part p.state p tdi).queue) (sym (ap (λ (x : TapState). x.queue) with)) s.queue_is;
+}
+
+pub clocks-on : (part : PartData) (k m n : TapState) (d e : DeviceState) (cs : List Clock) (tms tdi : Bool) → TapStandsFor part k d cs → (StandsForPort part k d (port_after part cs) → StandsForPort part m e (acted part (port_after part cs).state (port_after part cs) tdi))
+    → m.state ≡ k.state → n ≡ record m { state = next_of m.state tms } → TapStandsFor part n e (cs ++ record { tms = tms; tdi = tdi } ∷ [])
+clocks-on part k m n d e cs tms tdi s act is with =
+    let c : Clock = record { tms = tms; tdi = tdi } in
+    subst (StandsForPort part n e) (sym (fold-append (clocked part) new_port cs (c ∷ []))) (moves part m n e (port_after part cs) tms tdi (act s) (is ∙ s.state_is) with)

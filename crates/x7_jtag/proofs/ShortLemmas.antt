@@ -1,0 +1,128 @@
+-- A port gives no more bytes than it has clocks.
+use Rattle.std.proofs.Common.{◌≡◌, ℕ, ◌+◌, ◌≤◌, ◌==◌, ◌&&◌, Bool, true, false, if◌then◌else◌, List, [], ◌∷◌, ◌++◌, length, refl, ap, length-append, arith}
+use Rattle.std.specs.List.{fold}
+use Rattle.x7_part.specs.Part.{PartData}
+use Rattle.x7_engine.specs.Standing.{DeviceState}
+use Rattle.x7_jtag.specs.declared.instruction.Instruction.{Instruction}
+use Rattle.x7_jtag.specs.declared.instruction.Instruction.TheVariants as instruction
+use Rattle.x7_jtag.specs.declared.state.State.{State}
+use Rattle.x7_jtag.specs.declared.state.State.TheVariants as state
+use Rattle.x7_jtag.specs.Instructions.{instruction_of}
+use Rattle.x7_jtag.specs.Port.{Port, acted, clocked, data_shifted, idled, captured, new_port, port_after, programmed, words_read, with_bit}
+use Rattle.x7_jtag.specs.Queue.{Queue, dropped, in_turn, most_held, offered, give_held, shifted_out, waits, with_room}
+use Rattle.x7_jtag.specs.States.{Clock}
+use Rattle.x7_jtag.specs.Tap.{Holds, TapStandsFor, TapState}
+
+abbrev size : Queue → ℕ
+size q = length q.given + length q.held
+
+held-size : (reads : List ℕ → List ℕ) (given hs : List ℕ) (out : ℕ) → size (give_held reads given hs out) ≡ length given + length hs
+held-size reads given [] out = refl
+held-size reads given (h ∷ hs) out = by (waits reads given out) (held-size reads (given ++ h ∷ []) hs out)
+  where
+    by : (b : Bool) → size (give_held reads (given ++ h ∷ []) hs out) ≡ length (given ++ h ∷ []) + length hs → size (if b then record { given = given; held = h ∷ hs; out = out } else give_held reads (given ++ h ∷ []) hs out) ≡ length given + length (h ∷ hs)
+    by true e = refl
+    by false e = omega (arith, e, length-append given (h ∷ []))
+
+turn-size : (reads : List ℕ → List ℕ) (q : Queue) (x : ℕ) → size (in_turn reads q x) ≡ size q + 1
+turn-size reads q x = by (waits reads q.given q.out)
+  where
+    by : (b : Bool) → size (if b then record { given = q.given; held = q.held ++ x ∷ []; out = q.out } else record { given = q.given ++ x ∷ []; held = q.held; out = q.out }) ≡ size q + 1
+    by true = omega (arith, length-append q.held (x ∷ []))
+    by false = omega (arith, length-append q.given (x ∷ []))
+
+room-size : (reads : List ℕ → List ℕ) (q : Queue) (b : Bool) → size (if b then dropped reads q else q) ≡ size q
+room-size reads q true = omega (arith, length-append q.given q.held)
+room-size reads q false = refl
+
+offered-size : (reads : List ℕ → List ℕ) (q : Queue) (x : ℕ) → size (offered reads q x) ≤ size q + 1
+offered-size reads q x = omega (arith, turn-size reads (with_room reads q) x, room-size reads q (waits reads q.given q.out && length q.held == most_held))
+
+shifted-size : (reads : List ℕ → List ℕ) (q : Queue) → size (shifted_out reads q) ≤ size q + 1
+shifted-size reads q = by (waits reads q.given q.out)
+  where
+    by : (b : Bool) → size (if b then give_held reads q.given q.held (q.out + 1) else q) ≤ size q + 1
+    by true = omega (arith, held-size reads q.given q.held (q.out + 1))
+    by false = omega arith
+
+if-size : (a q : Queue) (b : Bool) → size a ≤ size q + 1 → size (if b then a else q) ≤ size q + 1
+if-size a q true l = l
+if-size a q false l = omega arith
+
+same-size : (q : Queue) → size q ≤ size q + 1
+same-size q = omega arith
+
+idled-size : (part : PartData) (i : Instruction) (p : Port) → size (idled part i p).queue ≤ size p.queue + 1
+idled-size part instruction.Jstart p = if-size (offered (words_read part) p.queue 255) p.queue (p.count == 7) (offered-size (words_read part) p.queue 255)
+idled-size part instruction.CfgOut p = same-size p.queue
+idled-size part instruction.CfgIn p = same-size p.queue
+idled-size part instruction.Usercode p = same-size p.queue
+idled-size part instruction.Idcode p = same-size p.queue
+idled-size part instruction.Jprogram p = same-size p.queue
+idled-size part instruction.Jshutdown p = same-size p.queue
+idled-size part instruction.Bypass p = same-size p.queue
+
+captured-size : (part : PartData) (i : Instruction) (p : Port) → size (captured part i p).queue ≤ size p.queue + 1
+captured-size part instruction.Jstart p = same-size p.queue
+captured-size part instruction.CfgOut p = same-size p.queue
+captured-size part instruction.CfgIn p = same-size p.queue
+captured-size part instruction.Usercode p = same-size p.queue
+captured-size part instruction.Idcode p = same-size p.queue
+captured-size part instruction.Jprogram p = same-size p.queue
+captured-size part instruction.Jshutdown p = same-size p.queue
+captured-size part instruction.Bypass p = same-size p.queue
+
+data-size : (part : PartData) (i : Instruction) (p : Port) (tdi : Bool) → size (data_shifted part i p tdi).queue ≤ size p.queue + 1
+data-size part instruction.CfgIn p tdi = if-size (offered (words_read part) p.queue (with_bit p.register tdi)) p.queue (p.count == 7) (offered-size (words_read part) p.queue (with_bit p.register tdi))
+data-size part instruction.CfgOut p tdi = shifted-size (words_read part) p.queue
+data-size part instruction.Jstart p tdi = same-size p.queue
+data-size part instruction.Usercode p tdi = same-size p.queue
+data-size part instruction.Idcode p tdi = same-size p.queue
+data-size part instruction.Jprogram p tdi = same-size p.queue
+data-size part instruction.Jshutdown p tdi = same-size p.queue
+data-size part instruction.Bypass p tdi = same-size p.queue
+
+programmed-size : (i : Instruction) (q : Queue) → size (programmed i q) ≤ size q + 1
+programmed-size instruction.Jprogram q = omega arith
+programmed-size instruction.CfgIn q = same-size q
+programmed-size instruction.CfgOut q = same-size q
+programmed-size instruction.Jstart q = same-size q
+programmed-size instruction.Usercode q = same-size q
+programmed-size instruction.Idcode q = same-size q
+programmed-size instruction.Jshutdown q = same-size q
+programmed-size instruction.Bypass q = same-size q
+
+acted-size : (part : PartData) (s : State) (p : Port) (tdi : Bool) → size (acted part s p tdi).queue ≤ size p.queue + 1
+acted-size part state.TestLogicReset p tdi = same-size p.queue
+acted-size part state.RunTestIdle p tdi = idled-size part p.instruction p
+acted-size part state.SelectDr p tdi = same-size p.queue
+acted-size part state.CaptureDr p tdi = captured-size part p.instruction p
+acted-size part state.ShiftDr p tdi = data-size part p.instruction p tdi
+acted-size part state.Exit1Dr p tdi = same-size p.queue
+acted-size part state.PauseDr p tdi = same-size p.queue
+acted-size part state.Exit2Dr p tdi = same-size p.queue
+acted-size part state.UpdateDr p tdi = same-size p.queue
+acted-size part state.SelectIr p tdi = same-size p.queue
+acted-size part state.CaptureIr p tdi = same-size p.queue
+acted-size part state.ShiftIr p tdi = same-size p.queue
+acted-size part state.Exit1Ir p tdi = same-size p.queue
+acted-size part state.PauseIr p tdi = same-size p.queue
+acted-size part state.Exit2Ir p tdi = same-size p.queue
+acted-size part state.UpdateIr p tdi = programmed-size (instruction_of p.register) p.queue
+
+clocks-size : (part : PartData) (p : Port) (cs : List Clock) → size (fold (clocked part) p cs).queue ≤ size p.queue + length cs
+clocks-size part p [] = omega arith
+clocks-size part p (c ∷ cs) =
+    let step : size (clocked part p c).queue ≤ size p.queue + 1 = acted-size part p.state p c.tdi in
+    omega (arith, step, clocks-size part (clocked part p c) cs)
+
+-- so its device took no more, with the bytes held
+pub held-short : (part : PartData) (t : TapState) (d : DeviceState) (cs : List Clock) → TapStandsFor part t d cs → d.taken + length t.queue.held ≤ length cs
+held-short part t d cs s =
+    let h : Holds part t.queue d (port_after part cs).queue.given (port_after part cs).queue.held (port_after part cs).queue.out = s.queue_is.holds in
+    omega (arith, h.device.taken_is, ap length h.took.parts, length-append h.bytes h.took.rest, ap length h.held_is, clocks-size part new_port cs)
+
+pub taken-short : (part : PartData) (t : TapState) (d : DeviceState) (cs : List Clock) → TapStandsFor part t d cs → d.taken ≤ length cs
+taken-short part t d cs s =
+    let h : Holds part t.queue d (port_after part cs).queue.given (port_after part cs).queue.held (port_after part cs).queue.out = s.queue_is.holds in
+    omega (arith, h.device.taken_is, ap length h.took.parts, length-append h.bytes h.took.rest, clocks-size part new_port cs)

@@ -1,0 +1,100 @@
+-- The value of hexadecimal digits fits as many bits as their width.
+use Rattle.std.proofs.Common.{◌≡◌, ◌⊎◌, inl, inr, ℕ, suc, ◌+◌, ◌*◌, ◌^◌, ◌<◌, ◌≤◌, ◌==◌, ◌&&◌, nat_lt, Bool, true, false, if◌then◌else◌, List, [], ◌∷◌, length, refl, ap, sym, subst, ◌∙◌, arith}
+use Rattle.std.proofs.Math.Pow.{pow_mono}
+use Rattle.std.proofs.Math.Nat.{mul-le-mul_right}
+use Rattle.std.proofs.lemmas.Nat.{pow-add, pow_pos}
+use Rattle.x7_jtag.specs.Bits.{hex_digit}
+use Rattle.x7_jtag.specs.Fields.{are_hex, digit_width, is_hex, value_of, width}
+
+pub both : (a b : Bool) → (a && b) ≡ true → (a ≡ true) × (b ≡ true)
+both true b e = (refl, e)
+both false b e = absurd cc
+
+digit-below : (c : ℕ) → is_hex c ≡ true → hex_digit c < 16
+digit-below c h = grind (arith, h)
+
+more-bits : (k w : ℕ) → 2 ^ (w + 4 * k) ≡ 2 ^ w * 2 ^ (4 * k)
+more-bits k w = pow-add 2 w (4 * k)
+
+below-by : (d k r : ℕ) → d < 16 → r < 2 ^ (4 * k) → d * 2 ^ (4 * k) + r < 2 ^ (4 + 4 * k)
+below-by d k r l m =
+    let p : ℕ = 2 ^ (4 * k) in
+    let t : (d + 1) * p ≤ 16 * p = mul-le-mul_right p (omega (arith, l)) in
+    let q : 2 ^ (4 + 4 * k) ≡ 16 * p = more-bits k 4 in
+    grind (arith, t, q, m)
+
+pub value-below : (ds : List ℕ) → are_hex ds ≡ true → value_of ds < 2 ^ (4 * length ds)
+value-below [] h = omega arith
+value-below (c ∷ cs) h =
+    let parts : (is_hex c ≡ true) × (are_hex cs ≡ true) = both (is_hex c) (are_hex cs) h in
+    let e : 4 + 4 * length cs ≡ 4 * length (c ∷ cs) = omega arith in
+    let s : hex_digit c * 2 ^ (4 * length cs) + value_of cs < 2 ^ (4 + 4 * length cs) = below-by (hex_digit c) (length cs) (value_of cs) (digit-below c parts.0) (value-below cs parts.1) in
+    subst (λ n. hex_digit c * 2 ^ (4 * length cs) + value_of cs < 2 ^ n) e s
+
+-- a digit that isn't 0 has its highest bit
+record Highest (d w : ℕ) : Type 0 where
+  pub below : ℕ
+  pub is : w ≡ suc below
+  pub least : 2 ^ below ≤ d
+  pub most : d < 2 ^ suc below
+
+abbrev width_by : Bool → Bool → Bool → Bool → ℕ
+width_by a b c e = if a then 0 else (if b then 1 else (if c then 2 else (if e then 3 else 4)))
+
+bits-by : (d : ℕ) (a b c e : Bool) → nat_lt d 1 ≡ a → nat_lt d 2 ≡ b → nat_lt d 4 ≡ c → nat_lt d 8 ≡ e → d < 16
+    → ((width_by a b c e ≡ 0) × (d ≡ 0)) ⊎ Highest d (width_by a b c e)
+bits-by d true b c e p q r s l = inl (refl, grind (arith, p))
+bits-by d false true c e p q r s l = inr (record { below = 0; is = refl; least = grind (arith, p); most = grind (arith, q) })
+bits-by d false false true e p q r s l = inr (record { below = 1; is = refl; least = grind (arith, q); most = grind (arith, r) })
+bits-by d false false false true p q r s l = inr (record { below = 2; is = refl; least = grind (arith, r); most = grind (arith, s) })
+bits-by d false false false false p q r s l = inr (record { below = 3; is = refl; least = grind (arith, s); most = omega (arith, l) })
+
+digit-bits : (c : ℕ) → is_hex c ≡ true → ((digit_width c ≡ 0) × (hex_digit c ≡ 0)) ⊎ Highest (hex_digit c) (digit_width c)
+digit-bits c h = bits-by (hex_digit c) (nat_lt (hex_digit c) 1) (nat_lt (hex_digit c) 2) (nat_lt (hex_digit c) 4) (nat_lt (hex_digit c) 8) refl refl refl refl (digit-below c h)
+
+width-zero : (c : ℕ) (cs : List ℕ) → digit_width c ≡ 0 → width (c ∷ cs) ≡ width cs
+width-zero c cs e = ap (λ (w : ℕ). if w == 0 then width cs else 4 * length cs + w) e
+
+width-some : (c : ℕ) (cs : List ℕ) (v : ℕ) → digit_width c ≡ suc v → width (c ∷ cs) ≡ 4 * length cs + suc v
+width-some c cs v e =
+    let some : (suc v == 0) ≡ false = grind arith in
+    ap (λ (w : ℕ). if w == 0 then width cs else 4 * length cs + w) e ∙ ap (λ (b : Bool). if b then width cs else 4 * length cs + suc v) some
+
+value-zero : (c : ℕ) (cs : List ℕ) → hex_digit c ≡ 0 → value_of (c ∷ cs) ≡ value_of cs
+value-zero c cs e =
+    let none : 0 * 2 ^ (4 * length cs) + value_of cs ≡ value_of cs = omega arith in
+    ap (λ (d : ℕ). d * 2 ^ (4 * length cs) + value_of cs) e ∙ none
+
+top-below : (d v k r n : ℕ) → d < 2 ^ suc v → r < 2 ^ (4 * k) → 4 * k + suc v ≤ n → d * 2 ^ (4 * k) + r < 2 ^ n
+top-below d v k r n l m w =
+    let p : ℕ = 2 ^ (4 * k) in
+    let t : (d + 1) * p ≤ 2 ^ suc v * p = mul-le-mul_right p (omega (arith, l)) in
+    let q : 2 ^ (suc v + 4 * k) ≡ 2 ^ suc v * p = more-bits k (suc v) in
+    let u : 2 ^ (suc v + 4 * k) ≤ 2 ^ n = pow_mono (omega (arith, w)) in
+    grind (arith, t, q, m, u)
+
+top-above : (d v k r n : ℕ) → 2 ^ v ≤ d → d * 2 ^ (4 * k) + r < 2 ^ n → n < 4 * k + suc v → ⊥
+top-above d v k r n l m w =
+    let p : ℕ = 2 ^ (4 * k) in
+    let t : 2 ^ v * p ≤ d * p = mul-le-mul_right p l in
+    let q : 2 ^ (v + 4 * k) ≡ 2 ^ v * p = more-bits k v in
+    let u : 2 ^ n ≤ 2 ^ (v + 4 * k) = pow_mono (omega (arith, w)) in
+    grind (arith, t, q, m, u)
+
+pub fits-value : (ds : List ℕ) (n : ℕ) → are_hex ds ≡ true → width ds ≤ n → value_of ds < 2 ^ n
+fits-value [] n h l = pow_pos n
+fits-value (c ∷ cs) n h l =
+    let parts : (is_hex c ≡ true) × (are_hex cs ≡ true) = both (is_hex c) (are_hex cs) h in
+    elim (digit-bits c parts.0) [
+      | inl z ↦ subst (λ (v : ℕ). v < 2 ^ n) (sym (value-zero c cs z.1)) (fits-value cs n parts.1 (omega (arith, l, width-zero c cs z.0)))
+      | inr s ↦ top-below (hex_digit c) s.below (length cs) (value_of cs) n s.most (value-below cs parts.1) (omega (arith, l, width-some c cs s.below s.is))
+    ]
+
+pub value-fits : (ds : List ℕ) (n : ℕ) → are_hex ds ≡ true → value_of ds < 2 ^ n → width ds ≤ n
+value-fits [] n h l = omega arith
+value-fits (c ∷ cs) n h l =
+    let parts : (is_hex c ≡ true) × (are_hex cs ≡ true) = both (is_hex c) (are_hex cs) h in
+    elim (digit-bits c parts.0) [
+      | inl z ↦ (let m : width cs ≤ n = value-fits cs n parts.1 (subst (λ (v : ℕ). v < 2 ^ n) (value-zero c cs z.1) l) in omega (arith, m, width-zero c cs z.0))
+      | inr s ↦ (let some : n < 4 * length cs + suc s.below → ⊥ = top-above (hex_digit c) s.below (length cs) (value_of cs) n s.least l in grind (arith, some, width-some c cs s.below s.is))
+    ]

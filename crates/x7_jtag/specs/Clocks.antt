@@ -1,0 +1,46 @@
+-- The clocks that statements make.
+use Rattle.std.specs.Prelude.{Bool, true, false, List, [], ◌∷◌, ◌++◌, map, replicate}
+use Rattle.x7_jtag.specs.declared.state.State.{State}
+use Rattle.x7_jtag.specs.declared.state.State.TheVariants as state
+use Rattle.x7_jtag.specs.States.{Clock, state_after}
+use Rattle.x7_jtag.specs.declared.statement.Statement.{Statement}
+use Rattle.x7_jtag.specs.declared.statement.Statement.TheVariants as statement
+
+abbrev pub clock : Bool → Bool → Clock
+clock tms tdi = record { tms = tms; tdi = tdi }
+
+-- one clock of TMS 0 where in Test-Logic-Reset
+abbrev pub from_reset : State → List Clock
+from_reset state.TestLogicReset = clock false false ∷ []
+from_reset _ = []
+
+-- a clock a bit, with TMS 1 at the last
+abbrev pub shift_clocks : List Bool → List Clock
+shift_clocks [] = []
+shift_clocks (b ∷ []) = clock true b ∷ []
+shift_clocks (b ∷ c ∷ bs) = clock false b ∷ shift_clocks (c ∷ bs)
+
+-- clocks of TMS 0 that shift these bits
+abbrev pub inner_clocks : List Bool → List Clock
+inner_clocks bits = map (clock false) bits
+
+-- to Shift-IR or Shift-DR, and from Exit1 to Run-Test/Idle
+abbrev pub to_shift : Bool → List Clock
+to_shift true = clock true false ∷ clock true false ∷ clock false false ∷ clock false false ∷ []
+to_shift false = clock true false ∷ clock false false ∷ clock false false ∷ []
+
+abbrev pub from_exit : List Clock
+from_exit = clock true false ∷ clock false false ∷ []
+
+-- the clocks of a statement in a state
+abbrev pub clocks_of : State → Statement → List Clock
+clocks_of s statement.Reset = replicate 5 (clock true false)
+clocks_of s statement.Idle = from_reset s
+clocks_of s (statement.Run n) = from_reset s ++ replicate n (clock false false)
+clocks_of s (statement.Scan ir tdi tdo mask) = from_reset s ++ to_shift ir ++ shift_clocks tdi ++ from_exit
+clocks_of s statement.Nothing = []
+
+-- the clocks of statements
+abbrev pub clocks : State → List Statement → List Clock
+clocks s [] = []
+clocks s (m ∷ ms) = clocks_of s m ++ clocks (state_after s (clocks_of s m)) ms

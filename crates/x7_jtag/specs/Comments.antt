@@ -1,0 +1,25 @@
+-- A text without its comments (this project's profile of SVF).
+use Rattle.std.specs.Prelude.{ℕ, ◌==◌, ◌||◌, ◌&&◌, not, Bool, true, false, if◌then◌else◌, List, [], ◌∷◌}
+
+-- the text begins with this byte
+abbrev pub begins_with : ℕ → List ℕ → Bool
+begins_with d [] = false
+begins_with d (c ∷ cs) = c == d
+
+-- a comment begins at this byte, which these follow: `!` or `//`
+abbrev pub begins_comment : ℕ → List ℕ → Bool
+begins_comment c cs = c == 33 || (c == 47 && begins_with 47 cs)
+
+-- the byte is one of a comment; the first argument says so of the byte before
+abbrev pub is_inside : Bool → ℕ → List ℕ → Bool
+is_inside true c cs = not (c == 10)
+is_inside false c cs = begins_comment c cs
+
+-- what stands for a byte: a blank for those of comments and for 0D before 0A
+abbrev pub shown : Bool → ℕ → List ℕ → ℕ
+shown inside c cs = if inside then 32 else (if c == 13 && begins_with 10 cs then 32 else c)
+
+-- the text with what stands for each byte
+abbrev pub clean_text : Bool → List ℕ → List ℕ
+clean_text inside [] = []
+clean_text inside (c ∷ cs) = shown (is_inside inside c cs) c cs ∷ clean_text (is_inside inside c cs) cs

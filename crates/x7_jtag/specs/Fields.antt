@@ -1,0 +1,137 @@
+-- The fields of a scan, and what it says (this project's profile of SVF).
+use Rattle.std.specs.Prelude.{ℕ, ◌+◌, ◌*◌, ◌^◌, ◌==◌, ◌||◌, ◌&&◌, nat_le, nat_lt, Bool, true, false, if◌then◌else◌, List, [], ◌∷◌, ◌++◌, Option, Some, None, codes, length}
+use Rattle.std.specs.List.{list_all}
+use Rattle.x7_jtag.specs.Pieces.{Mark, Word, Open, Close, End}
+use Rattle.x7_jtag.specs.Bits.{bits_of, hex_digit}
+use Rattle.x7_jtag.specs.Words.{is_digit, is_key, number_of}
+use Rattle.x7_jtag.specs.declared.statement.Statement.{Statement}
+use Rattle.x7_jtag.specs.declared.statement.Statement.TheVariants as statement
+use Rattle.x7_jtag.specs.declared.fields.Field.{Field}
+use Rattle.x7_jtag.specs.declared.fields.Field.TheVariants as field
+
+-- a field's name
+abbrev pub field_of : List ℕ → Option Field
+field_of w =
+    if is_key w (codes "TDI") then Some field.Tdi
+    else (if is_key w (codes "TDO") then Some field.Tdo
+    else (if is_key w (codes "MASK") then Some field.Mask
+    else (if is_key w (codes "SMASK") then Some field.Smask else None)))
+
+-- a hexadecimal digit of either case
+abbrev pub is_hex : ℕ → Bool
+is_hex c = is_digit c || (nat_le 65 c && nat_le c 70) || (nat_le 97 c && nat_le c 102)
+
+abbrev pub are_hex : List ℕ → Bool
+are_hex w = list_all is_hex w
+
+-- between fields, after a field's name, or inside its brackets after these digits
+pub data At : Type 0 where
+  Between : At
+  Named : (field : Field) → At
+  Inside : (field : Field) (digits : List ℕ) → At
+
+-- the digits of the fields so far
+pub record Fields : Type 0 where
+  pub tdi : Option (List ℕ)
+  pub tdo : Option (List ℕ)
+  pub mask : Option (List ℕ)
+  pub smask : Option (List ℕ)
+
+pub record Scanning : Type 0 where
+  pub at : At
+  pub fields : Fields
+
+abbrev pub is_none : Option (List ℕ) → Bool
+is_none None = true
+is_none (Some ds) = false
+
+-- a field more, each at most once
+abbrev pub put_field : Fields → Field → List ℕ → Option Fields
+put_field f field.Tdi ds = if is_none f.tdi then Some (record f { tdi = Some ds }) else None
+put_field f field.Tdo ds = if is_none f.tdo then Some (record f { tdo = Some ds }) else None
+put_field f field.Mask ds = if is_none f.mask then Some (record f { mask = Some ds }) else None
+put_field f field.Smask ds = if is_none f.smask then Some (record f { smask = Some ds }) else None
+
+abbrev pub named_by : Fields → Option Field → Option Scanning
+named_by f None = None
+named_by f (Some k) = Some (record { at = Named k; fields = f })
+
+abbrev pub closed_by : Option Fields → Option Scanning
+closed_by None = None
+closed_by (Some f) = Some (record { at = Between; fields = f })
+
+-- one mark more
+abbrev pub scan_step : At → Fields → Mark → Option Scanning
+scan_step Between f (Word w) = named_by f (field_of w)
+scan_step (Named k) f Open = Some (record { at = Inside k []; fields = f })
+scan_step (Inside k ds) f (Word w) = if are_hex w then Some (record { at = Inside k (ds ++ w); fields = f }) else None
+scan_step (Inside k ds) f Close = if nat_lt 0 (length ds) then closed_by (put_field f k ds) else None
+scan_step _ f _ = None
+
+-- the fields of marks
+abbrev pub done : At → Fields → Option Fields
+done Between f = Some f
+done (Named k) f = None
+done (Inside k ds) f = None
+
+abbrev pub and_so : Option Scanning → (At → Fields → Option Fields) → Option Fields
+and_so None next = None
+and_so (Some s) next = next s.at s.fields
+
+abbrev pub scan_from : At → Fields → List Mark → Option Fields
+scan_from at f [] = done at f
+scan_from at f (m ∷ ms) = and_so (scan_step at f m) (λ a g. scan_from a g ms)
+
+abbrev pub no_fields : Fields
+no_fields = record { tdi = None; tdo = None; mask = None; smask = None }
+
+-- the value of digits, the first the highest
+abbrev pub value_of : List ℕ → ℕ
+value_of [] = 0
+value_of (c ∷ cs) = hex_digit c * 2 ^ (4 * length cs) + value_of cs
+
+-- the bits of digits without leading zeros: a value fits n bits where these are at most n
+abbrev pub digit_width : ℕ → ℕ
+digit_width c =
+    if nat_lt (hex_digit c) 1 then 0 else (if nat_lt (hex_digit c) 2 then 1 else (if nat_lt (hex_digit c) 4 then 2 else (if nat_lt (hex_digit c) 8 then 3 else 4)))
+
+abbrev pub width : List ℕ → ℕ
+width [] = 0
+width (c ∷ cs) = if digit_width c == 0 then width cs else 4 * length cs + digit_width c
+
+abbrev pub fits : ℕ → Option (List ℕ) → Bool
+fits n None = true
+fits n (Some ds) = nat_le (width ds) n
+
+abbrev pub all_fit : ℕ → Fields → Bool
+all_fit n f = fits n f.tdi && fits n f.tdo && fits n f.mask && fits n f.smask
+
+-- the bits of a field that may be left out
+abbrev pub bits_option : ℕ → Option (List ℕ) → Option (List Bool)
+bits_option n None = None
+bits_option n (Some ds) = Some (bits_of n ds)
+
+abbrev pub with_tdi : Bool → ℕ → Fields → Option (List ℕ) → Option Statement
+with_tdi ir n f None = None
+with_tdi ir n f (Some ds) = Some (statement.Scan ir (bits_of n ds) (bits_option n f.tdo) (bits_option n f.mask))
+
+-- the scan of fields: TDI is required
+abbrev pub scan_by : Bool → ℕ → Option Fields → Option Statement
+scan_by ir n None = None
+scan_by ir n (Some f) = if all_fit n f then with_tdi ir n f f.tdi else None
+
+abbrev pub scan_long : Bool → Option ℕ → List Mark → Option Statement
+scan_long ir None ms = None
+scan_long ir (Some n) ms = if n == 0 then None else scan_by ir n (scan_from Between no_fields ms)
+
+-- the most bits of a scan
+abbrev pub most_bits : ℕ
+most_bits = 536870912
+
+-- after SIR or SDR
+abbrev pub scan_of : Bool → List Mark → Option Statement
+scan_of ir [] = None
+scan_of ir (Word n ∷ ms) = scan_long ir (number_of most_bits n) ms
+scan_of ir (Open ∷ ms) = None
+scan_of ir (Close ∷ ms) = None
+scan_of ir (End ∷ ms) = None

@@ -1,0 +1,106 @@
+-- Playing statements: their clocks, up to the first scan whose TDO differs from the wanted bits.
+use Rattle.std.specs.Prelude.{ℕ, zero, suc, ◌+◌, ◌&&◌, not, Bool, true, false, if◌then◌else◌, List, [], ◌∷◌, ◌++◌, length, take, map, fold, Option, Some, None, ◌≤◌, ◌^◌}
+use Rattle.std.specs.List.{slice_get}
+use Rattle.x7_part.specs.Part.{PartData}
+use Rattle.x7_jtag.specs.declared.play.Differ.{Differ}
+use Rattle.x7_jtag.specs.declared.statement.Statement.{Statement}
+use Rattle.x7_jtag.specs.declared.statement.Statement.TheVariants as statement
+use Rattle.x7_jtag.specs.Clocks.{clock, clocks, clocks_of, from_reset, shift_clocks, to_shift}
+use Rattle.x7_jtag.specs.Port.{Port, clocked, new_port, port_after, tdo_of}
+use Rattle.x7_engine.specs.Standing.{DeviceState}
+use Rattle.x7_jtag.specs.States.{Clock, test_logic_reset}
+use Rattle.x7_jtag.specs.Tap.{TapStandsFor, TapState}
+
+-- bit i, and 0 past the last
+abbrev pub bit_or_0 : Option Bool → Bool
+bit_or_0 None = false
+bit_or_0 (Some b) = b
+
+abbrev pub bit_at : List Bool → ℕ → Bool
+bit_at bits i = bit_or_0 (slice_get bits i)
+
+-- whether bit i counts: all do where there is no mask
+abbrev pub counts : Option (List Bool) → ℕ → Bool
+counts None i = true
+counts (Some mask) i = bit_at mask i
+
+abbrev pub are_apart : Bool → Bool → Bool
+are_apart true b = not b
+are_apart false b = b
+
+-- the port after clocks
+abbrev pub after_clocks : PartData → Port → List Clock → Port
+after_clocks part p cs = fold (clocked part) p cs
+
+-- TDO at shift clock i of a scan, where the port is in Shift-DR or Shift-IR before the first
+abbrev pub shown_at : PartData → Port → List Bool → ℕ → Bool
+shown_at part p tdi i = tdo_of part (after_clocks part p (take i (shift_clocks tdi)))
+
+-- the same of bits that may not be wanted
+abbrev pub is_apart : Option (List Bool) → Option (List Bool) → ℕ → Bool → Bool
+is_apart None mask i shown = false
+is_apart (Some tdo) mask i shown = counts mask i && are_apart (bit_at tdo i) shown
+
+-- the first place found, and this one where there is none yet
+abbrev pub found_more : Option ℕ → Bool → ℕ → Option ℕ
+found_more None differs i = if differs then Some i else None
+found_more (Some first) differs i = Some first
+
+-- the least of so many places from `from` on at which something holds
+abbrev pub least : (ℕ → Bool) → ℕ → ℕ → Option ℕ
+least holds from zero = None
+least holds from (suc n) = if holds from then Some from else least holds (from + 1) n
+
+-- whether TDO differs at shift clock i from what is wanted
+abbrev pub differs_at : PartData → Port → List Bool → Option (List Bool) → Option (List Bool) → ℕ → Bool
+differs_at part p tdi tdo mask i = is_apart tdo mask i (shown_at part p tdi i)
+
+-- the least bit at which a scan differs
+abbrev pub shift_difference : PartData → Port → List Bool → Option (List Bool) → Option (List Bool) → Option ℕ
+shift_difference part p tdi tdo mask = least (differs_at part p tdi tdo mask) 0 (length tdi)
+
+-- the same of a statement, from the port before it
+abbrev pub difference : PartData → Port → Statement → Option ℕ
+difference part p (statement.Scan ir tdi tdo mask) = shift_difference part (after_clocks part p (from_reset p.state ++ to_shift ir)) tdi tdo mask
+difference part p _ = None
+
+-- the first statement that differs, counted from n, with its least differing bit
+abbrev pub first_by : Option ℕ → ℕ → Option Differ → Option Differ
+first_by None n later = later
+first_by (Some bit) n later = Some (record { statement = n; bit = bit })
+
+abbrev pub first_from : PartData → Port → ℕ → List Statement → Option Differ
+first_from part p n [] = None
+first_from part p n (s ∷ ss) = first_by (difference part p s) n (first_from part (after_clocks part p (clocks_of p.state s)) (n + 1) ss)
+
+abbrev pub first_difference : PartData → List Statement → Option Differ
+first_difference part ss = first_from part new_port 1 ss
+
+-- the statements that are played: all, or those up to the one that differs
+abbrev pub statements_played : List Statement → Option Differ → List Statement
+statements_played ss None = ss
+statements_played ss (Some differ) = take differ.statement ss
+
+abbrev pub clocks_played : List Statement → Option Differ → List Clock
+clocks_played ss result = clocks test_logic_reset (statements_played ss result)
+
+-- the port after them
+abbrev pub port_played : PartData → List Statement → Port
+port_played part ss = port_after part (clocks_played ss (first_difference part ss))
+
+-- clocks that walk from state to state, by their TMS
+abbrev pub walk_clocks : List Bool → List Clock
+walk_clocks path = map (λ tms. clock tms false) path
+
+-- ---- what a tap and a device are ready for
+
+-- a new tap and a new device
+abbrev pub AreNew : TapState → DeviceState → Type 0
+AreNew t d = (part : PartData) × TapStandsFor part t d []
+
+-- So many clocks more may come of a tap and a device that were new before others: a device takes at most a byte a clock.
+pub record Ready (t : TapState) (d : DeviceState) (more : ℕ) : Type 0 where
+  pub part : PartData
+  pub before : List Clock
+  pub stands : TapStandsFor part t d before
+  pub few : length before + more ≤ 2 ^ 62

@@ -1,0 +1,123 @@
+-- A test access port as a function of its clocks (IEEE 1149.1 and UG470, JTAG; what these leave free is this project's choice).
+use Rattle.std.specs.Prelude.{ℕ, ◌+◌, ◌*◌, ◌/◌, ◌%◌, ◌^◌, ◌==◌, Bool, true, false, if◌then◌else◌, List, fold}
+use Rattle.x7_part.specs.Part.{PartData}
+use Rattle.x7_engine.specs.Kept.{on_the_bench}
+use Rattle.x7_engine.specs.State.{reads_of, state_of}
+use Rattle.x7_jtag.specs.declared.instruction.Instruction.{Instruction}
+use Rattle.x7_jtag.specs.declared.instruction.Instruction.TheVariants as instruction
+use Rattle.x7_jtag.specs.declared.state.State.{State}
+use Rattle.x7_jtag.specs.declared.state.State.TheVariants as state
+use Rattle.x7_jtag.specs.Instructions.{instruction_of}
+use Rattle.x7_jtag.specs.Queue.{Queue, bit_shown, empty, offered, shifted_out}
+use Rattle.x7_jtag.specs.States.{Clock, next_of, test_logic_reset}
+
+-- the state, the instruction, the register between TDI and TDO, how many of eight bits or clocks there were, and the queue
+pub record Port : Type 0 where
+  pub state : State
+  pub instruction : Instruction
+  pub register : ℕ
+  pub count : ℕ
+  pub queue : Queue
+
+-- the words that a device of this part reads out of bytes given since a reset on the bench
+abbrev pub words_read : PartData → List ℕ → List ℕ
+words_read part given = reads_of part on_the_bench given
+
+-- a bit as a number
+abbrev pub number_of_bit : Bool → ℕ
+number_of_bit false = 0
+number_of_bit true = 1
+
+abbrev pub lowest : ℕ → Bool
+lowest register = register % 2 == 1
+
+-- one shift: the lowest bit goes out, and TDI comes in as the highest, which is worth `top`
+abbrev pub shifted : ℕ → ℕ → Bool → ℕ
+shifted top register tdi = register / 2 + top * number_of_bit tdi
+
+-- a byte whose first bit is the highest: TDI comes in as the lowest
+abbrev pub with_bit : ℕ → Bool → ℕ
+with_bit byte tdi = byte % 128 * 2 + number_of_bit tdi
+
+-- Capture-IR: DONE, INIT_B (bit 12 of STAT), 00 and 01, highest first (bits 5 to 2 are this project's choice)
+abbrev pub status : Bool → Bool → ℕ
+status done init = 32 * number_of_bit done + 16 * number_of_bit init + 1
+
+abbrev pub status_of : PartData → List ℕ → ℕ
+status_of part given = status (state_of part on_the_bench false given).lines.done ((state_of part on_the_bench false given).stat / 2 ^ 12 % 2 == 1)
+
+-- ---- the actions of the states
+
+-- Run-Test/Idle: under JSTART each eighth clock offers a byte FF
+abbrev pub idled : PartData → Instruction → Port → Port
+idled part instruction.Jstart p = record p { count = (p.count + 1) % 8; queue = if p.count == 7 then offered (words_read part) p.queue 255 else p.queue }
+idled part _ p = p
+
+-- Capture-DR: the idcode, the user code FFFFFFFF, the first bit of a byte, or a 0
+abbrev pub captured : PartData → Instruction → Port → Port
+captured part instruction.Idcode p = record p { register = part.idcode }
+captured part instruction.Usercode p = record p { register = 4294967295 }
+captured part instruction.CfgIn p = record p { register = 0; count = 0 }
+captured part _ p = record p { register = 0 }
+
+-- Shift-DR: each eighth bit under CFG_IN completes a byte, which is offered
+abbrev pub data_shifted : PartData → Instruction → Port → Bool → Port
+data_shifted part instruction.CfgIn p tdi = record p {
+  register = with_bit p.register tdi;
+  count = (p.count + 1) % 8;
+  queue = if p.count == 7 then offered (words_read part) p.queue (with_bit p.register tdi) else p.queue;
+}
+data_shifted part instruction.CfgOut p tdi = record p { queue = shifted_out (words_read part) p.queue }
+data_shifted part instruction.Idcode p tdi = record p { register = shifted (2 ^ 31) p.register tdi }
+data_shifted part instruction.Usercode p tdi = record p { register = shifted (2 ^ 31) p.register tdi }
+data_shifted part _ p tdi = record p { register = shifted 1 p.register tdi }
+
+-- what an instruction does as it comes: JPROGRAM resets the device
+abbrev pub programmed : Instruction → Queue → Queue
+programmed instruction.Jprogram q = empty
+programmed _ q = q
+
+-- Update-IR: the register becomes the instruction
+abbrev pub updated : Port → Port
+updated p = record p { instruction = instruction_of p.register; count = 0; queue = programmed (instruction_of p.register) p.queue }
+
+-- the action of a state
+abbrev pub acted : PartData → State → Port → Bool → Port
+acted part state.TestLogicReset p tdi = record p { instruction = instruction.Idcode }
+acted part state.RunTestIdle p tdi = idled part p.instruction p
+acted part state.CaptureDr p tdi = captured part p.instruction p
+acted part state.ShiftDr p tdi = data_shifted part p.instruction p tdi
+acted part state.CaptureIr p tdi = record p { register = status_of part p.queue.given }
+acted part state.ShiftIr p tdi = record p { register = shifted 32 p.register tdi }
+acted part state.UpdateIr p tdi = updated p
+acted part _ p tdi = p
+
+-- ---- TDO
+
+abbrev pub data_shown : PartData → Instruction → Port → Bool
+data_shown part instruction.CfgIn p = false
+data_shown part instruction.CfgOut p = bit_shown (words_read part) p.queue
+data_shown part _ p = lowest p.register
+
+abbrev pub shown_in : PartData → State → Port → Bool
+shown_in part state.ShiftDr p = data_shown part p.instruction p
+shown_in part state.ShiftIr p = lowest p.register
+shown_in part _ p = false
+
+-- TDO of a clock
+abbrev pub tdo_of : PartData → Port → Bool
+tdo_of part p = shown_in part p.state p
+
+-- ---- clocks
+
+-- a clock: the action of the present state, and then the next state
+abbrev pub clocked : PartData → Port → Clock → Port
+clocked part p c = record (acted part p.state p c.tdi) { state = next_of p.state c.tms }
+
+-- a new port
+abbrev pub new_port : Port
+new_port = record { state = test_logic_reset; instruction = instruction.Idcode; register = 0; count = 0; queue = empty }
+
+-- the port after clocks
+abbrev pub port_after : PartData → List Clock → Port
+port_after part cs = fold (clocked part) new_port cs

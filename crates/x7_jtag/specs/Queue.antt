@@ -1,0 +1,82 @@
+-- The queue between a port and its device: bytes in, bits of the words read out (this project's choice).
+use Rattle.std.specs.Prelude.{◌≡◌, ℕ, ◌+◌, ◌-◌, ◌*◌, ◌/◌, ◌%◌, ◌^◌, ◌<◌, ◌≤◌, ◌==◌, ◌&&◌, nat_lt, Bool, true, false, if◌then◌else◌, List, [], ◌∷◌, ◌++◌, length, slice_index}
+use Rattle.std.specs.List.{fold}
+use Rattle.x7_words.specs.Word.{AreBytes}
+
+-- a byte offered, a clock that shifts a bit out, a reset of the device
+pub data Event : Type 0 where
+  Byte : (byte : ℕ) → Event
+  Bit : Event
+  Program : Event
+
+-- the bytes given to the device, those held back, and how many bits are out
+pub record Queue : Type 0 where
+  pub given : List ℕ
+  pub held : List ℕ
+  pub out : ℕ
+
+-- the number of all bits of the words read out
+abbrev pub bits_read : (List ℕ → List ℕ) → List ℕ → ℕ
+bits_read reads given = 32 * length (reads given)
+
+-- a word or a part of a word waits
+abbrev pub waits : (List ℕ → List ℕ) → List ℕ → ℕ → Bool
+waits reads given out = nat_lt out (bits_read reads given)
+
+-- held bytes go to the device in order until a word waits
+abbrev pub give_held : (List ℕ → List ℕ) → List ℕ → List ℕ → ℕ → Queue
+give_held reads given [] out = record { given = given; held = []; out = out }
+give_held reads given (h ∷ hs) out = if waits reads given out then record { given = given; held = h ∷ hs; out = out } else give_held reads (given ++ h ∷ []) hs out
+
+-- the most bytes held
+abbrev pub most_held : ℕ
+most_held = 64
+
+-- a byte in its turn: given where no word waits, else held
+abbrev pub in_turn : (List ℕ → List ℕ) → Queue → ℕ → Queue
+in_turn reads q x =
+    if waits reads q.given q.out
+    then record { given = q.given; held = q.held ++ x ∷ []; out = q.out }
+    else record { given = q.given ++ x ∷ []; held = q.held; out = q.out }
+
+-- what waits is dropped, the held bytes are given, and what they read out is dropped
+abbrev pub dropped : (List ℕ → List ℕ) → Queue → Queue
+dropped reads q = record { given = q.given ++ q.held; held = []; out = bits_read reads (q.given ++ q.held) }
+
+-- room for a byte that should be held, where the most are
+abbrev pub with_room : (List ℕ → List ℕ) → Queue → Queue
+with_room reads q = if waits reads q.given q.out && length q.held == most_held then dropped reads q else q
+
+-- a byte offered
+abbrev pub offered : (List ℕ → List ℕ) → Queue → ℕ → Queue
+offered reads q x = in_turn reads (with_room reads q) x
+
+-- one bit more is out; where it was the last that waited, held bytes go to the device
+abbrev pub shifted_out : (List ℕ → List ℕ) → Queue → Queue
+shifted_out reads q = if waits reads q.given q.out then give_held reads q.given q.held (q.out + 1) else q
+
+-- a bit of words, highest bits first
+abbrev pub word_bit : List ℕ → ℕ → Bool
+word_bit words n = slice_index words (n / 32) / 2 ^ (31 - n % 32) % 2 == 1
+
+-- the bit that a clock shows: the one after those that are out, and 0 where none waits
+abbrev pub bit_shown : (List ℕ → List ℕ) → Queue → Bool
+bit_shown reads q = if waits reads q.given q.out then word_bit (reads q.given) q.out else false
+
+abbrev pub empty : Queue
+empty = record { given = []; held = []; out = 0 }
+
+abbrev pub by_event : (List ℕ → List ℕ) → Queue → Event → Queue
+by_event reads q (Byte x) = offered reads q x
+by_event reads q Bit = shifted_out reads q
+by_event reads q Program = empty
+
+abbrev pub queue_after : (List ℕ → List ℕ) → List Event → Queue
+queue_after reads es = fold (by_event reads) empty es
+
+-- what holds of a queue: no more bits are out than were read out, at most the most bytes are held, these only while a word waits, and all are bytes
+pub record Sound (reads : List ℕ → List ℕ) (q : Queue) : Type 0 where
+  pub within : q.out ≤ bits_read reads q.given
+  pub room : length q.held ≤ most_held
+  pub waiting : 0 < length q.held → waits reads q.given q.out ≡ true
+  pub fits : AreBytes (q.given ++ q.held)

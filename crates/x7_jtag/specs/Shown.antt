@@ -1,0 +1,31 @@
+-- What the device of a port shows.
+use Rattle.std.specs.Prelude.{ℕ, ◌+◌, ◌-◌, ◌/◌, false, List, length, take, Option}
+use Rattle.x7_part.specs.Part.{PartData}
+use Rattle.x7_engine.specs.declared.regs.Regs.{Regs}
+use Rattle.x7_engine.specs.Kept.{on_the_bench}
+use Rattle.x7_engine.specs.Standing.{frames_among}
+use Rattle.x7_engine.specs.State.{history_taken, line_by, memory_in, state_owing, stop_in, taken_of}
+use Rattle.x7_engine.specs.Stops.{fault_of}
+use Rattle.x7_engine.specs.declared.fault.Fault.{Fault}
+use Rattle.x7_memory.specs.FrameMap.{FrameMap}
+use Rattle.x7_jtag.specs.Port.{Port, words_read}
+
+-- the bytes that it took of those given: all, or those up to its stop
+abbrev pub bytes_taken : PartData → Port → List ℕ
+bytes_taken part p = take (taken_of part on_the_bench p.queue.given) p.queue.given
+
+-- how many words are due: those after the one whose bits go out
+abbrev pub words_due : PartData → Port → ℕ
+words_due part p = length (words_read part p.queue.given) - (p.queue.out / 32 + 1)
+
+-- its registers and the rest of its state; FAR counts the words of frame data that were taken of it
+abbrev pub state_shown : PartData → Port → Regs
+state_shown part p = state_owing part on_the_bench false (bytes_taken part p) (frames_among (history_taken part on_the_bench (bytes_taken part p)) (words_due part p))
+
+-- the fault that stopped it
+abbrev pub fault_shown : PartData → Port → Option Fault
+fault_shown part p = fault_of (line_by (stop_in part on_the_bench (bytes_taken part p)))
+
+-- its frames
+abbrev pub memory_shown : PartData → Port → FrameMap
+memory_shown part p = memory_in part on_the_bench (bytes_taken part p)

@@ -1,0 +1,95 @@
+-- What a tap and its device stand for: a port after some clocks.
+use Rattle.std.specs.Prelude.{◌≡◌, ◌⊎◌, false, ℕ, ◌+◌, ◌*◌, ◌<◌, ◌≤◌, List, [], ◌∷◌, ◌++◌, length}
+use Rattle.std.specs.Option.{IsSome}
+use Rattle.x7_words.specs.Word.{AreBytes}
+use Rattle.x7_part.specs.Part.{PartData}
+use Rattle.x7_engine.specs.declared.fed.Fed.{Fed}
+use Rattle.x7_engine.specs.declared.fed.Fed.TheVariants as fed
+use Rattle.x7_engine.specs.Kept.{on_the_bench}
+use Rattle.x7_engine.specs.Standing.{DeviceState, DeviceStandsFor, NoWordDue, told_of}
+use Rattle.x7_engine.specs.State.{stop_in}
+use Rattle.x7_jtag.specs.declared.instruction.Instruction.{Instruction}
+use Rattle.x7_jtag.specs.declared.instruction.Instruction.TheVariants as instruction
+use Rattle.x7_jtag.specs.declared.state.State.{State}
+use Rattle.x7_jtag.specs.declared.state.State.TheVariants as state
+use Rattle.x7_jtag.specs.Port.{Port, port_after}
+use Rattle.x7_jtag.specs.Queue.{Queue}
+use Rattle.x7_jtag.specs.States.{Clock}
+
+-- the stored values of a queue: the bytes held, the latest word taken of the device, and how many of its bits are still to go out
+pub record QueueState : Type 0 where
+  pub held : List ℕ
+  pub word : ℕ
+  pub left : ℕ
+
+-- the next word taken, where the device gave one
+abbrev pub with_words : QueueState → List ℕ → QueueState
+with_words k [] = k
+with_words k (w ∷ ws) = record { held = k.held; word = w; left = 32 }
+
+-- the stored values of a tap
+pub record TapState : Type 0 where
+  pub state : State
+  pub instruction : Instruction
+  pub register : ℕ
+  pub count : ℕ
+  pub queue : QueueState
+
+-- of the bytes given a device took these: all of them, or those up to its stop
+pub record Took (part : PartData) (given bytes : List ℕ) : Type 0 where
+  pub fits : AreBytes given
+  pub rest : List ℕ
+  pub parts : given ≡ bytes ++ rest
+  pub over : (rest ≡ []) ⊎ IsSome (stop_in part on_the_bench bytes)
+
+-- how many bytes of a piece of so many are given, by what a feed of them answers: after a stop the rest counts as given
+abbrev pub given_by : Fed → ℕ → ℕ
+given_by (fed.ReadFull n) count = n
+given_by _ count = count
+
+-- the words that were taken of a device that took these bytes
+abbrev pub words_taken : PartData → DeviceState → List ℕ → List ℕ
+words_taken part d bytes = told_of part on_the_bench d bytes
+
+-- a queue and its device stand for bytes given, bytes held and bits that are out, where a word may be due though none waits
+pub record Holds (part : PartData) (k : QueueState) (d : DeviceState) (given held : List ℕ) (out : ℕ) : Type 0 where
+  pub bytes : List ℕ
+  pub took : Took part given bytes
+  pub device : DeviceStandsFor part on_the_bench false d bytes
+  pub held_is : k.held ≡ held
+  pub held_fits : AreBytes held
+  pub out_is : out + k.left ≡ 32 * length (words_taken part d bytes)
+  pub left_is : k.left ≤ 32
+  pub front : List ℕ
+  pub word_is : 0 < k.left → words_taken part d bytes ≡ front ++ k.word ∷ []
+
+-- the next word is taken of the device as soon as the last bit of the one before has gone out
+pub record Stands (part : PartData) (k : QueueState) (d : DeviceState) (given held : List ℕ) (out : ℕ) : Type 0 where
+  pub holds : Holds part k d given held out
+  pub none_due : k.left ≡ 0 → NoWordDue d
+
+abbrev pub QueueStandsFor : PartData → QueueState → DeviceState → Queue → Type 0
+QueueStandsFor part k d q = Stands part k d q.given q.held q.out
+
+-- a tap and its device stand for a port
+pub record StandsForPort (part : PartData) (t : TapState) (d : DeviceState) (p : Port) : Type 0 where
+  pub state_is : t.state ≡ p.state
+  pub instruction_is : t.instruction ≡ p.instruction
+  pub register_is : t.register ≡ p.register
+  pub count_is : t.count ≡ p.count
+  pub queue_is : QueueStandsFor part t.queue d p.queue
+
+-- a tap and its device were new before these clocks
+abbrev pub TapStandsFor : PartData → TapState → DeviceState → List Clock → Type 0
+TapStandsFor part t d cs = StandsForPort part t d (port_after part cs)
+
+-- the next bit is the first of a byte for the device
+pub record TakesBytes (t : TapState) : Type 0 where
+  pub in_shift : t.state ≡ state.ShiftDr
+  pub under : t.instruction ≡ instruction.CfgIn
+  pub at_first : t.count ≡ 0
+
+-- the last of bytes, or the one before them
+abbrev pub last_or : ℕ → List ℕ → ℕ
+last_or before [] = before
+last_or before (b ∷ bs) = last_or b bs

@@ -1,0 +1,61 @@
+//! Laws of the definitions.
+ghost use Rattle.std.specs.Prelude.{◌≡◌, ◌≤◌, ◌<◌, ◌/◌, ◌%◌, ◌^◌, ◌==◌, ℕ, Bool, false, true, List, [], ◌∷◌, Result};
+ghost use Rattle.x7_part.specs.Part.{PartData};
+ghost use Rattle.x7_engine.specs.Kept.{on_the_bench};
+ghost use Rattle.x7_engine.specs.Standing.{DeviceStandsFor, DeviceState, due_count, frames_due};
+ghost use Rattle.x7_engine.specs.State.{state_owing};
+ghost use Rattle.x7_jtag.specs.Bits.{bit_of};
+ghost use Rattle.x7_jtag.specs.Fields.{are_hex, value_of, width};
+ghost use Rattle.x7_jtag.specs.Events.{events_of};
+ghost use Rattle.x7_jtag.specs.Port.{new_port, port_after, words_read};
+ghost use Rattle.x7_jtag.specs.Queue.{Sound, queue_after};
+ghost use Rattle.x7_jtag.specs.Shown.{bytes_taken, state_shown, words_due};
+ghost use Rattle.x7_jtag.specs.Svf.{IsSvfOf};
+ghost use Rattle.x7_jtag.specs.Tap.{TapStandsFor, TapState};
+ghost use Rattle.x7_jtag.specs.States.{Clock, state_after, one, test_logic_reset};
+ghost use Rattle.x7_jtag.specs.declared.fault.SvfFault.{SvfFault};
+ghost use Rattle.x7_jtag.specs.declared.state.State.{State};
+ghost use Rattle.x7_jtag.specs.declared.statement.Statement.{Statement};
+
+/// A text comes to one thing: its statements, or the line of the first that is none.
+pub fn one_svf()
+    ensures { (text : List ℕ) (a b : Result (List Statement) SvfFault) → IsSvfOf text a → IsSvfOf text b → a ≡ b }
+{}
+
+/// Five clocks of TMS 1 reach Test-Logic-Reset from every state.
+pub fn five_ones_reset()
+    ensures { (s : State) (a b c d e : Bool) → state_after s (one a ∷ one b ∷ one c ∷ one d ∷ one e ∷ []) ≡ test_logic_reset }
+{}
+
+/// The device of a tap took the bytes that its port gives, or those up to its stop; the words due are those after the one
+/// whose bits go out; and its state is that of these bytes, where FAR counts the words that were taken.
+pub fn devices_take_what_is_given()
+    ensures taken { (part : PartData) (t : TapState) (d : DeviceState) (cs : List Clock) → TapStandsFor part t d cs
+        → DeviceStandsFor part on_the_bench false d (bytes_taken part (port_after part cs)) }
+    ensures due { (part : PartData) (t : TapState) (d : DeviceState) (cs : List Clock) → TapStandsFor part t d cs
+        → due_count d.registers.due ≡ words_due part (port_after part cs) }
+    ensures shows { (part : PartData) (t : TapState) (d : DeviceState) (cs : List Clock) → TapStandsFor part t d cs
+        → state_owing part on_the_bench false (bytes_taken part (port_after part cs)) (frames_due d.registers.due) ≡ state_shown part (port_after part cs) }
+{}
+
+/// After any clocks a port has no more bits out than were read out, holds at most 64 bytes, and holds them only while a word
+/// waits.
+pub fn queues_are_sound()
+    ensures { (part : PartData) (cs : List Clock) → Sound (words_read part) (port_after part cs).queue }
+{}
+
+/// The queue of a port is that of the events of its clocks: bytes offered, bits shifted out, and resets of the device.
+pub fn queues_are_those_of_events()
+    ensures { (part : PartData) (cs : List Clock) → (port_after part cs).queue ≡ queue_after (words_read part) (events_of part new_port cs) }
+{}
+
+/// The value of hexadecimal digits fits n bits just where their width is at most n.
+pub fn values_fit_their_width()
+    ensures fits { (ds : List ℕ) (n : ℕ) → are_hex ds ≡ true → width ds ≤ n → value_of ds < 2 ^ n }
+    ensures only { (ds : List ℕ) (n : ℕ) → are_hex ds ≡ true → value_of ds < 2 ^ n → width ds ≤ n }
+{}
+
+/// Bit i of hexadecimal digits is bit i of their value.
+pub fn bits_are_those_of_the_value()
+    ensures { (ds : List ℕ) (i : ℕ) → are_hex ds ≡ true → bit_of ds i ≡ (value_of ds / 2 ^ i % 2 == 1) }
+{}

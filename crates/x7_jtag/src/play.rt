@@ -1,0 +1,271 @@
+//! Playing the statements of a text on a tap.
+ghost use Rattle.std.specs.Prelude.{◌≡◌, ◌≤◌, ◌<◌, ◌+◌, ◌-◌, ◌*◌, ◌^◌, ◌∷◌, ◌++◌, ℕ, Bool, false, true, [], List, length, take, replicate, Option, Some};
+ghost use Rattle.std.specs.List.{slice_get};
+ghost use Rattle.x7_part.specs.Part.{PartData};
+ghost use Rattle.x7_jtag.specs.Clocks.{clock as clock_of, clocks_of, from_exit, from_reset, shift_clocks, to_shift as to_shift_clocks};
+ghost use Rattle.x7_jtag.specs.Play.{AreNew, Ready, are_apart as apart, after_clocks, bit_at, clocks_played, counts as counts_at, difference, differs_at, first_difference, found_more, is_apart, least, shift_difference, walk_clocks};
+ghost use Rattle.x7_jtag.specs.Port.{port_after, tdo_of};
+ghost use Rattle.x7_jtag.specs.States.{Clock};
+ghost use Rattle.x7_jtag.specs.Tap.{TapStandsFor};
+ghost use Rattle.x7_jtag.specs.declared.state.State.{State as StateData};
+ghost use Rattle.x7_jtag.specs.declared.statement.Statement.{Statement as StatementData};
+
+use crate::bits::Bits;
+use crate::state::State;
+use crate::statement::Statement;
+use crate::svf::Svf;
+use crate::tap::Tap;
+use x7_engine::Device;
+
+/// The first scan whose TDO differs from the wanted bits.
+#[derive(Clone, Copy, Debug, PartialEq, Eq)]
+pub struct Differ {
+    /// The statement, from 1.
+    pub statement: u32,
+    /// Its least differing bit, from 0.
+    pub bit: u32,
+}
+
+/// Clocks with these values of TMS, and TDI 0.
+fn walk(tap: &mut Tap, device: &mut Device, path: &[bool])
+    requires { Ready tap.old device.old (length path.now) }
+    ensures { (part : PartData) (cs : List Clock) → TapStandsFor part tap.old device.old cs → TapStandsFor part tap.new device.new (cs ++ walk_clocks path.now) }
+{
+    let mut rest = path;
+    while !rest.is_empty() {
+        tap.clock(rest[0], false, device);
+        rest = &rest[1..];
+    }
+}
+
+/// So many clocks of TMS 0 and TDI 0.
+fn run(tap: &mut Tap, device: &mut Device, count: u32)
+    requires { Ready tap.old device.old (2 ^ 32) }
+    ensures few { count < 2 ^ 32 }
+    ensures stands { (part : PartData) (cs : List Clock) → TapStandsFor part tap.old device.old cs → TapStandsFor part tap.new device.new (cs ++ replicate count (clock_of false false)) }
+{
+    for _ in 0..count {
+        tap.clock(false, false, device);
+    }
+}
+
+/// One clock of TMS 0 where in Test-Logic-Reset.
+fn leave_reset(tap: &mut Tap, device: &mut Device)
+    requires { Ready tap.old device.old 1 }
+    ensures { (part : PartData) (cs : List Clock) → TapStandsFor part tap.old device.old cs → TapStandsFor part tap.new device.new (cs ++ from_reset (port_after part cs).state) }
+{
+    match tap.state() {
+        State::TestLogicReset => walk(tap, device, &[false]),
+        _ => (),
+    }
+}
+
+/// From Run-Test/Idle to Shift-IR or Shift-DR.
+fn to_shift(tap: &mut Tap, device: &mut Device, ir: bool)
+    requires { Ready tap.old device.old 4 }
+    ensures { (part : PartData) (cs : List Clock) → TapStandsFor part tap.old device.old cs → TapStandsFor part tap.new device.new (cs ++ to_shift_clocks ir) }
+{
+    if ir {
+        walk(tap, device, &[true, true, false, false]);
+    } else {
+        walk(tap, device, &[true, false, false]);
+    }
+}
+
+/// Bit i, and 0 past the last.
+fn bit_of(bits: &Bits, i: u32) -> bool
+    ensures { result ≡ bit_at bits.now i }
+{
+    match bits.bit(i) {
+        Some(bit) => bit,
+        None => false,
+    }
+}
+
+/// Whether bit i counts.
+fn counts(mask: &Option<Bits>, i: u32) -> bool
+    ensures { result ≡ counts_at mask.now i }
+{
+    match mask {
+        Some(mask) => bit_of(mask, i),
+        None => true,
+    }
+}
+
+fn are_apart(wanted: bool, shown: bool) -> bool
+    ensures { result ≡ apart wanted shown }
+{
+    if wanted { !shown } else { shown }
+}
+
+/// Whether TDO differs at bit i from what is wanted.
+fn differs(tdo: &Option<Bits>, mask: &Option<Bits>, i: u32, shown: bool) -> bool
+    ensures { result ≡ is_apart tdo.now mask.now i shown }
+{
+    match tdo {
+        Some(tdo) => counts(mask, i) && are_apart(bit_of(tdo, i), shown),
+        None => false,
+    }
+}
+
+/// The first place, and this one where there is none yet.
+fn first_of(found: Option<u32>, differs: bool, i: u32) -> Option<u32>
+    ensures { result ≡ found_more found differs i }
+{
+    match found {
+        Some(first) => Some(first),
+        None if differs => Some(i),
+        None => None,
+    }
+}
+
+/// The clocks of the first bits of a scan, byte by byte, as many whole bytes as come before the last bit, where the device
+/// takes them and no bit is wanted. Says how many bits.
+fn shift_bytes(tap: &mut Tap, device: &mut Device, tdi: &Bits, tdo: &Option<Bits>) -> u32
+    requires { Ready tap.old device.old (2 ^ 32) }
+    ensures within { result ≤ length tdi.now }
+    ensures stands { (part : PartData) (cs : List Clock) → TapStandsFor part tap.old device.old cs → TapStandsFor part tap.new device.new (cs ++ take result (shift_clocks tdi.now)) }
+    ensures none_wanted { 0 < result → tdo.now ≡ None }
+    ensures ready { Ready tap.new device.new (2 ^ 32 - result) }
+{
+    if tdo.is_some() {
+        return 0;
+    }
+    if !tap.takes_bytes() {
+        return 0;
+    }
+    let mut at = 0;
+    while tdi.len() - at > 8 {
+        let piece = tdi.bytes_from(at);
+        let bytes = piece.bytes();
+        tap.shift_bytes(bytes, device);
+        at += 8 * bytes.len() as u32;
+    }
+    at
+}
+
+/// Shifts the bits of a scan from this one on, with TMS 1 at the last, and finds the least of them at which TDO differs from
+/// what is wanted.
+fn shift_from(
+    tap: &mut Tap,
+    device: &mut Device,
+    tdi: &Bits,
+    tdo: &Option<Bits>,
+    mask: &Option<Bits>,
+    first: u32,
+) -> Option<u32>
+    requires ready { Ready tap.old device.old (2 ^ 32 - first) }
+    requires within { first ≤ length tdi.now }
+    ensures stands { (part : PartData) (cs : List Clock) → TapStandsFor part tap.old device.old (cs ++ take first (shift_clocks tdi.now)) → TapStandsFor part tap.new device.new (cs ++ shift_clocks tdi.now) }
+    ensures few { length tdi.now < 2 ^ 32 }
+    ensures found { (part : PartData) (cs : List Clock) → TapStandsFor part tap.old device.old (cs ++ take first (shift_clocks tdi.now))
+        → result ≡ least (differs_at part (port_after part cs) tdi.now tdo.now mask.now) first (length tdi.now - first) }
+{
+    let mut found = None;
+    let count = tdi.len();
+    for i in first..count {
+        let shown = tap.clock(i == count - 1, bit_of(tdi, i), device);
+        found = first_of(found, differs(tdo, mask, i, shown), i);
+    }
+    found
+}
+
+/// Shifts the bits of a scan, with TMS 1 at the last, and finds the least bit at which TDO differs from what is wanted.
+fn shift(
+    tap: &mut Tap,
+    device: &mut Device,
+    tdi: &Bits,
+    tdo: &Option<Bits>,
+    mask: &Option<Bits>,
+) -> Option<u32>
+    requires { Ready tap.old device.old (2 ^ 32) }
+    ensures stands { (part : PartData) (cs : List Clock) → TapStandsFor part tap.old device.old cs → TapStandsFor part tap.new device.new (cs ++ shift_clocks tdi.now) }
+    ensures few { length tdi.now < 2 ^ 32 }
+    ensures found { (part : PartData) (cs : List Clock) → TapStandsFor part tap.old device.old cs → result ≡ shift_difference part (port_after part cs) tdi.now tdo.now mask.now }
+{
+    let first = shift_bytes(tap, device, tdi, tdo);
+    shift_from(tap, device, tdi, tdo, mask, first)
+}
+
+/// A scan of a register, and the least bit at which TDO differs from what is wanted.
+fn scan(
+    tap: &mut Tap,
+    device: &mut Device,
+    ir: bool,
+    tdi: &Bits,
+    tdo: &Option<Bits>,
+    mask: &Option<Bits>,
+) -> Option<u32>
+    requires { Ready tap.old device.old (2 ^ 33) }
+    ensures stands { (part : PartData) (cs : List Clock) → TapStandsFor part tap.old device.old cs
+        → TapStandsFor part tap.new device.new (cs ++ (from_reset (port_after part cs).state ++ to_shift_clocks ir ++ shift_clocks tdi.now ++ from_exit)) }
+    ensures few { length tdi.now < 2 ^ 32 }
+    ensures found { (part : PartData) (cs : List Clock) → TapStandsFor part tap.old device.old cs
+        → result ≡ shift_difference part (after_clocks part (port_after part cs) (from_reset (port_after part cs).state ++ to_shift_clocks ir)) tdi.now tdo.now mask.now }
+{
+    leave_reset(tap, device);
+    to_shift(tap, device, ir);
+    let found = shift(tap, device, tdi, tdo, mask);
+    walk(tap, device, &[true, false]);
+    found
+}
+
+/// The clocks of a statement, and the least bit at which TDO differs from what is wanted.
+fn play_statement(statement: &Statement, tap: &mut Tap, device: &mut Device) -> Option<u32>
+    requires { Ready tap.old device.old (2 ^ 33) }
+    ensures stands { (part : PartData) (cs : List Clock) → TapStandsFor part tap.old device.old cs
+        → TapStandsFor part tap.new device.new (cs ++ clocks_of (port_after part cs).state statement.now) }
+    ensures short { (s : StateData) → length (clocks_of s statement.now) ≤ 2 ^ 33 }
+    ensures found { (part : PartData) (cs : List Clock) → TapStandsFor part tap.old device.old cs → result ≡ difference part (port_after part cs) statement.now }
+{
+    match statement {
+        Statement::Reset => {
+            walk(tap, device, &[true, true, true, true, true]);
+            None
+        }
+        Statement::Idle => {
+            leave_reset(tap, device);
+            None
+        }
+        Statement::Run(count) => {
+            leave_reset(tap, device);
+            run(tap, device, *count);
+            None
+        }
+        Statement::Scan { ir, tdi, tdo, mask } => scan(tap, device, *ir, tdi, tdo, mask),
+        Statement::Nothing => None,
+    }
+}
+
+/// The same of statement i of a text.
+fn play_at(svf: &Svf, i: usize, tap: &mut Tap, device: &mut Device) -> Option<u32>
+    requires { Ready tap.old device.old (2 ^ 33) }
+    ensures stands { (x : StatementData) → slice_get svf.now i ≡ Some x → (part : PartData) (cs : List Clock) → TapStandsFor part tap.old device.old cs
+        → TapStandsFor part tap.new device.new (cs ++ clocks_of (port_after part cs).state x) }
+    ensures short { (x : StatementData) → slice_get svf.now i ≡ Some x → (s : StateData) → length (clocks_of s x) ≤ 2 ^ 33 }
+    ensures found { (x : StatementData) → slice_get svf.now i ≡ Some x → (part : PartData) (cs : List Clock) → TapStandsFor part tap.old device.old cs
+        → result ≡ difference part (port_after part cs) x }
+{
+    match svf.statement(i) {
+        Some(statement) => play_statement(statement, tap, device),
+        None => None,
+    }
+}
+
+/// Plays statements on a new tap and a new device, up to the first scan whose TDO differs from the wanted bits, that scan
+/// included. It takes no memory.
+pub fn play_svf(svf: &Svf, tap: &mut Tap, device: &mut Device) -> Option<Differ>
+    requires { AreNew tap.old device.old }
+    ensures clocks { (part : PartData) → TapStandsFor part tap.old device.old [] → TapStandsFor part tap.new device.new (clocks_played svf.now result) }
+    ensures differs { (part : PartData) → TapStandsFor part tap.old device.old [] → result ≡ first_difference part svf.now }
+{
+    for i in 0..svf.len() {
+        if let Some(bit) = play_at(svf, i, tap, device) {
+            return Some(Differ {
+                statement: i as u32 + 1,
+                bit,
+            });
+        }
+    }
+    None
+}

@@ -1,0 +1,246 @@
+//! The queue between a tap and its device: bytes in, bits of the words read out.
+ghost use Rattle.std.specs.Prelude.{◌≡◌, ◌≤◌, ◌<◌, ◌+◌, ◌-◌, ◌*◌, ◌/◌, ◌%◌, ◌^◌, ◌==◌, ◌&&◌, ◌∷◌, ◌++◌, ℕ, nat_lt, [], List, false, length, take};
+ghost use Rattle.std.specs.List.{fold};
+ghost use Rattle.x7_part.specs.Part.{PartData};
+ghost use Rattle.x7_engine.specs.Standing.{NoWordDue};
+ghost use Rattle.x7_jtag.specs.Port.{words_read};
+ghost use Rattle.x7_jtag.specs.Queue.{Queue as QueueData, bit_shown, bits_read, empty, in_turn, offered, give_held as give_held_by, shifted_out, with_room};
+ghost use Rattle.x7_jtag.specs.Tap.{Holds, QueueStandsFor, Stands, given_by, with_words};
+
+use crate::held::Held;
+use std::marker::Model;
+use std::mem;
+use x7_engine::{Device, Fed, ON_THE_BENCH, ReadBuf};
+
+/// The bytes held back while a word waits, and the bits of the latest word that are still to go out.
+#[derive(Drop)]
+pub(crate) struct Queue {
+    held: Held,
+    word: u32,
+    left: u32,
+}
+
+impl Model for Queue {
+    ghost use Rattle.std.specs.Prelude.{◌≤◌};
+    ghost use Rattle.x7_jtag.specs.Tap.{QueueState};
+
+    ghost Value = { QueueState };
+
+    ghost view = { λ q. record { held = q.held; word = q.word; left = q.left } };
+
+    ghost invariant = { λ q. q.left ≤ 32 };
+}
+
+/// How many bytes of a piece of so many are given, by what a feed of them answers: after a stop the rest counts as given.
+fn given_of(fed: Fed, length: usize) -> usize
+    ensures { result ≡ given_by fed length }
+{
+    match fed {
+        Fed::ReadFull(count) => count,
+        _ => length,
+    }
+}
+
+impl Queue {
+    /// An empty queue.
+    pub(crate) fn new() -> Queue
+        ensures { result ≡ record { held = []; word = 0; left = 0 } }
+    {
+        Queue {
+            held: Held::new(),
+            word: 0,
+            left: 0,
+        }
+    }
+
+    /// Keeps the word that the device gave, where it gave one.
+    fn keep(&mut self, words: &[u32])
+        ensures { self.new ≡ with_words self.old words.now }
+    {
+        if let [word, ..] = words {
+            self.word = *word;
+            self.left = 32;
+        }
+    }
+
+    /// Gives a piece of at most one byte to the device, and takes the word that is then the next, where there is one.
+    fn feed(&mut self, piece: &[u8], device: &mut Device)
+        requires few { length piece.now ≤ 1 }
+        requires none_waits { self.old.left ≡ 0 }
+        requires fits { device.old.taken + length piece.now ≤ 2 ^ 63 }
+        ensures taken { device.new.taken ≤ device.old.taken + length piece.now }
+        ensures held { self.new.held ≡ self.old.held }
+        ensures stands { (part : PartData) (given held : List ℕ) (out : ℕ) → Holds part self.old device.old given held out → (0 < length piece.now → NoWordDue device.old)
+            → Stands part self.new device.new (given ++ piece.now) held out }
+    {
+        let mut read = ReadBuf::one();
+        device.feed(piece, &mut read);
+        self.keep(read.words());
+    }
+
+    /// Takes a byte in its turn.
+    fn take(&mut self, byte: u8, device: &mut Device)
+        requires room { 0 < self.old.left → length self.old.held < 64 }
+        requires fits { device.old.taken + 1 ≤ 2 ^ 63 }
+        ensures taken { device.new.taken ≤ device.old.taken + 1 }
+        ensures held { length self.new.held ≤ length self.old.held + 1 }
+        ensures all { device.new.taken + length self.new.held ≤ device.old.taken + length self.old.held + 1 }
+        ensures stands { (part : PartData) (q : QueueData) → QueueStandsFor part self.old device.old q → QueueStandsFor part self.new device.new (in_turn (words_read part) q byte) }
+    {
+        if self.left > 0 {
+            self.held.push(byte);
+        } else {
+            self.feed(&[byte], device);
+        }
+    }
+
+    /// Drops what waits, gives the held bytes, and drops what they say.
+    fn drop_all(&mut self, device: &mut Device)
+        requires fits { device.old.taken + 64 ≤ 2 ^ 63 }
+        ensures taken { device.new.taken ≤ device.old.taken + length self.old.held }
+        ensures held { self.new.held ≡ [] }
+        ensures none_waits { self.new.left ≡ 0 }
+        ensures stands { (part : PartData) (given held : List ℕ) (out : ℕ) → Stands part self.old device.old given held out
+            → Stands part self.new device.new (given ++ held) [] (bits_read (words_read part) (given ++ held)) }
+    {
+        let mut read = ReadBuf::dropping();
+        device.feed(self.held.bytes(), &mut read);
+        self.held.clear();
+        self.left = 0;
+    }
+
+    /// Whether a byte has no room that should be held.
+    fn overflows(&self) -> bool
+        ensures value { result ≡ (nat_lt 0 self.now.left && length self.now.held == 64) }
+        ensures room { result ≡ false → 0 < self.now.left → length self.now.held < 64 }
+    {
+        self.left > 0 && self.held.is_full()
+    }
+
+    /// Makes room for a byte, where it should be held and the most are.
+    fn make_room(&mut self, device: &mut Device)
+        requires fits { device.old.taken + 64 ≤ 2 ^ 63 }
+        ensures all { device.new.taken + length self.new.held ≤ device.old.taken + length self.old.held }
+        ensures taken { device.new.taken ≤ device.old.taken + 64 }
+        ensures room { 0 < self.new.left → length self.new.held < 64 }
+        ensures stands { (part : PartData) (q : QueueData) → QueueStandsFor part self.old device.old q → QueueStandsFor part self.new device.new (with_room (words_read part) q) }
+    {
+        if self.overflows() {
+            self.drop_all(device);
+        }
+    }
+
+    /// Takes a byte that is offered.
+    pub(crate) fn offer(&mut self, byte: u8, device: &mut Device)
+        requires fits { device.old.taken + 65 ≤ 2 ^ 63 }
+        ensures all { device.new.taken + length self.new.held ≤ device.old.taken + length self.old.held + 1 }
+        ensures stands { (part : PartData) (q : QueueData) → QueueStandsFor part self.old device.old q → QueueStandsFor part self.new device.new (offered (words_read part) q byte) }
+    {
+        self.make_room(device);
+        self.take(byte, device);
+    }
+
+    /// Gives bytes to the device, where no word waits, up to the one with which a word is read out. Says how many.
+    fn give(&mut self, bytes: &[u8], device: &mut Device) -> usize
+        requires fits { device.old.taken + length bytes.now ≤ 2 ^ 63 }
+        ensures within { result ≤ length bytes.now }
+        ensures all { device.new.taken + length self.new.held ≤ device.old.taken + length self.old.held + result }
+        ensures stands { (part : PartData) (q : QueueData) → QueueStandsFor part self.old device.old q → QueueStandsFor part self.new device.new (fold (offered (words_read part)) q (take result bytes.now)) }
+    {
+        if self.left > 0 {
+            return 0;
+        }
+        let count = given_of(device.feed_until_read(bytes), bytes.len());
+        self.feed(&[], device);
+        count
+    }
+
+    /// Takes the first of bytes that are offered, as many as go at once. Says how many.
+    fn offer_some(&mut self, bytes: &[u8], device: &mut Device) -> usize
+        requires some { 0 < length bytes.now }
+        requires fits { device.old.taken + length self.old.held + length bytes.now + 65 ≤ 2 ^ 63 }
+        ensures some { 0 < result }
+        ensures within { result ≤ length bytes.now }
+        ensures all { device.new.taken + length self.new.held ≤ device.old.taken + length self.old.held + result }
+        ensures stands { (part : PartData) (q : QueueData) → QueueStandsFor part self.old device.old q → QueueStandsFor part self.new device.new (fold (offered (words_read part)) q (take result bytes.now)) }
+    {
+        let count = self.give(bytes, device);
+        if count > 0 {
+            return count;
+        }
+        self.offer(bytes[0], device);
+        1
+    }
+
+    /// Takes bytes that are offered, one after another.
+    pub(crate) fn offer_all(&mut self, bytes: &[u8], device: &mut Device)
+        requires fits { device.old.taken + length self.old.held + length bytes.now + 65 ≤ 2 ^ 63 }
+        ensures stands { (part : PartData) (q : QueueData) → QueueStandsFor part self.old device.old q → QueueStandsFor part self.new device.new (fold (offered (words_read part)) q bytes.now) }
+    {
+        let mut rest = bytes;
+        while !rest.is_empty() {
+            let count = self.offer_some(rest, device);
+            rest = &rest[count..];
+        }
+    }
+
+    /// Gives held bytes in order until a word waits.
+    fn give_held(&mut self, device: &mut Device)
+        requires fits { device.old.taken + 64 ≤ 2 ^ 63 }
+        ensures stands { (part : PartData) (given held : List ℕ) (out : ℕ) → Stands part self.old device.old given held out
+            → QueueStandsFor part self.new device.new (give_held_by (words_read part) given held out) }
+    {
+        let held = mem::replace(&mut self.held, Held::new());
+        let mut rest = held.bytes();
+        while !rest.is_empty() {
+            self.take(rest[0], device);
+            rest = &rest[1..];
+        }
+    }
+
+    /// The next bit of the word, which is then out.
+    fn next_bit(&mut self) -> bool
+        requires { 0 < self.old.left }
+        ensures new { self.new ≡ record self.old { left = self.old.left - 1 } }
+        ensures bit { result ≡ (self.old.word / 2 ^ (self.old.left - 1) % 2 == 1) }
+    {
+        self.left -= 1;
+        (self.word >> self.left) % 2 == 1
+    }
+
+    /// Takes the next word as soon as the last bit of the one before is out; where there is none, held bytes go on.
+    fn refill(&mut self, device: &mut Device)
+        requires none_waits { self.old.left ≡ 0 }
+        requires fits { device.old.taken + 64 ≤ 2 ^ 63 }
+        ensures stands { (part : PartData) (given held : List ℕ) (out : ℕ) → Holds part self.old device.old given held out
+            → QueueStandsFor part self.new device.new (give_held_by (words_read part) given held out) }
+    {
+        self.feed(&[], device);
+        self.give_held(device);
+    }
+
+    /// Shifts a bit out; 0 where none waits.
+    pub(crate) fn shift(&mut self, device: &mut Device) -> bool
+        requires fits { device.old.taken + 64 ≤ 2 ^ 63 }
+        ensures stands { (part : PartData) (q : QueueData) → QueueStandsFor part self.old device.old q → QueueStandsFor part self.new device.new (shifted_out (words_read part) q) }
+        ensures bit { (part : PartData) (q : QueueData) → QueueStandsFor part self.old device.old q → result ≡ bit_shown (words_read part) q }
+    {
+        if self.left == 0 {
+            return false;
+        }
+        let bit = self.next_bit();
+        if self.left == 0 {
+            self.refill(device);
+        }
+        bit
+    }
+
+    /// Resets the device and forgets all.
+    pub(crate) fn program(&mut self, device: &mut Device)
+        ensures { (part : PartData) (q : QueueData) → QueueStandsFor part self.old device.old q → QueueStandsFor part self.new device.new empty }
+    {
+        device.reset(ON_THE_BENCH);
+        self.held.clear();
+        self.left = 0;
+    }
+}

@@ -1,0 +1,291 @@
+//! The test access port of a device.
+ghost use Rattle.std.specs.Prelude.{◌≡◌, ◌≤◌, ◌<◌, ◌+◌, ◌*◌, ◌/◌, ◌%◌, ◌^◌, ◌==◌, ◌∷◌, ◌++◌, ℕ, Bool, false, [], List, length, IsTrue};
+ghost use Rattle.x7_part.specs.Part.{PartData};
+ghost use Rattle.x7_engine.specs.Kept.{on_the_bench};
+ghost use Rattle.x7_engine.specs.Standing.{DeviceStandsFor, DeviceState};
+ghost use Rattle.x7_jtag.specs.Port.{Port, acted, captured, clocked, data_shifted, data_shown, idled, lowest, number_of_bit, port_after, shifted as shifted_in, status as status_by, status_of, tdo_of, updated, with_bit as with_bit_in};
+ghost use Rattle.x7_jtag.specs.States.{Clock};
+ghost use Rattle.x7_jtag.specs.declared.instruction.Instruction.TheVariants.{CfgIn};
+ghost use Rattle.x7_jtag.specs.Tap.{StandsForPort, TakesBytes, TapStandsFor, Took, last_or};
+ghost use Rattle.x7_jtag.specs.Bits.{bytes_bits};
+ghost use Rattle.x7_jtag.specs.Clocks.{inner_clocks};
+
+use crate::instruction::{Instruction, instruction_of};
+use crate::queue::Queue;
+use crate::state::State;
+use std::marker::Model;
+use x7_engine::Device;
+
+/// A test access port (IEEE 1149.1), clock by clock. It takes no memory.
+#[derive(Drop)]
+pub struct Tap {
+    state: State,
+    instruction: Instruction,
+    // the register between TDI and TDO
+    register: u32,
+    // how many of eight bits of a byte, or of eight clocks of startup, there were
+    count: u32,
+    queue: Queue,
+}
+
+impl Model for Tap {
+    ghost use Rattle.std.specs.Prelude.{◌<◌};
+    ghost use Rattle.x7_jtag.specs.Tap.{TapState};
+
+    ghost Value = { TapState };
+
+    ghost view = { λ t. record { state = t.state; instruction = t.instruction; register = t.register; count = t.count; queue = t.queue } };
+
+    ghost invariant = { λ t. t.count < 8 };
+}
+
+/// A bit as a number.
+fn number_of(bit: bool) -> u32
+    ensures value { result ≡ number_of_bit bit }
+    ensures small { result ≤ 1 }
+{
+    if bit { 1 } else { 0 }
+}
+
+/// The lowest bit.
+fn is_odd(register: u32) -> bool
+    ensures { result ≡ lowest register }
+{
+    register % 2 == 1
+}
+
+/// One shift: the lowest bit goes out, and TDI comes in as the highest, which is worth `top`.
+fn shifted(top: u32, register: u32, tdi: bool) -> u32
+    requires { top ≤ 2 ^ 31 }
+    ensures { result ≡ shifted_in top register tdi }
+{
+    let high = if tdi { top } else { 0 };
+    register / 2 + high
+}
+
+/// A bit more of a byte whose first bit is the highest.
+fn with_bit(byte: u32, tdi: bool) -> u8
+    ensures { result ≡ with_bit_in byte tdi }
+{
+    (byte % 128 * 2 + number_of(tdi)) as u8
+}
+
+/// What Capture-IR loads where these are DONE and STAT.
+fn status_with(done: bool, stat: u32) -> u32
+    ensures { result ≡ status_by done (stat / 2 ^ 12 % 2 == 1) }
+{
+    32 * number_of(done) + 16 * number_of((stat >> 12) % 2 == 1) + 1
+}
+
+/// What Capture-IR loads.
+fn status(device: &Device) -> u32
+    ensures { (part : PartData) (given bytes : List ℕ) → DeviceStandsFor part on_the_bench false device.now bytes → Took part given bytes → result ≡ status_of part given }
+{
+    let state = device.state();
+    status_with(state.lines.done, state.stat)
+}
+
+/// The last of bytes, or what was there before them.
+fn last_of(bytes: &[u8], before: u32) -> u32
+    ensures { result ≡ last_or before bytes.now }
+{
+    if bytes.is_empty() {
+        return before;
+    }
+    u32::from(bytes[bytes.len() - 1])
+}
+
+impl Tap {
+    /// A tap in Test-Logic-Reset with the instruction IDCODE.
+    pub fn new() -> Tap
+        ensures { (part : PartData) (d : DeviceState) → DeviceStandsFor part on_the_bench false d [] → TapStandsFor part result d [] }
+    {
+        Tap {
+            state: State::TestLogicReset,
+            instruction: Instruction::Idcode,
+            register: 0,
+            count: 0,
+            queue: Queue::new(),
+        }
+    }
+
+    /// The state.
+    pub fn state(&self) -> State
+        ensures { result ≡ self.now.state }
+    {
+        self.state
+    }
+
+    /// The instruction.
+    pub fn instruction(&self) -> Instruction
+        ensures { result ≡ self.now.instruction }
+    {
+        self.instruction
+    }
+
+    /// Counts to eight, and says whether it has.
+    fn count_to_eight(&mut self) -> bool
+        ensures new { self.new ≡ record self.old { count = (self.old.count + 1) % 8 } }
+        ensures eighth { result ≡ (self.old.count == 7) }
+    {
+        let is_eighth = self.count == 7;
+        self.count = (self.count + 1) % 8;
+        is_eighth
+    }
+
+    /// Run-Test/Idle: under JSTART each eighth clock offers a byte FF.
+    fn idle(&mut self, device: &mut Device)
+        requires { device.old.taken + 65 ≤ 2 ^ 63 }
+        ensures state { self.new.state ≡ self.old.state }
+        ensures stands { (part : PartData) (p : Port) → StandsForPort part self.old device.old p → StandsForPort part self.new device.new (idled part p.instruction p) }
+    {
+        match self.instruction {
+            Instruction::Jstart => {
+                if self.count_to_eight() {
+                    self.queue.offer(0xFF, device);
+                }
+            }
+            _ => (),
+        }
+    }
+
+    /// Capture-DR.
+    fn capture(&mut self, device: &Device)
+        ensures state { self.new.state ≡ self.old.state }
+        ensures stands { (part : PartData) (p : Port) → StandsForPort part self.old device.now p → StandsForPort part self.new device.now (captured part p.instruction p) }
+    {
+        match self.instruction {
+            Instruction::Idcode => self.register = device.part().idcode(),
+            Instruction::Usercode => self.register = 0xFFFF_FFFF,
+            Instruction::CfgIn => {
+                self.register = 0;
+                self.count = 0;
+            }
+            _ => self.register = 0,
+        }
+    }
+
+    /// Shift-DR under CFG_IN: each eighth bit completes a byte, which is offered.
+    fn shift_byte(&mut self, tdi: bool, device: &mut Device)
+        requires { device.old.taken + 65 ≤ 2 ^ 63 }
+        ensures state { self.new.state ≡ self.old.state }
+        ensures stands { (part : PartData) (p : Port) → StandsForPort part self.old device.old p → StandsForPort part self.new device.new (data_shifted part CfgIn p tdi) }
+    {
+        let byte = with_bit(self.register, tdi);
+        self.register = u32::from(byte);
+        if self.count_to_eight() {
+            self.queue.offer(byte, device);
+        }
+    }
+
+    /// One shift of the register, whose highest bit is worth `top`. Gives the bit that goes out.
+    fn shift_register(&mut self, top: u32, tdi: bool) -> bool
+        requires { top ≤ 2 ^ 31 }
+        ensures new { self.new ≡ record self.old { register = shifted_in top self.old.register tdi } }
+        ensures out { result ≡ lowest self.old.register }
+    {
+        let out = is_odd(self.register);
+        self.register = shifted(top, self.register, tdi);
+        out
+    }
+
+    /// Whether the next bit is the first of a byte for the device.
+    pub(crate) fn takes_bytes(&self) -> bool
+        ensures { IsTrue result → TakesBytes self.now }
+    {
+        match (self.state, self.instruction) {
+            (State::ShiftDr, Instruction::CfgIn) => self.count == 0,
+            _ => false,
+        }
+    }
+
+    /// The clocks of TMS 0 that shift the bits of these bytes, each from its highest bit.
+    pub(crate) fn shift_bytes(&mut self, bytes: &[u8], device: &mut Device)
+        requires takes { TakesBytes self.old }
+        requires fits { device.old.taken + length self.old.queue.held + length bytes.now + 65 ≤ 2 ^ 63 }
+        ensures takes { TakesBytes self.new }
+        ensures stands { (part : PartData) (cs : List Clock) → TapStandsFor part self.old device.old cs → TapStandsFor part self.new device.new (cs ++ inner_clocks (bytes_bits bytes.now)) }
+    {
+        self.queue.offer_all(bytes, device);
+        self.register = last_of(bytes, self.register);
+    }
+
+    /// Shift-DR.
+    fn shift(&mut self, tdi: bool, device: &mut Device) -> bool
+        requires { device.old.taken + 65 ≤ 2 ^ 63 }
+        ensures state { self.new.state ≡ self.old.state }
+        ensures stands { (part : PartData) (p : Port) → StandsForPort part self.old device.old p → StandsForPort part self.new device.new (data_shifted part p.instruction p tdi) }
+        ensures tdo { (part : PartData) (p : Port) → StandsForPort part self.old device.old p → result ≡ data_shown part p.instruction p }
+    {
+        match self.instruction {
+            Instruction::CfgIn => {
+                self.shift_byte(tdi, device);
+                false
+            }
+            Instruction::CfgOut => self.queue.shift(device),
+            Instruction::Idcode => self.shift_register(0x8000_0000, tdi),
+            Instruction::Usercode => self.shift_register(0x8000_0000, tdi),
+            _ => self.shift_register(1, tdi),
+        }
+    }
+
+    /// Update-IR: the register becomes the instruction, and JPROGRAM resets the device.
+    fn update(&mut self, device: &mut Device)
+        ensures state { self.new.state ≡ self.old.state }
+        ensures stands { (part : PartData) (p : Port) → StandsForPort part self.old device.old p → StandsForPort part self.new device.new (updated p) }
+    {
+        self.instruction = instruction_of(self.register);
+        self.count = 0;
+        match self.instruction {
+            Instruction::Jprogram => self.queue.program(device),
+            _ => (),
+        }
+    }
+
+    /// Does the action of the present state, and gives TDO.
+    fn act(&mut self, tdi: bool, device: &mut Device) -> bool
+        requires { device.old.taken + 65 ≤ 2 ^ 63 }
+        ensures state { self.new.state ≡ self.old.state }
+        ensures stands { (part : PartData) (p : Port) → StandsForPort part self.old device.old p → StandsForPort part self.new device.new (acted part p.state p tdi) }
+        ensures tdo { (part : PartData) (p : Port) → StandsForPort part self.old device.old p → result ≡ tdo_of part p }
+    {
+        match self.state {
+            State::TestLogicReset => {
+                self.instruction = Instruction::Idcode;
+                false
+            }
+            State::RunTestIdle => {
+                self.idle(device);
+                false
+            }
+            State::CaptureDr => {
+                self.capture(device);
+                false
+            }
+            State::ShiftDr => self.shift(tdi, device),
+            State::CaptureIr => {
+                self.register = status(device);
+                false
+            }
+            State::ShiftIr => self.shift_register(32, tdi),
+            State::UpdateIr => {
+                self.update(device);
+                false
+            }
+            _ => false,
+        }
+    }
+
+    /// One clock: gives TDO, does the action of the present state, and moves to the next.
+    ///
+    /// The tap is new, or was clocked with this device alone since the device was new.
+    pub fn clock(&mut self, tms: bool, tdi: bool, device: &mut Device) -> bool
+        requires { device.old.taken + 66 ≤ 2 ^ 63 }
+        ensures stands { (part : PartData) (cs : List Clock) → TapStandsFor part self.old device.old cs → TapStandsFor part self.new device.new (cs ++ record { tms = tms; tdi = tdi } ∷ []) }
+        ensures tdo { (part : PartData) (cs : List Clock) → TapStandsFor part self.old device.old cs → result ≡ tdo_of part (port_after part cs) }
+    {
+        let tdo = self.act(tdi, device);
+        self.state = self.state.next(tms);
+        tdo
+    }
+}

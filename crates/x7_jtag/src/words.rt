@@ -1,0 +1,195 @@
+//! Statements of words alone.
+ghost use Rattle.std.specs.Prelude.{◌≡◌, ◌≤◌, ◌<◌, ◌&&◌, ◌+◌, ◌^◌, ◌∷◌, [], ℕ, List, true, false, length, map, codes, Option, Some, None, MatchOption};
+ghost use Rattle.x7_jtag.specs.Words.{end_words, is_digit, is_free, is_free_byte, is_key, is_time, is_time_byte, most_clocks, number_from, number_of, reset_words, run_by, run_if as run_clocks, run_words, some_if, state_words, statement_of_words as of_words, word_list, zero_words};
+ghost use Rattle.x7_jtag.specs.declared.statement.Statement.{Statement as StatementData};
+ghost use Rattle.std.specs.List.{list_all};
+
+use crate::statement::Statement;
+
+pub(crate) fn is_keyword(word: &[u8], key: &[u8]) -> bool
+    ensures { result ≡ is_key word.now key.now }
+{
+    word.eq_ignore_ascii_case(key)
+}
+
+fn is_decimal(byte: u8) -> bool
+    ensures { result ≡ is_digit byte }
+{
+    b'0' <= byte && byte <= b'9'
+}
+
+fn is_of_time(byte: u8) -> bool
+    ensures { result ≡ is_time_byte byte }
+{
+    is_decimal(byte) || byte == b'.' || byte == b'E' || byte == b'+' || byte == b'-'
+}
+
+/// The number of decimal digits, where it is within the limit.
+pub(crate) fn number(word: &[u8], limit: u32) -> Option<u32>
+    ensures { result ≡ number_of limit word.now }
+{
+    if word.is_empty() {
+        return None;
+    }
+    let mut value: u32 = 0;
+    let mut rest = word;
+    while !rest.is_empty() {
+        let byte = rest[0];
+        if !is_decimal(byte) {
+            return None;
+        }
+        let more = u64::from(value) * 10 + u64::from(byte - b'0');
+        if more > u64::from(limit) {
+            return None;
+        }
+        value = more as u32;
+        rest = &rest[1..];
+    }
+    Some(value)
+}
+
+fn all_of_time(word: &[u8]) -> bool
+    ensures { result ≡ list_all is_time_byte word.now }
+{
+    word.iter().all(
+        |byte|
+            ensures { result ≡ is_time_byte byte.now }
+        { is_of_time(*byte) },
+    )
+}
+
+fn is_any_time(word: &[u8]) -> bool
+    ensures { result ≡ is_time word.now }
+{
+    !word.is_empty() && all_of_time(word)
+}
+
+pub(crate) fn is_any_word(word: &[u8]) -> bool
+    ensures { result ≡ is_free word.now }
+{
+    word.iter().all(
+        |byte|
+            ensures { result ≡ is_free_byte byte.now }
+        { *byte != b'\r' },
+    )
+}
+
+fn run(digits: &[u8]) -> Option<Statement>
+    ensures { result ≡ run_by (number_of most_clocks digits.now) }
+{
+    match number(digits, 16_777_216) {
+        Some(count) => Some(Statement::Run(count)),
+        None => None,
+    }
+}
+
+fn run_if(test: bool, digits: &[u8]) -> Option<Statement>
+    ensures { result ≡ run_clocks test digits.now }
+{
+    if test { run(digits) } else { None }
+}
+
+fn nothing_if(test: bool) -> Option<Statement>
+    ensures { result ≡ some_if test StatementData.Nothing }
+{
+    if test { Some(Statement::Nothing) } else { None }
+}
+
+fn state(words: &[&[u8]]) -> Option<Statement>
+    ensures { result ≡ state_words (word_list words.now) }
+{
+    match words {
+        [word] => {
+            if is_keyword(word, b"RESET") {
+                Some(Statement::Reset)
+            } else if is_keyword(word, b"IDLE") {
+                Some(Statement::Idle)
+            } else {
+                None
+            }
+        }
+        _ => None,
+    }
+}
+
+fn are_idle_clocks(state: &[u8], unit: &[u8]) -> bool
+    ensures { result ≡ (is_key state.now (codes "IDLE") && is_key unit.now (codes "TCK")) }
+{
+    is_keyword(state, b"IDLE") && is_keyword(unit, b"TCK")
+}
+
+fn are_timed_clocks(unit: &[u8], time: &[u8], second: &[u8]) -> bool
+    ensures { result ≡ (is_key unit.now (codes "TCK") && is_time time.now && is_key second.now (codes "SEC")) }
+{
+    is_keyword(unit, b"TCK") && is_any_time(time) && is_keyword(second, b"SEC")
+}
+
+fn run_of(words: &[&[u8]]) -> Option<Statement>
+    ensures { result ≡ run_words (word_list words.now) }
+{
+    match words {
+        [count, unit] => {
+            if is_keyword(unit, b"TCK") {
+                run(count)
+            } else {
+                nothing_if(is_keyword(unit, b"SEC") && is_any_time(count))
+            }
+        }
+        [state, count, unit] => { run_if(are_idle_clocks(state, unit), count) }
+        [count, unit, time, second] => { run_if(are_timed_clocks(unit, time, second), count) }
+        _ => None,
+    }
+}
+
+fn end(words: &[&[u8]]) -> Option<Statement>
+    ensures { result ≡ end_words (word_list words.now) }
+{
+    match words {
+        [word] => nothing_if(is_keyword(word, b"IDLE")),
+        _ => None,
+    }
+}
+
+fn no_others(words: &[&[u8]]) -> Option<Statement>
+    ensures { result ≡ zero_words (word_list words.now) }
+{
+    match words {
+        [word] => nothing_if(is_keyword(word, b"0")),
+        _ => None,
+    }
+}
+
+fn reset_line(words: &[&[u8]]) -> Option<Statement>
+    ensures { result ≡ reset_words (word_list words.now) }
+{
+    match words {
+        [word] => nothing_if(is_any_word(word)),
+        _ => None,
+    }
+}
+
+/// The statement of a keyword and the words after it.
+pub(crate) fn statement_of_words(key: &[u8], words: &[&[u8]]) -> Option<Statement>
+    ensures { result ≡ of_words key.now (word_list words.now) }
+{
+    if is_keyword(key, b"STATE") {
+        return state(words);
+    }
+    if is_keyword(key, b"RUNTEST") {
+        return run_of(words);
+    }
+    if is_keyword(key, b"ENDIR") || is_keyword(key, b"ENDDR") {
+        return end(words);
+    }
+    if is_keyword(key, b"HIR")
+        || is_keyword(key, b"HDR")
+        || is_keyword(key, b"TIR")
+        || is_keyword(key, b"TDR")
+    {
+        return no_others(words);
+    }
+    if is_keyword(key, b"TRST") {
+        return reset_line(words);
+    }
+    None
+}
