@@ -43,7 +43,7 @@ fn run_file(rt: &HostRuntime, subject: &str, part: &[u8]) -> io::Result<()> {
 }
 
 /// The pages of the documents whose commands are run.
-const PAGES: [&str; 1] = ["FLOWS.md"];
+const PAGES: [&str; 2] = ["FLOWS.md", "BOARD.md"];
 
 /// Reads a file that a page's commands read, where there is one of that name and it isn't read yet.
 fn put_example(rt: &HostRuntime, files: &mut Vec<Named>, word: &str) -> io::Result<()> {
