@@ -4,7 +4,8 @@ use Rattle.std.specs.Prelude.{MatchOption, nat_eq, nat_le}
 use Rattle.std.proofs.lemmas.Bool.{leb-true}
 use Rattle.std.specs.List.{starts_with}
 use Rattle.std.proofs.Math.Seq.{drop-append_seam}
-use Rattle.x7_words.specs.Input.{InputsState, AtEnd, preceded}
+use Rattle.x7_words.specs.Input.{InputsState, AtEnd, Stays, Takes, preceded}
+use Rattle.x7_words.proofs.CountLemmas.{risen_from}
 use Rattle.x7_words.proofs.InputLemmas.{preceded-preceded}
 use Rattle.x7_words.proofs.ListLemmas.{shorter_front}
 use Rattle.x7_header.specs.Header.{Contents, EndsInHeader, listed, fixed_bytes, HasOtherLetter, HasOtherLetterAt, HaveHeader, fields_bytes, header_bytes, layout}
@@ -15,7 +16,10 @@ use Rattle.x7_listing.specs.BitLine.{bit_text}
 use Rattle.x7_listing.specs.Listing.{listing_of}
 use Rattle.x7_listing.specs.StreamListing.{listing_by, stream_listing}
 use Rattle.x7_listing.proofs.BitLemmas.{header-limit}
-use Rattle.x7_forms.specs.Turn.{BeginAt, FrontRead, HoldsFew, IsFront, IsRefused, RefusedAt}
+use Rattle.x7_forms.specs.Event.{Event, too_large}
+use Rattle.x7_forms.specs.Known.{stream_limit}
+use Rattle.x7_forms.specs.Turn.{BeginAt, FrontRead, HoldsFew, IsFront, IsRefused, Reads, RefusedAt, Unfronted, Unread}
+use Rattle.x7_forms.proofs.ReadLemmas.{reads_as, reads_on}
 
 -- a stream that begins as no header does
 pub raw_listed : (bytes : List ℕ) → header_at bytes ≡ Err header.Raw → stream_listing bytes ≡ Ok (listing_of bytes)
@@ -171,6 +175,11 @@ pub found_some : {A : Type 0} (found : Option A) (x : A) (P : Type 0) (Q : A →
 found_some (Some y) x P Q e m = subst Q (let same : y ≡ x = cc in same) m
 found_some None x P Q e m = absurd cc
 
+-- what holds where none was found
+pub found_none : {A : Type 0} (found : Option A) (P : Type 0) (Q : A → Type 0) → found ≡ None → MatchOption found P Q → P
+found_none None P Q e m = m
+found_none (Some x) P Q e m = absurd cc
+
 -- a piece as the turn read it
 pub piece_of : (old mid piece all bytes : List ℕ) (n : ℕ) → mid ≡ old ++ piece → bytes ≡ mid → length piece ≤ n → 0 < n → all ≡ old → (length all < 13 → length all + n ≡ 13) → (EndsInHeader all → HeaderWaits all n)
     → (0 < length old → EndsInHeader old) → IsPiece old piece bytes n
@@ -192,14 +201,24 @@ piece_of (x ∷ old) mid piece all bytes n a b c e s f h g = record {
 }
 
 -- the front that was read
-pub front_read : (old mid piece bytes line : List ℕ) (n start : ℕ) (last : Bool) (s0 s1 s2 : InputsState) → IsPiece old piece bytes n → mid ≡ old ++ piece → bytes ≡ mid → s0.rest ≡ preceded old s1.rest → s1.rest ≡ preceded piece s2.rest → (last ≡ true → AtEnd s2.rest)
+pub front_read : (old mid piece bytes line : List ℕ) (n start : ℕ) (last : Bool) (s0 s1 s2 : InputsState) → IsPiece old piece bytes n → mid ≡ old ++ piece → bytes ≡ mid → Reads s0 old s1 → Takes s1 piece s2 → s2.asked ≡ s1.asked → Stays s1 s2 → (last ≡ true → AtEnd s2.rest)
     → length old ≤ 262170 → length piece ≤ 65536 → (start ≤ length bytes) × IsFront bytes last line start → BeginAt bytes start → FrontRead mid line start last s0 s2
-front_read old mid piece bytes line n start last s0 s1 s2 p a b t u e few short j begin =
+front_read old mid piece bytes line n start last s0 s1 s2 p a b r t q k e few short j begin =
     subst (λ (m : List ℕ). FrontRead m line start last s0 s2) b (record {
-      taken = joined_taken s0.rest s1.rest s2.rest old piece mid bytes t u a b;
+      reads = reads_as s0 s2 bytes (old ++ piece) (b ∙ a) (reads_on s0 s1 s2 old piece r t q k);
       end = e;
       within = j.0;
       few = omega (arith, few, short, ap length (b ∙ a), length-append old piece);
       holds_few = holds_few old piece bytes n start p begin;
       front = j.1;
     })
+
+-- a turn that was not read, before the header was judged
+pub unfronted_turn : (old mid new : InputsState) (name bytes : List ℕ) (left : ℕ) (event : Event) → Reads old bytes mid → length bytes + left ≡ stream_limit → new.asked ≡ mid.asked → (event ≡ too_large name → ⊥) → Unread mid name new left event → Unfronted old name new event
+unfronted_turn old mid new name bytes left event r n q small (inl h) =
+    inr (inl (h.0, record { risen = risen_from old.faults mid.faults new.faults r.stays.faults h.1.risen; selected = h.1.selected; given = omega (arith, n, r.takes.given, h.1.given) }, q ∙ r.asked))
+unfronted_turn old mid new name bytes left event r n q small (inr h) = absurd (small h.0)
+
+-- what was read, by its parts
+pub reads_by : (old new : InputsState) (bytes : List ℕ) → new.selected ≡ true → old.rest ≡ preceded bytes new.rest → new.given ≤ old.given + length bytes → new.asked ≡ old.asked → Stays old new → Reads old bytes new
+reads_by old new bytes s t g q k = record { takes = record { selected = s; taken = t; given = g }; asked = q; stays = k }

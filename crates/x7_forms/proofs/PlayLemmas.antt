@@ -1,5 +1,5 @@
 -- What is known where a play ends.
-use Rattle.std.proofs.Common.{◌≡◌, ℕ, zero, suc, ◌+◌, ◌≤◌, ◌<◌, List, [], ◌∷◌, ◌++◌, length, length-append, take, Bool, true, false, Option, Some, Ok, Err, refl, ap, subst, sym, ◌∙◌, arith, inl, inr, ◌⊎◌}
+use Rattle.std.proofs.Common.{◌≡◌, ℕ, zero, suc, ◌+◌, ◌≤◌, ◌<◌, List, [], ◌∷◌, ◌++◌, length, length-append, take, Bool, true, false, Option, Some, Result, Ok, Err, IfErr, IfOk, refl, ap, subst, sym, ◌∙◌, arith, inl, inr, ◌⊎◌}
 use Rattle.std.specs.Prelude.{is_some, nat_lt}
 use Rattle.std.proofs.lemmas.Bool.Decides.{nat_tests}
 use Rattle.x7_words.specs.Word.{AreBytes}
@@ -16,25 +16,28 @@ use Rattle.x7_engine.specs.Standing.{NoWordDue, DeviceState, DeviceStandsFor, to
 use Rattle.x7_engine.specs.State.{line_by, memory_in, reads_of, state_of, stop_in}
 use Rattle.x7_engine.specs.Stops.{Stopped, fault_of}
 use Rattle.x7_memory.specs.FrameMap.{FrameMap}
-use Rattle.x7_forms.specs.Event.{too_many_reads}
-use Rattle.x7_forms.specs.Known.{Known, part_by, reads_limit, report_of, reported}
+use Rattle.x7_forms.specs.Event.{Event, no_memory, too_many_reads}
+use Rattle.x7_forms.specs.Message.{event_of}
+use Rattle.x7_forms.specs.declared.player.Player.{Player}
+use Rattle.x7_forms.specs.declared.refusal.Refusal.{Refusal}
+use Rattle.x7_forms.specs.Known.{Answer, Known, part_by, reads_limit, report_of, reported}
 use Rattle.x7_part.specs.PartFile.{part_in}
-use Rattle.x7_forms.specs.Play.{IsPlayed, emptied, part_event}
+use Rattle.x7_forms.specs.Play.{HasPlayed, IsPlayed, emptied, part_event, text_of_play}
 use Rattle.x7_forms.specs.Report.{report_text}
-use Rattle.x7_forms.specs.Step.{IsCaused}
+use Rattle.x7_forms.specs.Step.{IsCaused, IsDecided, IsOpen, seen}
 use Rattle.x7_forms.proofs.ReadLemmas.{works}
 use Rattle.x7_engine.proofs.ReadsLemmas.{reads_grow}
 use Rattle.x7_engine.proofs.StateLemmas.{stop_is_final-memory, stop_is_final-reads, stop_is_final-state, stop_is_final-stop}
 
 -- a part file that gave no part
-pub refused : (told : Option Known) (F L : List ℕ → Type 0) (name text : List ℕ) (fault : PartFault) → (fault ≡ part.NoMemory) ⊎ (part_in text ≡ Err fault) → IsCaused told F L (λ t. part_by name (part_in text)) (Err (part_event name fault))
-refused told F L name text part.NoMemory h = inl refl
-refused told F L name text fault (inl e) = absurd (cc)
-refused told F L name text part.Toml (inr h) = works told F L (part_by name (part_in text)) (Err (part_event name part.Toml)) tt tt (ap (part_by name) h)
-refused told F L name text (part.Key which) (inr h) = works told F L (part_by name (part_in text)) (Err (part_event name (part.Key which))) tt tt (ap (part_by name) h)
-refused told F L name text (part.Range which) (inr h) = works told F L (part_by name (part_in text)) (Err (part_event name (part.Range which))) tt tt (ap (part_by name) h)
-refused told F L name text (part.SameRow n) (inr h) = works told F L (part_by name (part_in text)) (Err (part_event name (part.SameRow n))) tt tt (ap (part_by name) h)
-refused told F L name text (part.TooMany n) (inr h) = works told F L (part_by name (part_in text)) (Err (part_event name (part.TooMany n))) tt tt (ap (part_by name) h)
+pub refused : (told : Option Known) (given : ℕ) (F L : List ℕ → Type 0) (name text : List ℕ) (fault : PartFault) → (fault ≡ part.NoMemory) ⊎ (part_in text ≡ Err fault) → IsCaused told given F L (λ t. part_by name (part_in text)) (Err (part_event name fault))
+refused told given F L name text part.NoMemory h = inl refl
+refused told given F L name text fault (inl e) = absurd (cc)
+refused told given F L name text part.Toml (inr h) = works told given F L (part_by name (part_in text)) (Err (part_event name part.Toml)) tt tt (ap (part_by name) h)
+refused told given F L name text (part.Key which) (inr h) = works told given F L (part_by name (part_in text)) (Err (part_event name (part.Key which))) tt tt (ap (part_by name) h)
+refused told given F L name text (part.Range which) (inr h) = works told given F L (part_by name (part_in text)) (Err (part_event name (part.Range which))) tt tt (ap (part_by name) h)
+refused told given F L name text (part.SameRow n) (inr h) = works told given F L (part_by name (part_in text)) (Err (part_event name (part.SameRow n))) tt tt (ap (part_by name) h)
+refused told given F L name text (part.TooMany n) (inr h) = works told given F L (part_by name (part_in text)) (Err (part_event name (part.TooMany n))) tt tt (ap (part_by name) h)
 
 -- ---- one turn of a play
 
@@ -116,3 +119,11 @@ take_whole zero [] h = refl
 take_whole zero (x ∷ xs) h = absurd (omega (arith, h))
 take_whole (suc n) [] h = refl
 take_whole (suc n) (x ∷ xs) h = ap (λ t. x ∷ t) (take_whole n xs (omega (arith, h)))
+
+-- the text of a play, or why there is none
+pub text_ends : (part : PartData) (bytes : List ℕ) (p : Player) (r : Result Answer Refusal) → HasPlayed part bytes p → IfOk r (λ text. (part : PartData) (bytes : List ℕ) → HasPlayed part bytes p → reported part bytes ≡ Ok (text_of_play text))
+    → IfErr r (λ x. (event_of x ≡ no_memory) ⊎ ((event_of x ≡ too_many_reads) × ((part : PartData) (bytes : List ℕ) → HasPlayed part bytes p → reported part bytes ≡ Err too_many_reads)))
+    → (seen text_of_play r ≡ Err no_memory) ⊎ (IsOpen (seen text_of_play r) × IsDecided (seen text_of_play r) × (reported part bytes ≡ seen text_of_play r))
+text_ends part bytes p (Ok text) h ok err = inr (tt, tt, ok part bytes h)
+text_ends part bytes p (Err x) h ok (inl e) = inl (ap (λ (event : Event). Err event) e)
+text_ends part bytes p (Err x) h ok (inr (e, many)) = inr (subst (λ (event : Event). IsOpen {A = Answer} (Err event)) (sym e) tt, subst (λ (event : Event). IsDecided {A = Answer} (Err event)) (sym e) tt, many part bytes h ∙ ap (λ (event : Event). Err event) (sym e))

@@ -1,22 +1,30 @@
 -- Inputs that are read whole, one after the other, and what that comes to.
 use Rattle.std.proofs.Common.{◌≡◌, ◌⊎◌, ℕ, zero, suc, List, [], Bool, true, false, append-nil, ◌∷◌, ◌++◌, ◌+◌, ◌-◌, ◌≤◌, ◌<◌, drop, drop-cons, get_or, take, add-one, length, length-append, map, Option, None, Some, Result, Ok, Err, refl, ap, append_assoc, subst, sym, ◌∙◌, arith, inl, inr}
-use Rattle.std.specs.Prelude.{nat_lt}
+use Rattle.std.specs.Prelude.{IfSome, if◌then◌else◌, nat_lt}
+use Rattle.std.specs.Str.{bytes_eq}
 use Rattle.std.proofs.lemmas.Bool.Decides.{nat_tests}
-use Rattle.std.proofs.lemmas.List.{drop-take, length-take-le, take-take}
-use Rattle.x7_words.specs.Input.{InputsState, AtEnd, Selects, Stays, preceded}
+use Rattle.std.proofs.lemmas.List.{drop-take, length-take, length-take-le, take-take}
+use Rattle.std.proofs.lemmas.Slice.Eq.{bytes_eq-Decides}
+use Rattle.x7_words.specs.Count.{HasRisen}
+use Rattle.x7_words.specs.Input.{InputsState, Asks, AtEnd, Misses, Selects, Stays, Takes, preceded}
+use Rattle.x7_words.specs.Input.{Lacks as MapLacks}
 use Rattle.x7_words.specs.Word.{AreBytes}
 use Rattle.x7_words.proofs.CountLemmas.{risen_from}
-use Rattle.x7_words.proofs.InputLemmas.{preceded-preceded}
+use Rattle.x7_words.proofs.InputLemmas.{preceded-preceded, stays_at, stays_on, takes_none, takes_on}
 use Rattle.x7_header.specs.Header.{Contents}
 use Rattle.x7_header.specs.Reading.{header_at}
 use Rattle.x7_header.specs.declared.fault.HeaderFault.{HeaderFault}
 use Rattle.x7_header.specs.declared.fault.HeaderFault.TheVariants as header
+use Rattle.x7_part.specs.Part.{PartData}
+use Rattle.x7_part.specs.PartFile.{part_in}
 use Rattle.x7_forms.specs.declared.bad_input.InputFault.TheVariants as input
-use Rattle.x7_forms.specs.Event.{Event, Cause, Want, Fault, Absence, bad_input, cause_of, no_memory, read_fault, too_large}
-use Rattle.x7_forms.specs.Known.{Known, StreamRead, and_so, data_by, data_in, data_of, put_before, read_of, whole_in, with_inputs}
-use Rattle.x7_forms.specs.Turn.{Unread, UnreadRest}
+use Rattle.x7_forms.specs.declared.refusal.Why.{Why}
+use Rattle.x7_forms.specs.declared.refusal.Why.TheVariants as why
+use Rattle.x7_forms.specs.Event.{Event, Cause, Want, Fault, Absence, bad_input, cause_of, missing, no_memory, read_fault, row_of, too_large}
+use Rattle.x7_forms.specs.Known.{Absent, Broken, Failing, Found, Held, Known, Lacking, Mishap, StreamRead, and_so, broken_at, data_by, data_in, data_of, found, known_of, mishap_event, part_by, part_limit, part_of, put_before, read_of, spoiled, spoiled_name, taken_whole, whole_in, with_inputs, with_mishap}
+use Rattle.x7_forms.specs.Turn.{Breaks, IsAt, Reads, Unopened, Unread, UnreadRest}
 use Rattle.x7_forms.proofs.HeadLemmas.{data_more}
-use Rattle.x7_forms.specs.Step.{Among, FreeBy, IsCaused, IsCausedBy, IsDecided, IsFree, IsOpen, RisesFor}
+use Rattle.x7_forms.specs.Step.{Among, AnswersAs, AnswersBy, DueBy, FailsAmong, FreeBy, IsCaused, IsCausedBy, IsDecided, IsDue, IsFree, IsOpen, IsOver, LacksAmong}
 use Rattle.std.proofs.Math.Seq.{take-append-add}
 
 -- ---- what was taken
@@ -35,50 +43,144 @@ filled xs ys zs at n a k e =
     let long : at + n ≤ at + length ys = omega (arith, k) in
     sym (take-take (at + n) (at + length ys) zs long) ∙ ap (take (at + n)) e ∙ ap (λ m. take (m + n) (take at xs ++ ys)) (sym (length-take-le at xs a)) ∙ take-append-add (take at xs) ys n
 
--- ---- one input
+-- ---- what a mishap changes
 
--- what is due for an input behind bytes that were read before
-abbrev pub due_after : List ℕ → ℕ → List ℕ → Known → Result (List ℕ) Event
-due_after front limit name known = put_before front (whole_in known limit name)
+-- a step that gave a value gives the same with a mishap of a name, or the mishap's event
+pub record Steady (A : Type 0) (f : Known → Result A Event) : Type 0 where
+  pub steady : (m : Mishap) (t : Known) (a : A) → f t ≡ Ok a → (f (with_mishap m t) ≡ Ok a) ⊎ (f (with_mishap m t) ≡ Err (mishap_event m))
+
+same_name : (a b : List ℕ) → bytes_eq a b ≡ true → a ≡ b
+same_name a b e = grind (arith, bytes_eq-Decides a b, e)
+
+pub name_is : (a : List ℕ) → bytes_eq a a ≡ true
+name_is a = grind (arith, bytes_eq-Decides a a)
+
+-- the first bytes of an input that is within its limit, and then a fault
+broken_within : (name bytes a : List ℕ) (limit given : ℕ) (b : Bool) → nat_lt limit (length bytes) ≡ b → (if b then Err (too_large name) else Ok bytes) ≡ Ok a → taken_whole name limit (Broken (take given bytes)) ≡ Err (read_fault name)
+broken_within name bytes a limit given true e h = absurd (cc)
+broken_within name bytes a limit given false e h =
+    let short : nat_lt limit (length (take given bytes)) ≡ false = grind (arith, nat_tests, e, length-take given bytes) in
+    rw short refl
+
+never_ok : (name bytes a : List ℕ) (b : Bool) → and_so (if b then Err (too_large name) else Ok bytes) (λ _. Err (read_fault name)) ≡ Ok a → ⊥
+never_ok name bytes a true h = absurd (cc)
+never_ok name bytes a false h = absurd (cc)
+
+spoiled_whole : (name a : List ℕ) (limit : ℕ) (m : Mishap) (i : Found) → name ≡ spoiled_name m → taken_whole name limit i ≡ Ok a → taken_whole name limit (spoiled m i) ≡ Err (mishap_event m)
+spoiled_whole name a limit (Lacking other) i e h = ap (λ (n : List ℕ). Err (missing n)) e
+spoiled_whole name a limit (Failing other given) (Held bytes) e h = broken_within name bytes a limit given (nat_lt limit (length bytes)) refl h ∙ ap (λ (n : List ℕ). Err (read_fault n)) e
+spoiled_whole name a limit (Failing other given) Absent e h = absurd (cc)
+spoiled_whole name a limit (Failing other given) (Broken bytes) e h = absurd (never_ok name bytes a (nat_lt limit (length bytes)) h)
+
+whole_by : (name a : List ℕ) (limit : ℕ) (m : Mishap) (i : Found) (b : Bool) → bytes_eq name (spoiled_name m) ≡ b → taken_whole name limit i ≡ Ok a
+    → (taken_whole name limit (if b then spoiled m i else i) ≡ Ok a) ⊎ (taken_whole name limit (if b then spoiled m i else i) ≡ Err (mishap_event m))
+whole_by name a limit m i true e h = inr (spoiled_whole name a limit m i (same_name name (spoiled_name m) e) h)
+whole_by name a limit m i false e h = inl h
+
+pub whole_steady : (limit : ℕ) (name : List ℕ) → Steady (List ℕ) (λ t. whole_in t limit name)
+whole_steady limit name = record { steady = λ m t a h. whole_by name a limit m (t.inputs name) (bytes_eq name (spoiled_name m)) refl h }
+
+pub work_steady : (A : Type 0) (r : Result A Event) → Steady A (λ t. r)
+work_steady A r = record { steady = λ m t a h. inl h }
+
+so_by : {A B : Type 0} (f : Known → Result A Event) (g : Known → A → Result B Event) (m : Mishap) (t : Known) (b : B) (r : Result A Event) → f t ≡ r → Steady A f → ((a : A) → Steady B (λ k. g k a)) → and_so r (g t) ≡ Ok b
+    → (and_so (f (with_mishap m t)) (g (with_mishap m t)) ≡ Ok b) ⊎ (and_so (f (with_mishap m t)) (g (with_mishap m t)) ≡ Err (mishap_event m))
+so_by f g m t b (Err event) e sf sg h = absurd (cc)
+so_by f g m t b (Ok a) e sf sg h = elim (sf.steady m t a e) [
+  | inl same ↦ elim ((sg a).steady m t b h) [
+    | inl next ↦ inl (rw same next)
+    | inr next ↦ inr (rw same next)
+  ]
+  | inr ends ↦ inr (rw ends refl)
+]
+
+pub so_steady : (A B : Type 0) (f : Known → Result A Event) (g : Known → A → Result B Event) → Steady A f → ((a : A) → Steady B (λ t. g t a)) → Steady B (λ t. and_so (f t) (g t))
+so_steady A B f g sf sg = record { steady = λ m t b h. so_by f g m t b (f t) refl sf sg h }
+
+pub part_steady : (name : List ℕ) → Steady PartData (λ t. part_of t name)
+part_steady name = so_steady (List ℕ) PartData (λ t. whole_in t part_limit name) (λ t text. part_by name (part_in text)) (whole_steady part_limit name) (λ text. work_steady PartData (part_by name (part_in text)))
+
+pub read_steady : (limit : ℕ) (name : List ℕ) → Steady StreamRead (λ t. read_of t limit name)
+read_steady limit name =
+    so_steady (List ℕ) StreamRead (λ t. whole_in t limit name) (λ t whole. and_so (data_in name whole) (λ bytes. Ok (record { bytes = bytes; room = limit - length whole }))) (whole_steady limit name)
+    (λ whole. work_steady StreamRead (and_so (data_in name whole) (λ bytes. Ok (record { bytes = bytes; room = limit - length whole }))))
 
 -- ---- causes of steps one after the other
 
-free_by_on : (F L G M : List ℕ → Type 0) (cause : Cause) (name : List ℕ) → ((n : List ℕ) → F n → G n) → ((n : List ℕ) → L n → M n) → FreeBy cause F L name → FreeBy cause G M name
-free_by_on F L G M Absence name f l h = l name h
-free_by_on F L G M Fault name f l h = f name h
-free_by_on F L G M Want name f l h = h
-free_by_on F L G M cause name f l h = absurd h
+-- an event by its cause
+fault_by : (reason : Why) (name : List ℕ) → (row_of reason).cause ≡ Fault → read_fault name ≡ record { reason = reason; concerned = name }
+fault_by why.ReadFault name e = refl
+fault_by reason name e = absurd (cc)
 
-free_on : {A : Type 0} (F L G M : List ℕ → Type 0) (got : Result A Event) → ((n : List ℕ) → F n → G n) → ((n : List ℕ) → L n → M n) → IsFree F L got → IsFree G M got
-free_on F L G M (Ok a) f l h = h
-free_on F L G M (Err event) f l h = free_by_on F L G M (cause_of event) event.concerned f l h
+absence_by : (reason : Why) (name : List ℕ) → (row_of reason).cause ≡ Absence → missing name ≡ record { reason = reason; concerned = name }
+absence_by why.Missing name e = refl
+absence_by reason name e = absurd (cc)
 
--- more names, and counts of more calls
-pub caused_on : {A : Type 0} (known : Option Known) (F L G M : List ℕ → Type 0) (due : Known → Result A Event) (got : Result A Event) → ((n : List ℕ) → F n → G n) → ((n : List ℕ) → L n → M n) → IsCaused known F L due got → IsCaused known G M due got
-caused_on known F L G M due got f l (inl h) = inl (free_on F L G M got f l h)
-caused_on known F L G M due got f l (inr h) = inr h
+free_by_on : (A : Type 0) (cause : Cause) (known : Option Known) (given : ℕ) (F L G M : List ℕ → Type 0) (Due : Known → Result A Event → Type 0) (event : Event) → ((n : List ℕ) → F n → G n) → ((n : List ℕ) → L n → M n)
+    → FreeBy {A = A} cause known given F L Due event → FreeBy {A = A} cause known given G M Due event
+free_by_on A Absence known given F L G M Due event f l h = (l event.concerned h.0, h.1)
+free_by_on A Fault known given F L G M Due event f l h = (f event.concerned h.0, h.1)
+free_by_on A Want known given F L G M Due event f l h = h
+free_by_on A cause known given F L G M Due event f l h = absurd h
+
+-- the same of other names, and of counts of more calls
+pub caused_on_by : (A : Type 0) (known : Option Known) (given : ℕ) (F L G M : List ℕ → Type 0) (Due : Known → Result A Event → Type 0) (got : Result A Event) → ((n : List ℕ) → F n → G n) → ((n : List ℕ) → L n → M n)
+    → IsCausedBy known given F L Due got → IsCausedBy known given G M Due got
+caused_on_by A known given F L G M Due (Ok a) f l (inl h) = absurd h
+caused_on_by A known given F L G M Due (Err event) f l (inl h) = inl (free_by_on A (cause_of event) known given F L G M Due event f l h)
+caused_on_by A known given F L G M Due got f l (inr h) = inr h
 
 -- the same event
-pub caused_event : {A : Type 0} (known : Option Known) (F L : List ℕ → Type 0) (due : Known → Result A Event) (x y : Event) → x ≡ y → IsCaused known F L due (Err y) → IsCaused known F L due (Err x)
-caused_event known F L due x y e h = subst (λ (event : Event). IsCaused known F L due (Err event)) (sym e) h
+pub caused_event : {A : Type 0} (known : Option Known) (given : ℕ) (F L : List ℕ → Type 0) (due : Known → Result A Event) (x y : Event) → x ≡ y → IsCaused known given F L due (Err y) → IsCaused known given F L due (Err x)
+caused_event known given F L due x y e h = subst (λ (event : Event). IsCaused known given F L due (Err event)) (sym e) h
 
--- the same outcome
-pub caused_same : {A : Type 0} (known : Option Known) (F L : List ℕ → Type 0) (due other : Known → Result A Event) (got : Result A Event) → ((t : Known) → due t ≡ other t) → IsCaused known F L due got → IsCaused known F L other got
-caused_same known F L due other got e (inl h) = inl h
-caused_same None F L due other got e (inr h) = inr h
-caused_same (Some t) F L due other got e (inr h) = inr (h.0, sym (e t) ∙ h.1)
+-- a mishap of a step that follows one which gave a value
+due_follows : (A B : Type 0) (known : Option Known) (m : Mishap) (due : Known → Result A Event) (next : Known → A → Result B Event) (a : A) (event : Event) → Steady A due → IsDue {A = A} known (λ t r. due t ≡ r) (Ok a) → mishap_event m ≡ event
+    → DueBy {A = B} known m (λ t r. next t a ≡ r) event → DueBy {A = B} known m (λ t r. and_so (due t) (next t) ≡ r) event
+due_follows A B None m due next a event s h e q = tt
+due_follows A B (Some t) m due next a event s h e q = elim (s.steady m t a h.1) [
+  | inl same ↦ rw same q
+  | inr ends ↦ rw ends (ap (λ (x : Event). Err x) e)
+]
+
+follow_free : (A B : Type 0) (cause : Cause) (known : Option Known) (given : ℕ) (G M : List ℕ → Type 0) (due : Known → Result A Event) (next : Known → A → Result B Event) (a : A) (event : Event) → cause_of event ≡ cause → Steady A due
+    → IsDue {A = A} known (λ t r. due t ≡ r) (Ok a) → FreeBy {A = B} cause known given G M (λ t r. next t a ≡ r) event → FreeBy {A = B} cause known given G M (λ t r. and_so (due t) (next t) ≡ r) event
+follow_free A B Want known given G M due next a event c s h q = q
+follow_free A B Fault known given G M due next a event c s h q = (q.0, due_follows A B known (Failing event.concerned given) due next a event s h (fault_by event.reason event.concerned c) q.1)
+follow_free A B Absence known given G M due next a event c s h q = (q.0, due_follows A B known (Lacking event.concerned) due next a event s h (absence_by event.reason event.concerned c) q.1)
+follow_free A B cause known given G M due next a event c s h q = absurd q
 
 -- a step that went on
-pub follows : {A B : Type 0} (known : Option Known) (F L G M : List ℕ → Type 0) (due : Known → Result A Event) (next : Known → A → Result B Event) (a : A) (got : Result B Event) → IsCaused known F L due (Ok a) → IsCaused known G M (λ t. next t a) got → IsCaused known G M (λ t. and_so (due t) (next t)) got
-follows known F L G M due next a got (inl h) q = absurd h
-follows known F L G M due next a got (inr h) (inl q) = inl q
-follows None F L G M due next a got (inr h) (inr q) = inr q
-follows (Some t) F L G M due next a got (inr h) (inr q) = inr (q.0, rw h.1 q.1)
+pub follows : {A B : Type 0} (known : Option Known) (given before : ℕ) (F L G M : List ℕ → Type 0) (due : Known → Result A Event) (next : Known → A → Result B Event) (a : A) (got : Result B Event) → Steady A due → IsCaused known before F L due (Ok a)
+    → IsCaused known given G M (λ t. next t a) got → IsCaused known given G M (λ t. and_so (due t) (next t)) got
+follows known given before F L G M due next a got s (inl h) q = absurd h
+follows {A} {B} known given before F L G M due next a (Ok b) s (inr h) (inl q) = absurd q
+follows {A} {B} known given before F L G M due next a (Err event) s (inr h) (inl q) = inl (follow_free A B (cause_of event) known given G M due next a event refl s h q)
+follows None given before F L G M due next a got s (inr h) (inr q) = inr q
+follows (Some t) given before F L G M due next a got s (inr h) (inr q) = inr (q.0, rw h.1 q.1)
+
+-- a step that ended the command
+due_stops : (A B : Type 0) (known : Option Known) (m : Mishap) (due : Known → Result A Event) (next : Known → A → Result B Event) (event : Event) → DueBy {A = A} known m (λ t r. due t ≡ r) event → DueBy {A = B} known m (λ t r. and_so (due t) (next t) ≡ r) event
+due_stops A B None m due next event q = tt
+due_stops A B (Some t) m due next event q = rw q refl
+
+stop_free : (A B : Type 0) (cause : Cause) (known : Option Known) (given : ℕ) (F L : List ℕ → Type 0) (due : Known → Result A Event) (next : Known → A → Result B Event) (event : Event)
+    → FreeBy {A = A} cause known given F L (λ t r. due t ≡ r) event → FreeBy {A = B} cause known given F L (λ t r. and_so (due t) (next t) ≡ r) event
+stop_free A B Want known given F L due next event q = q
+stop_free A B Fault known given F L due next event q = (q.0, due_stops A B known (Failing event.concerned given) due next event q.1)
+stop_free A B Absence known given F L due next event q = (q.0, due_stops A B known (Lacking event.concerned) due next event q.1)
+stop_free A B cause known given F L due next event q = absurd q
+
+pub stops : {A B : Type 0} (known : Option Known) (given : ℕ) (F L : List ℕ → Type 0) (due : Known → Result A Event) (next : Known → A → Result B Event) (event : Event) → IsCaused known given F L due (Err event)
+    → IsCaused known given F L (λ t. and_so (due t) (next t)) (Err event)
+stops {A} {B} known given F L due next event (inl q) = inl (stop_free A B (cause_of event) known given F L due next event q)
+stops None given F L due next event (inr q) = inr q
+stops (Some t) given F L due next event (inr q) = inr (q.0, rw q.1 refl)
 
 -- a step that reads nothing
-pub works : {A : Type 0} (known : Option Known) (F L : List ℕ → Type 0) (due got : Result A Event) → IsOpen got → IsDecided got → due ≡ got → IsCaused known F L (λ t. due) got
-works None F L due got o d e = inr o
-works (Some t) F L due got o d e = inr (d, e)
+pub works : {A : Type 0} (known : Option Known) (given : ℕ) (F L : List ℕ → Type 0) (due got : Result A Event) → IsOpen got → IsDecided got → due ≡ got → IsCaused known given F L (λ t. due) got
+works None given F L due got o d e = inr o
+works (Some t) given F L due got o d e = inr (d, e)
 
 -- ---- streams one after the other
 
@@ -90,10 +192,14 @@ before_before : (front bytes : List ℕ) (more : Result (List ℕ) Event) → pu
 before_before front bytes (Ok more) = ap Ok (sym (append_assoc front bytes more))
 before_before front bytes (Err event) = refl
 
--- what is due for the streams that are left, after what was read, with so much room left
+-- what is due for the streams that are left, after what was read, with so much room left; a mishap of a name changes nothing of it, or is the event
+pub record RestsIn (t : Known) (names : List (List ℕ)) (limit : ℕ) (left : List (List ℕ)) (room : ℕ) (whole : List ℕ) : Type 0 where
+  pub is : data_of t limit names ≡ put_before whole (data_of t room left)
+  pub steady : (m : Mishap) → (data_of (with_mishap m t) limit names ≡ put_before whole (data_of (with_mishap m t) room left)) ⊎ (data_of (with_mishap m t) limit names ≡ Err (mishap_event m))
+
 abbrev pub Rests : Option (List ℕ → Option (List ℕ)) → List (List ℕ) → ℕ → List (List ℕ) → ℕ → List ℕ → Type 0
 Rests None names limit left room whole = Unit {0}
-Rests (Some inputs) names limit left room whole = (flash : Option (List ℕ)) → data_of (record { inputs = inputs; flash = flash }) limit names ≡ put_before whole (data_of (record { inputs = inputs; flash = flash }) room left)
+Rests (Some inputs) names limit left room whole = (flash : Option (List ℕ)) → RestsIn (known_of inputs flash) names limit left room whole
 
 -- a stream more was read
 one_more : (read : Result StreamRead Event) (rest : ℕ → Result (List ℕ) Event) (whole : List ℕ) (s : StreamRead) → read ≡ Ok s → put_before whole (and_so read (λ stream. put_before stream.bytes (rest stream.room))) ≡ put_before (whole ++ s.bytes) (rest s.room)
@@ -103,22 +209,54 @@ one_more read rest whole s e = rw e (before_before whole s.bytes (rest s.room))
 one_less : (read : Result StreamRead Event) (rest : ℕ → Result (List ℕ) Event) (whole : List ℕ) (event : Event) → read ≡ Err event → put_before whole (and_so read (λ stream. put_before stream.bytes (rest stream.room))) ≡ Err event
 one_less read rest whole event e = rw e refl
 
-rests_next : (contents : Option (List ℕ → Option (List ℕ))) (F L : List ℕ → Type 0) (names : List (List ℕ)) (limit : ℕ) (name : List ℕ) (left : List (List ℕ)) (room : ℕ) (whole : List ℕ) (s : StreamRead) → Rests contents names limit (name ∷ left) room whole
-    → ((flash : Option (List ℕ)) → IsCaused (with_inputs contents flash) F L (λ t. read_of t room name) (Ok s)) → Rests contents names limit left s.room (whole ++ s.bytes)
-rests_next None F L names limit name left room whole s r h = tt
-rests_next (Some inputs) F L names limit name left room whole s r h = λ flash. at flash (h flash)
-  where
-    at : (flash : Option (List ℕ)) → IsCaused (Some (record { inputs = inputs; flash = flash })) F L (λ t. read_of t room name) (Ok s)
-        → data_of (record { inputs = inputs; flash = flash }) limit names ≡ put_before (whole ++ s.bytes) (data_of (record { inputs = inputs; flash = flash }) s.room left)
-    at flash (inl q) = absurd q
-    at flash (inr q) = r flash ∙ one_more (read_of (record { inputs = inputs; flash = flash }) room name) (λ room. data_of (record { inputs = inputs; flash = flash }) room left) whole s q.1
+rests_more : (t : Known) (names : List (List ℕ)) (limit : ℕ) (name : List ℕ) (left : List (List ℕ)) (room : ℕ) (whole : List ℕ) (s : StreamRead) → RestsIn t names limit (name ∷ left) room whole → read_of t room name ≡ Ok s → RestsIn t names limit left s.room (whole ++ s.bytes)
+rests_more t names limit name left room whole s r e = record {
+  is = r.is ∙ one_more (read_of t room name) (λ room. data_of t room left) whole s e;
+  steady = λ m.
+      let k = with_mishap m t in
+      elim (r.steady m) [
+        | inr ends ↦ inr ends
+        | inl same ↦ elim ((read_steady room name).steady m t s e) [
+          | inl next ↦ inl (same ∙ one_more (read_of k room name) (λ room. data_of k room left) whole s next)
+          | inr next ↦ inr (same ∙ one_less (read_of k room name) (λ room. data_of k room left) whole (mishap_event m) next)
+        ]
+      ];
+}
 
-rests_stop : (contents : Option (List ℕ → Option (List ℕ))) (flash : Option (List ℕ)) (F L : List ℕ → Type 0) (names : List (List ℕ)) (limit : ℕ) (name : List ℕ) (left : List (List ℕ)) (room : ℕ) (whole : List ℕ) (event : Event) → Rests contents names limit (name ∷ left) room whole
-    → IsCaused (with_inputs contents flash) F L (λ t. read_of t room name) (Err event) → IsCaused (with_inputs contents flash) F L (λ t. data_of t limit names) (Err event)
-rests_stop contents flash F L names limit name left room whole event r (inl q) = inl q
-rests_stop None flash F L names limit name left room whole event r (inr q) = inr q
-rests_stop (Some inputs) flash F L names limit name left room whole event r (inr q) =
-    inr (q.0, r flash ∙ one_less (read_of (record { inputs = inputs; flash = flash }) room name) (λ room. data_of (record { inputs = inputs; flash = flash }) room left) whole event q.1)
+rests_next : (contents : Option (List ℕ → Option (List ℕ))) (given : ℕ) (F L : List ℕ → Type 0) (names : List (List ℕ)) (limit : ℕ) (name : List ℕ) (left : List (List ℕ)) (room : ℕ) (whole : List ℕ) (s : StreamRead) → Rests contents names limit (name ∷ left) room whole
+    → ((flash : Option (List ℕ)) → IsCaused (with_inputs contents flash) given F L (λ t. read_of t room name) (Ok s)) → Rests contents names limit left s.room (whole ++ s.bytes)
+rests_next None given F L names limit name left room whole s r h = tt
+rests_next (Some inputs) given F L names limit name left room whole s r h = λ flash. at flash (h flash)
+  where
+    at : (flash : Option (List ℕ)) → IsCaused (Some (known_of inputs flash)) given F L (λ t. read_of t room name) (Ok s) → RestsIn (known_of inputs flash) names limit left s.room (whole ++ s.bytes)
+    at flash (inl q) = absurd q
+    at flash (inr q) = rests_more (known_of inputs flash) names limit name left room whole s (r flash) q.1
+
+-- a mishap of a stream is one of all
+rests_due : (contents : Option (List ℕ → Option (List ℕ))) (flash : Option (List ℕ)) (names : List (List ℕ)) (limit : ℕ) (name : List ℕ) (left : List (List ℕ)) (room : ℕ) (whole : List ℕ) (m : Mishap) (event : Event) → Rests contents names limit (name ∷ left) room whole
+    → mishap_event m ≡ event → DueBy {A = StreamRead} (with_inputs contents flash) m (λ t r. read_of t room name ≡ r) event → DueBy {A = List ℕ} (with_inputs contents flash) m (λ t r. data_of t limit names ≡ r) event
+rests_due None flash names limit name left room whole m event r e q = tt
+rests_due (Some inputs) flash names limit name left room whole m event r e q = elim ((r flash).steady m) [
+  | inl same ↦ same ∙ one_less (read_of (with_mishap m (known_of inputs flash)) room name) (λ room. data_of (with_mishap m (known_of inputs flash)) room left) whole event q
+  | inr ends ↦ ends ∙ ap (λ (x : Event). Err x) e
+]
+
+rests_free : (cause : Cause) (contents : Option (List ℕ → Option (List ℕ))) (flash : Option (List ℕ)) (given : ℕ) (F L : List ℕ → Type 0) (names : List (List ℕ)) (limit : ℕ) (name : List ℕ) (left : List (List ℕ)) (room : ℕ) (whole : List ℕ) (event : Event)
+    → cause_of event ≡ cause → Rests contents names limit (name ∷ left) room whole → FreeBy {A = StreamRead} cause (with_inputs contents flash) given F L (λ t r. read_of t room name ≡ r) event
+    → FreeBy {A = List ℕ} cause (with_inputs contents flash) given F L (λ t r. data_of t limit names ≡ r) event
+rests_free Want contents flash given F L names limit name left room whole event c r q = q
+rests_free Fault contents flash given F L names limit name left room whole event c r q =
+    (q.0, rests_due contents flash names limit name left room whole (Failing event.concerned given) event r (fault_by event.reason event.concerned c) q.1)
+rests_free Absence contents flash given F L names limit name left room whole event c r q =
+    (q.0, rests_due contents flash names limit name left room whole (Lacking event.concerned) event r (absence_by event.reason event.concerned c) q.1)
+rests_free cause contents flash given F L names limit name left room whole event c r q = absurd q
+
+rests_stop : (contents : Option (List ℕ → Option (List ℕ))) (flash : Option (List ℕ)) (given : ℕ) (F L : List ℕ → Type 0) (names : List (List ℕ)) (limit : ℕ) (name : List ℕ) (left : List (List ℕ)) (room : ℕ) (whole : List ℕ) (event : Event) → Rests contents names limit (name ∷ left) room whole
+    → IsCaused (with_inputs contents flash) given F L (λ t. read_of t room name) (Err event) → IsCaused (with_inputs contents flash) given F L (λ t. data_of t limit names) (Err event)
+rests_stop contents flash given F L names limit name left room whole event r (inl q) = inl (rests_free (cause_of event) contents flash given F L names limit name left room whole event refl r q)
+rests_stop None flash given F L names limit name left room whole event r (inr q) = inr q
+rests_stop (Some inputs) flash given F L names limit name left room whole event r (inr q) =
+    inr (q.0, (r flash).is ∙ one_less (read_of (known_of inputs flash) room name) (λ room. data_of (known_of inputs flash) room left) whole event q.1)
 
 among_at : {X : Type 0} (f : X → List ℕ) (ss : List X) (k : ℕ) (s : X) → k < length ss → s ≡ get_or ss k s → Among (map f ss) (f s)
 among_at f [] k s h e = absurd (omega arith)
@@ -129,40 +267,50 @@ among_one : (names : List (List ℕ)) (name : List ℕ) → Among names name →
 among_one names name h n (inl e) = rw e h
 among_one names name h n (inr e) = absurd e
 
+-- a name that failed is one of more names, and its count rose over more calls
+pub fails_in : (some all : List (List ℕ)) (old mid new : InputsState) → ((n : List ℕ) → Among some n → Among all n) → Stays old mid → (n : List ℕ) → FailsAmong some mid new n → FailsAmong all old new n
+fails_in some all old mid new a s n f = record { among = a n f.among; over = f.over; risen = risen_from old.faults mid.faults new.faults s.faults f.risen }
+
+pub lacks_in : (some all : List (List ℕ)) (old mid new : InputsState) → ((n : List ℕ) → Among some n → Among all n) → Stays old mid → (n : List ℕ) → LacksAmong some mid new n → LacksAmong all old new n
+lacks_in some all old mid new a s n f = record { among = a n f.among; over = f.over; risen = risen_from old.absences mid.absences new.absences s.absences f.risen }
+
 left_at : {X : Type 0} (f : X → List ℕ) (ss : List X) (k : ℕ) (s : X) → k < length ss → s ≡ get_or ss k s → map f (drop k ss) ≡ f s ∷ map f (drop (suc k) ss)
 left_at f ss k s h e =
     let front : f (get_or ss k s) ≡ f s = ap f (sym e) in
     rw (drop-cons ss k s) (ap (λ x. x ∷ map f (drop (suc k) ss)) front)
 
 -- a stream that ended the command
-pub stream_err : {X : Type 0} (f : X → List ℕ) (contents now : Option (List ℕ → Option (List ℕ))) (flash : Option (List ℕ)) (ss : List X) (k limit room : ℕ) (s : X) (name whole : List ℕ) (f0 f1 f2 a0 a1 a2 : ℕ) (event : Event)
-    → now ≡ contents → k < length ss → s ≡ get_or ss k s → name ≡ f s → f0 ≤ f1 → a0 ≤ a1 → Rests contents (map f ss) limit (map f (drop k ss)) room whole
-    → IsCaused (with_inputs now flash) (RisesFor (name ∷ []) f1 f2) (RisesFor (name ∷ []) a1 a2) (λ t. read_of t room name) (Err event)
-    → IsCaused (with_inputs contents flash) (RisesFor (map f ss) f0 f2) (RisesFor (map f ss) a0 a2) (λ t. data_of t limit (map f ss)) (Err event)
-stream_err f contents now flash ss k limit room s name whole f0 f1 f2 a0 a1 a2 event same h e nm fl al due got =
-    let got1 = rw same at got in
+pub stream_err : {X : Type 0} (f : X → List ℕ) (old mid new : InputsState) (flash : Option (List ℕ)) (ss : List X) (k limit room : ℕ) (s : X) (name whole : List ℕ) (event : Event)
+    → Stays old mid → k < length ss → s ≡ get_or ss k s → name ≡ f s → Rests old.contents (map f ss) limit (map f (drop k ss)) room whole
+    → IsCaused (with_inputs mid.contents flash) new.given (FailsAmong (name ∷ []) mid new) (LacksAmong (name ∷ []) mid new) (λ t. read_of t room name) (Err event)
+    → IsCaused (with_inputs old.contents flash) new.given (FailsAmong (map f ss) old new) (LacksAmong (map f ss) old new) (λ t. data_of t limit (map f ss)) (Err event)
+stream_err f old mid new flash ss k limit room s name whole event stays h e nm due got =
+    let got1 = subst (λ (c : Option (List ℕ → Option (List ℕ))). IsCaused (with_inputs c flash) new.given (FailsAmong (name ∷ []) mid new) (LacksAmong (name ∷ []) mid new) (λ t. read_of t room name) (Err event)) stays.map got in
     let eq : map f (drop k ss) ≡ name ∷ map f (drop (suc k) ss) = rw nm (left_at f ss k s h e) in
     let due1 = rw eq at due in
     let among : Among (map f ss) name = rw nm (among_at f ss k s h e) in
-    caused_on (with_inputs contents flash) (RisesFor (name ∷ []) f1 f2) (RisesFor (name ∷ []) a1 a2) (RisesFor (map f ss) f0 f2) (RisesFor (map f ss) a0 a2) (λ t. data_of t limit (map f ss)) (Err event)
-    (λ n r. (among_one (map f ss) name among n r.0, risen_from f0 f1 f2 fl r.1)) (λ n r. (among_one (map f ss) name among n r.0, risen_from a0 a1 a2 al r.1))
-    (rests_stop contents flash (RisesFor (name ∷ []) f1 f2) (RisesFor (name ∷ []) a1 a2) (map f ss) limit name (map f (drop (suc k) ss)) room whole event due1 got1)
+    caused_on_by (List ℕ) (with_inputs old.contents flash) new.given (FailsAmong (name ∷ []) mid new) (LacksAmong (name ∷ []) mid new) (FailsAmong (map f ss) old new) (LacksAmong (map f ss) old new) (λ t r. data_of t limit (map f ss) ≡ r) (Err event)
+    (fails_in (name ∷ []) (map f ss) old mid new (among_one (map f ss) name among) stays) (lacks_in (name ∷ []) (map f ss) old mid new (among_one (map f ss) name among) stays)
+    (rests_stop old.contents flash new.given (FailsAmong (name ∷ []) mid new) (LacksAmong (name ∷ []) mid new) (map f ss) limit name (map f (drop (suc k) ss)) room whole event due1 got1)
 
 -- a stream whose data were read
-pub stream_next : {X : Type 0} (f : X → List ℕ) (contents now : Option (List ℕ → Option (List ℕ))) (F L : List ℕ → Type 0) (ss : List X) (k limit room : ℕ) (s : X) (name whole : List ℕ) (read : StreamRead)
+pub stream_next : {X : Type 0} (f : X → List ℕ) (contents now : Option (List ℕ → Option (List ℕ))) (given : ℕ) (F L : List ℕ → Type 0) (ss : List X) (k limit room : ℕ) (s : X) (name whole : List ℕ) (read : StreamRead)
     → now ≡ contents → k < length ss → s ≡ get_or ss k s → name ≡ f s → Rests contents (map f ss) limit (map f (drop k ss)) room whole
-    → ((flash : Option (List ℕ)) → IsCaused (with_inputs now flash) F L (λ t. read_of t room name) (Ok read))
+    → ((flash : Option (List ℕ)) → IsCaused (with_inputs now flash) given F L (λ t. read_of t room name) (Ok read))
     → Rests contents (map f ss) limit (map f (drop (k + 1) ss)) read.room (whole ++ read.bytes)
-stream_next f contents now F L ss k limit room s name whole read same h e nm due got =
+stream_next f contents now given F L ss k limit room s name whole read same h e nm due got =
     let got1 = rw same at got in
     let eq : map f (drop k ss) ≡ name ∷ map f (drop (suc k) ss) = rw nm (left_at f ss k s h e) in
     let due1 = rw eq at due in
-    rw add-one (rests_next contents F L (map f ss) limit name (map f (drop (suc k) ss)) room whole read due1 got1)
+    rw add-one (rests_next contents given F L (map f ss) limit name (map f (drop (suc k) ss)) room whole read due1 got1)
 
 -- nothing was read
+rests_start : (t : Known) (names : List (List ℕ)) (limit : ℕ) → RestsIn t names limit names limit []
+rests_start t names limit = record { is = sym (before_none (data_of t limit names)); steady = λ m. inl (sym (before_none (data_of (with_mishap m t) limit names))) }
+
 pub rests_none : (contents : Option (List ℕ → Option (List ℕ))) (names : List (List ℕ)) (limit : ℕ) → Rests contents names limit names limit []
 rests_none None names limit = tt
-rests_none (Some inputs) names limit = λ flash. sym (before_none (data_of (record { inputs = inputs; flash = flash }) limit names))
+rests_none (Some inputs) names limit = λ flash. rests_start (known_of inputs flash) names limit
 
 none_left : {X : Type 0} (k : ℕ) (ss : List X) → length ss ≤ k → drop k ss ≡ []
 none_left zero [] h = refl
@@ -171,37 +319,43 @@ none_left (suc k) [] h = refl
 none_left (suc k) (x ∷ xs) h = none_left k xs (omega (arith, h))
 
 -- all streams were read
-pub rests_all : {X : Type 0} (f : X → List ℕ) (contents : Option (List ℕ → Option (List ℕ))) (flash : Option (List ℕ)) (F L : List ℕ → Type 0) (ss : List X) (k limit room : ℕ) (whole : List ℕ) → length ss ≤ k → Rests contents (map f ss) limit (map f (drop k ss)) room whole
-    → IsCaused (with_inputs contents flash) F L (λ t. data_of t limit (map f ss)) (Ok whole)
-rests_all f None flash F L ss k limit room whole h due = inr tt
-rests_all f (Some inputs) flash F L ss k limit room whole h due =
+pub rests_all : {X : Type 0} (f : X → List ℕ) (contents : Option (List ℕ → Option (List ℕ))) (flash : Option (List ℕ)) (given : ℕ) (F L : List ℕ → Type 0) (ss : List X) (k limit room : ℕ) (whole : List ℕ) → length ss ≤ k → Rests contents (map f ss) limit (map f (drop k ss)) room whole
+    → IsCaused (with_inputs contents flash) given F L (λ t. data_of t limit (map f ss)) (Ok whole)
+rests_all f None flash given F L ss k limit room whole h due = inr tt
+rests_all f (Some inputs) flash given F L ss k limit room whole h due =
     let left : map f (drop k ss) ≡ [] = ap (map f) (none_left k ss h) in
-    let is = due flash ∙ ap (λ names. put_before whole (data_of (record { inputs = inputs; flash = flash }) room names)) left ∙ ap Ok (append-nil whole) in
+    let is = (due flash).is ∙ ap (λ names. put_before whole (data_of (known_of inputs flash) room names)) left ∙ ap Ok (append-nil whole) in
     inr (tt, is)
 
--- an input that was read behind nothing
-pub read_alone : (known : Option Known) (F L : List ℕ → Type 0) (limit : ℕ) (name : List ℕ) (got : Result (List ℕ) Event) → IsCaused known F L (due_after [] limit name) got → IsCaused known F L (λ t. whole_in t limit name) got
-read_alone known F L limit name got h = caused_same known F L (due_after [] limit name) (λ t. whole_in t limit name) got (λ t. before_none (whole_in t limit name)) h
+-- data that follow from all streams, with a mishap
+pub data_steady : (names : List (List ℕ)) (limit : ℕ) → Steady (List ℕ) (λ t. data_of t limit names)
+data_steady [] limit = work_steady (List ℕ) (Ok [])
+data_steady (name ∷ names) limit =
+    so_steady StreamRead (List ℕ) (λ t. read_of t limit name) (λ t stream. put_before stream.bytes (data_of t stream.room names)) (read_steady limit name)
+    (λ stream. so_steady (List ℕ) (List ℕ) (λ t. data_of t stream.room names) (λ t bytes. Ok (stream.bytes ++ bytes)) (data_steady names stream.room) (λ bytes. work_steady (List ℕ) (Ok (stream.bytes ++ bytes))))
 
 -- what a text comes to that was read whole
-pub after_text : {A : Type 0} (known : Option Known) (F L : List ℕ → Type 0) (limit : ℕ) (name text : List ℕ) (next : List ℕ → Result A Event) (got : Result A Event) → IsCaused known F L (λ t. whole_in t limit name) (Ok text)
-    → IsCaused known F L (λ t. next text) got → IsCaused known F L (λ t. and_so (whole_in t limit name) next) got
-after_text known F L limit name text next got whole next_due = follows known F L F L (λ t. whole_in t limit name) (λ t bytes. next bytes) text got whole next_due
+pub after_text : {A : Type 0} (known : Option Known) (given : ℕ) (F L : List ℕ → Type 0) (limit : ℕ) (name text : List ℕ) (next : List ℕ → Result A Event) (got : Result A Event) → IsCaused known given F L (λ t. whole_in t limit name) (Ok text)
+    → IsCaused known given F L (λ t. next text) got → IsCaused known given F L (λ t. and_so (whole_in t limit name) next) got
+after_text known given F L limit name text next got whole next_due = follows known given given F L F L (λ t. whole_in t limit name) (λ t bytes. next bytes) text got (whole_steady limit name) whole next_due
 
--- what a text comes to by a relation, that was read whole
-pub after_text_by : {A : Type 0} (known : Option Known) (F L : List ℕ → Type 0) (due : Known → Result (List ℕ) Event) (text : List ℕ) (Next : Result (List ℕ) Event → Result A Event → Type 0) (got : Result A Event) → IsCaused known F L due (Ok text)
-    → IsFree F L got ⊎ (IsOpen got × IsDecided got × Next (Ok text) got) → IsCausedBy known F L (λ t end. Next (due t) end) got
-after_text_by known F L due text Next got (inl h) then_so = absurd h
-after_text_by known F L due text Next got (inr h) (inl q) = inl q
-after_text_by None F L due text Next got (inr h) (inr q) = inr q.0
-after_text_by (Some t) F L due text Next got (inr h) (inr q) = inr (q.1, subst (λ (r : Result (List ℕ) Event). Next r got) (sym h.1) q.2)
+-- an event of a step, under a relation that keeps it
+due_kept : (A B : Type 0) (known : Option Known) (m : Mishap) (due : Known → Result A Event) (event : Event) (Next : Result A Event → Result B Event → Type 0) → ((x : Event) → Next (Err x) (Err x)) → DueBy {A = A} known m (λ t r. due t ≡ r) event → DueBy {A = B} known m (λ t end. Next (due t) end) event
+due_kept A B None m due event Next keeps h = tt
+due_kept A B (Some t) m due event Next keeps h = subst (λ (r : Result A Event). Next r (Err event)) (sym h) (keeps event)
 
--- an input that could not be read, under a relation that keeps its event
-pub unread_by : {A : Type 0} (known : Option Known) (F L : List ℕ → Type 0) (due : Known → Result (List ℕ) Event) (event : Event) (Next : Result (List ℕ) Event → Result A Event → Type 0) → ((x : Event) → Next (Err x) (Err x)) → IsCaused known F L due (Err event)
-    → IsCausedBy known F L (λ t end. Next (due t) end) (Err event)
-unread_by known F L due event Next keeps (inl h) = inl h
-unread_by None F L due event Next keeps (inr h) = inr h
-unread_by (Some t) F L due event Next keeps (inr h) = inr (h.0, subst (λ (r : Result (List ℕ) Event). Next r (Err event)) (sym h.1) (keeps event))
+free_kept : (A B : Type 0) (cause : Cause) (known : Option Known) (given : ℕ) (F L : List ℕ → Type 0) (due : Known → Result A Event) (event : Event) (Next : Result A Event → Result B Event → Type 0) → ((x : Event) → Next (Err x) (Err x))
+    → FreeBy {A = A} cause known given F L (λ t r. due t ≡ r) event → FreeBy {A = B} cause known given F L (λ t end. Next (due t) end) event
+free_kept A B Want known given F L due event Next keeps h = h
+free_kept A B Fault known given F L due event Next keeps h = (h.0, due_kept A B known (Failing event.concerned given) due event Next keeps h.1)
+free_kept A B Absence known given F L due event Next keeps h = (h.0, due_kept A B known (Lacking event.concerned) due event Next keeps h.1)
+free_kept A B cause known given F L due event Next keeps h = absurd h
+
+pub unread_by : {A B : Type 0} (known : Option Known) (given : ℕ) (F L : List ℕ → Type 0) (due : Known → Result B Event) (event : Event) (Next : Result B Event → Result A Event → Type 0) → ((x : Event) → Next (Err x) (Err x)) → IsCaused known given F L due (Err event)
+    → IsCausedBy known given F L (λ t end. Next (due t) end) (Err event)
+unread_by {A} {B} known given F L due event Next keeps (inl h) = inl (free_kept B A (cause_of event) known given F L due event Next keeps h)
+unread_by None given F L due event Next keeps (inr h) = inr h
+unread_by {A} {B} (Some t) given F L due event Next keeps (inr h) = inr (h.0, subst (λ (r : Result B Event). Next r (Err event)) (sym h.1) (keeps event))
 
 -- ---- the header of a stream
 
@@ -221,30 +375,55 @@ judged_by name bytes (Ok after) made e = (tt, tt)
 judged_by name bytes (Err event) made e = head_by StreamRead name bytes (header_at bytes) event (sym e)
 
 -- a stream that was read whole, and its header judged
-pub stream_judged : (known : Option Known) (F L : List ℕ → Type 0) (limit : ℕ) (name whole : List ℕ) (got : Result (List ℕ) Event) → IsCaused known F L (λ t. whole_in t limit name) (Ok whole) → got ≡ data_in name whole
-    → IsCaused known F L (λ t. read_of t limit name) (and_so got (λ bytes. Ok (record { bytes = bytes; room = limit - length whole })))
-stream_judged known F L limit name whole got read e =
+pub stream_judged : (known : Option Known) (given : ℕ) (F L : List ℕ → Type 0) (limit : ℕ) (name whole : List ℕ) (got : Result (List ℕ) Event) → IsCaused known given F L (λ t. whole_in t limit name) (Ok whole) → got ≡ data_in name whole
+    → IsCaused known given F L (λ t. read_of t limit name) (and_so got (λ bytes. Ok (record { bytes = bytes; room = limit - length whole })))
+stream_judged known given F L limit name whole got read e =
     let made : List ℕ → StreamRead = λ bytes. record { bytes = bytes; room = limit - length whole } in
     let judged = judged_by name whole got made e in
-    after_text known F L limit name whole (λ text. and_so (data_in name text) (λ bytes. Ok (record { bytes = bytes; room = limit - length text }))) (and_so got (λ bytes. Ok (made bytes))) read
-    (works known F L (and_so (data_in name whole) (λ bytes. Ok (made bytes))) (and_so got (λ bytes. Ok (made bytes))) judged.0 judged.1 (ap (λ d. and_so d (λ bytes. Ok (made bytes))) (sym e)))
+    after_text known given F L limit name whole (λ text. and_so (data_in name text) (λ bytes. Ok (record { bytes = bytes; room = limit - length text }))) (and_so got (λ bytes. Ok (made bytes))) read
+    (works known given F L (and_so (data_in name whole) (λ bytes. Ok (made bytes))) (and_so got (λ bytes. Ok (made bytes))) judged.0 judged.1 (ap (λ d. and_so d (λ bytes. Ok (made bytes))) (sym e)))
 
 -- ---- an input that is read turn by turn
 
 pub rest_more : (old mid new : Option (List ℕ)) (taken piece : List ℕ) → old ≡ preceded taken mid → mid ≡ preceded piece new → old ≡ preceded (taken ++ piece) new
 rest_more old mid new taken piece e f = e ∙ ap (preceded taken) f ∙ preceded-preceded taken piece new
 
-pub rest_unread : (old mid new : InputsState) (name taken : List ℕ) (limit left most : ℕ) (event : Event) → old.rest ≡ preceded taken mid.rest → length taken + left ≡ limit → Stays old mid → Unread mid name new left most event → UnreadRest old name new limit event
-rest_unread old mid new name taken limit left most event e n s (inl h) = inl (h.0, risen_from old.faults mid.faults new.faults s.faults h.1)
-rest_unread old mid new name taken limit left most event e n s (inr h) =
+-- what was read of an input from a moment on, and a piece more
+pub reads_on : (old mid new : InputsState) (taken piece : List ℕ) → Reads old taken mid → Takes mid piece new → new.asked ≡ mid.asked → Stays mid new → Reads old (taken ++ piece) new
+reads_on old mid new taken piece r t a s = record { takes = takes_on old mid new taken piece r.takes t; asked = a ∙ r.asked; stays = stays_on old mid new r.stays s }
+
+pub reads_none : (s : InputsState) → s.selected ≡ true → Reads s [] s
+reads_none s e = record { takes = takes_none s e; asked = refl; stays = stays_at s }
+
+-- the same bytes by another name
+pub reads_as : (old new : InputsState) (bytes same : List ℕ) → bytes ≡ same → Reads old same new → Reads old bytes new
+reads_as old new bytes same e r = subst (λ (b : List ℕ). Reads old b new) (sym e) r
+
+-- a turn that was not read, behind others
+pub unread_on : (old mid new : InputsState) (name taken : List ℕ) (limit left : ℕ) (event : Event) → Reads old taken mid → length taken + left ≡ limit → Unread mid name new left event → Unread old name new limit event
+unread_on old mid new name taken limit left event r n (inl h) =
+    inl (h.0, record { risen = risen_from old.faults mid.faults new.faults r.stays.faults h.1.risen; selected = h.1.selected; given = omega (arith, n, r.takes.given, h.1.given) })
+unread_on old mid new name taken limit left event r n (inr h) =
     let piece = h.1.0 in
-    inr (h.0, (taken ++ piece, (new.rest, (rest_more old.rest mid.rest new.rest taken piece e h.1.1.0, omega (arith, n, h.1.1.1, length-append taken piece)))))
+    inr (h.0, (taken ++ piece, (rest_more old.rest mid.rest new.rest taken piece r.takes.taken h.1.1.0, omega (arith, n, h.1.1.1, length-append taken piece))))
+
+pub rest_unread : (old mid new : InputsState) (name taken : List ℕ) (limit left : ℕ) (event : Event) → Reads old taken mid → length taken + left ≡ limit → Unread mid name new left event → new.asked ≡ mid.asked → UnreadRest old name new limit event
+rest_unread old mid new name taken limit left event r n u a = (unread_on old mid new name taken limit left event r n u, a ∙ r.asked)
+
+-- the first turn of an input
+pub reads_first : (old new : InputsState) (piece : List ℕ) → Takes old piece new → new.asked ≡ old.asked → Stays old new → Reads old piece new
+reads_first old new piece t a s = record { takes = t; asked = a; stays = s }
+
+-- want of memory, or what was left behind the first turn was not read
+pub want_or_rest : (old mid new : InputsState) (name taken : List ℕ) (limit left : ℕ) (event : Event) → Reads old taken mid → length taken + left ≡ limit → (event ≡ no_memory) ⊎ UnreadRest mid name new left event → (event ≡ no_memory) ⊎ UnreadRest old name new limit event
+want_or_rest old mid new name taken limit left event r n (inl e) = inl e
+want_or_rest old mid new name taken limit left event r n (inr h) = inr (rest_unread old mid new name taken limit left event r n h.0 h.1)
 
 -- an input that was read to its end
-pub whole_read : (contents : Option (List ℕ → Option (List ℕ))) (flash : Option (List ℕ)) (F L : List ℕ → Type 0) (name whole : List ℕ) (rest : Option (List ℕ)) (limit : ℕ) → Selects contents name (preceded whole rest) → AtEnd rest → length whole ≤ limit
-    → IsCaused (with_inputs contents flash) F L (λ t. whole_in t limit name) (Ok whole)
-whole_read None flash F L name whole rest limit s e h = inr tt
-whole_read (Some inputs) flash F L name whole rest limit s e h =
+pub whole_read : (contents : Option (List ℕ → Option (List ℕ))) (flash : Option (List ℕ)) (given : ℕ) (F L : List ℕ → Type 0) (name whole : List ℕ) (rest : Option (List ℕ)) (limit : ℕ) → Selects contents name (preceded whole rest) → AtEnd rest → length whole ≤ limit
+    → IsCaused (with_inputs contents flash) given F L (λ t. whole_in t limit name) (Ok whole)
+whole_read None flash given F L name whole rest limit s e h = inr tt
+whole_read (Some inputs) flash given F L name whole rest limit s e h =
     let all = known_all inputs name whole rest s in
     let none : all.0 ≡ [] = let end = rw all.1.0 at e in end in
     let is : inputs name ≡ Some whole = all.1.1 ∙ ap (λ t. Some (whole ++ t)) none ∙ ap Some (append-nil whole) in
@@ -267,54 +446,186 @@ sum_more : (first more : List ℕ) (left limit : ℕ) → length more + left ≡
 sum_more first more left limit n l = (omega (arith, n, l, length-append first more), omega (arith, n, l, length-append first more))
 
 -- a stream whose data were read turn by turn
-pub stream_read : (contents : Option (List ℕ → Option (List ℕ))) (flash : Option (List ℕ)) (F L : List ℕ → Type 0) (name first more after : List ℕ) (mid rest : Option (List ℕ)) (limit left : ℕ) (last : Bool) → Selects contents name (preceded first mid) → mid ≡ preceded more rest → AtEnd rest
+pub stream_read : (contents : Option (List ℕ → Option (List ℕ))) (flash : Option (List ℕ)) (given : ℕ) (F L : List ℕ → Type 0) (name first more after : List ℕ) (mid rest : Option (List ℕ)) (limit left : ℕ) (last : Bool) → Selects contents name (preceded first mid) → mid ≡ preceded more rest → AtEnd rest
     → (last ≡ true → AtEnd mid) → (last ≡ false → 262170 ≤ length first) → AreBytes first → length more + left ≡ limit - length first → length first ≤ limit → Ok after ≡ data_in name first
-    → IsCaused (with_inputs contents flash) F L (λ t. read_of t limit name) (Ok (record { bytes = after ++ more; room = left }))
-stream_read None flash F L name first more after mid rest limit left last s e end ends long fits n l head = inr tt
-stream_read (Some inputs) flash F L name first more after mid rest limit left last s e end ends long fits n l head =
+    → IsCaused (with_inputs contents flash) given F L (λ t. read_of t limit name) (Ok (record { bytes = after ++ more; room = left }))
+stream_read None flash given F L name first more after mid rest limit left last s e end ends long fits n l head = inr tt
+stream_read (Some inputs) flash given F L name first more after mid rest limit left last s e end ends long fits n l head =
     let whole = first ++ more in
     let sizes = sum_more first more left limit n l in
     let taken : Selects (Some inputs) name (preceded whole rest) = subst (λ (r : Option (List ℕ)). Selects (Some inputs) name r) (ap (preceded first) e ∙ preceded-preceded first more rest) s in
     let judged : data_in name whole ≡ Ok (after ++ more) = data_more name first more fits (enough inputs name first more mid rest last s e ends long) ∙ ap (λ d. and_so d (λ bytes. Ok (bytes ++ more))) (sym head) in
-    let read = stream_judged (with_inputs (Some inputs) flash) F L limit name whole (Ok (after ++ more)) (whole_read (Some inputs) flash F L name whole rest limit taken end sizes.1) (sym judged) in
-    subst (λ (room : ℕ). IsCaused (with_inputs (Some inputs) flash) F L (λ t. read_of t limit name) (Ok (record { bytes = after ++ more; room = room }))) (sym sizes.0) read
+    let read = stream_judged (with_inputs (Some inputs) flash) given F L limit name whole (Ok (after ++ more)) (whole_read (Some inputs) flash given F L name whole rest limit taken end sizes.1) (sym judged) in
+    subst (λ (room : ℕ). IsCaused (with_inputs (Some inputs) flash) given F L (λ t. read_of t limit name) (Ok (record { bytes = after ++ more; room = room }))) (sym sizes.0) read
 
--- a stream that is too long
-too_long : (contents : Option (List ℕ → Option (List ℕ))) (flash : Option (List ℕ)) (F L : List ℕ → Type 0) (name whole : List ℕ) (rest : Option (List ℕ)) (limit : ℕ) → Selects contents name (preceded whole rest) → limit < length whole
-    → IsCaused (with_inputs contents flash) F L (λ t. read_of t limit name) (Err (too_large name))
-too_long None flash F L name whole rest limit s h = inr tt
-too_long (Some inputs) flash F L name whole rest limit s h =
+-- ---- what ended the reading of an input
+
+-- an input that failed within its limit
+broken_by : (found : Found) (name : List ℕ) (limit given : ℕ) → given ≤ limit → taken_whole name limit (broken_at given found) ≡ Err (read_fault name)
+broken_by (Held bytes) name limit given h = let short : nat_lt limit (length (take given bytes)) ≡ false = grind (arith, nat_tests, h, length-take given bytes) in rw short refl
+broken_by Absent name limit given h = let short : nat_lt limit 0 ≡ false = grind (arith, nat_tests) in rw short refl
+broken_by (Broken bytes) name limit given h = let short : nat_lt limit (length (take given bytes)) ≡ false = grind (arith, nat_tests, h, length-take given bytes) in rw short refl
+
+pub broken_due : (contents : Option (List ℕ → Option (List ℕ))) (flash : Option (List ℕ)) (name : List ℕ) (limit given : ℕ) → given ≤ limit → DueBy {A = List ℕ} (with_inputs contents flash) (Failing name given) (λ t r. whole_in t limit name ≡ r) (read_fault name)
+broken_due None flash name limit given h = tt
+broken_due (Some inputs) flash name limit given h = let here = name_is name in rw here (broken_by (found (inputs name)) name limit given h)
+
+pub absent_due : (contents : Option (List ℕ → Option (List ℕ))) (flash : Option (List ℕ)) (name : List ℕ) (limit : ℕ) → DueBy {A = List ℕ} (with_inputs contents flash) (Lacking name) (λ t r. whole_in t limit name ≡ r) (missing name)
+absent_due None flash name limit = tt
+absent_due (Some inputs) flash name limit = let here = name_is name in rw here refl
+
+-- the name is that of the last select
+pub asked_on : (name : List ℕ) (opened now : InputsState) → Asks name opened → now.asked ≡ opened.asked → IfSome now.asked (λ kept. kept ≡ name)
+asked_on name opened now a e = subst (λ (k : Option (List ℕ)). IfSome k (λ kept. kept ≡ name)) (sym e) a.asked
+
+-- an input that was not opened
+unopened_free : (old new : InputsState) (flash : Option (List ℕ)) (name : List ℕ) (limit : ℕ) → Asks name new → new.selected ≡ false → Misses old name new
+    → IsCaused (with_inputs old.contents flash) new.given (FailsAmong (name ∷ []) old new) (LacksAmong (name ∷ []) old new) (λ t. whole_in t limit name) (Err (missing name))
+unopened_free old new flash name limit a s m = by old.contents refl m
+  where
+    by : (contents : Option (List ℕ → Option (List ℕ))) → old.contents ≡ contents → MapLacks contents name ⊎ HasRisen old.absences new.absences
+        → IsCaused (with_inputs contents flash) new.given (FailsAmong (name ∷ []) old new) (LacksAmong (name ∷ []) old new) (λ t. whole_in t limit name) (Err (missing name))
+    by None e (inl h) = absurd h
+    by (Some inputs) e (inl h) = inr (tt, rw h refl)
+    by contents e (inr h) = inl (record { among = inl refl; over = record { asked = a.asked; selected = s }; risen = h }, absent_due contents flash name limit)
+
+pub open_refused : (old new : InputsState) (flash : Option (List ℕ)) (name : List ℕ) (limit : ℕ) (event : Event) → Unopened old name new event → Asks name new
+    → IsCaused (with_inputs old.contents flash) new.given (FailsAmong (name ∷ []) old new) (LacksAmong (name ∷ []) old new) (λ t. whole_in t limit name) (Err event)
+open_refused old new flash name limit event (inl h, s) a =
+    caused_event (with_inputs old.contents flash) new.given (FailsAmong (name ∷ []) old new) (LacksAmong (name ∷ []) old new) (λ t. whole_in t limit name) event (missing name) h.0 (unopened_free old new flash name limit a s h.1)
+open_refused old new flash name limit event (inr h, s) a =
+    caused_event (with_inputs old.contents flash) new.given (FailsAmong (name ∷ []) old new) (LacksAmong (name ∷ []) old new) (λ t. whole_in t limit name) event (read_fault name) h.0
+    (inl (record { among = inl refl; over = record { asked = a.asked; selected = s }; risen = h.1 }, broken_due old.contents flash name limit new.given (omega (arith, a.given))))
+
+-- an input of which more was taken than its limit
+over_whole : (contents : Option (List ℕ → Option (List ℕ))) (flash : Option (List ℕ)) (given : ℕ) (F L : List ℕ → Type 0) (name whole : List ℕ) (rest : Option (List ℕ)) (limit : ℕ) → Selects contents name (preceded whole rest) → limit < length whole
+    → IsCaused (with_inputs contents flash) given F L (λ t. whole_in t limit name) (Err (too_large name))
+over_whole None flash given F L name whole rest limit s h = inr tt
+over_whole (Some inputs) flash given F L name whole rest limit s h =
     let all = known_all inputs name whole rest s in
     let long : nat_lt limit (length (whole ++ all.0)) ≡ true = grind (arith, h, length-append whole all.0, nat_tests) in
     inr (tt, rw (all.1.1, long) refl)
 
--- a stream whose first bytes were read and the others not
-pub rest_refused : (old mid new : InputsState) (flash : Option (List ℕ)) (name first : List ℕ) (limit left : ℕ) (event : Event) → Stays old mid → length first + left ≡ limit → Selects old.contents name (preceded first mid.rest)
-    → (event ≡ no_memory) ⊎ UnreadRest mid name new left event → IsCaused (with_inputs old.contents flash) (RisesFor (name ∷ []) old.faults new.faults) (RisesFor (name ∷ []) old.absences new.absences) (λ t. read_of t limit name) (Err event)
-rest_refused old mid new flash name first limit left event k n s (inl e) =
-    caused_event (with_inputs old.contents flash) (RisesFor (name ∷ []) old.faults new.faults) (RisesFor (name ∷ []) old.absences new.absences) (λ t. read_of t limit name) event no_memory e (inl refl)
-rest_refused old mid new flash name first limit left event k n s (inr (inl h)) =
-    caused_event (with_inputs old.contents flash) (RisesFor (name ∷ []) old.faults new.faults) (RisesFor (name ∷ []) old.absences new.absences) (λ t. read_of t limit name) event (read_fault name) h.0 (inl (inl refl, risen_from old.faults mid.faults new.faults k.faults h.1))
-rest_refused old mid new flash name first limit left event k n s (inr (inr h)) =
+-- an input that was opened and then not read to its end
+pub whole_refused : (old opened new : InputsState) (flash : Option (List ℕ)) (name : List ℕ) (limit : ℕ) (event : Event) → Stays old opened → Selects old.contents name opened.rest → Asks name opened → (event ≡ no_memory) ⊎ UnreadRest opened name new limit event
+    → IsCaused (with_inputs old.contents flash) new.given (FailsAmong (name ∷ []) old new) (LacksAmong (name ∷ []) old new) (λ t. whole_in t limit name) (Err event)
+whole_refused old opened new flash name limit event k s a (inl e) =
+    caused_event (with_inputs old.contents flash) new.given (FailsAmong (name ∷ []) old new) (LacksAmong (name ∷ []) old new) (λ t. whole_in t limit name) event no_memory e (inl refl)
+whole_refused old opened new flash name limit event k s a (inr (inl h, q)) =
+    caused_event (with_inputs old.contents flash) new.given (FailsAmong (name ∷ []) old new) (LacksAmong (name ∷ []) old new) (λ t. whole_in t limit name) event (read_fault name) h.0
+    (inl (
+      record { among = inl refl; over = record { asked = asked_on name opened new a q; selected = h.1.selected }; risen = risen_from old.faults opened.faults new.faults k.faults h.1.risen },
+      broken_due old.contents flash name limit new.given (omega (arith, a.given, h.1.given)),
+    ))
+whole_refused old opened new flash name limit event k s a (inr (inr h, q)) =
     let more = h.1.0 in
-    let taken : Selects old.contents name (preceded (first ++ more) h.1.1.0) = subst (λ (r : Option (List ℕ)). Selects old.contents name r) (ap (preceded first) h.1.1.1.0 ∙ preceded-preceded first more h.1.1.0) s in
-    caused_event (with_inputs old.contents flash) (RisesFor (name ∷ []) old.faults new.faults) (RisesFor (name ∷ []) old.absences new.absences) (λ t. read_of t limit name) event (too_large name) h.0
-    (too_long old.contents flash (RisesFor (name ∷ []) old.faults new.faults) (RisesFor (name ∷ []) old.absences new.absences) name (first ++ more) h.1.1.0 limit taken (omega (arith, n, h.1.1.1.1, length-append first more)))
+    let taken : Selects old.contents name (preceded more new.rest) = subst (λ (r : Option (List ℕ)). Selects old.contents name r) h.1.1.0 s in
+    caused_event (with_inputs old.contents flash) new.given (FailsAmong (name ∷ []) old new) (LacksAmong (name ∷ []) old new) (λ t. whole_in t limit name) event (too_large name) h.0
+    (over_whole old.contents flash new.given (FailsAmong (name ∷ []) old new) (LacksAmong (name ∷ []) old new) name more new.rest limit taken (omega (arith, h.1.1.1)))
+
+-- where an input is at, turn by turn
+pub at_open : (name : List ℕ) (s : InputsState) → Asks name s → IsAt name [] s
+at_open name s a = record { asked = a.asked; given = omega (arith, a.given) }
+
+pub at_on : (name taken piece : List ℕ) (mid new : InputsState) → IsAt name taken mid → Takes mid piece new → new.asked ≡ mid.asked → IsAt name (taken ++ piece) new
+at_on name taken piece mid new a t q = record { asked = subst (λ (k : Option (List ℕ)). IfSome k (λ kept. kept ≡ name)) (sym q) a.asked; given = omega (arith, a.given, t.given, length-append taken piece) }
+
+pub at_read : (name bytes : List ℕ) (opened now : InputsState) → Asks name opened → Reads opened bytes now → IsAt name bytes now
+at_read name bytes opened now a r = record { asked = asked_on name opened now a r.asked; given = omega (arith, a.given, r.takes.given) }
+
+-- an input that failed within its limit
+pub at_fault : (old mid new : InputsState) (name taken : List ℕ) (left : ℕ) → Stays old mid → IsAt name taken mid → Breaks mid (left + 1) new → new.asked ≡ mid.asked → FailsAmong (name ∷ []) old new name × (new.given ≤ length taken + left)
+at_fault old mid new name taken left k a b q =
+    (record { among = inl refl; over = record { asked = subst (λ (k : Option (List ℕ)). IfSome k (λ kept. kept ≡ name)) (sym q) a.asked; selected = b.selected }; risen = risen_from old.faults mid.faults new.faults k.faults b.risen }, omega (arith, a.given, b.given))
+
+-- a turn of an input that was not read
+pub turn_refused : (old mid new : InputsState) (flash : Option (List ℕ)) (name taken : List ℕ) (limit left : ℕ) (event : Event) → Stays old mid → Selects old.contents name (preceded taken mid.rest) → IsAt name taken mid → length taken + left ≡ limit → Unread mid name new left event → new.asked ≡ mid.asked
+    → IsCaused (with_inputs old.contents flash) new.given (FailsAmong (name ∷ []) old new) (LacksAmong (name ∷ []) old new) (λ t. whole_in t limit name) (Err event)
+turn_refused old mid new flash name taken limit left event k s a n (inl h) q =
+    let f = at_fault old mid new name taken left k a h.1 q in
+    caused_event (with_inputs old.contents flash) new.given (FailsAmong (name ∷ []) old new) (LacksAmong (name ∷ []) old new) (λ t. whole_in t limit name) event (read_fault name) h.0
+    (inl (f.0, broken_due old.contents flash name limit new.given (omega (arith, f.1, n))))
+turn_refused old mid new flash name taken limit left event k s a n (inr h) q =
+    let piece = h.1.0 in
+    let all : Selects old.contents name (preceded (taken ++ piece) new.rest) = subst (λ (r : Option (List ℕ)). Selects old.contents name r) (ap (preceded taken) h.1.1.0 ∙ preceded-preceded taken piece new.rest) s in
+    caused_event (with_inputs old.contents flash) new.given (FailsAmong (name ∷ []) old new) (LacksAmong (name ∷ []) old new) (λ t. whole_in t limit name) event (too_large name) h.0
+    (over_whole old.contents flash new.given (FailsAmong (name ∷ []) old new) (LacksAmong (name ∷ []) old new) name (taken ++ piece) new.rest limit all (omega (arith, n, h.1.1.1, length-append taken piece)))
+
+-- the same of a stream whose data are read
+pub stream_unread : (old opened new : InputsState) (flash : Option (List ℕ)) (name : List ℕ) (limit : ℕ) (event : Event) → Stays old opened → Selects old.contents name opened.rest → Asks name opened → (event ≡ no_memory) ⊎ UnreadRest opened name new limit event
+    → IsCaused (with_inputs old.contents flash) new.given (FailsAmong (name ∷ []) old new) (LacksAmong (name ∷ []) old new) (λ t. read_of t limit name) (Err event)
+stream_unread old opened new flash name limit event k s a h =
+    stops (with_inputs old.contents flash) new.given (FailsAmong (name ∷ []) old new) (LacksAmong (name ∷ []) old new) (λ t. whole_in t limit name) (λ t whole. and_so (data_in name whole) (λ bytes. Ok (record { bytes = bytes; room = limit - length whole }))) event
+    (whole_refused old opened new flash name limit event k s a h)
+
+pub stream_unopened : (old new : InputsState) (flash : Option (List ℕ)) (name : List ℕ) (limit : ℕ) (event : Event) → Unopened old name new event → Asks name new
+    → IsCaused (with_inputs old.contents flash) new.given (FailsAmong (name ∷ []) old new) (LacksAmong (name ∷ []) old new) (λ t. read_of t limit name) (Err event)
+stream_unopened old new flash name limit event u a =
+    stops (with_inputs old.contents flash) new.given (FailsAmong (name ∷ []) old new) (LacksAmong (name ∷ []) old new) (λ t. whole_in t limit name) (λ t whole. and_so (data_in name whole) (λ bytes. Ok (record { bytes = bytes; room = limit - length whole }))) event
+    (open_refused old new flash name limit event u a)
 
 -- a stream whose header is refused, after it was read to its end
-pub stream_refused : (contents : Option (List ℕ → Option (List ℕ))) (flash : Option (List ℕ)) (F L : List ℕ → Type 0) (name first more : List ℕ) (mid rest : Option (List ℕ)) (limit : ℕ) (last : Bool) (event : Event) → Selects contents name (preceded first mid) → mid ≡ preceded more rest → AtEnd rest
+pub stream_refused : (contents : Option (List ℕ → Option (List ℕ))) (flash : Option (List ℕ)) (given : ℕ) (F L : List ℕ → Type 0) (name first more : List ℕ) (mid rest : Option (List ℕ)) (limit : ℕ) (last : Bool) (event : Event) → Selects contents name (preceded first mid) → mid ≡ preceded more rest → AtEnd rest
     → (last ≡ true → AtEnd mid) → (last ≡ false → 262170 ≤ length first) → AreBytes first → length more ≤ limit - length first → length first ≤ limit → Err event ≡ data_in name first
-    → IsCaused (with_inputs contents flash) F L (λ t. read_of t limit name) (Err event)
-stream_refused None flash F L name first more mid rest limit last event s e end ends long fits n l head = inr (head_by StreamRead name first (header_at first) event (sym head)).0
-stream_refused (Some inputs) flash F L name first more mid rest limit last event s e end ends long fits n l head =
+    → IsCaused (with_inputs contents flash) given F L (λ t. read_of t limit name) (Err event)
+stream_refused None flash given F L name first more mid rest limit last event s e end ends long fits n l head = inr (head_by StreamRead name first (header_at first) event (sym head)).0
+stream_refused (Some inputs) flash given F L name first more mid rest limit last event s e end ends long fits n l head =
     let whole = first ++ more in
     let size : length whole ≤ limit = omega (arith, n, l, length-append first more) in
     let taken : Selects (Some inputs) name (preceded whole rest) = subst (λ (r : Option (List ℕ)). Selects (Some inputs) name r) (ap (preceded first) e ∙ preceded-preceded first more rest) s in
     let judged : data_in name whole ≡ Err event = data_more name first more fits (enough inputs name first more mid rest last s e ends long) ∙ ap (λ d. and_so d (λ bytes. Ok (bytes ++ more))) (sym head) in
-    stream_judged (with_inputs (Some inputs) flash) F L limit name whole (Err event) (whole_read (Some inputs) flash F L name whole rest limit taken end size) (sym judged)
+    stream_judged (with_inputs (Some inputs) flash) given F L limit name whole (Err event) (whole_read (Some inputs) flash given F L name whole rest limit taken end size) (sym judged)
 
 -- a slice of a buffer's first bytes
 pub slice_of : (start count : ℕ) (buf : List ℕ) → start ≤ count → drop start (take count buf) ≡ take (count - start) (drop start buf)
 slice_of start count buf h =
     let sum : start + (count - start) ≡ count = omega (arith, h) in
     sym (ap (λ k. drop start (take k buf)) sum) ∙ drop-take start (count - start) buf
+
+-- ---- steps, whatever the flash holds
+
+-- a first name is among more
+pub first_of : (name : List ℕ) (names : List (List ℕ)) (n : List ℕ) → Among (name ∷ []) n → Among (name ∷ names) n
+first_of name names n (inl e) = inl e
+first_of name names n (inr e) = absurd e
+
+-- a step that ended the command, among more names
+pub answers_stop : (A B : Type 0) (some all : List (List ℕ)) (old new : InputsState) (due : Known → Result A Event) (next : Known → A → Result B Event) (event : Event) → ((n : List ℕ) → Among some n → Among all n)
+    → AnswersAs {A = A} some old new due (Err event) → AnswersAs {A = B} all old new (λ t. and_so (due t) (next t)) (Err event)
+answers_stop A B some all old new due next event a h flash =
+    caused_on_by B (with_inputs old.contents flash) new.given (FailsAmong some old new) (LacksAmong some old new) (FailsAmong all old new) (LacksAmong all old new) (λ t r. and_so (due t) (next t) ≡ r) (Err event)
+    (fails_in some all old old new a (stays_at old)) (lacks_in some all old old new a (stays_at old))
+    (stops (with_inputs old.contents flash) new.given (FailsAmong some old new) (LacksAmong some old new) due next event (h flash))
+
+-- a step that went on, and the next
+pub answers_go : (A B : Type 0) (some more all : List (List ℕ)) (old mid new : InputsState) (due : Known → Result A Event) (next : Known → A → Result B Event) (a : A) (got : Result B Event) → Steady A due → Stays old mid → ((n : List ℕ) → Among more n → Among all n)
+    → AnswersAs {A = A} some old mid due (Ok a) → AnswersAs {A = B} more mid new (λ t. next t a) got → AnswersAs {A = B} all old new (λ t. and_so (due t) (next t)) got
+answers_go A B some more all old mid new due next a got steady stays names h q flash =
+    let q1 = subst (λ (c : Option (List ℕ → Option (List ℕ))). IsCaused (with_inputs c flash) new.given (FailsAmong more mid new) (LacksAmong more mid new) (λ t. next t a) got) stays.map (q flash) in
+    let q2 = caused_on_by B (with_inputs old.contents flash) new.given (FailsAmong more mid new) (LacksAmong more mid new) (FailsAmong all old new) (LacksAmong all old new) (λ t r. next t a ≡ r) got
+    (fails_in more all old mid new names stays) (lacks_in more all old mid new names stays) q1 in
+    follows (with_inputs old.contents flash) new.given mid.given (FailsAmong some old mid) (LacksAmong some old mid) (FailsAmong all old new) (LacksAmong all old new) due next a got steady (h flash) q2
+
+-- a step that went on to one that reads nothing: want of memory, or what it says
+pub answers_end : (A B : Type 0) (names : List (List ℕ)) (old new : InputsState) (due : Known → Result A Event) (next : A → Result B Event) (a : A) (got : Result B Event) → Steady A due → AnswersAs {A = A} names old new due (Ok a)
+    → (got ≡ Err no_memory) ⊎ (IsOpen got × IsDecided got × (next a ≡ got)) → AnswersAs {A = B} names old new (λ t. and_so (due t) next) got
+answers_end A B names old new due next a got steady h (inl e) flash = subst (λ (r : Result B Event). IsCaused (with_inputs old.contents flash) new.given (FailsAmong names old new) (LacksAmong names old new) (λ t. and_so (due t) next) r) (sym e) (inl refl)
+answers_end A B names old new due next a got steady h (inr q) flash =
+    follows (with_inputs old.contents flash) new.given new.given (FailsAmong names old new) (LacksAmong names old new) (FailsAmong names old new) (LacksAmong names old new) due (λ t x. next x) a got steady (h flash)
+    (works (with_inputs old.contents flash) new.given (FailsAmong names old new) (LacksAmong names old new) (next a) got q.0 q.1 q.2)
+
+-- the same where a relation says what the next step comes to
+pub answers_kept : (A B : Type 0) (names : List (List ℕ)) (old new : InputsState) (due : Known → Result A Event) (Next : Result A Event → Result B Event → Type 0) (event : Event) → ((x : Event) → Next (Err x) (Err x))
+    → AnswersAs {A = A} names old new due (Err event) → AnswersBy {A = B} names old new (λ t end. Next (due t) end) (Err event)
+answers_kept A B names old new due Next event keeps h flash = unread_by (with_inputs old.contents flash) new.given (FailsAmong names old new) (LacksAmong names old new) due event Next keeps (h flash)
+
+after_by : (A B : Type 0) (known : Option Known) (given : ℕ) (F L : List ℕ → Type 0) (due : Known → Result A Event) (a : A) (Next : Result A Event → Result B Event → Type 0) (got : Result B Event) → IsCaused {A = A} known given F L due (Ok a)
+    → (got ≡ Err no_memory) ⊎ (IsOpen got × IsDecided got × Next (Ok a) got) → IsCausedBy {A = B} known given F L (λ t end. Next (due t) end) got
+after_by A B known given F L due a Next got (inl h) then_so = absurd h
+after_by A B known given F L due a Next got (inr h) (inl q) = subst (λ (r : Result B Event). IsCausedBy known given F L (λ t end. Next (due t) end) r) (sym q) (inl refl)
+after_by A B None given F L due a Next got (inr h) (inr q) = inr q.0
+after_by A B (Some t) given F L due a Next got (inr h) (inr q) = inr (q.1, subst (λ (r : Result A Event). Next r got) (sym h.1) q.2)
+
+pub answers_by : (A B : Type 0) (names : List (List ℕ)) (old new : InputsState) (due : Known → Result A Event) (a : A) (Next : Result A Event → Result B Event → Type 0) (got : Result B Event) → AnswersAs {A = A} names old new due (Ok a)
+    → (got ≡ Err no_memory) ⊎ (IsOpen got × IsDecided got × Next (Ok a) got) → AnswersBy {A = B} names old new (λ t end. Next (due t) end) got
+answers_by A B names old new due a Next got h q flash = after_by A B (with_inputs old.contents flash) new.given (FailsAmong names old new) (LacksAmong names old new) due a Next got (h flash) q

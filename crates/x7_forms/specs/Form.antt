@@ -1,5 +1,5 @@
 -- The forms of the command line (this project's choice).
-use Rattle.std.specs.Prelude.{ℕ, map, string_bytes, List, [], ◌∷◌, Option, None, Some, Bool, true, false, ◌&&◌, if◌then◌else◌, codes, length, nat_le, nat_lt, decimal}
+use Rattle.std.specs.Prelude.{ℕ, map, string_bytes, List, [], ◌∷◌, Option, None, Some, ◌&&◌, if◌then◌else◌, codes, length, nat_le, nat_lt, decimal}
 use Rattle.std.specs.Str.Parse.{digits_value}
 use Rattle.x7_text.specs.Digits.{hex_word}
 use Rattle.x7_text.specs.DigitValue.{word_value}
@@ -18,7 +18,8 @@ pub data Asked : Type 0 where
   PlanningPartial : (part frames : List ℕ) → Asked
   PlanningRead : (part : List ℕ) (far n : ℕ) → Asked
   Generating : (part : List ℕ) (seed : ℕ) → Asked
-  Imaging : (part golden update : List ℕ) → Asked
+  Imaging : (golden update : List ℕ) → Asked
+  ImagingFor : (part golden update : List ℕ) → Asked
   Debugging : (part stream script : List ℕ) → Asked
   Booting : (part flash : List ℕ) → Asked
 
@@ -34,14 +35,6 @@ two_names form [] = None
 two_names form (first ∷ []) = None
 two_names form (first ∷ second ∷ []) = Some (form first second)
 two_names form (first ∷ second ∷ third ∷ more) = None
-
--- a form of three names
-abbrev pub three_names : (List ℕ → List ℕ → List ℕ → Asked) → List (List ℕ) → Option Asked
-three_names form [] = None
-three_names form (first ∷ []) = None
-three_names form (first ∷ second ∷ []) = None
-three_names form (first ∷ second ∷ third ∷ []) = Some (form first second third)
-three_names form (first ∷ second ∷ third ∷ fourth ∷ more) = None
 
 -- the word of eight upper-case digits: written again it has these digits
 abbrev pub word_in : List ℕ → Option ℕ
@@ -93,12 +86,18 @@ abbrev pub debug_form : List (List ℕ) → Option Asked
 debug_form (part ∷ stream ∷ script ∷ []) = Some (Debugging part stream script)
 debug_form _ = None
 
+-- `image GOLDEN UPDATE`, for parts whose start address counts bytes, or `image PART GOLDEN UPDATE`
+abbrev pub image_form : List (List ℕ) → Option Asked
+image_form (golden ∷ update ∷ []) = Some (Imaging golden update)
+image_form (part ∷ golden ∷ update ∷ []) = Some (ImagingFor part golden update)
+image_form _ = None
+
 -- the form of the words, by the first of them
 abbrev pub form_of : List (List ℕ) → Option Asked
 form_of [] = None
 form_of (command ∷ names) =
     if bytes_eq command (codes "list") then one_name Listing names
-    else if bytes_eq command (codes "image") then three_names Imaging names
+    else if bytes_eq command (codes "image") then image_form names
     else if bytes_eq command (codes "asm") then one_name Assembling names
     else if bytes_eq command (codes "play") then play_form names
     else if bytes_eq command (codes "mcs") then one_name ToMcs names
@@ -120,7 +119,8 @@ asked_by (form.PlanFull part frames) = PlanningFull part.now frames.now
 asked_by (form.PlanPartial part frames) = PlanningPartial part.now frames.now
 asked_by (form.PlanRead part far n) = PlanningRead part.now far n
 asked_by (form.Gen part seed) = Generating part.now seed
-asked_by (form.Image part golden update) = Imaging part.now golden.now update.now
+asked_by (form.Image golden update) = Imaging golden.now update.now
+asked_by (form.ImageFor part golden update) = ImagingFor part.now golden.now update.now
 asked_by (form.Debug part stream script) = Debugging part.now stream.now script.now
 asked_by (form.Boot part flash) = Booting part.now flash.now
 
@@ -132,7 +132,8 @@ asked (Some form) = Some (asked_by form)
 abbrev pub names_of : Option Asked → List (List ℕ)
 names_of None = []
 names_of (Some (Listing stream)) = stream ∷ []
-names_of (Some (Imaging part golden update)) = part ∷ golden ∷ update ∷ []
+names_of (Some (Imaging golden update)) = golden ∷ update ∷ []
+names_of (Some (ImagingFor part golden update)) = part ∷ golden ∷ update ∷ []
 names_of (Some (Playing part streams)) = part ∷ streams
 names_of (Some (Assembling text)) = text ∷ []
 names_of (Some (ToMcs image)) = image ∷ []
@@ -149,18 +150,7 @@ abbrev pub flash_names : Option Asked → List (List ℕ)
 flash_names (Some (Booting part flash)) = flash ∷ []
 flash_names form = []
 
--- whether a form names the flash
-abbrev pub names_flash : Option Asked → Bool
-names_flash None = false
-names_flash (Some (Imaging part golden update)) = false
-names_flash (Some (Listing stream)) = false
-names_flash (Some (Playing part streams)) = false
-names_flash (Some (Assembling text)) = false
-names_flash (Some (ToMcs image)) = false
-names_flash (Some (FromMcs text)) = false
-names_flash (Some (PlanningFull part frames)) = false
-names_flash (Some (PlanningPartial part frames)) = false
-names_flash (Some (PlanningRead part far n)) = false
-names_flash (Some (Generating part seed)) = false
-names_flash (Some (Debugging part stream script)) = false
-names_flash (Some (Booting part flash)) = true
+-- the stream that a form lists as it reads it; every other form writes its whole text at its end
+abbrev pub listed_by : Option Asked → Option (List ℕ)
+listed_by (Some (Listing stream)) = Some stream
+listed_by form = None

@@ -1,5 +1,6 @@
 -- What is known of the inputs and of a flash, and what steps over it come to: reading an input, a part file or a stream, and playing streams (this project's choice).
-use Rattle.std.specs.Prelude.{ℕ, List, [], ◌∷◌, ◌++◌, ◌-◌, Option, None, Some, is_some, Result, Ok, Err, Bool, false, if◌then◌else◌, drop, length, nat_lt}
+use Rattle.std.specs.Prelude.{ℕ, List, [], ◌∷◌, ◌++◌, ◌-◌, Option, None, Some, is_some, Result, Ok, Err, Bool, false, if◌then◌else◌, drop, length, nat_lt, take}
+use Rattle.std.specs.Str.{bytes_eq}
 use Rattle.x7_header.specs.Header.{Contents}
 use Rattle.x7_header.specs.Reading.{header_at}
 use Rattle.x7_header.specs.declared.fault.HeaderFault.{HeaderFault}
@@ -10,14 +11,26 @@ use Rattle.x7_engine.specs.Kept.{on_the_bench}
 use Rattle.x7_engine.specs.State.{line_by, memory_in, reads_of, state_of, stop_in}
 use Rattle.x7_engine.specs.Stops.{fault_of}
 use Rattle.x7_forms.specs.declared.bad_input.InputFault.TheVariants as input
-use Rattle.x7_forms.specs.Event.{Event, bad_input, bad_part, missing, too_large, too_many_reads}
+use Rattle.x7_forms.specs.Event.{Event, bad_input, bad_part, missing, read_fault, too_large, too_many_reads}
 use Rattle.x7_part.specs.PartFile.{part_in}
 use Rattle.x7_forms.specs.Report.{report_text}
 
--- what is known: the bytes of each input by its name, and those of the flash where they are known
+-- what is found under a name: bytes, nothing, or the first bytes and then a fault
+pub data Found : Type 0 where
+  Held : (bytes : List ℕ) → Found
+  Absent : Found
+  Broken : (bytes : List ℕ) → Found
+
+-- the bytes that are found, those before a fault too
+abbrev pub bytes_found : Found → List ℕ
+bytes_found (Held bytes) = bytes
+bytes_found Absent = []
+bytes_found (Broken bytes) = bytes
+
+-- what is known: what each input is by its name, and what the flash of a name is where that is known
 pub record Known : Type 0 where
-  pub inputs : List ℕ → Option (List ℕ)
-  pub flash : Option (List ℕ)
+  pub inputs : List ℕ → Found
+  pub flash : List ℕ → Option Found
 
 -- a whole text, and whether what it reports stopped at a fault
 pub record Answer : Type 0 where
@@ -28,11 +41,6 @@ pub record Answer : Type 0 where
 abbrev pub and_so : {A B : Type 0} → Result A Event → (A → Result B Event) → Result B Event
 and_so (Ok a) next = next a
 and_so (Err event) next = Err event
-
--- the bytes of an input
-abbrev pub present : List ℕ → Option (List ℕ) → Result (List ℕ) Event
-present name None = Err (missing name)
-present name (Some bytes) = Ok bytes
 
 -- the data of a stream by what stands at its beginning: a header and its size, or why there is none
 abbrev pub data_by : List ℕ → List ℕ → Result (Contents × ℕ) HeaderFault → Result (List ℕ) Event
@@ -53,11 +61,16 @@ within name limit bytes = if nat_lt limit (length bytes) then Err (too_large nam
 abbrev pub stream_limit : ℕ
 stream_limit = 67108864
 
--- ---- play
+-- an input that is read whole and has no more than so many bytes; one may be over that before it fails
+abbrev pub taken_whole : List ℕ → ℕ → Found → Result (List ℕ) Event
+taken_whole name limit (Held bytes) = within name limit bytes
+taken_whole name limit Absent = Err (missing name)
+taken_whole name limit (Broken bytes) = and_so (within name limit bytes) (λ _. Err (read_fault name))
 
--- an input that has no more than so many bytes
 abbrev pub whole_in : Known → ℕ → List ℕ → Result (List ℕ) Event
-whole_in known limit name = and_so (present name (known.inputs name)) (within name limit)
+whole_in known limit name = taken_whole name limit (known.inputs name)
+
+-- ---- play
 
 -- the most bytes of a part file
 abbrev pub part_limit : ℕ
@@ -107,7 +120,55 @@ reported part bytes = if nat_lt reads_limit (length (reads_of part on_the_bench 
 abbrev pub played : Known → List ℕ → List (List ℕ) → Result Answer Event
 played known part streams = and_so (part_of known part) (λ p. and_so (data_of known stream_limit streams) (reported p))
 
--- what is known of the inputs, and of the flash where it is known
+-- ---- what is known of the outside
+
+-- an input by its bytes, where it has any
+abbrev pub found : Option (List ℕ) → Found
+found None = Absent
+found (Some bytes) = Held bytes
+
+-- a flash by its bytes, where they are known
+abbrev pub flash_found : Option (List ℕ) → Option Found
+flash_found None = None
+flash_found (Some bytes) = Some (Held bytes)
+
+-- what is known of the inputs, and of the flash, whatever its name
+abbrev pub known_of : (List ℕ → Option (List ℕ)) → Option (List ℕ) → Known
+known_of inputs flash = record { inputs = λ name. found (inputs name); flash = λ name. flash_found flash }
+
 abbrev pub with_inputs : Option (List ℕ → Option (List ℕ)) → Option (List ℕ) → Option Known
 with_inputs None flash = None
-with_inputs (Some inputs) flash = Some (record { inputs = inputs; flash = flash })
+with_inputs (Some inputs) flash = Some (known_of inputs flash)
+
+-- ---- what is known, but for one name
+
+-- what may be otherwise than it is known: a name fails behind so many bytes, or isn't there
+pub data Mishap : Type 0 where
+  Failing : (name : List ℕ) (given : ℕ) → Mishap
+  Lacking : (name : List ℕ) → Mishap
+
+-- the name, and the event that comes of it
+abbrev pub spoiled_name : Mishap → List ℕ
+spoiled_name (Failing name given) = name
+spoiled_name (Lacking name) = name
+
+abbrev pub mishap_event : Mishap → Event
+mishap_event (Failing name given) = read_fault name
+mishap_event (Lacking name) = missing name
+
+-- the first bytes of what is found, and then a fault
+abbrev pub broken_at : ℕ → Found → Found
+broken_at given (Held bytes) = Broken (take given bytes)
+broken_at given Absent = Broken []
+broken_at given (Broken bytes) = Broken (take given bytes)
+
+abbrev pub spoiled : Mishap → Found → Found
+spoiled (Failing name given) old = broken_at given old
+spoiled (Lacking name) old = Absent
+
+-- what is known, with this mishap
+abbrev pub with_mishap : Mishap → Known → Known
+with_mishap m known = record {
+  inputs = λ name. if bytes_eq name (spoiled_name m) then spoiled m (known.inputs name) else known.inputs name;
+  flash = λ name. if bytes_eq name (spoiled_name m) then Some (spoiled m Absent) else known.flash name;
+}

@@ -1,31 +1,47 @@
 -- Inputs that are read turn by turn.
-use Rattle.std.specs.Prelude.{◌≡◌, ◌≢◌, ◌<◌, ◌≤◌, ◌⊎◌, ◌++◌, ℕ, Bool, true, List, [], Option, Ok, Err, drop, length, ◌+◌}
-use Rattle.x7_words.specs.Input.{InputsState, AtEnd, Fails, Misses, preceded}
+use Rattle.std.specs.Prelude.{◌≡◌, ◌≢◌, ◌<◌, ◌≤◌, ◌⊎◌, ◌++◌, ℕ, Bool, true, false, List, [], Option, Ok, Err, IfSome, drop, length, ◌+◌}
+use Rattle.x7_words.specs.Input.{InputsState, AtEnd, Fails, Misses, Stays, Takes, preceded}
 use Rattle.x7_header.specs.Header.{Contents, HasOtherLetterAt, HaveHeader, fixed_bytes, header_bytes}
 use Rattle.x7_forms.specs.Event.{Event, bad_input, missing, no_memory, read_fault, too_large}
 use Rattle.x7_forms.specs.declared.bad_input.InputFault.TheVariants as input
+use Rattle.x7_forms.specs.Known.{stream_limit}
 use Rattle.x7_listing.specs.Listing.{listing_of}
 use Rattle.x7_listing.specs.StreamListing.{stream_listing}
 
 -- an input was not opened: its name isn't there, or the inputs failed
 abbrev pub Unopened : InputsState → List ℕ → InputsState → Event → Type 0
-Unopened old name new event = ((event ≡ missing name) × Misses old name new) ⊎ ((event ≡ read_fault name) × Fails old new)
+Unopened old name new event = (((event ≡ missing name) × Misses old name new) ⊎ ((event ≡ read_fault name) × Fails old new)) × (new.selected ≡ false)
 
--- a turn of so many bytes at most, of which so many are within the limit, was not read: the inputs failed, or it went over the limit
-abbrev pub Unread : InputsState → List ℕ → InputsState → ℕ → ℕ → Event → Type 0
-Unread old name new left most event =
-    ((event ≡ read_fault name) × Fails old new)
-    ⊎ ((event ≡ too_large name) × ((piece : List ℕ) × ((old.rest ≡ preceded piece new.rest) × (left < length piece) × (length piece ≤ most))))
+-- the selected input failed behind fewer than so many bytes more, and none is selected any more
+pub record Breaks (old : InputsState) (most : ℕ) (new : InputsState) : Type 0 where
+  pub risen : Fails old new
+  pub selected : new.selected ≡ false
+  pub given : new.given < old.given + most
+
+-- these bytes were read of the input that is open
+pub record Reads (old : InputsState) (bytes : List ℕ) (new : InputsState) : Type 0 where
+  pub takes : Takes old bytes new
+  pub asked : new.asked ≡ old.asked
+  pub stays : Stays old new
+
+-- no more than these bytes were given of the input of this name, the last that was asked for
+pub record IsAt (name bytes : List ℕ) (now : InputsState) : Type 0 where
+  pub asked : IfSome now.asked (λ kept. kept ≡ name)
+  pub given : now.given ≤ length bytes
+
+-- What was read of an open input, with so many bytes within the limit, was not all: the inputs failed before the limit was passed, or one byte more than it was taken.
+abbrev pub Unread : InputsState → List ℕ → InputsState → ℕ → Event → Type 0
+Unread old name new left event =
+    ((event ≡ read_fault name) × Breaks old (left + 1) new)
+    ⊎ ((event ≡ too_large name) × ((piece : List ℕ) × ((old.rest ≡ preceded piece new.rest) × (length piece ≡ left + 1))))
 
 -- what was left of an open input was read to its end: these bytes
 abbrev pub ReadsRest : InputsState → InputsState → List ℕ → Type 0
 ReadsRest old new more = (old.rest ≡ preceded more new.rest) × AtEnd new.rest
 
--- what was left of an open input, with so many bytes within the limit, was not read to its end: the inputs failed, or it went over the limit
+-- the same of what was left of it, turn by turn
 abbrev pub UnreadRest : InputsState → List ℕ → InputsState → ℕ → Event → Type 0
-UnreadRest old name new limit event =
-    ((event ≡ read_fault name) × Fails old new)
-    ⊎ ((event ≡ too_large name) × ((more : List ℕ) × ((rest : Option (List ℕ)) × ((old.rest ≡ preceded more rest) × (limit < length more)))))
+UnreadRest old name new limit event = Unread old name new limit event × (new.asked ≡ old.asked)
 
 -- nothing follows the last bytes
 abbrev pub MayFollow : Bool → List ℕ → Type 0
@@ -51,7 +67,7 @@ IsFront bytes last line start = (rest : List ℕ) → MayFollow last rest → st
 
 -- what was read of a stream when its header is judged
 pub record FrontRead (bytes line : List ℕ) (start : ℕ) (last : Bool) (old new : InputsState) : Type 0 where
-  pub taken : old.rest ≡ preceded bytes new.rest
+  pub reads : Reads old bytes new
   pub end : last ≡ true → AtEnd new.rest
   pub within : start ≤ length bytes
   pub few : length bytes ≤ 327706
@@ -76,4 +92,4 @@ pub record IsBadFront (old new : InputsState) (name : List ℕ) (event : Event) 
 
 -- a stream's front was not read: want of memory, the inputs failed, or the header is refused
 abbrev pub Unfronted : InputsState → List ℕ → InputsState → Event → Type 0
-Unfronted old name new event = (event ≡ no_memory) ⊎ (((event ≡ read_fault name) × Fails old new) ⊎ IsBadFront old new name event)
+Unfronted old name new event = (event ≡ no_memory) ⊎ (((event ≡ read_fault name) × Breaks old (stream_limit + 1) new × (new.asked ≡ old.asked)) ⊎ IsBadFront old new name event)

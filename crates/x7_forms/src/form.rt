@@ -1,6 +1,6 @@
 //! The forms of the command line.
 ghost use Rattle.std.specs.Prelude.{◌≡◌, map, string_bytes};
-ghost use Rattle.x7_forms.specs.Form.{Assembling, Booting, FromMcs, Imaging, Listing, PlanningFull, ToMcs, debug_form, form_of, gen_form, number_in, one_name, plan_form, plan_read_form, play_form, three_names, two_names, word_in, PlanningPartial, asked};
+ghost use Rattle.x7_forms.specs.Form.{Assembling, Booting, FromMcs, Listing, PlanningFull, ToMcs, debug_form, form_of, gen_form, image_form, number_in, one_name, plan_form, plan_read_form, play_form, two_names, word_in, PlanningPartial, asked};
 
 use x7_text::{decimal_below, word_of_hex};
 
@@ -57,8 +57,15 @@ pub enum Form<'w> {
         /// The number.
         seed: u32,
     },
-    /// `image PART GOLDEN UPDATE`: the flash image of two streams.
+    /// `image GOLDEN UPDATE`: the flash image of two streams, for parts whose start address counts bytes.
     Image {
+        /// The golden stream's name.
+        golden: &'w str,
+        /// The update stream's name.
+        update: &'w str,
+    },
+    /// `image PART GOLDEN UPDATE`: the flash image of two streams for a part.
+    ImageFor {
         /// The part file's name.
         part: &'w str,
         /// The golden stream's name.
@@ -273,12 +280,16 @@ fn boot_form(names: &[String]) -> Option<Form<'_>>
     }
 }
 
-/// `image PART GOLDEN UPDATE`.
+/// `image GOLDEN UPDATE`, or `image PART GOLDEN UPDATE`.
 fn image_form(names: &[String]) -> Option<Form<'_>>
-    ensures { asked result ≡ three_names Imaging (map string_bytes names.now) }
+    ensures { asked result ≡ image_form (map string_bytes names.now) }
 {
     match names {
-        [part, golden, update] => Some(Form::Image {
+        [golden, update] => Some(Form::Image {
+            golden: golden.as_str(),
+            update: update.as_str(),
+        }),
+        [part, golden, update] => Some(Form::ImageFor {
             part: part.as_str(),
             golden: golden.as_str(),
             update: update.as_str(),

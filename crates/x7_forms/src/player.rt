@@ -92,7 +92,8 @@ impl Player {
     }
 
     /// Plays the bytes of a piece, up to one that stops the device. Where more words than the limit were read out, nothing
-    /// more is played.
+    /// more is played. After an error the device has taken some first bytes of the piece, and the words that these read out
+    /// are lost: nothing is promised of the player then.
     pub fn play(&mut self, piece: &[u8]) -> Result<(), NoMemory>
         requires { MayPlay self.old (length piece.now) }
         ensures { OnOk result (PlaysOn self.old self.new piece.now) }

@@ -1,11 +1,11 @@
 //! Reading an input in turns.
-ghost use Rattle.std.specs.Prelude.{◌≡◌, ◌+◌, ◌-◌, ◌<◌, ◌≤◌, ◌∷◌, [], ℕ, List, drop, length, map, string_bytes, take, true, false, vec_len, IfErr, IfOk, OnOk};
-ghost use Rattle.x7_words.specs.Input.{AtEnd, Fails, Opens, Stays, Takes};
+ghost use Rattle.std.specs.Prelude.{◌≡◌, ◌+◌, ◌-◌, ◌<◌, ◌≤◌, ◌∷◌, ◌++◌, ◌⊎◌, [], ℕ, List, drop, length, map, string_bytes, take, true, false, vec_len, IfErr, IfOk, OnOk};
+ghost use Rattle.x7_words.specs.Input.{Asks, AtEnd, Opens, Stays, Takes};
 ghost use Rattle.x7_words.specs.Word.{AreBytes};
 ghost use Rattle.x7_forms.specs.Message.{event_of};
-ghost use Rattle.x7_forms.specs.Event.{read_fault};
-ghost use Rattle.x7_forms.specs.Known.{data_in, put_before, whole_in};
-ghost use Rattle.x7_forms.specs.Turn.{ReadsRest, Unopened, Unread, UnreadRest};
+ghost use Rattle.x7_forms.specs.Event.{no_memory, read_fault, too_large};
+ghost use Rattle.x7_forms.specs.Known.{data_in, whole_in};
+ghost use Rattle.x7_forms.specs.Turn.{Breaks, ReadsRest, Unopened, Unread, UnreadRest};
 ghost use Rattle.x7_forms.specs.Step.{AnswersAs, seen};
 
 use crate::bad_input::InputFault;
@@ -43,7 +43,8 @@ fn fill<'w, I: Inputs>(inputs: &mut I, name: &'w str, buf: &mut [u8]) -> Result<
     ensures within { IfOk result (λ n. n ≤ length buf.old) }
     ensures end { IfOk result (λ n. n < length buf.old → AtEnd (I.state inputs.new).rest) }
     ensures length { length buf.new ≡ length buf.old }
-    ensures failed { IfErr result (λ r. (event_of r ≡ read_fault name.now) × Fails (I.state inputs.old) (I.state inputs.new)) }
+    ensures failed { IfErr result (λ r. (event_of r ≡ read_fault name.now) × Breaks (I.state inputs.old) (length buf.old) (I.state inputs.new)) }
+    ensures asked { (I.state inputs.new).asked ≡ (I.state inputs.old).asked }
     ensures inputs { Stays (I.state inputs.old) (I.state inputs.new) }
 {
     let mut at = 0;
@@ -67,6 +68,7 @@ fn fill<'w, I: Inputs>(inputs: &mut I, name: &'w str, buf: &mut [u8]) -> Result<
 pub fn open<'w, I: Inputs>(inputs: &mut I, name: &'w str) -> Result<(), Refusal<'w>>
     ensures ok { OnOk result (Opens (I.state inputs.old) name.now (I.state inputs.new)) }
     ensures err { IfErr result (λ r. Unopened (I.state inputs.old) name.now (I.state inputs.new) (event_of r)) }
+    ensures asks { Asks name.now (I.state inputs.new) }
     ensures inputs { Stays (I.state inputs.old) (I.state inputs.new) }
 {
     match inputs.select(name) {
@@ -105,7 +107,9 @@ pub fn next_turn<'w, I: Inputs>(
     ensures goes { IfOk result (λ turn. turn.last ≡ false → turn.count ≡ length buf.old) }
     ensures end { IfOk result (λ turn. turn.last ≡ true → AtEnd (I.state inputs.new).rest) }
     ensures length { length buf.new ≡ length buf.old }
-    ensures err { IfErr result (λ r. Unread (I.state inputs.old) name.now (I.state inputs.new) left (length buf.old) (event_of r)) }
+    ensures err { IfErr result (λ r. Unread (I.state inputs.old) name.now (I.state inputs.new) left (event_of r)) }
+    ensures over { IfErr result (λ r. event_of r ≡ too_large name.now → left < length buf.old) }
+    ensures asked { (I.state inputs.new).asked ≡ (I.state inputs.old).asked }
     ensures inputs { Stays (I.state inputs.old) (I.state inputs.new) }
 {
     let most = turn_len(left, buf.len());
@@ -125,23 +129,19 @@ pub fn next_turn<'w, I: Inputs>(
     })
 }
 
-/// Appends all bytes of an input that has at most so many. Of a larger one at most one byte more than the limit is read.
-pub(crate) fn read_onto<'w, I: Inputs>(
+/// Appends what is left of the open input, of which this many bytes are within the limit. Of a larger one at most one byte
+/// more is read.
+fn read_rest<'w, I: Inputs>(
     inputs: &mut I,
     name: &'w str,
     limit: usize,
     onto: &mut Vec<u8>,
 ) -> Result<(), Refusal<'w>>
-    ensures due { AnswersAs (name.now ∷ []) (I.state inputs.old) (I.state inputs.new)
-        (λ known. put_before onto.old.items (whole_in known limit name.now)) (seen (λ _. onto.new.items) result) }
-    ensures within { OnOk result (vec_len onto.new ≤ vec_len onto.old + limit) }
-    ensures longer { OnOk result (vec_len onto.old ≤ vec_len onto.new) }
+    requires selected { (I.state inputs.old).selected ≡ true }
+    ensures ok { OnOk result ((more : List ℕ) × (onto.new.items ≡ onto.old.items ++ more) × (length more ≤ limit) × ReadsRest (I.state inputs.old) (I.state inputs.new) more) }
+    ensures err { IfErr result (λ r. (event_of r ≡ no_memory) ⊎ UnreadRest (I.state inputs.old) name.now (I.state inputs.new) limit (event_of r)) }
     ensures inputs { Stays (I.state inputs.old) (I.state inputs.new) }
 {
-    match open(inputs, name) {
-        Ok(()) => (),
-        Err(refusal) => return Err(refusal),
-    }
     let mut piece = [0u8; TURN];
     let mut left = limit;
     loop {
@@ -172,8 +172,12 @@ pub fn read_whole<'w, I: Inputs>(
     ensures within { IfOk result (λ whole. vec_len whole ≤ limit) }
     ensures inputs { Stays (I.state inputs.old) (I.state inputs.new) }
 {
+    match open(inputs, name) {
+        Ok(()) => (),
+        Err(refusal) => return Err(refusal),
+    }
     let mut whole = Vec::new(alloc);
-    match read_onto(inputs, name, limit, &mut whole) {
+    match read_rest(inputs, name, limit, &mut whole) {
         Ok(()) => Ok(whole),
         Err(refusal) => Err(refusal),
     }

@@ -1,5 +1,5 @@
 //! The report of a device.
-ghost use Rattle.std.specs.Prelude.{◌≡◌, ◌++◌, ◌+◌, ◌<◌, ◌≤◌, ℕ, List, [], ◌∷◌, slice_index, codes, decimal, Bool, length, vec_len, vec_capacity, IfOk, OnOk};
+ghost use Rattle.std.specs.Prelude.{◌≡◌, ◌++◌, ◌+◌, ◌<◌, ◌≤◌, ℕ, List, [], ◌∷◌, slice_index, codes, decimal, Bool, length, vec_len, vec_capacity, IfOk, OnErr, OnOk};
 ghost use Rattle.std.specs.List.{flat_map};
 ghost use Rattle.x7_part.specs.AddressOrder.{addresses_in};
 ghost use Rattle.x7_part.specs.Part.{PartData};
@@ -17,17 +17,19 @@ use x7_part::Part;
 use x7_text::{make_room, put, put_close, put_decimal, put_word};
 use x7_words::NoMemory;
 
-/// Appends bytes.
+/// Appends bytes. After an error the text is as it was.
 pub fn put_text(text: &mut Vec<u8>, bytes: &[u8]) -> Result<(), NoMemory>
-    ensures { OnOk result (text.new.items ≡ text.old.items ++ bytes.now) }
+    ensures text { OnOk result (text.new.items ≡ text.old.items ++ bytes.now) }
+    ensures err { OnErr result (text.new.items ≡ text.old.items) }
 {
     text.extend_from_slice(bytes)?;
     Ok(())
 }
 
-/// Appends a number in decimal and a line end.
+/// Appends a number in decimal and a line end. After an error the text is as it was.
 pub fn put_number(text: &mut Vec<u8>, number: u64) -> Result<(), NoMemory>
-    ensures { OnOk result (text.new.items ≡ text.old.items ++ decimal number ++ codes "\n") }
+    ensures text { OnOk result (text.new.items ≡ text.old.items ++ decimal number ++ codes "\n") }
+    ensures err { OnErr result (text.new.items ≡ text.old.items) }
 {
     make_room(text, 21)?;
     put_decimal(text, number);

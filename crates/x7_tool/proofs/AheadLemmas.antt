@@ -1,34 +1,66 @@
 -- Lemmas on specs/Ahead.
-use Rattle.std.proofs.Common.{◌≡◌, ℕ, ◌+◌, ◌≤◌, ◌⊎◌, inl, inr, Bool, true, false, List, [], ◌++◌, Option, Some, Result, Ok, Err, IfErr, length, length-append, ap, sym, subst, ◌∙◌, append-nil, arith}
+use Rattle.std.proofs.Common.{◌≡◌, ℕ, ◌+◌, ◌≤◌, ◌⊎◌, inl, inr, Bool, true, false, List, [], ◌++◌, Option, Some, Result, Ok, Err, length, length-append, ap, sym, subst, ◌∙◌, append-nil, arith}
 use Rattle.x7_words.specs.Input.{InputsState, preceded, Selects}
-use Rattle.x7_words.specs.Sink.{appended, PutsFront}
+use Rattle.x7_words.specs.Sink.{SinkState, appended, PutsFront}
 use Rattle.x7_words.proofs.SinkLemmas.{appended-appended, appended-nil}
 use Rattle.x7_listing.specs.Telling.{ListerState}
 use Rattle.x7_listing.proofs.BoundLemmas.{few_held}
 use Rattle.x7_listing.specs.StreamListing.{stream_listing}
 use Rattle.x7_forms.specs.declared.bad_input.InputFault.TheVariants as input
-use Rattle.x7_tool.specs.Ahead.{IsLonger, IsNear, IsSoon, most_ahead, NearFor, SoonFor, StaysNear}
-use Rattle.x7_forms.specs.declared.refusal.Refusal.{Refusal}
+use Rattle.x7_tool.specs.Ahead.{IsLonger, StaysNear, StaysNearBy, most_ahead}
+use Rattle.x7_tool.specs.Outside.{Outside}
 use Rattle.x7_forms.specs.declared.status.Status.{Status}
 use Rattle.x7_forms.specs.declared.status.Status.TheVariants as status
-use Rattle.x7_forms.specs.Message.{event_of, text_status}
 use Rattle.x7_forms.specs.Event.{Event, status_of, bad_input, missing, no_memory, read_fault, too_large, write_fault}
-use Rattle.x7_forms.specs.Form.{Asked, Listing}
+use Rattle.x7_forms.specs.Form.{Listing}
 use Rattle.x7_forms.specs.Turn.{IsBadFront, Unfronted, Unopened, Unread}
 use Rattle.x7_tool.specs.Turns.{Lists}
 use Rattle.x7_forms.proofs.ReadLemmas.{known_all}
 use Rattle.x7_tool.proofs.Causes.{may_follow}
 
-pub same_now : (old : Option (List ℕ)) → IsLonger old old
-same_now old = ([], sym (appended-nil old))
+-- ---- the definitions, by the contents, the rest and what was written
 
-pub longer_front : (old new : Option (List ℕ)) (text : List ℕ) → PutsFront old text new → IsLonger old new
+-- the bytes read of the stream are few more than those that the sink got
+abbrev pub NearBy : Option (List ℕ → Option (List ℕ)) → List ℕ → Option (List ℕ) → Option (List ℕ) → Option (List ℕ) → Type 0
+NearBy contents stream rest old new =
+    (inputs : List ℕ → Option (List ℕ)) (bytes left before after : List ℕ) → contents ≡ Some inputs → inputs stream ≡ Some bytes → rest ≡ Some left → old ≡ Some before → new ≡ Some after
+    → length bytes + length before ≤ length left + length after + most_ahead
+
+-- none was read behind the byte at which the header is refused
+abbrev pub SoonBy : Option (List ℕ → Option (List ℕ)) → List ℕ → Option (List ℕ) → Type 0
+SoonBy contents stream rest =
+    (inputs : List ℕ → Option (List ℕ)) (bytes left : List ℕ) (place : ℕ) → contents ≡ Some inputs → inputs stream ≡ Some bytes → rest ≡ Some left → stream_listing bytes ≡ Err place
+    → length bytes ≤ length left + (place + 1)
+
+abbrev pub StaysBy : Status → Option (List ℕ → Option (List ℕ)) → List ℕ → Option (List ℕ) → Option (List ℕ) → Option (List ℕ) → Type 0
+StaysBy status.WriteFault contents stream rest old new = NearBy contents stream rest old new
+StaysBy status.BadInput contents stream rest old new = SoonBy contents stream rest
+StaysBy s contents stream rest old new = Unit {0}
+
+stays_by : (s : Status) (stream : List ℕ) (old new : Outside) → StaysBy s old.inputs.contents stream new.inputs.rest old.out.written new.out.written → StaysNearBy s stream old new
+stays_by status.WriteFault stream old new h = h
+stays_by status.BadInput stream old new h = h
+stays_by s stream old new h = tt
+
+pub stays_near : (event : Event) (stream : List ℕ) (old new : Outside) → StaysBy (status_of event) old.inputs.contents stream new.inputs.rest old.out.written new.out.written → StaysNear (status_of event) (Some (Listing stream)) old new
+stays_near event stream old new h = stays_by (status_of event) stream old new h
+
+-- what has become longer
+
+-- what is told begins with what was told
+abbrev pub Longer : Option (List ℕ) → Option (List ℕ) → Type 0
+Longer old new = (more : List ℕ) × (new ≡ appended old more)
+
+pub same_now : (old : SinkState) → IsLonger old old
+same_now old = ([], sym (appended-nil old.written))
+
+pub longer_front : (old new : Option (List ℕ)) (text : List ℕ) → PutsFront old text new → Longer old new
 longer_front old new text p = (p.0, p.1.2)
 
-pub longer_twice : (old mid new : Option (List ℕ)) → IsLonger old mid → IsLonger mid new → IsLonger old new
+pub longer_twice : (old mid new : Option (List ℕ)) → Longer old mid → Longer mid new → Longer old new
 longer_twice old mid new a b = (a.0 ++ b.0, b.1 ∙ ap (λ (k : Option (List ℕ)). appended k b.0) a.1 ∙ appended-appended old a.0 b.0)
 
-pub lists_longer : (l : ListerState) (old mid : Option (List ℕ)) (line sent : List ℕ) → Lists l (appended old line) mid sent → IsLonger old mid
+pub lists_longer : (l : ListerState) (old mid : Option (List ℕ)) (line sent : List ℕ) → Lists l (appended old line) mid sent → Longer old mid
 lists_longer l old mid line sent t = (line ++ t.given, t.put ∙ appended-appended old line t.given)
 
 -- why a turn was not written
@@ -39,14 +71,14 @@ why_weaker (inr h) = inr h
 -- ---- what the sink's failure finds
 
 near_by : (contents : Option (List ℕ → Option (List ℕ))) (stream taken : List ℕ) (rest old new : Option (List ℕ)) → Selects contents stream (preceded taken rest)
-    → ((before after : List ℕ) → old ≡ Some before → new ≡ Some after → length taken + length before ≤ length after + most_ahead) → IsNear contents stream rest old new
+    → ((before after : List ℕ) → old ≡ Some before → new ≡ Some after → length taken + length before ≤ length after + most_ahead) → NearBy contents stream rest old new
 near_by contents stream taken rest old new s h inputs bytes left before after c b r o n =
     let t = known_all inputs stream taken rest (subst (λ (k : Option (List ℕ → Option (List ℕ))). Selects k stream (preceded taken rest)) c s) in
     let tail : left ≡ t.0 = let e = t.1.0 in cc in
     let whole : bytes ≡ taken ++ t.0 = let e = t.1.1 in cc in
     omega (arith, ap length whole, ap length tail, length-append taken t.0, h before after o n)
 
-pub front_near : (contents : Option (List ℕ → Option (List ℕ))) (stream taken : List ℕ) (rest old new : Option (List ℕ)) → Selects contents stream (preceded taken rest) → length taken ≤ 327706 → IsLonger old new → IsNear contents stream rest old new
+pub front_near : (contents : Option (List ℕ → Option (List ℕ))) (stream taken : List ℕ) (rest old new : Option (List ℕ)) → Selects contents stream (preceded taken rest) → length taken ≤ 327706 → Longer old new → NearBy contents stream rest old new
 front_near contents stream taken rest old new s few l =
     near_by contents stream taken rest old new s
     (λ before after o n.
@@ -54,7 +86,7 @@ front_near contents stream taken rest old new s few l =
     omega (arith, few, ap length all, length-append before l.0))
 
 pub turn_near : (contents : Option (List ℕ → Option (List ℕ))) (stream taken piece line sent : List ℕ) (l : ListerState) (rest old mid new : Option (List ℕ)) → Selects contents stream (preceded (taken ++ piece) rest)
-    → length taken ≤ length sent + 327706 → length piece ≤ 65536 → Lists l (appended old line) mid sent → IsLonger mid new → IsNear contents stream rest old new
+    → length taken ≤ length sent + 327706 → length piece ≤ 65536 → Lists l (appended old line) mid sent → Longer mid new → NearBy contents stream rest old new
 turn_near contents stream taken piece line sent l rest old mid new s close few t m =
     near_by contents stream (taken ++ piece) rest old new s
     (λ before after o n.
@@ -69,7 +101,7 @@ turn_near contents stream taken piece line sent l rest old mid new s close few t
 same_place : (m n : ℕ) (r : Result (List ℕ) ℕ) → r ≡ Err m → r ≡ Err n → m ≡ n
 same_place m n r a b = let e : Err m ≡ r = sym a in cc
 
-pub bad_soon : (contents : Option (List ℕ → Option (List ℕ))) (stream name : List ℕ) (m n : InputsState) (event : Event) → Selects contents stream m.rest → IsBadFront m n name event → IsSoon contents stream n.rest
+pub bad_soon : (contents : Option (List ℕ → Option (List ℕ))) (stream name : List ℕ) (m n : InputsState) (event : Event) → Selects contents stream m.rest → IsBadFront m n name event → SoonBy contents stream n.rest
 bad_soon contents stream name m n event s b inputs bytes left place c i r l =
     let sel : Selects contents stream (preceded b.bytes n.rest) = subst (λ (k : Option (List ℕ)). Selects contents stream k) b.taken s in
     let t = known_all inputs stream b.bytes n.rest (subst (λ (k : Option (List ℕ → Option (List ℕ))). Selects k stream (preceded b.bytes n.rest)) c sel) in
@@ -82,45 +114,22 @@ bad_soon contents stream name m n event s b inputs bytes left place c i r l =
 -- ---- by the event
 
 module _ (contents : Option (List ℕ → Option (List ℕ))) (stream : List ℕ) (rest old new : Option (List ℕ)) where
-  as_event : (event other : Event) → event ≡ other → StaysNear (status_of other) (Some (Listing stream)) contents rest old new → StaysNear (status_of event) (Some (Listing stream)) contents rest old new
-  as_event event other e h = subst (λ (x : Event). StaysNear (status_of x) (Some (Listing stream)) contents rest old new) (sym e) h
+  as_event : (event other : Event) → event ≡ other → StaysBy (status_of other) contents stream rest old new → StaysBy (status_of event) contents stream rest old new
+  as_event event other e h = subst (λ (x : Event). StaysBy (status_of x) contents stream rest old new) (sym e) h
 
-  pub unopened_near : (s n : InputsState) (name : List ℕ) (event : Event) → Unopened s name n event → StaysNear (status_of event) (Some (Listing stream)) contents rest old new
-  unopened_near s n name event (inl h) = as_event event (missing name) h.0 tt
-  unopened_near s n name event (inr h) = as_event event (read_fault name) h.0 tt
+  pub unopened_near : (s n : InputsState) (name : List ℕ) (event : Event) → Unopened s name n event → StaysBy (status_of event) contents stream rest old new
+  unopened_near s n name event (inl h, none) = as_event event (missing name) h.0 tt
+  unopened_near s n name event (inr h, none) = as_event event (read_fault name) h.0 tt
 
-  pub unfronted_near : (m n : InputsState) (name : List ℕ) (event : Event) → n.rest ≡ rest → Selects contents stream m.rest → Unfronted m name n event → StaysNear (status_of event) (Some (Listing stream)) contents rest old new
+  pub unfronted_near : (m n : InputsState) (name : List ℕ) (event : Event) → n.rest ≡ rest → Selects contents stream m.rest → Unfronted m name n event → StaysBy (status_of event) contents stream rest old new
   unfronted_near m n name event e s (inl h) = as_event event no_memory h tt
   unfronted_near m n name event e s (inr (inl h)) = as_event event (read_fault name) h.0 tt
-  unfronted_near m n name event e s (inr (inr h)) = as_event event (bad_input name (input.Byte h.place)) h.is (subst (λ (r : Option (List ℕ)). IsSoon contents stream r) e (bad_soon contents stream name m n event s h))
+  unfronted_near m n name event e s (inr (inr h)) = as_event event (bad_input name (input.Byte h.place)) h.is (subst (λ (r : Option (List ℕ)). SoonBy contents stream r) e (bad_soon contents stream name m n event s h))
 
-  pub unread_near : (s n : InputsState) (name : List ℕ) (left most : ℕ) (event : Event) → Unread s name n left most event → StaysNear (status_of event) (Some (Listing stream)) contents rest old new
-  unread_near s n name left most event (inl h) = as_event event (read_fault name) h.0 tt
-  unread_near s n name left most event (inr h) = as_event event (too_large name) h.0 tt
+  pub unread_near : (s n : InputsState) (name : List ℕ) (left : ℕ) (event : Event) → Unread s name n left event → StaysBy (status_of event) contents stream rest old new
+  unread_near s n name left event (inl h) = as_event event (read_fault name) h.0 tt
+  unread_near s n name left event (inr h) = as_event event (too_large name) h.0 tt
 
-  pub unwritten_near : (Q : Type 0) (event : Event) → IsNear contents stream rest old new → (event ≡ no_memory) ⊎ ((event ≡ write_fault) × Q) → StaysNear (status_of event) (Some (Listing stream)) contents rest old new
+  pub unwritten_near : (Q : Type 0) (event : Event) → NearBy contents stream rest old new → (event ≡ no_memory) ⊎ ((event ≡ write_fault) × Q) → StaysBy (status_of event) contents stream rest old new
   unwritten_near Q event n (inl h) = as_event event no_memory h tt
   unwritten_near Q event n (inr h) = as_event event write_fault h.0 n
-
--- ---- of the whole command
-
-any_status : (s : Status) (form : Option Asked) (contents : Option (List ℕ → Option (List ℕ))) (rest old new : Option (List ℕ)) → NearFor form contents rest old new → SoonFor form contents rest → StaysNear s form contents rest old new
-any_status status.Done form contents rest old new h k = tt
-any_status status.Stopped form contents rest old new h k = tt
-any_status status.Usage form contents rest old new h k = tt
-any_status status.Missing form contents rest old new h k = tt
-any_status status.BadPart form contents rest old new h k = tt
-any_status status.BadInput form contents rest old new h k = k
-any_status status.ReadFault form contents rest old new h k = tt
-any_status status.WriteFault form contents rest old new h k = h
-any_status status.NoMemory form contents rest old new h k = tt
-any_status status.TooLarge form contents rest old new h k = tt
-
-pub elsewhere : {A : Type 0} (form : Option Asked) (f : Asked) (contents : Option (List ℕ → Option (List ℕ))) (rest old new : Option (List ℕ)) (r : Result A Refusal) → form ≡ Some f → NearFor (Some f) contents rest old new → SoonFor (Some f) contents rest
-    → IfErr r (λ x. StaysNear (status_of (event_of x)) form contents rest old new)
-elsewhere form f contents rest old new (Ok a) e h k = tt
-elsewhere form f contents rest old new (Err x) e h k = any_status (status_of (event_of x)) form contents rest old new (subst (λ (a : Option Asked). NearFor a contents rest old new) (sym e) h) (subst (λ (a : Option Asked). SoonFor a contents rest) (sym e) k)
-
-pub text_near : (b : Bool) (s : Status) (form : Option Asked) (contents : Option (List ℕ → Option (List ℕ))) (rest old new : Option (List ℕ)) → s ≡ text_status b → StaysNear s form contents rest old new
-text_near true s form contents rest old new e = subst (λ (k : Status). StaysNear k form contents rest old new) (sym e) tt
-text_near false s form contents rest old new e = subst (λ (k : Status). StaysNear k form contents rest old new) (sym e) tt

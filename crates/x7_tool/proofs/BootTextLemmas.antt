@@ -1,8 +1,8 @@
 -- Lemmas on the text of a boot, and on what a flash comes to.
 use Rattle.std.proofs.Common.{◌≡◌, ◌<◌, ◌≤◌, ◌++◌, ℕ, Bool, List, [], ◌∷◌, length, Option, None, Some, Result, Ok, Err, IfErr, IfOk, refl, ap, subst, sym, ◌∙◌, inl, inr, ◌⊎◌, arith}
 use Rattle.std.proofs.lemmas.Bool.{cases_lt}
-use Rattle.x7_words.specs.Count.{HasRisen}
-use Rattle.x7_words.specs.Flash.{WhereTold}
+use Rattle.std.specs.Prelude.{IsTrue}
+use Rattle.x7_words.specs.Flash.{AsksFor, FlashFails, FlashState, IsSized, OnlyReads, WhereTold}
 use Rattle.x7_words.specs.Word.{AreBytes}
 use Rattle.x7_words.proofs.CountLemmas.{risen_from}
 use Rattle.x7_part.specs.Part.{PartData}
@@ -18,11 +18,13 @@ use Rattle.x7_tool.specs.BootText.{boot_head, boot_text}
 use Rattle.x7_forms.specs.Event.{Event, no_memory, too_large}
 use Rattle.x7_forms.specs.Message.{event_of}
 use Rattle.x7_boot.specs.Image.{flash_limit}
-use Rattle.x7_forms.specs.Known.{Answer}
+use Rattle.x7_forms.specs.Known.{Answer, flash_found}
 use Rattle.x7_tool.specs.Outcome.{BootsAs, FlashBoots, boot_event, has_failed}
+use Rattle.x7_tool.specs.Outside.{ReadsFlash}
+use Rattle.x7_tool.specs.Run.{FlashComes}
 use Rattle.x7_forms.specs.Play.{text_of_play}
 use Rattle.x7_forms.specs.Report.{report_text}
-use Rattle.x7_forms.specs.Step.{IsFree, RisesFor, seen}
+use Rattle.x7_forms.specs.Step.{seen}
 use Rattle.x7_forms.specs.declared.refusal.Refusal.{Refusal}
 
 -- the answer of a boot
@@ -57,39 +59,39 @@ abbrev pub AnswersBoot : BootedState → Answer → Type 0
 AnswersBoot b answer = (part : PartData) (flash : List ℕ) → IsBoot part flash b → NoWordDue b.device → BootsAs part flash answer
 
 flash_boots : (name : List ℕ) (part : PartData) (flash : Option (List ℕ)) (b : BootedState) (answer : Answer) → WhereTold flash (λ all. length all ≤ flash_limit) → WhereTold flash (λ all. AreBytes all → IsBoot part all b) → NoWordDue b.device
-    → AnswersBoot b answer → FlashBoots name part flash (Ok answer)
+    → AnswersBoot b answer → FlashBoots name part (flash_found flash) (Ok answer)
 flash_boots name part None b answer short boots due answers = tt
 flash_boots name part (Some all) b answer short boots due answers = (short, λ fits. answers part all (boots fits) due)
 
-want_free : (F L : List ℕ → Type 0) (event : Event) → event ≡ no_memory → IsFree {A = Answer} F L (Err event)
-want_free F L event e = subst (λ (x : Event). IsFree {A = Answer} F L (Err x)) (sym e) refl
-
 -- the text of a boot was made, or there was no memory for it
-pub text_boots : (name : List ℕ) (part : PartData) (flash told : Option (List ℕ)) (b : BootedState) (F L : List ℕ → Type 0) (got : Result Answer Refusal) → told ≡ flash → WhereTold told (λ all. length all ≤ flash_limit)
-    → WhereTold told (λ all. AreBytes all → IsBoot part all b) → NoWordDue b.device → IfOk got (λ text. AnswersBoot b (text_of_play text)) → IfErr got (λ r. event_of r ≡ no_memory)
-    → IsFree F L (seen text_of_play got) ⊎ FlashBoots name part flash (seen text_of_play got)
-text_boots name part flash told b F L (Ok text) e short boots due ok err =
-    inr (subst (λ (f : Option (List ℕ)). FlashBoots name part f (Ok (text_of_play text))) e (flash_boots name part told b (text_of_play text) short boots due ok))
-text_boots name part flash told b F L (Err r) e short boots due ok err = inl (want_free F L (event_of r) err)
+pub text_boots : (name : List ℕ) (part : PartData) (old mid new : FlashState) (b : BootedState) (got : Result Answer Refusal) → ReadsFlash name old mid → WhereTold mid.bytes (λ all. length all ≤ flash_limit)
+    → WhereTold mid.bytes (λ all. AreBytes all → IsBoot part all b) → NoWordDue b.device → IfOk got (λ text. AnswersBoot b (text_of_play text)) → IfErr got (λ r. event_of r ≡ no_memory)
+    → FlashComes name part old new (seen text_of_play got)
+text_boots name part old mid new b (Ok text) r short boots due ok err =
+    subst (λ (f : Option (List ℕ)). FlashBoots name part (flash_found f) (Ok (text_of_play text))) r.bytes (flash_boots name part mid.bytes b (text_of_play text) short boots due ok)
+text_boots name part old mid new b (Err x) r short boots due ok err = inl err
 
 -- a flash is within the limit where it wasn't refused
-pub short_flash : (told : Option (List ℕ)) (extent : ℕ) → WhereTold told (λ all. extent ≡ length all) → (flash_limit < extent → ⊥) → WhereTold told (λ all. length all ≤ flash_limit)
-short_flash None extent e small = tt
-short_flash (Some all) extent e small = by (cases_lt flash_limit (length all))
+pub short_flash : (s : FlashState) → IsSized s → (flash_limit < s.extent → ⊥) → WhereTold s.bytes (λ all. length all ≤ flash_limit)
+short_flash s e small = by s.bytes e
   where
-    by : (flash_limit < length all) ⊎ (length all ≤ flash_limit) → length all ≤ flash_limit
-    by (inl l) = absurd (small (omega (arith, l, e)))
-    by (inr l) = l
+    by : (told : Option (List ℕ)) → WhereTold told (λ all. s.extent ≡ length all) → WhereTold told (λ all. length all ≤ flash_limit)
+    by None h = tt
+    by (Some all) h = within (cases_lt flash_limit (length all))
+      where
+        within : (flash_limit < length all) ⊎ (length all ≤ flash_limit) → length all ≤ flash_limit
+        within (inl l) = absurd (small (omega (arith, l, h)))
+        within (inr l) = l
 
-large_flash : (name : List ℕ) (part : PartData) (told : Option (List ℕ)) (extent : ℕ) (event : Event) → WhereTold told (λ all. extent ≡ length all) → flash_limit < extent → event ≡ too_large name → FlashBoots name part told (Err event)
+large_flash : (name : List ℕ) (part : PartData) (told : Option (List ℕ)) (extent : ℕ) (event : Event) → WhereTold told (λ all. extent ≡ length all) → flash_limit < extent → event ≡ too_large name → FlashBoots name part (flash_found told) (Err event)
 large_flash name part None extent event e l is = is
 large_flash name part (Some all) extent event e l is = (omega (arith, l, e), is)
 
 -- a boot that came to no end
-pub fault_boots : (name : List ℕ) (part : PartData) (flash told : Option (List ℕ)) (extent f0 f1 f2 : ℕ) (L : List ℕ → Type 0) (fault : BootFault) (event : Event) → told ≡ flash → WhereTold told (λ all. extent ≡ length all) → event ≡ boot_event name fault
-    → f0 ≤ f1 → (fault ≡ boot_fault.Failed → HasRisen f1 f2) → (fault ≡ boot_fault.TooLarge → flash_limit < extent) → IsFree {A = Answer} (RisesFor (name ∷ []) f0 f2) L (Err event) ⊎ FlashBoots name part flash (Err event)
-fault_boots name part flash told extent f0 f1 f2 L boot_fault.Failed event e t is order failed large =
-    inl (subst (λ (x : Event). IsFree {A = Answer} (RisesFor (name ∷ []) f0 f2) L (Err x)) (sym is) (inl refl, risen_from f0 f1 f2 order (failed refl)))
-fault_boots name part flash told extent f0 f1 f2 L boot_fault.TooLarge event e t is order failed large =
-    inr (subst (λ (f : Option (List ℕ)). FlashBoots name part f (Err event)) e (large_flash name part told extent event t (large refl) is))
-fault_boots name part flash told extent f0 f1 f2 L boot_fault.NoMemory event e t is order failed large = inl (want_free (RisesFor (name ∷ []) f0 f2) L event is)
+pub fault_boots : (name : List ℕ) (part : PartData) (old mid new : FlashState) (past since : ℕ → List ℕ → Type 0) (fault : BootFault) (event : Event) → ReadsFlash name old mid → AsksFor old name mid → IsSized mid → OnlyReads mid new past since → event ≡ boot_event name fault
+    → (fault ≡ boot_fault.Failed → FlashFails mid new) → (fault ≡ boot_fault.TooLarge → flash_limit < mid.extent) → FlashComes name part old new (Err event)
+fault_boots name part old mid new past since boot_fault.Failed event r a s o is failed large =
+    inr (inl (inr (is, record { among = inl refl; asked = subst (λ (names : List ℕ → Bool). IsTrue (names name)) (sym o.names) a.asked; risen = risen_from old.faults mid.faults new.faults r.faults (failed refl) })))
+fault_boots name part old mid new past since boot_fault.TooLarge event r a s o is failed large =
+    inr (inr (subst (λ (f : Option (List ℕ)). FlashBoots name part (flash_found f) (Err event)) r.bytes (large_flash name part mid.bytes mid.extent event s (large refl) is)))
+fault_boots name part old mid new past since boot_fault.NoMemory event r a s o is failed large = inl is

@@ -1,55 +1,144 @@
 -- What may end `list`: each of its ends has its cause.
-use Rattle.std.proofs.Common.{◌≡◌, ℕ, List, [], ◌∷◌, ◌++◌, ◌≤◌, ◌<◌, length, length-append, Option, None, Some, Result, Ok, Err, IfErr, refl, ap, append-nil, subst, sym, ◌∙◌, arith, inl, inr, ◌⊎◌, unwrap_or, Bool, true, false}
+use Rattle.std.proofs.Common.{◌≡◌, ℕ, List, [], ◌∷◌, ◌++◌, ◌≤◌, ◌<◌, length, length-append, Option, None, Some, Result, Ok, Err, IfErr, OnOk, refl, ap, append-nil, subst, sym, ◌∙◌, arith, inl, inr, ◌⊎◌, take, Bool, true, false}
 use Rattle.std.specs.Prelude.{if◌then◌else◌, nat_eq, nat_lt}
 use Rattle.std.specs.List.{starts_with}
 use Rattle.std.proofs.lemmas.Bool.Decides.{nat_tests}
+use Rattle.std.proofs.lemmas.List.{length-take}
 use Rattle.x7_words.specs.Count.{HasRisen}
-use Rattle.x7_words.specs.Input.{InputsState, AtEnd, Lacks, Selects, Stays, preceded}
-use Rattle.x7_words.specs.Sink.{appended, PutsFront}
+use Rattle.x7_words.specs.Input.{InputsState, Asks, AtEnd, Misses, Selects, Stays, preceded}
+use Rattle.x7_words.specs.Input.{Lacks as MapLacks}
+use Rattle.x7_words.specs.Sink.{SinkFails, SinkState, appended, PutsFront}
 use Rattle.x7_words.specs.Word.{AreBytes}
 use Rattle.x7_words.proofs.SinkLemmas.{appended-nil}
-use Rattle.x7_words.proofs.CountLemmas.{risen_from}
 use Rattle.x7_header.specs.Header.{fixed_bytes}
 use Rattle.x7_header.proofs.HeaderLemmas.{raw_at}
 use Rattle.x7_listing.specs.Listing.{listing_of}
 use Rattle.x7_listing.specs.StreamListing.{stream_listing}
 use Rattle.x7_forms.specs.declared.bad_input.InputFault.TheVariants as input
 use Rattle.x7_forms.specs.Form.{Asked, Listing}
-use Rattle.x7_forms.specs.Event.{Event, bad_input, missing, no_memory, read_fault, too_large, write_fault}
-use Rattle.x7_forms.specs.Known.{Answer, Known, stream_limit, with_inputs}
-use Rattle.x7_tool.specs.Outcome.{listed, listed_bytes}
+use Rattle.x7_forms.specs.Event.{Event, Cause, Break, bad_input, cause_of, missing, no_memory, read_fault, status_of, too_large, write_fault}
+use Rattle.x7_forms.specs.Message.{event_of, final_status}
+use Rattle.x7_forms.specs.declared.refusal.Refusal.{Refusal}
+use Rattle.x7_forms.specs.declared.refusal.Why.{Why}
+use Rattle.x7_forms.specs.declared.refusal.Why.TheVariants as why
+use Rattle.x7_forms.specs.Known.{Absent, Answer, Broken, Failing, Found, Held, Known, Lacking, broken_at, bytes_found, found, known_of, stream_limit, with_inputs}
+use Rattle.x7_tool.specs.Outcome.{listed, listed_bytes, listed_found}
 use Rattle.x7_forms.specs.Turn.{IsRefused, MayFollow, Unfronted, Unopened}
-use Rattle.x7_tool.specs.Run.{Ends, IsPrefixOf, PutsListing}
-use Rattle.x7_forms.specs.Step.{IsCaused, RisesFor}
+use Rattle.x7_tool.specs.Outside.{Outside, known_in}
+use Rattle.x7_tool.specs.Ahead.{StaysNear}
+use Rattle.x7_tool.specs.Run.{Ends, EndsAs, GetsPrefix, HasCause, IsPrefixOf, LeftBy, ListLeaves}
+use Rattle.x7_forms.specs.Step.{DueBy, FailsAmong, IsCaused, LacksAmong, seen}
 use Rattle.x7_forms.proofs.FrontLemmas.{raw_listed}
-use Rattle.x7_forms.proofs.ReadLemmas.{known_all}
+use Rattle.x7_forms.proofs.ReadLemmas.{at_fault, at_open, known_all, name_is}
+use Rattle.x7_tool.proofs.FlashLemmas.{answers_over}
+use Rattle.x7_tool.proofs.RunLemmas.{has_cause}
+
+-- ---- how a listing ends, by what is known of its stream and by what failed
+
+-- a prefix of the listing of these bytes was put
+abbrev pub PutsListed : List ℕ → Option (List ℕ) → Option (List ℕ) → Type 0
+PutsListed bytes old new = (text : List ℕ) × ((stream_listing bytes ≡ Ok text) × PutsFront old text new)
+
+-- the same of a prefix of the stream
+abbrev pub PutsPrefix : Option Known → List ℕ → Option (List ℕ) → Option (List ℕ) → Type 0
+PutsPrefix known stream old new = (bytes : List ℕ) × (IsPrefixOf known stream bytes × PutsListed bytes old new)
+
+-- what is left by a reason
+abbrev pub LeftAs : Why → Option Known → List ℕ → Option (List ℕ) → Option (List ℕ) → Type 0
+LeftAs why.ReadFault known stream old new = PutsPrefix known stream old new
+LeftAs why.TooLarge known stream old new = PutsPrefix known stream old new
+LeftAs why.NoMemory known stream old new = PutsPrefix known stream old new
+LeftAs _ known stream old new = new ≡ old
+
+-- where the stream is known, a prefix of its listing was put
+abbrev pub PutsSomeOf : Option Known → List ℕ → Option (List ℕ) → Option (List ℕ) → Type 0
+PutsSomeOf None stream old new = (text : List ℕ) × PutsFront old text new
+PutsSomeOf (Some known) stream old new = (bytes : List ℕ) × ((known.inputs stream ≡ Held bytes) × (AreBytes bytes → PutsListed bytes old new))
+
+abbrev pub EndedBy : Cause → Option Known → ℕ → (List ℕ → Type 0) → (List ℕ → Type 0) → List ℕ → Type 0 → Option (List ℕ) → Option (List ℕ) → Event → Type 0
+EndedBy Break known given F L stream Full old new event = (event ≡ write_fault) × Full × PutsSomeOf known stream old new
+EndedBy _ known given F L stream Full old new event = IsCaused {A = Answer} known given F L (λ t. listed t stream) (Err event) × LeftAs event.reason known stream old new
+
+abbrev pub Ended : Option Known → ℕ → (List ℕ → Type 0) → (List ℕ → Type 0) → List ℕ → Type 0 → Option (List ℕ) → Option (List ℕ) → Result Answer Event → Type 0
+Ended known given F L stream Full old new (Ok answer) = IsCaused known given F L (λ t. listed t stream) (Ok answer) × (new ≡ appended old answer.text)
+Ended known given F L stream Full old new (Err event) = EndedBy (cause_of event) known given F L stream Full old new event
+
+-- what a listing ended with, over the outside before and after
+abbrev pub EndedIn : List ℕ → Outside → Outside → Result Answer Event → Type 0
+EndedIn stream old new end =
+    Ended (known_in old) new.inputs.given (FailsAmong (stream ∷ []) old.inputs new.inputs) (LacksAmong (stream ∷ []) old.inputs new.inputs) stream (SinkFails old.out new.out) old.out.written new.out.written end
+
+ended_cause : (cause : Cause) (stream : List ℕ) (old new : Outside) (event : Event) → cause_of event ≡ cause
+    → EndedBy cause (known_in old) new.inputs.given (FailsAmong (stream ∷ []) old.inputs new.inputs) (LacksAmong (stream ∷ []) old.inputs new.inputs) stream (SinkFails old.out new.out) old.out.written new.out.written event
+    → HasCause (Some (Listing stream)) old new (Err event)
+ended_cause Break stream old new event e h = rw e (h.0, h.1)
+ended_cause cause stream old new event e h = has_cause (Listing stream) old new (Err event) (answers_over (Listing stream) old new (Err event) h.0)
+
+left_as : (reason : Why) (stream : List ℕ) (old new : Outside) → LeftAs reason (known_in old) stream old.out.written new.out.written → ListLeaves reason stream old new
+left_as why.ReadFault stream old new h = h
+left_as why.TooLarge stream old new h = h
+left_as why.NoMemory stream old new h = h
+left_as reason stream old new h = h
+
+some_of : (known : Option Known) (stream : List ℕ) (old new : SinkState) → PutsSomeOf known stream old.written new.written → GetsPrefix known (Listing stream) old new
+some_of None stream old new h = h
+some_of (Some known) stream old new h = h
+
+ended_left : (cause : Cause) (stream : List ℕ) (old new : Outside) (event : Event)
+    → EndedBy cause (known_in old) new.inputs.given (FailsAmong (stream ∷ []) old.inputs new.inputs) (LacksAmong (stream ∷ []) old.inputs new.inputs) stream (SinkFails old.out new.out) old.out.written new.out.written event
+    → LeftBy cause (Some (Listing stream)) old new event
+ended_left Break stream old new event h = some_of (known_in old) stream old.out new.out h.2
+ended_left cause stream old new event h = left_as event.reason stream old new h.1
+
+pub list_ends : (stream : List ℕ) (old new : Outside) (end : Result Answer Event) → EndedIn stream old new end → StaysNear (final_status end) (Some (Listing stream)) old new → Ends (Some (Listing stream)) old new end
+list_ends stream old new (Ok answer) h n = record { cause = has_cause (Listing stream) old new (Ok answer) (answers_over (Listing stream) old new (Ok answer) h.0); wrote = h.1; near = n }
+list_ends stream old new (Err event) h n = record { cause = ended_cause (cause_of event) stream old new event refl h; wrote = ended_left (cause_of event) stream old new event h; near = n }
+
+-- the same of a call's result
+pub list_seen : {A : Type 0} (stream : List ℕ) (old new : Outside) (r : Result A Refusal) → OnOk r ((text : List ℕ) × EndedIn stream old new (Ok (record { stopped = false; text = text })))
+    → IfErr r (λ x. EndedIn stream old new (Err (event_of x))) → IfErr r (λ x. StaysNear (status_of (event_of x)) (Some (Listing stream)) old new) → EndsAs (Some (Listing stream)) old new (seen (λ _. false) r)
+list_seen stream old new (Ok a) ok err near = (ok.0, list_ends stream old new (Ok (record { stopped = false; text = ok.0 })) ok.1 tt)
+list_seen stream old new (Err x) ok err near = list_ends stream old new (Err (event_of x)) err near
+
+-- a stream that fails within its limit, or isn't there
+broken_by : (found : Found) (stream : List ℕ) (given : ℕ) → given ≤ stream_limit → listed_found stream (broken_at given found) ≡ Err (read_fault stream)
+broken_by (Held bytes) stream given h = let short : nat_lt stream_limit (length (take given bytes)) ≡ false = grind (arith, nat_tests, h, length-take given bytes) in rw short refl
+broken_by Absent stream given h = refl
+broken_by (Broken bytes) stream given h = let short : nat_lt stream_limit (length (take given bytes)) ≡ false = grind (arith, nat_tests, h, length-take given bytes) in rw short refl
+
+broken_due : (contents : Option (List ℕ → Option (List ℕ))) (flash : Option (List ℕ)) (stream : List ℕ) (given : ℕ) → given ≤ stream_limit → DueBy {A = Answer} (with_inputs contents flash) (Failing stream given) (λ t r. listed t stream ≡ r) (read_fault stream)
+broken_due None flash stream given h = tt
+broken_due (Some inputs) flash stream given h = let here = name_is stream in rw here (broken_by (found (inputs stream)) stream given h)
+
+absent_due : (contents : Option (List ℕ → Option (List ℕ))) (flash : Option (List ℕ)) (stream : List ℕ) → DueBy {A = Answer} (with_inputs contents flash) (Lacking stream) (λ t r. listed t stream ≡ r) (missing stream)
+absent_due None flash stream = tt
+absent_due (Some inputs) flash stream = let here = name_is stream in rw here refl
 
 -- a name that isn't there
-pub absent : (contents : Option (List ℕ → Option (List ℕ))) (flash : Option (List ℕ)) (name : List ℕ) (a b : ℕ) (F : List ℕ → Type 0) → Lacks contents name ⊎ HasRisen a b
-    → IsCaused {A = Answer} (with_inputs contents flash) F (RisesFor (name ∷ []) a b) (λ known. listed known name) (Err (missing name))
-absent None flash name a b F (inl h) = absurd h
-absent (Some inputs) flash name a b F (inl h) = inr (tt, rw h refl)
-absent contents flash name a b F (inr h) = inl (inl refl, h)
+pub absent : (old new : InputsState) (flash : Option (List ℕ)) (name : List ℕ) → Asks name new → new.selected ≡ false → Misses old name new
+    → IsCaused {A = Answer} (with_inputs old.contents flash) new.given (FailsAmong (name ∷ []) old new) (LacksAmong (name ∷ []) old new) (λ known. listed known name) (Err (missing name))
+absent old new flash name a s m = by old.contents refl m
+  where
+    by : (contents : Option (List ℕ → Option (List ℕ))) → old.contents ≡ contents → MapLacks contents name ⊎ HasRisen old.absences new.absences
+        → IsCaused {A = Answer} (with_inputs contents flash) new.given (FailsAmong (name ∷ []) old new) (LacksAmong (name ∷ []) old new) (λ known. listed known name) (Err (missing name))
+    by None e (inl h) = absurd h
+    by (Some inputs) e (inl h) = inr (tt, rw h refl)
+    by contents e (inr h) = inl (record { among = inl refl; over = record { asked = a.asked; selected = s }; risen = h }, absent_due contents flash name)
+
+-- a fault of the stream
+pub faulted : (old new : InputsState) (flash : Option (List ℕ)) (stream : List ℕ) → FailsAmong (stream ∷ []) old new stream → new.given ≤ stream_limit
+    → IsCaused {A = Answer} (with_inputs old.contents flash) new.given (FailsAmong (stream ∷ []) old new) (LacksAmong (stream ∷ []) old new) (λ known. listed known stream) (Err (read_fault stream))
+faulted old new flash stream f g = inl (f, broken_due old.contents flash stream new.given g)
 
 front_none : (contents : Option (List ℕ → Option (List ℕ))) (flash : Option (List ℕ)) (name : List ℕ) → IsPrefixOf (with_inputs contents flash) name []
 front_none None flash name = tt
-front_none (Some inputs) flash name = (unwrap_or (inputs name) [], refl)
+front_none (Some inputs) flash name = (bytes_found (found (inputs name)), refl)
 
 none_put : (old : Option (List ℕ)) (text : List ℕ) → PutsFront old text old
 none_put old text = ([], (text, refl, sym (appended-nil old)))
 
--- a stream that could not be selected for its name
-pub not_there : (contents : Option (List ℕ → Option (List ℕ))) (flash : Option (List ℕ)) (F : List ℕ → Type 0) (stream : List ℕ) (a b : ℕ) (Full : Type 0) (old : Option (List ℕ)) → Lacks contents stream ⊎ HasRisen a b
-    → Ends (with_inputs contents flash) F (RisesFor (stream ∷ []) a b) (Some (Listing stream)) Full old old (Err (missing stream))
-not_there contents flash F stream a b Full old h = (absent contents flash stream a b F h, refl)
-
 nothing_listed : stream_listing [] ≡ Ok (listing_of [])
 nothing_listed = raw_listed [] ((raw_at [] (starts_with nat_eq [] fixed_bytes) refl).1 (λ rest. λ e. absurd cc))
-
--- a stream that could not be selected
-pub not_selected : (contents : Option (List ℕ → Option (List ℕ))) (flash : Option (List ℕ)) (L : List ℕ → Type 0) (stream : List ℕ) (a b : ℕ) (Full : Type 0) (old : Option (List ℕ)) → HasRisen a b
-    → Ends (with_inputs contents flash) (RisesFor (stream ∷ []) a b) L (Some (Listing stream)) Full old old (Err (read_fault stream))
-not_selected contents flash L stream a b Full old h = (inl (inl refl, h), ([], (front_none contents flash stream, (listing_of [], (nothing_listed, none_put old (listing_of []))))))
 
 -- the bytes that were taken are a front of the input
 front_taken : (contents : Option (List ℕ → Option (List ℕ))) (flash : Option (List ℕ)) (name taken : List ℕ) (rest : Option (List ℕ)) → Selects contents name (preceded taken rest) → IsPrefixOf (with_inputs contents flash) name taken
@@ -58,30 +147,30 @@ front_taken (Some inputs) flash name taken None s = let h = s.2 in absurd (cc)
 front_taken (Some inputs) flash name taken (Some rest) s =
     let h = s.2 in
     let same : taken ++ rest ≡ s.0 = cc in
-    (rest, ap (λ t. unwrap_or t []) s.1 ∙ sym same)
+    (rest, ap (λ (t : Option (List ℕ)). bytes_found (found t)) s.1 ∙ sym same)
 
 -- a stream whose reading failed after these bytes
-pub broken : (contents : Option (List ℕ → Option (List ℕ))) (flash : Option (List ℕ)) (L : List ℕ → Type 0) (stream taken : List ℕ) (rest : Option (List ℕ)) (a b : ℕ) (Full : Type 0) (old now : Option (List ℕ))
-    → Selects contents stream (preceded taken rest) → HasRisen a b → PutsListing taken old now → Ends (with_inputs contents flash) (RisesFor (stream ∷ []) a b) L (Some (Listing stream)) Full old now (Err (read_fault stream))
-broken contents flash L stream taken rest a b Full old now s h p = (inl (inl refl, h), (taken, (front_taken contents flash stream taken rest s, p)))
+pub broken : (contents : Option (List ℕ → Option (List ℕ))) (flash : Option (List ℕ)) (given : ℕ) (F L : List ℕ → Type 0) (stream taken : List ℕ) (rest : Option (List ℕ)) (Full : Type 0) (old now : Option (List ℕ))
+    → Selects contents stream (preceded taken rest) → IsCaused {A = Answer} (with_inputs contents flash) given F L (λ known. listed known stream) (Err (read_fault stream)) → PutsListed taken old now → Ended (with_inputs contents flash) given F L stream Full old now (Err (read_fault stream))
+broken contents flash given F L stream taken rest Full old now s c p = (c, (taken, (front_taken contents flash stream taken rest s, p)))
 
 -- memory that ended after these bytes
-pub out_of_memory : (contents : Option (List ℕ → Option (List ℕ))) (flash : Option (List ℕ)) (F L : List ℕ → Type 0) (stream taken : List ℕ) (rest : Option (List ℕ)) (Full : Type 0) (old now : Option (List ℕ))
-    → Selects contents stream (preceded taken rest) → PutsListing taken old now → Ends (with_inputs contents flash) F L (Some (Listing stream)) Full old now (Err no_memory)
-out_of_memory contents flash F L stream taken rest Full old now s p = (inl refl, (taken, (front_taken contents flash stream taken rest s, p)))
+pub out_of_memory : (contents : Option (List ℕ → Option (List ℕ))) (flash : Option (List ℕ)) (given : ℕ) (F L : List ℕ → Type 0) (stream taken : List ℕ) (rest : Option (List ℕ)) (Full : Type 0) (old now : Option (List ℕ))
+    → Selects contents stream (preceded taken rest) → PutsListed taken old now → Ended (with_inputs contents flash) given F L stream Full old now (Err no_memory)
+out_of_memory contents flash given F L stream taken rest Full old now s p = (inl refl, (taken, (front_taken contents flash stream taken rest s, p)))
 
 -- what may follow the bytes that were taken
 pub may_follow : (last : Bool) (rest : Option (List ℕ)) (left : List ℕ) → rest ≡ Some left → (last ≡ true → AtEnd rest) → MayFollow last left
 may_follow last rest left e end = λ l. let none = rw e at (end l) in none
 
 -- a sink that failed after a front of the listing of these bytes and any that may follow
-pub unwritten : (contents : Option (List ℕ → Option (List ℕ))) (flash : Option (List ℕ)) (F L : List ℕ → Type 0) (stream taken : List ℕ) (rest : Option (List ℕ)) (last : Bool) (Full : Type 0) (old now : Option (List ℕ))
-    → Selects contents stream (preceded taken rest) → (last ≡ true → AtEnd rest) → Full → PutsListing taken old now → ((left : List ℕ) → MayFollow last left → AreBytes (taken ++ left) → PutsListing (taken ++ left) old now)
-    → Ends (with_inputs contents flash) F L (Some (Listing stream)) Full old now (Err write_fault)
-unwritten None flash F L stream taken rest last Full old now s e f here p = (refl, f, (here.0, here.1.1))
-unwritten (Some inputs) flash F L stream taken rest last Full old now s e f here p =
+pub unwritten : (contents : Option (List ℕ → Option (List ℕ))) (flash : Option (List ℕ)) (given : ℕ) (F L : List ℕ → Type 0) (stream taken : List ℕ) (rest : Option (List ℕ)) (last : Bool) (Full : Type 0) (old now : Option (List ℕ))
+    → Selects contents stream (preceded taken rest) → (last ≡ true → AtEnd rest) → Full → PutsListed taken old now → ((left : List ℕ) → MayFollow last left → AreBytes (taken ++ left) → PutsListed (taken ++ left) old now)
+    → Ended (with_inputs contents flash) given F L stream Full old now (Err write_fault)
+unwritten None flash given F L stream taken rest last Full old now s e f here p = (refl, f, (here.0, here.1.1))
+unwritten (Some inputs) flash given F L stream taken rest last Full old now s e f here p =
     let all = known_all inputs stream taken rest s in
-    (refl, f, (taken ++ all.0, (all.1.1, λ fits. p all.0 (may_follow last rest all.0 all.1.0 e) fits)))
+    (refl, f, (taken ++ all.0, (ap found all.1.1, λ fits. p all.0 (may_follow last rest all.0 all.1.0 e) fits)))
 
 -- what is due for a stream of these bytes, by its listing and its length
 due_over : (stream bytes text : List ℕ) (b : Bool) → stream_listing bytes ≡ Ok text → nat_lt stream_limit (length bytes) ≡ b → listed_bytes stream bytes ≡ (if b then Err (too_large stream) else Ok (record { stopped = false; text = text }))
@@ -91,34 +180,34 @@ due_over stream bytes text false h l = rw (h, l) refl
 due_refused : (stream bytes : List ℕ) (place : ℕ) → stream_listing bytes ≡ Err place → listed_bytes stream bytes ≡ Err (bad_input stream (input.Byte place))
 due_refused stream bytes place h = rw h refl
 
-listed_is : (inputs : List ℕ → Option (List ℕ)) (flash : Option (List ℕ)) (stream bytes : List ℕ) → inputs stream ≡ Some bytes → listed (record { inputs = inputs; flash = flash }) stream ≡ listed_bytes stream bytes
+listed_is : (inputs : List ℕ → Option (List ℕ)) (flash : Option (List ℕ)) (stream bytes : List ℕ) → inputs stream ≡ Some bytes → listed (known_of inputs flash) stream ≡ listed_bytes stream bytes
 listed_is inputs flash stream bytes e = rw e refl
 
 -- a stream of which more than the limit was taken
-pub oversized : (contents : Option (List ℕ → Option (List ℕ))) (flash : Option (List ℕ)) (F L : List ℕ → Type 0) (stream taken listed_front : List ℕ) (rest more : Option (List ℕ)) (Full : Type 0) (old now : Option (List ℕ))
-    → Selects contents stream (preceded taken rest) → Selects contents stream (preceded listed_front more) → ((left : List ℕ) → (text : List ℕ) × (stream_listing (taken ++ left) ≡ Ok text)) → stream_limit < length taken → PutsListing listed_front old now
-    → Ends (with_inputs contents flash) F L (Some (Listing stream)) Full old now (Err (too_large stream))
-oversized None flash F L stream taken listed_front rest more Full old now s t h l p = (inr tt, (listed_front, (tt, p)))
-oversized (Some inputs) flash F L stream taken listed_front rest more Full old now s t h l p =
+pub oversized : (contents : Option (List ℕ → Option (List ℕ))) (flash : Option (List ℕ)) (given : ℕ) (F L : List ℕ → Type 0) (stream taken listed_front : List ℕ) (rest more : Option (List ℕ)) (Full : Type 0) (old now : Option (List ℕ))
+    → Selects contents stream (preceded taken rest) → Selects contents stream (preceded listed_front more) → ((left : List ℕ) → (text : List ℕ) × (stream_listing (taken ++ left) ≡ Ok text)) → stream_limit < length taken → PutsListed listed_front old now
+    → Ended (with_inputs contents flash) given F L stream Full old now (Err (too_large stream))
+oversized None flash given F L stream taken listed_front rest more Full old now s t h l p = (inr tt, (listed_front, (tt, p)))
+oversized (Some inputs) flash given F L stream taken listed_front rest more Full old now s t h l p =
     let all = known_all inputs stream taken rest s in
     let text = h all.0 in
     let long : nat_lt stream_limit (length (taken ++ all.0)) ≡ true = grind (arith, length-append taken all.0, l, nat_tests) in
     (inr (tt, listed_is inputs flash stream (taken ++ all.0) all.1.1 ∙ due_over stream (taken ++ all.0) text.0 true text.1 long), (listed_front, (front_taken (Some inputs) flash stream listed_front more t, p)))
 
 -- a stream whose header is refused
-pub refused : (contents : Option (List ℕ → Option (List ℕ))) (flash : Option (List ℕ)) (F L : List ℕ → Type 0) (stream taken : List ℕ) (rest : Option (List ℕ)) (last : Bool) (place : ℕ) (Full : Type 0) (old : Option (List ℕ))
-    → Selects contents stream (preceded taken rest) → (last ≡ true → AtEnd rest) → IsRefused taken last place → Ends (with_inputs contents flash) F L (Some (Listing stream)) Full old old (Err (bad_input stream (input.Byte place)))
-refused None flash F L stream taken rest last place Full old s e r = (inr tt, refl)
-refused (Some inputs) flash F L stream taken rest last place Full old s e r =
+pub refused : (contents : Option (List ℕ → Option (List ℕ))) (flash : Option (List ℕ)) (given : ℕ) (F L : List ℕ → Type 0) (stream taken : List ℕ) (rest : Option (List ℕ)) (last : Bool) (place : ℕ) (Full : Type 0) (old : Option (List ℕ))
+    → Selects contents stream (preceded taken rest) → (last ≡ true → AtEnd rest) → IsRefused taken last place → Ended (with_inputs contents flash) given F L stream Full old old (Err (bad_input stream (input.Byte place)))
+refused None flash given F L stream taken rest last place Full old s e r = (inr tt, refl)
+refused (Some inputs) flash given F L stream taken rest last place Full old s e r =
     let all = known_all inputs stream taken rest s in
     (inr (tt, listed_is inputs flash stream (taken ++ all.0) all.1.1 ∙ due_refused stream (taken ++ all.0) place (r all.0 (may_follow last rest all.0 all.1.0 e))), refl)
 
 -- a stream whose listing was written
-pub listed_whole : (contents : Option (List ℕ → Option (List ℕ))) (flash : Option (List ℕ)) (F L : List ℕ → Type 0) (stream taken text : List ℕ) (rest : Option (List ℕ)) (Full : Type 0) (old now : Option (List ℕ))
+pub listed_whole : (contents : Option (List ℕ → Option (List ℕ))) (flash : Option (List ℕ)) (given : ℕ) (F L : List ℕ → Type 0) (stream taken text : List ℕ) (rest : Option (List ℕ)) (Full : Type 0) (old now : Option (List ℕ))
     → Selects contents stream (preceded taken rest) → AtEnd rest → stream_listing taken ≡ Ok text → length taken ≤ stream_limit → now ≡ appended old text
-    → Ends (with_inputs contents flash) F L (Some (Listing stream)) Full old now (Ok (record { stopped = false; text = text }))
-listed_whole None flash F L stream taken text rest Full old now s e h l p = (inr tt, p)
-listed_whole (Some inputs) flash F L stream taken text rest Full old now s e h l p =
+    → Ended (with_inputs contents flash) given F L stream Full old now (Ok (record { stopped = false; text = text }))
+listed_whole None flash given F L stream taken text rest Full old now s e h l p = (inr tt, p)
+listed_whole (Some inputs) flash given F L stream taken text rest Full old now s e h l p =
     let all = known_all inputs stream taken rest s in
     let none : all.0 ≡ [] = let end = rw all.1.0 at e in end in
     let whole : inputs stream ≡ Some taken = all.1.1 ∙ ap (λ t. Some (taken ++ t)) none ∙ ap Some (append-nil taken) in
@@ -126,16 +215,17 @@ listed_whole (Some inputs) flash F L stream taken text rest Full old now s e h l
     (inr (tt, listed_is inputs flash stream taken whole ∙ due_over stream taken text false h short), p)
 
 -- the same event
-pub ends_same : (known : Option Known) (F L : List ℕ → Type 0) (form : Option Asked) (Full : Type 0) (old now : Option (List ℕ)) (x y : Event) → x ≡ y → Ends known F L form Full old now (Err y) → Ends known F L form Full old now (Err x)
-ends_same known F L form Full old now x y e h = subst (λ (event : Event). Ends known F L form Full old now (Err event)) (sym e) h
+pub ends_same : (known : Option Known) (given : ℕ) (F L : List ℕ → Type 0) (stream : List ℕ) (Full : Type 0) (old now : Option (List ℕ)) (x y : Event) → x ≡ y → Ended known given F L stream Full old now (Err y) → Ended known given F L stream Full old now (Err x)
+ends_same known given F L stream Full old now x y e h = subst (λ (event : Event). Ended known given F L stream Full old now (Err event)) (sym e) h
 
 -- a stream that could not be opened
-pub unopened : (s n : InputsState) (flash : Option (List ℕ)) (stream : List ℕ) (Full : Type 0) (old : Option (List ℕ)) (event : Event) → Unopened s stream n event
-    → Ends (with_inputs s.contents flash) (RisesFor (stream ∷ []) s.faults n.faults) (RisesFor (stream ∷ []) s.absences n.absences) (Some (Listing stream)) Full old old (Err event)
-unopened s n flash stream Full old event (inl h) =
-    ends_same (with_inputs s.contents flash) (RisesFor (stream ∷ []) s.faults n.faults) (RisesFor (stream ∷ []) s.absences n.absences) (Some (Listing stream)) Full old old event (missing stream) h.0 (not_there s.contents flash (RisesFor (stream ∷ []) s.faults n.faults) stream s.absences n.absences Full old h.1)
-unopened s n flash stream Full old event (inr h) =
-    ends_same (with_inputs s.contents flash) (RisesFor (stream ∷ []) s.faults n.faults) (RisesFor (stream ∷ []) s.absences n.absences) (Some (Listing stream)) Full old old event (read_fault stream) h.0 (not_selected s.contents flash (RisesFor (stream ∷ []) s.absences n.absences) stream s.faults n.faults Full old h.1)
+pub unopened : (s n : InputsState) (flash : Option (List ℕ)) (stream : List ℕ) (Full : Type 0) (old : Option (List ℕ)) (event : Event) → Unopened s stream n event → Asks stream n
+    → Ended (with_inputs s.contents flash) n.given (FailsAmong (stream ∷ []) s n) (LacksAmong (stream ∷ []) s n) stream Full old old (Err event)
+unopened s n flash stream Full old event (inl h, none) a =
+    ends_same (with_inputs s.contents flash) n.given (FailsAmong (stream ∷ []) s n) (LacksAmong (stream ∷ []) s n) stream Full old old event (missing stream) h.0 (absent s n flash stream a none h.1, refl)
+unopened s n flash stream Full old event (inr h, none) a =
+    ends_same (with_inputs s.contents flash) n.given (FailsAmong (stream ∷ []) s n) (LacksAmong (stream ∷ []) s n) stream Full old old event (read_fault stream) h.0
+    (faulted s n flash stream (record { among = inl refl; over = record { asked = a.asked; selected = none }; risen = h.1 }) (omega (arith, a.given)), ([], (front_none s.contents flash stream, (listing_of [], (nothing_listed, none_put old (listing_of []))))))
 
 -- an error by two of its clauses
 pub both_err : {A B : Type 0} (r : Result A B) (P Q R : B → Type 0) → ((e : B) → P e → Q e → R e) → IfErr r P → IfErr r Q → IfErr r R
@@ -149,14 +239,15 @@ nothing_taken contents stream (Some rest) s = s
 
 -- a stream whose front was not read
 pub unfronted : (s m n : InputsState) (flash : Option (List ℕ)) (stream : List ℕ) (Full : Type 0) (old : Option (List ℕ)) (event : Event)
-    → Stays s m → Selects s.contents stream m.rest → Unfronted m stream n event
-    → Ends (with_inputs s.contents flash) (RisesFor (stream ∷ []) s.faults n.faults) (RisesFor (stream ∷ []) s.absences n.absences) (Some (Listing stream)) Full old old (Err event)
-unfronted s m n flash stream Full old event f sel (inl h) =
-    ends_same (with_inputs s.contents flash) (RisesFor (stream ∷ []) s.faults n.faults) (RisesFor (stream ∷ []) s.absences n.absences) (Some (Listing stream)) Full old old event no_memory h
-    (out_of_memory s.contents flash (RisesFor (stream ∷ []) s.faults n.faults) (RisesFor (stream ∷ []) s.absences n.absences) stream [] m.rest Full old old (nothing_taken s.contents stream m.rest sel) (listing_of [], (nothing_listed, none_put old (listing_of []))))
-unfronted s m n flash stream Full old event f sel (inr (inl h)) =
-    ends_same (with_inputs s.contents flash) (RisesFor (stream ∷ []) s.faults n.faults) (RisesFor (stream ∷ []) s.absences n.absences) (Some (Listing stream)) Full old old event (read_fault stream) h.0
-    (broken s.contents flash (RisesFor (stream ∷ []) s.absences n.absences) stream [] m.rest s.faults n.faults Full old old (nothing_taken s.contents stream m.rest sel) (risen_from s.faults m.faults n.faults f.faults h.1) (listing_of [], (nothing_listed, none_put old (listing_of []))))
-unfronted s m n flash stream Full old event f sel (inr (inr h)) =
-    ends_same (with_inputs s.contents flash) (RisesFor (stream ∷ []) s.faults n.faults) (RisesFor (stream ∷ []) s.absences n.absences) (Some (Listing stream)) Full old old event (bad_input stream (input.Byte h.place)) h.is
-    (refused s.contents flash (RisesFor (stream ∷ []) s.faults n.faults) (RisesFor (stream ∷ []) s.absences n.absences) stream h.bytes n.rest h.last h.place Full old (subst (λ r. Selects s.contents stream r) h.taken sel) h.end h.refused)
+    → Stays s m → Selects s.contents stream m.rest → Asks stream m → Unfronted m stream n event
+    → Ended (with_inputs s.contents flash) n.given (FailsAmong (stream ∷ []) s n) (LacksAmong (stream ∷ []) s n) stream Full old old (Err event)
+unfronted s m n flash stream Full old event f sel a (inl h) =
+    ends_same (with_inputs s.contents flash) n.given (FailsAmong (stream ∷ []) s n) (LacksAmong (stream ∷ []) s n) stream Full old old event no_memory h
+    (out_of_memory s.contents flash n.given (FailsAmong (stream ∷ []) s n) (LacksAmong (stream ∷ []) s n) stream [] m.rest Full old old (nothing_taken s.contents stream m.rest sel) (listing_of [], (nothing_listed, none_put old (listing_of []))))
+unfronted s m n flash stream Full old event f sel a (inr (inl h)) =
+    let fault = at_fault s m n stream [] stream_limit f (at_open stream m a) h.1 h.2 in
+    ends_same (with_inputs s.contents flash) n.given (FailsAmong (stream ∷ []) s n) (LacksAmong (stream ∷ []) s n) stream Full old old event (read_fault stream) h.0
+    (broken s.contents flash n.given (FailsAmong (stream ∷ []) s n) (LacksAmong (stream ∷ []) s n) stream [] m.rest Full old old (nothing_taken s.contents stream m.rest sel) (faulted s n flash stream fault.0 (omega (arith, fault.1))) (listing_of [], (nothing_listed, none_put old (listing_of []))))
+unfronted s m n flash stream Full old event f sel a (inr (inr h)) =
+    ends_same (with_inputs s.contents flash) n.given (FailsAmong (stream ∷ []) s n) (LacksAmong (stream ∷ []) s n) stream Full old old event (bad_input stream (input.Byte h.place)) h.is
+    (refused s.contents flash n.given (FailsAmong (stream ∷ []) s n) (LacksAmong (stream ∷ []) s n) stream h.bytes n.rest h.last h.place Full old (subst (λ r. Selects s.contents stream r) h.taken sel) h.end h.refused)

@@ -1,102 +1,144 @@
 -- What may fail where a form reads a flash too, and how a boot from one ends.
-use Rattle.std.proofs.Common.{◌≡◌, ℕ, List, [], ◌∷◌, Option, None, Some, Result, Ok, Err, refl, subst, sym, inl, inr, ◌⊎◌}
+use Rattle.std.proofs.Common.{◌≡◌, ◌≤◌, ◌∙◌, ap, arith, ℕ, Bool, List, [], ◌∷◌, Option, None, Some, Result, Ok, Err, refl, subst, sym, inl, inr, ◌⊎◌}
+use Rattle.std.specs.Prelude.{IsTrue}
+use Rattle.x7_words.specs.Count.{HasRisen}
+use Rattle.x7_words.specs.Flash.{AsksFor, FlashFails, FlashState, FlashStays, OnlyReads, Unattached}
+use Rattle.x7_words.specs.declared.input.SelectFault.{SelectFault}
+use Rattle.x7_words.specs.declared.input.SelectFault.TheVariants.{Missing, Failed}
 use Rattle.x7_part.specs.Part.{PartData}
-use Rattle.x7_forms.specs.Event.{Event, Cause, Want, Fault, Absence, Break, cause_of, too_large}
-use Rattle.x7_forms.specs.Form.{Asked, Booting, names_of}
-use Rattle.x7_forms.specs.Known.{Answer, Known, part_of, with_inputs}
+use Rattle.x7_forms.specs.Event.{Event, Cause, Want, Fault, Absence, cause_of, missing, read_fault, too_large}
+use Rattle.x7_forms.specs.Form.{Asked, Booting, flash_names, names_of}
+use Rattle.x7_forms.specs.Known.{Absent, Answer, Broken, Failing, Found, Held, Known, Lacking, Mishap, flash_found, known_of, mishap_event, part_of, spoiled, spoiled_name, with_inputs, with_mishap}
 use Rattle.x7_tool.specs.Outcome.{BootedAs, FlashBoots, Gives}
-use Rattle.x7_tool.specs.Run.{Comes, Ends, EndsBy, IsUnattached, RisesIn}
-use Rattle.x7_forms.specs.Step.{DecidedBy, FreeBy, IsCaused, IsCausedBy, IsFree, OpenBy, RisesFor}
+use Rattle.x7_tool.specs.Outside.{Fails, FlashFailsAmong, FlashLacksAmong, KeepsFlash, Lacks, Outside, ReadsFlash, known_in}
+use Rattle.x7_tool.specs.Run.{AnswersOver, FlashComes, IsUnattached}
+use Rattle.x7_forms.specs.Step.{DueBy, FailsAmong, FreeBy, IsCaused, IsCausedBy, IsDecided, IsDue, IsOpen, LacksAmong}
+use Rattle.x7_forms.proofs.ReadLemmas.{caused_on_by, name_is, part_steady}
 
 -- ---- what more may fail
 
-free_more : (cause : Cause) (F L F' L' : List ℕ → Type 0) (name : List ℕ) → ((n : List ℕ) → F n → F' n) → ((n : List ℕ) → L n → L' n) → FreeBy cause F L name → FreeBy cause F' L' name
-free_more Want F L F' L' name f l h = h
-free_more Fault F L F' L' name f l h = f name h
-free_more Absence F L F' L' name f l h = l name h
-free_more cause F L F' L' name f l h = absurd h
-
-pub is_free_more : {A : Type 0} (F L F' L' : List ℕ → Type 0) (got : Result A Event) → ((n : List ℕ) → F n → F' n) → ((n : List ℕ) → L n → L' n) → IsFree F L got → IsFree F' L' got
-is_free_more F L F' L' (Ok a) f l h = absurd h
-is_free_more F L F' L' (Err event) f l h = free_more (cause_of event) F L F' L' event.concerned f l h
-
-caused_more : {A : Type 0} (known : Option Known) (F L F' L' : List ℕ → Type 0) (Due : Known → Result A Event → Type 0) (got : Result A Event) → ((n : List ℕ) → F n → F' n) → ((n : List ℕ) → L n → L' n)
-    → IsCausedBy known F L Due got → IsCausedBy known F' L' Due got
-caused_more known F L F' L' Due got f l (inl h) = inl (is_free_more F L F' L' got f l h)
-caused_more known F L F' L' Due got f l (inr h) = inr h
-
-comes_more : (known : Option Known) (F L F' L' : List ℕ → Type 0) (form : Option Asked) (got : Result Answer Event) → ((n : List ℕ) → F n → F' n) → ((n : List ℕ) → L n → L' n) → Comes known F L form got → Comes known F' L' form got
-comes_more known F L F' L' None got f l h = h
-comes_more known F L F' L' (Some form) got f l h = caused_more known F L F' L' (λ t end. Gives t form end) got f l h
-
-ends_by_more : (cause : Cause) (known : Option Known) (F L F' L' : List ℕ → Type 0) (form : Option Asked) (Full : Type 0) (old new : Option (List ℕ)) (event : Event) → ((n : List ℕ) → F n → F' n) → ((n : List ℕ) → L n → L' n)
-    → EndsBy cause known F L form Full old new event → EndsBy cause known F' L' form Full old new event
-ends_by_more Break known F L F' L' form Full old new event f l h = h
-ends_by_more cause known F L F' L' form Full old new event f l h = (comes_more known F L F' L' form (Err event) f l h.0, h.1)
-
-ends_more : (known : Option Known) (F L F' L' : List ℕ → Type 0) (form : Option Asked) (Full : Type 0) (old new : Option (List ℕ)) (end : Result Answer Event) → ((n : List ℕ) → F n → F' n) → ((n : List ℕ) → L n → L' n)
-    → Ends known F L form Full old new end → Ends known F' L' form Full old new end
-ends_more known F L F' L' form Full old new (Ok answer) f l h = (comes_more known F L F' L' form (Ok answer) f l h.0, h.1)
-ends_more known F L F' L' form Full old new (Err event) f l h = ends_by_more (cause_of event) known F L F' L' form Full old new event f l h
-
--- the same by names of inputs, where a form has a flash too
-pub caused_in : (known : Option Known) (form : Asked) (f0 f1 a0 a1 g0 g1 b0 b1 : ℕ) (whole : Result Answer Event)
-    → IsCausedBy known (RisesFor (names_of (Some form)) f0 f1) (RisesFor (names_of (Some form)) a0 a1) (λ t end. Gives t form end) whole
-    → IsCausedBy known (RisesIn (Some form) f0 f1 g0 g1) (RisesIn (Some form) a0 a1 b0 b1) (λ t end. Gives t form end) whole
-caused_in known form f0 f1 a0 a1 g0 g1 b0 b1 whole c =
-    caused_more known (RisesFor (names_of (Some form)) f0 f1) (RisesFor (names_of (Some form)) a0 a1) (RisesIn (Some form) f0 f1 g0 g1) (RisesIn (Some form) a0 a1 b0 b1) (λ t end. Gives t form end) whole (λ n p. inl p) (λ n p. inl p) c
-
-pub ends_in : (known : Option Known) (form : Asked) (f0 f1 a0 a1 g0 g1 b0 b1 : ℕ) (Full : Type 0) (old new : Option (List ℕ)) (end : Result Answer Event)
-    → Ends known (RisesFor (names_of (Some form)) f0 f1) (RisesFor (names_of (Some form)) a0 a1) (Some form) Full old new end
-    → Ends known (RisesIn (Some form) f0 f1 g0 g1) (RisesIn (Some form) a0 a1 b0 b1) (Some form) Full old new end
-ends_in known form f0 f1 a0 a1 g0 g1 b0 b1 Full old new end h =
-    ends_more known (RisesFor (names_of (Some form)) f0 f1) (RisesFor (names_of (Some form)) a0 a1) (RisesIn (Some form) f0 f1 g0 g1) (RisesIn (Some form) a0 a1 b0 b1) (Some form) Full old new end (λ n p. inl p) (λ n p. inl p) h
+-- the same by names of inputs, where a form may have a flash too
+pub answers_over : (form : Asked) (old new : Outside) (whole : Result Answer Event)
+    → IsCausedBy (known_in old) new.inputs.given (FailsAmong (names_of (Some form)) old.inputs new.inputs) (LacksAmong (names_of (Some form)) old.inputs new.inputs) (λ t end. Gives t form end) whole
+    → AnswersOver form old new whole
+answers_over form old new whole c =
+    caused_on_by Answer (known_in old) new.inputs.given (FailsAmong (names_of (Some form)) old.inputs new.inputs) (LacksAmong (names_of (Some form)) old.inputs new.inputs)
+    (Fails (Some form) old new) (Lacks (Some form) old new) (λ t end. Gives t form end) whole (λ n p. inl p) (λ n p. inl p) c
 
 -- ---- a boot
 
--- a flash that was not attached
-pub unattached_free : (name : List ℕ) (faults faults_now absences absences_now : ℕ) (event : Event) → IsUnattached name faults faults_now absences absences_now event
-    → IsFree {A = Answer} (RisesFor (name ∷ []) faults faults_now) (RisesFor (name ∷ []) absences absences_now) (Err event)
-unattached_free name faults faults_now absences absences_now event (inl h) = subst (λ (e : Event). IsFree {A = Answer} (RisesFor (name ∷ []) faults faults_now) (RisesFor (name ∷ []) absences absences_now) (Err e)) (sym h.0) (inl refl, h.1)
-unattached_free name faults faults_now absences absences_now event (inr h) = subst (λ (e : Event). IsFree {A = Answer} (RisesFor (name ∷ []) faults faults_now) (RisesFor (name ∷ []) absences absences_now) (Err e)) (sym h.0) (inl refl, h.1)
+-- the flash of a name that had a mishap
+flash_spoiled : (m : Mishap) (t : Known) (name : List ℕ) (part : PartData) (event : Event) → FlashBoots name part (Some (spoiled m Absent)) (Err event) → spoiled_name m ≡ name → FlashBoots name part ((with_mishap m t).flash name) (Err event)
+flash_spoiled (Failing other given) t name part event h e = let here = name_is name in rw (e, here) h
+flash_spoiled (Lacking other) t name part event h e = let here = name_is name in rw (e, here) h
+
+-- a mishap of the flash is the first event of a boot whose part was read
+boot_mishap : (known : Option Known) (m : Mishap) (name part_name : List ℕ) (part : PartData) (event : Event) → mishap_event m ≡ event → spoiled_name m ≡ name → FlashBoots name part (Some (spoiled m Absent)) (Err event)
+    → IsDue {A = PartData} known (λ t r. part_of t part_name ≡ r) (Ok part) → DueBy {A = Answer} known m (λ t end. Gives t (Booting part_name name) end) event
+boot_mishap None m name part_name part event e n h read = tt
+boot_mishap (Some t) m name part_name part event e n h read = elim ((part_steady part_name).steady m t part read.1) [
+  | inl same ↦ subst (λ (r : Result PartData Event). BootedAs name r ((with_mishap m t).flash name) (Err event)) (sym same) (flash_spoiled m t name part event h n)
+  | inr ends ↦ subst (λ (r : Result PartData Event). BootedAs name r ((with_mishap m t).flash name) (Err event)) (sym ends) (ap (λ (x : Event). Err x) e)
+]
 
 -- what a flash comes to is one that contents may decide, and one that unknown contents may come to
 large_is : (name : List ℕ) (P : Event → Type 0) (event : Event) → P (too_large name) → event ≡ too_large name → P event
 large_is name P event p e = subst P (sym e) p
 
-flash_open : (name : List ℕ) (part : PartData) (flash : Option (List ℕ)) (event : Event) → FlashBoots name part flash (Err event) → event ≡ too_large name
+flash_open : (name : List ℕ) (part : PartData) (flash : Option (List ℕ)) (event : Event) → FlashBoots name part (flash_found flash) (Err event) → event ≡ too_large name
 flash_open name part None event h = h
 flash_open name part (Some all) event h = h.1
 
-booted_due : (contents : Option (List ℕ → Option (List ℕ))) (flash : Option (List ℕ)) (name part_name : List ℕ) (part : PartData) (F L F' L' : List ℕ → Type 0) (end : Result Answer Event)
-    → IsCaused (with_inputs contents flash) F L (λ known. part_of known part_name) (Ok part) → FlashBoots name part flash end → IsCausedBy (with_inputs contents flash) F' L' (λ known end. Gives known (Booting part_name name) end) end
-booted_due None flash name part_name part F L F' L' (Ok answer) read h = inr tt
-booted_due None flash name part_name part F L F' L' (Err event) read h = inr (large_is name (λ e. OpenBy (cause_of e)) event tt (flash_open name part flash event h))
-booted_due (Some inputs) flash name part_name part F L F' L' (Ok answer) (inl read) h = absurd read
-booted_due (Some inputs) flash name part_name part F L F' L' (Ok answer) (inr read) h = inr (tt, subst (λ (r : Result PartData Event). BootedAs name r flash (Ok answer)) (sym read.1) h)
-booted_due (Some inputs) flash name part_name part F L F' L' (Err event) (inl read) h = absurd read
-booted_due (Some inputs) flash name part_name part F L F' L' (Err event) (inr read) h =
-    inr (large_is name (λ e. DecidedBy (cause_of e)) event tt (flash_open name part flash event h), subst (λ (r : Result PartData Event). BootedAs name r flash (Err event)) (sym read.1) h)
+booted_due : (known : Option Known) (flash : Option (List ℕ)) (given : ℕ) (F L : List ℕ → Type 0) (name part_name : List ℕ) (part : PartData) (end : Result Answer Event) → ((t : Known) → known ≡ Some t → t.flash name ≡ flash_found flash)
+    → IsOpen end × IsDecided end → IsDue {A = PartData} known (λ t r. part_of t part_name ≡ r) (Ok part) → FlashBoots name part (flash_found flash) end → IsCausedBy known given F L (λ t end. Gives t (Booting part_name name) end) end
+booted_due None flash given F L name part_name part end same o read h = inr o.0
+booted_due (Some t) flash given F L name part_name part end same o read h =
+    inr (o.1, subst (λ (r : Result PartData Event). BootedAs name r (t.flash name) end) (sym read.1) (subst (λ (f : Option Found). FlashBoots name part f end) (sym (same t refl)) h))
+
+-- what is known of the flash
+told_flash : (contents : Option (List ℕ → Option (List ℕ))) (flash : Option (List ℕ)) (name : List ℕ) (t : Known) → with_inputs contents flash ≡ Some t → t.flash name ≡ flash_found flash
+told_flash None flash name t e = absurd (cc)
+told_flash (Some inputs) flash name t e = let same : known_of inputs flash ≡ t = cc in ap (λ (k : Known). k.flash name) (sym same)
+
+read_due : {A : Type 0} (known : Option Known) (given : ℕ) (F L : List ℕ → Type 0) (due : Known → Result A Event) (a : A) → IsCaused known given F L due (Ok a) → IsDue {A = A} known (λ t r. due t ≡ r) (Ok a)
+read_due known given F L due a (inl h) = absurd h
+read_due known given F L due a (inr h) = h
+
+both : (name : List ℕ) (part : PartData) (flash : Option (List ℕ)) (end : Result Answer Event) → FlashBoots name part (flash_found flash) end → IsOpen end × IsDecided end
+both name part flash (Ok answer) h = (tt, tt)
+both name part flash (Err event) h = large_is name (λ e. IsOpen {A = Answer} (Err e) × IsDecided {A = Answer} (Err e)) event (tt, tt) (flash_open name part flash event h)
 
 -- a boot of a part that was read, from a flash
-pub booted_ends : (contents : Option (List ℕ → Option (List ℕ))) (flash : Option (List ℕ)) (name part_name : List ℕ) (part : PartData) (f0 f1 a0 a1 g0 g1 b0 b1 : ℕ) (end : Result Answer Event)
-    → IsCaused (with_inputs contents flash) (RisesFor (part_name ∷ []) f0 f1) (RisesFor (part_name ∷ []) a0 a1) (λ known. part_of known part_name) (Ok part)
-    → IsFree (RisesFor (name ∷ []) g0 g1) (RisesFor (name ∷ []) b0 b1) end ⊎ FlashBoots name part flash end
-    → IsCausedBy (with_inputs contents flash) (RisesIn (Some (Booting part_name name)) f0 f1 g0 g1) (RisesIn (Some (Booting part_name name)) a0 a1 b0 b1) (λ known end. Gives known (Booting part_name name) end) end
-booted_ends contents flash name part_name part f0 f1 a0 a1 g0 g1 b0 b1 end read (inl h) =
-    inl (is_free_more (RisesFor (name ∷ []) g0 g1) (RisesFor (name ∷ []) b0 b1) (RisesIn (Some (Booting part_name name)) f0 f1 g0 g1) (RisesIn (Some (Booting part_name name)) a0 a1 b0 b1) end (λ n p. inr p) (λ n p. inr p) h)
-booted_ends contents flash name part_name part f0 f1 a0 a1 g0 g1 b0 b1 end read (inr h) =
-    booted_due contents flash name part_name part (RisesFor (part_name ∷ []) f0 f1) (RisesFor (part_name ∷ []) a0 a1) (RisesIn (Some (Booting part_name name)) f0 f1 g0 g1) (RisesIn (Some (Booting part_name name)) a0 a1 b0 b1) end read h
+pub booted_ends : (old new : Outside) (name part_name : List ℕ) (part : PartData) (given : ℕ) (F L : List ℕ → Type 0) (end : Result Answer Event) → IsCaused (known_in old) given F L (λ known. part_of known part_name) (Ok part)
+    → FlashComes name part old.flash new.flash end → AnswersOver (Booting part_name name) old new end
+booted_ends old new name part_name part given F L (Ok answer) read h =
+    booted_due (known_in old) old.flash.bytes new.inputs.given (Fails (Some (Booting part_name name)) old new) (Lacks (Some (Booting part_name name)) old new) name part_name part (Ok answer) (told_flash old.inputs.contents old.flash.bytes name) (tt, tt)
+    (read_due (known_in old) given F L (λ t. part_of t part_name) part read) h
+booted_ends old new name part_name part given F L (Err event) read (inl h) = subst (λ (e : Event). AnswersOver (Booting part_name name) old new (Err e)) (sym h) (inl refl)
+booted_ends old new name part_name part given F L (Err event) read (inr (inl (inl h))) =
+    subst (λ (e : Event). AnswersOver (Booting part_name name) old new (Err e)) (sym h.0)
+    (inl (inr h.1, boot_mishap (known_in old) (Lacking name) name part_name part (missing name) refl refl refl (read_due (known_in old) given F L (λ t. part_of t part_name) part read)))
+booted_ends old new name part_name part given F L (Err event) read (inr (inl (inr h))) =
+    subst (λ (e : Event). AnswersOver (Booting part_name name) old new (Err e)) (sym h.0)
+    (inl (inr h.1, boot_mishap (known_in old) (Failing name new.inputs.given) name part_name part (read_fault name) refl refl refl (read_due (known_in old) given F L (λ t. part_of t part_name) part read)))
+booted_ends old new name part_name part given F L (Err event) read (inr (inr h)) =
+    booted_due (known_in old) old.flash.bytes new.inputs.given (Fails (Some (Booting part_name name)) old new) (Lacks (Some (Booting part_name name)) old new) name part_name part (Err event) (told_flash old.inputs.contents old.flash.bytes name) (both name part old.flash.bytes (Err event) h)
+    (read_due (known_in old) given F L (λ t. part_of t part_name) part read) h
 
--- a part that was not read
-refused_due : (contents : Option (List ℕ → Option (List ℕ))) (flash : Option (List ℕ)) (name part_name : List ℕ) (F L F' L' : List ℕ → Type 0) (event : Event) → ((n : List ℕ) → F n → F' n) → ((n : List ℕ) → L n → L' n)
-    → IsCaused {A = PartData} (with_inputs contents flash) F L (λ known. part_of known part_name) (Err event) → IsCausedBy {A = Answer} (with_inputs contents flash) F' L' (λ known end. Gives known (Booting part_name name) end) (Err event)
-refused_due contents flash name part_name F L F' L' event f l (inl h) = inl (free_more (cause_of event) F L F' L' event.concerned f l h)
-refused_due None flash name part_name F L F' L' event f l (inr h) = inr h
-refused_due (Some inputs) flash name part_name F L F' L' event f l (inr h) = inr (h.0, subst (λ (r : Result PartData Event). BootedAs name r flash (Err event)) (sym h.1) refl)
+-- a part that was not read: by its cause, the boot ends with the same event, whatever its flash is
+boot_due_kept : (known : Option Known) (m : Mishap) (name part_name : List ℕ) (event : Event) → DueBy {A = PartData} known m (λ t r. part_of t part_name ≡ r) event → DueBy {A = Answer} known m (λ t end. Gives t (Booting part_name name) end) event
+boot_due_kept None m name part_name event h = tt
+boot_due_kept (Some t) m name part_name event h = subst (λ (r : Result PartData Event). BootedAs name r ((with_mishap m t).flash name) (Err event)) (sym h) refl
 
-pub part_refused : (contents : Option (List ℕ → Option (List ℕ))) (flash : Option (List ℕ)) (name part_name : List ℕ) (f0 f1 a0 a1 g0 g1 b0 b1 : ℕ) (event : Event)
-    → IsCaused {A = PartData} (with_inputs contents flash) (RisesFor (part_name ∷ []) f0 f1) (RisesFor (part_name ∷ []) a0 a1) (λ known. part_of known part_name) (Err event)
-    → IsCausedBy {A = Answer} (with_inputs contents flash) (RisesIn (Some (Booting part_name name)) f0 f1 g0 g1) (RisesIn (Some (Booting part_name name)) a0 a1 b0 b1) (λ known end. Gives known (Booting part_name name) end) (Err event)
-part_refused contents flash name part_name f0 f1 a0 a1 g0 g1 b0 b1 event read =
-    refused_due contents flash name part_name (RisesFor (part_name ∷ []) f0 f1) (RisesFor (part_name ∷ []) a0 a1) (RisesIn (Some (Booting part_name name)) f0 f1 g0 g1) (RisesIn (Some (Booting part_name name)) a0 a1 b0 b1) event (λ n p. inl p) (λ n p. inl p) read
+boot_free : (cause : Cause) (known : Option Known) (given : ℕ) (F L : List ℕ → Type 0) (name part_name : List ℕ) (event : Event) → FreeBy {A = PartData} cause known given F L (λ t r. part_of t part_name ≡ r) event → FreeBy {A = Answer} cause known given F L (λ t end. Gives t (Booting part_name name) end) event
+boot_free Want known given F L name part_name event h = h
+boot_free Fault known given F L name part_name event h = (h.0, boot_due_kept known (Failing event.concerned given) name part_name event h.1)
+boot_free Absence known given F L name part_name event h = (h.0, boot_due_kept known (Lacking event.concerned) name part_name event h.1)
+boot_free cause known given F L name part_name event h = absurd h
+
+boot_kept : (known : Option Known) (given : ℕ) (F L : List ℕ → Type 0) (name part_name : List ℕ) (event : Event) → IsCaused {A = PartData} known given F L (λ t. part_of t part_name) (Err event) → IsCausedBy {A = Answer} known given F L (λ t end. Gives t (Booting part_name name) end) (Err event)
+boot_kept known given F L name part_name event (inl h) = inl (boot_free (cause_of event) known given F L name part_name event h)
+boot_kept None given F L name part_name event (inr h) = inr h
+boot_kept (Some t) given F L name part_name event (inr h) = inr (h.0, subst (λ (r : Result PartData Event). BootedAs name r (t.flash name) (Err event)) (sym h.1) refl)
+
+pub part_refused : (old new : Outside) (name part_name : List ℕ) (event : Event)
+    → IsCaused {A = PartData} (known_in old) new.inputs.given (FailsAmong (part_name ∷ []) old.inputs new.inputs) (LacksAmong (part_name ∷ []) old.inputs new.inputs) (λ known. part_of known part_name) (Err event)
+    → AnswersOver (Booting part_name name) old new (Err event)
+part_refused old new name part_name event read =
+    answers_over (Booting part_name name) old new (Err event)
+    (boot_kept (known_in old) new.inputs.given (FailsAmong (part_name ∷ []) old.inputs new.inputs) (LacksAmong (part_name ∷ []) old.inputs new.inputs) name part_name event read)
+
+-- ---- a flash that is read at most
+
+-- why a flash was not attached, by its fault
+pub was_missing : (old new : FlashState) (fault : SelectFault) → fault ≡ Missing → Unattached old new fault → HasRisen old.absences new.absences
+was_missing old new fault e h = subst (λ (f : SelectFault). Unattached old new f) e h
+
+pub was_failed : (old new : FlashState) (fault : SelectFault) → fault ≡ Failed → Unattached old new fault → FlashFails old new
+was_failed old new fault e h = subst (λ (f : SelectFault). Unattached old new f) e h
+
+pub reads_none : (name : List ℕ) (s : FlashState) → ReadsFlash name s s
+reads_none name s = record { bytes = refl; write_faults = refl; moments = refl; faults = omega arith; absences = omega arith; no_other = λ other h. inl h }
+
+pub kept_same : (names : List (List ℕ)) (s : FlashState) → KeepsFlash names s s
+kept_same [] s = refl
+kept_same (name ∷ more) s = reads_none name s
+
+-- an attach that asks for this name
+pub reads_asked : (name : List ℕ) (old new : FlashState) (past since : ℕ → List ℕ → Type 0) → FlashStays old new past since → AsksFor old name new → ReadsFlash name old new
+reads_asked name old new past since s a = record { bytes = s.bytes; write_faults = s.unwritten.write_faults; moments = s.unwritten.moments; faults = s.faults; absences = s.absences; no_other = a.no_other }
+
+-- reads behind it
+pub reads_on : (name : List ℕ) (old mid new : FlashState) (past since : ℕ → List ℕ → Type 0) → ReadsFlash name old mid → OnlyReads mid new past since → ReadsFlash name old new
+reads_on name old mid new past since r o = record {
+  bytes = o.bytes ∙ r.bytes;
+  write_faults = o.unwritten.write_faults ∙ r.write_faults;
+  moments = o.unwritten.moments ∙ r.moments;
+  faults = omega (arith, r.faults, o.faults);
+  absences = omega (arith, r.absences, o.absences);
+  no_other = λ other h. r.no_other other (subst (λ (names : List ℕ → Bool). IsTrue (names other)) o.names h);
+}
+
+-- a form that names its flash
+pub kept_named : (form : Option Asked) (asks : Asked) (name : List ℕ) (old new : FlashState) → form ≡ Some asks → flash_names (Some asks) ≡ name ∷ [] → ReadsFlash name old new → KeepsFlash (flash_names form) old new
+kept_named form asks name old new e n r = subst (λ (names : List (List ℕ)). KeepsFlash names old new) (sym (ap flash_names e ∙ n)) r

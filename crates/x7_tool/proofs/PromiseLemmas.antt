@@ -1,35 +1,39 @@
 -- What planned streams do, by what was known when they were written.
-use Rattle.std.proofs.Common.{◌≡◌, ◌∙◌, ℕ, List, ◌∷◌, map, reverse, false, Option, None, Some, Result, Ok, Err, ap, refl, subst, sym}
-use Rattle.x7_words.specs.Word.{AreBytes}
-use Rattle.std.specs.Prelude.{Contains}
+use Rattle.std.proofs.Common.{◌≡◌, ◌∙◌, ◌<◌, ◌≤◌, ℕ, List, ◌∷◌, length, map, reverse, Bool, true, false, if◌then◌else◌, Option, Some, Result, Ok, Err, ap, arith, refl, subst, sym}
+use Rattle.std.specs.Prelude.{Contains, nat_lt}
+use Rattle.std.proofs.lemmas.Bool.Decides.{nat_tests}
 use Rattle.std.proofs.lemmas.List.Sorted.{All-permutation}
+use Rattle.x7_words.specs.Word.{AreBytes}
 use Rattle.x7_part.specs.AddressOrder.{addresses_in}
 use Rattle.x7_part.specs.Part.{PartData}
 use Rattle.x7_part.specs.PartFile.{part_in}
 use Rattle.x7_part.specs.PartRange.{IsPart}
 use Rattle.x7_part.specs.declared.fault.PartFault.{PartFault}
 use Rattle.x7_part.proofs.FileRowLemmas.{text_is}
+use Rattle.x7_engine.specs.Kept.{on_the_bench}
+use Rattle.x7_engine.specs.State.{reads_of}
 use Rattle.x7_boot.specs.declared.boots.BootEnd.{BootEnd}
 use Rattle.x7_boot.specs.declared.boots.BootEnd.TheVariants as boot_end
 use Rattle.x7_boot.specs.Attempt.{Trial}
-use Rattle.x7_boot.specs.Boot.{tried}
+use Rattle.x7_boot.specs.Boot.{LeadsToEnd, tried}
+use Rattle.x7_boot.specs.Image.{flash_limit, image_of, image_size}
 use Rattle.x7_boot.specs.ImageBoot.{FallsBack, HasImage, StartsUpdate, UpdateFails, golden_image}
-use Rattle.x7_boot.proofs.CheckedLemmas.{last_checked}
+use Rattle.x7_boot.proofs.CheckedLemmas.{attempt_checked, checked, last_checked}
 use Rattle.x7_boot.proofs.FullTrialLemmas.{full_stream_fits}
-use Rattle.x7_boot.proofs.ImageBootLemmas.{full_update_starts, update_falls_back}
+use Rattle.x7_boot.proofs.ImageBootLemmas.{boot_falls_back, full_update_starts, update_falls_back}
 use Rattle.x7_boot.proofs.SlotLemmas.{image_fits}
 use Rattle.x7_memory.specs.Planned.{IsPlanFor, PlanData}
 use Rattle.x7_planner.specs.Full.{full_stream}
 use Rattle.x7_regs.specs.declared.boot_status.Cause.{Cause}
 use Rattle.x7_effects.specs.Played.{PlaysFull, PlaysPartial, PlaysRead}
 use Rattle.x7_effects.proofs.LawLemmas.{full_law, partial_law, read_law}
-use Rattle.x7_forms.specs.Event.{Event}
-use Rattle.x7_forms.specs.Form.{Asked, Assembling, Booting, Debugging, FromMcs, Imaging, Listing, PlanningFull, PlanningPartial, PlanningRead, Playing, ToMcs, Generating}
-use Rattle.x7_forms.specs.Known.{Answer, Known, and_so, part_by, part_limit, part_of, whole_in}
-use Rattle.x7_tool.specs.Outcome.{BootedAs, BootsAs, FlashBoots, has_failed, PlanTexts, PlannedFull, PlannedPartial, PlannedRead, gen_answer, plan_texts, text_limit}
-use Rattle.x7_tool.specs.Promise.{FallsBackAs, HoldsImage, Promise, PromisesFull, PromisesPartial, PromisesRead, PromisesStart, StartsChecked, StartsUpdateAs, PromisesSummary}
-use Rattle.x7_tool.specs.Run.{Agrees}
-use Rattle.x7_tool.proofs.GenerateLemmas.{planned_is}
+use Rattle.x7_forms.specs.declared.bad_input.InputFault.TheVariants as input
+use Rattle.x7_forms.specs.Event.{Event, bad_input, too_many_reads}
+use Rattle.x7_forms.specs.Form.{Asked, Booting, Generating, Imaging, ImagingFor, PlanningFull, PlanningPartial, PlanningRead, Playing}
+use Rattle.x7_forms.specs.Known.{Answer, Found, Held, Known, and_so, data_of, part_by, part_limit, part_of, reads_limit, report_of, reported, stream_limit, whole_in}
+use Rattle.x7_tool.specs.Outcome.{BootedAs, BootsAs, FlashBoots, Gives, ImageStreams, PlanTexts, PlannedFull, PlannedPartial, PlannedRead, gen_answer, has_failed, image_by, image_streams, plan_texts, text_limit}
+use Rattle.x7_tool.specs.Promise.{FallsBackAs, FallsBackFrom, HoldsImage, PromiseOf, PromisesFull, PromisesImage, PromisesImageFor, PromisesPartial, PromisesPlayed, PromisesRead, PromisesStart, PromisesSummary, StartsChecked, StartsUpdateAs}
+use Rattle.x7_tool.proofs.GenerateLemmas.{generated_plays, planned_is}
 
 -- ---- the part that was read is a part
 
@@ -101,6 +105,7 @@ summary_promised known part seed (Err event) answer e p = absurd (cc)
 summary_promised known part seed (Ok device) answer e p = record {
   device = device;
   read = e;
+  plays = generated_plays device seed (part_is known part device e);
   played = planned_is device seed answer.text (part_is known part device e) (ap (λ (r : Result Answer Event). let a : Answer = value_or answer r in a.text) (sym p));
 }
 
@@ -112,73 +117,94 @@ has_started boot_end.Loop e = absurd (cc)
 starts_checked : (part : PartData) (flash : List ℕ) (answer : Answer) → AreBytes flash → BootsAs part flash answer → StartsChecked part flash answer
 starts_checked part flash answer fits b = record {
   boot = b;
-  checked = λ ok. last_checked part flash b.last b.older b.end fits b.leads (has_started b.end (sym b.stopped ∙ ok));
+  checked = λ late. attempt_checked part flash b.last fits b.leads.1 late;
+  started = λ ok. last_checked part flash b.last b.older b.end fits b.leads (has_started b.end (sym b.stopped ∙ ok));
 }
 
-boots_told : (name : List ℕ) (part : PartData) (told : Option (List ℕ)) (flash : List ℕ) (answer : Answer) → told ≡ Some flash → FlashBoots name part told (Ok answer) → AreBytes flash → BootsAs part flash answer
+boots_told : (name : List ℕ) (part : PartData) (told : Option Found) (flash : List ℕ) (answer : Answer) → told ≡ Some (Held flash) → FlashBoots name part told (Ok answer) → AreBytes flash → BootsAs part flash answer
 boots_told name part told flash answer e h fits =
-    let here : FlashBoots name part (Some flash) (Ok answer) = subst (λ (f : Option (List ℕ)). FlashBoots name part f (Ok answer)) e h in
+    let here : FlashBoots name part (Some (Held flash)) (Ok answer) = subst (λ (f : Option Found). FlashBoots name part f (Ok answer)) e h in
     here.1 fits
 
 -- ---- from the image of a golden plan and an update
 
 falls_back_as : (part : PartData) (golden : PlanData) (update : List ℕ) (t : Trial) (cause : Cause) (answer : Answer) → HasImage part golden update → UpdateFails part golden update t cause false → BootsAs part (golden_image part golden update) answer
-    → FallsBackAs part golden cause answer
+    → FallsBackAs part golden update cause answer
 falls_back_as part golden update t cause answer image fails b =
     let back : FallsBack part golden cause (reverse (map tried (b.last ∷ b.older))) b.end b.last = update_falls_back part golden update t cause b.last b.older b.end image fails b.leads in
-    record { attempts = reverse (map tried (b.last ∷ b.older)); end = b.end; last = b.last; falls_back = back; text = b.text; started = b.stopped ∙ ap has_failed back.started }
+    record { boot = b; falls_back = back; started = b.stopped ∙ ap has_failed back.started }
 
 starts_update_as : (part : PartData) (golden update : PlanData) (answer : Answer) → HasImage part golden (full_stream part update) → IsPlanFor part update → BootsAs part (golden_image part golden (full_stream part update)) answer
     → StartsUpdateAs part golden update answer
 starts_update_as part golden update answer image for b =
     let starts : StartsUpdate part golden update (reverse (map tried (b.last ∷ b.older))) b.end b.last = full_update_starts part golden update b.last b.older b.end image for b.leads in
-    record { attempts = reverse (map tried (b.last ∷ b.older)); end = b.end; last = b.last; starts = starts; text = b.text; started = b.stopped ∙ ap has_failed starts.started }
+    record { boot = b; starts = starts; started = b.stopped ∙ ap has_failed starts.started }
 
-image_told : (known : Known) (name : List ℕ) (part : PartData) (golden : PlanData) (update : List ℕ) (answer : Answer) → FlashBoots name part known.flash (Ok answer) → HoldsImage known part golden update → BootsAs part (golden_image part golden update) answer
+image_told : (known : Known) (name : List ℕ) (part : PartData) (golden : PlanData) (update : List ℕ) (answer : Answer) → FlashBoots name part (known.flash name) (Ok answer) → HoldsImage known name part golden update → BootsAs part (golden_image part golden update) answer
 image_told known name part golden update answer h holds =
     let stream : List ℕ = full_stream part golden in
     let fits : AreBytes (golden_image part golden update) = image_fits part.start_unit stream update (full_stream_fits part golden holds.image.is_part holds.image.plan) holds.bytes in
-    boots_told name part known.flash (golden_image part golden update) answer holds.told h fits
+    boots_told name part (known.flash name) (golden_image part golden update) answer holds.told h fits
 
-start_promised : (known : Known) (part flash : List ℕ) (read : Result PartData Event) (answer : Answer) → part_of known part ≡ read → BootedAs flash read known.flash (Ok answer) → PromisesStart known part answer
+start_promised : (known : Known) (part flash : List ℕ) (read : Result PartData Event) (answer : Answer) → part_of known part ≡ read → BootedAs flash read (known.flash flash) (Ok answer) → PromisesStart known part flash answer
 start_promised known part flash (Err event) answer e p = absurd (cc)
 start_promised known part flash (Ok device) answer e p = record {
   device = device;
   read = e;
-  starts = λ all is fits. starts_checked device all answer fits (boots_told flash device known.flash all answer is p fits);
+  starts = λ all is fits. starts_checked device all answer fits (boots_told flash device (known.flash flash) all answer is p fits);
   falls_back = λ golden update t cause holds fails. falls_back_as device golden update t cause answer holds.image fails (image_told known flash device golden update answer p holds);
   full = λ golden update holds for. starts_update_as device golden update answer holds.image for (image_told known flash device golden (full_stream device update) answer p holds);
 }
 
-pub promised : (known : Option Known) (form : Option Asked) (answer : Answer) → Agrees known form (Ok answer) → Promise known form (Ok answer)
-promised None form answer a = tt
-promised (Some known) None answer a = tt
-promised (Some known) (Some (Listing stream)) answer a = tt
-promised (Some known) (Some (Playing part streams)) answer a = tt
-promised (Some known) (Some (Assembling text)) answer a = tt
-promised (Some known) (Some (ToMcs image)) answer a = tt
-promised (Some known) (Some (FromMcs text)) answer a = tt
-promised (Some known) (Some (PlanningFull part frames)) answer a = full_promised known part frames (plan_texts known part frames) answer refl a
-promised (Some known) (Some (PlanningPartial part frames)) answer a = partial_promised known part frames (plan_texts known part frames) answer refl a
-promised (Some known) (Some (PlanningRead part far n)) answer a = read_promised known part far n (part_of known part) answer refl a
-promised (Some known) (Some (Generating part seed)) answer a = summary_promised known part seed (part_of known part) answer refl a
-promised (Some known) (Some (Debugging part stream script)) answer a = tt
-promised (Some known) (Some (Imaging part golden update)) answer a = tt
-promised (Some known) (Some (Booting part flash)) answer a = start_promised known part flash (part_of known part) answer refl a
+-- ---- a play
 
--- no whole text, no promise
-pub no_promise : (known : Option Known) (form : Option Asked) (event : Event) → Promise known form (Err event)
-no_promise None form event = tt
-no_promise (Some known) None event = tt
-no_promise (Some known) (Some (Listing stream)) event = tt
-no_promise (Some known) (Some (Playing part streams)) event = tt
-no_promise (Some known) (Some (Assembling text)) event = tt
-no_promise (Some known) (Some (ToMcs image)) event = tt
-no_promise (Some known) (Some (FromMcs text)) event = tt
-no_promise (Some known) (Some (PlanningFull part frames)) event = tt
-no_promise (Some known) (Some (PlanningPartial part frames)) event = tt
-no_promise (Some known) (Some (PlanningRead part far n)) event = tt
-no_promise (Some known) (Some (Generating part seed)) event = tt
-no_promise (Some known) (Some (Debugging part stream script)) event = tt
-no_promise (Some known) (Some (Imaging part golden update)) event = tt
-no_promise (Some known) (Some (Booting part flash)) event = tt
+report_by : (b : Bool) (event : Event) (report answer : Answer) → (if b then Err event else Ok report) ≡ Ok answer → answer ≡ report
+unfolding value_or
+report_by true event report answer h = absurd (cc)
+report_by false event report answer h = sym (ap (value_or answer) h)
+
+reported_is : (part : PartData) (bytes : List ℕ) (answer : Answer) → reported part bytes ≡ Ok answer → answer ≡ report_of part bytes
+unfolding reported
+reported_is part bytes answer h = report_by (nat_lt reads_limit (length (reads_of part on_the_bench bytes))) too_many_reads (report_of part bytes) answer h
+
+play_promised : (known : Known) (part : List ℕ) (streams : List (List ℕ)) (p : Result PartData Event) (d : Result (List ℕ) Event) (answer : Answer) → part_of known part ≡ p → data_of known stream_limit streams ≡ d
+    → and_so p (λ q. and_so d (reported q)) ≡ Ok answer → PromisesPlayed known part streams answer
+play_promised known part streams (Err event) d answer e f h = absurd (cc)
+play_promised known part streams (Ok q) (Err event) answer e f h = absurd (cc)
+play_promised known part streams (Ok q) (Ok bytes) answer e f h = record { device = q; bytes = bytes; read = e; joined = f; report = reported_is q bytes answer h; checked = λ fits late. checked q on_the_bench false bytes fits late }
+
+-- ---- an image
+
+image_fits_by : (b : Bool) (n l : ℕ) (e : Event) (text : List ℕ) (answer : Answer) → nat_lt l n ≡ b → (if b then Err e else Ok (record { stopped = false; text = text })) ≡ Ok answer → (n ≤ l) × (answer.text ≡ text)
+unfolding value_or
+image_fits_by true n l e text answer t h = absurd (cc)
+image_fits_by false n l e text answer t h = (grind (arith, nat_tests, t), sym (ap (λ (r : Result Answer Event). let a : Answer = value_or answer r in a.text) h))
+
+image_falls : (name : List ℕ) (unit : ℕ) (s : ImageStreams) (device : PartData) (answer : Answer) → IsPart device → device.start_unit ≡ unit → image_by name unit s ≡ Ok answer → FallsBackFrom device s answer.text
+image_falls name unit s device answer part same h = λ plan b t cause is for boot fails.
+    let size = image_size (length s.golden) (length s.update) in
+    let fits : (size ≤ flash_limit) × (answer.text ≡ image_of unit s.golden s.update) = image_fits_by (nat_lt flash_limit size) size flash_limit (bad_input name input.Image) (image_of unit s.golden s.update) answer refl h in
+    let text : answer.text ≡ golden_image device plan s.update = fits.1 ∙ ap (λ (u : ℕ). image_of u s.golden s.update) (sym same) ∙ ap (λ (x : List ℕ). image_of device.start_unit x s.update) is in
+    let holds : HasImage device plan s.update = record { is_part = part; plan = for; fits = subst (λ (x : List ℕ). image_size (length x) (length s.update) ≤ flash_limit) is fits.0 } in
+    boot_falls_back device plan s.update b t cause (record { image = holds; boot = record { last = boot.last; older = boot.older; leads = subst (λ (x : List ℕ). LeadsToEnd device x (boot.last ∷ boot.older) b.end) text boot.leads; attempts = boot.attempts; device = boot.device } }) fails
+
+image_promised : (known : Known) (golden update : List ℕ) (s : Result ImageStreams Event) (answer : Answer) → image_streams known golden update ≡ s → and_so s (image_by update 1) ≡ Ok answer → PromisesImage known golden update answer.text
+image_promised known golden update (Err event) answer e h = absurd (cc)
+image_promised known golden update (Ok s) answer e h = record { streams = s; read = e; falls_back = λ device part unit. image_falls update 1 s device answer part unit h }
+
+image_for_promised : (known : Known) (part golden update : List ℕ) (p : Result PartData Event) (s : Result ImageStreams Event) (answer : Answer) → part_of known part ≡ p → image_streams known golden update ≡ s
+    → and_so p (λ p. and_so s (image_by update p.start_unit)) ≡ Ok answer → PromisesImageFor known part golden update answer.text
+image_for_promised known part golden update (Err event) s answer e f h = absurd (cc)
+image_for_promised known part golden update (Ok p) (Err event) answer e f h = absurd (cc)
+image_for_promised known part golden update (Ok p) (Ok s) answer e f h = record { device = p; streams = s; part_read = e; read = f; falls_back = image_falls update p.start_unit s p answer (part_is known part p e) refl h }
+
+pub promised : (known : Known) (form : Asked) (answer : Answer) → Gives known form (Ok answer) → PromiseOf known form answer
+promised known (PlanningFull part frames) answer a = full_promised known part frames (plan_texts known part frames) answer refl a
+promised known (PlanningPartial part frames) answer a = partial_promised known part frames (plan_texts known part frames) answer refl a
+promised known (PlanningRead part far n) answer a = read_promised known part far n (part_of known part) answer refl a
+promised known (Generating part seed) answer a = summary_promised known part seed (part_of known part) answer refl a
+promised known (Playing part streams) answer a = play_promised known part streams (part_of known part) (data_of known stream_limit streams) answer refl refl a
+promised known (Imaging golden update) answer a = image_promised known golden update (image_streams known golden update) answer refl a
+promised known (ImagingFor part golden update) answer a = image_for_promised known part golden update (part_of known part) (image_streams known golden update) answer refl refl a
+promised known (Booting part flash) answer a = start_promised known part flash (part_of known part) answer refl a
+promised known form answer a = tt

@@ -1,43 +1,42 @@
 -- How far `list` reads ahead of what it writes (this project's choice).
-use Rattle.std.specs.Prelude.{◌≡◌, ℕ, ◌+◌, ◌≤◌, List, length, Option, Some, Err}
-use Rattle.x7_words.specs.Sink.{appended}
+use Rattle.std.specs.Prelude.{◌≡◌, ℕ, ◌+◌, ◌≤◌, List, length, Option, None, Some, Err}
+use Rattle.x7_words.specs.Sink.{SinkState, appended}
 use Rattle.x7_listing.specs.StreamListing.{stream_listing}
-use Rattle.x7_forms.specs.Form.{Asked, Listing}
+use Rattle.x7_forms.specs.Form.{Asked, listed_by}
 use Rattle.x7_forms.specs.declared.status.Status.{Status}
 use Rattle.x7_forms.specs.declared.status.Status.TheVariants as status
+use Rattle.x7_tool.specs.Outside.{Outside}
 
 -- the most bytes of a stream that are read and not yet written
 abbrev pub most_ahead : ℕ
 most_ahead = 524288
 
 -- where the stream, what is left of it, and what the sink got are told, the bytes read are at most so many more than the sink got
-abbrev pub IsNear : Option (List ℕ → Option (List ℕ)) → List ℕ → Option (List ℕ) → Option (List ℕ) → Option (List ℕ) → Type 0
-IsNear contents stream rest old new =
-    (inputs : List ℕ → Option (List ℕ)) (bytes left before after : List ℕ) → contents ≡ Some inputs → inputs stream ≡ Some bytes → rest ≡ Some left → old ≡ Some before → new ≡ Some after
-    → length bytes + length before ≤ length left + length after + most_ahead
-
--- the same of the stream of `list`; other forms write at the end
-abbrev pub NearFor : Option Asked → Option (List ℕ → Option (List ℕ)) → Option (List ℕ) → Option (List ℕ) → Option (List ℕ) → Type 0
-NearFor (Some (Listing stream)) contents rest old new = IsNear contents stream rest old new
-NearFor form contents rest old new = Unit {0}
+abbrev pub IsNear : List ℕ → Outside → Outside → Type 0
+IsNear stream old new =
+    (inputs : List ℕ → Option (List ℕ)) (bytes left before after : List ℕ) → old.inputs.contents ≡ Some inputs → inputs stream ≡ Some bytes → new.inputs.rest ≡ Some left
+    → old.out.written ≡ Some before → new.out.written ≡ Some after → length bytes + length before ≤ length left + length after + most_ahead
 
 -- where the stream and what is left of it are told, and its header is refused at a byte, no byte behind that one was read
-abbrev pub IsSoon : Option (List ℕ → Option (List ℕ)) → List ℕ → Option (List ℕ) → Type 0
-IsSoon contents stream rest =
-    (inputs : List ℕ → Option (List ℕ)) (bytes left : List ℕ) (place : ℕ) → contents ≡ Some inputs → inputs stream ≡ Some bytes → rest ≡ Some left → stream_listing bytes ≡ Err place
+abbrev pub IsSoon : List ℕ → Outside → Outside → Type 0
+IsSoon stream old new =
+    (inputs : List ℕ → Option (List ℕ)) (bytes left : List ℕ) (place : ℕ) → old.inputs.contents ≡ Some inputs → inputs stream ≡ Some bytes → new.inputs.rest ≡ Some left → stream_listing bytes ≡ Err place
     → length bytes ≤ length left + (place + 1)
 
--- the same of the stream of `list`; other forms read each input whole
-abbrev pub SoonFor : Option Asked → Option (List ℕ → Option (List ℕ)) → Option (List ℕ) → Type 0
-SoonFor (Some (Listing stream)) contents rest = IsSoon contents stream rest
-SoonFor form contents rest = Unit {0}
+-- where the sink failed, or the header of a stream was refused, no more of it was read
+abbrev pub StaysNearBy : Status → List ℕ → Outside → Outside → Type 0
+StaysNearBy status.WriteFault stream old new = IsNear stream old new
+StaysNearBy status.BadInput stream old new = IsSoon stream old new
+StaysNearBy s stream old new = Unit {0}
 
--- where the sink failed, or a header was refused, no more was read
-abbrev pub StaysNear : Status → Option Asked → Option (List ℕ → Option (List ℕ)) → Option (List ℕ) → Option (List ℕ) → Option (List ℕ) → Type 0
-StaysNear status.WriteFault form contents rest old new = NearFor form contents rest old new
-StaysNear status.BadInput form contents rest old new = SoonFor form contents rest
-StaysNear s form contents rest old new = Unit {0}
+-- the same of the stream that a form lists; other forms read each input whole, and write at the end
+abbrev pub StaysNearIn : Status → Option (List ℕ) → Outside → Outside → Type 0
+StaysNearIn s None old new = Unit {0}
+StaysNearIn s (Some stream) old new = StaysNearBy s stream old new
+
+abbrev pub StaysNear : Status → Option Asked → Outside → Outside → Type 0
+StaysNear s form old new = StaysNearIn s (listed_by form) old new
 
 -- what the sink has begins with what it had
-abbrev pub IsLonger : Option (List ℕ) → Option (List ℕ) → Type 0
-IsLonger old new = (more : List ℕ) × (new ≡ appended old more)
+abbrev pub IsLonger : SinkState → SinkState → Type 0
+IsLonger old new = (more : List ℕ) × (new.written ≡ appended old.written more)

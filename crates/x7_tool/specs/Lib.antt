@@ -3,6 +3,7 @@ pub mod BootText
 pub mod Debug
 pub mod Generated
 pub mod Outcome
+pub mod Outside
 pub mod Planned
 pub mod Promise
 pub mod Ready

@@ -37,10 +37,10 @@ use Rattle.x7_debug.specs.Script.{IsScriptOf}
 use Rattle.x7_debug.specs.Transcript.{final_position, transcript_of}
 use Rattle.x7_tool.specs.Generated.{gen_text}
 use Rattle.x7_forms.specs.declared.bad_input.InputFault.TheVariants as input
-use Rattle.x7_forms.specs.Event.{Event, bad_input, no_memory, read_fault, too_large, usage}
-use Rattle.x7_forms.specs.Form.{Asked, Assembling, Booting, Debugging, FromMcs, Imaging, Listing, PlanningFull, PlanningRead, Playing, ToMcs, PlanningPartial, Generating}
+use Rattle.x7_forms.specs.Event.{Event, bad_input, missing, no_memory, read_fault, too_large, usage}
+use Rattle.x7_forms.specs.Form.{Asked, Assembling, Booting, Debugging, FromMcs, Imaging, ImagingFor, Listing, PlanningFull, PlanningRead, Playing, ToMcs, PlanningPartial, Generating}
 use Rattle.x7_tool.specs.BootText.{boot_text}
-use Rattle.x7_forms.specs.Known.{Answer, Known, and_so, data_in, part_of, played, present, stream_limit, whole_in, with_inputs, within}
+use Rattle.x7_forms.specs.Known.{Absent, Answer, Broken, Found, Held, Known, and_so, data_in, part_of, played, stream_limit, whole_in, within}
 
 -- a listing, or the event of a header that is refused
 abbrev pub text_by : List ℕ → Result (List ℕ) ℕ → Result (List ℕ) Event
@@ -51,9 +51,15 @@ text_by name (Err place) = Err (bad_input name (input.Byte place))
 abbrev pub listed_bytes : List ℕ → List ℕ → Result Answer Event
 listed_bytes stream bytes = and_so (text_by stream (stream_listing bytes)) (λ text. and_so (within stream stream_limit bytes) (λ _. Ok (record { stopped = false; text = text })))
 
+-- the listing of what is found: a stream may be over its limit before it fails
+abbrev pub listed_found : List ℕ → Found → Result Answer Event
+listed_found stream (Held bytes) = listed_bytes stream bytes
+listed_found stream Absent = Err (missing stream)
+listed_found stream (Broken bytes) = and_so (within stream stream_limit bytes) (λ _. Err (read_fault stream))
+
 -- `list STREAM`: the listing of the stream, its header's line first
 abbrev pub listed : Known → List ℕ → Result Answer Event
-listed known stream = and_so (present stream (known.inputs stream)) (listed_bytes stream)
+listed known stream = listed_found stream (known.inputs stream)
 
 -- ---- texts that stand for bytes
 
@@ -192,15 +198,28 @@ DebuggedAs name (Ok d) (Err event) = (fault : ScriptFault) × (IsScriptOf d.scri
 
 -- ---- images
 
--- the image of two streams for a part, where it is no larger than a flash may be
-abbrev pub image_for : List ℕ → PartData → List ℕ → List ℕ → Result Answer Event
-image_for name part golden update =
-    if nat_lt flash_limit (image_size (length golden) (length update)) then Err (bad_input name input.Image)
-    else Ok (record { stopped = false; text = image_of part.start_unit golden update })
+-- the data of a golden and of an update stream
+pub record ImageStreams : Type 0 where
+  pub golden : List ℕ
+  pub update : List ℕ
 
--- `image PART GOLDEN UPDATE`: the flash image of both streams' data
-abbrev pub imaged : Known → List ℕ → List ℕ → List ℕ → Result Answer Event
-imaged known part golden update = and_so (part_of known part) (λ p. and_so (stream_data known golden) (λ g. and_so (stream_data known update) (λ u. image_for update p g u)))
+-- both are read in this order, each with the limit of a stream of its own
+abbrev pub image_streams : Known → List ℕ → List ℕ → Result ImageStreams Event
+image_streams known golden update = and_so (stream_data known golden) (λ g. and_so (stream_data known update) (λ u. Ok (record { golden = g; update = u })))
+
+-- the image of both, for parts of which one step of the start address stands for so many bytes, where it is no larger than a flash may be
+abbrev pub image_by : List ℕ → ℕ → ImageStreams → Result Answer Event
+image_by name unit s =
+    if nat_lt flash_limit (image_size (length s.golden) (length s.update)) then Err (bad_input name input.Image)
+    else Ok (record { stopped = false; text = image_of unit s.golden s.update })
+
+-- `image GOLDEN UPDATE`: the flash image of both streams' data, for parts whose start address counts bytes
+abbrev pub imaged : Known → List ℕ → List ℕ → Result Answer Event
+imaged known golden update = and_so (image_streams known golden update) (image_by update 1)
+
+-- `image PART GOLDEN UPDATE`: the same for a part
+abbrev pub imaged_for : Known → List ℕ → List ℕ → List ℕ → Result Answer Event
+imaged_for known part golden update = and_so (part_of known part) (λ p. and_so (image_streams known golden update) (image_by update p.start_unit))
 
 -- ---- boots
 
@@ -220,14 +239,16 @@ pub record BootsAs (part : PartData) (flash : List ℕ) (answer : Answer) : Type
   pub text : answer.text ≡ boot_text part (reverse (map tried (last ∷ older))) end last
 
 -- the boot of a part from a flash of this name, which is no larger than a flash may be; where its bytes aren't known, of any
-abbrev pub FlashBoots : List ℕ → PartData → Option (List ℕ) → Result Answer Event → Type 0
+abbrev pub FlashBoots : List ℕ → PartData → Option Found → Result Answer Event → Type 0
 FlashBoots name part None (Ok answer) = Unit {0}
 FlashBoots name part None (Err event) = event ≡ too_large name
-FlashBoots name part (Some flash) (Ok answer) = (length flash ≤ flash_limit) × (AreBytes flash → BootsAs part flash answer)
-FlashBoots name part (Some flash) (Err event) = (flash_limit < length flash) × (event ≡ too_large name)
+FlashBoots name part (Some (Held flash)) (Ok answer) = (length flash ≤ flash_limit) × (AreBytes flash → BootsAs part flash answer)
+FlashBoots name part (Some (Held flash)) (Err event) = (flash_limit < length flash) × (event ≡ too_large name)
+FlashBoots name part (Some Absent) end = end ≡ Err (missing name)
+FlashBoots name part (Some (Broken bytes)) end = end ≡ Err (read_fault name)
 
 -- `boot PART FLASH`: the boot of the part from the flash
-abbrev pub BootedAs : List ℕ → Result PartData Event → Option (List ℕ) → Result Answer Event → Type 0
+abbrev pub BootedAs : List ℕ → Result PartData Event → Option Found → Result Answer Event → Type 0
 BootedAs name (Err event) flash end = Err event ≡ end
 BootedAs name (Ok part) flash end = FlashBoots name part flash end
 
@@ -248,15 +269,12 @@ Gives known (PlanningFull part frames) end = PlannedFull frames (plan_texts know
 Gives known (PlanningPartial part frames) end = PlannedPartial frames (plan_texts known part frames) end
 Gives known (PlanningRead part far n) end = PlannedRead part far n (part_of known part) end
 Gives known (Generating part seed) end = gen_made known part seed ≡ end
-Gives known (Imaging part golden update) end = imaged known part golden update ≡ end
+Gives known (Imaging golden update) end = imaged known golden update ≡ end
+Gives known (ImagingFor part golden update) end = imaged_for known part golden update ≡ end
 Gives known (Debugging part stream script) end = DebuggedAs script (debug_inputs known part stream script) end
-Gives known (Booting part flash) end = BootedAs flash (part_of known part) known.flash end
+Gives known (Booting part flash) end = BootedAs flash (part_of known part) (known.flash flash) end
 
 -- the words come to this end: words without a form are a wrong usage
 abbrev pub IsOutcome : Known → Option Asked → Result Answer Event → Type 0
 IsOutcome known None end = Err usage ≡ end
 IsOutcome known (Some form) end = Gives known form end
-
--- what is known of all that a form reads: the flash's bytes only where they are told
-abbrev pub known_of : Option Asked → Option (List ℕ → Option (List ℕ)) → Option (List ℕ) → Option Known
-known_of form inputs flash = with_inputs inputs flash

@@ -1,25 +1,26 @@
 -- What a planned stream that was written does on a device at rest, and what a boot that started has been through (this project's choice).
-use Rattle.std.specs.Prelude.{◌≡◌, ℕ, List, false, Option, Some, Result, Ok}
+use Rattle.std.specs.Prelude.{◌≡◌, ◌<◌, ℕ, List, [], ◌∷◌, map, reverse, false, Option, Some, Result, Ok}
 use Rattle.x7_words.specs.Word.{AreBytes}
 use Rattle.x7_part.specs.Part.{PartData}
+use Rattle.x7_part.specs.PartRange.{IsPart}
 use Rattle.x7_memory.specs.Planned.{IsPlanFor, PlanData}
 use Rattle.x7_frames.specs.FramesText.{IsPlanOf}
+use Rattle.x7_engine.specs.Kept.{on_the_bench}
+use Rattle.x7_engine.specs.State.{state_of}
 use Rattle.x7_engine.specs.declared.kept.Kept.{Kept}
 use Rattle.x7_engine.specs.Rest.{AtRest}
 use Rattle.x7_regs.specs.declared.boot_status.Cause.{Cause}
 use Rattle.x7_planner.specs.Full.{full_stream}
 use Rattle.x7_boot.specs.Attempt.{Trial}
+use Rattle.x7_boot.specs.Boot.{BootedState, IsBoot, end_state, tried}
 use Rattle.x7_boot.specs.Checked.{HasChecked}
 use Rattle.x7_boot.specs.ImageBoot.{FallsBack, HasImage, StartsUpdate, UpdateFails, golden_image}
-use Rattle.x7_boot.specs.declared.boots.BootEnd.{BootEnd}
-use Rattle.x7_boot.specs.declared.boots.Tried.{Tried}
 use Rattle.x7_effects.specs.Played.{PlaysFull, PlaysPartial, PlaysRead}
-use Rattle.x7_tool.specs.BootText.{boot_text}
 use Rattle.x7_forms.specs.Event.{Event}
-use Rattle.x7_tool.specs.Generated.{planned_summary}
-use Rattle.x7_forms.specs.Form.{Asked, Booting, Generating, PlanningFull, PlanningPartial, PlanningRead}
-use Rattle.x7_forms.specs.Known.{Answer, Known, part_of}
-use Rattle.x7_tool.specs.Outcome.{BootsAs, PlanTexts, plan_texts}
+use Rattle.x7_tool.specs.Generated.{generated, planned_summary}
+use Rattle.x7_forms.specs.Form.{Asked, Booting, Generating, Imaging, ImagingFor, PlanningFull, PlanningPartial, PlanningRead, Playing}
+use Rattle.x7_forms.specs.Known.{Answer, Held, Known, data_of, part_of, report_of, stream_limit}
+use Rattle.x7_tool.specs.Outcome.{BootsAs, ImageStreams, PlanTexts, image_streams, plan_texts}
 
 -- The stream of `plan full`: after any bytes at rest it leaves the plan of the frames text over zeros and ends startup, and the device is at rest again.
 pub record PromisesFull (known : Known) (part frames stream : List ℕ) : Type 0 where
@@ -43,54 +44,87 @@ pub record PromisesRead (known : Known) (part : List ℕ) (far n : ℕ) (stream 
   pub read : part_of known part ≡ Ok device
   pub plays : (kept : Kept) (bytes : List ℕ) → AreBytes bytes → AtRest device kept bytes → PlaysRead device kept bytes stream far n
 
--- The text of `gen`: the full stream of the seed's plan left the plan over zeros and ended startup.
+-- The text of `gen`: the full stream of the seed's plan, played on a new device, leaves the plan over zeros and ends startup, and the summary is that of such a play.
 pub record PromisesSummary (known : Known) (part : List ℕ) (seed : ℕ) (text : List ℕ) : Type 0 where
   pub device : PartData
   pub read : part_of known part ≡ Ok device
+  pub plays : PlaysFull device on_the_bench [] (full_stream device (generated device seed)) (generated device seed)
   pub played : text ≡ planned_summary device seed
 
--- a boot from a flash of these bytes; where it started, the last attempt made its checks
+-- The report of `play`: it is that of the streams' data, and startup has begun only where these made their checks.
+pub record PromisesPlayed (known : Known) (part : List ℕ) (streams : List (List ℕ)) (answer : Answer) : Type 0 where
+  pub device : PartData
+  pub bytes : List ℕ
+  pub read : part_of known part ≡ Ok device
+  pub joined : data_of known stream_limit streams ≡ Ok bytes
+  pub report : answer ≡ report_of device bytes
+  pub checked : AreBytes bytes → 0 < (state_of device on_the_bench false bytes).phase → HasChecked device on_the_bench bytes
+
+-- a boot from these bytes falls back to the full stream of a plan, which is the golden stream, where the update fails and CTL0 allows it
+abbrev pub FallsBackFrom : PartData → ImageStreams → List ℕ → Type 0
+FallsBackFrom device s image =
+    (plan : PlanData) (b : BootedState) (t : Trial) (cause : Cause) → s.golden ≡ full_stream device plan → IsPlanFor device plan → (is : IsBoot device image b)
+    → UpdateFails device plan s.update t cause false → FallsBack device plan cause b.attempts b.end is.last
+
+-- The bytes of `image GOLDEN UPDATE`: a boot of any part whose start address counts bytes falls back where the update fails.
+pub record PromisesImage (known : Known) (golden update image : List ℕ) : Type 0 where
+  pub streams : ImageStreams
+  pub read : image_streams known golden update ≡ Ok streams
+  pub falls_back : (device : PartData) → IsPart device → device.start_unit ≡ 1 → FallsBackFrom device streams image
+
+-- The bytes of `image PART GOLDEN UPDATE`: a boot of the part falls back where the update fails.
+pub record PromisesImageFor (known : Known) (part golden update image : List ℕ) : Type 0 where
+  pub device : PartData
+  pub streams : ImageStreams
+  pub part_read : part_of known part ≡ Ok device
+  pub read : image_streams known golden update ≡ Ok streams
+  pub falls_back : FallsBackFrom device streams image
+
+-- a boot from a flash of these bytes; startup has begun in its last attempt only where that made its checks, also where it didn't start
 pub record StartsChecked (part : PartData) (flash : List ℕ) (answer : Answer) : Type 0 where
   pub boot : BootsAs part flash answer
-  pub checked : answer.stopped ≡ false → HasChecked part boot.last.kept boot.last.bytes
+  pub checked : 0 < (end_state part boot.last).phase → HasChecked part boot.last.kept boot.last.bytes
+  pub started : answer.stopped ≡ false → HasChecked part boot.last.kept boot.last.bytes
 
--- the flash is known to be the image of a golden plan's stream and an update
-pub record HoldsImage (known : Known) (part : PartData) (golden : PlanData) (update : List ℕ) : Type 0 where
-  pub told : known.flash ≡ Some (golden_image part golden update)
+-- the flash of this name is known to be the image of a golden plan's stream and an update
+pub record HoldsImage (known : Known) (flash : List ℕ) (part : PartData) (golden : PlanData) (update : List ℕ) : Type 0 where
+  pub told : known.flash flash ≡ Some (Held (golden_image part golden update))
   pub image : HasImage part golden update
   pub bytes : AreBytes update
 
--- the text of a boot that falls back to the golden stream and starts, with the memory of its plan and this cause in BOOTSTS
-pub record FallsBackAs (part : PartData) (golden : PlanData) (cause : Cause) (answer : Answer) : Type 0 where
-  pub attempts : List Tried
-  pub end : BootEnd
-  pub last : Trial
-  pub falls_back : FallsBack part golden cause attempts end last
-  pub text : answer.text ≡ boot_text part attempts end last
+-- a boot from the image of a golden plan and an update falls back to the golden stream and starts, with the memory of its plan and this cause in BOOTSTS
+pub record FallsBackAs (part : PartData) (golden : PlanData) (update : List ℕ) (cause : Cause) (answer : Answer) : Type 0 where
+  pub boot : BootsAs part (golden_image part golden update) answer
+  pub falls_back : FallsBack part golden cause (reverse (map tried (boot.last ∷ boot.older))) boot.end boot.last
   pub started : answer.stopped ≡ false
 
--- the text of a boot that starts with an update, with the memory of its plan
+-- a boot from the image of a golden plan and an update that is a full stream starts with the update, with the memory of its plan
 pub record StartsUpdateAs (part : PartData) (golden update : PlanData) (answer : Answer) : Type 0 where
-  pub attempts : List Tried
-  pub end : BootEnd
-  pub last : Trial
-  pub starts : StartsUpdate part golden update attempts end last
-  pub text : answer.text ≡ boot_text part attempts end last
+  pub boot : BootsAs part (golden_image part golden (full_stream part update)) answer
+  pub starts : StartsUpdate part golden update (reverse (map tried (boot.last ∷ boot.older))) boot.end boot.last
   pub started : answer.stopped ≡ false
 
--- The text of `boot`: over a flash that tells its bytes it tells of a start only where the last attempt made its checks. Over an image whose update fails it tells of the fallback and its start, where CTL0 allows that, and of the start of an update that is a full stream.
-pub record PromisesStart (known : Known) (part : List ℕ) (answer : Answer) : Type 0 where
+-- The text of `boot`: over a flash that tells its bytes startup has begun in the last attempt only where that made its checks. Over an image whose update fails it tells of the fallback and its start, where CTL0 allows that, and of the start of an update that is a full stream.
+pub record PromisesStart (known : Known) (part flash : List ℕ) (answer : Answer) : Type 0 where
   pub device : PartData
   pub read : part_of known part ≡ Ok device
-  pub starts : (flash : List ℕ) → known.flash ≡ Some flash → AreBytes flash → StartsChecked device flash answer
-  pub falls_back : (golden : PlanData) (update : List ℕ) (t : Trial) (cause : Cause) → HoldsImage known device golden update → UpdateFails device golden update t cause false → FallsBackAs device golden cause answer
-  pub full : (golden update : PlanData) → HoldsImage known device golden (full_stream device update) → IsPlanFor device update → StartsUpdateAs device golden update answer
+  pub starts : (all : List ℕ) → known.flash flash ≡ Some (Held all) → AreBytes all → StartsChecked device all answer
+  pub falls_back : (golden : PlanData) (update : List ℕ) (t : Trial) (cause : Cause) → HoldsImage known flash device golden update → UpdateFails device golden update t cause false → FallsBackAs device golden update cause answer
+  pub full : (golden update : PlanData) → HoldsImage known flash device golden (full_stream device update) → IsPlanFor device update → StartsUpdateAs device golden update answer
+
+-- what a whole text of a form promises over what is known
+abbrev pub PromiseOf : Known → Asked → Answer → Type 0
+PromiseOf known (PlanningFull part frames) answer = PromisesFull known part frames answer.text
+PromiseOf known (PlanningPartial part frames) answer = PromisesPartial known part frames answer.text
+PromiseOf known (PlanningRead part far n) answer = PromisesRead known part far n answer.text
+PromiseOf known (Generating part seed) answer = PromisesSummary known part seed answer.text
+PromiseOf known (Playing part streams) answer = PromisesPlayed known part streams answer
+PromiseOf known (Imaging golden update) answer = PromisesImage known golden update answer.text
+PromiseOf known (ImagingFor part golden update) answer = PromisesImageFor known part golden update answer.text
+PromiseOf known (Booting part flash) answer = PromisesStart known part flash answer
+PromiseOf known form answer = Unit {0}
 
 -- what a whole text promises where all that its form needs is known
 abbrev pub Promise : Option Known → Option Asked → Result Answer Event → Type 0
-Promise (Some known) (Some (PlanningFull part frames)) (Ok answer) = PromisesFull known part frames answer.text
-Promise (Some known) (Some (PlanningPartial part frames)) (Ok answer) = PromisesPartial known part frames answer.text
-Promise (Some known) (Some (PlanningRead part far n)) (Ok answer) = PromisesRead known part far n answer.text
-Promise (Some known) (Some (Generating part seed)) (Ok answer) = PromisesSummary known part seed answer.text
-Promise (Some known) (Some (Booting part flash)) (Ok answer) = PromisesStart known part answer
+Promise (Some known) (Some form) (Ok answer) = PromiseOf known form answer
 Promise known form end = Unit {0}

@@ -1,98 +1,141 @@
--- What may end a command, and what the outside holds then (this project's choice).
-use Rattle.std.specs.Prelude.{◌≡◌, ℕ, List, [], ◌++◌, Option, None, Some, Result, Ok, Err, Bool, unwrap_or, ◌⊎◌}
+-- What may end a command, and what its output holds then (this project's choice).
+use Rattle.std.specs.Prelude.{◌≡◌, ℕ, List, [], ◌∷◌, ◌++◌, Option, None, Some, Result, Ok, Err, Bool, ◌⊎◌}
+use Rattle.x7_words.specs.Flash.{FlashState}
+use Rattle.x7_words.specs.Sink.{PutsAll, PutsSome, SinkFails, SinkState, Tells}
 use Rattle.x7_words.specs.Word.{AreBytes}
-use Rattle.x7_words.specs.Count.{HasRisen}
-use Rattle.x7_words.specs.Sink.{SinkState, appended, PutsFront, Tells}
 use Rattle.x7_listing.specs.StreamListing.{stream_listing}
 use Rattle.x7_forms.specs.declared.refusal.Why.{Why}
 use Rattle.x7_forms.specs.declared.refusal.Why.TheVariants as why
-use Rattle.x7_forms.specs.Event.{Event, Cause, Break, cause_of, line_of, missing, read_fault, usage, write_fault}
-use Rattle.x7_forms.specs.Form.{Asked, Listing, flash_names, names_of}
-use Rattle.x7_forms.specs.Known.{Answer, Known}
-use Rattle.x7_tool.specs.Outcome.{Gives, IsOutcome}
-use Rattle.x7_forms.specs.Step.{IsCausedBy, RisesFor}
+use Rattle.x7_forms.specs.Event.{Event, Cause, Wording, Want, Fault, Absence, Break, Contents, cause_of, line_of, missing, no_memory, read_fault, usage, write_fault}
+use Rattle.x7_forms.specs.Form.{Asked, listed_by}
+use Rattle.x7_forms.specs.Known.{Answer, Failing, Held, Known, Lacking, Mishap, bytes_found, flash_found, with_mishap}
+use Rattle.x7_part.specs.Part.{PartData}
+use Rattle.x7_forms.specs.Message.{final_status}
+use Rattle.x7_forms.specs.Step.{IsCausedBy}
+use Rattle.x7_tool.specs.Ahead.{StaysNear}
+use Rattle.x7_tool.specs.Outcome.{FlashBoots, Gives}
+use Rattle.x7_tool.specs.Outside.{Fails, FlashFailsAmong, FlashLacksAmong, Lacks, Outside, known_in}
 
--- the name is that of an input of the form, whose count rose, or of its flash, whose own count rose
-abbrev pub RisesIn : Option Asked → ℕ → ℕ → ℕ → ℕ → List ℕ → Type 0
-RisesIn form inputs inputs_now flash flash_now name = RisesFor (names_of form) inputs inputs_now name ⊎ RisesFor (flash_names form) flash flash_now name
+-- ---- why
 
--- a flash was not attached: its name isn't there, or the flash failed
-abbrev pub IsUnattached : List ℕ → ℕ → ℕ → ℕ → ℕ → Event → Type 0
-IsUnattached name faults faults_now absences absences_now event = ((event ≡ missing name) × HasRisen absences absences_now) ⊎ ((event ≡ read_fault name) × HasRisen faults faults_now)
+-- the contents are known, and the form comes to this end
+abbrev pub Shows : Option Known → Asked → Result Answer Event → Type 0
+Shows None form end = ⊥
+Shows (Some known) form end = Gives known form end
 
--- ---- a whole command
+-- where the contents are known, the form comes to this end
+abbrev pub Agrees : Option Known → Asked → Result Answer Event → Type 0
+Agrees None form end = Unit {0}
+Agrees (Some known) form end = Gives known form end
 
--- what a whole command may come to: no form is a wrong usage, and a form comes to what is due
-abbrev pub Comes : Option Known → (List ℕ → Type 0) → (List ℕ → Type 0) → Option Asked → Result Answer Event → Type 0
-Comes known Fails Lacks None got = Err usage ≡ got
-Comes known Fails Lacks (Some form) got = IsCausedBy known Fails Lacks (λ t end. Gives t form end) got
+-- where the contents are known, the form comes to this event over them with this mishap
+abbrev pub Happens : Option Known → Mishap → Asked → Event → Type 0
+Happens None mishap form event = Unit {0}
+Happens (Some known) mishap form event = Gives (with_mishap mishap known) form (Err event)
+
+-- what a cause says of an event: a fault, or an absence by its count, comes of a name behind which nothing else came before
+abbrev pub CausedBy : Cause → Asked → Outside → Outside → Event → Type 0
+CausedBy Wording form old new event = ⊥
+CausedBy Want form old new event = event ≡ no_memory
+CausedBy Fault form old new event = Fails (Some form) old new event.concerned × Happens (known_in old) (Failing event.concerned new.inputs.given) form event
+CausedBy Absence form old new event = (Lacks (Some form) old new event.concerned × Happens (known_in old) (Lacking event.concerned) form event) ⊎ Shows (known_in old) form (Err event)
+CausedBy Break form old new event = (event ≡ write_fault) × SinkFails old.out new.out
+CausedBy Contents form old new event = Agrees (known_in old) form (Err event)
+
+-- why a command ended so: words without a form are a wrong usage, a whole text is that of the known contents, and an event has its cause
+abbrev pub HasCause : Option Asked → Outside → Outside → Result Answer Event → Type 0
+HasCause None old new end = end ≡ Err usage
+HasCause (Some form) old new (Ok answer) = Agrees (known_in old) form (Ok answer)
+HasCause (Some form) old new (Err event) = CausedBy (cause_of event) form old new event
+
+-- ---- what the output got
 
 -- the bytes are a prefix of the input of this name, where it is known; of one that isn't there, none
 abbrev pub IsPrefixOf : Option Known → List ℕ → List ℕ → Type 0
 IsPrefixOf None name bytes = Unit {0}
-IsPrefixOf (Some known) name bytes = (rest : List ℕ) × (unwrap_or (known.inputs name) [] ≡ bytes ++ rest)
+IsPrefixOf (Some known) name bytes = (rest : List ℕ) × (bytes_found (known.inputs name) ≡ bytes ++ rest)
 
 -- the sink got a prefix of the listing of a stream of these bytes
-abbrev pub PutsListing : List ℕ → Option (List ℕ) → Option (List ℕ) → Type 0
-PutsListing bytes old new = (text : List ℕ) × ((stream_listing bytes ≡ Ok text) × PutsFront old text new)
+abbrev pub PutsListing : List ℕ → SinkState → SinkState → Type 0
+PutsListing bytes old new = (text : List ℕ) × ((stream_listing bytes ≡ Ok text) × PutsSome old text new)
 
--- the sink got a prefix of the listing of bytes that are a prefix of the stream
-abbrev pub ListsPrefix : Option Known → List ℕ → Option (List ℕ) → Option (List ℕ) → Type 0
-ListsPrefix known stream old new = (bytes : List ℕ) × (IsPrefixOf known stream bytes × PutsListing bytes old new)
+-- the output got a prefix of the listing of bytes that are a prefix of the stream
+abbrev pub ListsPrefix : List ℕ → Outside → Outside → Type 0
+ListsPrefix stream old new = (bytes : List ℕ) × (IsPrefixOf (known_in old) stream bytes × PutsListing bytes old.out new.out)
 
 -- what `list` wrote where a reason ended it: what it had listed as it read, or nothing where the reason comes before the listing
-abbrev pub ListLeaves : Why → Option Known → List ℕ → Option (List ℕ) → Option (List ℕ) → Type 0
-ListLeaves why.ReadFault known stream old new = ListsPrefix known stream old new
-ListLeaves why.TooLarge known stream old new = ListsPrefix known stream old new
-ListLeaves why.NoMemory known stream old new = ListsPrefix known stream old new
-ListLeaves _ known stream old new = new ≡ old
+abbrev pub ListLeaves : Why → List ℕ → Outside → Outside → Type 0
+ListLeaves why.ReadFault stream old new = ListsPrefix stream old new
+ListLeaves why.TooLarge stream old new = ListsPrefix stream old new
+ListLeaves why.NoMemory stream old new = ListsPrefix stream old new
+ListLeaves _ stream old new = new.out.written ≡ old.out.written
 
--- what the sink got where an event other than its own failure ended the command: nothing, save from `list`
-abbrev pub Leaves : Option Known → Option Asked → Event → Option (List ℕ) → Option (List ℕ) → Type 0
-Leaves known (Some (Listing stream)) event old new = ListLeaves event.reason known stream old new
-Leaves known form event old new = new ≡ old
+-- what the output got where an event other than its own failure ended the command: nothing, save from a listing
+abbrev pub LeavesBy : Option (List ℕ) → Event → Outside → Outside → Type 0
+LeavesBy (Some stream) event old new = ListLeaves event.reason stream old new
+LeavesBy None event old new = new.out.written ≡ old.out.written
 
--- the sink got a prefix of the whole text of the form; that of `list`, whether or not the stream is within its limit
-abbrev pub GetsPrefix : Option Known → Option Asked → Option (List ℕ) → Option (List ℕ) → Type 0
-GetsPrefix known None old new = ⊥
-GetsPrefix None (Some form) old new = (text : List ℕ) × PutsFront old text new
-GetsPrefix (Some known) (Some (Listing stream)) old new = (bytes : List ℕ) × ((known.inputs stream ≡ Some bytes) × (AreBytes bytes → PutsListing bytes old new))
-GetsPrefix (Some known) (Some form) old new = (answer : Answer) × (Gives known form (Ok answer) × PutsFront old answer.text new)
+-- the sink got a prefix of the listing of a stream that is known, whether or not it is within its limit
+abbrev pub ListsSome : Known → List ℕ → SinkState → SinkState → Type 0
+ListsSome known stream old new = (bytes : List ℕ) × ((known.inputs stream ≡ Held bytes) × (AreBytes bytes → PutsListing bytes old new))
 
--- how an event ended the command, and what the sink got: a prefix of the text where the sink failed, or what the event leaves
-abbrev pub EndsBy : Cause → Option Known → (List ℕ → Type 0) → (List ℕ → Type 0) → Option Asked → Type 0 → Option (List ℕ) → Option (List ℕ) → Event → Type 0
-EndsBy Break known Fails Lacks form Full old new event = (event.concerned ≡ []) × Full × GetsPrefix known form old new
-EndsBy _ known Fails Lacks form Full old new event = Comes known Fails Lacks form (Err event) × Leaves known form event old new
+-- the sink got a prefix of the whole text of the form over what is known
+abbrev pub GetsSome : Known → Asked → SinkState → SinkState → Type 0
+GetsSome known form old new = (answer : Answer) × (Gives known form (Ok answer) × PutsSome old answer.text new)
 
--- how the command ended, and what the sink got
-abbrev pub Ends : Option Known → (List ℕ → Type 0) → (List ℕ → Type 0) → Option Asked → Type 0 → Option (List ℕ) → Option (List ℕ) → Result Answer Event → Type 0
-Ends known Fails Lacks form Full old new (Ok answer) = Comes known Fails Lacks form (Ok answer) × (new ≡ appended old answer.text)
-Ends known Fails Lacks form Full old new (Err event) = EndsBy (cause_of event) known Fails Lacks form Full old new event
+-- the sink got a prefix of the whole text: that of a listing, or of another form
+abbrev pub GetsBy : Option (List ℕ) → Known → Asked → SinkState → SinkState → Type 0
+GetsBy (Some stream) known form old new = ListsSome known stream old new
+GetsBy None known form old new = GetsSome known form old new
+
+-- where the contents are known the output got a prefix of the whole text, and else of some text
+abbrev pub GetsPrefix : Option Known → Asked → SinkState → SinkState → Type 0
+GetsPrefix None form old new = (text : List ℕ) × PutsSome old text new
+GetsPrefix (Some known) form old new = GetsBy (listed_by (Some form)) known form old new
+
+-- what the output got after an event of this cause
+abbrev pub LeftBy : Cause → Option Asked → Outside → Outside → Event → Type 0
+LeftBy Break (Some form) old new event = GetsPrefix (known_in old) form old.out new.out
+LeftBy _ form old new event = LeavesBy (listed_by form) event old new
+
+-- what the output got: the whole text, or what the event leaves of it
+abbrev pub Wrote : Option Asked → Outside → Outside → Result Answer Event → Type 0
+Wrote form old new (Ok answer) = PutsAll old.out answer.text new.out
+Wrote form old new (Err event) = LeftBy (cause_of event) form old new event
+
+-- ---- the end of a command
+
+-- how a command ended: why, what the output got, and how far was read
+pub record Ends (form : Option Asked) (old new : Outside) (end : Result Answer Event) : Type 0 where
+  pub cause : HasCause form old new end
+  pub wrote : Wrote form old new end
+  pub near : StaysNear (final_status end) form old new
+
+-- the same by whether what it wrote reports a fault
+abbrev pub EndsAs : Option Asked → Outside → Outside → Result Bool Event → Type 0
+EndsAs form old new (Ok stopped) = (text : List ℕ) × Ends form old new (Ok (record { stopped = stopped; text = text }))
+EndsAs form old new (Err event) = Ends form old new (Err event)
 
 -- what the sink of messages got: nothing after a whole text, and else the event's line, or a prefix of it where the sink failed
 abbrev pub Says : SinkState → SinkState → Result Answer Event → Type 0
 Says old new (Ok answer) = new.written ≡ old.written
 Says old new (Err event) = Tells old (line_of event) new
 
--- the contents are known, and this is their outcome
-abbrev pub Shows : Option Known → Option Asked → Result Answer Event → Type 0
-Shows None form end = ⊥
-Shows (Some known) form end = IsOutcome known form end
+-- how a text that is ready, or none, was written: whether it reports a fault, or the event
+abbrev pub Puts : Result Answer Event → SinkState → SinkState → Result Bool Event → Type 0
+Puts (Err event) old new got = (got ≡ Err event) × (new.written ≡ old.written)
+Puts (Ok answer) old new (Ok stopped) = (stopped ≡ answer.stopped) × PutsAll old answer.text new
+Puts (Ok answer) old new (Err event) = (event ≡ write_fault) × SinkFails old new × PutsSome old answer.text new
 
--- where the contents are known, this is their outcome
-abbrev pub Agrees : Option Known → Option Asked → Result Answer Event → Type 0
-Agrees None form end = Unit {0}
-Agrees (Some known) form end = IsOutcome known form end
+-- a text of the form that is ready has its cause: it is due by what is known, or what the form names failed or was missing
+abbrev pub AnswersOver : Asked → Outside → Outside → Result Answer Event → Type 0
+AnswersOver form old new got = IsCausedBy (known_in old) new.inputs.given (Fails (Some form) old new) (Lacks (Some form) old new) (λ known end. Gives known form end) got
 
--- ---- a text that is whole before it is written
+-- a flash was not attached: its name isn't there, or the flash failed
+abbrev pub IsUnattached : List ℕ → FlashState → FlashState → Event → Type 0
+IsUnattached name old new event = ((event ≡ missing name) × FlashLacksAmong (name ∷ []) old new name) ⊎ ((event ≡ read_fault name) × FlashFailsAmong (name ∷ []) old new name)
 
--- how a command that made a whole text, or none, wrote it: whether it reports a fault, or the event
-abbrev pub Puts : Result Answer Event → Type 0 → Option (List ℕ) → Option (List ℕ) → Result Bool Event → Type 0
-Puts (Err event) Full old new got = (got ≡ Err event) × (new ≡ old)
-Puts (Ok answer) Full old new (Ok stopped) = (stopped ≡ answer.stopped) × (new ≡ appended old answer.text)
-Puts (Ok answer) Full old new (Err event) = (event ≡ write_fault) × Full × PutsFront old answer.text new
-
--- how the command ended, by whether what it wrote reports a fault
-abbrev pub EndsAs : Option Known → (List ℕ → Type 0) → (List ℕ → Type 0) → Option Asked → Type 0 → Option (List ℕ) → Option (List ℕ) → Result Bool Event → Type 0
-EndsAs known Fails Lacks form Full old new (Ok stopped) = (text : List ℕ) × Ends known Fails Lacks form Full old new (Ok (record { stopped = stopped; text = text }))
-EndsAs known Fails Lacks form Full old new (Err event) = Ends known Fails Lacks form Full old new (Err event)
+-- what a boot from a flash of this name comes to: want of memory, a flash that was not attached or failed, or what its bytes give
+abbrev pub FlashComes : List ℕ → PartData → FlashState → FlashState → Result Answer Event → Type 0
+FlashComes name part old new (Ok answer) = FlashBoots name part (flash_found old.bytes) (Ok answer)
+FlashComes name part old new (Err event) = (event ≡ no_memory) ⊎ (IsUnattached name old new event ⊎ FlashBoots name part (flash_found old.bytes) (Err event))

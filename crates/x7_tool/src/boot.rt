@@ -1,6 +1,6 @@
 //! The command `boot`: which image a device starts from a flash, and why not another.
 ghost use Rattle.std.specs.Prelude.{◌≡◌, ◌++◌, ◌⊎◌, ◌≤◌, ℕ, List, [], ◌∷◌, Some, codes, decimal, length, IfErr, IfOk, OnOk, true};
-ghost use Rattle.x7_words.specs.Flash.{WhereTold};
+ghost use Rattle.x7_words.specs.Flash.{AsksFor, IsSized};
 ghost use Rattle.x7_text.specs.Digits.{hex_word};
 ghost use Rattle.x7_part.specs.Part.{PartData};
 ghost use Rattle.x7_boot.specs.Attempt.{IsDeviceOf, Trial};
@@ -10,11 +10,11 @@ ghost use Rattle.x7_tool.specs.BootText.{attempt_text, attempts_text, boot_end_t
 ghost use Rattle.x7_forms.specs.Form.{Booting};
 ghost use Rattle.x7_forms.specs.Event.{no_memory};
 ghost use Rattle.x7_forms.specs.Message.{event_of};
-ghost use Rattle.x7_tool.specs.Outcome.{BootsAs, FlashBoots, Gives, boot_event, has_failed};
-ghost use Rattle.x7_forms.specs.Known.{with_inputs};
+ghost use Rattle.x7_tool.specs.Outcome.{BootsAs, boot_event, has_failed};
 ghost use Rattle.x7_forms.specs.Play.{text_of_play};
-ghost use Rattle.x7_forms.specs.Step.{IsCausedBy, IsFree, RisesFor, seen};
-ghost use Rattle.x7_tool.specs.Run.{IsUnattached, RisesIn};
+ghost use Rattle.x7_forms.specs.Step.{seen};
+ghost use Rattle.x7_tool.specs.Outside.{Outside, ReadsFlash};
+ghost use Rattle.x7_tool.specs.Run.{AnswersOver, FlashComes, IsUnattached};
 
 use std::alloc::Global;
 use x7_boot::{BootEnd, BootFault, Booted, Ending, Tried};
@@ -206,11 +206,11 @@ fn refusal_of<'w>(name: &'w str, fault: BootFault) -> Refusal<'w>
 
 /// Attaches the flash of this name.
 fn attach<'w, F: Flash>(flash: &mut F, name: &'w str) -> Result<(), Refusal<'w>>
-    ensures attached { OnOk result (F.attached flash.new ≡ true) }
-    ensures err { IfErr result (λ r. IsUnattached name.now (F.faults flash.old) (F.faults flash.new) (F.absences flash.old) (F.absences flash.new) (event_of r)) }
-    ensures same { F.bytes flash.new ≡ F.bytes flash.old }
-    ensures told { WhereTold (F.bytes flash.new) (λ all. F.extent flash.new ≡ length all) }
-    ensures faults { F.faults flash.old ≤ F.faults flash.new }
+    ensures attached { OnOk result ((F.state flash.new).attached ≡ true) }
+    ensures err { IfErr result (λ r. IsUnattached name.now (F.state flash.old) (F.state flash.new) (event_of r)) }
+    ensures reads { ReadsFlash name.now (F.state flash.old) (F.state flash.new) }
+    ensures asks { AsksFor (F.state flash.old) name.now (F.state flash.new) }
+    ensures sized { IsSized (F.state flash.new) }
 {
     match flash.attach(name) {
         Ok(()) => Ok(()),
@@ -232,9 +232,8 @@ fn boot_from<'w, F: Flash>(
     flash: &mut F,
     name: &'w str,
 ) -> Result<PlayText, Refusal<'w>>
-    ensures due { IsFree (RisesFor (name.now ∷ []) (F.faults flash.old) (F.faults flash.new)) (RisesFor (name.now ∷ []) (F.absences flash.old) (F.absences flash.new)) (seen text_of_play result)
-        ⊎ FlashBoots name.now part.now (F.bytes flash.old) (seen text_of_play result) }
-    ensures same { F.bytes flash.new ≡ F.bytes flash.old }
+    ensures due { FlashComes name.now part.now (F.state flash.old) (F.state flash.new) (seen text_of_play result) }
+    ensures reads { ReadsFlash name.now (F.state flash.old) (F.state flash.new) }
 {
     match attach(flash, name) {
         Ok(()) => (),
@@ -254,10 +253,9 @@ pub(crate) fn boot<'w, I: Inputs, F: Flash>(
     part: &'w str,
     name: &'w str,
 ) -> Result<PlayText, Refusal<'w>>
-    ensures due { let form = Some (Booting part.now name.now) in IsCausedBy (with_inputs (I.state inputs.old).contents (F.bytes flash.old))
-        (RisesIn form (I.state inputs.old).faults (I.state inputs.new).faults (F.faults flash.old) (F.faults flash.new)) (RisesIn form (I.state inputs.old).absences (I.state inputs.new).absences (F.absences flash.old) (F.absences flash.new))
-        (λ known end. Gives known (Booting part.now name.now) end) (seen text_of_play result) }
-    ensures same { F.bytes flash.new ≡ F.bytes flash.old }
+    ensures due { (before after : Outside) → AnswersOver (Booting part.now name.now) (record before { inputs = I.state inputs.old; flash = F.state flash.old })
+        (record after { inputs = I.state inputs.new; flash = F.state flash.new }) (seen text_of_play result) }
+    ensures reads { ReadsFlash name.now (F.state flash.old) (F.state flash.new) }
 {
     match read_part(alloc, inputs, part) {
         Ok(part) => boot_from(alloc, &part, flash, name),

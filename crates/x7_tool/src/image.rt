@@ -1,12 +1,14 @@
 //! The command `image`: the flash image of a golden and an update stream.
 ghost use Rattle.std.specs.Prelude.{◌≡◌, ◌⊎◌, ◌≤◌, ℕ, [], ◌∷◌, Ok, Err, IfOk, IfErr, drop, length};
 ghost use Rattle.x7_forms.specs.Message.{event_of};
-ghost use Rattle.x7_forms.specs.Event.{no_memory};
-ghost use Rattle.x7_tool.specs.Outcome.{image_for, imaged};
+ghost use Rattle.x7_forms.specs.Event.{bad_input, no_memory};
+ghost use Rattle.x7_forms.specs.declared.bad_input.InputFault.TheVariants as input;
+ghost use Rattle.x7_tool.specs.Outcome.{image_by, image_streams, imaged, imaged_for};
 ghost use Rattle.x7_tool.specs.Ready.{whole_of};
+ghost use Rattle.x7_tool.specs.Streamed.{streams_of};
 ghost use Rattle.x7_forms.specs.Step.{AnswersAs, seen};
 
-use crate::stream::read_stream;
+use crate::stream::{Stream, read_stream};
 use crate::text::Text;
 use std::alloc::Global;
 use x7_boot::ImageFault;
@@ -14,32 +16,106 @@ use x7_forms::{InputFault, Refusal, Why, read_part};
 use x7_part::Part;
 use x7_words::Inputs;
 
-/// The image of the data of two streams, of which the update has this name.
-fn image_text<'w>(
+/// A golden and an update stream that were read whole.
+#[derive(Drop)]
+pub(crate) struct Streams {
+    golden: Stream,
+    update: Stream,
+}
+
+/// Reads both in this order, each with the limit of a stream of its own.
+fn read_streams<'w, I: Inputs>(
+    alloc: Global,
+    inputs: &mut I,
+    golden: &'w str,
+    update: &'w str,
+) -> Result<Streams, Refusal<'w>>
+    ensures due { AnswersAs (golden.now ∷ update.now ∷ []) (I.state inputs.old) (I.state inputs.new)
+        (λ known. image_streams known golden.now update.now) (seen streams_of result) }
+    ensures golden { IfOk result (λ streams. streams.golden.start ≤ length streams.golden.bytes.items) }
+    ensures update { IfOk result (λ streams. streams.update.start ≤ length streams.update.bytes.items) }
+{
+    let golden = match read_stream(alloc, inputs, golden) {
+        Ok(stream) => stream,
+        Err(refusal) => return Err(refusal),
+    };
+    match read_stream(alloc, inputs, update) {
+        Ok(update) => Ok(Streams { golden, update }),
+        Err(refusal) => Err(refusal),
+    }
+}
+
+/// The update, which has this name, would end behind the largest flash.
+fn too_long<'w>(name: &'w str) -> Refusal<'w>
+    ensures { event_of result ≡ bad_input name.now input.Image }
+{
+    Refusal {
+        reason: Why::BadInput(InputFault::Image),
+        name,
+    }
+}
+
+/// The image of two streams for parts whose start address counts bytes.
+fn plain_text<'w>(alloc: Global, streams: &Streams, name: &'w str) -> Result<Text, Refusal<'w>>
+    requires golden { streams.now.golden.start ≤ length streams.now.golden.bytes.items }
+    requires update { streams.now.update.start ≤ length streams.now.update.bytes.items }
+    ensures ok { IfOk result (λ text. image_by name.now 1 (streams_of streams.now) ≡ Ok (whole_of text)) }
+    ensures err { IfErr result (λ r. (event_of r ≡ no_memory) ⊎ (image_by name.now 1 (streams_of streams.now) ≡ Err (event_of r))) }
+{
+    let golden = &streams.golden.bytes[streams.golden.start..];
+    let update = &streams.update.bytes[streams.update.start..];
+    match x7_boot::image(alloc, golden, update) {
+        Ok(text) => Ok(Text {
+            stopped: false,
+            text,
+        }),
+        Err(ImageFault::TooLong) => Err(too_long(name)),
+        Err(ImageFault::NoMemory) => Err(Refusal::unnamed(Why::NoMemory)),
+    }
+}
+
+/// The image of two streams for a part.
+fn part_text<'w>(
     alloc: Global,
     part: &Part,
-    golden: &[u8],
-    update: &[u8],
+    streams: &Streams,
     name: &'w str,
 ) -> Result<Text, Refusal<'w>>
-    ensures ok { IfOk result (λ text. image_for name.now part.now golden.now update.now ≡ Ok (whole_of text)) }
-    ensures err { IfErr result (λ r. (event_of r ≡ no_memory) ⊎ (image_for name.now part.now golden.now update.now ≡ Err (event_of r))) }
+    requires golden { streams.now.golden.start ≤ length streams.now.golden.bytes.items }
+    requires update { streams.now.update.start ≤ length streams.now.update.bytes.items }
+    ensures ok { IfOk result (λ text. image_by name.now part.now.start_unit (streams_of streams.now) ≡ Ok (whole_of text)) }
+    ensures err { IfErr result (λ r. (event_of r ≡ no_memory) ⊎ (image_by name.now part.now.start_unit (streams_of streams.now) ≡ Err (event_of r))) }
 {
+    let golden = &streams.golden.bytes[streams.golden.start..];
+    let update = &streams.update.bytes[streams.update.start..];
     match x7_boot::image_for(alloc, part, golden, update) {
         Ok(text) => Ok(Text {
             stopped: false,
             text,
         }),
-        Err(ImageFault::TooLong) => Err(Refusal {
-            reason: Why::BadInput(InputFault::Image),
-            name,
-        }),
+        Err(ImageFault::TooLong) => Err(too_long(name)),
         Err(ImageFault::NoMemory) => Err(Refusal::unnamed(Why::NoMemory)),
     }
 }
 
-/// The image of `image PART GOLDEN UPDATE`.
+/// The image of `image GOLDEN UPDATE`.
 pub(crate) fn image<'w, I: Inputs>(
+    alloc: Global,
+    inputs: &mut I,
+    golden: &'w str,
+    update: &'w str,
+) -> Result<Text, Refusal<'w>>
+    ensures { AnswersAs (golden.now ∷ update.now ∷ []) (I.state inputs.old) (I.state inputs.new)
+        (λ known. imaged known golden.now update.now) (seen whole_of result) }
+{
+    match read_streams(alloc, inputs, golden, update) {
+        Ok(streams) => plain_text(alloc, &streams, update),
+        Err(refusal) => Err(refusal),
+    }
+}
+
+/// The image of `image PART GOLDEN UPDATE`.
+pub(crate) fn image_for<'w, I: Inputs>(
     alloc: Global,
     inputs: &mut I,
     part: &'w str,
@@ -47,25 +123,14 @@ pub(crate) fn image<'w, I: Inputs>(
     update: &'w str,
 ) -> Result<Text, Refusal<'w>>
     ensures { AnswersAs (part.now ∷ golden.now ∷ update.now ∷ []) (I.state inputs.old) (I.state inputs.new)
-        (λ known. imaged known part.now golden.now update.now) (seen whole_of result) }
+        (λ known. imaged_for known part.now golden.now update.now) (seen whole_of result) }
 {
     let part = match read_part(alloc, inputs, part) {
         Ok(part) => part,
         Err(refusal) => return Err(refusal),
     };
-    let first = match read_stream(alloc, inputs, golden) {
-        Ok(stream) => stream,
-        Err(refusal) => return Err(refusal),
-    };
-    let second = match read_stream(alloc, inputs, update) {
-        Ok(stream) => stream,
-        Err(refusal) => return Err(refusal),
-    };
-    image_text(
-        alloc,
-        &part,
-        &first.bytes[first.start..],
-        &second.bytes[second.start..],
-        update,
-    )
+    match read_streams(alloc, inputs, golden, update) {
+        Ok(streams) => part_text(alloc, &part, &streams, update),
+        Err(refusal) => Err(refusal),
+    }
 }

@@ -3,14 +3,14 @@ ghost use Rattle.std.specs.Prelude.{◌≡◌, ℕ, List, [], ◌∷◌, ◌++�
 ghost use Rattle.x7_words.specs.Sink.{Counts, PutsFront, SinkFails, appended};
 ghost use Rattle.x7_words.specs.Word.{AreBytes};
 ghost use Rattle.x7_listing.specs.Listing.{listing_of};
-ghost use Rattle.x7_tool.specs.Ahead.{IsLonger, StaysNear};
+ghost use Rattle.x7_tool.specs.Ahead.{IsLonger};
 ghost use Rattle.x7_forms.specs.Form.{Listing};
 ghost use Rattle.x7_forms.specs.Message.{event_of};
-ghost use Rattle.x7_forms.specs.Event.{no_memory, status_of, write_fault};
+ghost use Rattle.x7_forms.specs.Event.{no_memory, write_fault};
 ghost use Rattle.x7_listing.specs.Telling.{ListerStandsFor};
-ghost use Rattle.x7_forms.specs.Known.{with_inputs};
-ghost use Rattle.x7_tool.specs.Run.{Ends};
-ghost use Rattle.x7_forms.specs.Step.{RisesFor};
+ghost use Rattle.x7_tool.specs.Outside.{Outside};
+ghost use Rattle.x7_tool.specs.Run.{EndsAs};
+ghost use Rattle.x7_forms.specs.Step.{seen};
 ghost use Rattle.x7_tool.specs.Turns.{Lists};
 
 use std::alloc::Global;
@@ -24,7 +24,7 @@ fn put_turn<'w, O: Sink>(lister: &mut Lister, out: &mut O, piece: &[u8]) -> Resu
     ensures err { IfErr result (λ r. (first : Option (List ℕ)) (bytes rest : List ℕ) → Lists lister.old first (O.state out.old).written bytes → AreBytes (bytes ++ (piece.now ++ rest)) → PutsFront first (listing_of (bytes ++ (piece.now ++ rest))) (O.state out.new).written) }
     ensures why { IfErr result (λ r. ((event_of r ≡ no_memory) × ((O.state out.new).written ≡ (O.state out.old).written)) ⊎ ((event_of r ≡ write_fault) × SinkFails (O.state out.old) (O.state out.new))) }
     ensures fits { AreBytes piece.now }
-    ensures longer { IsLonger (O.state out.old).written (O.state out.new).written }
+    ensures longer { IsLonger (O.state out.old) (O.state out.new) }
     ensures counts { Counts (O.state out.old) (O.state out.new) }
 {
     if lister.feed(piece).is_err() {
@@ -63,7 +63,7 @@ fn put_end<'w, O: Sink>(lister: &mut Lister, out: &mut O) -> Result<(), Refusal<
     ensures ok { OnOk result ((first : Option (List ℕ)) (bytes : List ℕ) → Lists lister.old first (O.state out.old).written bytes → (O.state out.new).written ≡ appended first (listing_of bytes)) }
     ensures err { IfErr result (λ r. (first : Option (List ℕ)) (bytes : List ℕ) → Lists lister.old first (O.state out.old).written bytes → PutsFront first (listing_of bytes) (O.state out.new).written) }
     ensures why { IfErr result (λ r. (event_of r ≡ no_memory) ⊎ ((event_of r ≡ write_fault) × SinkFails (O.state out.old) (O.state out.new))) }
-    ensures longer { IsLonger (O.state out.old).written (O.state out.new).written }
+    ensures longer { IsLonger (O.state out.old) (O.state out.new) }
 {
     if lister.finish().is_err() {
         return Err(Refusal::unnamed(Why::NoMemory));
@@ -81,9 +81,8 @@ pub(crate) fn list<'w, I: Inputs, O: Sink>(
     out: &mut O,
     stream: &'w str,
 ) -> Result<(), Refusal<'w>>
-    ensures ok { OnOk result ((flash : Option (List ℕ)) → (text : List ℕ) × Ends (with_inputs (I.state inputs.old).contents flash) (RisesFor (stream.now ∷ []) (I.state inputs.old).faults (I.state inputs.new).faults) (RisesFor (stream.now ∷ []) (I.state inputs.old).absences (I.state inputs.new).absences) (Some (Listing stream.now)) (SinkFails (O.state out.old) (O.state out.new)) (O.state out.old).written (O.state out.new).written (Ok (record { stopped = false; text = text }))) }
-    ensures err { IfErr result (λ r. (flash : Option (List ℕ)) → Ends (with_inputs (I.state inputs.old).contents flash) (RisesFor (stream.now ∷ []) (I.state inputs.old).faults (I.state inputs.new).faults) (RisesFor (stream.now ∷ []) (I.state inputs.old).absences (I.state inputs.new).absences) (Some (Listing stream.now)) (SinkFails (O.state out.old) (O.state out.new)) (O.state out.old).written (O.state out.new).written (Err (event_of r))) }
-    ensures near { IfErr result (λ r. StaysNear (status_of (event_of r)) (Some (Listing stream.now)) (I.state inputs.old).contents (I.state inputs.new).rest (O.state out.old).written (O.state out.new).written) }
+    ensures { (before after : Outside) → EndsAs (Some (Listing stream.now)) (record before { inputs = I.state inputs.old; out = O.state out.old })
+        (record after { inputs = I.state inputs.new; out = O.state out.new }) (seen (λ _. false) result) }
 {
     match open(inputs, stream) {
         Ok(()) => (),

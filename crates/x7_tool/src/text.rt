@@ -77,7 +77,7 @@ pub(crate) fn put_whole<'w, T: Ready + Drop, O: Sink>(
     whole: Result<T, Refusal<'w>>,
     out: &mut O,
 ) -> Result<bool, Refusal<'w>>
-    ensures { Puts (seen T.answer whole.entry) (SinkFails (O.state out.old) (O.state out.new)) (O.state out.old).written (O.state out.new).written (seen (λ stopped. stopped) result) }
+    ensures { Puts (seen T.answer whole.entry) (O.state out.old) (O.state out.new) (seen (λ stopped. stopped) result) }
 {
     let mut text = match whole {
         Ok(text) => text,

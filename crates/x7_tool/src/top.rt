@@ -1,21 +1,17 @@
 //! The top call.
-ghost use Rattle.std.specs.Prelude.{◌≡◌, map, string_bytes, IfErr, Result, false};
-ghost use Rattle.x7_words.specs.Sink.{SinkFails};
-ghost use Rattle.x7_forms.specs.Event.{Event, status_of};
-ghost use Rattle.x7_tool.specs.Ahead.{StaysNear};
-ghost use Rattle.x7_forms.specs.Form.{form_of, names_flash};
-ghost use Rattle.x7_forms.specs.Message.{event_of, final_status};
-ghost use Rattle.x7_forms.specs.Known.{Answer};
-ghost use Rattle.x7_tool.specs.Outcome.{known_of};
-ghost use Rattle.x7_tool.specs.Run.{Ends, EndsAs, RisesIn, Says};
+ghost use Rattle.std.specs.Prelude.{map, string_bytes};
+ghost use Rattle.x7_words.specs.Sink.{SinkState};
+ghost use Rattle.x7_forms.specs.Form.{flash_names, form_of};
 ghost use Rattle.x7_forms.specs.Step.{seen};
-ghost use Rattle.x7_tool.specs.Runs.{Runs};
+ghost use Rattle.x7_tool.specs.Outside.{KeepsFlash, outside};
+ghost use Rattle.x7_tool.specs.Run.{EndsAs};
+ghost use Rattle.x7_tool.specs.Runs.{RanAs, Runs};
 
 use crate::asm::asm;
 use crate::boot::boot;
 use crate::debug::debug;
 use crate::generate::generate;
-use crate::image::image;
+use crate::image::{image, image_for};
 use crate::list::list;
 use crate::mcs::{mcs, unmcs};
 use crate::plan::{plan_full, plan_partial, plan_read};
@@ -32,11 +28,9 @@ fn answer<'w, I: Inputs, O: Sink, F: Flash>(
     flash: &mut F,
     out: &mut O,
 ) -> Result<bool, Refusal<'w>>
-    ensures ends { let form = form_of (map string_bytes words.now.items) in EndsAs (known_of form (I.state inputs.old).contents (F.bytes flash.old)) (RisesIn form (I.state inputs.old).faults (I.state inputs.new).faults (F.faults flash.old) (F.faults flash.new)) (RisesIn form (I.state inputs.old).absences (I.state inputs.new).absences (F.absences flash.old) (F.absences flash.new)) form
-        (SinkFails (O.state out.old) (O.state out.new)) (O.state out.old).written (O.state out.new).written (seen (λ stopped. stopped) result) }
-    ensures near { IfErr result (λ r. StaysNear (status_of (event_of r)) (form_of (map string_bytes words.now.items)) (I.state inputs.old).contents (I.state inputs.new).rest (O.state out.old).written (O.state out.new).written) }
-    ensures flash { names_flash (form_of (map string_bytes words.now.items)) ≡ false → flash.new ≡ flash.old }
-    ensures same { F.bytes flash.new ≡ F.bytes flash.old }
+    ensures ends { (e f : SinkState) → EndsAs (form_of (map string_bytes words.now.items)) (outside (I.state inputs.old) (F.state flash.old) (O.state out.old) e)
+        (outside (I.state inputs.new) (F.state flash.new) (O.state out.new) f) (seen (λ stopped. stopped) result) }
+    ensures flash { KeepsFlash (flash_names (form_of (map string_bytes words.now.items))) (F.state flash.old) (F.state flash.new) }
 {
     match words_of(words) {
         None => Err(Refusal::unnamed(Why::Usage)),
@@ -57,13 +51,16 @@ fn answer<'w, I: Inputs, O: Sink, F: Flash>(
             put_whole(plan_read(alloc, inputs, part, far, n), out)
         }
         Some(Form::Gen { part, seed }) => put_whole(generate(alloc, inputs, part, seed), out),
+        Some(Form::Image { golden, update }) => {
+            put_whole(image(alloc, inputs, golden, update), out)
+        }
         Some(
-            Form::Image {
+            Form::ImageFor {
                 part,
                 golden,
                 update,
             },
-        ) => { put_whole(image(alloc, inputs, part, golden, update), out) }
+        ) => { put_whole(image_for(alloc, inputs, part, golden, update), out) }
         Some(Form::Unmcs { text }) => put_whole(unmcs(alloc, inputs, text), out),
         Some(
             Form::Debug {
@@ -88,12 +85,9 @@ fn carry_out<I: Inputs, O: Sink, E: Sink, F: Flash>(
     out: &mut O,
     err: &mut E,
 ) -> Status
-    ensures ends { let form = form_of (map string_bytes words.now.items) in (end : Result Answer Event) × ((result ≡ final_status end)
-        × Ends (known_of form (I.state inputs.old).contents (F.bytes flash.old)) (RisesIn form (I.state inputs.old).faults (I.state inputs.new).faults (F.faults flash.old) (F.faults flash.new)) (RisesIn form (I.state inputs.old).absences (I.state inputs.new).absences (F.absences flash.old) (F.absences flash.new)) form (SinkFails (O.state out.old) (O.state out.new)) (O.state out.old).written (O.state out.new).written end
-        × Says (E.state err.old) (E.state err.new) end) }
-    ensures near { StaysNear result (form_of (map string_bytes words.now.items)) (I.state inputs.old).contents (I.state inputs.new).rest (O.state out.old).written (O.state out.new).written }
-    ensures flash { names_flash (form_of (map string_bytes words.now.items)) ≡ false → flash.new ≡ flash.old }
-    ensures same { F.bytes flash.new ≡ F.bytes flash.old }
+    ensures ran { RanAs (form_of (map string_bytes words.now.items)) (outside (I.state inputs.old) (F.state flash.old) (O.state out.old) (E.state err.old))
+        (outside (I.state inputs.new) (F.state flash.new) (O.state out.new) (E.state err.new)) result }
+    ensures flash { KeepsFlash (flash_names (form_of (map string_bytes words.now.items))) (F.state flash.old) (F.state flash.new) }
 {
     match answer(alloc, words, inputs, flash, out) {
         Ok(stopped) => Status::of_text(stopped),
@@ -112,21 +106,7 @@ pub fn run<I: Inputs, O: Sink, E: Sink, F: Flash>(
     out: &mut O,
     err: &mut E,
 ) -> Status
-    ensures runs { Runs (form_of (map string_bytes words.now.items))
-        (record {
-          inputs = I.state inputs.old;
-          flash = record { bytes = F.bytes flash.old; extent = F.extent flash.old; attached = F.attached flash.old; faults = F.faults flash.old; absences = F.absences flash.old };
-          out = O.state out.old;
-          err = E.state err.old;
-        })
-        (record {
-          inputs = I.state inputs.new;
-          flash = record { bytes = F.bytes flash.new; extent = F.extent flash.new; attached = F.attached flash.new; faults = F.faults flash.new; absences = F.absences flash.new };
-          out = O.state out.new;
-          err = E.state err.new;
-        })
-        result }
-    ensures near { StaysNear result (form_of (map string_bytes words.now.items)) (I.state inputs.old).contents (I.state inputs.new).rest (O.state out.old).written (O.state out.new).written }
+    ensures { Runs (form_of (map string_bytes words.now.items)) (outside (I.state inputs.old) (F.state flash.old) (O.state out.old) (E.state err.old)) (outside (I.state inputs.new) (F.state flash.new) (O.state out.new) (E.state err.new)) result }
 {
     carry_out(alloc, words, inputs, flash, out, err)
 }

@@ -1,4 +1,4 @@
-use Rattle.std.proofs.Common.{◌≡◌, ◌≤◌, ◌<◌, ◌-◌, length, true}
+use Rattle.std.proofs.Common.{◌≡◌, ◌≤◌, ◌<◌, ◌+◌, ◌-◌, length, true}
 use Rattle.x7_header.specs.Header.{EndsInHeader}
 use Rattle.x7_words.specs.Input.{Stays, preceded}
 use Rattle.x7_forms.proofs.front.read_front.Given as goal
@@ -12,6 +12,8 @@ invariant-loop-turn g l =
       piece : length l.piece ≡ 65536;
       few : length l.bytes.items ≤ 262170;
       waiting : 0 < length l.bytes.items → EndsInHeader l.bytes.items;
+      asked : (i.state l.inputs).asked ≡ (i.state l.fn.inputs).asked;
+      given : (i.state l.inputs).given ≤ (i.state l.fn.inputs).given + length l.bytes.items;
       taken : (i.state l.fn.inputs).rest ≡ preceded l.bytes.items (i.state l.inputs).rest;
     }
 

@@ -1,9 +1,9 @@
-use Rattle.std.proofs.Common.{◌≡◌, ◌++◌, ◌-◌, length, take, length-append, length-take-le, arith, inr, sym, ◌∙◌}
-use Rattle.x7_words.proofs.InputLemmas.{stays_on}
+use Rattle.std.proofs.Common.{◌≡◌, [], ◌++◌, ◌-◌, length, take, length-append, length-take-le, arith, inr, sym, ◌∙◌}
+use Rattle.x7_words.proofs.InputLemmas.{stays_at, stays_on}
 use Rattle.x7_forms.specs.Message.{event_of}
 use Rattle.x7_forms.specs.Play.{PlaysOn}
-use Rattle.x7_forms.proofs.PlayerLemmas.{may_less, may_on, on_on}
-use Rattle.x7_forms.proofs.ReadLemmas.{rest_more, rest_unread}
+use Rattle.x7_forms.proofs.PlayerLemmas.{may_less, may_on, on_none, on_on}
+use Rattle.x7_forms.proofs.ReadLemmas.{reads_none, reads_on, rest_unread}
 use Rattle.x7_forms.proofs.ResultLemmas.{from_ok}
 use Rattle.x7_forms.proofs.playing.play_rest.Goals as goal
 
@@ -11,8 +11,8 @@ pub returns-in-Err-clause-err : goal.returns-in-Err-clause-err
 returns-in-Err-clause-err g c =
     let i = g.I.Inputs in
     let v = c.loop-turn.invariant in
-    inr (rest_unread (i.state c.args.inputs.now) (i.state c.loop-turn.inputs) (i.state c.next_turn.new.inputs) c.args.name.now v.told.0 c.args.limit c.loop-turn.left _ (event_of c.in-Err.refusal)
-    v.told.1.2 v.told.1.0 v.inputs c.in-Err.ensures.err)
+    inr (rest_unread (i.state c.args.inputs.now) (i.state c.loop-turn.inputs) (i.state c.next_turn.new.inputs) c.args.name.now v.told.0 c.args.limit c.loop-turn.left (event_of c.in-Err.refusal)
+    v.told.1.2 v.told.1.0 c.in-Err.ensures.err c.next_turn.ensures.asked)
 
 pub play-requires : goal.play-requires
 play-requires g c =
@@ -27,9 +27,9 @@ returns-then-turn-clause-ok g c =
     let n = c.in-Ok.turn.count in
     let piece = take n c.next_turn.new.buf in
     let size : length piece ≡ n = length-take-le n c.next_turn.new.buf (omega (arith, c.in-Ok.ensures.within.1, c.next_turn.ensures.length)) in
-    let more = rest_more (i.state c.args.inputs.now).rest (i.state c.loop-turn.inputs).rest (i.state c.next_turn.new.inputs).rest v.told.0 piece v.told.1.2 c.in-Ok.ensures.ok.taken in
+    let reads = reads_on (i.state c.args.inputs.now) (i.state c.loop-turn.inputs) (i.state c.next_turn.new.inputs) v.told.0 piece v.told.1.2 c.in-Ok.ensures.ok c.next_turn.ensures.asked c.next_turn.ensures.inputs in
     let plays : PlaysOn c.loop-turn.player c.play.new.self piece = from_ok c.play.result (sym c.is_err.ensures.value ∙ c.if-is_err.false) c.play.ensures in
-    (v.told.0 ++ piece, omega (arith, v.told.1.0, size, length-append v.told.0 piece, c.in-Ok.ensures.within.0), on_on c.args.player.now c.loop-turn.player c.play.new.self v.told.0 piece v.told.1.1 plays, (more, c.in-Ok.ensures.end c.if-turn.true))
+    (v.told.0 ++ piece, omega (arith, v.told.1.0, size, length-append v.told.0 piece, c.in-Ok.ensures.within.0), on_on c.args.player.now c.loop-turn.player c.play.new.self v.told.0 piece v.told.1.1 plays, (reads.takes.taken, c.in-Ok.ensures.end c.if-turn.true))
 
 pub loop-turn-preserved : goal.loop-turn-preserved
 loop-turn-preserved g c =
@@ -38,7 +38,7 @@ loop-turn-preserved g c =
     let n = c.in-Ok.turn.count in
     let piece = take n c.next_turn.new.buf in
     let size : length piece ≡ n = length-take-le n c.next_turn.new.buf (omega (arith, c.in-Ok.ensures.within.1, c.next_turn.ensures.length)) in
-    let more = rest_more (i.state c.args.inputs.now).rest (i.state c.loop-turn.inputs).rest (i.state c.next_turn.new.inputs).rest v.told.0 piece v.told.1.2 c.in-Ok.ensures.ok.taken in
+    let reads = reads_on (i.state c.args.inputs.now) (i.state c.loop-turn.inputs) (i.state c.next_turn.new.inputs) v.told.0 piece v.told.1.2 c.in-Ok.ensures.ok c.next_turn.ensures.asked c.next_turn.ensures.inputs in
     let plays : PlaysOn c.loop-turn.player c.play.new.self piece = from_ok c.play.result (sym c.is_err.ensures.value ∙ c.if-is_err.false) c.play.ensures in
     record {
       selected = c.in-Ok.ensures.ok.selected;
@@ -46,5 +46,8 @@ loop-turn-preserved g c =
       left = omega (arith, v.left);
       piece = c.next_turn.ensures.length ∙ v.piece;
       may = may_on c.loop-turn.player c.play.new.self piece c.loop-turn.left (c.loop-turn.left - n) (omega (arith, size, c.in-Ok.ensures.within.0)) plays v.may;
-      told = (v.told.0 ++ piece, (omega (arith, v.told.1.0, size, length-append v.told.0 piece, c.in-Ok.ensures.within.0), on_on c.args.player.now c.loop-turn.player c.play.new.self v.told.0 piece v.told.1.1 plays, more));
+      told = (v.told.0 ++ piece, (omega (arith, v.told.1.0, size, length-append v.told.0 piece, c.in-Ok.ensures.within.0), on_on c.args.player.now c.loop-turn.player c.play.new.self v.told.0 piece v.told.1.1 plays, reads));
     }
+
+pub loop-turn-init : goal.loop-turn-init
+loop-turn-init g c = record { selected = c.requires.selected; inputs = stays_at _; left = omega arith; piece = c.requires.buffer; may = c.requires.may; told = ([], (omega arith, on_none c.args.player.now, reads_none (g.I.Inputs.state c.args.inputs.now) c.requires.selected)) }

@@ -1,5 +1,6 @@
 use Rattle.std.proofs.Common.{◌≡◌, ℕ, List, ◌+◌, ◌≤◌, length, true}
-use Rattle.x7_words.specs.Input.{Stays, preceded}
+use Rattle.x7_words.specs.Input.{Stays}
+use Rattle.x7_forms.specs.Turn.{Reads}
 use Rattle.x7_forms.specs.Play.{MayPlay, PlaysOn}
 use Rattle.x7_forms.proofs.playing.play_rest.Given as goal
 
@@ -12,7 +13,7 @@ invariant-loop-turn g l =
       left : l.left ≤ l.limit;
       piece : length l.piece ≡ 266240;
       may : MayPlay l.player l.left;
-      told : (taken : List ℕ) × ((length taken + l.left ≡ l.limit) × PlaysOn l.fn.player l.player taken × ((i.state l.fn.inputs).rest ≡ preceded taken (i.state l.inputs).rest));
+      told : (taken : List ℕ) × ((length taken + l.left ≡ l.limit) × PlaysOn l.fn.player l.player taken × Reads (i.state l.fn.inputs) taken (i.state l.inputs));
     }
 
 abbrev pub decreases-loop-turn : goal.decreases-loop-turn

@@ -1,15 +1,14 @@
-use Rattle.std.proofs.Common.{◌≡◌, ℕ, List, [], ◌∷◌, ◌++◌, ◌-◌, ◌≤◌, false, Ok, drop, length, length-append, length-take-le, take, ap, arith, subst, sym, ◌∙◌}
+use Rattle.std.proofs.Common.{◌≡◌, ℕ, List, [], ◌∷◌, ◌++◌, ◌-◌, ◌≤◌, false, Ok, drop, length, length-append, length-take-le, take, ap, arith, inr, subst, sym, ◌∙◌}
 use Rattle.std.proofs.lemmas.List.{length-take}
 use Rattle.x7_words.specs.Input.{Selects, preceded}
 use Rattle.x7_words.specs.Word.{AreBytes}
-use Rattle.x7_words.proofs.InputLemmas.{stays_on}
 use Rattle.x7_forms.specs.Message.{event_of}
 use Rattle.x7_forms.specs.Known.{read_of, with_inputs}
 use Rattle.x7_forms.specs.Play.{PlaysOn}
-use Rattle.x7_forms.specs.Step.{IsCaused, RisesFor}
+use Rattle.x7_forms.specs.Step.{FailsAmong, IsCaused, LacksAmong}
 use Rattle.x7_forms.proofs.ResultLemmas.{err_weaker, ok_weaker, from_ok}
 use Rattle.x7_forms.proofs.PlayerLemmas.{may_less, may_on, on_on}
-use Rattle.x7_forms.proofs.ReadLemmas.{rest_refused, slice_of, stream_read, stream_refused}
+use Rattle.x7_forms.proofs.ReadLemmas.{reads_first, slice_of, stream_read, stream_refused, stream_unopened, stream_unread, want_or_rest}
 use Rattle.x7_forms.proofs.playing.play_stream.Goals as goal
 
 pub play-requires : goal.play-requires
@@ -44,30 +43,52 @@ returns-else-is_err-clause-ok g c =
     let slice = take (count - start) (drop start buf) in
     let same : drop start first ≡ slice = slice_of start count buf (omega (arith, size, c.in-Ok-data_start.ensures.within)) in
     let plays : PlaysOn c.args.player.now c.play.new.self slice = from_ok c.play.result (sym c.is_err.ensures.value ∙ c.if-is_err.false) c.play.ensures in
-    let F : List ℕ → Type 0 = RisesFor (name ∷ []) (i.state c.args.inputs.now).faults (i.state c.play_rest.new.inputs).faults in
-    let L : List ℕ → Type 0 = RisesFor (name ∷ []) (i.state c.args.inputs.now).absences (i.state c.play_rest.new.inputs).absences in
+    let given = (i.state c.play_rest.new.inputs).given in
+    let F = FailsAmong (name ∷ []) (i.state c.args.inputs.now) (i.state c.play_rest.new.inputs) in
+    let L = LacksAmong (name ∷ []) (i.state c.args.inputs.now) (i.state c.play_rest.new.inputs) in
     ok_weaker c.play_rest.result (λ left p.
     let more = p.0 in
     let bytes : drop start first ++ more ≡ slice ++ more = ap (λ x. x ++ more) same in (
       slice ++ more,
       omega (arith, p.1, within, size, length-append slice more, length-take (count - start) (drop start buf)),
       on_on c.args.player.now c.play.new.self c.play_rest.new.player slice more plays p.2,
-      λ flash. subst (λ (bytes : List ℕ). IsCaused (with_inputs contents flash) F L (λ t. read_of t c.args.limit name) (Ok (record { bytes = bytes; room = left }))) bytes
-          (stream_read contents flash F L name first more (drop start first) (i.state c.next_turn.new.inputs).rest (i.state c.play_rest.new.inputs).rest c.args.limit left c.in-Ok-next_turn.turn.last select p.3.0 p.3.1 c.in-Ok-next_turn.ensures.end long fits (omega (arith, p.1, size)) within c.in-Ok-data_start.ensures.data),
+      λ flash. subst (λ (bytes : List ℕ). IsCaused (with_inputs contents flash) given F L (λ t. read_of t c.args.limit name) (Ok (record { bytes = bytes; room = left }))) bytes
+          (stream_read contents flash given F L name first more (drop start first) (i.state c.next_turn.new.inputs).rest (i.state c.play_rest.new.inputs).rest c.args.limit left c.in-Ok-next_turn.turn.last select p.3.0 p.3.1 c.in-Ok-next_turn.ensures.end long fits (omega (arith, p.1, size)) within c.in-Ok-data_start.ensures.data),
     )) c.play_rest.ensures.ok
+
+pub returns-in-Err-clause-err : goal.returns-in-Err-clause-err
+returns-in-Err-clause-err g c = λ flash.
+    let i = g.I.Inputs in
+    stream_unopened (i.state c.args.inputs.now) (i.state c.open.new.inputs) flash c.args.name.now c.args.limit (event_of c.in-Err.refusal) c.in-Err.ensures.err c.open.ensures.asks
+
+pub returns-in-Err-next_turn-clause-err : goal.returns-in-Err-next_turn-clause-err
+returns-in-Err-next_turn-clause-err g c = λ flash.
+    let i = g.I.Inputs in
+    stream_unread (i.state c.args.inputs.now) (i.state c.open.new.inputs) (i.state c.next_turn.new.inputs) flash c.args.name.now c.args.limit (event_of c.in-Err-next_turn.refusal)
+    c.open.ensures.inputs c.in-Ok.ensures.ok.found c.open.ensures.asks (inr (c.in-Err-next_turn.ensures.err, c.next_turn.ensures.asked))
 
 pub returns-else-is_err-clause-err : goal.returns-else-is_err-clause-err
 returns-else-is_err-clause-err g c =
     let i = g.I.Inputs in
-    let contents = (i.state c.args.inputs.now).contents in
-    let name = c.args.name.now in
     let count = c.in-Ok-next_turn.turn.count in
     let first = take count c.next_turn.new.buf in
     let size : length first ≡ count = length-take-le count c.next_turn.new.buf (omega (arith, c.in-Ok-next_turn.ensures.within.1, c.next_turn.ensures.length)) in
-    let select : Selects contents name (preceded first (i.state c.next_turn.new.inputs).rest) = subst (λ r. Selects contents name r) c.in-Ok-next_turn.ensures.ok.taken c.in-Ok.ensures.ok.found in
+    let reads = reads_first (i.state c.open.new.inputs) (i.state c.next_turn.new.inputs) first c.in-Ok-next_turn.ensures.ok c.next_turn.ensures.asked c.next_turn.ensures.inputs in
     err_weaker c.play_rest.result (λ r h. λ flash.
-    rest_refused (i.state c.args.inputs.now) (i.state c.next_turn.new.inputs) (i.state c.play_rest.new.inputs) flash name first c.args.limit (c.args.limit - count)
-    (event_of r) (stays_on _ _ _ c.open.ensures.inputs c.next_turn.ensures.inputs) (omega (arith, size, c.in-Ok-next_turn.ensures.within.0)) select h) c.play_rest.ensures.err
+    stream_unread (i.state c.args.inputs.now) (i.state c.open.new.inputs) (i.state c.play_rest.new.inputs) flash c.args.name.now c.args.limit (event_of r)
+    c.open.ensures.inputs c.in-Ok.ensures.ok.found c.open.ensures.asks
+    (want_or_rest (i.state c.open.new.inputs) (i.state c.next_turn.new.inputs) (i.state c.play_rest.new.inputs) c.args.name.now first c.args.limit (c.args.limit - count) (event_of r) reads (omega (arith, size, c.in-Ok-next_turn.ensures.within.0)) h)) c.play_rest.ensures.err
+
+pub returns-in-Err-skip_rest-clause-err : goal.returns-in-Err-skip_rest-clause-err
+returns-in-Err-skip_rest-clause-err g c = λ flash.
+    let i = g.I.Inputs in
+    let count = c.in-Ok-next_turn.turn.count in
+    let first = take count c.next_turn.new.buf in
+    let size : length first ≡ count = length-take-le count c.next_turn.new.buf (omega (arith, c.in-Ok-next_turn.ensures.within.1, c.next_turn.ensures.length)) in
+    let reads = reads_first (i.state c.open.new.inputs) (i.state c.next_turn.new.inputs) first c.in-Ok-next_turn.ensures.ok c.next_turn.ensures.asked c.next_turn.ensures.inputs in
+    stream_unread (i.state c.args.inputs.now) (i.state c.open.new.inputs) (i.state c.skip_rest.new.inputs) flash c.args.name.now c.args.limit (event_of c.in-Err-skip_rest.earlier)
+    c.open.ensures.inputs c.in-Ok.ensures.ok.found c.open.ensures.asks
+    (want_or_rest (i.state c.open.new.inputs) (i.state c.next_turn.new.inputs) (i.state c.skip_rest.new.inputs) c.args.name.now first c.args.limit (c.args.limit - count) (event_of c.in-Err-skip_rest.earlier) reads (omega (arith, size, c.in-Ok-next_turn.ensures.within.0)) (inr c.in-Err-skip_rest.ensures.err))
 
 pub returns-in-Ok-skip_rest-clause-err : goal.returns-in-Ok-skip_rest-clause-err
 returns-in-Ok-skip_rest-clause-err g c = λ flash.
@@ -82,7 +103,8 @@ returns-in-Ok-skip_rest-clause-err g c = λ flash.
     let within : length first ≤ c.args.limit = omega (arith, size, c.in-Ok-next_turn.ensures.within.0) in
     let long : c.in-Ok-next_turn.turn.last ≡ false → 262170 ≤ length first = λ e. omega (arith, size, c.in-Ok-next_turn.ensures.goes e, c.requires.buffer) in
     let select : Selects contents name (preceded first (i.state c.next_turn.new.inputs).rest) = subst (λ r. Selects contents name r) c.in-Ok-next_turn.ensures.ok.taken c.in-Ok.ensures.ok.found in
-    let F : List ℕ → Type 0 = RisesFor (name ∷ []) (i.state c.args.inputs.now).faults (i.state c.skip_rest.new.inputs).faults in
-    let L : List ℕ → Type 0 = RisesFor (name ∷ []) (i.state c.args.inputs.now).absences (i.state c.skip_rest.new.inputs).absences in
+    let given = (i.state c.skip_rest.new.inputs).given in
+    let F = FailsAmong (name ∷ []) (i.state c.args.inputs.now) (i.state c.skip_rest.new.inputs) in
+    let L = LacksAmong (name ∷ []) (i.state c.args.inputs.now) (i.state c.skip_rest.new.inputs) in
     let p = c.in-Ok-skip_rest.ensures.ok in
-    stream_refused contents flash F L name first p.0 (i.state c.next_turn.new.inputs).rest (i.state c.skip_rest.new.inputs).rest c.args.limit c.in-Ok-next_turn.turn.last (event_of c.in-Err-data_start.refusal) select p.2.0 p.2.1 c.in-Ok-next_turn.ensures.end long fits (omega (arith, p.1, size)) within c.in-Err-data_start.ensures.data
+    stream_refused contents flash given F L name first p.0 (i.state c.next_turn.new.inputs).rest (i.state c.skip_rest.new.inputs).rest c.args.limit c.in-Ok-next_turn.turn.last (event_of c.in-Err-data_start.refusal) select p.2.0 p.2.1 c.in-Ok-next_turn.ensures.end long fits (omega (arith, p.1, size)) within c.in-Err-data_start.ensures.data

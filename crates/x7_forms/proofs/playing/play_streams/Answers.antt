@@ -2,7 +2,7 @@ use Rattle.std.proofs.Common.{◌≡◌, ℕ, List, [], ◌∷◌, ◌++◌, ari
 use Rattle.x7_words.proofs.InputLemmas.{stays_at, stays_on}
 use Rattle.x7_forms.specs.Message.{event_of}
 use Rattle.x7_forms.specs.Known.{StreamRead, stream_limit}
-use Rattle.x7_forms.specs.Step.{RisesFor}
+use Rattle.x7_forms.specs.Step.{FailsAmong, LacksAmong}
 use Rattle.x7_forms.proofs.ReadLemmas.{rests_all, rests_none, stream_err, stream_next}
 use Rattle.x7_forms.proofs.playing.play_streams.Goals as goal
 
@@ -24,22 +24,19 @@ pub returns-in-Err-clause-err : goal.returns-in-Err-clause-err
 returns-in-Err-clause-err g c = λ flash.
     let i = g.I.Inputs in
     let v = c.loop-name.invariant in
-    stream_err string_bytes (i.state c.args.inputs.now).contents (i.state c.loop-name.inputs).contents flash c.args.streams.now c.loop-name.name-index stream_limit c.loop-name.left c.name-item.result c.as_str.result.now v.played.0
-    (i.state c.args.inputs.now).faults (i.state c.loop-name.inputs).faults (i.state c.play_stream.new.inputs).faults
-    (i.state c.args.inputs.now).absences (i.state c.loop-name.inputs).absences (i.state c.play_stream.new.inputs).absences
-    (event_of c.in-Err.refusal)
-    v.inputs.map c.loop-name-test.true c.name-item.is c.as_str.ensures.value v.inputs.faults v.inputs.absences v.played.1.2 (c.in-Err.ensures.err flash)
+    stream_err string_bytes (i.state c.args.inputs.now) (i.state c.loop-name.inputs) (i.state c.play_stream.new.inputs) flash c.args.streams.now c.loop-name.name-index stream_limit c.loop-name.left c.name-item.result c.as_str.result.now v.played.0
+    (event_of c.in-Err.refusal) v.inputs c.loop-name-test.true c.name-item.is c.as_str.ensures.value v.played.1.2 (c.in-Err.ensures.err flash)
 
 pub loop-name-preserved : goal.loop-name-preserved
 loop-name-preserved g c =
     let i = g.I.Inputs in
     let v = c.loop-name.invariant in
     let name = c.as_str.result.now in
-    let F : List ℕ → Type 0 = RisesFor (name ∷ []) (i.state c.loop-name.inputs).faults (i.state c.play_stream.new.inputs).faults in
-    let L : List ℕ → Type 0 = RisesFor (name ∷ []) (i.state c.loop-name.inputs).absences (i.state c.play_stream.new.inputs).absences in
+    let F = FailsAmong (name ∷ []) (i.state c.loop-name.inputs) (i.state c.play_stream.new.inputs) in
+    let L = LacksAmong (name ∷ []) (i.state c.loop-name.inputs) (i.state c.play_stream.new.inputs) in
     let p = c.in-Ok-play_stream.ensures.ok in
     let read : StreamRead = record { bytes = p.0; room = c.in-Ok-play_stream.left } in
-    let next = stream_next string_bytes (i.state c.args.inputs.now).contents (i.state c.loop-name.inputs).contents F L c.args.streams.now c.loop-name.name-index stream_limit c.loop-name.left c.name-item.result name v.played.0 read
+    let next = stream_next string_bytes (i.state c.args.inputs.now).contents (i.state c.loop-name.inputs).contents (i.state c.play_stream.new.inputs).given F L c.args.streams.now c.loop-name.name-index stream_limit c.loop-name.left c.name-item.result name v.played.0 read
     v.inputs.map c.loop-name-test.true c.name-item.is c.as_str.ensures.value v.played.1.2 p.3 in
     let new = c.play_stream.new.piece in
     let old = c.loop-name.piece.items in
@@ -56,6 +53,6 @@ returns-clause-ok g c =
     let v = c.loop-name.invariant in (
       v.played.0,
       v.played.1.0,
-      λ flash. rests_all string_bytes (i.state c.args.inputs.now).contents flash (RisesFor (map string_bytes c.args.streams.now) (i.state c.args.inputs.now).faults (i.state c.loop-name.inputs).faults) (RisesFor (map string_bytes c.args.streams.now) (i.state c.args.inputs.now).absences (i.state c.loop-name.inputs).absences)
+      λ flash. rests_all string_bytes (i.state c.args.inputs.now).contents flash (i.state c.loop-name.inputs).given (FailsAmong (map string_bytes c.args.streams.now) (i.state c.args.inputs.now) (i.state c.loop-name.inputs)) (LacksAmong (map string_bytes c.args.streams.now) (i.state c.args.inputs.now) (i.state c.loop-name.inputs))
           c.args.streams.now c.loop-name.name-index stream_limit c.loop-name.left v.played.0 c.loop-name-test.false v.played.1.2,
     )

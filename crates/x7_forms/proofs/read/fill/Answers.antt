@@ -1,5 +1,6 @@
-use Rattle.std.proofs.Common.{◌+◌, ◌-◌, length, take, refl, arith}
+use Rattle.std.proofs.Common.{◌+◌, ◌-◌, ◌∙◌, length, take, length-take-le, refl, arith}
 use Rattle.std.proofs.lemmas.Slice.{overwrites, take-put_mid}
+use Rattle.x7_words.proofs.CountLemmas.{risen_from}
 use Rattle.x7_words.proofs.InputLemmas.{stays_on, takes_as, takes_on}
 use Rattle.x7_forms.proofs.ReadLemmas.{filled}
 use Rattle.x7_forms.proofs.read.fill.Goals as goal
@@ -14,5 +15,18 @@ loop-at-preserved g c =
       within = grind (arith, overwrites, read.length, read.within);
       length = grind (arith, overwrites, read.length, i.length);
       took = takes_as _ _ _ _ (filled c.loop-at.buf c.read.new.buf _ at c.in-Ok.count i.within (omega (arith, read.length, read.within)) part) (takes_on _ _ _ _ _ i.took read.ok);
+      asked = c.read.ensures.asked ∙ i.asked;
       inputs = stays_on _ _ _ i.inputs read.stays;
     }
+
+pub returns-in-Err-clause-failed : goal.returns-in-Err-clause-failed
+returns-in-Err-clause-failed g c =
+    let i = g.I.Inputs in
+    let v = c.loop-at.invariant in (
+      refl,
+      record {
+        risen = risen_from (i.state c.args.inputs.now).faults (i.state c.loop-at.inputs).faults (i.state c.read.new.self).faults v.inputs.faults c.in-Err.ensures.failed;
+        selected = c.in-Err.ensures.err;
+        given = omega (arith, v.took.given, c.in-Err.ensures.given, length-take-le c.loop-at.at c.loop-at.buf v.within, v.length, c.loop-at-test.true);
+      },
+    )

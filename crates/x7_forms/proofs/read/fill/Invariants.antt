@@ -9,6 +9,7 @@ invariant-loop-at g l =
       within : l.at ≤ length l.buf;
       length : length l.buf ≡ length l.fn.buf;
       took : Takes (i.state l.fn.inputs) (take l.at l.buf) (i.state l.inputs);
+      asked : (i.state l.inputs).asked ≡ (i.state l.fn.inputs).asked;
       inputs : Stays (i.state l.fn.inputs) (i.state l.inputs);
     }
 

@@ -1,20 +1,31 @@
-use Rattle.std.proofs.Common.{[], ◌∷◌, Ok, Err}
+use Rattle.std.proofs.Common.{◌≡◌, [], ◌∷◌, ◌++◌, Ok, Err, ap, subst, sym, ◌∙◌}
+use Rattle.x7_words.specs.Input.{Selects}
 use Rattle.x7_forms.specs.Message.{event_of}
-use Rattle.x7_forms.specs.Known.{with_inputs}
-use Rattle.x7_forms.specs.Step.{RisesFor}
-use Rattle.x7_forms.proofs.ReadLemmas.{read_alone}
+use Rattle.x7_forms.specs.Step.{FailsAmong, IsCaused, LacksAmong}
+use Rattle.x7_forms.specs.Known.{whole_in, with_inputs}
+use Rattle.x7_forms.proofs.ReadLemmas.{open_refused, whole_read, whole_refused}
 use Rattle.x7_forms.proofs.read.read_whole.Goals as goal
 
-pub returns-in-Ok-clause-due : goal.returns-in-Ok-clause-due
-returns-in-Ok-clause-due g c = λ flash.
+pub returns-in-Err-clause-due : goal.returns-in-Err-clause-due
+returns-in-Err-clause-due g c = λ flash.
+    let i = g.I.Inputs in
+    open_refused (i.state c.args.inputs.now) (i.state c.open.new.inputs) flash c.args.name.now c.args.limit (event_of c.in-Err.refusal) c.in-Err.ensures.err c.open.ensures.asks
+
+pub returns-in-Ok-read_rest-clause-due : goal.returns-in-Ok-read_rest-clause-due
+returns-in-Ok-read_rest-clause-due g c = λ flash.
     let i = g.I.Inputs in
     let name = c.args.name.now in
-    let due = rw c.new-whole.ensures.items at (c.in-Ok.ensures.due flash) in
-    read_alone (with_inputs (i.state c.args.inputs.now).contents flash) (RisesFor (name ∷ []) (i.state c.args.inputs.now).faults (i.state c.read_onto.new.inputs).faults) (RisesFor (name ∷ []) (i.state c.args.inputs.now).absences (i.state c.read_onto.new.inputs).absences) c.args.limit name (Ok c.read_onto.new.onto.items) due
+    let contents = (i.state c.args.inputs.now).contents in
+    let p = c.in-Ok-read_rest.ensures.ok in
+    let sel : Selects contents name _ = subst (λ r. Selects contents name r) p.3.0 c.in-Ok.ensures.ok.found in
+    let F = FailsAmong (name ∷ []) (i.state c.args.inputs.now) (i.state c.read_rest.new.inputs) in
+    let L = LacksAmong (name ∷ []) (i.state c.args.inputs.now) (i.state c.read_rest.new.inputs) in
+    let is : c.read_rest.new.onto.items ≡ p.0 = p.1 ∙ ap (λ x. x ++ p.0) c.new-whole.ensures.items in
+    subst (λ x. IsCaused (with_inputs contents flash) (i.state c.read_rest.new.inputs).given F L (λ t. whole_in t c.args.limit name) (Ok x)) (sym is)
+    (whole_read contents flash (i.state c.read_rest.new.inputs).given F L name p.0 (i.state c.read_rest.new.inputs).rest c.args.limit sel p.3.1 p.2)
 
 pub returns-clause-due : goal.returns-clause-due
 returns-clause-due g c = λ flash.
     let i = g.I.Inputs in
-    let name = c.args.name.now in
-    let due = rw c.new-whole.ensures.items at (c.in-Err.ensures.due flash) in
-    read_alone (with_inputs (i.state c.args.inputs.now).contents flash) (RisesFor (name ∷ []) (i.state c.args.inputs.now).faults (i.state c.read_onto.new.inputs).faults) (RisesFor (name ∷ []) (i.state c.args.inputs.now).absences (i.state c.read_onto.new.inputs).absences) c.args.limit name (Err (event_of c.in-Err.refusal)) due
+    whole_refused (i.state c.args.inputs.now) (i.state c.open.new.inputs) (i.state c.read_rest.new.inputs) flash c.args.name.now c.args.limit (event_of c.in-Err-read_rest.refusal)
+    c.open.ensures.inputs c.in-Ok.ensures.ok.found c.open.ensures.asks c.in-Err-read_rest.ensures.err

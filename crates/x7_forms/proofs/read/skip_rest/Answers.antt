@@ -1,15 +1,15 @@
-use Rattle.std.proofs.Common.{◌≡◌, ◌++◌, length, take, length-append, length-take-le, arith, ◌∙◌}
-use Rattle.x7_words.proofs.InputLemmas.{stays_on}
+use Rattle.std.proofs.Common.{◌≡◌, [], refl, ◌++◌, length, take, length-append, length-take-le, arith, ◌∙◌}
+use Rattle.x7_words.proofs.InputLemmas.{stays_at, stays_on}
 use Rattle.x7_forms.specs.Message.{event_of}
-use Rattle.x7_forms.proofs.ReadLemmas.{rest_more, rest_unread}
+use Rattle.x7_forms.proofs.ReadLemmas.{reads_none, reads_on, rest_unread}
 use Rattle.x7_forms.proofs.read.skip_rest.Goals as goal
 
 pub returns-in-Err-clause-err : goal.returns-in-Err-clause-err
 returns-in-Err-clause-err g c =
     let i = g.I.Inputs in
     let v = c.loop-turn.invariant in
-    rest_unread (i.state c.args.inputs.now) (i.state c.loop-turn.inputs) (i.state c.next_turn.new.inputs) c.args.name.now v.told.0 c.args.limit c.loop-turn.left _ (event_of c.in-Err.refusal)
-    v.told.1.1 v.told.1.0 v.inputs c.in-Err.ensures.err
+    rest_unread (i.state c.args.inputs.now) (i.state c.loop-turn.inputs) (i.state c.next_turn.new.inputs) c.args.name.now v.told.0 c.args.limit c.loop-turn.left (event_of c.in-Err.refusal)
+    v.told.1.1 v.told.1.0 c.in-Err.ensures.err c.next_turn.ensures.asked
 
 pub returns-then-turn-clause-ok : goal.returns-then-turn-clause-ok
 returns-then-turn-clause-ok g c =
@@ -18,8 +18,8 @@ returns-then-turn-clause-ok g c =
     let n = c.in-Ok.turn.count in
     let piece = take n c.next_turn.new.buf in
     let size : length piece ≡ n = length-take-le n c.next_turn.new.buf (omega (arith, c.in-Ok.ensures.within.1, c.next_turn.ensures.length)) in
-    let more = rest_more (i.state c.args.inputs.now).rest (i.state c.loop-turn.inputs).rest (i.state c.next_turn.new.inputs).rest v.told.0 piece v.told.1.1 c.in-Ok.ensures.ok.taken in
-    (v.told.0 ++ piece, omega (arith, v.told.1.0, size, length-append v.told.0 piece, c.in-Ok.ensures.within.0), (more, c.in-Ok.ensures.end c.if-turn.true))
+    let reads = reads_on (i.state c.args.inputs.now) (i.state c.loop-turn.inputs) (i.state c.next_turn.new.inputs) v.told.0 piece v.told.1.1 c.in-Ok.ensures.ok c.next_turn.ensures.asked c.next_turn.ensures.inputs in
+    (v.told.0 ++ piece, omega (arith, v.told.1.0, size, length-append v.told.0 piece, c.in-Ok.ensures.within.0), (reads.takes.taken, c.in-Ok.ensures.end c.if-turn.true))
 
 pub loop-turn-preserved : goal.loop-turn-preserved
 loop-turn-preserved g c =
@@ -28,11 +28,14 @@ loop-turn-preserved g c =
     let n = c.in-Ok.turn.count in
     let piece = take n c.next_turn.new.buf in
     let size : length piece ≡ n = length-take-le n c.next_turn.new.buf (omega (arith, c.in-Ok.ensures.within.1, c.next_turn.ensures.length)) in
-    let more = rest_more (i.state c.args.inputs.now).rest (i.state c.loop-turn.inputs).rest (i.state c.next_turn.new.inputs).rest v.told.0 piece v.told.1.1 c.in-Ok.ensures.ok.taken in
+    let reads = reads_on (i.state c.args.inputs.now) (i.state c.loop-turn.inputs) (i.state c.next_turn.new.inputs) v.told.0 piece v.told.1.1 c.in-Ok.ensures.ok c.next_turn.ensures.asked c.next_turn.ensures.inputs in
     record {
       selected = c.in-Ok.ensures.ok.selected;
       inputs = stays_on _ _ _ v.inputs c.next_turn.ensures.inputs;
       left = omega (arith, v.left);
       buf = c.next_turn.ensures.length ∙ v.buf;
-      told = (v.told.0 ++ piece, (omega (arith, v.told.1.0, size, length-append v.told.0 piece, c.in-Ok.ensures.within.0), more));
+      told = (v.told.0 ++ piece, (omega (arith, v.told.1.0, size, length-append v.told.0 piece, c.in-Ok.ensures.within.0), reads));
     }
+
+pub loop-turn-init : goal.loop-turn-init
+loop-turn-init g c = record { selected = c.requires.selected; inputs = stays_at _; left = omega arith; buf = refl; told = ([], (omega arith, reads_none (g.I.Inputs.state c.args.inputs.now) c.requires.selected)) }

@@ -1,5 +1,6 @@
 use Rattle.std.proofs.Common.{◌≡◌, ℕ, List, ◌+◌, ◌≤◌, length, true}
-use Rattle.x7_words.specs.Input.{Stays, preceded}
+use Rattle.x7_words.specs.Input.{Stays}
+use Rattle.x7_forms.specs.Turn.{Reads}
 use Rattle.x7_forms.proofs.read.skip_rest.Given as goal
 
 abbrev pub invariant-loop-turn : goal.invariant-loop-turn
@@ -10,7 +11,7 @@ invariant-loop-turn g l =
       inputs : Stays (i.state l.fn.inputs) (i.state l.inputs);
       left : l.left ≤ l.limit;
       buf : length l.buf ≡ length l.fn.buf;
-      told : (taken : List ℕ) × ((length taken + l.left ≡ l.limit) × ((i.state l.fn.inputs).rest ≡ preceded taken (i.state l.inputs).rest));
+      told : (taken : List ℕ) × ((length taken + l.left ≡ l.limit) × Reads (i.state l.fn.inputs) taken (i.state l.inputs));
     }
 
 abbrev pub decreases-loop-turn : goal.decreases-loop-turn

@@ -1,8 +1,9 @@
 use Rattle.std.proofs.Common.{◌≡◌, ℕ, List, ◌∷◌, [], ◌+◌, ◌^◌, ◌<◌, ◌≤◌, ◌++◌, length, length-append, length-take-le, take, arith, ap, ◌∙◌}
 use Rattle.x7_words.proofs.InputLemmas.{stays_on}
+use Rattle.x7_forms.specs.Message.{event_of}
 use Rattle.x7_tool.specs.Outcome.{text_limit}
-use Rattle.x7_forms.specs.Step.{RisesFor}
-use Rattle.x7_forms.proofs.ReadLemmas.{whole_read}
+use Rattle.x7_forms.specs.Step.{FailsAmong, LacksAmong}
+use Rattle.x7_forms.proofs.ReadLemmas.{at_on, open_refused, turn_refused, whole_read}
 use Rattle.x7_tool.proofs.TurnLemmas.{taken_more}
 use Rattle.x7_tool.proofs.asm.feed_whole.Goals as goal
 
@@ -23,9 +24,7 @@ returns-then-turn-clause-ok g c =
       short,
       c.feed_turn-found.ensures taken fits v.told.1.1,
       λ flash.
-          let F : List ℕ → Type 0 = RisesFor (name ∷ []) (i.state c.args.inputs.now).faults (i.state c.next_turn.new.inputs).faults in
-          let L : List ℕ → Type 0 = RisesFor (name ∷ []) (i.state c.args.inputs.now).absences (i.state c.next_turn.new.inputs).absences in
-          whole_read contents flash F L name (taken ++ piece) (i.state c.next_turn.new.inputs).rest text_limit sel (c.in-Ok-next_turn.ensures.end c.if-turn.true) short,
+          whole_read contents flash (i.state c.next_turn.new.inputs).given (FailsAmong (name ∷ []) (i.state c.args.inputs.now) (i.state c.next_turn.new.inputs)) (LacksAmong (name ∷ []) (i.state c.args.inputs.now) (i.state c.next_turn.new.inputs)) name (taken ++ piece) (i.state c.next_turn.new.inputs).rest text_limit sel (c.in-Ok-next_turn.ensures.end c.if-turn.true) short,
     )
 
 pub loop-turn-preserved : goal.loop-turn-preserved
@@ -45,5 +44,17 @@ loop-turn-preserved g c =
       inputs = stays_on _ _ _ v.inputs c.next_turn.ensures.inputs;
       left = omega (arith, v.left);
       piece = c.next_turn.ensures.length ∙ v.piece;
-      told = (taken ++ piece, (sel, c.feed_turn-found.ensures taken fits v.told.1.1, omega (arith, size, v.told.1.2, c.in-Ok-next_turn.ensures.within.0)));
+      told = (taken ++ piece, (sel, c.feed_turn-found.ensures taken fits v.told.1.1, omega (arith, size, v.told.1.2, c.in-Ok-next_turn.ensures.within.0), at_on name taken piece (i.state c.loop-turn.inputs) (i.state c.next_turn.new.inputs) v.told.1.3 c.in-Ok-next_turn.ensures.ok c.next_turn.ensures.asked));
     }
+
+pub returns-in-Err-clause-err : goal.returns-in-Err-clause-err
+returns-in-Err-clause-err g c = λ flash.
+    let i = g.I.Inputs in
+    open_refused (i.state c.args.inputs.now) (i.state c.open.new.inputs) flash c.args.name.now text_limit (event_of c.in-Err.refusal) c.in-Err.ensures.err c.open.ensures.asks
+
+pub returns-in-Err-next_turn-clause-err : goal.returns-in-Err-next_turn-clause-err
+returns-in-Err-next_turn-clause-err g c = λ flash.
+    let i = g.I.Inputs in
+    let v = c.loop-turn.invariant in
+    turn_refused (i.state c.args.inputs.now) (i.state c.loop-turn.inputs) (i.state c.next_turn.new.inputs) flash c.args.name.now v.told.0 text_limit c.loop-turn.left (event_of c.in-Err-next_turn.refusal)
+    v.inputs v.told.1.0 v.told.1.3 v.told.1.2 c.in-Err-next_turn.ensures.err c.next_turn.ensures.asked

@@ -1,6 +1,7 @@
 use Rattle.std.proofs.Common.{◌≡◌, ℕ, List, ◌+◌, ◌≤◌, length, true}
 use Rattle.x7_words.specs.Input.{Selects, Stays, preceded}
 use Rattle.x7_tool.specs.Outcome.{text_limit}
+use Rattle.x7_forms.specs.Turn.{IsAt}
 use Rattle.x7_tool.specs.Turns.{IsFed}
 use Rattle.x7_tool.proofs.asm.feed_whole.Given as goal
 
@@ -12,7 +13,7 @@ invariant-loop-turn g l =
       inputs : Stays (i.state l.fn.inputs) (i.state l.inputs);
       left : l.left ≤ text_limit;
       piece : length l.piece ≡ 65536;
-      told : (taken : List ℕ) × (Selects (i.state l.fn.inputs).contents l.name (preceded taken (i.state l.inputs).rest) × IsFed l.found l.assembler taken × (length taken + l.left ≡ text_limit));
+      told : (taken : List ℕ) × (Selects (i.state l.fn.inputs).contents l.name (preceded taken (i.state l.inputs).rest) × IsFed l.found l.assembler taken × (length taken + l.left ≡ text_limit) × IsAt l.name taken (i.state l.inputs));
     }
 
 abbrev pub decreases-loop-turn : goal.decreases-loop-turn

@@ -1,7 +1,6 @@
 use Rattle.std.proofs.Common.{◌≡◌, ℕ, ◌+◌, ◌-◌, ◌≤◌, ◌⊎◌, List, [], ◌∷◌, ◌++◌, Option, Some, Ok, Err, drop, subst, take, length, length-append, append-nil, length-drop, length-take-le, take_all, refl, sym, ap, ◌∙◌, inl, inr, arith}
 use Rattle.std.proofs.lemmas.Result.{on_ok_weaker}
-use Rattle.x7_words.specs.Count.{HasRisen}
-use Rattle.x7_words.specs.Sink.{appended, PutsFront}
+use Rattle.x7_words.specs.Sink.{SinkFails, appended, PutsFront}
 use Rattle.x7_words.specs.Input.{preceded, Selects}
 use Rattle.x7_words.specs.Word.{AreBytes}
 use Rattle.x7_words.proofs.InputLemmas.{stays_on}
@@ -9,42 +8,51 @@ use Rattle.x7_words.proofs.CountLemmas.{risen_from}
 use Rattle.x7_listing.specs.Listing.{listing_of}
 use Rattle.x7_listing.specs.StreamListing.{stream_listing}
 use Rattle.x7_forms.specs.Event.{no_memory, write_fault}
-use Rattle.x7_forms.specs.Form.{Listing}
 use Rattle.x7_forms.specs.Message.{event_of}
 use Rattle.x7_forms.specs.Known.{stream_limit, with_inputs}
-use Rattle.x7_tool.specs.Run.{Ends, PutsListing}
-use Rattle.x7_forms.specs.Step.{RisesFor}
+use Rattle.x7_forms.specs.Step.{FailsAmong, LacksAmong}
 use Rattle.x7_tool.specs.Turns.{Lists}
 use Rattle.x7_forms.specs.Turn.{MayFollow}
-use Rattle.x7_tool.proofs.AheadLemmas.{front_near, lists_longer, longer_front, longer_twice, turn_near, unfronted_near, unopened_near, unread_near, unwritten_near, why_weaker}
-use Rattle.x7_tool.proofs.Causes.{both_err, ends_same, listed_whole, out_of_memory, unfronted, unopened}
+use Rattle.x7_tool.proofs.AheadLemmas.{front_near, lists_longer, longer_front, longer_twice, stays_near, turn_near, unfronted_near, unopened_near, unread_near, unwritten_near, why_weaker}
+use Rattle.x7_tool.proofs.Causes.{Ended, PutsListed, both_err, ends_same, list_ends, list_seen, listed_whole, out_of_memory, unfronted, unopened}
+use Rattle.x7_forms.proofs.ReadLemmas.{at_on}
 use Rattle.x7_forms.proofs.ResultLemmas.{err_weaker}
 use Rattle.x7_tool.proofs.TurnLemmas.{end_failed, front_failed, front_here, goes_on, line_front, line_then, stream_here, stream_whole, taken_more, unread_end, write_failed}
 use Rattle.x7_tool.proofs.list.list.Goals as goal
 
-pub returns-in-Err-clause-err : goal.returns-in-Err-clause-err
-returns-in-Err-clause-err g c =
+pub returns-in-Err : goal.returns-in-Err
+returns-in-Err g c = λ before after.
     let i = g.I.Inputs in
     let o = g.O.Sink in
-    λ flash. unopened (i.state c.args.inputs.now) (i.state c.open.new.inputs) flash c.args.stream.now (HasRisen (o.state c.args.out.now).faults (o.state c.args.out.now).faults)
-    (o.state c.args.out.now).written (event_of c.in-Err.refusal) c.in-Err.ensures.err
+    let old = record before { inputs = i.state c.args.inputs.now; out = o.state c.args.out.now } in
+    let new = record after { inputs = i.state c.open.new.inputs; out = o.state c.args.out.now } in
+    let stream = c.args.stream.now in
+    let event = event_of c.in-Err.refusal in
+    list_ends stream old new (Err event) (unopened old.inputs new.inputs old.flash.bytes stream (SinkFails old.out new.out) old.out.written event c.in-Err.ensures.err c.open.ensures.asks)
+    (stays_near event stream old new (unopened_near old.inputs.contents stream new.inputs.rest old.out.written new.out.written old.inputs new.inputs stream event c.in-Err.ensures.err))
 
-pub returns-in-Err-read_front-clause-err : goal.returns-in-Err-read_front-clause-err
-returns-in-Err-read_front-clause-err g c =
+pub returns-in-Err-read_front : goal.returns-in-Err-read_front
+returns-in-Err-read_front g c = λ before after.
     let i = g.I.Inputs in
     let o = g.O.Sink in
-    λ flash. unfronted (i.state c.args.inputs.now) (i.state c.open.new.inputs) (i.state c.read_front.new.inputs) flash c.args.stream.now
-    (HasRisen (o.state c.args.out.now).faults (o.state c.args.out.now).faults) (o.state c.args.out.now).written (event_of c.in-Err-read_front.refusal) c.open.ensures.inputs c.in-Ok.ensures.ok.found c.in-Err-read_front.ensures.err
+    let old = record before { inputs = i.state c.args.inputs.now; out = o.state c.args.out.now } in
+    let new = record after { inputs = i.state c.read_front.new.inputs; out = o.state c.args.out.now } in
+    let stream = c.args.stream.now in
+    let event = event_of c.in-Err-read_front.refusal in
+    list_ends stream old new (Err event)
+    (unfronted old.inputs (i.state c.open.new.inputs) new.inputs old.flash.bytes stream (SinkFails old.out new.out) old.out.written event c.open.ensures.inputs c.in-Ok.ensures.ok.found c.open.ensures.asks c.in-Err-read_front.ensures.err)
+    (stays_near event stream old new (unfronted_near old.inputs.contents stream new.inputs.rest old.out.written new.out.written (i.state c.open.new.inputs) new.inputs stream event refl c.in-Ok.ensures.ok.found c.in-Err-read_front.ensures.err))
 
-pub returns-in-Err-put_front-clause-err : goal.returns-in-Err-put_front-clause-err
-returns-in-Err-put_front-clause-err g c =
+pub returns-in-Err-put_front : goal.returns-in-Err-put_front
+returns-in-Err-put_front g c = λ before after.
     let i = g.I.Inputs in
     let o = g.O.Sink in
     let contents = (i.state c.args.inputs.now).contents in
     let old = (o.state c.args.out.now).written in
     let stream = c.args.stream.now in
-    let F : List ℕ → Type 0 = RisesFor (stream ∷ []) (i.state c.args.inputs.now).faults (i.state c.read_front.new.inputs).faults in
-    let L : List ℕ → Type 0 = RisesFor (stream ∷ []) (i.state c.args.inputs.now).absences (i.state c.read_front.new.inputs).absences in
+    let given = (i.state c.read_front.new.inputs).given in
+    let F = FailsAmong (stream ∷ []) (i.state c.args.inputs.now) (i.state c.read_front.new.inputs) in
+    let L = LacksAmong (stream ∷ []) (i.state c.args.inputs.now) (i.state c.read_front.new.inputs) in
     let f = c.in-Ok-read_front.ensures.front in
     let taken = c.in-Ok-read_front.front.bytes.items in
     let last = c.in-Ok-read_front.front.last in
@@ -54,28 +62,31 @@ returns-in-Err-put_front-clause-err g c =
     let sent = take (length bytes - start) (drop start bytes) in
     let cut : sent ≡ drop start taken = take_all (length bytes - start) (drop start bytes) (omega (arith, length-drop start bytes)) ∙ ap (drop start) c.deref-2.ensures.value in
     let rest = (i.state c.read_front.new.inputs).rest in
-    let sel : Selects contents stream (preceded taken rest) = subst (λ r. Selects contents stream r) f.taken c.in-Ok.ensures.ok.found in
+    let sel : Selects contents stream (preceded taken rest) = subst (λ r. Selects contents stream r) f.reads.takes.taken c.in-Ok.ensures.ok.found in
     let goes : (left : List ℕ) → MayFollow last left → stream_listing (taken ++ left) ≡ Ok (line ++ listing_of (sent ++ left)) = λ left m. f.front left m ∙ ap (λ (l : List ℕ). Ok (l ++ listing_of (drop start taken ++ left))) (sym c.deref.ensures.value) ∙ ap (λ (s : List ℕ). Ok (line ++ listing_of (s ++ left))) (sym cut) in
     let now = (o.state c.put_front.new.out).written in
-    let Full : Type 0 = HasRisen (o.state c.args.out.now).faults (o.state c.put_front.new.out).faults in
+    let Full : Type 0 = SinkFails (o.state c.args.out.now) (o.state c.put_front.new.out) in
     let r = event_of c.in-Err-put_front.refusal in
-    λ flash.
-    let end : (r ≡ no_memory) ⊎ ((r ≡ write_fault) × HasRisen (o.state c.args.out.now).faults (o.state c.put_front.new.out).faults) → Ends (with_inputs contents flash) F L (Some (Listing stream)) Full old now (Err r)
+    let flash = before.flash.bytes in
+    let end : (r ≡ no_memory) ⊎ ((r ≡ write_fault) × SinkFails (o.state c.args.out.now) (o.state c.put_front.new.out)) → Ended (with_inputs contents flash) given F L stream Full old now (Err r)
     = elim [
-      | inl h ↦ ends_same (with_inputs contents flash) F L (Some (Listing stream)) Full old now r no_memory h (out_of_memory contents flash F L stream taken rest Full old now sel (front_here taken line sent last old now c.put_front.ensures.fits goes c.in-Err-put_front.ensures.err))
-      | inr h ↦ ends_same (with_inputs contents flash) F L (Some (Listing stream)) Full old now r write_fault h.0 (front_failed contents flash F L stream taken line sent rest last Full old now sel f.end h.1 c.put_front.ensures.fits goes c.in-Err-put_front.ensures.err)
+      | inl h ↦ ends_same (with_inputs contents flash) given F L stream Full old now r no_memory h (out_of_memory contents flash given F L stream taken rest Full old now sel (front_here taken line sent last old now c.put_front.ensures.fits goes c.in-Err-put_front.ensures.err))
+      | inr h ↦ ends_same (with_inputs contents flash) given F L stream Full old now r write_fault h.0 (front_failed contents flash given F L stream taken line sent rest last Full old now sel f.end h.1 c.put_front.ensures.fits goes c.in-Err-put_front.ensures.err)
     ] in
-    end c.in-Err-put_front.ensures.why
+    let put = c.in-Err-put_front.ensures.err [] (subst AreBytes (sym (append-nil _)) c.put_front.ensures.fits) in
+    let near = unwritten_near contents stream rest old now _ r (front_near contents stream taken rest old now sel f.few (longer_front old now _ put)) c.in-Err-put_front.ensures.why in
+    list_ends stream (record before { inputs = i.state c.args.inputs.now; out = o.state c.args.out.now }) (record after { inputs = i.state c.read_front.new.inputs; out = o.state c.put_front.new.out }) (Err r) (end c.in-Err-put_front.ensures.why) (stays_near r stream (record before { inputs = i.state c.args.inputs.now; out = o.state c.args.out.now }) (record after { inputs = i.state c.read_front.new.inputs; out = o.state c.put_front.new.out }) near)
 
-pub returns-then-front-clause-ok : goal.returns-then-front-clause-ok
-returns-then-front-clause-ok g c =
+pub returns-then-front : goal.returns-then-front
+returns-then-front g c = λ before after.
     let i = g.I.Inputs in
     let o = g.O.Sink in
     let contents = (i.state c.args.inputs.now).contents in
     let old = (o.state c.args.out.now).written in
     let stream = c.args.stream.now in
-    let F : List ℕ → Type 0 = RisesFor (stream ∷ []) (i.state c.args.inputs.now).faults (i.state c.read_front.new.inputs).faults in
-    let L : List ℕ → Type 0 = RisesFor (stream ∷ []) (i.state c.args.inputs.now).absences (i.state c.read_front.new.inputs).absences in
+    let given = (i.state c.read_front.new.inputs).given in
+    let F = FailsAmong (stream ∷ []) (i.state c.args.inputs.now) (i.state c.read_front.new.inputs) in
+    let L = LacksAmong (stream ∷ []) (i.state c.args.inputs.now) (i.state c.read_front.new.inputs) in
     let f = c.in-Ok-read_front.ensures.front in
     let taken = c.in-Ok-read_front.front.bytes.items in
     let last = c.in-Ok-read_front.front.last in
@@ -85,103 +96,93 @@ returns-then-front-clause-ok g c =
     let sent = take (length bytes - start) (drop start bytes) in
     let cut : sent ≡ drop start taken = take_all (length bytes - start) (drop start bytes) (omega (arith, length-drop start bytes)) ∙ ap (drop start) c.deref-2.ensures.value in
     let rest = (i.state c.read_front.new.inputs).rest in
-    let sel : Selects contents stream (preceded taken rest) = subst (λ r. Selects contents stream r) f.taken c.in-Ok.ensures.ok.found in
+    let sel : Selects contents stream (preceded taken rest) = subst (λ r. Selects contents stream r) f.reads.takes.taken c.in-Ok.ensures.ok.found in
     let goes : (left : List ℕ) → MayFollow last left → stream_listing (taken ++ left) ≡ Ok (line ++ listing_of (sent ++ left)) = λ left m. f.front left m ∙ ap (λ (l : List ℕ). Ok (l ++ listing_of (drop start taken ++ left))) (sym c.deref.ensures.value) ∙ ap (λ (s : List ℕ). Ok (line ++ listing_of (s ++ left))) (sym cut) in
     let now = (o.state c.put_end.new.out).written in
-    let Full : Type 0 = HasRisen (o.state c.args.out.now).faults (o.state c.put_end.new.out).faults in
+    let Full : Type 0 = SinkFails (o.state c.args.out.now) (o.state c.put_end.new.out) in
     let lists : Lists c.put_front.new.lister (appended old line) (o.state c.put_front.new.out).written sent = c.in-Ok-put_front.ensures.ok in
     let same = stream_whole taken line sent (goes [] (λ l. refl)) in
-    on_ok_weaker c.put_end.result (λ h flash. (line ++ listing_of sent, listed_whole contents flash F L stream taken (line ++ listing_of sent) rest Full old now sel (f.end c.if-front.true) same (omega (arith, f.few)) (line_then old now line (listing_of sent) (h (appended old line) sent lists)))) c.put_end.ensures.ok
-
-pub returns-then-front-clause-err : goal.returns-then-front-clause-err
-returns-then-front-clause-err g c =
-    let i = g.I.Inputs in
-    let o = g.O.Sink in
-    let contents = (i.state c.args.inputs.now).contents in
-    let old = (o.state c.args.out.now).written in
-    let stream = c.args.stream.now in
-    let F : List ℕ → Type 0 = RisesFor (stream ∷ []) (i.state c.args.inputs.now).faults (i.state c.read_front.new.inputs).faults in
-    let L : List ℕ → Type 0 = RisesFor (stream ∷ []) (i.state c.args.inputs.now).absences (i.state c.read_front.new.inputs).absences in
-    let f = c.in-Ok-read_front.ensures.front in
-    let taken = c.in-Ok-read_front.front.bytes.items in
-    let last = c.in-Ok-read_front.front.last in
-    let line = c.deref.result.now in
-    let start = c.in-Ok-read_front.front.start in
-    let bytes = c.deref-2.result.now in
-    let sent = take (length bytes - start) (drop start bytes) in
-    let cut : sent ≡ drop start taken = take_all (length bytes - start) (drop start bytes) (omega (arith, length-drop start bytes)) ∙ ap (drop start) c.deref-2.ensures.value in
-    let rest = (i.state c.read_front.new.inputs).rest in
-    let sel : Selects contents stream (preceded taken rest) = subst (λ r. Selects contents stream r) f.taken c.in-Ok.ensures.ok.found in
-    let goes : (left : List ℕ) → MayFollow last left → stream_listing (taken ++ left) ≡ Ok (line ++ listing_of (sent ++ left)) = λ left m. f.front left m ∙ ap (λ (l : List ℕ). Ok (l ++ listing_of (drop start taken ++ left))) (sym c.deref.ensures.value) ∙ ap (λ (s : List ℕ). Ok (line ++ listing_of (s ++ left))) (sym cut) in
-    let now = (o.state c.put_end.new.out).written in
-    let Full : Type 0 = HasRisen (o.state c.args.out.now).faults (o.state c.put_end.new.out).faults in
-    let lists : Lists c.put_front.new.lister (appended old line) (o.state c.put_front.new.out).written sent = c.in-Ok-put_front.ensures.ok in
-    let same = stream_whole taken line sent (goes [] (λ l. refl)) in
-    both_err c.put_end.result (λ r. (first : Option (List ℕ)) (bytes : List ℕ) → Lists c.put_front.new.lister first (o.state c.put_front.new.out).written bytes → PutsFront first (listing_of bytes) now)
-    (λ r. (event_of r ≡ no_memory) ⊎ ((event_of r ≡ write_fault) × HasRisen (o.state c.put_front.new.out).faults (o.state c.put_end.new.out).faults))
-    (λ r. (flash : Option (List ℕ)) → Ends (with_inputs contents flash) F L (Some (Listing stream)) Full old now (Err (event_of r)))
-    (λ r p w flash.
-    let front : PutsListing taken old now = (line ++ listing_of sent, (same, line_front old now line (listing_of sent) (p (appended old line) sent lists))) in
-    let end : (event_of r ≡ no_memory) ⊎ ((event_of r ≡ write_fault) × HasRisen (o.state c.put_front.new.out).faults (o.state c.put_end.new.out).faults) → Ends (with_inputs contents flash) F L (Some (Listing stream)) Full old now (Err (event_of r))
+    let flash = before.flash.bytes in
+    let ok = on_ok_weaker c.put_end.result (λ h. (line ++ listing_of sent, listed_whole contents flash given F L stream taken (line ++ listing_of sent) rest Full old now sel (f.end c.if-front.true) same (omega (arith, f.few)) (line_then old now line (listing_of sent) (h (appended old line) sent lists)))) c.put_end.ensures.ok in
+    let err = both_err c.put_end.result (λ r. (first : Option (List ℕ)) (bytes : List ℕ) → Lists c.put_front.new.lister first (o.state c.put_front.new.out).written bytes → PutsFront first (listing_of bytes) now)
+    (λ r. (event_of r ≡ no_memory) ⊎ ((event_of r ≡ write_fault) × SinkFails (o.state c.put_front.new.out) (o.state c.put_end.new.out)))
+    (λ r. Ended (with_inputs contents flash) given F L stream Full old now (Err (event_of r)))
+    (λ r p w.
+    let front : PutsListed taken old now = (line ++ listing_of sent, (same, line_front old now line (listing_of sent) (p (appended old line) sent lists))) in
+    let end : (event_of r ≡ no_memory) ⊎ ((event_of r ≡ write_fault) × SinkFails (o.state c.put_front.new.out) (o.state c.put_end.new.out)) → Ended (with_inputs contents flash) given F L stream Full old now (Err (event_of r))
     = elim [
-      | inl h ↦ ends_same (with_inputs contents flash) F L (Some (Listing stream)) Full old now (event_of r) no_memory h (out_of_memory contents flash F L stream taken rest Full old now sel front)
+      | inl h ↦ ends_same (with_inputs contents flash) given F L stream Full old now (event_of r) no_memory h (out_of_memory contents flash given F L stream taken rest Full old now sel front)
       | inr h ↦
           let risen = risen_from (o.state c.args.out.now).faults (o.state c.put_front.new.out).faults (o.state c.put_end.new.out).faults c.put_front.ensures.counts.faults h.1 in
-          ends_same (with_inputs contents flash) F L (Some (Listing stream)) Full old now (event_of r) write_fault h.0 (end_failed contents flash F L stream taken rest Full old now sel (f.end c.if-front.true) risen front)
+          ends_same (with_inputs contents flash) given F L stream Full old now (event_of r) write_fault h.0 (end_failed contents flash given F L stream taken rest Full old now sel (f.end c.if-front.true) risen front)
     ] in
     end w)
-    c.put_end.ensures.err c.put_end.ensures.why
+    c.put_end.ensures.err c.put_end.ensures.why in
+    let longer = longer_twice old (o.state c.put_front.new.out).written now (lists_longer c.put_front.new.lister old (o.state c.put_front.new.out).written _ _ lists) c.put_end.ensures.longer in
+    let near = err_weaker c.put_end.result (λ r w. stays_near (event_of r) stream (record before { inputs = i.state c.args.inputs.now; out = o.state c.args.out.now }) (record after { inputs = i.state c.read_front.new.inputs; out = o.state c.put_end.new.out }) (unwritten_near contents stream rest old now _ (event_of r) (front_near contents stream taken rest old now sel f.few longer) w)) c.put_end.ensures.why in
+    list_seen stream (record before { inputs = i.state c.args.inputs.now; out = o.state c.args.out.now }) (record after { inputs = i.state c.read_front.new.inputs; out = o.state c.put_end.new.out }) c.put_end.result ok err near
 
-pub returns-in-Err-next_turn-clause-err : goal.returns-in-Err-next_turn-clause-err
-returns-in-Err-next_turn-clause-err g c =
+pub returns-in-Err-next_turn : goal.returns-in-Err-next_turn
+returns-in-Err-next_turn g c = λ before after.
     let i = g.I.Inputs in
     let o = g.O.Sink in
     let v = c.loop-turn.invariant in
-    λ flash. unread_end (i.state c.args.inputs.now) (i.state c.loop-turn.inputs) (i.state c.next_turn.new.inputs) flash c.args.stream.now v.told.0 c.loop-turn.lister c.loop-turn.left _
-    (HasRisen (o.state c.args.out.now).faults (o.state c.loop-turn.out).faults)
-    (o.state c.args.out.now).written (o.state c.loop-turn.out).written (event_of c.in-Err-next_turn.refusal) v.inputs v.told.1.0 v.told.1.1 v.told.1.2 c.in-Err-next_turn.ensures.err
+    let old = record before { inputs = i.state c.args.inputs.now; out = o.state c.args.out.now } in
+    let new = record after { inputs = i.state c.next_turn.new.inputs; out = o.state c.loop-turn.out } in
+    let stream = c.args.stream.now in
+    let event = event_of c.in-Err-next_turn.refusal in
+    list_ends stream old new (Err event)
+    (unread_end old.inputs (i.state c.loop-turn.inputs) new.inputs old.flash.bytes stream v.told.0 c.loop-turn.lister c.loop-turn.left (SinkFails old.out new.out) old.out.written new.out.written event
+    v.inputs v.told.1.0 v.told.1.3 v.told.1.1 v.told.1.2 c.in-Err-next_turn.ensures.err c.next_turn.ensures.asked)
+    (stays_near event stream old new (unread_near old.inputs.contents stream new.inputs.rest old.out.written new.out.written (i.state c.loop-turn.inputs) new.inputs stream _ event c.in-Err-next_turn.ensures.err))
 
-pub returns-in-Err-put_turn-clause-err : goal.returns-in-Err-put_turn-clause-err
-returns-in-Err-put_turn-clause-err g c =
+pub returns-in-Err-put_turn : goal.returns-in-Err-put_turn
+returns-in-Err-put_turn g c = λ before after.
     let i = g.I.Inputs in
     let o = g.O.Sink in
     let contents = (i.state c.args.inputs.now).contents in
     let old = (o.state c.args.out.now).written in
     let stream = c.args.stream.now in
-    let F : List ℕ → Type 0 = RisesFor (stream ∷ []) (i.state c.args.inputs.now).faults (i.state c.next_turn.new.inputs).faults in
-    let L : List ℕ → Type 0 = RisesFor (stream ∷ []) (i.state c.args.inputs.now).absences (i.state c.next_turn.new.inputs).absences in
+    let given = (i.state c.next_turn.new.inputs).given in
+    let F = FailsAmong (stream ∷ []) (i.state c.args.inputs.now) (i.state c.next_turn.new.inputs) in
+    let L = LacksAmong (stream ∷ []) (i.state c.args.inputs.now) (i.state c.next_turn.new.inputs) in
     let v = c.loop-turn.invariant in
     let taken = v.told.0 in
     let t = v.told.1.1 in
     let piece = take c.in-Ok-next_turn.turn.count c.next_turn.new.buf in
     let sel = taken_more contents stream taken piece (i.state c.loop-turn.inputs).rest (i.state c.next_turn.new.inputs).rest v.told.1.0 c.in-Ok-next_turn.ensures.ok.taken in
     let now = (o.state c.put_turn.new.out).written in
-    let Full : Type 0 = HasRisen (o.state c.args.out.now).faults (o.state c.put_turn.new.out).faults in
+    let Full : Type 0 = SinkFails (o.state c.args.out.now) (o.state c.put_turn.new.out) in
     let r = event_of c.in-Err-put_turn.refusal in
-    λ flash.
-    let end : ((r ≡ no_memory) × (now ≡ (o.state c.loop-turn.out).written)) ⊎ ((r ≡ write_fault) × HasRisen (o.state c.loop-turn.out).faults (o.state c.put_turn.new.out).faults) → Ends (with_inputs contents flash) F L (Some (Listing stream)) Full old now (Err r)
+    let flash = before.flash.bytes in
+    let end : ((r ≡ no_memory) × (now ≡ (o.state c.loop-turn.out).written)) ⊎ ((r ≡ write_fault) × SinkFails (o.state c.loop-turn.out) (o.state c.put_turn.new.out)) → Ended (with_inputs contents flash) given F L stream Full old now (Err r)
     = elim [
       | inl h ↦
-          let front2 : PutsListing taken old now = subst (λ w. PutsListing taken old w) (sym h.1) (stream_here c.loop-turn.lister old (o.state c.loop-turn.out).written taken t) in
-          ends_same (with_inputs contents flash) F L (Some (Listing stream)) Full old now r no_memory h.0 (out_of_memory contents flash F L stream taken (i.state c.loop-turn.inputs).rest Full old now v.told.1.0 front2)
+          let front2 : PutsListed taken old now = subst (λ w. PutsListed taken old w) (sym h.1) (stream_here c.loop-turn.lister old (o.state c.loop-turn.out).written taken t) in
+          ends_same (with_inputs contents flash) given F L stream Full old now r no_memory h.0 (out_of_memory contents flash given F L stream taken (i.state c.loop-turn.inputs).rest Full old now v.told.1.0 front2)
       | inr h ↦
           let risen = risen_from (o.state c.args.out.now).faults (o.state c.loop-turn.out).faults (o.state c.put_turn.new.out).faults v.written h.1 in
           let err : (left : List ℕ) → AreBytes (t.sent ++ (piece ++ left)) → PutsFront (appended old t.line) (listing_of (t.sent ++ (piece ++ left))) now
           = λ left fits. c.in-Err-put_turn.ensures.err (appended old t.line) t.sent left t.lists fits in
-          ends_same (with_inputs contents flash) F L (Some (Listing stream)) Full old now r write_fault h.0
-          (write_failed contents flash F L stream taken piece piece c.loop-turn.lister (i.state c.next_turn.new.inputs).rest Full old (o.state c.loop-turn.out).written now refl sel risen t c.put_turn.ensures.fits err)
+          ends_same (with_inputs contents flash) given F L stream Full old now r write_fault h.0
+          (write_failed contents flash given F L stream taken piece piece c.loop-turn.lister (i.state c.next_turn.new.inputs).rest Full old (o.state c.loop-turn.out).written now refl sel risen t c.put_turn.ensures.fits err)
     ] in
-    end c.in-Err-put_turn.ensures.why
+    let n = c.in-Ok-next_turn.turn.count in
+    let rest = (i.state c.next_turn.new.inputs).rest in
+    let few : length piece ≤ 65536 = omega (arith, length-take-le n c.next_turn.new.buf (omega (arith, c.in-Ok-next_turn.ensures.within.1, c.next_turn.ensures.length, v.piece)), c.in-Ok-next_turn.ensures.within.1, v.piece) in
+    let near = turn_near contents stream taken piece t.line t.sent c.loop-turn.lister rest old (o.state c.loop-turn.out).written now sel t.close few t.lists c.put_turn.ensures.longer in
+    list_ends stream (record before { inputs = i.state c.args.inputs.now; out = o.state c.args.out.now }) (record after { inputs = i.state c.next_turn.new.inputs; out = o.state c.put_turn.new.out }) (Err r) (end c.in-Err-put_turn.ensures.why) (stays_near r stream (record before { inputs = i.state c.args.inputs.now; out = o.state c.args.out.now }) (record after { inputs = i.state c.next_turn.new.inputs; out = o.state c.put_turn.new.out }) (unwritten_near contents stream rest old now _ r near (why_weaker c.in-Err-put_turn.ensures.why)))
 
-pub returns-then-turn-clause-ok : goal.returns-then-turn-clause-ok
-returns-then-turn-clause-ok g c =
+pub returns-then-turn : goal.returns-then-turn
+returns-then-turn g c = λ before after.
     let i = g.I.Inputs in
     let o = g.O.Sink in
     let contents = (i.state c.args.inputs.now).contents in
     let old = (o.state c.args.out.now).written in
     let stream = c.args.stream.now in
-    let F : List ℕ → Type 0 = RisesFor (stream ∷ []) (i.state c.args.inputs.now).faults (i.state c.next_turn.new.inputs).faults in
-    let L : List ℕ → Type 0 = RisesFor (stream ∷ []) (i.state c.args.inputs.now).absences (i.state c.next_turn.new.inputs).absences in
+    let given = (i.state c.next_turn.new.inputs).given in
+    let F = FailsAmong (stream ∷ []) (i.state c.args.inputs.now) (i.state c.next_turn.new.inputs) in
+    let L = LacksAmong (stream ∷ []) (i.state c.args.inputs.now) (i.state c.next_turn.new.inputs) in
     let v = c.loop-turn.invariant in
     let taken = v.told.0 in
     let t = v.told.1.1 in
@@ -191,47 +192,34 @@ returns-then-turn-clause-ok g c =
     let lists : Lists c.put_turn.new.lister (appended old t.line) (o.state c.put_turn.new.out).written (t.sent ++ piece) = c.in-Ok-put_turn.ensures.ok (appended old t.line) t.sent t.lists in
     let goes = goes_on taken piece t.line t.sent t.goes in
     let now = (o.state c.put_end-then-turn.new.out).written in
-    let Full : Type 0 = HasRisen (o.state c.args.out.now).faults (o.state c.put_end-then-turn.new.out).faults in
+    let Full : Type 0 = SinkFails (o.state c.args.out.now) (o.state c.put_end-then-turn.new.out) in
     let size : length (taken ++ piece) ≡ length taken + n = length-append taken piece ∙ ap (λ k. length taken + k) (length-take-le n c.next_turn.new.buf (omega (arith, c.in-Ok-next_turn.ensures.within.1, c.next_turn.ensures.length, v.piece))) in
     let short : length (taken ++ piece) ≤ stream_limit = omega (arith, size, c.in-Ok-next_turn.ensures.within.0, v.told.1.2) in
     let end = c.in-Ok-next_turn.ensures.end c.if-turn.true in
     let text = t.line ++ listing_of (t.sent ++ piece) in
     let same = stream_whole (taken ++ piece) t.line (t.sent ++ piece) (goes []) in
-    on_ok_weaker c.put_end-then-turn.result (λ h flash. (text, listed_whole contents flash F L stream (taken ++ piece) text (i.state c.next_turn.new.inputs).rest Full old now sel end same short (line_then old now t.line (listing_of (t.sent ++ piece)) (h (appended old t.line) (t.sent ++ piece) lists)))) c.put_end-then-turn.ensures.ok
-
-pub returns-then-turn-clause-err : goal.returns-then-turn-clause-err
-returns-then-turn-clause-err g c =
-    let i = g.I.Inputs in
-    let o = g.O.Sink in
-    let contents = (i.state c.args.inputs.now).contents in
-    let old = (o.state c.args.out.now).written in
-    let stream = c.args.stream.now in
-    let F : List ℕ → Type 0 = RisesFor (stream ∷ []) (i.state c.args.inputs.now).faults (i.state c.next_turn.new.inputs).faults in
-    let L : List ℕ → Type 0 = RisesFor (stream ∷ []) (i.state c.args.inputs.now).absences (i.state c.next_turn.new.inputs).absences in
-    let v = c.loop-turn.invariant in
-    let taken = v.told.0 in
-    let t = v.told.1.1 in
-    let piece = take c.in-Ok-next_turn.turn.count c.next_turn.new.buf in
-    let sel = taken_more contents stream taken piece (i.state c.loop-turn.inputs).rest (i.state c.next_turn.new.inputs).rest v.told.1.0 c.in-Ok-next_turn.ensures.ok.taken in
-    let lists : Lists c.put_turn.new.lister (appended old t.line) (o.state c.put_turn.new.out).written (t.sent ++ piece) = c.in-Ok-put_turn.ensures.ok (appended old t.line) t.sent t.lists in
-    let goes = goes_on taken piece t.line t.sent t.goes in
-    let now = (o.state c.put_end-then-turn.new.out).written in
-    let Full : Type 0 = HasRisen (o.state c.args.out.now).faults (o.state c.put_end-then-turn.new.out).faults in
-    both_err c.put_end-then-turn.result (λ r. (first : Option (List ℕ)) (bytes : List ℕ) → Lists c.put_turn.new.lister first (o.state c.put_turn.new.out).written bytes → PutsFront first (listing_of bytes) now)
-    (λ r. (event_of r ≡ no_memory) ⊎ ((event_of r ≡ write_fault) × HasRisen (o.state c.put_turn.new.out).faults (o.state c.put_end-then-turn.new.out).faults))
-    (λ r. (flash : Option (List ℕ)) → Ends (with_inputs contents flash) F L (Some (Listing stream)) Full old now (Err (event_of r)))
-    (λ r p w flash.
+    let flash = before.flash.bytes in
+    let ok = on_ok_weaker c.put_end-then-turn.result (λ h. (text, listed_whole contents flash given F L stream (taken ++ piece) text (i.state c.next_turn.new.inputs).rest Full old now sel end same short (line_then old now t.line (listing_of (t.sent ++ piece)) (h (appended old t.line) (t.sent ++ piece) lists)))) c.put_end-then-turn.ensures.ok in
+    let err = both_err c.put_end-then-turn.result (λ r. (first : Option (List ℕ)) (bytes : List ℕ) → Lists c.put_turn.new.lister first (o.state c.put_turn.new.out).written bytes → PutsFront first (listing_of bytes) now)
+    (λ r. (event_of r ≡ no_memory) ⊎ ((event_of r ≡ write_fault) × SinkFails (o.state c.put_turn.new.out) (o.state c.put_end-then-turn.new.out)))
+    (λ r. Ended (with_inputs contents flash) given F L stream Full old now (Err (event_of r)))
+    (λ r p w.
     let same = stream_whole (taken ++ piece) t.line (t.sent ++ piece) (goes []) in
-    let front : PutsListing (taken ++ piece) old now = (t.line ++ listing_of (t.sent ++ piece), (same, line_front old now t.line (listing_of (t.sent ++ piece)) (p (appended old t.line) (t.sent ++ piece) lists))) in
-    let end : (event_of r ≡ no_memory) ⊎ ((event_of r ≡ write_fault) × HasRisen (o.state c.put_turn.new.out).faults (o.state c.put_end-then-turn.new.out).faults) → Ends (with_inputs contents flash) F L (Some (Listing stream)) Full old now (Err (event_of r))
+    let front : PutsListed (taken ++ piece) old now = (t.line ++ listing_of (t.sent ++ piece), (same, line_front old now t.line (listing_of (t.sent ++ piece)) (p (appended old t.line) (t.sent ++ piece) lists))) in
+    let end : (event_of r ≡ no_memory) ⊎ ((event_of r ≡ write_fault) × SinkFails (o.state c.put_turn.new.out) (o.state c.put_end-then-turn.new.out)) → Ended (with_inputs contents flash) given F L stream Full old now (Err (event_of r))
     = elim [
-      | inl h ↦ ends_same (with_inputs contents flash) F L (Some (Listing stream)) Full old now (event_of r) no_memory h (out_of_memory contents flash F L stream (taken ++ piece) (i.state c.next_turn.new.inputs).rest Full old now sel front)
+      | inl h ↦ ends_same (with_inputs contents flash) given F L stream Full old now (event_of r) no_memory h (out_of_memory contents flash given F L stream (taken ++ piece) (i.state c.next_turn.new.inputs).rest Full old now sel front)
       | inr h ↦
           let risen = risen_from (o.state c.args.out.now).faults (o.state c.put_turn.new.out).faults (o.state c.put_end-then-turn.new.out).faults (omega (arith, v.written, c.put_turn.ensures.counts.faults)) h.1 in
-          ends_same (with_inputs contents flash) F L (Some (Listing stream)) Full old now (event_of r) write_fault h.0 (end_failed contents flash F L stream (taken ++ piece) (i.state c.next_turn.new.inputs).rest Full old now sel (c.in-Ok-next_turn.ensures.end c.if-turn.true) risen front)
+          ends_same (with_inputs contents flash) given F L stream Full old now (event_of r) write_fault h.0 (end_failed contents flash given F L stream (taken ++ piece) (i.state c.next_turn.new.inputs).rest Full old now sel (c.in-Ok-next_turn.ensures.end c.if-turn.true) risen front)
     ] in
     end w)
-    c.put_end-then-turn.ensures.err c.put_end-then-turn.ensures.why
+    c.put_end-then-turn.ensures.err c.put_end-then-turn.ensures.why in
+    let few : length piece ≤ 65536 = omega (arith, length-take-le n c.next_turn.new.buf (omega (arith, c.in-Ok-next_turn.ensures.within.1, c.next_turn.ensures.length, v.piece)), c.in-Ok-next_turn.ensures.within.1, v.piece) in
+    let longer = longer_twice (o.state c.loop-turn.out).written (o.state c.put_turn.new.out).written now c.put_turn.ensures.longer c.put_end-then-turn.ensures.longer in
+    let near = turn_near contents stream taken piece t.line t.sent c.loop-turn.lister (i.state c.next_turn.new.inputs).rest old (o.state c.loop-turn.out).written now sel t.close few t.lists longer in
+    let close = err_weaker c.put_end-then-turn.result (λ r w. stays_near (event_of r) stream (record before { inputs = i.state c.args.inputs.now; out = o.state c.args.out.now }) (record after { inputs = i.state c.next_turn.new.inputs; out = o.state c.put_end-then-turn.new.out }) (unwritten_near contents stream (i.state c.next_turn.new.inputs).rest old now _ (event_of r) near w)) c.put_end-then-turn.ensures.why in
+    list_seen stream (record before { inputs = i.state c.args.inputs.now; out = o.state c.args.out.now }) (record after { inputs = i.state c.next_turn.new.inputs; out = o.state c.put_end-then-turn.new.out }) c.put_end-then-turn.result ok err close
 
 pub loop-turn-preserved : goal.loop-turn-preserved
 loop-turn-preserved g c =
@@ -256,87 +244,5 @@ loop-turn-preserved g c =
       written = omega (arith, v.written, c.put_turn.ensures.counts.faults);
       left = omega (arith, v.left);
       piece = omega (arith, c.next_turn.ensures.length, v.piece);
-      told = (taken ++ piece, (sel, record { line = t.line; sent = t.sent ++ piece; lists = lists; goes = goes; close = omega (arith, t.close, length-append taken piece, length-append t.sent piece) }, omega (arith, size, v.told.1.2, c.in-Ok-next_turn.ensures.within.0)));
+      told = (taken ++ piece, (sel, record { line = t.line; sent = t.sent ++ piece; lists = lists; goes = goes; close = omega (arith, t.close, length-append taken piece, length-append t.sent piece) }, omega (arith, size, v.told.1.2, c.in-Ok-next_turn.ensures.within.0), at_on stream taken piece (i.state c.loop-turn.inputs) (i.state c.next_turn.new.inputs) v.told.1.3 c.in-Ok-next_turn.ensures.ok c.next_turn.ensures.asked));
     }
-
-pub returns-in-Err-clause-near : goal.returns-in-Err-clause-near
-returns-in-Err-clause-near g c =
-    unopened_near (g.I.Inputs.state c.args.inputs.now).contents c.args.stream.now (g.I.Inputs.state c.open.new.inputs).rest (g.O.Sink.state c.args.out.now).written (g.O.Sink.state c.args.out.now).written (g.I.Inputs.state c.args.inputs.now) (g.I.Inputs.state c.open.new.inputs) c.args.stream.now (event_of c.in-Err.refusal) c.in-Err.ensures.err
-
-pub returns-in-Err-read_front-clause-near : goal.returns-in-Err-read_front-clause-near
-returns-in-Err-read_front-clause-near g c =
-    unfronted_near (g.I.Inputs.state c.args.inputs.now).contents c.args.stream.now (g.I.Inputs.state c.read_front.new.inputs).rest (g.O.Sink.state c.args.out.now).written (g.O.Sink.state c.args.out.now).written (g.I.Inputs.state c.open.new.inputs) (g.I.Inputs.state c.read_front.new.inputs) c.args.stream.now (event_of c.in-Err-read_front.refusal) refl c.in-Ok.ensures.ok.found c.in-Err-read_front.ensures.err
-
-pub returns-in-Err-put_front-clause-near : goal.returns-in-Err-put_front-clause-near
-returns-in-Err-put_front-clause-near g c =
-    let i = g.I.Inputs in
-    let o = g.O.Sink in
-    let contents = (i.state c.args.inputs.now).contents in
-    let old = (o.state c.args.out.now).written in
-    let now = (o.state c.put_front.new.out).written in
-    let stream = c.args.stream.now in
-    let f = c.in-Ok-read_front.ensures.front in
-    let taken = c.in-Ok-read_front.front.bytes.items in
-    let rest = (i.state c.read_front.new.inputs).rest in
-    let sel : Selects contents stream (preceded taken rest) = subst (λ r. Selects contents stream r) f.taken c.in-Ok.ensures.ok.found in
-    let sent = c.put_front.ensures.fits in
-    let put = c.in-Err-put_front.ensures.err [] (subst AreBytes (sym (append-nil _)) c.put_front.ensures.fits) in
-    unwritten_near contents stream rest old now _ (event_of c.in-Err-put_front.refusal) (front_near contents stream taken rest old now sel f.few (longer_front old now _ put)) c.in-Err-put_front.ensures.why
-
-pub returns-then-front-clause-near : goal.returns-then-front-clause-near
-returns-then-front-clause-near g c =
-    let i = g.I.Inputs in
-    let o = g.O.Sink in
-    let contents = (i.state c.args.inputs.now).contents in
-    let old = (o.state c.args.out.now).written in
-    let now = (o.state c.put_end.new.out).written in
-    let stream = c.args.stream.now in
-    let f = c.in-Ok-read_front.ensures.front in
-    let taken = c.in-Ok-read_front.front.bytes.items in
-    let rest = (i.state c.read_front.new.inputs).rest in
-    let sel : Selects contents stream (preceded taken rest) = subst (λ r. Selects contents stream r) f.taken c.in-Ok.ensures.ok.found in
-    let longer = longer_twice old (o.state c.put_front.new.out).written now (lists_longer c.put_front.new.lister old (o.state c.put_front.new.out).written _ _ c.in-Ok-put_front.ensures.ok) c.put_end.ensures.longer in
-    err_weaker c.put_end.result (λ r w. unwritten_near contents stream rest old now _ (event_of r) (front_near contents stream taken rest old now sel f.few longer) w) c.put_end.ensures.why
-
-pub returns-in-Err-next_turn-clause-near : goal.returns-in-Err-next_turn-clause-near
-returns-in-Err-next_turn-clause-near g c =
-    unread_near (g.I.Inputs.state c.args.inputs.now).contents c.args.stream.now (g.I.Inputs.state c.next_turn.new.inputs).rest (g.O.Sink.state c.args.out.now).written (g.O.Sink.state c.loop-turn.out).written (g.I.Inputs.state c.loop-turn.inputs) (g.I.Inputs.state c.next_turn.new.inputs) c.args.stream.now _ _ (event_of c.in-Err-next_turn.refusal) c.in-Err-next_turn.ensures.err
-
-pub returns-in-Err-put_turn-clause-near : goal.returns-in-Err-put_turn-clause-near
-returns-in-Err-put_turn-clause-near g c =
-    let i = g.I.Inputs in
-    let o = g.O.Sink in
-    let contents = (i.state c.args.inputs.now).contents in
-    let old = (o.state c.args.out.now).written in
-    let now = (o.state c.put_turn.new.out).written in
-    let stream = c.args.stream.now in
-    let v = c.loop-turn.invariant in
-    let taken = v.told.0 in
-    let t = v.told.1.1 in
-    let n = c.in-Ok-next_turn.turn.count in
-    let piece = take n c.next_turn.new.buf in
-    let rest = (i.state c.next_turn.new.inputs).rest in
-    let sel = taken_more contents stream taken piece (i.state c.loop-turn.inputs).rest rest v.told.1.0 c.in-Ok-next_turn.ensures.ok.taken in
-    let few : length piece ≤ 65536 = omega (arith, length-take-le n c.next_turn.new.buf (omega (arith, c.in-Ok-next_turn.ensures.within.1, c.next_turn.ensures.length, v.piece)), c.in-Ok-next_turn.ensures.within.1, v.piece) in
-    let near = turn_near contents stream taken piece t.line t.sent c.loop-turn.lister rest old (o.state c.loop-turn.out).written now sel t.close few t.lists c.put_turn.ensures.longer in
-    unwritten_near contents stream rest old now _ (event_of c.in-Err-put_turn.refusal) near (why_weaker c.in-Err-put_turn.ensures.why)
-
-pub returns-then-turn-clause-near : goal.returns-then-turn-clause-near
-returns-then-turn-clause-near g c =
-    let i = g.I.Inputs in
-    let o = g.O.Sink in
-    let contents = (i.state c.args.inputs.now).contents in
-    let old = (o.state c.args.out.now).written in
-    let now = (o.state c.put_end-then-turn.new.out).written in
-    let stream = c.args.stream.now in
-    let v = c.loop-turn.invariant in
-    let taken = v.told.0 in
-    let t = v.told.1.1 in
-    let n = c.in-Ok-next_turn.turn.count in
-    let piece = take n c.next_turn.new.buf in
-    let rest = (i.state c.next_turn.new.inputs).rest in
-    let sel = taken_more contents stream taken piece (i.state c.loop-turn.inputs).rest rest v.told.1.0 c.in-Ok-next_turn.ensures.ok.taken in
-    let few : length piece ≤ 65536 = omega (arith, length-take-le n c.next_turn.new.buf (omega (arith, c.in-Ok-next_turn.ensures.within.1, c.next_turn.ensures.length, v.piece)), c.in-Ok-next_turn.ensures.within.1, v.piece) in
-    let longer = longer_twice (o.state c.loop-turn.out).written (o.state c.put_turn.new.out).written now c.put_turn.ensures.longer c.put_end-then-turn.ensures.longer in
-    let near = turn_near contents stream taken piece t.line t.sent c.loop-turn.lister rest old (o.state c.loop-turn.out).written now sel t.close few t.lists longer in
-    err_weaker c.put_end-then-turn.result (λ r w. unwritten_near contents stream rest old now _ (event_of r) near w) c.put_end-then-turn.ensures.why

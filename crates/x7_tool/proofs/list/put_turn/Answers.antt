@@ -20,7 +20,7 @@ returns-clause-ok g c = λ first bytes lists.
     lists_more c.args.lister.now c.feed.new.self c.clear_text.new.self first (g.O.Sink.state c.args.out.now).written (g.O.Sink.state c.write_all.new.sink).written bytes c.args.piece.now c.text.result.now lists feeds c.text.ensures put c.clear_text.ensures.cleared c.clear_text.ensures.given
 
 pub returns-then-is_err-clause-longer : goal.returns-then-is_err-clause-longer
-returns-then-is_err-clause-longer g c = same_now (g.O.Sink.state c.args.out.now).written
+returns-then-is_err-clause-longer g c = same_now (g.O.Sink.state c.args.out.now)
 
 pub returns-then-is_err-2-clause-longer : goal.returns-then-is_err-2-clause-longer
 returns-then-is_err-2-clause-longer g c = longer_front (g.O.Sink.state c.args.out.now).written (g.O.Sink.state c.write_all.new.sink).written _ c.write_all.ensures.front

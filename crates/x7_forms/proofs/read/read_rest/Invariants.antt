@@ -1,6 +1,7 @@
 use Rattle.std.proofs.Common.{◌≡◌, ℕ, List, ◌+◌, ◌≤◌, ◌++◌, length, true}
-use Rattle.x7_words.specs.Input.{Selects, Stays, preceded}
-use Rattle.x7_forms.proofs.read.read_onto.Given as goal
+use Rattle.x7_words.specs.Input.{Stays}
+use Rattle.x7_forms.specs.Turn.{Reads}
+use Rattle.x7_forms.proofs.read.read_rest.Given as goal
 
 abbrev pub invariant-loop-turn : goal.invariant-loop-turn
 invariant-loop-turn g l =
@@ -10,7 +11,7 @@ invariant-loop-turn g l =
       inputs : Stays (i.state l.fn.inputs) (i.state l.inputs);
       left : l.left ≤ l.limit;
       piece : length l.piece ≡ 65536;
-      told : (taken : List ℕ) × ((l.onto.items ≡ l.fn.onto.items ++ taken) × Selects (i.state l.fn.inputs).contents l.name (preceded taken (i.state l.inputs).rest) × (length taken + l.left ≡ l.limit));
+      told : (taken : List ℕ) × ((l.onto.items ≡ l.fn.onto.items ++ taken) × (length taken + l.left ≡ l.limit) × Reads (i.state l.fn.inputs) taken (i.state l.inputs));
     }
 
 abbrev pub decreases-loop-turn : goal.decreases-loop-turn

@@ -1,0 +1,18 @@
+use Rattle.std.proofs.Common.{ℕ, List, [], ◌∷◌, Ok, Err, inr}
+use Rattle.x7_part.specs.Part.{PartData}
+use Rattle.x7_forms.specs.Message.{event_of}
+use Rattle.x7_forms.specs.Known.{and_so, part_of, whole_in}
+use Rattle.x7_forms.proofs.ReadLemmas.{answers_go, answers_stop, first_of, part_steady}
+use Rattle.x7_tool.specs.Outcome.{DebugInputs, script_limit, stream_data}
+use Rattle.x7_tool.proofs.debug.read_given.Goals as goal
+
+pub returns-in-Err-read_data : goal.returns-in-Err-read_data
+returns-in-Err-read_data g c =
+    let i = g.I.Inputs in
+    let part = c.args.part.now in
+    let stream = c.args.stream.now in
+    let script = c.args.script.now in
+    let event = event_of c.in-Err-read_data.refusal in
+    answers_go PartData DebugInputs (part ∷ []) (stream ∷ []) (part ∷ stream ∷ script ∷ []) (i.state c.args.inputs.now) (i.state c.read_part.new.inputs) (i.state c.read_data.new.inputs) (λ t. part_of t part)
+    (λ t p. and_so (stream_data t stream) (λ bytes. and_so (whole_in t script_limit script) (λ text. Ok (record { part = p; stream = bytes; script = text })))) c.in-Ok.part (Err event) (part_steady part) c.read_part.ensures.inputs (λ n h. inr (first_of stream (script ∷ []) n h)) c.in-Ok.ensures.due
+    (answers_stop (List ℕ) DebugInputs (stream ∷ []) (stream ∷ []) (i.state c.read_part.new.inputs) (i.state c.read_data.new.inputs) (λ t. stream_data t stream) (λ t bytes. and_so (whole_in t script_limit script) (λ text. Ok (record { part = c.in-Ok.part; stream = bytes; script = text }))) event (λ n h. h) c.in-Err-read_data.ensures.due)

@@ -1,0 +1,64 @@
+-- What a command works over, and what is known of it and has failed (this project's choice).
+use Rattle.std.specs.Prelude.{◌≡◌, ◌≤◌, ℕ, IsTrue, List, [], ◌∷◌, Option, ◌⊎◌}
+use Rattle.x7_words.specs.Count.{HasRisen}
+use Rattle.x7_words.specs.Flash.{FlashFails, FlashState}
+use Rattle.x7_words.specs.Input.{InputsState}
+use Rattle.x7_words.specs.Sink.{SinkFails, SinkState}
+use Rattle.x7_forms.specs.Form.{Asked, flash_names, names_of}
+use Rattle.x7_forms.specs.Known.{Known, with_inputs}
+use Rattle.x7_forms.specs.Step.{Among, FailsAmong, LacksAmong}
+
+-- the outside at one moment: what the inputs, the flash and both sinks have come to
+pub record Outside : Type 0 where
+  pub inputs : InputsState
+  pub flash : FlashState
+  pub out : SinkState
+  pub err : SinkState
+
+-- the outside of these states
+abbrev pub outside : InputsState → FlashState → SinkState → SinkState → Outside
+outside inputs flash out err = record { inputs = inputs; flash = flash; out = out; err = err }
+
+-- what is known of the inputs and of the flash
+abbrev pub known_in : Outside → Option Known
+known_in o = with_inputs o.inputs.contents o.flash.bytes
+
+-- a flash of one of these names failed: it was asked for, and its count of faults rose
+pub record FlashFailsAmong (names : List (List ℕ)) (old new : FlashState) (name : List ℕ) : Type 0 where
+  pub among : Among names name
+  pub asked : IsTrue (new.names name)
+  pub risen : FlashFails old new
+
+-- a flash of one of these names was missing, by its count of absences
+pub record FlashLacksAmong (names : List (List ℕ)) (old new : FlashState) (name : List ℕ) : Type 0 where
+  pub among : Among names name
+  pub asked : IsTrue (new.names name)
+  pub risen : HasRisen old.absences new.absences
+
+-- the input of a name that the form gives failed, or its flash of that name
+abbrev pub Fails : Option Asked → Outside → Outside → List ℕ → Type 0
+Fails form old new name = FailsAmong (names_of form) old.inputs new.inputs name ⊎ FlashFailsAmong (flash_names form) old.flash new.flash name
+
+-- the same by the counts of absences
+abbrev pub Lacks : Option Asked → Outside → Outside → List ℕ → Type 0
+Lacks form old new name = LacksAmong (names_of form) old.inputs new.inputs name ⊎ FlashLacksAmong (flash_names form) old.flash new.flash name
+
+-- nothing that the form names failed or was missing, and the output didn't fail
+abbrev pub IsQuiet : Option Asked → Outside → Outside → Type 0
+IsQuiet form old new = ((name : List ℕ) → ¬ Fails form old new name) × ((name : List ℕ) → ¬ Lacks form old new name) × ¬ SinkFails old.out new.out
+
+-- ---- the flash
+
+-- A flash was read at most: its bytes stay and nothing was written, no count falls, and it was asked for no other name than this.
+pub record ReadsFlash (name : List ℕ) (old new : FlashState) : Type 0 where
+  pub bytes : new.bytes ≡ old.bytes
+  pub write_faults : new.write_faults ≡ old.write_faults
+  pub moments : new.moments ≡ old.moments
+  pub faults : old.faults ≤ new.faults
+  pub absences : old.absences ≤ new.absences
+  pub no_other : (other : List ℕ) → IsTrue (new.names other) → IsTrue (old.names other) ⊎ (other ≡ name)
+
+-- by the names that a form gives its flash: it is untouched where there is none, and else read at most
+abbrev pub KeepsFlash : List (List ℕ) → FlashState → FlashState → Type 0
+KeepsFlash [] old new = new ≡ old
+KeepsFlash (name ∷ more) old new = ReadsFlash name old new
