@@ -1,0 +1,177 @@
+-- Lemmas on images: each has a layout.
+use Rattle.std.proofs.Common.{◌≡◌, ℕ, zero, suc, ◌+◌, ◌-◌, ◌*◌, ◌/◌, ◌%◌, ◌^◌, ◌<◌, ◌≤◌, List, ◌++◌, length, get_or, replicate, refl, drop, ap, sym, subst, ◌∙◌, arith, length-append, append_assoc}
+use Rattle.std.specs.List.{repeat}
+use Rattle.std.proofs.lemmas.List.{length-replicate, get_or-drop, get_or_append_left, get_or-append_right}
+use Rattle.x7_words.specs.Word.{bytes_of_word, word_of_bytes}
+use Rattle.std.proofs.Math.Seq.{drop-append_seam}
+use Rattle.x7_boot.specs.Image as image
+use Rattle.x7_boot.specs.Image.{closed_slot, closed_slots, filled_to, first_sector, image_of, image_size, open_slot, sector_from, slot}
+use Rattle.x7_boot.proofs.SlotLemmas.{image_begins, place_whole, sector_long, size_behind, slot_long, update_behind}
+use Rattle.x7_boot.specs.ImageBoot.{HasImage, golden_image}
+use Rattle.x7_part.specs.Part.{PartData}
+use Rattle.x7_memory.specs.Planned.{PlanData}
+use Rattle.x7_planner.specs.Full.{full_stream}
+use Rattle.x7_recovery.specs.Recovery.{IsPrepared}
+use Rattle.x7_update.specs.Layout.{HasLayout, Leads, IsOpen, four_at, first_slot, free_word, open_word, slot_with, switch_of, update_place}
+
+-- the byte of a slot among equal ones
+slot_among : (one rest : List ℕ) (n k i : ℕ) → length one ≡ 32 → k < n → i < 32 → get_or (repeat n one ++ rest) (32 * k + i) 0 ≡ get_or one i 0
+slot_among one rest zero k i e h j = absurd (omega arith)
+slot_among one rest (suc n) zero i e h j =
+    let at : 32 * 0 + i ≡ i = omega arith in
+    ap (λ m. get_or ((one ++ repeat n one) ++ rest) m 0) at
+    ∙ ap (λ l. get_or l i 0) (append_assoc one (repeat n one) rest)
+    ∙ get_or_append_left one (repeat n one ++ rest) 0 i (omega (arith, e, j))
+slot_among one rest (suc n) (suc k) i e h j =
+    let at : 32 * suc k + i - 32 ≡ 32 * k + i = omega arith in
+    ap (λ l. get_or l (32 * suc k + i) 0) (append_assoc one (repeat n one) rest)
+    ∙ get_or-append_right one (repeat n one ++ rest) 32 (32 * suc k + i) 0 e (omega arith)
+    ∙ ap (λ m. get_or (repeat n one ++ rest) m 0) at
+    ∙ slot_among one rest n k i e (omega arith) j
+
+-- an open slot and a closed one are the same behind the switch word
+same_behind : (start i : ℕ) → 4 ≤ i → get_or (closed_slot start) i 0 ≡ get_or (open_slot start) i 0
+unfolding slot
+same_behind start i h =
+    let at : 4 + (i - 4) ≡ i = omega arith in
+    ap (λ m. get_or (closed_slot start) m 0) (sym at)
+    ∙ sym (get_or-drop 4 (closed_slot start) (i - 4) 0)
+    ∙ get_or-drop 4 (open_slot start) (i - 4) 0
+    ∙ ap (λ m. get_or (open_slot start) m 0) at
+
+open_is : (start : ℕ) → slot_with open_word (bytes_of_word start) ≡ open_slot start
+unfolding slot
+open_is start = refl
+
+closed_begins : (start : ℕ) → four_at (closed_slot start) 0 ≡ free_word
+unfolding slot
+closed_begins start = refl
+
+start_at : (start : ℕ) → four_at (open_slot start) 12 ≡ bytes_of_word start
+unfolding slot
+start_at start = refl
+
+word_back : (start : ℕ) → start < 2 ^ 32 → word_of_bytes (bytes_of_word start) ≡ start
+word_back start h = omega arith
+
+closed_repeat : (start : ℕ) → closed_slots start ≡ repeat 2047 (closed_slot start)
+unfolding closed_slots
+closed_repeat start = refl
+
+module _ (start : ℕ) (all rest : List ℕ) (begins : all ≡ first_sector start ++ rest) where
+  is : all ≡ open_slot start ++ (closed_slots start ++ rest)
+  is = begins ∙ append_assoc (open_slot start) (closed_slots start) rest
+
+  open_byte : (i : ℕ) → i < 32 → get_or all i 0 ≡ get_or (open_slot start) i 0
+  open_byte i h = ap (λ l. get_or l i 0) is ∙ get_or_append_left (open_slot start) (closed_slots start ++ rest) 0 i (omega (arith, h, slot_long 0xAA995566 start))
+
+  closed_byte : (k i : ℕ) → k < 2047 → i < 32 → get_or all (32 * suc k + i) 0 ≡ get_or (closed_slot start) i 0
+  closed_byte k i h j =
+      let at : 32 * suc k + i - 32 ≡ 32 * k + i = omega arith in
+      ap (λ l. get_or l (32 * suc k + i) 0) is
+      ∙ get_or-append_right (open_slot start) (closed_slots start ++ rest) 32 (32 * suc k + i) 0 (slot_long 0xAA995566 start) (omega arith)
+      ∙ ap (λ m. get_or (closed_slots start ++ rest) m 0) at
+      ∙ ap (λ l. get_or (l ++ rest) (32 * k + i) 0) (closed_repeat start)
+      ∙ slot_among (closed_slot start) rest 2047 k i (slot_long 0xFFFFFFFF start) h j
+
+  start_is : four_at all 12 ≡ bytes_of_word start
+  start_is = rw (open_byte 12 (omega arith), open_byte 13 (omega arith), open_byte 14 (omega arith), open_byte 15 (omega arith)) (start_at start)
+
+  first_is : first_slot all ≡ open_slot start
+  first_is = ap (slot_with open_word) start_is ∙ open_is start
+
+  pub place_is : start < 2 ^ 32 → update_place all ≡ start
+  place_is h = ap word_of_bytes start_is ∙ word_back start h
+
+  pub leads : (k : ℕ) → k < 2048 → Leads all k
+  leads zero h = λ i j l.
+      let at : 32 * 0 + i ≡ i = omega arith in
+      ap (λ m. get_or all m 0) at ∙ open_byte i l ∙ sym (ap (λ s. get_or s i 0) first_is)
+  leads (suc k) h = λ i j l. closed_byte k i (omega arith) l ∙ same_behind start i j ∙ sym (ap (λ s. get_or s i 0) first_is)
+
+  pub closed_free : (k : ℕ) → k < 2047 → switch_of all (suc k) ≡ free_word
+  closed_free k h =
+      let at : 32 * suc k + 0 ≡ 32 * suc k = omega arith in
+      let first : get_or all (32 * suc k) 0 ≡ get_or (closed_slot start) 0 0 = ap (λ m. get_or all m 0) (sym at) ∙ closed_byte k 0 h (omega arith) in
+      rw (first, closed_byte k 1 h (omega arith), closed_byte k 2 h (omega arith), closed_byte k 3 h (omega arith)) (closed_begins start)
+
+  not_open : (k : ℕ) → suc k < 2048 → IsOpen all (suc k) → ⊥
+  not_open k h o =
+      let same : open_word ≡ free_word = sym o ∙ closed_free k (omega arith) in
+      let byte : 0xAA ≡ 0xFF = ap (λ l. get_or l 0 0) same in
+      absurd (omega (arith, byte))
+
+  pub one_open : (k other : ℕ) → k < 2048 → other < 2048 → IsOpen all k → IsOpen all other → k ≡ other
+  one_open zero zero h j o p = refl
+  one_open zero (suc other) h j o p = absurd (not_open other j p)
+  one_open (suc k) other h j o p = absurd (not_open k h o)
+
+filled_long : (place : ℕ) (bytes : List ℕ) → length bytes ≤ place → length (filled_to place bytes) ≡ place
+filled_long place bytes h = length-append bytes (replicate (place - length bytes) 255) ∙ omega (arith, h, length-replicate {A = ℕ} (place - length bytes) 255)
+
+image_long : (golden update : List ℕ) → length (image_of 1 golden update) ≡ image_size (length golden) (length update)
+unfolding image_of
+image_long golden update =
+    let place = image.update_place (length golden) in
+    let front : List ℕ = first_sector (place / 1) ++ golden in
+    let front_long : length front ≤ place = omega (arith, length-append (first_sector (place / 1)) golden, sector_long (place / 1), update_behind (length golden)) in
+    let whole : List ℕ = filled_to place front ++ update in
+    let whole_long : length whole ≤ image_size (length golden) (length update) = omega (arith, length-append (filled_to place front) update, filled_long place front front_long, size_behind (length golden) (length update)) in
+    filled_long (image_size (length golden) (length update)) whole whole_long
+
+-- an image for a part that counts in bytes has a layout
+pub image_layout : (golden update : List ℕ) → image_size (length golden) (length update) ≤ 134217728 → HasLayout (image_of 1 golden update)
+image_layout golden update limit =
+    let all : List ℕ = image_of 1 golden update in
+    let place = image.update_place (length golden) in
+    let b = image_begins 1 golden update in
+    let begins : all ≡ first_sector (place / 1) ++ (golden ++ b.0) = b.1 ∙ append_assoc (first_sector (place / 1)) golden b.0 in
+    let same : place / 1 ≡ place = omega arith in
+    let long = image_long golden update in
+    let within : place + length update ≤ length all = omega (arith, long, size_behind (length golden) (length update)) in
+    let least : 131072 ≤ place = omega arith in
+    let whole : image_size (length golden) (length update) % 65536 ≡ 0 = omega arith in
+    let is : update_place all ≡ place = place_is (place / 1) all (golden ++ b.0) begins (omega (arith, same, within, long, limit)) ∙ same in
+    record {
+      size = record { whole = ap (λ n. n % 65536) long ∙ whole; least = omega (arith, within, least); most = omega (arith, long, limit) };
+      slots = record {
+        place = record { whole = ap (λ n. n % 65536) is ∙ place_whole (length golden); least = omega (arith, is, least); most = omega (arith, is, within) };
+        leads = leads (place / 1) all (golden ++ b.0) begins;
+        one_open = one_open (place / 1) all (golden ++ b.0) begins;
+        last_free = closed_free (place / 1) all (golden ++ b.0) begins 2046 (omega arith);
+      };
+    }
+
+-- where the update of an image stands, by its first slot
+image_place : (golden update : List ℕ) → image_size (length golden) (length update) ≤ 134217728 → update_place (image_of 1 golden update) ≡ image.update_place (length golden)
+image_place golden update limit =
+    let place = image.update_place (length golden) in
+    let b = image_begins 1 golden update in
+    let begins : image_of 1 golden update ≡ first_sector (place / 1) ++ (golden ++ b.0) = b.1 ∙ append_assoc (first_sector (place / 1)) golden b.0 in
+    let same : place / 1 ≡ place = omega arith in
+    place_is (place / 1) (image_of 1 golden update) (golden ++ b.0) begins (omega (arith, same, limit, size_behind (length golden) (length update))) ∙ same
+
+-- behind the first sector stands the golden stream
+image_golden : (golden update : List ℕ) → (rest : List ℕ) × (drop 65536 (image_of 1 golden update) ≡ golden ++ rest)
+image_golden golden update =
+    let place = image.update_place (length golden) in
+    let b = image_begins 1 golden update in
+    let begins : image_of 1 golden update ≡ first_sector (place / 1) ++ (golden ++ b.0) = b.1 ∙ append_assoc (first_sector (place / 1)) golden b.0 in
+    (b.0, ap (drop 65536) begins ∙ ap (λ n. drop n (first_sector (place / 1) ++ (golden ++ b.0))) (sym (sector_long (place / 1))) ∙ drop-append_seam (first_sector (place / 1)) (golden ++ b.0))
+
+-- such an image of the full stream of a plan is prepared
+pub image_prepared : (part : PartData) (golden : PlanData) (update stream : List ℕ) → HasImage part golden update → part.start_unit ≡ 1 → IsPrepared (record { part = part; golden = golden; flash = golden_image part golden update; stream = stream })
+image_prepared part golden update stream has unit =
+    let full : List ℕ = full_stream part golden in
+    let same : golden_image part golden update ≡ image_of 1 full update = ap (λ n. image_of n full update) unit in
+    let stands = image_golden full update in
+    record {
+      is_part = has.is_part;
+      plan = has.plan;
+      layout = subst HasLayout (sym same) (image_layout full update has.fits);
+      golden = record {
+        rest = stands.0;
+        stands = ap (drop 65536) same ∙ stands.1;
+        ends = omega (arith, update_behind (length full), ap update_place same, image_place full update has.fits);
+      };
+    }

@@ -1,0 +1,5 @@
+use Rattle.x7_recovery.proofs.FoundLemmas.{trial_over}
+use Rattle.x7_recovery.proofs.law.only_taken_bytes_count.Goals as goal
+
+pub returns : goal.returns
+returns c = trial_over

@@ -1,0 +1,51 @@
+-- What a device does with a flash that a power loss left in an update (UG470, MultiBoot and fallback; the layout is this project's choice).
+use Rattle.std.specs.Prelude.{◌≡◌, ℕ, ◌+◌, ◌≤◌, false, List, [], ◌∷◌, ◌++◌, None, drop, length}
+use Rattle.x7_part.specs.Part.{PartData}
+use Rattle.x7_part.specs.PartRange.{IsPart}
+use Rattle.x7_regs.specs.BootStatus.{boot_status_of}
+use Rattle.x7_regs.specs.declared.boot_status.Kind.TheVariants.{Power}
+use Rattle.x7_memory.specs.FrameMap.{AreSame}
+use Rattle.x7_memory.specs.Planned.{IsPlanFor, PlanData, total}
+use Rattle.x7_planner.specs.Full.{full_stream}
+use Rattle.x7_engine.specs.State.{memory_in}
+use Rattle.x7_boot.specs.Attempt.{Trial}
+use Rattle.x7_boot.specs.Boot.{BootedState, IsBoot, end_state}
+use Rattle.x7_boot.specs.declared.attempt.Ending.TheVariants as ending
+use Rattle.x7_boot.specs.declared.boots.BootEnd.{BootEnd}
+use Rattle.x7_boot.specs.declared.boots.BootEnd.TheVariants as boot_end
+use Rattle.x7_boot.specs.declared.boots.Tried.{Tried}
+use Rattle.x7_update.specs.After.{IsAfter}
+use Rattle.x7_update.specs.Layout.{HasLayout, update_place}
+
+-- a flash that is being updated with a stream, the part that boots from it, and the plan of its golden stream
+pub record Updating : Type 0 where
+  pub part : PartData
+  pub golden : PlanData
+  pub flash : List ℕ
+  pub stream : List ℕ
+
+-- behind the first sector stands the full stream of the plan, which ends at U or before it
+pub record HasGolden (part : PartData) (golden : PlanData) (flash : List ℕ) : Type 0 where
+  pub rest : List ℕ
+  pub stands : drop 65536 flash ≡ full_stream part golden ++ rest
+  pub ends : 65536 + length (full_stream part golden) ≤ update_place flash
+
+-- the part is one, the plan is one for it, and the flash has a layout with the full stream of the plan
+pub record IsPrepared (u : Updating) : Type 0 where
+  pub is_part : IsPart u.part
+  pub plan : IsPlanFor u.part u.golden
+  pub layout : HasLayout u.flash
+  pub golden : HasGolden u.part u.golden u.flash
+
+-- The boot starts with the attempt at power: with the memory of the golden plan over zeros, and BOOTSTS tells of no other attempt.
+pub record StartsGolden (part : PartData) (golden : PlanData) (attempts : List Tried) (end : BootEnd) (last : Trial) : Type 0 where
+  pub attempts_are : attempts ≡ record { kind = Power; address = 0; ending = ending.Started } ∷ []
+  pub started : end ≡ boot_end.Started
+  pub memory : AreSame (memory_in part last.kept last.bytes) (total part golden)
+  pub bootsts : (end_state part last).bootsts ≡ boot_status_of (record { kind = Power; cause = None; ignored = false }) None
+
+-- a boot of what was left: that of the flash before the update, or one that starts with the golden stream, or that of the updated flash
+pub data BootsAs (u : Updating) (found : List ℕ) (b : BootedState) : Type 0 where
+  as_before : IsBoot u.part u.flash b → BootsAs u found b
+  golden : (boot : IsBoot u.part found b) → StartsGolden u.part u.golden b.attempts b.end boot.last → BootsAs u found b
+  as_after : IsAfter u.stream u.flash found → IsBoot u.part found b → BootsAs u found b
