@@ -8,6 +8,8 @@ mod files;
 #[cfg(test)]
 mod frames;
 #[cfg(test)]
+mod port;
+#[cfg(test)]
 mod status;
 #[cfg(test)]
 mod texts;
