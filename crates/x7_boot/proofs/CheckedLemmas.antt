@@ -54,6 +54,7 @@ trial_fits part flash t fits is = by is
   where
     behind : AreBytes (drop t.address flash)
     behind = all_back (λ b. b < 256) (take t.address flash) (drop t.address flash) (subst AreBytes (sym (take-append-drop t.address flash)) fits)
+
     by : IsTrial part flash t → AreBytes t.bytes
     by (inl first) = all_front (λ b. b < 256) t.bytes first.rest (subst AreBytes first.taken behind)
     by (inr out) = subst AreBytes (sym out.taken) (front_fits (taken_of part t.kept (drop t.address flash)) (drop t.address flash) behind)

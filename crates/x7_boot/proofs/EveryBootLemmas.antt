@@ -44,8 +44,10 @@ attempts part flash kept address = by (search_to ends_at (suc (length from)))
   where
     from : List ℕ
     from = drop address flash
+
     ends_at : ℕ → Bool
     ends_at n = has_ended (ending_at part kept (take n from))
+
     by : ((k : ℕ) → k < suc (length from) → ends_at k ≡ false) ⊎ IsLeast ends_at (suc (length from)) → Attempts part flash kept address
     by (inl none) = record {
       trial = record { kept = kept; address = address; bytes = take (taken_of part kept from) from; wrapped = true; ending = ending.Failed Wrap };

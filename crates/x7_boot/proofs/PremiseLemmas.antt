@@ -64,7 +64,6 @@ empty_ends unit golden =
 pub some_update_fails : (part : PartData) (golden : PlanData) → UpdateFails part golden [] (empty_trial part golden) Wrap false
 some_update_fails part golden = empty_fails part golden (empty_ends part.start_unit (full_stream part golden))
 
-
 is_row : (half : ℕ) → half ≤ 1 → IsRow (record { block = 0; half = half; row = 0; minors = 2 ∷ [] })
 is_row half l = record { block = omega arith; half = l; row = omega arith; some = omega arith; columns = omega arith; minors = All-cons (λ n. (1 ≤ n) × (n ≤ 128)) 2 [] (omega arith, omega arith) (All-nil (λ n. (1 ≤ n) × (n ≤ 128))) }
 
@@ -74,13 +73,23 @@ frames_are = refl
 
 pub tiny_is : IsPart tiny
 tiny_is = record {
-  named = omega arith; short = omega arith; printed = All-cons (λ b. (0x21 ≤ b) × (b ≤ 0x7E)) 0x74 [] (omega arith, omega arith) (All-nil (λ b. (0x21 ≤ b) × (b ≤ 0x7E)));
-  idcode = omega arith; odd = refl; mode = omega arith; bus_width = omega arith; lock = omega arith; matched = omega arith;
+  named = omega arith;
+  short = omega arith;
+  printed = All-cons (λ b. (0x21 ≤ b) × (b ≤ 0x7E)) 0x74 [] (omega arith, omega arith) (All-nil (λ b. (0x21 ≤ b) × (b ≤ 0x7E)));
+  idcode = omega arith;
+  odd = refl;
+  mode = omega arith;
+  bus_width = omega arith;
+  lock = omega arith;
+  matched = omega arith;
   words = (omega arith, omega arith);
   far = record { minor = (omega arith, omega arith); column = (omega arith, omega arith); row = (omega arith, omega arith); half = refl; block = (omega arith, omega arith); sum = omega arith };
-  start_unit = inl refl; some = omega arith; few = omega arith;
+  start_unit = inl refl;
+  some = omega arith;
+  few = omega arith;
   rows = row tiny.far 0 _ _ (omega arith) (is_row 0 (omega arith)) (row tiny.far _ _ _ (omega arith) (is_row 1 (omega arith)) (no_row tiny.far _));
-  frames = omega (arith, frames_are); slots = omega (arith, frames_are);
+  frames = omega (arith, frames_are);
+  slots = omega (arith, frames_are);
 }
 
 pub plan_is : IsPlanFor tiny nothing_planned

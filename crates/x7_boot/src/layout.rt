@@ -105,12 +105,7 @@ fn whole(
 }
 
 /// The image of two streams, for a part of which one step of the start address stands for so many bytes.
-fn image_by(
-    alloc: Global,
-    unit: u32,
-    golden: &[u8],
-    update: &[u8],
-) -> Result<Vec<u8>, ImageFault>
+fn image_by(alloc: Global, unit: u32, golden: &[u8], update: &[u8]) -> Result<Vec<u8>, ImageFault>
     requires { 0 < unit }
     ensures bytes { IfOk result (λ all. all.items ≡ image_of unit golden.now update.now) }
     ensures too_long { (result ≡ Err ImageFault.TooLong) ↔ (flash_limit < image_size (length golden.now) (length update.now)) }

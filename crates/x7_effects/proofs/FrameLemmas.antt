@@ -34,7 +34,6 @@ use Rattle.x7_effects.proofs.Frames.{joined, AreWide, zero_frame, frame_of, fram
 
 -- ---- lists
 
-
 map_of_reverse : {X Y : Type 0} → (f : X → Y) (xs : List X) → map f (reverse xs) ≡ reverse (map f xs)
 map_of_reverse f [] = refl
 map_of_reverse f (x ∷ xs) = ap (map f) (reverse_onto xs x []) ∙ map_append f (reverse xs) (x ∷ []) ∙ ap (λ t. t ++ f x ∷ []) (map_of_reverse f xs) ∙ sym (reverse_onto (map f xs) (f x) [])

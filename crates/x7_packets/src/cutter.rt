@@ -86,7 +86,11 @@ const LONGEST_GAP: usize = 36;
 fn after_word(ended: bool) -> Stage
     ensures { mode_of result ≡ (if ended then Mode.Searching else Mode.Synced) }
 {
-    if ended { Stage::Searching } else { Stage::Synced }
+    if ended {
+        Stage::Searching
+    } else {
+        Stage::Synced
+    }
 }
 
 /// Cuts a stream, and lends what it can of the caller's pieces.

@@ -88,7 +88,11 @@ impl Machine {
         ensures { result ≡ min (min self.now.due most) (if self.now.register == number_of Cmd then 1 else most) }
     {
         let words = (self.due as usize).min(most);
-        words.min(if self.register == Reg::Cmd.number() { 1 } else { most })
+        words.min(if self.register == Reg::Cmd.number() {
+            1
+        } else {
+            most
+        })
     }
 
     /// Takes payload words of the open packet at once, and says whether the last one ends the session.

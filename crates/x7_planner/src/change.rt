@@ -52,13 +52,7 @@ fn put_opening(writer: &mut Writer, part: &Part) -> Result<(), NoMemory>
     ensures { OnOk result (writer.new ≡ with_piece writer.old (Words (partial_opening part.now))) }
 {
     writer.words(&HEAD)?;
-    writer.words(&[
-        0x3000_8001,
-        7,
-        0x2000_0000,
-        0x3001_8001,
-        part.idcode(),
-    ])?;
+    writer.words(&[0x3000_8001, 7, 0x2000_0000, 0x3001_8001, part.idcode()])?;
     Ok(())
 }
 
