@@ -1,5 +1,6 @@
 //! Real files and writers, and inputs that are put while one is read.
 use std::io::{ErrorKind, Write};
+use std::rt::Files;
 use std::test::Fail;
 use std::{env, fs, io, process};
 use x7_words::{
@@ -120,6 +121,77 @@ fn files_are_read_by_their_paths(rt: HostRuntime) -> Result<(), Fail> {
     assert!(rt; buf.as_slice() == b"hello\0\0\0\0\0\0\0".as_slice());
     assert!(rt; gone == Err(SelectFault::Missing));
     assert!(rt; unreadable == Err(SelectFault::Failed));
+    Ok(())
+}
+
+#[test]
+fn a_path_below_a_file_is_a_fault(rt: HostRuntime) -> Result<(), Fail> {
+    let folder = env::temp_dir(&rt)?;
+    let name = format!(in rt.alloc(); "x7-words-below-{}", process::id(rt.process()))?;
+    let path = folder.join(rt.alloc(), name.as_str())?;
+    let below = path.join(rt.alloc(), "one")?;
+    fs::write(&rt, path.as_path(), b"hello")?;
+    let mut inputs = FileInputs::new(&rt);
+    let mut flash = FileFlash::new(&rt);
+    let selected = inputs.select(below.as_path().as_str());
+    let attached = flash.attach(below.as_path().as_str());
+    fs::remove_file(&rt, path.as_path())?;
+    assert!(rt; selected == Err(SelectFault::Failed));
+    assert!(rt; attached == Err(SelectFault::Failed));
+    Ok(())
+}
+
+/// Reads the bytes 2 to 4 of a file of five bytes, cuts it to three, and reads 2 to 4 and 0 to 2.
+fn reads_of_a_cut_file<R: Files>(rt: &R, name: &str) -> Result<[Option<[u8; 3]>; 3], Fail> {
+    fs::write(rt, name, b"hello")?;
+    let mut flash = FileFlash::new(rt);
+    flash.attach(name)?;
+    if flash.size() != 5 {
+        return Ok([None, None, None]);
+    }
+    let mut whole = [0; 3];
+    let is_whole = flash.read_at(2, &mut whole).is_ok();
+    fs::write(rt, name, b"hel")?;
+    let mut cut = [0; 3];
+    let is_cut = flash.read_at(2, &mut cut).is_ok();
+    let mut left = [0; 3];
+    let is_left = flash.read_at(0, &mut left).is_ok();
+    fs::remove_file(rt, name)?;
+    Ok([
+        is_whole.then_some(whole),
+        is_cut.then_some(cut),
+        is_left.then_some(left),
+    ])
+}
+
+#[test]
+fn a_file_that_shrank_is_a_fault(rt: HostRuntime) -> Result<(), Fail> {
+    let folder = env::temp_dir(&rt)?;
+    let name = format!(in rt.alloc(); "x7-words-shrunk-{}", process::id(rt.process()))?;
+    let path = folder.join(rt.alloc(), name.as_str())?;
+    let reads = reads_of_a_cut_file(&rt, path.as_path().as_str())?;
+    assert!(rt; reads == [Some(*b"llo"), None, Some(*b"hel")]);
+    Ok(())
+}
+
+#[test]
+fn a_name_is_opened_as_it_is(rt: HostRuntime) -> Result<(), Fail> {
+    let folder = env::temp_dir(&rt)?;
+    let name = format!(in rt.alloc(); "x7-words-name-{} ", process::id(rt.process()))?;
+    let path = folder.join(rt.alloc(), name.as_str())?;
+    let trimmed = folder.join(rt.alloc(), name.as_str().trim_end())?;
+    fs::write(&rt, path.as_path(), b"hello")?;
+    let mut inputs = FileInputs::new(&rt);
+    let mut flash = FileFlash::new(&rt);
+    let found = three_reads(&mut inputs, path.as_path().as_str(), &mut [0; 12]);
+    let attached = flash.attach(path.as_path().as_str());
+    let gone = inputs.select(trimmed.as_path().as_str());
+    let lacking = flash.attach(trimmed.as_path().as_str());
+    fs::remove_file(&rt, path.as_path())?;
+    assert!(rt; found == Ok([4, 1, 0]));
+    assert!(rt; attached == Ok(()));
+    assert!(rt; gone == Err(SelectFault::Missing));
+    assert!(rt; lacking == Err(SelectFault::Missing));
     Ok(())
 }
 
