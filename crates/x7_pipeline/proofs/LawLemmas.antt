@@ -35,7 +35,7 @@ use Rattle.x7_pipeline.proofs.ReadLemmas.{read_slot-pad, read_slot-frame}
 
 -- ---- a run is its whole frames and a rest
 
-reverse-cons : {X : Type 0} → (x : X) (xs : List X) → reverse (x ∷ xs) ≡ reverse xs ++ x ∷ []
+pub reverse-cons : {X : Type 0} → (x : X) (xs : List X) → reverse (x ∷ xs) ≡ reverse xs ++ x ∷ []
 reverse-cons x xs = reverse_onto xs x []
 
 pub cut : (width : ℕ) (run : List ℕ) → 0 < width → AreCutFrom width run (frames_of width run) (rest_of width run)

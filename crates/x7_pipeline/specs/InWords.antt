@@ -1,9 +1,13 @@
 -- Runs and landed frames in other words, for the laws of this crate.
-use Rattle.std.specs.Prelude.{◌≡◌, ℕ, ◌<◌, List, ◌++◌, length, reverse, Option, Some, None, All}
-use Rattle.std.specs.List.{flat_map}
+use Rattle.std.specs.Prelude.{◌≡◌, ℕ, ◌<◌, List, [], ◌++◌, length, reverse, slice_index_or, Option, Some, None, All}
+use Rattle.std.specs.List.{filter_map, flat_map, zip}
+use Rattle.x7_part.specs.Part.{PartData, frame_words}
 use Rattle.x7_part.specs.declared.slot.Slot.{Slot}
 use Rattle.x7_part.specs.declared.slot.Slot.TheVariants.{Frame, Pad, End}
+use Rattle.x7_memory.specs.FrameMap.{FrameMap, AreSame}
 use Rattle.x7_memory.specs.Planned.{PlanRow}
+use Rattle.x7_pipeline.specs.Runs.{frames_of, landed, onto, put_over, rest_of, slots_from}
+use Rattle.x7_pipeline.specs.Words.{Written}
 
 -- whole frames of `width` words, the newest first, and then a shorter rest, the oldest first
 pub record AreCutFrom (width : ℕ) (run : List ℕ) (frames : List (List ℕ)) (rest : List ℕ) : Type 0 where
@@ -16,3 +20,23 @@ abbrev pub pair_of : Slot × List ℕ → Option PlanRow
 pair_of (Frame far, words) = Some record { far = far; words = words }
 pair_of (Pad, words) = None
 pair_of (End, words) = None
+
+-- frames at the slots from a base, those at pads left out
+abbrev pub placed_from : PartData → ℕ → List (List ℕ) → List PlanRow
+placed_from part base frames = filter_map pair_of (zip (slots_from part base) frames)
+
+-- the memory is another one with what a run has landed
+abbrev pub HasLanded : PartData → ℕ → List ℕ → FrameMap → FrameMap → Type 0
+HasLanded part base run under memory = AreSame memory (put_over (landed part base run) under)
+
+-- words that were all written
+abbrev pub all_written : List ℕ → List ℕ → Written
+all_written words run = record { run = onto words run; count = length words; fault = None }
+
+-- the slot so many after the first from a base on
+abbrev pub slot_after : PartData → ℕ → ℕ → Slot
+slot_after part base n = slice_index_or (slots_from part base) n End
+
+-- the newest word completes a frame past the last slot
+abbrev pub Overruns : PartData → ℕ → List ℕ → Type 0
+Overruns part base run = (rest_of (frame_words part) run ≡ []) × (length (slots_from part base) < length (frames_of (frame_words part) run))

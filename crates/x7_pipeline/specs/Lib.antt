@@ -1,5 +1,6 @@
 pub mod Runs
 pub mod FarAsRead
+pub mod Flow
 pub mod Copies
 pub mod Readback
 pub mod Faults

@@ -74,3 +74,7 @@ pub record IsSavedOf (part : PartData) (s : SavedState) : Type 0 where
 -- the new map has the frames of the old one at each address but this one, where there is one
 abbrev pub ChangesAt : Option ℕ → FrameMap → FrameMap → Type 0
 ChangesAt at old new = (far : ℕ) → (at ≡ Some far → ⊥) → new far ≡ old far
+
+-- it changes just where the next word or copy would put a frame
+abbrev pub ChangesNext : PartData → PipelineData → FrameMap → FrameMap → Type 0
+ChangesNext part p old new = ChangesAt (next_put part p) old new

@@ -1,30 +1,29 @@
 //! Laws of runs, of FAR as read, of readback and of faults. The functions do nothing: their contracts are the laws.
-ghost use Rattle.std.specs.Prelude.{◌≡◌, ◌≢◌, ◌+◌, ◌*◌, ◌<◌, ◌≤◌, ◌↔◌, ℕ, true, false, reverse, min, List, [], ◌∷◌, ◌++◌, length, slice_index_or, Contains, Option, Some, None};
-ghost use Rattle.std.specs.List.{zip, filter_map};
+ghost use Rattle.std.specs.Prelude.{◌≡◌, ◌≢◌, ◌+◌, ◌*◌, ◌<◌, ◌≤◌, ◌↔◌, ℕ, true, false, reverse, min, List, [], ◌∷◌, ◌++◌, Contains, Option, Some, None};
 ghost use Rattle.x7_part.specs.Part.{PartData, frame_words};
 ghost use Rattle.x7_part.specs.AddressOrder.{addresses_in};
-ghost use Rattle.x7_part.specs.declared.slot.Slot.{Slot};
 ghost use Rattle.x7_memory.specs.FrameMap.{FrameMap, AreSame};
 ghost use Rattle.x7_memory.specs.Frames.{AreFramesOf, frame_at};
 ghost use Rattle.x7_memory.specs.Planned.{PlanRow};
 ghost use Rattle.x7_regs.specs.declared.command.Command.{Command};
 ghost use Rattle.x7_pipeline.specs.declared.fault.RunFault.{RunFault};
-ghost use Rattle.x7_pipeline.specs.Runs.{rest_of, frames_of, slots_from, but_newest, onto, landed, put_over, Lands};
-ghost use Rattle.x7_pipeline.specs.InWords.{AreCutFrom, pair_of};
+ghost use Rattle.x7_pipeline.specs.Runs.{rest_of, frames_of, but_newest, landed, put_over, Lands};
+ghost use Rattle.x7_pipeline.specs.InWords.{AreCutFrom, HasLanded, Overruns, all_written, placed_from, slot_after};
 ghost use Rattle.x7_pipeline.specs.FarAsRead.{has_frame_at, far_of, last_address};
 ghost use Rattle.x7_pipeline.specs.Copies.{copied, is_wcfg, is_mfw, newest_of, source_after};
 ghost use Rattle.x7_pipeline.specs.Readback.{word_at, read_at, read_limit, given_stored};
 ghost use Rattle.x7_pipeline.specs.Faults.{write_fault, copy_fault, read_fault};
 ghost use Rattle.x7_pipeline.specs.Words.{written, Refused};
-ghost use Rattle.x7_pipeline.specs.Pipeline.{PipelineData, StandsFor};
-ghost use Rattle.x7_pipeline.specs.Saving.{ChangesAt, next_put, pair_at};
+ghost use Rattle.x7_pipeline.specs.Pipeline.{PipelineData};
+ghost use Rattle.x7_pipeline.specs.Saving.{ChangesAt, ChangesNext, pair_at};
+ghost use Rattle.x7_pipeline.specs.Flow.{HoldsFlow, LandsAt, OfFlow};
 
 /// A run is its whole frames and a rest. Its frames but the newest land with the slots in order, those at pads nowhere;
 /// and what a memory gets by one word after the other is what it gets by all.
 pub fn run_laws()
     ensures frames { (width : ℕ) (run : List ℕ) → 0 < width → AreCutFrom width run (frames_of width run) (rest_of width run) }
     ensures order { (part : PartData) (base : ℕ) (run : List ℕ) →
-        reverse (landed part base run) ≡ filter_map pair_of (zip (slots_from part base) (reverse (but_newest (frames_of (frame_words part) run)))) }
+        reverse (landed part base run) ≡ placed_from part base (reverse (but_newest (frames_of (frame_words part) run))) }
     ensures empty { (part : PartData) (base : ℕ) → landed part base [] ≡ [] }
     ensures nowhere { (part : PartData) (base : ℕ) (run : List ℕ) → has_frame_at part base ≡ false → landed part base run ≡ [] }
     ensures none { (part : PartData) (base : ℕ) (run : List ℕ) (old new : FrameMap) → AreSame new old → Lands part base run run old new }
@@ -33,13 +32,13 @@ pub fn run_laws()
     ensures more { (part : PartData) (base : ℕ) (run longer longest : List ℕ) (old middle new : FrameMap) →
         Lands part base run longer old middle → Lands part base longer longest middle new → Lands part base run longest old new }
     ensures memory { (part : PartData) (base : ℕ) (run longer : List ℕ) (under old new : FrameMap) →
-        Lands part base run longer old new → AreSame old (put_over (landed part base run) under) → AreSame new (put_over (landed part base longer) under) }
+        Lands part base run longer old new → HasLanded part base run under old → HasLanded part base longer under new }
 {}
 
 /// Words in order are all written, or they are written up to the first that is refused.
 pub fn word_laws()
     ensures whole { (part : PartData) (base : ℕ) (run words : List ℕ) → (written part base run words).fault ≡ None →
-        written part base run words ≡ record { run = onto words run; count = length words; fault = None } }
+        written part base run words ≡ all_written words run }
     ensures refused { (part : PartData) (base : ℕ) (run words : List ℕ) (fault : RunFault) → (written part base run words).fault ≡ Some fault →
         Refused part base run words fault }
 {}
@@ -64,7 +63,7 @@ pub fn far_laws()
 pub fn read_laws()
     ensures pad { (part : PartData) (base : ℕ) (memory : FrameMap) (i : ℕ) → i < frame_words part → read_at part base memory i ≡ 0 }
     ensures frames { (part : PartData) (base : ℕ) (memory : FrameMap) (n i : ℕ) → i < frame_words part →
-        read_at part base memory (frame_words part * (1 + n) + i) ≡ word_at (slice_index_or (slots_from part base) n Slot.End) memory i }
+        read_at part base memory (frame_words part * (1 + n) + i) ≡ word_at (slot_after part base n) memory i }
     ensures zeros { (part : PartData) (base : ℕ) (memory : FrameMap) (place : ℕ) → 0 < frame_words part → read_limit part base ≤ place → read_at part base memory place ≡ 0 }
     ensures stored { (part : PartData) (base given n : ℕ) → given_stored part base (given + n) ≡ min (given_stored part base given + n) (read_limit part base) }
 {}
@@ -72,8 +71,7 @@ pub fn read_laws()
 /// When there are faults, and that a refused word would change neither the landed frames nor FAR as read.
 pub fn fault_laws()
     ensures address { (part : PartData) (far : ℕ) → (has_frame_at part far ≡ true) ↔ Contains (addresses_in part) far }
-    ensures overrun { (part : PartData) (base word newest : ℕ) (run : List ℕ) → (write_fault part base (newest ∷ run) ≡ Some RunFault.Overrun)
-        ↔ ((rest_of (frame_words part) (word ∷ newest ∷ run) ≡ []) × (length (slots_from part base) < length (frames_of (frame_words part) (word ∷ newest ∷ run)))) }
+    ensures overrun { (part : PartData) (base word newest : ℕ) (run : List ℕ) → (write_fault part base (newest ∷ run) ≡ Some RunFault.Overrun) ↔ Overruns part base (word ∷ newest ∷ run) }
     ensures landed { (part : PartData) (base : ℕ) (run : List ℕ) (word : ℕ) (fault : RunFault) → write_fault part base run ≡ Some fault →
         landed part base (word ∷ run) ≡ landed part base run }
     ensures far { (part : PartData) (base : ℕ) (run : List ℕ) (word given : ℕ) (fault : RunFault) → write_fault part base run ≡ Some fault →
@@ -85,8 +83,7 @@ pub fn fault_laws()
 
 /// Two pipelines that stand for the same are equal.
 pub fn pipeline_laws()
-    ensures one { (part : PartData) (p q : PipelineData) (command : Command) (base : ℕ) (run : List ℕ) (source : Option (List ℕ)) (given : ℕ) →
-        StandsFor part p command base run source given → StandsFor part q command base run source given → p ≡ q }
+    ensures one { (part : PartData) (p q : PipelineData) → OfFlow part p (λ f. HoldsFlow part q f → p ≡ q) }
 {}
 
 /// A kept frame leads back where the memory changed at its address alone. A copy changes just the address where it puts one,
@@ -94,8 +91,8 @@ pub fn pipeline_laws()
 pub fn saving_laws()
     ensures back { (part : PartData) (at : Option ℕ) (old new : List (List ℕ)) → AreFramesOf part old → AreFramesOf part new → ChangesAt at (frame_at part old) (frame_at part new) →
         AreSame (put_over (pair_at (frame_at part old) at) (frame_at part new)) (frame_at part old) }
-    ensures copy { (part : PartData) (p : PipelineData) (command : Command) (base : ℕ) (run : List ℕ) (source : Option (List ℕ)) (given : ℕ) (old new : FrameMap) →
-        StandsFor part p command base run source given → copy_fault part command base source ≡ None → AreSame new (put_over (copied base source) old) → ChangesAt (next_put part p) old new }
-    ensures word { (part : PartData) (p : PipelineData) (command : Command) (base : ℕ) (run : List ℕ) (source : Option (List ℕ)) (given word : ℕ) (old new : FrameMap) →
-        StandsFor part p command base run source given → is_mfw command ≡ false → Lands part base run (word ∷ run) old new → ChangesAt (next_put part p) old new }
+    ensures copy { (part : PartData) (p : PipelineData) → OfFlow part p (λ f. (old new : FrameMap) → copy_fault part f.command f.base f.source ≡ None
+        → AreSame new (put_over (copied f.base f.source) old) → ChangesNext part p old new) }
+    ensures word { (part : PartData) (p : PipelineData) → OfFlow part p (λ f. (word : ℕ) (old new : FrameMap) → is_mfw f.command ≡ false
+        → LandsAt part f (word ∷ []) old new → ChangesNext part p old new) }
 {}

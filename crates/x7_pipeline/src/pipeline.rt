@@ -1,20 +1,20 @@
 //! The frame pipeline (UG470, frame data): frames on their way into the memory, copies, and words on their way out.
-ghost use Rattle.std.specs.Prelude.{◌≡◌, ◌+◌, ◌-◌, ◌*◌, ◌/◌, ◌%◌, ◌^◌, ◌<◌, ◌≤◌, ◌==◌, ◌&&◌, not, ℕ, List, [], ◌∷◌, ◌++◌, length, take, min, slice_index_or, is_some, vec_len, vec_capacity, Option, Some, None, IfOk, IfErr, IsTrue, OnOk, OnErr};
+ghost use Rattle.std.specs.Prelude.{◌≡◌, ◌+◌, ◌-◌, ◌*◌, ◌/◌, ◌%◌, ◌^◌, ◌<◌, ◌≤◌, ◌==◌, ◌&&◌, not, [], ◌∷◌, ◌++◌, length, take, min, slice_index_or, is_some, vec_len, vec_capacity, Option, Some, None, IfOk, IfErr, IsTrue, OnOk, OnErr};
 ghost use Rattle.std.specs.Result.{result_err};
 ghost use Rattle.x7_words.specs.Word.{words_of_bytes};
-ghost use Rattle.x7_part.specs.Part.{PartData, frame_words};
+ghost use Rattle.x7_part.specs.Part.{PartData};
 ghost use Rattle.x7_memory.specs.FrameMap.{AreSame};
 ghost use Rattle.x7_memory.specs.Frames.{frame_at, AreFramesOf};
 ghost use Rattle.x7_part.specs.declared.slot.Slot.{Slot};
 ghost use Rattle.x7_regs.specs.declared.command.Command.{Command};
-ghost use Rattle.x7_pipeline.specs.Runs.{Lands, at_slot, onto, put_over, slots_from};
+ghost use Rattle.x7_pipeline.specs.Runs.{Lands, put_over, slots_from};
 ghost use Rattle.x7_pipeline.specs.FarAsRead.{far_of, loaded_base, has_frame_at};
-ghost use Rattle.x7_pipeline.specs.Copies.{is_wcfg, is_mfw, source_with, source_after, copied};
+ghost use Rattle.x7_pipeline.specs.Copies.{is_wcfg, is_mfw, source_with, copied};
 ghost use Rattle.x7_pipeline.specs.Readback.{read_at, word_at};
 ghost use Rattle.x7_pipeline.specs.Faults.{write_fault, copy_fault, read_fault, drop_fault};
-ghost use Rattle.x7_pipeline.specs.Words.{written};
 ghost use Rattle.x7_pipeline.specs.Places.{StartsAt};
 ghost use Rattle.x7_pipeline.specs.Pipeline.{PipelineData, StandsFor, IsPipelineOf};
+ghost use Rattle.x7_pipeline.specs.Flow.{GoesOn, HoldsFlow, LandsAt, OfFlow, PutsNewest, after_reads, after_words, begun_at, begun_by, with_run, written_by};
 
 mod saved;
 
@@ -102,8 +102,7 @@ impl Pipeline {
 
     /// A FAR load: a new run begins at this address. The source stays.
     pub fn load(&mut self, far: u32)
-        ensures stands { (part : PartData) (command : Command) (base : ℕ) (run : List ℕ) (source : Option (List ℕ)) (given : ℕ) →
-            StandsFor part self.old command base run source given → StandsFor part self.new command (loaded_base part far) [] source 0 }
+        ensures stands { (part : PartData) → GoesOn part self.old self.new (begun_at (loaded_base part far)) }
         ensures part { (part : PartData) → IsPipelineOf part self.old → IsPipelineOf part self.new }
     {
         self.base = low_bits(far, self.far_width);
@@ -112,9 +111,7 @@ impl Pipeline {
 
     /// A command: a new run begins at FAR as read. MFW takes the run's newest whole frame as the source.
     pub fn command(&mut self, command: Command, part: &Part)
-        ensures stands { (old : Command) (base : ℕ) (run : List ℕ) (source : Option (List ℕ)) (given : ℕ) →
-            StandsFor part.now self.old old base run source given →
-            StandsFor part.now self.new command (far_of part.now base run given) [] (source_after part.now old command run) 0 }
+        ensures stands { GoesOn part.now self.old self.new (begun_by part.now command) }
         ensures part { IsPipelineOf part.now self.old → IsPipelineOf part.now self.new }
     {
         self.base = self.far(part);
@@ -150,13 +147,9 @@ impl Pipeline {
     pub fn write(&mut self, word: u32, part: &Part, memory: &mut Memory) -> Result<(), RunFault>
         requires part { IsPipelineOf part.now self.old }
         requires memory { AreFramesOf part.now memory.old }
-        ensures stands { OnOk result ((command : Command) (base : ℕ) (run : List ℕ) (source : Option (List ℕ)) (given : ℕ) →
-            StandsFor part.now self.old command base run source given → StandsFor part.now self.new command base (word ∷ run) source given) }
-        ensures lands { OnOk result ((command : Command) (base : ℕ) (run : List ℕ) (source : Option (List ℕ)) (given : ℕ) →
-            StandsFor part.now self.old command base run source given →
-            Lands part.now base run (word ∷ run) (frame_at part.now memory.old) (frame_at part.now memory.new)) }
-        ensures fault { (command : Command) (base : ℕ) (run : List ℕ) (source : Option (List ℕ)) (given : ℕ) →
-            StandsFor part.now self.old command base run source given → result_err result ≡ write_fault part.now base run }
+        ensures stands { OnOk result (GoesOn part.now self.old self.new (after_words (word ∷ []))) }
+        ensures lands { OnOk result (OfFlow part.now self.old (λ f. LandsAt part.now f (word ∷ []) (frame_at part.now memory.old) (frame_at part.now memory.new))) }
+        ensures fault { OfFlow part.now self.old (λ f. result_err result ≡ write_fault part.now f.base f.run) }
 
         // Whatever the answer.
         ensures part { IsPipelineOf part.now self.new }
@@ -185,16 +178,10 @@ impl Pipeline {
         requires whole { length bytes.now % 4 ≡ 0 }
         requires part { IsPipelineOf part.now self.old }
         requires memory { AreFramesOf part.now memory.old }
-        ensures stands { (command : Command) (base : ℕ) (run : List ℕ) (source : Option (List ℕ)) (given : ℕ) →
-            StandsFor part.now self.old command base run source given →
-            StandsFor part.now self.new command base (written part.now base run (words_of_bytes bytes.now)).run source given }
-        ensures lands { (command : Command) (base : ℕ) (run : List ℕ) (source : Option (List ℕ)) (given : ℕ) →
-            StandsFor part.now self.old command base run source given →
-            Lands part.now base run (written part.now base run (words_of_bytes bytes.now)).run (frame_at part.now memory.old) (frame_at part.now memory.new) }
-        ensures count { (command : Command) (base : ℕ) (run : List ℕ) (source : Option (List ℕ)) (given : ℕ) →
-            StandsFor part.now self.old command base run source given → result.0 ≡ (written part.now base run (words_of_bytes bytes.now)).count }
-        ensures fault { (command : Command) (base : ℕ) (run : List ℕ) (source : Option (List ℕ)) (given : ℕ) →
-            StandsFor part.now self.old command base run source given → result.1 ≡ (written part.now base run (words_of_bytes bytes.now)).fault }
+        ensures stands { OfFlow part.now self.old (λ f. HoldsFlow part.now self.new (with_run (written_by part.now f (words_of_bytes bytes.now)).run f)) }
+        ensures lands { OfFlow part.now self.old (λ f. Lands part.now f.base f.run (written_by part.now f (words_of_bytes bytes.now)).run (frame_at part.now memory.old) (frame_at part.now memory.new)) }
+        ensures count { OfFlow part.now self.old (λ f. result.0 ≡ (written_by part.now f (words_of_bytes bytes.now)).count) }
+        ensures fault { OfFlow part.now self.old (λ f. result.1 ≡ (written_by part.now f (words_of_bytes bytes.now)).fault) }
         ensures within { result.0 ≤ length bytes.now / 4 }
         ensures part { IsPipelineOf part.now self.new }
         ensures memory { AreFramesOf part.now memory.new }
@@ -221,15 +208,10 @@ impl Pipeline {
         requires part { IsPipelineOf part.now self.old }
         requires memory { AreFramesOf part.now memory.old }
         ensures words { IfOk result (λ taken. (1 ≤ taken / 4) × (taken % 4 ≡ 0) × (taken ≤ length bytes.now)) }
-        ensures stands { IfOk result (λ taken. (command : Command) (base : ℕ) (run : List ℕ) (source : Option (List ℕ)) (given : ℕ) →
-            StandsFor part.now self.old command base run source given → StandsFor part.now self.new command base (onto (words_of_bytes (take taken bytes.now)) run) source given) }
-        ensures lands { IfOk result (λ taken. (command : Command) (base : ℕ) (run : List ℕ) (source : Option (List ℕ)) (given : ℕ) →
-            StandsFor part.now self.old command base run source given →
-            Lands part.now base run (onto (words_of_bytes (take taken bytes.now)) run) (frame_at part.now memory.old) (frame_at part.now memory.new)) }
-        ensures passes { IfOk result (λ taken. (command : Command) (base : ℕ) (run : List ℕ) (source : Option (List ℕ)) (given : ℕ) →
-            StandsFor part.now self.old command base run source given → (written part.now base run (words_of_bytes (take taken bytes.now))).fault ≡ None) }
-        ensures fault { IfErr result (λ fault. (command : Command) (base : ℕ) (run : List ℕ) (source : Option (List ℕ)) (given : ℕ) →
-            StandsFor part.now self.old command base run source given → Some fault ≡ write_fault part.now base run) }
+        ensures stands { IfOk result (λ taken. GoesOn part.now self.old self.new (after_words (words_of_bytes (take taken bytes.now)))) }
+        ensures lands { IfOk result (λ taken. OfFlow part.now self.old (λ f. LandsAt part.now f (words_of_bytes (take taken bytes.now)) (frame_at part.now memory.old) (frame_at part.now memory.new))) }
+        ensures passes { IfOk result (λ taken. OfFlow part.now self.old (λ f. (written_by part.now f (words_of_bytes (take taken bytes.now))).fault ≡ None)) }
+        ensures fault { IfErr result (λ fault. OfFlow part.now self.old (λ f. Some fault ≡ write_fault part.now f.base f.run)) }
         ensures part { IsPipelineOf part.now self.new }
         ensures memory { AreFramesOf part.now memory.new }
         ensures refused { OnErr result (self.new ≡ self.old) }
@@ -263,13 +245,9 @@ impl Pipeline {
         requires frame { 4 * self.old.width ≤ length bytes.now }
         requires slot { self.old.frame_count < length (slots_from part.now self.old.base) }
         ensures words { (1 ≤ result / 4) × (result % 4 ≡ 0) × (result ≤ length bytes.now) }
-        ensures stands { (command : Command) (base : ℕ) (run : List ℕ) (source : Option (List ℕ)) (given : ℕ) →
-            StandsFor part.now self.old command base run source given → StandsFor part.now self.new command base (onto (words_of_bytes (take result bytes.now)) run) source given }
-        ensures lands { (command : Command) (base : ℕ) (run : List ℕ) (source : Option (List ℕ)) (given : ℕ) →
-            StandsFor part.now self.old command base run source given →
-            Lands part.now base run (onto (words_of_bytes (take result bytes.now)) run) (frame_at part.now memory.old) (frame_at part.now memory.new) }
-        ensures passes { (command : Command) (base : ℕ) (run : List ℕ) (source : Option (List ℕ)) (given : ℕ) →
-            StandsFor part.now self.old command base run source given → (written part.now base run (words_of_bytes (take result bytes.now))).fault ≡ None }
+        ensures stands { GoesOn part.now self.old self.new (after_words (words_of_bytes (take result bytes.now))) }
+        ensures lands { OfFlow part.now self.old (λ f. LandsAt part.now f (words_of_bytes (take result bytes.now)) (frame_at part.now memory.old) (frame_at part.now memory.new)) }
+        ensures passes { OfFlow part.now self.old (λ f. (written_by part.now f (words_of_bytes (take result bytes.now))).fault ≡ None) }
         ensures part { IsPipelineOf part.now self.new }
         ensures memory { AreFramesOf part.now memory.new }
     {
@@ -310,8 +288,7 @@ impl Pipeline {
         requires place { StartsAt part.now self.old.base first }
         ensures held { self.new ≡ record self.old { newest = Some (words_of_bytes bytes.now); frame_count = self.old.frame_count + 1 } }
         ensures none { self.old.newest ≡ None → memory.new ≡ memory.old }
-        ensures put { (frame : List ℕ) → self.old.newest ≡ Some frame →
-            AreSame (frame_at part.now memory.new) (put_over (at_slot (slice_index_or (slots_from part.now self.old.base) (self.old.frame_count - 1) Slot.End) frame []) (frame_at part.now memory.old)) }
+        ensures put { PutsNewest part.now self.old (frame_at part.now memory.old) (frame_at part.now memory.new) }
         ensures memory { AreFramesOf part.now memory.new }
     {
         self.put_held_near(first, part, memory, near);
@@ -323,13 +300,9 @@ impl Pipeline {
     fn write_at_edge(&mut self, word: u32, part: &Part, memory: &mut Memory) -> Result<(), RunFault>
         requires part { IsPipelineOf part.now self.old }
         requires memory { AreFramesOf part.now memory.old }
-        ensures stands { OnOk result ((command : Command) (base : ℕ) (run : List ℕ) (source : Option (List ℕ)) (given : ℕ) →
-            StandsFor part.now self.old command base run source given → StandsFor part.now self.new command base (word ∷ run) source given) }
-        ensures lands { OnOk result ((command : Command) (base : ℕ) (run : List ℕ) (source : Option (List ℕ)) (given : ℕ) →
-            StandsFor part.now self.old command base run source given →
-            Lands part.now base run (word ∷ run) (frame_at part.now memory.old) (frame_at part.now memory.new)) }
-        ensures fault { (command : Command) (base : ℕ) (run : List ℕ) (source : Option (List ℕ)) (given : ℕ) →
-            StandsFor part.now self.old command base run source given → result_err result ≡ write_fault part.now base run }
+        ensures stands { OnOk result (GoesOn part.now self.old self.new (after_words (word ∷ []))) }
+        ensures lands { OnOk result (OfFlow part.now self.old (λ f. LandsAt part.now f (word ∷ []) (frame_at part.now memory.old) (frame_at part.now memory.new))) }
+        ensures fault { OfFlow part.now self.old (λ f. result_err result ≡ write_fault part.now f.base f.run) }
         ensures part { IsPipelineOf part.now self.new }
         ensures memory { AreFramesOf part.now memory.new }
         ensures refused { OnErr result (self.new ≡ self.old) }
@@ -367,8 +340,7 @@ impl Pipeline {
         requires slot { self.now.frame_count < length (slots_from part.now self.now.base) }
         requires few { length (slots_from part.now self.now.base) < 2 ^ 31 }
         ensures none { self.now.newest ≡ None → memory.new ≡ memory.old }
-        ensures put { (frame : List ℕ) → self.now.newest ≡ Some frame →
-            AreSame (frame_at part.now memory.new) (put_over (at_slot (slice_index_or (slots_from part.now self.now.base) (self.now.frame_count - 1) Slot.End) frame []) (frame_at part.now memory.old)) }
+        ensures put { PutsNewest part.now self.now (frame_at part.now memory.old) (frame_at part.now memory.new) }
         ensures memory { AreFramesOf part.now memory.new }
     {
         let mut near = 0;
@@ -383,8 +355,7 @@ impl Pipeline {
         requires few { length (slots_from part.now self.now.base) < 2 ^ 31 }
         requires place { StartsAt part.now self.now.base first }
         ensures none { self.now.newest ≡ None → memory.new ≡ memory.old }
-        ensures put { (frame : List ℕ) → self.now.newest ≡ Some frame →
-            AreSame (frame_at part.now memory.new) (put_over (at_slot (slice_index_or (slots_from part.now self.now.base) (self.now.frame_count - 1) Slot.End) frame []) (frame_at part.now memory.old)) }
+        ensures put { PutsNewest part.now self.now (frame_at part.now memory.old) (frame_at part.now memory.new) }
         ensures memory { AreFramesOf part.now memory.new }
     {
         if self.frame_count == 0 {
@@ -399,11 +370,8 @@ impl Pipeline {
     pub fn copy(&mut self, part: &Part, memory: &mut Memory) -> Result<(), RunFault>
         requires part { IsPipelineOf part.now self.old }
         requires memory { AreFramesOf part.now memory.old }
-        ensures put { OnOk result ((command : Command) (base : ℕ) (run : List ℕ) (source : Option (List ℕ)) (given : ℕ) →
-            StandsFor part.now self.old command base run source given →
-            AreSame (frame_at part.now memory.new) (put_over (copied base source) (frame_at part.now memory.old))) }
-        ensures fault { (command : Command) (base : ℕ) (run : List ℕ) (source : Option (List ℕ)) (given : ℕ) →
-            StandsFor part.now self.old command base run source given → result_err result ≡ copy_fault part.now command base source }
+        ensures put { OnOk result (OfFlow part.now self.old (λ f. AreSame (frame_at part.now memory.new) (put_over (copied f.base f.source) (frame_at part.now memory.old)))) }
+        ensures fault { OfFlow part.now self.old (λ f. result_err result ≡ copy_fault part.now f.command f.base f.source) }
 
         // Whatever the answer.
         ensures same { self.new ≡ self.old }
@@ -436,12 +404,9 @@ impl Pipeline {
     pub fn read_word(&mut self, part: &Part, memory: &Memory) -> Result<u32, RunFault>
         requires part { IsPipelineOf part.now self.old }
         requires memory { AreFramesOf part.now memory.now }
-        ensures word { IfOk result (λ word. (command : Command) (base : ℕ) (run : List ℕ) (source : Option (List ℕ)) (given : ℕ) →
-            StandsFor part.now self.old command base run source given → word ≡ read_at part.now base (frame_at part.now memory.now) given) }
-        ensures stands { OnOk result ((command : Command) (base : ℕ) (run : List ℕ) (source : Option (List ℕ)) (given : ℕ) →
-            StandsFor part.now self.old command base run source given → StandsFor part.now self.new command base run source (given + 1)) }
-        ensures fault { (command : Command) (base : ℕ) (run : List ℕ) (source : Option (List ℕ)) (given : ℕ) →
-            StandsFor part.now self.old command base run source given → result_err result ≡ read_fault part.now base given }
+        ensures word { IfOk result (λ word. OfFlow part.now self.old (λ f. word ≡ read_at part.now f.base (frame_at part.now memory.now) f.given)) }
+        ensures stands { OnOk result (GoesOn part.now self.old self.new (after_reads 1)) }
+        ensures fault { OfFlow part.now self.old (λ f. result_err result ≡ read_fault part.now f.base f.given) }
 
         // Whatever the answer.
         ensures part { IsPipelineOf part.now self.new }
@@ -459,8 +424,7 @@ impl Pipeline {
 
     /// The fault that the next word of a readback would have.
     pub fn fault_of_read(&self, part: &Part) -> Option<RunFault>
-        ensures { (command : Command) (base : ℕ) (run : List ℕ) (source : Option (List ℕ)) (given : ℕ) →
-            StandsFor part.now self.now command base run source given → result ≡ read_fault part.now base given }
+        ensures { OfFlow part.now self.now (λ f. result ≡ read_fault part.now f.base f.given) }
     {
         if self.reads_nowhere(part) {
             return Some(RunFault::Address(self.base));
@@ -492,8 +456,7 @@ impl Pipeline {
 
     /// Counts a word that was given. The slot changes at the end of a frame alone.
     fn step(&mut self, part: &Part)
-        ensures stands { (command : Command) (base : ℕ) (run : List ℕ) (source : Option (List ℕ)) (given : ℕ) →
-            StandsFor part.now self.old command base run source given → StandsFor part.now self.new command base run source (given + 1) }
+        ensures stands { GoesOn part.now self.old self.new (after_reads 1) }
         ensures part { IsPipelineOf part.now self.old → IsPipelineOf part.now self.new }
     {
         // the part's range keeps the count from its last value
@@ -510,10 +473,8 @@ impl Pipeline {
 
     /// Passes over words of a readback: the same as so many calls of `read_word`.
     pub fn drop_words(&mut self, n: u32, part: &Part) -> Result<(), RunFault>
-        ensures stands { OnOk result ((command : Command) (base : ℕ) (run : List ℕ) (source : Option (List ℕ)) (given : ℕ) →
-            StandsFor part.now self.old command base run source given → StandsFor part.now self.new command base run source (given + n)) }
-        ensures fault { (command : Command) (base : ℕ) (run : List ℕ) (source : Option (List ℕ)) (given : ℕ) →
-            StandsFor part.now self.old command base run source given → result_err result ≡ drop_fault part.now base given n }
+        ensures stands { OnOk result (GoesOn part.now self.old self.new (after_reads n)) }
+        ensures fault { OfFlow part.now self.old (λ f. result_err result ≡ drop_fault part.now f.base f.given n) }
 
         // Whatever the answer.
         ensures part { IsPipelineOf part.now self.old → IsPipelineOf part.now self.new }
@@ -543,8 +504,7 @@ impl Pipeline {
 
     /// FAR as read.
     pub fn far(&self, part: &Part) -> u32
-        ensures { (command : Command) (base : ℕ) (run : List ℕ) (source : Option (List ℕ)) (given : ℕ) →
-            StandsFor part.now self.now command base run source given → result ≡ far_of part.now base run given }
+        ensures { OfFlow part.now self.now (λ f. result ≡ far_of part.now f.base f.run f.given) }
     {
         let frames = self.frame_count.max(self.given / u64::from(self.width));
         far_at(part, self.base, frames.saturating_sub(1))

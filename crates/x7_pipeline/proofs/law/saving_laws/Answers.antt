@@ -2,4 +2,8 @@ use Rattle.x7_pipeline.proofs.SavedLemmas.{copy_changes, taken_back, word_change
 use Rattle.x7_pipeline.proofs.law.saving_laws.Goals as goal
 
 pub returns : goal.returns
-returns c = record { back = taken_back; copy = copy_changes; word = word_changes }
+returns c = record {
+  back = taken_back;
+  copy = λ part p command base run source given s old new. copy_changes part p command base run source given old new s;
+  word = λ part p command base run source given s word old new. word_changes part p command base run source given word old new s;
+}

@@ -1,0 +1,70 @@
+-- What a frame pipeline stands for (UG470, frame address register and frame data registers).
+use Rattle.std.specs.Prelude.{◌≡◌, ℕ, ◌+◌, ◌-◌, List, [], slice_index_or, Option, Some}
+use Rattle.x7_part.specs.Part.{PartData}
+use Rattle.x7_part.specs.declared.slot.Slot.TheVariants.{End}
+use Rattle.x7_memory.specs.FrameMap.{FrameMap, AreSame}
+use Rattle.x7_regs.specs.declared.command.Command.{Command}
+use Rattle.x7_pipeline.specs.FarAsRead.{far_of}
+use Rattle.x7_pipeline.specs.Copies.{source_after}
+use Rattle.x7_pipeline.specs.Pipeline.{PipelineData, StandsFor}
+use Rattle.x7_pipeline.specs.Runs.{Lands, at_slot, onto, put_over, slots_from}
+use Rattle.x7_pipeline.specs.Words.{Written, written}
+
+-- the command, the address that the run or readback began at, the words of the run (the newest first), the frame that copies take, and the count of words given
+pub record Flow : Type 0 where
+  pub command : Command
+  pub base : ℕ
+  pub run : List ℕ
+  pub source : Option (List ℕ)
+  pub given : ℕ
+
+-- the pipeline stands for it
+abbrev pub HoldsFlow : PartData → PipelineData → Flow → Type 0
+HoldsFlow part p f = StandsFor part p f.command f.base f.run f.source f.given
+
+-- what holds of a flow that the pipeline stands for
+abbrev pub OfFlow : PartData → PipelineData → (Flow → Type 0) → Type 0
+OfFlow part p Fact = (command : Command) (base : ℕ) (run : List ℕ) (source : Option (List ℕ)) (given : ℕ) → StandsFor part p command base run source given
+    → Fact (record { command = command; base = base; run = run; source = source; given = given })
+
+-- the pipeline goes on to this flow
+abbrev pub GoesOn : PartData → PipelineData → PipelineData → (Flow → Flow) → Type 0
+GoesOn part old new next = OfFlow part old (λ f. HoldsFlow part new (next f))
+
+-- ---- flows that come next
+
+-- with another run
+abbrev pub with_run : List ℕ → Flow → Flow
+with_run run f = record f { run = run }
+
+-- after words written, the oldest first
+abbrev pub after_words : List ℕ → Flow → Flow
+after_words words f = with_run (onto words f.run) f
+
+-- after so many words given more
+abbrev pub after_reads : ℕ → Flow → Flow
+after_reads count f = record f { given = f.given + count }
+
+-- after a FAR load: a run begins at this base
+abbrev pub begun_at : ℕ → Flow → Flow
+begun_at base f = record f { base = base; run = []; given = 0 }
+
+-- after a command: a run begins at FAR as read
+abbrev pub begun_by : PartData → Command → Flow → Flow
+begun_by part command f = record { command = command; base = far_of part f.base f.run f.given; run = []; source = source_after part f.command command f.run; given = 0 }
+
+-- ---- words written in order
+
+-- up to the first that is refused
+abbrev pub written_by : PartData → Flow → List ℕ → Written
+written_by part f words = written part f.base f.run words
+
+-- the memory gets the frames that land at these words
+abbrev pub LandsAt : PartData → Flow → List ℕ → FrameMap → FrameMap → Type 0
+LandsAt part f words old new = Lands part f.base f.run (onto words f.run) old new
+
+-- ---- the newest whole frame
+
+-- it was put at its slot
+abbrev pub PutsNewest : PartData → PipelineData → FrameMap → FrameMap → Type 0
+PutsNewest part p old new = (frame : List ℕ) → p.newest ≡ Some frame → AreSame new (put_over (at_slot (slice_index_or (slots_from part p.base) (p.frame_count - 1) End) frame []) old)
