@@ -11,9 +11,9 @@ use Rattle.x7_packets.specs.declared.cutter.Cut.{Cut}
 use Rattle.x7_packets.specs.declared.cutter.Cut.TheVariants.{Need, Skip, Sync, Head, Word, Body}
 use Rattle.x7_packets.specs.Packet.{Packet, words, stepped, payload_steps, ended}
 use Rattle.x7_packets.specs.Reading.{Place, Searching, Synced, Session, IsReading, session_bytes, place_bytes, packet_bytes, tail_of}
-use Rattle.x7_packets.specs.Cutting.{Adds, CutterState, CutterStandsFor, Longer, Went, run_steps}
-use Rattle.x7_packets.specs.ByHand.{reading_of}
-use Rattle.x7_packets.specs.History.{Read, Write, History, entry, entered, entered_all, entered_sessions, history, history_of, next_word}
+use Rattle.x7_packets.specs.Cutting.{Adds, CutterState, CutterStandsFor, GoesOnAt, Longer, Went, run_steps}
+use Rattle.x7_packets.specs.ByHand.{Reading, reading_of}
+use Rattle.x7_packets.specs.History.{Read, Write, History, entry, entered, entered_all, entered_sessions, history, history_in, history_of, next_in, next_word}
 use Rattle.x7_packets.proofs.ByHandLemmas.{reading_is}
 use Rattle.x7_packets.proofs.PacketLemmas.{words_stepped}
 
@@ -136,6 +136,15 @@ next_by_end gap tail packets more sessions new_sessions new l false e =
 pub words_end : (gap tail : List ℕ) (packets : List Packet) (more : List (ℕ × Step)) (sessions new_sessions : List Session) (new : Place) → Longer gap packets more sessions new_sessions new
     → (next_word new_sessions new ≡ next_word sessions (Synced gap packets tail) + 4 * length more) × (tail_of new ≡ [])
 words_end gap tail packets more sessions new_sessions new l = next_by_end gap tail packets more sessions new_sessions new l (ended l.all) refl
+
+-- both for a reading that goes on
+pub words_on : (more : List (ℕ × Step)) (sessions : List Session) (place : Place) (new : Reading) → GoesOnAt more sessions place new → history_in new ≡ entered_all (next_word sessions place) more (history sessions place)
+words_on more sessions (Searching gap) new l = absurd l
+words_on more sessions (Synced gap packets tail) new l = words_enter gap tail packets more sessions new.sessions new.place l
+
+pub next_on : (more : List (ℕ × Step)) (sessions : List Session) (place : Place) (new : Reading) → GoesOnAt more sessions place new → (next_in new ≡ next_word sessions place + 4 * length more) × (tail_of new.place ≡ [])
+next_on more sessions (Searching gap) new l = absurd l
+next_on more sessions (Synced gap packets tail) new l = words_end gap tail packets more sessions new.sessions new.place l
 
 -- the history of bytes is that of their reading
 pub history_is : (bytes : List ℕ) (sessions : List Session) (place : Place) → IsReading bytes sessions place → history sessions place ≡ history_of bytes

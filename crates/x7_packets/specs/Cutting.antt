@@ -8,6 +8,7 @@ use Rattle.x7_packets.specs.SyncWord.{sync_bytes}
 use Rattle.x7_packets.specs.Matching.{LastThree, MatcherStandsFor}
 use Rattle.x7_packets.specs.Packet.{Packet, stepped, ended, payload_steps}
 use Rattle.x7_packets.specs.Taking.{ends_by, MachineState, MachineStandsFor}
+use Rattle.x7_packets.specs.ByHand.{Reading}
 use Rattle.x7_packets.specs.Reading.{Place, Searching, Synced, Session, IsReading}
 use Rattle.x7_packets.specs.declared.header.Step.{Step}
 use Rattle.x7_packets.specs.declared.header.Step.TheVariants.{Payload}
@@ -36,6 +37,10 @@ pub record CutterStandsFor (c : CutterState) (bytes : List ℕ) (sessions : List
   pub reading : IsReading bytes sessions place
   pub at : AtPlace c c.mode place
 
+-- the same in one value
+abbrev pub CutterReads : CutterState → List ℕ → Reading → Type 0
+CutterReads c bytes r = CutterStandsFor c bytes r.sessions r.place
+
 -- the bytes of a piece from one place to another
 abbrev pub between : List ℕ → ℕ → ℕ → List ℕ
 between piece from to = take (to - from) (drop from piece)
@@ -63,6 +68,14 @@ pub record Longer (gap : List ℕ) (packets : List Packet) (more : List (ℕ × 
   pub end : ended all ≡ ends_by more
   pub ends : ended all ≡ true → (new_sessions ≡ sessions ++ record { gap = gap; packets = all } ∷ []) × (new ≡ Searching [])
   pub goes_on : ended all ≡ false → (new_sessions ≡ sessions) × (new ≡ Synced gap all [])
+
+-- a reading in a session goes on by these words, each with its step
+abbrev pub GoesOnAt : List (ℕ × Step) → List Session → Place → Reading → Type 0
+GoesOnAt more sessions (Searching gap) new = ⊥
+GoesOnAt more sessions (Synced gap packets tail) new = Longer gap packets more sessions new.sessions new.place
+
+abbrev pub GoesOnBy : List (ℕ × Step) → Reading → Reading → Type 0
+GoesOnBy more old new = GoesOnAt more old.sessions old.place new
 
 -- what a run adds to the reading
 abbrev pub Adds : Cut → List Session → Place → List Session → Place → Type 0
@@ -151,6 +164,9 @@ pub record Went (old new : CutterState) (bytes : List ℕ) (sessions : List Sess
   pub stands : CutterStandsFor new bytes new_sessions new_place
   pub adds : Adds run sessions place new_sessions new_place
   pub turns : Turns run old.mode new.mode new_place
+
+abbrev pub WentFrom : CutterState → CutterState → List ℕ → Reading → Cut → Type 0
+WentFrom old new bytes r run = Went old new bytes r.sessions r.place run
 
 -- one call of a cutter on the bytes that are left of a piece, of which it took a number
 pub record Cuts (old new : CutterState) (rest : List ℕ) (taken : ℕ) (cut : Cut) : Type 0 where

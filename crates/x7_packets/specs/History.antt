@@ -10,7 +10,7 @@ use Rattle.x7_packets.specs.declared.header.Step.{Step}
 use Rattle.x7_packets.specs.declared.header.Step.TheVariants as step
 use Rattle.x7_packets.specs.Packet.{stepped}
 use Rattle.x7_packets.specs.Reading.{Place, Searching, Synced, Session, session_bytes}
-use Rattle.x7_packets.specs.ByHand.{reading_of}
+use Rattle.x7_packets.specs.ByHand.{Reading, reading_of}
 
 -- what a stream asks of the registers: a word written, a read of some words, or a word in a header's place that is no header
 pub data Access : Type 0 where
@@ -67,6 +67,13 @@ history_of bytes = history (reading_of bytes).sessions (reading_of bytes).place
 abbrev pub next_word : List Session → Place → ℕ
 next_word sessions (Searching gap) = length (flat_map session_bytes sessions) + length gap
 next_word sessions (Synced gap packets tail) = length (flat_map session_bytes sessions) + length gap + 4 + 4 * length (flat_map stepped packets)
+
+-- the history of a reading, and the place where its next word begins
+abbrev pub history_in : Reading → History
+history_in r = history r.sessions r.place
+
+abbrev pub next_in : Reading → ℕ
+next_in r = next_word r.sessions r.place
 
 -- the access writes this register
 abbrev pub writes : ℕ → Access → Bool

@@ -1,10 +1,10 @@
 //! Laws of the definitions: what is read has one reading, which is found by hand, and its history grows with each run and byte.
 ghost use Rattle.std.specs.Prelude.{◌≡◌, ℕ, ◌+◌, ◌*◌, ◌≤◌, ◌⊎◌, List, [], ◌∷◌, ◌++◌, false, length};
 ghost use Rattle.x7_words.specs.Word.{AreBytes, AreWords};
-ghost use Rattle.x7_packets.specs.ByHand.{AreOfOneSession, packets_of, reading_of};
-ghost use Rattle.x7_packets.specs.Cutting.{Adds, CutterStandsFor, CutterState, Longer, run_steps, Went};
+ghost use Rattle.x7_packets.specs.ByHand.{AreOfOneSession, Reading, packets_of, reading_of};
+ghost use Rattle.x7_packets.specs.Cutting.{Adds, CutterReads, CutterState, GoesOnBy, WentFrom, run_steps};
 ghost use Rattle.x7_packets.specs.Ended.{HasEnded};
-ghost use Rattle.x7_packets.specs.History.{Access, AllBehind, AllFit, Entry, entered_all, entry, History, history, history_of, next_word, Placed, until};
+ghost use Rattle.x7_packets.specs.History.{Access, AllBehind, AllFit, Entry, entered_all, entry, History, history, history_in, history_of, next_in, next_word, Placed, until};
 ghost use Rattle.x7_packets.specs.Packet.{Packet, Packets};
 ghost use Rattle.x7_packets.specs.Reading.{IsReading, Place, Searching, Session, Synced, is_synced, tail_of};
 ghost use Rattle.x7_packets.specs.declared.cutter.Cut.{Cut};
@@ -35,19 +35,16 @@ pub fn reading_is_found()
 
 /// Words more in a session enter their accesses, and so does a run of a cutter.
 pub fn words_enter()
-    ensures words { (gap tail : List ℕ) (packets : List Packet) (more : List (ℕ × Step)) (sessions new_sessions : List Session) (new : Place)
-        → Longer gap packets more sessions new_sessions new
-        → history new_sessions new ≡ entered_all (next_word sessions (Synced gap packets tail)) more (history sessions (Synced gap packets tail)) }
-    ensures next { (gap tail : List ℕ) (packets : List Packet) (more : List (ℕ × Step)) (sessions new_sessions : List Session) (new : Place)
-        → Longer gap packets more sessions new_sessions new
-        → (next_word new_sessions new ≡ next_word sessions (Synced gap packets tail) + 4 * length more) × (tail_of new ≡ []) }
-    ensures run { (run : Cut) (sessions new_sessions : List Session) (place new : Place) → Adds run sessions place new_sessions new
-        → history new_sessions new ≡ entered_all (next_word sessions place) (run_steps run) (history sessions place) }
+    ensures words { (old new : Reading) (more : List (ℕ × Step)) → GoesOnBy more old new → history_in new ≡ entered_all (next_in old) more (history_in old) }
+    ensures next { (old new : Reading) (more : List (ℕ × Step)) → GoesOnBy more old new → next_in new ≡ next_in old + 4 * length more }
+    ensures tail { (old new : Reading) (more : List (ℕ × Step)) → GoesOnBy more old new → tail_of new.place ≡ [] }
+    ensures run { (run : Cut) (old new : Reading) → Adds run old.sessions old.place new.sessions new.place
+        → history_in new ≡ entered_all (next_in old) (run_steps run) (history_in old) }
     ensures place { (bytes : List ℕ) (sessions : List Session) (place : Place) → IsReading bytes sessions place
         → next_word sessions place + length (tail_of place) ≡ length bytes }
-    ensures cut { (old new : CutterState) (bytes more : List ℕ) (sessions : List Session) (place : Place) (run : Cut) (n : ℕ)
-        → CutterStandsFor old bytes sessions place → Went old new (bytes ++ more) sessions place run
-        → n + length (tail_of place) ≡ length bytes → history_of (bytes ++ more) ≡ entered_all n (run_steps run) (history_of bytes) }
+    ensures cut { (old new : CutterState) (bytes more : List ℕ) (r : Reading) (run : Cut) (n : ℕ) → CutterReads old bytes r
+        → WentFrom old new (bytes ++ more) r run → n + length (tail_of r.place) ≡ length bytes
+        → history_of (bytes ++ more) ≡ entered_all n (run_steps run) (history_of bytes) }
     ensures one { (bytes : List ℕ) (sessions : List Session) (place : Place) → IsReading bytes sessions place → history sessions place ≡ history_of bytes }
 {}
 

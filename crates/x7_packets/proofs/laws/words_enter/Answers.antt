@@ -1,20 +1,23 @@
-use Rattle.x7_packets.proofs.HistoryLemmas.{cut_enters, history_is, next_word-is, run_enters, words_end, words_enter}
+use Rattle.x7_packets.proofs.HistoryLemmas.{cut_enters, history_is, next_on, next_word-is, run_enters, words_on}
 use Rattle.x7_packets.proofs.laws.words_enter.Goals as goal
 
 pub returns-clause-words : goal.returns-clause-words
-returns-clause-words c = words_enter
+returns-clause-words c = λ old new more l. words_on more old.sessions old.place new l
 
 pub returns-clause-next : goal.returns-clause-next
-returns-clause-next c = words_end
+returns-clause-next c = λ old new more l. (next_on more old.sessions old.place new l).0
+
+pub returns-clause-tail : goal.returns-clause-tail
+returns-clause-tail c = λ old new more l. (next_on more old.sessions old.place new l).1
 
 pub returns-clause-run : goal.returns-clause-run
-returns-clause-run c = run_enters
+returns-clause-run c = λ run old new a. run_enters run old.sessions new.sessions old.place new.place a
 
 pub returns-clause-place : goal.returns-clause-place
 returns-clause-place c = next_word-is
 
 pub returns-clause-cut : goal.returns-clause-cut
-returns-clause-cut c = cut_enters
+returns-clause-cut c = λ old new bytes more r run n s w e. cut_enters old new bytes more r.sessions r.place run n s w e
 
 pub returns-clause-one : goal.returns-clause-one
 returns-clause-one c = history_is
