@@ -28,7 +28,7 @@ use Rattle.x7_flow.specs.declared.asked.Asked.TheVariants.{Load, Order, Word, Co
 use Rattle.x7_flow.specs.Flow.{Flow, asked, asks, base_of, fault_by, flow_by, flow_of, frame_fault, given_of}
 use Rattle.x7_flow.specs.FrameMemory.{copy_pairs, landed_more, memory_of, puts}
 use Rattle.x7_flow.specs.FrameAccess.{reads_frame_data}
-use Rattle.x7_flow.specs.Standing.{AfterAccess, AfterRead, AreFramesAfter, FramesStandFor, FramesState, AreOf, Did, HasFlow, less, words_from, words_due, frames_read}
+use Rattle.x7_flow.specs.Standing.{AfterAccess, AfterRead, AreFramesAfter, FramesFit, FramesStandFor, FramesState, AreOf, Did, HasFlow, less, words_from, words_due, frames_read}
 use Rattle.x7_flow.proofs.FlowLemmas.{flow_more, flow_sound, given_nowhere, landed_grows, memory_more, put_none}
 
 -- ---- each call of a pipeline does what is asked
@@ -309,7 +309,7 @@ frame_read_refused part p frames h r count fault b refused are =
     ap (λ (x : Asked). fault_by part x f) (read_asked (settings_of part.idcode h) r count true b) ∙ sym (refused f (same_flow part p (less 0 f) f (sym (no_less f)) are.flow))
 
 pub read_answered : (part : PartData) (f : FramesState) (h : History) (r count place : ℕ) (result : Option RunFault) → reads_frame_data h (Read r count) ≡ true →
-    ((g : Flow) → HasFlow part f.pipeline g → result ≡ fault_by part (Reads count) g) → FramesStandFor part f h 0 → AfterRead part f h r count place result
+    ((g : Flow) → HasFlow part f.pipeline g → result ≡ fault_by part (Reads count) g) → FramesStandFor part f h 0 → AfterRead part f h (entry (Read r count) place) result
 read_answered part f h r count place None b none are = frame_read part f.pipeline f.memory h r count place b none are
 read_answered part f h r count place (Some fault) b refused are = frame_read_refused part f.pipeline f.memory h r count fault b refused are
 
@@ -322,7 +322,7 @@ word_fault_is part p frames h access a result e fault are =
     fault f (same_flow part p (less 0 f) f (sym (no_less f)) are.flow) ∙ ap (λ (x : Asked). fault_by part x f) e
 
 pub access_taken : (part : PartData) (p q : PipelineData) (old new : List (List ℕ)) (h : History) (e : Entry) (a : Asked) (result : Option RunFault) → a ≡ asks part.idcode h e.access →
-    IfNone result (Did part a p q old new) → OnSome result (q ≡ p) → OnSome result (new ≡ old) → AreFramesAfter part p old h 0 → AfterAccess part q new h e result
+    IfNone result (Did part a p q old new) → OnSome result (q ≡ p) → OnSome result (new ≡ old) → AreFramesAfter part p old h 0 → AfterAccess part (record { pipeline = q; memory = new }) h e result
 access_taken part p q old new h e a None same did refused unchanged are = one_more part p q old new e h (subst (λ (x : Asked). Did part x p q old new) same did) are
 access_taken part p q old new h e a (Some fault) same did refused unchanged are = rw (refused, unchanged) are
 
@@ -347,3 +347,8 @@ one_standing part p q old new h due first second are also_are =
       one_state part p q f.command f.base f.run f.source f.given has.stands also_has.stands,
       same_memory part old new first.frames_fit second.frames_fit (λ far. are.memory far ∙ sym (also_are.memory far)),
     )
+
+pub one_state_of : (part : PartData) (f g : FramesState) (h : History) (due : ℕ) → FramesFit part f → FramesFit part g → FramesStandFor part f h due → FramesStandFor part g h due → f ≡ g
+one_state_of part f g h due f_fits g_fits first second =
+    let same = one_standing part f.pipeline g.pipeline f.memory g.memory h due f_fits g_fits first second in
+    ap (λ (p : PipelineData). record { pipeline = p; memory = f.memory }) same.0 ∙ ap (λ (m : List (List ℕ)). record { pipeline = g.pipeline; memory = m }) same.1

@@ -1,7 +1,6 @@
 -- What a planned stream's writes and copies put.
 use Rattle.std.proofs.Common.{◌≡◌, ℕ, ◌+◌, ◌<◌, ◌&&◌, Bool, true, if◌then◌else◌, List, [], ◌∷◌, ◌++◌, length, reverse, Some, refl, sym, ap, subst, ◌∙◌, arith, append_assoc, append-nil, length-append}
 use Rattle.std.specs.List.{flat_map, filter_map, zip, AllByRecursion}
-use Rattle.std.proofs.lemmas.Grind.{reverse_onto}
 use Rattle.std.proofs.lemmas.List.{reverse-append, reverse-reverse}
 use Rattle.x7_packets.specs.History.{Write, History, command_held, entered_all, entry}
 use Rattle.x7_packets.specs.Packet.{payload_steps}
@@ -15,7 +14,7 @@ use Rattle.x7_pipeline.specs.InWords.{pair_of}
 use Rattle.x7_pipeline.specs.Runs.{but_newest, frames_of, landed, onto, put_over, rest_of, slots_from, Lands}
 use Rattle.x7_pipeline.specs.FarAsRead.{has_frame_at, loaded_base}
 use Rattle.x7_pipeline.specs.Copies.{copied, is_mfw}
-use Rattle.x7_pipeline.proofs.LawLemmas.{landed_empty, landed_in_order}
+use Rattle.x7_pipeline.proofs.LawLemmas.{landed_empty, landed_in_order, reverse-cons}
 use Rattle.x7_pipeline.proofs.RunLemmas.{frames-completes, frames-goes_on, rest-completes, rest-goes_on}
 use Rattle.x7_flow.specs.declared.asked.Asked.{Asked}
 use Rattle.x7_flow.specs.declared.asked.Asked.TheVariants.{Copies, Other}
@@ -26,9 +25,6 @@ use Rattle.x7_flow.proofs.FlowLemmas.{flow_more, flow_sound, memory_more, put_no
 use Rattle.x7_flow.proofs.ManyLemmas.{words_land}
 
 -- ---- a run of whole frames
-
-reverse-cons : {X : Type 0} → (x : X) (xs : List X) → reverse (x ∷ xs) ≡ reverse xs ++ x ∷ []
-reverse-cons x xs = reverse_onto xs x []
 
 onto-append : (first more run : List ℕ) → onto (first ++ more) run ≡ onto more (onto first run)
 onto-append [] more run = refl

@@ -86,7 +86,7 @@ pub words_taken : (part : PartData) (p q : PipelineData) (old new : List (List �
     Lands part base run (written part base run words).run (frame_at part old) (frame_at part new)) →
     ((command : Command) (base : ℕ) (run : List ℕ) (source : Option (List ℕ)) (given : ℕ) → StandsFor part p command base run source given → count ≡ (written part base run words).count) →
     ((command : Command) (base : ℕ) (run : List ℕ) (source : Option (List ℕ)) (given : ℕ) → StandsFor part p command base run source given → fault ≡ (written part base run words).fault) →
-    takes_frames (settings_of part.idcode h) ≡ true → AreFramesAfter part p old h 0 → WordsTaken part q new n h words count fault
+    takes_frames (settings_of part.idcode h) ≡ true → AreFramesAfter part p old h 0 → WordsTaken part (record { pipeline = q; memory = new }) n h words count fault
 words_taken part p q old new words count n fault h stands lands counted faulty t are =
     let f : Flow = flow_of part h in
     let has : HasFlow part p f = same_flow part p (less 0 f) f (sym (no_less f)) are.flow in
@@ -129,7 +129,7 @@ still_stand part f n [] h t s = s
 still_stand part f n (w ∷ ws) h t s = still_stand part f (n + 4) ws (entry (Write 2 w) (n + 4) ∷ h) t (other_access part f h (entry (Write 2 w) (n + 4)) (unasked part h w t) s)
 
 pub words_folded : (part : PartData) (f : FramesState) (n count : ℕ) (ws : List ℕ) (h : History) → takes_frames (settings_of part.idcode h) ≡ false → count ≡ length ws → FramesStandFor part f h 0
-    → WordsTaken part f.pipeline f.memory n h ws count None
+    → WordsTaken part f n h ws count None
 words_folded part f n count ws h t c s = record {
   front = ws;
   rest = [];

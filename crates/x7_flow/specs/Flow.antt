@@ -1,8 +1,7 @@
 -- The flow of frames of a history: what a frame pipeline stands for (UG470, frame address register and frame data registers).
-use Rattle.std.specs.Prelude.{ℕ, ◌+◌, ◌==◌, ◌&&◌, not, Bool, true, false, if◌then◌else◌, List, [], ◌∷◌, Option, None}
+use Rattle.std.specs.Prelude.{◌≡◌, ℕ, ◌+◌, ◌==◌, ◌&&◌, not, Bool, true, false, if◌then◌else◌, List, [], ◌∷◌, Option, None}
 use Rattle.x7_packets.specs.History.{Access, Write, Read, Bad, History}
 use Rattle.x7_part.specs.Part.{PartData}
-use Rattle.x7_regs.specs.declared.command.Command.{Command}
 use Rattle.x7_regs.specs.declared.command.Command.TheVariants as command
 use Rattle.x7_regs.specs.declared.register.Reg.TheVariants as reg
 use Rattle.x7_regs.specs.Command.{command_by}
@@ -10,6 +9,7 @@ use Rattle.x7_regs.specs.Register.{number_of}
 use Rattle.x7_pipeline.specs.declared.fault.RunFault.{RunFault}
 use Rattle.x7_pipeline.specs.FarAsRead.{far_of, has_frame_at, loaded_base}
 use Rattle.x7_pipeline.specs.Copies.{source_after}
+pub use Rattle.x7_pipeline.specs.Flow.{Flow}
 use Rattle.x7_pipeline.specs.Faults.{address_fault, copy_fault, write_fault}
 use Rattle.x7_flow.specs.Settings.{Settings, settings_of, takes_frames, takes_copies, gives_frames}
 use Rattle.x7_flow.specs.declared.asked.Asked.{Asked}
@@ -68,14 +68,6 @@ is_read Other = false
 
 -- ---- the flow
 
--- the command, the address that the run or readback began at, the words of the run (the newest first), the frame that copies take, and the count of words given
-pub record Flow : Type 0 where
-  pub command : Command
-  pub base : ℕ
-  pub run : List ℕ
-  pub source : Option (List ℕ)
-  pub given : ℕ
-
 -- after a reset
 abbrev pub first_flow : Flow
 first_flow = record { command = command.Null; base = 0; run = []; source = None; given = 0 }
@@ -113,6 +105,10 @@ source_of part h = (flow_of part h).source
 
 abbrev pub given_of : PartData → History → ℕ
 given_of part h = (flow_of part h).given
+
+-- the run or readback of a history begins at an address
+abbrev pub HasAddress : PartData → History → Type 0
+HasAddress part h = has_frame_at part (base_of part h) ≡ true
 
 -- FAR as read after a history
 abbrev pub far_read : PartData → History → ℕ

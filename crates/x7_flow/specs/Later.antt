@@ -1,13 +1,18 @@
 -- A history that goes on from settings and a flow: what it makes of them, and the pairs that it puts, the newest first.
-use Rattle.std.specs.Prelude.{ℕ, List, [], ◌∷◌, ◌++◌, Option}
-use Rattle.x7_packets.specs.History.{History}
+use Rattle.std.specs.Prelude.{◌≡◌, ℕ, Bool, true, List, [], ◌∷◌, ◌++◌, Option, None}
+use Rattle.x7_packets.specs.History.{History, Write, command_held, entry}
 use Rattle.x7_part.specs.Part.{PartData}
+use Rattle.x7_memory.specs.FrameMap.{AreSame}
 use Rattle.x7_memory.specs.Planned.{PlanRow}
+use Rattle.x7_regs.specs.declared.register.Reg.TheVariants as reg
+use Rattle.x7_regs.specs.Register.{number_of}
 use Rattle.x7_regs.specs.Command.{command_with}
+use Rattle.x7_pipeline.specs.Copies.{is_mfw}
 use Rattle.x7_pipeline.specs.FarAsRead.{loaded_base}
-use Rattle.x7_flow.specs.Settings.{Settings, settings_from}
-use Rattle.x7_flow.specs.Flow.{Flow, asked, flow_by}
-use Rattle.x7_flow.specs.FrameMemory.{puts}
+use Rattle.x7_pipeline.specs.Runs.{put_over}
+use Rattle.x7_flow.specs.Settings.{Settings, settings_from, settings_of, takes_frames}
+use Rattle.x7_flow.specs.Flow.{Flow, asked, flow_by, flow_of, source_of}
+use Rattle.x7_flow.specs.FrameMemory.{memory_of, puts}
 
 unfoldable pub flow_from : PartData → Settings → Flow → History → Flow
 flow_from part s f [] = f
@@ -24,3 +29,31 @@ flow_loaded part s source w = record { command = command_with s.held; base = loa
 -- the pairs of a history that goes on from a FAR load of this word
 abbrev pub pairs_loaded : PartData → Settings → Option (List ℕ) → ℕ → History → List PlanRow
 pairs_loaded part s source w later = pairs_from part s (flow_loaded part s source w) later
+
+-- the pairs that a later history puts behind an earlier one
+abbrev pub pairs_after : PartData → History → History → List PlanRow
+pairs_after part earlier later = pairs_from part (settings_of part.idcode earlier) (flow_of part earlier) later
+
+-- a history with a word written to FAR
+abbrev pub after_load : ℕ → ℕ → History → History
+after_load w place h = entry (Write (number_of reg.Far) w) place ∷ h
+
+-- the pairs of a history that goes on from a FAR load behind an earlier one; and where that one's source doesn't count
+abbrev pub pairs_behind : PartData → History → ℕ → History → List PlanRow
+pairs_behind part earlier w later = pairs_loaded part (settings_of part.idcode earlier) (source_of part earlier) w later
+
+abbrev pub pairs_alone : PartData → History → ℕ → History → List PlanRow
+pairs_alone part earlier w later = pairs_loaded part (settings_of part.idcode earlier) None w later
+
+-- the command held is MFW
+abbrev pub holds_mfw : History → Bool
+holds_mfw h = is_mfw (command_with (command_held h))
+
+-- a history that goes on is where words of FDRI begin a run
+pub record BeginsRun (part : PartData) (s : Settings) (f : Flow) (later : History) : Type 0 where
+  pub takes : takes_frames (settings_from part.idcode s later) ≡ true
+  pub empty : (flow_from part s f later).run ≡ []
+
+-- a history's memory is that of another with these pairs put over it
+abbrev pub MemoryGets : PartData → History → History → List PlanRow → Type 0
+MemoryGets part h earlier pairs = AreSame (memory_of part h) (put_over pairs (memory_of part earlier))

@@ -10,6 +10,7 @@ pub mod Stretches
 pub mod InWords
 pub mod Standing
 pub mod Words
+pub mod FrameWrites
 pub mod Alike
 pub mod Quiet
 pub mod Inside

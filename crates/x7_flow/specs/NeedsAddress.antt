@@ -1,9 +1,12 @@
 -- When an access needs an address to begin at.
-use Rattle.std.specs.Prelude.{ℕ, ◌==◌, ◌&&◌, not, Bool, true, false, List, [], ◌∷◌, is_some}
+use Rattle.std.specs.Prelude.{◌≡◌, ℕ, ◌==◌, ◌&&◌, not, Bool, true, false, List, [], ◌∷◌, is_some}
+use Rattle.x7_packets.specs.History.{Access, History}
+use Rattle.x7_part.specs.Part.{PartData}
 use Rattle.x7_pipeline.specs.Copies.{is_mfw}
+use Rattle.x7_pipeline.specs.FarAsRead.{has_frame_at}
 use Rattle.x7_flow.specs.declared.asked.Asked.{Asked}
 use Rattle.x7_flow.specs.declared.asked.Asked.TheVariants.{Load, Order, Word, Copies, Reads, Other}
-use Rattle.x7_flow.specs.Flow.{Flow}
+use Rattle.x7_flow.specs.Flow.{Flow, asks, base_of, flow_of, is_copy, run_of}
 
 abbrev pub is_empty : List ℕ → Bool
 is_empty [] = true
@@ -17,3 +20,15 @@ needs_address (Word w) f = is_empty f.run
 needs_address Copies f = is_mfw f.command && is_some f.source
 needs_address (Reads count) f = not (count == 0)
 needs_address Other f = false
+
+-- an access after a history needs an address, and its base is none
+abbrev pub LacksAddress : PartData → History → Access → ℕ → Type 0
+LacksAddress part h access far = (needs_address (asks part.idcode h access) (flow_of part h) ≡ true) × (has_frame_at part (base_of part h) ≡ false) × (far ≡ base_of part h)
+
+-- an access after a history is a copy, and there is none to make: the command isn't MFW, or it took no frame
+abbrev pub LacksSource : PartData → History → Access → Type 0
+LacksSource part h access = (is_copy (asks part.idcode h access) ≡ true) × ((is_mfw (flow_of part h).command && is_some (flow_of part h).source) ≡ false)
+
+-- only at an address has a history a run
+abbrev pub RunsAtAddress : PartData → History → Type 0
+RunsAtAddress part h = has_frame_at part (base_of part h) ≡ false → run_of part h ≡ []

@@ -5,12 +5,18 @@ use Rattle.x7_memory.specs.FrameMap.{AreSame}
 use Rattle.x7_memory.specs.Frames.{AreFramesOf, frame_at}
 use Rattle.x7_pipeline.specs.Runs.{put_over}
 use Rattle.x7_pipeline.specs.Saving.{SavedState, next_put, pair_at}
-use Rattle.x7_flow.specs.Standing.{FramesState}
+use Rattle.x7_flow.specs.Standing.{FramesFit, FramesState}
 
 -- the pipeline of these frames, and the frame that stands where its next word or copy would put one
 pub record KeepsFrames (part : PartData) (s : SavedState) (f : FramesState) : Type 0 where
   pub pipeline : s.pipeline ≡ f.pipeline
   pub pair : s.pair ≡ pair_at (frame_at part f.memory) (next_put part f.pipeline)
+
+-- the old frames are kept, and both are the part's
+pub record AreKept (part : PartData) (s : SavedState) (old new : FramesState) : Type 0 where
+  pub keeps : KeepsFrames part s old
+  pub old_fit : FramesFit part old
+  pub new_fit : FramesFit part new
 
 -- the kept pipeline is that of the old frames, and the new memory with the kept pair is the old one
 pub record FramesBack (part : PartData) (s : SavedState) (new old : FramesState) : Type 0 where

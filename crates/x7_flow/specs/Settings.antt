@@ -1,5 +1,6 @@
 -- What decides whether an access concerns frames: whether the device is matched, MASK, CTL0 and CMD (UG470, configuration registers).
-use Rattle.std.specs.Prelude.{◌≡◌, ℕ, ◌%◌, ◌^◌, ◌==◌, ◌||◌, ◌&&◌, not, Bool, if◌then◌else◌, [], ◌∷◌}
+use Rattle.std.specs.Prelude.{◌≡◌, ℕ, ◌%◌, ◌^◌, ◌==◌, ◌||◌, ◌&&◌, not, Bool, true, if◌then◌else◌, [], ◌∷◌}
+use Rattle.x7_part.specs.Part.{PartData}
 use Rattle.x7_packets.specs.History.{Access, Write, Read, Bad, History, command_held, written}
 use Rattle.x7_regs.specs.declared.command.Command.TheVariants as command
 use Rattle.x7_regs.specs.declared.register.Reg.TheVariants as reg
@@ -57,3 +58,7 @@ takes_copies s = s.matched && not (forbids_writing s.ctl0)
 -- reads of FDRO give words of the memory
 abbrev pub gives_frames : Settings → Bool
 gives_frames s = s.held == code_of command.Rcfg && not (forbids_reading s.ctl0)
+
+-- after a history words of FDRI go to the memory
+abbrev pub TakesFrames : PartData → History → Type 0
+TakesFrames part h = takes_frames (settings_of part.idcode h) ≡ true

@@ -1,21 +1,29 @@
 -- A pipeline and a memory that stand for a history, and the words of frame data that are read out.
-use Rattle.std.specs.Prelude.{◌≡◌, ℕ, zero, suc, ◌+◌, ◌-◌, ◌≤◌, false, List, [], ◌∷◌, Option, None, Some}
-use Rattle.x7_packets.specs.History.{Entry, History, Read, entry}
+use Rattle.std.specs.Prelude.{◌≡◌, ℕ, zero, suc, ◌+◌, ◌-◌, ◌≤◌, false, true, List, [], ◌∷◌, Option, None, Some}
+use Rattle.x7_packets.specs.History.{Access, Entry, History, Read, Write, entry}
+use Rattle.x7_regs.specs.declared.register.Reg.{Reg}
+use Rattle.x7_regs.specs.Register.{number_of}
 use Rattle.x7_pipeline.specs.declared.fault.RunFault.{RunFault}
 use Rattle.x7_part.specs.Part.{PartData}
 use Rattle.x7_memory.specs.FrameMap.{FrameMap, AreSame}
 use Rattle.x7_memory.specs.Frames.{AreFramesOf, frame_at}
 use Rattle.x7_pipeline.specs.FarAsRead.{has_frame_at}
-use Rattle.x7_pipeline.specs.Pipeline.{IsPipelineOf, PipelineData, StandsFor}
+use Rattle.x7_pipeline.specs.Flow.{HoldsFlow}
+use Rattle.x7_pipeline.specs.Pipeline.{IsPipelineOf, PipelineData}
 use Rattle.x7_pipeline.specs.Readback.{read_at}
 use Rattle.x7_pipeline.specs.Runs.{put_over}
 use Rattle.x7_flow.specs.declared.asked.Asked.{Asked}
-use Rattle.x7_flow.specs.Flow.{Flow, base_of, flow_by, flow_of, frame_fault, given_of}
+use Rattle.x7_flow.specs.declared.asked.Asked.TheVariants.{Reads}
+use Rattle.x7_flow.specs.declared.settings.FrameSettings.{FrameSettings}
+use Rattle.x7_flow.specs.Flow.{Flow, HasAddress, asks, base_of, flow_by, flow_of, frame_fault, given_of}
+use Rattle.x7_flow.specs.FrameAccess.{reads_frame_data}
 use Rattle.x7_flow.specs.FrameMemory.{memory_of, puts}
+use Rattle.x7_flow.specs.InWords.{count_asked}
+use Rattle.x7_flow.specs.Settings.{AreSettingsAfter}
 
 -- the pipeline stands for a flow, of which only an address gives words
 pub record HasFlow (part : PartData) (p : PipelineData) (f : Flow) : Type 0 where
-  pub stands : StandsFor part p f.command f.base f.run f.source f.given
+  pub stands : HoldsFlow part p f
   pub nowhere : has_frame_at part f.base ≡ false → f.given ≡ 0
 
 -- a flow of whose words given so many are still due
@@ -46,11 +54,6 @@ frames_read part h count = words_from part (base_of part h) (memory_of part h) (
 abbrev pub words_due : PartData → History → ℕ → List ℕ
 words_due part h due = words_from part (base_of part h) (memory_of part h) (given_of part h - due) due
 
--- after an access: the longer history, or where it is refused the old one
-abbrev pub AfterAccess : PartData → PipelineData → List (List ℕ) → History → Entry → Option RunFault → Type 0
-AfterAccess part p frames h e None = AreFramesAfter part p frames (e ∷ h) 0
-AfterAccess part p frames h e (Some fault) = AreFramesAfter part p frames h 0
-
 -- a part's pipeline and frames
 pub record AreOf (part : PartData) (p : PipelineData) (frames : List (List ℕ)) : Type 0 where
   pub pipeline_fits : IsPipelineOf part p
@@ -71,10 +74,48 @@ FramesFit part f = AreOf part f.pipeline f.memory
 abbrev pub FramesStandFor : PartData → FramesState → History → ℕ → Type 0
 FramesStandFor part f h due = AreFramesAfter part f.pipeline f.memory h due
 
+-- as a map of addresses
+abbrev pub frames_map : PartData → FramesState → FrameMap
+frames_map part f = frame_at part f.memory
+
+-- what holds of a history that the frames stand for with no word due, and these settings too
+abbrev pub OfFrames : PartData → FrameSettings → FramesState → (History → Type 0) → Type 0
+OfFrames part settings f Fact = (h : History) → AreSettingsAfter part.idcode settings h → FramesStandFor part f h 0 → Fact h
+
+-- they did what an access after a history asks
+abbrev pub FramesDid : PartData → FramesState → FramesState → History → Entry → Type 0
+FramesDid part old new h e = Did part (asks part.idcode h e.access) old.pipeline new.pipeline old.memory new.memory
+
+-- an access after a history reads so many words of frame data, from an address
+pub record ReadsFrames (part : PartData) (f : FramesState) (h : History) (access : Access) (count : ℕ) : Type 0 where
+  pub reads : asks part.idcode h access ≡ Reads count
+  pub address : HasAddress part h
+  pub stands : FramesStandFor part f h 0
+
+-- a word written to a register, and its entry
+abbrev pub word_to : Reg → ℕ → Access
+word_to register word = Write (number_of register) word
+
+abbrev pub written_to : Reg → ℕ → ℕ → Entry
+written_to register word place = entry (word_to register word) place
+
+-- a read of some words of a register, and its entry
+abbrev pub read_of : ℕ → ℕ → ℕ → Entry
+read_of register count place = entry (Read register count) place
+
+-- an access after a history: a read of frame data
+abbrev pub ReadsData : History → ℕ → ℕ → Type 0
+ReadsData h register count = reads_frame_data h (Read register count) ≡ true
+
+-- after an access: the longer history, or where it is refused the old one
+abbrev pub AfterAccess : PartData → FramesState → History → Entry → Option RunFault → Type 0
+AfterAccess part f h e None = FramesStandFor part f (e ∷ h) 0
+AfterAccess part f h e (Some fault) = FramesStandFor part f h 0
+
 -- after a read of frame data: all its words are due; or it is refused
-abbrev pub AfterRead : PartData → FramesState → History → ℕ → ℕ → ℕ → Option RunFault → Type 0
-AfterRead part f h register count place None =
-    (frame_fault part h (Read register count) ≡ None)
-    × FramesStandFor part f (entry (Read register count) place ∷ h) count
-    × (words_due part (entry (Read register count) place ∷ h) count ≡ frames_read part h count)
-AfterRead part f h register count place (Some fault) = frame_fault part h (Read register count) ≡ Some fault
+abbrev pub AfterRead : PartData → FramesState → History → Entry → Option RunFault → Type 0
+AfterRead part f h e None =
+    (frame_fault part h e.access ≡ None)
+    × FramesStandFor part f (e ∷ h) (count_asked e.access)
+    × (words_due part (e ∷ h) (count_asked e.access) ≡ frames_read part h (count_asked e.access))
+AfterRead part f h e (Some fault) = frame_fault part h e.access ≡ Some fault

@@ -1,26 +1,32 @@
 -- Words of frame data taken at once, up to the first that is refused.
-use Rattle.std.specs.Prelude.{◌≡◌, ℕ, ◌+◌, ◌-◌, List, [], ◌∷◌, ◌++◌, length, Option, None, Some}
+use Rattle.std.specs.Prelude.{◌≡◌, ℕ, ◌+◌, ◌-◌, ◌*◌, ◌≤◌, List, [], ◌∷◌, ◌++◌, length, Option, None, Some}
 use Rattle.x7_packets.specs.History.{Write, History, entered_all, entry}
 use Rattle.x7_packets.specs.Packet.{payload_steps}
-use Rattle.x7_part.specs.Part.{PartData}
+use Rattle.x7_part.specs.Part.{PartData, frame_words}
+use Rattle.x7_regs.specs.declared.register.Reg.TheVariants as reg
+use Rattle.x7_regs.specs.Register.{number_of}
+use Rattle.x7_pipeline.specs.Runs.{slots_from}
 use Rattle.x7_pipeline.specs.declared.fault.RunFault.{RunFault}
-use Rattle.x7_pipeline.specs.Pipeline.{PipelineData}
-use Rattle.x7_flow.specs.Flow.{frame_fault}
-use Rattle.x7_flow.specs.Standing.{AreFramesAfter}
+use Rattle.x7_flow.specs.Flow.{base_of, frame_fault, run_of}
+use Rattle.x7_flow.specs.Standing.{FramesStandFor, FramesState}
 
 -- the history with words written to FDRI, the first of which begins at byte n
 abbrev pub with_words : ℕ → List ℕ → History → History
-with_words n ws h = entered_all n (payload_steps 2 ws) h
+with_words n ws h = entered_all n (payload_steps (number_of reg.Fdri) ws) h
+
+-- the history with words written to MFWR
+abbrev pub with_copies : ℕ → List ℕ → History → History
+with_copies n ws h = entered_all n (payload_steps (number_of reg.Mfwr) ws) h
 
 -- none of them is refused
 unfoldable pub NoneRefused : PartData → ℕ → List ℕ → History → Type 0
 NoneRefused part n [] h = Unit {0}
-NoneRefused part n (w ∷ ws) h = (frame_fault part h (Write 2 w) ≡ None) × NoneRefused part (n + 4) ws (entry (Write 2 w) (n + 4) ∷ h)
+NoneRefused part n (w ∷ ws) h = (frame_fault part h (Write (number_of reg.Fdri) w) ≡ None) × NoneRefused part (n + 4) ws (entry (Write (number_of reg.Fdri) w) (n + 4) ∷ h)
 
 -- behind so many words, with this history: no word is left, or the next is refused
 abbrev pub EndsBy : PartData → History → List ℕ → ℕ → ℕ → Option RunFault → Type 0
 EndsBy part h rest taken count None = (rest ≡ []) × (count ≡ taken)
-EndsBy part h rest taken count (Some fault) = (w : ℕ) × (back : List ℕ) × (rest ≡ w ∷ back) × (frame_fault part h (Write 2 w) ≡ Some fault) × (count ≡ taken + 1)
+EndsBy part h rest taken count (Some fault) = (w : ℕ) × (back : List ℕ) × (rest ≡ w ∷ back) × (frame_fault part h (Write (number_of reg.Fdri) w) ≡ Some fault) × (count ≡ taken + 1)
 
 -- how many of the words looked at were taken: not the last one, where it is refused
 abbrev pub words_before : ℕ → Option RunFault → ℕ
@@ -28,10 +34,14 @@ words_before count None = count
 words_before count (Some fault) = count - 1
 
 -- the words up to the first refused one were taken; the count has the refused one too
-pub record WordsTaken (part : PartData) (q : PipelineData) (frames : List (List ℕ)) (n : ℕ) (h : History) (words : List ℕ) (count : ℕ) (fault : Option RunFault) : Type 0 where
+pub record WordsTaken (part : PartData) (f : FramesState) (n : ℕ) (h : History) (words : List ℕ) (count : ℕ) (fault : Option RunFault) : Type 0 where
   pub front : List ℕ
   pub rest : List ℕ
   pub words_are : words ≡ front ++ rest
   pub none_refused : NoneRefused part n front h
   pub end : EndsBy part (with_words n front h) rest (length front) count fault
-  pub stands : AreFramesAfter part q frames (with_words n front h) 0
+  pub stands : FramesStandFor part f (with_words n front h) 0
+
+-- the run of a history, with words more, has slots for all its frames
+abbrev pub HasRoomFor : PartData → History → List ℕ → Type 0
+HasRoomFor part h ws = length (run_of part h) + length ws ≤ frame_words part * length (slots_from part (base_of part h))

@@ -1,13 +1,11 @@
 //! The frames of a device: its pipeline and its memory, which stand for a history.
-ghost use Rattle.std.specs.Prelude.{◌≡◌, ◌+◌, ◌/◌, ◌%◌, ◌≤◌, ◌∷◌, [], ℕ, suc, true, length, IfOk};
+ghost use Rattle.std.specs.Prelude.{◌≡◌, ◌+◌, ◌/◌, ◌%◌, ◌≤◌, ◌∷◌, [], ℕ, suc, length, IfOk};
 ghost use Rattle.x7_words.specs.Word.{words_of_bytes};
 ghost use Rattle.x7_part.specs.Part.{PartData};
-ghost use Rattle.x7_packets.specs.History.{History, Read, Write, entry};
+ghost use Rattle.x7_packets.specs.History.{History, Write};
 ghost use Rattle.x7_regs.specs.Register.{number_of};
-ghost use Rattle.x7_flow.specs.FrameAccess.{reads_frame_data};
-ghost use Rattle.x7_flow.specs.Settings.{AreSettingsAfter};
 ghost use Rattle.x7_flow.specs.Flow.{far_in, flow_of, frame_fault};
-ghost use Rattle.x7_flow.specs.Standing.{AfterAccess, AfterRead, FramesFit, FramesStandFor, less, words_due};
+ghost use Rattle.x7_flow.specs.Standing.{AfterAccess, AfterRead, FramesFit, FramesStandFor, OfFrames, ReadsData, less, read_of, words_due, written_to};
 ghost use Rattle.x7_flow.specs.Words.{WordsTaken};
 
 mod saved;
@@ -74,9 +72,8 @@ impl Frames {
         part: &Part,
     ) -> Option<RunFault>
         requires part { FramesFit part.now self.old }
-        ensures stands { (h : History) (place : ℕ) → AreSettingsAfter part.now.idcode settings h → FramesStandFor part.now self.old h 0 →
-            AfterAccess part.now self.new.pipeline self.new.memory h (entry (Write (number_of reg) word) place) result }
-        ensures fault { (h : History) → AreSettingsAfter part.now.idcode settings h → FramesStandFor part.now self.old h 0 → result ≡ frame_fault part.now h (Write (number_of reg) word) }
+        ensures stands { OfFrames part.now settings self.old (λ h. (place : ℕ) → AfterAccess part.now self.new h (written_to reg word place) result) }
+        ensures fault { OfFrames part.now settings self.old (λ h. result ≡ frame_fault part.now h (Write (number_of reg) word)) }
         ensures part { FramesFit part.now self.new }
     {
         let asked = asked_write(settings, reg, word);
@@ -93,8 +90,7 @@ impl Frames {
     ) -> (usize, Option<RunFault>)
         requires whole { length bytes.now % 4 ≡ 0 }
         requires part { FramesFit part.now self.old }
-        ensures taken { (n : ℕ) (h : History) → AreSettingsAfter part.now.idcode settings h → FramesStandFor part.now self.old h 0 →
-            WordsTaken part.now self.new.pipeline self.new.memory n h (words_of_bytes bytes.now) result.0 result.1 }
+        ensures taken { (n : ℕ) → OfFrames part.now settings self.old (λ h. WordsTaken part.now self.new n h (words_of_bytes bytes.now) result.0 result.1) }
         ensures within { result.0 ≤ length bytes.now / 4 }
         ensures part { FramesFit part.now self.new }
     {
@@ -107,8 +103,8 @@ impl Frames {
     /// A read of so many words of frame data begins: from now on they are due, and `next` gives them. Or it is refused, and this
     /// says why.
     pub fn begin_read(&self, count: u32, part: &Part) -> Option<RunFault>
-        ensures { (h : History) (register place : ℕ) → reads_frame_data h (Read register count) ≡ true → FramesStandFor part.now self.now h 0 →
-            AfterRead part.now self.now h register count place result }
+        ensures { (h : History) (register place : ℕ) → ReadsData h register count → FramesStandFor part.now self.now h 0 →
+            AfterRead part.now self.now h (read_of register count place) result }
     {
         refuses_read(count, part, &self.pipeline)
     }

@@ -1,37 +1,37 @@
 //! Laws of the definitions. The functions do nothing: their contracts are the laws.
-ghost use Rattle.std.specs.Prelude.{◌≡◌, ◌↔◌, ◌∷◌, ◌++◌, ◌==◌, ◌&&◌, [], ℕ, List, None, Option, Some, is_some, length, reverse, ◌<◌, ◌≤◌, ◌+◌, ◌*◌, ◌-◌, ◌%◌, ◌^◌, true, false};
-ghost use Rattle.std.specs.List.{AllByRecursion, filter_map, flat_map, zip};
-ghost use Rattle.x7_pipeline.specs.InWords.{pair_of};
-ghost use Rattle.x7_memory.specs.FrameMap.{AreSame, override};
+ghost use Rattle.std.specs.Prelude.{◌≡◌, ◌↔◌, ◌∷◌, ◌++◌, [], ℕ, List, None, Option, Some, reverse, ◌<◌, ◌-◌, ◌%◌, ◌^◌, true, false};
+ghost use Rattle.x7_memory.specs.FrameMap.{AreSame};
 ghost use Rattle.x7_memory.specs.Planned.{planned};
 ghost use Rattle.x7_part.specs.AddressOrder.{Rises, addresses_in};
 ghost use Rattle.x7_part.specs.Part.{PartData, frame_words};
-ghost use Rattle.x7_packets.specs.History.{Access, Entry, History, Read, Write, command_held, entered_all, entry};
-ghost use Rattle.x7_flow.specs.FrameAccess.{copies_frame, reads_frame_data, writes_frame_data};
-ghost use Rattle.x7_pipeline.specs.Runs.{Lands, frames_of, landed, onto, put_over, rest_of, slots_from};
-ghost use Rattle.x7_packets.specs.Packet.{payload_steps};
-ghost use Rattle.x7_regs.specs.Command.{command_with};
-ghost use Rattle.x7_pipeline.specs.Copies.{is_mfw};
-ghost use Rattle.x7_pipeline.specs.declared.fault.RunFault.{RunFault};
-ghost use Rattle.x7_flow.specs.NeedsAddress.{needs_address};
-ghost use Rattle.x7_pipeline.specs.FarAsRead.{has_frame_at, loaded_base};
-ghost use Rattle.x7_pipeline.specs.Pipeline.{PipelineData};
-ghost use Rattle.x7_flow.specs.declared.asked.Asked.{Asked};
-ghost use Rattle.x7_memory.specs.Frames.{frame_at};
+ghost use Rattle.x7_packets.specs.History.{Access, Entry, History, command_held};
+ghost use Rattle.x7_regs.specs.declared.command.Command.TheVariants as command;
+ghost use Rattle.x7_regs.specs.declared.register.Reg.TheVariants as reg;
+ghost use Rattle.x7_regs.specs.Command.{code_of};
+ghost use Rattle.x7_pipeline.specs.Copies.{copied};
+ghost use Rattle.x7_pipeline.specs.FarAsRead.{loaded_base};
+ghost use Rattle.x7_pipeline.specs.Flow.{LandsAt, after_words};
+ghost use Rattle.x7_pipeline.specs.InWords.{Overruns};
+ghost use Rattle.x7_pipeline.specs.Runs.{landed, onto};
 ghost use Rattle.x7_pipeline.specs.Saving.{SavedState};
-ghost use Rattle.x7_flow.specs.Saving.{FramesBack, KeepsFrames};
-ghost use Rattle.x7_flow.specs.Standing.{AreFramesAfter, AreOf, Did, FramesFit, FramesStandFor, FramesState, frames_read, less, words_due};
-ghost use Rattle.x7_flow.specs.Quiet.{AreQuiet};
-ghost use Rattle.x7_flow.specs.Settings.{Settings, settings_of, settings_after, settings_from, takes_copies, takes_frames};
-ghost use Rattle.x7_flow.specs.Flow.{Flow, asks, base_of, begins, far_read, first_flow, flow_by, flow_of, frame_fault, given_of, is_copy, is_read, is_word, run_of, source_of};
-ghost use Rattle.x7_flow.specs.FrameMemory.{landed_more, memory_of, puts};
+ghost use Rattle.x7_pipeline.specs.declared.fault.RunFault.{RunFault};
+ghost use Rattle.x7_flow.specs.declared.asked.Asked.{Asked};
 ghost use Rattle.x7_flow.specs.Alike.{AreAlike, MasksFirst};
-ghost use Rattle.x7_flow.specs.Later.{flow_from, pairs_from, pairs_loaded};
-ghost use Rattle.x7_flow.specs.Sound.{IsSound};
-ghost use Rattle.x7_flow.specs.Words.{NoneRefused};
-ghost use Rattle.x7_flow.specs.Stretches.{ends_of, is_boundary, overridden};
-ghost use Rattle.x7_flow.specs.Inside.{HasFrames};
+ghost use Rattle.x7_flow.specs.Flow.{Flow, HasAddress, asks, base_of, begins, far_read, flow_of, frame_fault, given_of, is_copy, is_read, is_word, run_of, source_of};
+ghost use Rattle.x7_flow.specs.FrameAccess.{copies_frame, reads_frame_data, writes_frame_data};
+ghost use Rattle.x7_flow.specs.FrameMemory.{landed_more, memory_of};
+ghost use Rattle.x7_flow.specs.FrameWrites.{CopiesTo, FrameWrite, RunHolds, TakesWrite, placed, with_frames};
 ghost use Rattle.x7_flow.specs.InWords.{base_after, frame_taken, words_given, words_written};
+ghost use Rattle.x7_flow.specs.Inside.{HasFrames};
+ghost use Rattle.x7_flow.specs.Later.{BeginsRun, MemoryGets, after_load, flow_from, holds_mfw, pairs_after, pairs_alone, pairs_behind, pairs_from, pairs_loaded};
+ghost use Rattle.x7_flow.specs.NeedsAddress.{LacksAddress, LacksSource, RunsAtAddress};
+ghost use Rattle.x7_flow.specs.Quiet.{AreQuiet};
+ghost use Rattle.x7_flow.specs.Saving.{AreKept, FramesBack};
+ghost use Rattle.x7_flow.specs.Settings.{Settings, TakesFrames, settings_after, settings_from, settings_of};
+ghost use Rattle.x7_flow.specs.Sound.{IsSound};
+ghost use Rattle.x7_flow.specs.Standing.{FramesDid, FramesFit, FramesStandFor, FramesState, ReadsData, ReadsFrames, frames_map, frames_read, less, read_of, words_due, written_to};
+ghost use Rattle.x7_flow.specs.Stretches.{ends_of, is_boundary, overridden};
+ghost use Rattle.x7_flow.specs.Words.{HasRoomFor, NoneRefused, with_copies, with_words};
 
 /// A flow has what its settings say.
 pub fn flow_laws()
@@ -44,10 +44,9 @@ pub fn flow_laws()
 pub fn memory_laws()
     ensures settings { (idcode : ℕ) (later earlier : History) → settings_of idcode (later ++ earlier) ≡ settings_from idcode (settings_of idcode earlier) later }
     ensures flow { (part : PartData) (later earlier : History) → flow_of part (later ++ earlier) ≡ flow_from part (settings_of part.idcode earlier) (flow_of part earlier) later }
-    ensures memory { (part : PartData) (later earlier : History) →
-        AreSame (memory_of part (later ++ earlier)) (put_over (pairs_from part (settings_of part.idcode earlier) (flow_of part earlier) later) (memory_of part earlier)) }
+    ensures memory { (part : PartData) (later earlier : History) → MemoryGets part (later ++ earlier) earlier (pairs_after part earlier later) }
     ensures loaded { (part : PartData) (later earlier : History) (w place : ℕ) →
-        AreSame (memory_of part (later ++ entry (Write 1 w) place ∷ earlier)) (put_over (pairs_loaded part (settings_of part.idcode earlier) (source_of part earlier) w later) (memory_of part earlier)) }
+        MemoryGets part (later ++ after_load w place earlier) earlier (pairs_behind part earlier w later) }
 {}
 
 /// The memory is the zero map overridden, stretch by stretch in order, by the stretch's landed frames and its copies.
@@ -71,44 +70,39 @@ pub fn word_laws()
     ensures source { (part : PartData) (h : History) → source_of part h ≡ frame_taken part h }
 {}
 
-/// One access more: a pipeline and a memory that do what it asks stand for the longer history; a read that begins changes
-/// neither, and all its words are due.
+/// One access more: frames that do what it asks stand for the longer history; a read that begins changes them not, and all
+/// its words are due. Frames of a part that stand for the same are equal.
 pub fn standing_laws()
-    ensures more { (part : PartData) (p q : PipelineData) (old new : List (List ℕ)) (e : Entry) (h : History) →
-        Did part (asks part.idcode h e.access) p q old new → AreFramesAfter part p old h 0 → AreFramesAfter part q new (e ∷ h) 0 }
-    ensures read { (part : PartData) (p : PipelineData) (frames : List (List ℕ)) (e : Entry) (h : History) (count : ℕ) →
-        asks part.idcode h e.access ≡ Asked.Reads count → has_frame_at part (base_of part h) ≡ true → AreFramesAfter part p frames h 0 →
-        AreFramesAfter part p frames (e ∷ h) count × (words_due part (e ∷ h) count ≡ frames_read part h count) }
-    ensures one { (part : PartData) (p q : PipelineData) (old new : List (List ℕ)) (h : History) (due : ℕ) → AreOf part p old → AreOf part q new →
-        AreFramesAfter part p old h due → AreFramesAfter part q new h due → (p ≡ q) × (old ≡ new) }
+    ensures more { (part : PartData) (old new : FramesState) (e : Entry) (h : History) →
+        FramesDid part old new h e → FramesStandFor part old h 0 → FramesStandFor part new (e ∷ h) 0 }
+    ensures read { (part : PartData) (f : FramesState) (e : Entry) (h : History) (count : ℕ) →
+        ReadsFrames part f h e.access count → FramesStandFor part f (e ∷ h) count }
+    ensures due { (part : PartData) (f : FramesState) (e : Entry) (h : History) (count : ℕ) →
+        ReadsFrames part f h e.access count → words_due part (e ∷ h) count ≡ frames_read part h count }
+    ensures one { (part : PartData) (f g : FramesState) (h : History) (due : ℕ) → FramesFit part f → FramesFit part g →
+        FramesStandFor part f h due → FramesStandFor part g h due → f ≡ g }
 {}
 
 /// Why an access is refused, and that a refused one changes neither the memory nor FAR as read.
 pub fn fault_laws()
-    ensures address { (part : PartData) (h : History) (access : Access) (far : ℕ) → (frame_fault part h access ≡ Some (RunFault.Address far))
-        ↔ ((needs_address (asks part.idcode h access) (flow_of part h) ≡ true) × (has_frame_at part (base_of part h) ≡ false) × (far ≡ base_of part h)) }
-    ensures multi { (part : PartData) (h : History) (access : Access) → (frame_fault part h access ≡ Some RunFault.Multi)
-        ↔ ((is_copy (asks part.idcode h access) ≡ true) × ((is_mfw (flow_of part h).command && is_some (flow_of part h).source) ≡ false)) }
-    ensures overrun { (part : PartData) (h : History) (access : Access) (w : ℕ) → asks part.idcode h access ≡ Asked.Word w → has_frame_at part (base_of part h) ≡ true →
-        (frame_fault part h access ≡ Some RunFault.Overrun)
-        ↔ ((rest_of (frame_words part) (w ∷ run_of part h) ≡ []) × (length (slots_from part (base_of part h)) < length (frames_of (frame_words part) (w ∷ run_of part h)))) }
+    ensures address { (part : PartData) (h : History) (access : Access) (far : ℕ) → (frame_fault part h access ≡ Some (RunFault.Address far)) ↔ LacksAddress part h access far }
+    ensures multi { (part : PartData) (h : History) (access : Access) → (frame_fault part h access ≡ Some RunFault.Multi) ↔ LacksSource part h access }
+    ensures overrun { (part : PartData) (h : History) (access : Access) (w : ℕ) → asks part.idcode h access ≡ Asked.Word w → HasAddress part h →
+        (frame_fault part h access ≡ Some RunFault.Overrun) ↔ Overruns part (base_of part h) (w ∷ run_of part h) }
     ensures word { (part : PartData) (h : History) (access : Access) → frame_fault part h access ≡ Some RunFault.Overrun → is_word (asks part.idcode h access) ≡ true }
-    ensures runs { (part : PartData) (e : Entry) (h : History) → (has_frame_at part (base_of part h) ≡ false → run_of part h ≡ []) → frame_fault part h e.access ≡ None →
-        has_frame_at part (base_of part (e ∷ h)) ≡ false → run_of part (e ∷ h) ≡ [] }
+    ensures runs { (part : PartData) (e : Entry) (h : History) → RunsAtAddress part h → frame_fault part h e.access ≡ None → RunsAtAddress part (e ∷ h) }
     ensures memory { (part : PartData) (e : Entry) (h : History) (fault : RunFault) → frame_fault part h e.access ≡ Some fault → AreSame (memory_of part (e ∷ h)) (memory_of part h) }
     ensures far { (part : PartData) (e : Entry) (h : History) (fault : RunFault) → frame_fault part h e.access ≡ Some fault → far_read part (e ∷ h) ≡ far_read part h }
 {}
 
 /// Many words of frame data at once, behind a history and in one that goes on.
 pub fn many_laws()
-    ensures settings { (idcode n : ℕ) (ws : List ℕ) (h : History) → settings_of idcode (entered_all n (payload_steps 2 ws) h) ≡ settings_of idcode h }
-    ensures flow { (part : PartData) (n : ℕ) (ws : List ℕ) (h : History) → takes_frames (settings_of part.idcode h) ≡ true →
-        flow_of part (entered_all n (payload_steps 2 ws) h) ≡ record (flow_of part h) { run = onto ws (run_of part h) } }
-    ensures lands { (part : PartData) (n : ℕ) (ws : List ℕ) (h : History) → takes_frames (settings_of part.idcode h) ≡ true →
-        Lands part (base_of part h) (run_of part h) (onto ws (run_of part h)) (memory_of part h) (memory_of part (entered_all n (payload_steps 2 ws) h)) }
-    ensures pairs { (part : PartData) (s : Settings) (f : Flow) (n : ℕ) (ws : List ℕ) (later : History) → takes_frames (settings_from part.idcode s later) ≡ true →
-        (flow_from part s f later).run ≡ [] →
-        pairs_from part s f (entered_all n (payload_steps 2 ws) later) ≡ landed part (flow_from part s f later).base (onto ws []) ++ pairs_from part s f later }
+    ensures settings { (idcode n : ℕ) (ws : List ℕ) (h : History) → settings_of idcode (with_words n ws h) ≡ settings_of idcode h }
+    ensures flow { (part : PartData) (n : ℕ) (ws : List ℕ) (h : History) → TakesFrames part h → flow_of part (with_words n ws h) ≡ after_words ws (flow_of part h) }
+    ensures lands { (part : PartData) (n : ℕ) (ws : List ℕ) (h : History) → TakesFrames part h →
+        LandsAt part (flow_of part h) ws (memory_of part h) (memory_of part (with_words n ws h)) }
+    ensures pairs { (part : PartData) (s : Settings) (f : Flow) (n : ℕ) (ws : List ℕ) (later : History) → BeginsRun part s f later →
+        pairs_from part s f (with_words n ws later) ≡ landed part (flow_from part s f later).base (onto ws []) ++ pairs_from part s f later }
 {}
 
 /// A history that goes on in two parts, and behind a load under another command than MFW.
@@ -120,45 +114,39 @@ pub fn later_laws()
         pairs_from part s f (later ++ middle) ≡ pairs_from part (settings_from part.idcode s middle) (flow_from part s f middle) later ++ pairs_from part s f middle }
     ensures alike { (part : PartData) (s t : Settings) (source : Option (List ℕ)) (w : ℕ) (later : History) → AreAlike s t → MasksFirst later →
         pairs_loaded part s source w later ≡ pairs_loaded part t source w later }
-    ensures alone { (part : PartData) (later earlier : History) (w place : ℕ) → is_mfw (command_with (command_held earlier)) ≡ false →
-        AreSame (memory_of part (later ++ entry (Write 1 w) place ∷ earlier)) (put_over (pairs_loaded part (settings_of part.idcode earlier) None w later) (memory_of part earlier)) }
+    ensures alone { (part : PartData) (later earlier : History) (w place : ℕ) → holds_mfw earlier ≡ false →
+        MemoryGets part (later ++ after_load w place earlier) earlier (pairs_alone part earlier w later) }
 {}
 
 /// What a planned stream does behind a FAR load: whole frames under WCFG and one more land in order, pads left out, and
 /// words of MFWR put the source there.
 pub fn stream_laws()
-    ensures write { (part : PartData) (earlier : History) (w place n : ℕ) (frames : List (List ℕ)) (last : List ℕ) → 0 < frame_words part → takes_frames (settings_of part.idcode earlier) ≡ true →
-        AllByRecursion (λ frame. length frame ≡ frame_words part) (frames ++ last ∷ []) →
-        AreSame (memory_of part (entered_all n (payload_steps 2 (flat_map (λ frame. frame) (frames ++ last ∷ []))) (entry (Write 1 w) place ∷ earlier)))
-        (put_over (reverse (filter_map pair_of (zip (slots_from part (loaded_base part w)) frames))) (memory_of part earlier)) }
-    ensures copies { (part : PartData) (earlier : History) (w place n word : ℕ) (ws frame : List ℕ) → takes_copies (settings_of part.idcode earlier) ≡ true →
-        is_mfw (command_with (command_held earlier)) ≡ true → source_of part earlier ≡ Some frame → has_frame_at part (loaded_base part w) ≡ true →
-        AreSame (memory_of part (entered_all n (payload_steps 10 (word ∷ ws)) (entry (Write 1 w) place ∷ earlier)))
-        (put_over (record { far = loaded_base part w; words = frame } ∷ []) (memory_of part earlier)) }
+    ensures write { (part : PartData) (earlier : History) (x : FrameWrite) → TakesWrite part earlier x → MemoryGets part (with_frames x earlier) earlier (reverse (placed part x)) }
+    ensures copies { (part : PartData) (earlier : History) (w place n word : ℕ) (ws frame : List ℕ) → CopiesTo part earlier w frame →
+        MemoryGets part (with_copies n (word ∷ ws) (after_load w place earlier)) earlier (copied (loaded_base part w) (Some frame)) }
 {}
 
 /// Accesses that move no frame, and a read of frame data of which words are due: it has the flow of a read without them.
 pub fn quiet_laws()
     ensures pairs { (part : PartData) (s : Settings) (f : Flow) (later : History) → AreQuiet later → pairs_from part s f later ≡ [] }
     ensures memory { (part : PartData) (later earlier : History) → AreQuiet later → AreSame (memory_of part (later ++ earlier)) (memory_of part earlier) }
-    ensures due { (part : PartData) (h : History) (register count due place : ℕ) → reads_frame_data h (Read register count) ≡ true → due < count →
-        less due (flow_of part (entry (Read register count) place ∷ h)) ≡ flow_of part (entry (Read register (count - due)) place ∷ h) }
-    ensures all_due { (part : PartData) (h : History) (register count place : ℕ) → reads_frame_data h (Read register count) ≡ true →
-        less count (flow_of part (entry (Read register count) place ∷ h)) ≡ flow_of part h }
+    ensures due { (part : PartData) (h : History) (register count due place : ℕ) → ReadsData h register count → due < count →
+        less due (flow_of part (read_of register count place ∷ h)) ≡ flow_of part (read_of register (count - due) place ∷ h) }
+    ensures all_due { (part : PartData) (h : History) (register count place : ℕ) → ReadsData h register count →
+        less count (flow_of part (read_of register count place ∷ h)) ≡ flow_of part h }
 {}
 
 /// A write of whole frames behind a FAR load leaves the memory overridden by a plan of these frames at the slots in order.
+/// MFW right after WCFG takes the last frame of the run, and words of MFWR keep it and the settings.
 pub fn plan_laws()
-    ensures write { (part : PartData) (earlier : History) (w place n : ℕ) (frames : List (List ℕ)) (last : List ℕ) → 0 < frame_words part → Rises 0 (addresses_in part) →
-        takes_frames (settings_of part.idcode earlier) ≡ true → AllByRecursion (λ frame. length frame ≡ frame_words part) (frames ++ last ∷ []) →
-        AreSame (memory_of part (entered_all n (payload_steps 2 (flat_map (λ frame. frame) (frames ++ last ∷ []))) (entry (Write 1 w) place ∷ earlier)))
-        (override (memory_of part earlier) (planned (filter_map pair_of (zip (slots_from part (loaded_base part w)) frames)))) }
-    ensures source { (part : PartData) (h : History) (c place : ℕ) (frames : List (List ℕ)) (last : List ℕ) → 0 < frame_words part → command_held h ≡ 1 → c % 2 ^ 5 ≡ 2 →
-        run_of part h ≡ onto (flat_map (λ frame. frame) (frames ++ last ∷ [])) [] → AllByRecursion (λ frame. length frame ≡ frame_words part) (frames ++ last ∷ []) →
-        source_of part (entry (Write 4 c) place ∷ h) ≡ Some last }
+    ensures write { (part : PartData) (earlier : History) (x : FrameWrite) → TakesWrite part earlier x → Rises 0 (addresses_in part) →
+        MemoryGets part (with_frames x earlier) earlier (placed part x) }
+    ensures source { (part : PartData) (h : History) (c place : ℕ) (frames : List (List ℕ)) (last : List ℕ) → RunHolds part h (frames ++ last ∷ []) →
+        command_held h ≡ code_of command.Wcfg → c % 2 ^ 5 ≡ code_of command.Mfw → source_of part (written_to reg.Cmd c place ∷ h) ≡ Some last }
     ensures keep { (part : PartData) (earlier : History) (w place n : ℕ) (ws : List ℕ) →
-        (source_of part (entered_all n (payload_steps 10 ws) (entry (Write 1 w) place ∷ earlier)) ≡ source_of part earlier)
-        × (settings_of part.idcode (entered_all n (payload_steps 10 ws) (entry (Write 1 w) place ∷ earlier)) ≡ settings_of part.idcode earlier) }
+        source_of part (with_copies n ws (after_load w place earlier)) ≡ source_of part earlier }
+    ensures settings { (part : PartData) (earlier : History) (w place n : ℕ) (ws : List ℕ) →
+        settings_of part.idcode (with_copies n ws (after_load w place earlier)) ≡ settings_of part.idcode earlier }
 {}
 
 /// The memory of a history has frames of the part's width, at the part's addresses alone.
@@ -168,16 +156,15 @@ pub fn memory_has_frames()
 
 /// Words of frame data for which there are slots: none is refused, and where they begin a run the memory gets what they land.
 pub fn words_have_room()
-    ensures none { (part : PartData) (n : ℕ) (ws : List ℕ) (h : History) → takes_frames (settings_of part.idcode h) ≡ true → has_frame_at part (base_of part h) ≡ true →
-        length (run_of part h) + length ws ≤ frame_words part * length (slots_from part (base_of part h)) → NoneRefused part n ws h }
-    ensures memory { (part : PartData) (n : ℕ) (ws : List ℕ) (h : History) → takes_frames (settings_of part.idcode h) ≡ true → run_of part h ≡ [] →
-        AreSame (memory_of part (entered_all n (payload_steps 2 ws) h)) (put_over (landed part (base_of part h) (onto ws [])) (memory_of part h)) }
+    ensures none { (part : PartData) (n : ℕ) (ws : List ℕ) (h : History) → TakesFrames part h → HasAddress part h → HasRoomFor part h ws → NoneRefused part n ws h }
+    ensures memory { (part : PartData) (n : ℕ) (ws : List ℕ) (h : History) → TakesFrames part h → run_of part h ≡ [] →
+        MemoryGets part (with_words n ws h) h (landed part (base_of part h) (onto ws [])) }
 {}
 
 /// What is kept of frames without a word due leads back from the same history, and from one with one access more.
 pub fn saving_laws()
-    ensures same { (part : PartData) (s : SavedState) (old new : FramesState) → KeepsFrames part s old → FramesFit part old → FramesFit part new →
-        AreSame (frame_at part new.memory) (frame_at part old.memory) → FramesBack part s new old }
-    ensures one { (part : PartData) (s : SavedState) (old new : FramesState) (h : History) (e : Entry) → KeepsFrames part s old → FramesFit part old → FramesFit part new →
-        FramesStandFor part old h 0 → AreSame (frame_at part new.memory) (memory_of part (e ∷ h)) → FramesBack part s new old }
+    ensures same { (part : PartData) (s : SavedState) (old new : FramesState) → AreKept part s old new →
+        AreSame (frames_map part new) (frames_map part old) → FramesBack part s new old }
+    ensures one { (part : PartData) (s : SavedState) (old new : FramesState) (h : History) (e : Entry) → AreKept part s old new →
+        FramesStandFor part old h 0 → AreSame (frames_map part new) (memory_of part (e ∷ h)) → FramesBack part s new old }
 {}

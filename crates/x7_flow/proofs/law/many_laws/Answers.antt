@@ -11,4 +11,4 @@ pub returns-clause-lands : goal.returns-clause-lands
 returns-clause-lands c = words_land
 
 pub returns-clause-pairs : goal.returns-clause-pairs
-returns-clause-pairs c = words_pairs
+returns-clause-pairs c = λ part s f n ws later b. words_pairs part s f n ws later b.takes b.empty

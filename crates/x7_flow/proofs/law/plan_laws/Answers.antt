@@ -2,10 +2,13 @@ use Rattle.x7_flow.proofs.PlanLemmas.{copies_keep, source_left, write_plans}
 use Rattle.x7_flow.proofs.law.plan_laws.Goals as goal
 
 pub returns-clause-write : goal.returns-clause-write
-returns-clause-write c = write_plans
+returns-clause-write c = λ part earlier x t rises. write_plans part earlier x.far x.far_place x.place x.frames x.last t.some rises t.takes t.whole
 
 pub returns-clause-source : goal.returns-clause-source
-returns-clause-source c = source_left
+returns-clause-source c = λ part h command place frames last r held mfw. source_left part h command place frames last r.some held mfw r.run r.whole
 
 pub returns-clause-keep : goal.returns-clause-keep
-returns-clause-keep c = copies_keep
+returns-clause-keep c = λ part earlier w place n ws. (copies_keep part earlier w place n ws).0
+
+pub returns-clause-settings : goal.returns-clause-settings
+returns-clause-settings c = λ part earlier w place n ws. (copies_keep part earlier w place n ws).1

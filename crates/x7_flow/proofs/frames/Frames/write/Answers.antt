@@ -6,7 +6,7 @@ use Rattle.x7_flow.proofs.StandingLemmas.{access_taken, word_fault_is}
 use Rattle.x7_flow.proofs.frames.Frames.write.Goals as goal
 
 pub returns-clause-stands : goal.returns-clause-stands
-returns-clause-stands c = λ h place settings are.
+returns-clause-stands c = λ h settings are place.
     access_taken c.args.part.now c.self.inside.pipeline c.take.new.pipeline c.self.inside.memory c.take.new.memory h (entry (Write (number_of c.args.reg) c.args.word) place) c.asked_write-asked.result c.take.result
     (c.asked_write-asked.ensures c.args.part.now.idcode h settings) c.take.ensures.did c.take.ensures.refused c.take.ensures.unchanged
     (subst (λ (f : FramesState). FramesStandFor c.args.part.now f h 0) (sym c.self.view_is) are)

@@ -1,0 +1,59 @@
+-- Writes of whole frames, and copies, behind a FAR load (UG470, frame data input and multi-frame write registers).
+use Rattle.std.specs.Prelude.{◌≡◌, ℕ, ◌<◌, true, List, [], ◌∷◌, ◌++◌, length, Some}
+use Rattle.std.specs.List.{AllByRecursion, flat_map}
+use Rattle.x7_packets.specs.History.{History}
+use Rattle.x7_part.specs.Part.{PartData, frame_words}
+use Rattle.x7_memory.specs.Planned.{PlanRow}
+use Rattle.x7_pipeline.specs.FarAsRead.{has_frame_at, loaded_base}
+use Rattle.x7_pipeline.specs.InWords.{placed_from}
+use Rattle.x7_pipeline.specs.Runs.{onto}
+use Rattle.x7_flow.specs.Settings.{settings_of, takes_copies, takes_frames}
+use Rattle.x7_flow.specs.Flow.{run_of, source_of}
+use Rattle.x7_flow.specs.Later.{after_load, holds_mfw}
+use Rattle.x7_flow.specs.Words.{with_words}
+
+-- the word of FAR and its place, the place where the words of FDRI begin, and their frames: some, and the last one, which stays in the buffer
+pub record FrameWrite : Type 0 where
+  pub far : ℕ
+  pub far_place : ℕ
+  pub place : ℕ
+  pub frames : List (List ℕ)
+  pub last : List ℕ
+
+abbrev pub all_frames : FrameWrite → List (List ℕ)
+all_frames x = x.frames ++ x.last ∷ []
+
+-- the words of frames
+abbrev pub words_of_frames : List (List ℕ) → List ℕ
+words_of_frames frames = flat_map (λ frame. frame) frames
+
+-- each frame has the part's width
+abbrev pub AreWhole : PartData → List (List ℕ) → Type 0
+AreWhole part frames = AllByRecursion (λ frame. length frame ≡ frame_words part) frames
+
+-- a history with the write behind it
+abbrev pub with_frames : FrameWrite → History → History
+with_frames x h = with_words x.place (words_of_frames (all_frames x)) (after_load x.far x.far_place h)
+
+-- where its frames land: at the slots from its address on, all but the last
+abbrev pub placed : PartData → FrameWrite → List PlanRow
+placed part x = placed_from part (loaded_base part x.far) x.frames
+
+-- a device takes the write after a history: the frames are whole, and they go to the memory
+pub record TakesWrite (part : PartData) (h : History) (x : FrameWrite) : Type 0 where
+  pub some : 0 < frame_words part
+  pub takes : takes_frames (settings_of part.idcode h) ≡ true
+  pub whole : AreWhole part (all_frames x)
+
+-- the run of a history is of these whole frames
+pub record RunHolds (part : PartData) (h : History) (frames : List (List ℕ)) : Type 0 where
+  pub some : 0 < frame_words part
+  pub run : run_of part h ≡ onto (words_of_frames frames) []
+  pub whole : AreWhole part frames
+
+-- words of MFWR after a history put this frame, behind a FAR load of this word
+pub record CopiesTo (part : PartData) (h : History) (far : ℕ) (frame : List ℕ) : Type 0 where
+  pub takes : takes_copies (settings_of part.idcode h) ≡ true
+  pub mfw : holds_mfw h ≡ true
+  pub source : source_of part h ≡ Some frame
+  pub address : has_frame_at part (loaded_base part far) ≡ true
