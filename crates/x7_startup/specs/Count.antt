@@ -1,5 +1,5 @@
 -- The bytes that the configuration watchdog counts, and the byte at which it fires (UG470, watchdog; the count is this project's choice).
-use Rattle.std.specs.Prelude.{◌≡◌, ◌==◌, ℕ, ◌+◌, ◌-◌, ◌*◌, ◌^◌, min, Bool, true, false, not, ◌&&◌, List, [], ◌∷◌, ◌++◌, if◌then◌else◌, IsTrue, replicate}
+use Rattle.std.specs.Prelude.{◌≡◌, ◌==◌, ℕ, ◌+◌, ◌-◌, ◌*◌, ◌^◌, ◌<◌, min, Bool, true, false, not, ◌&&◌, List, [], ◌∷◌, ◌++◌, if◌then◌else◌, IsTrue, replicate}
 use Rattle.x7_words.specs.Word.{field_of}
 
 -- a call: a word written to TIMER, LTIMER, a byte taken in phase 7 or in another
@@ -55,6 +55,13 @@ Fires off first calls eos =
 -- `count` bytes, all in phase 7 or none
 abbrev pub bytes_alike : ℕ → Bool → List WatchCall
 bytes_alike count eos = replicate count (Watched eos)
+
+-- whether the next byte fires after so many of these, and that none of so many does
+abbrev pub FiresBehind : Bool → ℕ → List WatchCall → ℕ → Bool → Type 0
+FiresBehind off first calls count eos = Fires off first (calls ++ bytes_alike count eos) eos
+
+abbrev pub NoneFires : Bool → ℕ → List WatchCall → ℕ → Bool → Type 0
+NoneFires off first calls count eos = (k : ℕ) → k < count → ¬ FiresBehind off first calls k eos
 
 -- the count at which it fires, 0 where TIMER has it off
 abbrev pub full_count : Bool → ℕ → ℕ
