@@ -8,10 +8,9 @@ use Rattle.x7_packets.specs.Packet.{payload_steps}
 use Rattle.x7_packets.proofs.HistoryLemmas.{entered_all-append}
 use Rattle.x7_part.specs.Part.{PartData}
 use Rattle.x7_pipeline.specs.declared.fault.RunFault.{RunFault}
-use Rattle.x7_pipeline.specs.Pipeline.{PipelineData}
 use Rattle.x7_flow.specs.Controls.{is_matched}
 use Rattle.x7_flow.specs.Flow.{frame_fault}
-use Rattle.x7_flow.specs.Standing.{AreFramesAfter}
+use Rattle.x7_flow.specs.Standing.{FramesStandFor, FramesState}
 use Rattle.x7_flow.specs.Words.{EndsBy, NoneRefused, WordsTaken, with_words, words_before}
 use Rattle.x7_engine.specs.declared.kept.Kept.{Kept}
 use Rattle.x7_engine.specs.declared.stop.Stop.{Stop}
@@ -33,13 +32,13 @@ take_front [] rest = refl
 take_front (x ∷ front) rest = ap (λ t. x ∷ t) (take_front front rest)
 
 -- the words before the refused one
-pub given : (part : PartData) (q : PipelineData) (frames : List (List ℕ)) (n : ℕ) (h : History) (ws : List ℕ) (count : ℕ) (fault : Option RunFault) → WordsTaken part q frames n h ws count fault
-    → (NoneRefused part n (take (words_before count fault) ws) h) × AreFramesAfter part q frames (with_words n (take (words_before count fault) ws) h) 0
-given part q frames n h ws count fault t =
+pub given : (part : PartData) (f : FramesState) (n : ℕ) (h : History) (ws : List ℕ) (count : ℕ) (fault : Option RunFault) → WordsTaken part f n h ws count fault
+    → (NoneRefused part n (take (words_before count fault) ws) h) × FramesStandFor part f (with_words n (take (words_before count fault) ws) h) 0
+given part f n h ws count fault t =
     let size : words_before count fault ≡ length t.front = by fault t.end in
     let front : take (words_before count fault) ws ≡ t.front = ap (λ (k : ℕ). take k ws) size ∙ ap (take (length t.front)) t.words_are ∙ take_front t.front t.rest in (
       subst (λ (x : List ℕ). NoneRefused part n x h) (sym front) t.none_refused,
-      subst (λ (x : List ℕ). AreFramesAfter part q frames (with_words n x h) 0) (sym front) t.stands,
+      subst (λ (x : List ℕ). FramesStandFor part f (with_words n x h) 0) (sym front) t.stands,
     )
   where
     by : (f : Option RunFault) → EndsBy part (with_words n t.front h) t.rest (length t.front) count f → words_before count f ≡ length t.front

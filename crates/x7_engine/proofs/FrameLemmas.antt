@@ -205,7 +205,7 @@ refused part f h e why r s = by why r
 
 -- after an access, by the line that it comes to
 pub access_frames : (part : PartData) (kept : Kept) (f g : FramesState) (h : History) (e : Entry) (line now : Option Stop) (result : Option RunFault) → FramesStandFor part f h 0
-    → AfterAccess part g.pipeline g.memory h e result → result ≡ frame_fault part h e.access → line ≡ access_line part kept h e.access → now ≡ or_else line (frame_line result) → FramesAre part g now (e ∷ h) 0
+    → AfterAccess part g h e result → result ≡ frame_fault part h e.access → line ≡ access_line part kept h e.access → now ≡ or_else line (frame_line result) → FramesAre part g now (e ∷ h) 0
 access_frames part kept f g h e line now None s after r l n =
     let same : now ≡ line = n ∙ alone line in
     frames_at part g now (e ∷ h) 0 (ap is_refusal (same ∙ l) ∙ no_refusal part kept h e.access) after

@@ -1,10 +1,11 @@
 -- How the registers of a device go on: accesses enter the history that they stand for, up to what stops the device.
-use Rattle.std.specs.Prelude.{◌≡◌, ℕ, ◌+◌, ◌++◌, List}
+use Rattle.std.specs.Prelude.{◌≡◌, ℕ, ◌+◌, ◌∷◌, ◌++◌, List}
 use Rattle.x7_words.specs.Word.{words_of_bytes}
 use Rattle.x7_packets.specs.Cutting.{run_steps}
 use Rattle.x7_packets.specs.declared.cutter.Cut.{Cut}
-use Rattle.x7_packets.specs.History.{History, entered_all, until}
+use Rattle.x7_packets.specs.History.{History, Read, Write, entered, entered_all, entry, until}
 use Rattle.x7_packets.specs.Packet.{payload_steps}
+use Rattle.x7_packets.specs.declared.header.Step.{Step}
 use Rattle.x7_part.specs.Part.{PartData}
 use Rattle.x7_engine.specs.declared.due.Due.{Due}
 use Rattle.x7_engine.specs.declared.kept.Kept.{Kept}
@@ -47,6 +48,17 @@ ReadsIf Condition part old new longer = (kept : Kept) (h : History) (n : ℕ) �
 -- words written to a register, four bytes each
 abbrev pub words_entered : ℕ → List ℕ → Longer
 words_entered register bytes n h = entered_all n (payload_steps register (words_of_bytes bytes)) h
+
+-- a word written to a register, which ends so many bytes on; a step of a word in a header's place, alike
+abbrev pub word_entered : ℕ → ℕ → ℕ → Longer
+word_entered register word count n h = entry (Write register word) (n + count) ∷ h
+
+abbrev pub step_entered : Step → ℕ → Longer
+step_entered step count n h = entered (n + count) step h
+
+-- a read of a register
+abbrev pub read_entered : ℕ → ℕ → Longer
+read_entered register count place h = entry (Read register count) place ∷ h
 
 -- the words of a run, the first of which begins at `from`
 abbrev pub run_entered : Cut → ℕ → History → History

@@ -1,14 +1,22 @@
 -- The past of a device: all that its state is a function of. It stands for what bytes came to in each clause on a device.
-use Rattle.std.specs.Prelude.{◌≡◌, ℕ, ◌++◌, Bool, List, length, take, Option}
+use Rattle.std.specs.Prelude.{◌≡◌, ℕ, ◌<◌, ◌==◌, ◌++◌, Bool, false, List, length, take, Option, None, Some}
+use Rattle.x7_words.specs.Word.{AreBytes}
+use Rattle.x7_packets.specs.History.{Access, History}
+use Rattle.x7_regs.specs.declared.boot_status.Cause.{Cause}
+use Rattle.x7_regs.specs.declared.boot_status.Kind.TheVariants.{Bench}
+use Rattle.x7_memory.specs.FrameMap.{FrameMap}
 use Rattle.x7_part.specs.Part.{PartData}
+use Rattle.x7_engine.specs.Checked.{StandsIn}
+use Rattle.x7_engine.specs.Values.{cause_of}
 use Rattle.x7_engine.specs.declared.fed.Fed.{Fed}
+use Rattle.x7_engine.specs.declared.stop.Stop.TheVariants as stop
 use Rattle.x7_engine.specs.declared.kept.Kept.{Kept}
 use Rattle.x7_engine.specs.declared.regs.Regs.{Regs}
 use Rattle.x7_engine.specs.declared.until_started.UntilStarted.{UntilStarted}
 use Rattle.x7_engine.specs.ReadBuffer.{ReadBufState, with_words}
-use Rattle.x7_engine.specs.Standing.{Answers, DeviceStandsFor, DeviceState, taken_in, told_of}
-use Rattle.x7_engine.specs.State.{state_of, stop_in}
-use Rattle.x7_engine.specs.Stops.{Stopped}
+use Rattle.x7_engine.specs.Standing.{Answers, DeviceStandsFor, DeviceState, due_of, taken_in, told_of}
+use Rattle.x7_engine.specs.State.{history_taken, line_by, memory_in, reads_of, state_of, stop_in, taken_of}
+use Rattle.x7_engine.specs.Stops.{Stopped, fault_of}
 use Rattle.x7_engine.specs.UntilStarted.{AnswersUntil, has_started, taken_until}
 
 -- its part, what its reset kept, whether the flash has ended since then, and the bytes taken since then
@@ -29,18 +37,61 @@ HasPast d p = DeviceStandsFor p.part p.kept p.wrapped d p.bytes
 abbrev pub OfPast : DeviceState → (Past → Type 0) → Type 0
 OfPast d Fact = (part : PartData) (kept : Kept) (wrapped : Bool) (bytes : List ℕ) → DeviceStandsFor part kept wrapped d bytes → Fact (record { part = part; kept = kept; wrapped = wrapped; bytes = bytes })
 
--- the state, the stop, the words told, and whether startup has ended
+-- the state, the stop, the words read out, the memory, the history of the bytes taken and their number, the words told, those still due, and whether startup has ended
 abbrev pub state_at : Past → Regs
 state_at p = state_of p.part p.kept p.wrapped p.bytes
 
 abbrev pub stop_at : Past → Option Stopped
 stop_at p = stop_in p.part p.kept p.bytes
 
+abbrev pub reads_at : Past → List ℕ
+reads_at p = reads_of p.part p.kept p.bytes
+
+abbrev pub memory_at : Past → FrameMap
+memory_at p = memory_in p.part p.kept p.bytes
+
+abbrev pub history_at : Past → History
+history_at p = history_taken p.part p.kept p.bytes
+
+abbrev pub taken_at : Past → ℕ
+taken_at p = taken_of p.part p.kept p.bytes
+
 abbrev pub told_at : DeviceState → Past → List ℕ
 told_at d p = told_of p.part p.kept d p.bytes
 
+abbrev pub due_at : DeviceState → Past → List ℕ
+due_at d p = due_of p.part p.kept d p.bytes
+
 abbrev pub started_at : Past → Bool
 started_at p = has_started p.part p.kept p.bytes
+
+-- ---- stops
+
+-- the cause of a fallback that bytes come to
+abbrev pub cause_in : PartData → Kept → List ℕ → Option Cause
+cause_in part kept bytes = cause_of (fault_of (line_by (stop_in part kept bytes))) false
+
+-- an attempt of a boot
+abbrev pub IsBoot : Kept → Type 0
+IsBoot kept = kept.kind ≡ Bench → ⊥
+
+-- the device stopped, and then more bytes came
+pub record HasStoppedBefore (p : Past) (more : List ℕ) (s : Stopped) : Type 0 where
+  pub fits : AreBytes (p.bytes ++ more)
+  pub stop : stop_at p ≡ Some s
+
+-- an access stands after older ones, before the stop
+pub record StandsBefore (p : Past) (access : Access) (place : ℕ) (older : History) : Type 0 where
+  pub fits : AreBytes p.bytes
+  pub stands : StandsIn (history_at p) access place older
+  pub before : place < taken_at p
+
+-- a boot goes on: it hasn't started, and neither a fault that a fallback follows nor an IPROG ended it
+pub record BootGoesOn (p : Past) : Type 0 where
+  pub boots : IsBoot p.kept
+  pub not_started : ((state_at p).phase == 7) ≡ false
+  pub not_failed : cause_in p.part p.kept p.bytes ≡ None
+  pub not_left : line_by (stop_at p) ≡ Some stop.Iprog → ⊥
 
 -- ---- what a call does that takes bytes
 

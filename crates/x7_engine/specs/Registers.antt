@@ -7,16 +7,25 @@ use Rattle.x7_packets.specs.History.{Access, Write, History, last_word, command_
 use Rattle.x7_crc.specs.OpenWrites.{running_check}
 use Rattle.x7_regs.specs.declared.command.Command.TheVariants.{Aghigh, Iprog, Lfrm, Rcrc, Shutdown}
 use Rattle.x7_regs.specs.declared.register.Reg.{Reg}
-use Rattle.x7_regs.specs.declared.register.Reg.TheVariants.{Cbc, Cmd, Crc, Ctl0, Ctl1, Far, Fdri, Idcode, Lout, Mfwr, Timer}
+use Rattle.x7_regs.specs.declared.register.Reg.TheVariants.{Cbc, Cmd, Cor0, Crc, Ctl0, Ctl1, Far, Fdri, Idcode, Lout, Mfwr, Timer}
 use Rattle.x7_regs.specs.Command.{code_of}
 use Rattle.x7_regs.specs.Register.{number_of}
 use Rattle.x7_flow.specs.Controls.{mask_held}
+use Rattle.x7_flow.specs.Standing.{word_to}
 use Rattle.x7_engine.specs.declared.kept.Kept.{Kept}
 use Rattle.x7_engine.specs.Kept.{kept_word}
 
 -- the last word written to a register; where none was, the one kept over the reset
 abbrev pub word_held : Kept → ℕ → History → ℕ
 word_held kept register h = last_word register (kept_word kept register) h
+
+-- COR0 after a history
+abbrev pub cor0_held : History → ℕ
+cor0_held h = last_word (number_of Cor0) 0 h
+
+-- the command that a word written after a history executes
+abbrev pub executed_after : History → Reg → ℕ → Option ℕ
+executed_after h register word = executed_by (command_held h) (word_to register word)
 
 -- CTL0 or CTL1 bit by bit: each is that of the last word written there while MASK had it, and 0 where none was
 abbrev pub bit_written : ℕ → ℕ → ℕ → Access → ℕ → ℕ
@@ -87,3 +96,9 @@ controlling_registers = Crc ∷ Far ∷ Cmd ∷ Ctl0 ∷ Lout ∷ Idcode ∷ Tim
 
 abbrev pub is_controlling : ℕ → Bool
 is_controlling register = list_any (λ reg. register == number_of reg) controlling_registers
+
+-- a word written after a history: the command that it executes, whether it takes a shutdown, and COR0 there
+pub record IsWrite (executed : Option ℕ) (taken : Bool) (cor0 : ℕ) (h : History) (access : Access) : Type 0 where
+  pub executed_is : executed ≡ executed_by (command_held h) access
+  pub taken_is : taken ≡ takes_shutdown h access
+  pub cor0_is : cor0 ≡ cor0_held h

@@ -1,13 +1,13 @@
 //! Startup and the watchdog of a device, which the bytes taken move.
 ghost use Rattle.std.specs.Prelude.{◌≡◌, ◌<◌, ◌≤◌, ◌+◌, ◌∷◌, ◌++◌, [], ℕ, Bool, List, true, None, IfSome, IsTrue, ◌↔◌, ◌==◌, nat_le};
-ghost use Rattle.x7_packets.specs.History.{command_held, entry, executed_by, last_word, History, Write};
+ghost use Rattle.x7_packets.specs.History.{History};
 ghost use Rattle.x7_part.specs.Part.{PartData};
-ghost use Rattle.x7_regs.specs.Register.{number_of};
+ghost use Rattle.x7_flow.specs.Standing.{word_to, written_to};
 ghost use Rattle.x7_startup.specs.Calls.{Call, StandsFor, ticks_of};
 ghost use Rattle.x7_startup.specs.Count.{WatchCall, WatchesFor};
 ghost use Rattle.x7_engine.specs.Clock.{newest_place, startup_call_by, watch_call_by, Ticks};
 ghost use Rattle.x7_engine.specs.Kept.{is_fallback};
-ghost use Rattle.x7_engine.specs.Registers.{takes_shutdown};
+ghost use Rattle.x7_engine.specs.Registers.{IsWrite};
 ghost use Rattle.x7_engine.specs.Startup.{has_ended, phase_of, startup_calls, startup_progress};
 ghost use Rattle.x7_engine.specs.Values.{lines_by};
 ghost use Rattle.x7_engine.specs.Watching.{fires, first_firing};
@@ -37,7 +37,7 @@ fn move_startup(startup: &mut Startup, executed: Option<u8>, taken: bool, cor0: 
 
 /// What a written word asks of the watchdog.
 fn move_watchdog(watchdog: &mut Watchdog, executed: Option<u8>, reg: Reg, word: u32)
-    ensures { (off : Bool) (first : ℕ) (calls : List WatchCall) → WatchesFor off first watchdog.old calls → WatchesFor off first watchdog.new (calls ++ watch_call_by executed (Write (number_of reg) word)) }
+    ensures { (off : Bool) (first : ℕ) (calls : List WatchCall) → WatchesFor off first watchdog.old calls → WatchesFor off first watchdog.new (calls ++ watch_call_by executed (word_to reg word)) }
 {
     if is(Command::Ltimer, executed) {
         watchdog.reload();
@@ -85,8 +85,8 @@ impl Clock {
         reg: Reg,
         word: u32,
     )
-        ensures { (part : PartData) (kept : Kept) (h : History) (place : ℕ) → executed ≡ executed_by (command_held h) (Write (number_of reg) word) → taken ≡ takes_shutdown h (Write (number_of reg) word) → cor0 ≡ last_word 9 0 h
-            → IsClock part kept (clock_in self.old) h place → IsClock part kept (clock_in self.new) (entry (Write (number_of reg) word) place ∷ h) place }
+        ensures { (part : PartData) (kept : Kept) (h : History) (place : ℕ) → IsWrite executed taken cor0 h (word_to reg word)
+            → IsClock part kept (clock_in self.old) h place → IsClock part kept (clock_in self.new) (written_to reg word place ∷ h) place }
     {
         move_startup(&mut self.startup, executed, taken, cor0);
         move_watchdog(&mut self.watchdog, executed, reg, word);

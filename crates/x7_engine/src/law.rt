@@ -1,27 +1,26 @@
 //! Laws of the definitions, for the proofs of crates above.
 ghost use Rattle.std.specs.Prelude.{◌≡◌, ◌+◌, ◌-◌, ◌^◌, ◌<◌, ◌≤◌, ◌++◌, ◌↔◌, ℕ, Bool, IsTrue, List, [], None, Some, false, length, true};
 ghost use Rattle.x7_words.specs.Word.{AreBytes};
-ghost use Rattle.x7_packets.specs.History.{Access, AllFit, History, Placed, Write, history_of, last_word};
+ghost use Rattle.x7_packets.specs.History.{Access, AllFit, History, Placed, history_of};
 ghost use Rattle.x7_packets.specs.SyncWord.{HasNoSync};
 ghost use Rattle.x7_part.specs.Part.{PartData};
-ghost use Rattle.x7_regs.specs.declared.boot_status.Kind.TheVariants.{Bench};
-ghost use Rattle.x7_regs.specs.declared.register.Reg.TheVariants.{Cor0, Crc, Idcode};
-ghost use Rattle.x7_regs.specs.Register.{number_of};
+ghost use Rattle.x7_regs.specs.declared.register.Reg.TheVariants.{Crc, Idcode};
 ghost use Rattle.x7_startup.specs.Calls.{Begun, IsPhaseOf};
 ghost use Rattle.x7_crc.specs.OpenWrites.{running_check};
-ghost use Rattle.x7_engine.specs.Checked.{HasStarted, StandsIn};
+ghost use Rattle.x7_engine.specs.Checked.{HasStarted};
 ghost use Rattle.x7_engine.specs.Kept.{is_fallback, on_the_bench};
 ghost use Rattle.x7_engine.specs.FirstStop.{IsFirstStop, line_at_byte};
 ghost use Rattle.x7_flow.specs.Controls.{masked, same_idcode};
-ghost use Rattle.x7_engine.specs.Registers.{HasMaskedBits, has_ghigh, is_clearance, is_pending, takes_shutdown};
+ghost use Rattle.x7_flow.specs.Standing.{word_to};
+ghost use Rattle.x7_engine.specs.Registers.{HasMaskedBits, cor0_held, has_ghigh, is_clearance, is_pending, takes_shutdown};
+ghost use Rattle.x7_engine.specs.Past.{HasStoppedBefore, IsBoot, OfPast, Past, StandsBefore, cause_in, due_at, history_at, later, memory_at, reads_at, state_at, stop_at, taken_at, told_at};
 ghost use Rattle.x7_engine.specs.Rest.{AtRest, GoesOn};
 ghost use Rattle.x7_engine.specs.Sequence.{Begins, HasGhigh, IsPending};
-ghost use Rattle.x7_engine.specs.Standing.{DeviceStandsFor, DeviceState, NoWordDue, due_of, told_of};
+ghost use Rattle.x7_engine.specs.Standing.{DeviceState, NoWordDue};
 ghost use Rattle.x7_engine.specs.Startup.{phase_of, startup_progress};
-ghost use Rattle.x7_engine.specs.State.{history_taken, line_by, memory_in, reads_of, state_of, stop_in, taken_of};
-ghost use Rattle.x7_engine.specs.Stops.{Stopped, fault_of, line_at};
+ghost use Rattle.x7_engine.specs.State.{reads_of, state_of, stop_in};
+ghost use Rattle.x7_engine.specs.Stops.{Stopped, line_at};
 ghost use Rattle.x7_engine.specs.Timeout.{before_byte, fires_at};
-ghost use Rattle.x7_engine.specs.Values.{cause_of};
 ghost use Rattle.x7_engine.specs.Watching.{fires};
 ghost use Rattle.x7_engine.specs.declared.kept.Kept.{Kept};
 
@@ -29,15 +28,11 @@ ghost use Rattle.x7_engine.specs.declared.kept.Kept.{Kept};
 /// state and the words read out stay.
 pub fn stops_are_final()
     ensures place { (part : PartData) (kept : Kept) (bytes : List ℕ) (s : Stopped) → AreBytes bytes → stop_in part kept bytes ≡ Some s → (0 < s.place) × (s.place ≤ length bytes) }
-    ensures before { (part : PartData) (kept : Kept) (bytes more : List ℕ) (s : Stopped) → AreBytes (bytes ++ more) → stop_in part kept (bytes ++ more) ≡ Some s
-        → length bytes < s.place → stop_in part kept bytes ≡ None }
-    ensures stop { (part : PartData) (kept : Kept) (bytes more : List ℕ) (s : Stopped) → AreBytes (bytes ++ more) → stop_in part kept bytes ≡ Some s → stop_in part kept (bytes ++ more) ≡ Some s }
-    ensures state { (part : PartData) (kept : Kept) (wrapped : Bool) (bytes more : List ℕ) (s : Stopped) → AreBytes (bytes ++ more) → stop_in part kept bytes ≡ Some s
-        → state_of part kept wrapped (bytes ++ more) ≡ state_of part kept wrapped bytes }
-    ensures reads { (part : PartData) (kept : Kept) (bytes more : List ℕ) (s : Stopped) → AreBytes (bytes ++ more) → stop_in part kept bytes ≡ Some s
-        → reads_of part kept (bytes ++ more) ≡ reads_of part kept bytes }
-    ensures memory { (part : PartData) (kept : Kept) (bytes more : List ℕ) (s : Stopped) → AreBytes (bytes ++ more) → stop_in part kept bytes ≡ Some s
-        → memory_in part kept (bytes ++ more) ≡ memory_in part kept bytes }
+    ensures before { (p : Past) (more : List ℕ) (s : Stopped) → AreBytes (p.bytes ++ more) → stop_at (later p more) ≡ Some s → length p.bytes < s.place → stop_at p ≡ None }
+    ensures stop { (p : Past) (more : List ℕ) (s : Stopped) → HasStoppedBefore p more s → stop_at (later p more) ≡ Some s }
+    ensures state { (p : Past) (more : List ℕ) (s : Stopped) → HasStoppedBefore p more s → state_at (later p more) ≡ state_at p }
+    ensures reads { (p : Past) (more : List ℕ) (s : Stopped) → HasStoppedBefore p more s → reads_at (later p more) ≡ reads_at p }
+    ensures memory { (p : Past) (more : List ℕ) (s : Stopped) → HasStoppedBefore p more s → memory_at (later p more) ≡ memory_at p }
 {}
 
 /// Each bit of a register under MASK is that of the last word written to it while MASK had that bit.
@@ -61,8 +56,8 @@ pub fn shutdowns_and_ghigh()
 /// Startup begins at the first armed DESYNC since the last shutdown taken, with COR0 as it stands there.
 pub fn startup_begins()
     ensures begun { (h : History) (n cor0 bytes : ℕ) → Placed n h → startup_progress h n ≡ Begun cor0 bytes
-        → (b : Begins h) × (cor0 ≡ last_word (number_of Cor0) 0 b.older) × (b.desync.place + bytes ≡ n) }
-    ensures found { (h : History) (n : ℕ) → Placed n h → (b : Begins h) → startup_progress h n ≡ Begun (last_word (number_of Cor0) 0 b.older) (n - b.desync.place) }
+        → (b : Begins h) × (cor0 ≡ cor0_held b.older) × (b.desync.place + bytes ≡ n) }
+    ensures found { (h : History) (n : ℕ) → Placed n h → (b : Begins h) → startup_progress h n ≡ Begun (cor0_held b.older) (n - b.desync.place) }
 {}
 
 /// A stop is the first one: at its place a line holds, and at no byte before it; and where there is none, no line holds.
@@ -81,14 +76,10 @@ pub fn watchdog_fires()
 /// Startup has begun only where START was executed on a matched device and DESYNC after it, and each check and each idcode
 /// written before the stop was right.
 pub fn checks_before_startup()
-    ensures started { (part : PartData) (kept : Kept) (wrapped : Bool) (bytes : List ℕ) → AreBytes bytes → 0 < (state_of part kept wrapped bytes).phase
-        → HasStarted part.idcode (history_taken part kept bytes) (taken_of part kept bytes) }
-    ensures checks { (part : PartData) (kept : Kept) (bytes : List ℕ) (w place : ℕ) (older : History) → AreBytes bytes
-        → StandsIn (history_taken part kept bytes) (Write (number_of Crc) w) place older → place < taken_of part kept bytes → w ≡ running_check older }
-    ensures idcodes { (part : PartData) (kept : Kept) (bytes : List ℕ) (w place : ℕ) (older : History) → AreBytes bytes
-        → StandsIn (history_taken part kept bytes) (Write (number_of Idcode) w) place older → place < taken_of part kept bytes → IsTrue (same_idcode part.idcode w) }
-    ensures lines { (part : PartData) (kept : Kept) (bytes : List ℕ) (access : Access) (place : ℕ) (older : History) → AreBytes bytes
-        → StandsIn (history_taken part kept bytes) access place older → place < taken_of part kept bytes → line_at part kept older access ≡ None }
+    ensures started { (p : Past) → AreBytes p.bytes → 0 < (state_at p).phase → HasStarted p.part.idcode (history_at p) (taken_at p) }
+    ensures checks { (p : Past) (w place : ℕ) (older : History) → StandsBefore p (word_to Crc w) place older → w ≡ running_check older }
+    ensures idcodes { (p : Past) (w place : ℕ) (older : History) → StandsBefore p (word_to Idcode w) place older → IsTrue (same_idcode p.part.idcode w) }
+    ensures lines { (p : Past) (access : Access) (place : ℕ) (older : History) → StandsBefore p access place older → line_at p.part p.kept older access ≡ None }
 {}
 
 /// A device at rest stays so over bytes without a sync word, which enter no access; and a new one is at rest.
@@ -100,9 +91,8 @@ pub fn rest_lasts()
 
 /// The words read out are those told, and then those that are still due.
 pub fn reads_are_told_or_due()
-    ensures all { (part : PartData) (kept : Kept) (wrapped : Bool) (d : DeviceState) (bytes : List ℕ) → DeviceStandsFor part kept wrapped d bytes
-        → told_of part kept d bytes ++ due_of part kept d bytes ≡ reads_of part kept bytes }
-    ensures none { (part : PartData) (kept : Kept) (d : DeviceState) (bytes : List ℕ) → NoWordDue d → due_of part kept d bytes ≡ [] }
+    ensures all { (d : DeviceState) → OfPast d (λ p. told_at d p ++ due_at d p ≡ reads_at p) }
+    ensures none { (d : DeviceState) (p : Past) → NoWordDue d → due_at d p ≡ [] }
 {}
 
 /// The words that further bytes read out come after those read out so far.
@@ -114,7 +104,7 @@ pub fn reads_grow()
 /// wrap bit.
 pub fn wraps_show_in_bootsts()
     ensures alone { (part : PartData) (kept : Kept) (bytes : List ℕ) → state_of part kept true bytes ≡ record (state_of part kept false bytes) { bootsts = (state_of part kept true bytes).bootsts } }
-    ensures bit { (part : PartData) (kept : Kept) (bytes : List ℕ) → (kept.kind ≡ Bench → ⊥) → cause_of (fault_of (line_by (stop_in part kept bytes))) false ≡ None
+    ensures bit { (part : PartData) (kept : Kept) (bytes : List ℕ) → IsBoot kept → cause_in part kept bytes ≡ None
         → (state_of part kept true bytes).bootsts ≡ (state_of part kept false bytes).bootsts + 2 ^ 6 }
 {}
 

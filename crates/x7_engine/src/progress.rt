@@ -1,13 +1,12 @@
 //! The running check, and what is known of all accesses so far.
-ghost use Rattle.std.specs.Prelude.{◌≡◌, ◌<◌, false, ◌||◌, ◌&&◌, ◌==◌, not, ℕ, ◌∷◌, [], ◌++◌, if◌then◌else◌, List, length, ◌%◌, Option, None, Some};
-ghost use Rattle.x7_packets.specs.History.{command_held, entered_all, entry, executed_by, executes, History, is_command, Write};
-ghost use Rattle.x7_packets.specs.Packet.{payload_steps};
-ghost use Rattle.x7_words.specs.Word.{words_of_bytes};
+ghost use Rattle.std.specs.Prelude.{◌≡◌, ◌<◌, false, ◌||◌, ◌&&◌, ◌==◌, not, ℕ, ◌∷◌, [], length, ◌%◌, Option, None, Some};
+ghost use Rattle.x7_packets.specs.History.{entry, executes, History, is_command, Write};
 ghost use Rattle.x7_crc.specs.OpenWrites.{running_check};
 ghost use Rattle.x7_regs.specs.Command.{code_of};
-ghost use Rattle.x7_regs.specs.Register.{number_of};
 ghost use Rattle.x7_flow.specs.Controls.{names_part, same_idcode};
-ghost use Rattle.x7_engine.specs.Registers.{clears_by, ghigh_after, has_effect, is_controlling, pending_after, takes_shutdown, writes_command};
+ghost use Rattle.x7_flow.specs.Standing.{word_to, written_to};
+ghost use Rattle.x7_engine.specs.Entering.{words_entered};
+ghost use Rattle.x7_engine.specs.Registers.{clears_by, executed_after, ghigh_after, has_effect, is_controlling, pending_after, takes_shutdown, writes_command};
 
 use x7_crc::{fold, fold_slice};
 use x7_regs::{Command, Reg};
@@ -31,7 +30,7 @@ pub(crate) fn is_same_idcode(idcode: u32, word: u32) -> bool
 
 /// Whether a written word finds the check right: RCRC is executed, or the word is the running check.
 fn clears(executed: Option<u8>, check: u32, reg: Reg, word: u32) -> bool
-    ensures { result ≡ clears_by executed check (Write (number_of reg) word) }
+    ensures { result ≡ clears_by executed check (word_to reg word) }
 {
     is(Command::Rcrc, executed) || reg.number() == Reg::Crc.number() && word == check
 }
@@ -59,21 +58,21 @@ fn both(a: bool, b: bool) -> bool
 
 /// Whether the device is matched after a written word.
 fn is_matched_after(matched: bool, idcode: u32, reg: Reg, word: u32) -> bool
-    ensures { result ≡ (names_part idcode (Write (number_of reg) word) || matched) }
+    ensures { result ≡ (names_part idcode (word_to reg word) || matched) }
 {
     reg.number() == Reg::Idcode.number() && is_same_idcode(idcode, word) || matched
 }
 
 /// Whether an IPROG command was written, after a written word.
 fn wrote_iprog_after(wrote: bool, reg: Reg, word: u32) -> bool
-    ensures { result ≡ (writes_command (code_of Command.Iprog) (Write (number_of reg) word) || wrote) }
+    ensures { result ≡ (writes_command (code_of Command.Iprog) (word_to reg word) || wrote) }
 {
     reg.number() == Reg::Cmd.number() && word & 31 == Command::Iprog.code() || wrote
 }
 
 /// The running check after a written word, where it executes RCRC or not. LOUT is not folded (this project's choice).
 fn check_after(check: u32, reg: Reg, word: u32, reset: bool) -> u32
-    ensures { (h : History) (place : ℕ) → check ≡ running_check h → reset ≡ executes (code_of Command.Rcrc) h (Write (number_of reg) word) → result ≡ running_check (entry (Write (number_of reg) word) place ∷ h) }
+    ensures { (h : History) (place : ℕ) → check ≡ running_check h → reset ≡ executes (code_of Command.Rcrc) h (word_to reg word) → result ≡ running_check (written_to reg word place ∷ h) }
 {
     match reg {
         Reg::Crc => 0,
@@ -111,7 +110,7 @@ impl Progress {
 
     /// Whether a written word takes a pending shutdown.
     pub(crate) fn takes(&self, reg: Reg, word: u32, executed: Option<u8>) -> bool
-        ensures { (idcode : ℕ) (h : History) → executed ≡ executed_by (command_held h) (Write (number_of reg) word) → IsProgress idcode (progress_in self.now) h → result ≡ takes_shutdown h (Write (number_of reg) word) }
+        ensures { (idcode : ℕ) (h : History) → executed ≡ executed_after h reg word → IsProgress idcode (progress_in self.now) h → result ≡ takes_shutdown h (word_to reg word) }
     {
         let cleared = clears(executed, self.check, reg, word);
         both(cleared, self.pending)
@@ -128,7 +127,7 @@ impl Progress {
 
     /// Takes a written word that executes a command, or none.
     pub(crate) fn write(&mut self, idcode: u32, reg: Reg, word: u32, executed: Option<u8>)
-        ensures { (h : History) (place : ℕ) → executed ≡ executed_by (command_held h) (Write (number_of reg) word) → IsProgress idcode (progress_in self.old) h → IsProgress idcode (progress_in self.new) (entry (Write (number_of reg) word) place ∷ h) }
+        ensures { (h : History) (place : ℕ) → executed ≡ executed_after h reg word → IsProgress idcode (progress_in self.old) h → IsProgress idcode (progress_in self.new) (written_to reg word place ∷ h) }
     {
         let cleared = clears(executed, self.check, reg, word);
         let taken = both(cleared, self.pending);
@@ -146,7 +145,7 @@ impl Progress {
         requires register { register < 32 }
         requires quiet { is_controlling register ≡ false }
         requires whole { length bytes.now % 4 ≡ 0 }
-        ensures { (idcode : ℕ) (h : History) (n : ℕ) → IsProgress idcode (progress_in self.old) h → IsProgress idcode (progress_in self.new) (entered_all n (payload_steps register (words_of_bytes bytes.now)) h) }
+        ensures { (idcode : ℕ) (h : History) (n : ℕ) → IsProgress idcode (progress_in self.old) h → IsProgress idcode (progress_in self.new) (words_entered register bytes.now n h) }
     {
         self.check = fold_slice(self.check, register, bytes);
     }

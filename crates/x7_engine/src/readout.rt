@@ -1,14 +1,13 @@
 //! The words that a device reads out: a read makes them due, and a buffer takes them.
-ghost use Rattle.std.specs.Prelude.{◌≡◌, ◌≤◌, ◌<◌, ◌+◌, ℕ, nat_lt, ◌∷◌, ◌++◌, List, IsTrue, ◌↔◌, None, Some};
-ghost use Rattle.x7_packets.specs.History.{entry, History, Read};
+ghost use Rattle.std.specs.Prelude.{◌≡◌, ◌≤◌, ◌<◌, ℕ, nat_lt, IsTrue, ◌↔◌, None, Some};
+ghost use Rattle.x7_packets.specs.History.{History, Read};
 ghost use Rattle.x7_flow.specs.Standing.{FramesFit, FramesStandFor};
 ghost use Rattle.x7_engine.specs.Readout.{GaveFrames};
 ghost use Rattle.x7_engine.specs.ReadBuffer.{IsFull};
 ghost use Rattle.x7_engine.specs.Standing.{due_count};
 ghost use Rattle.x7_engine.specs.Values.{answer_of};
-ghost use Rattle.x7_engine.specs.declared.kept.Kept.{Kept as KeptData};
 ghost use Rattle.x7_engine.specs.declared.stop.Stop.{Stop};
-ghost use Rattle.x7_engine.specs.Entering.{EntersAt, OfHistory};
+ghost use Rattle.x7_engine.specs.Entering.{EntersAt, OfHistory, read_entered};
 
 use crate::due::Due;
 use crate::read_buffer::ReadBuf;
@@ -49,7 +48,7 @@ fn give_frames(frames: &mut Frames, part: &Part, count: u32, read: &mut ReadBuf)
 }
 
 impl Registers {
-    ghost use Rattle.x7_engine.specs.Standing.{IsNext, RegistersStandFor, counted_in, registers_in, words_left};
+    ghost use Rattle.x7_engine.specs.Standing.{counted_in, registers_in, words_left};
     ghost use Rattle.x7_engine.specs.Readout.{Gave};
 
     /// A read of some words: they are due from now on.
@@ -61,9 +60,9 @@ impl Registers {
         ensures at_rest { (line : Stop) → self.new.stop ≡ Some line → due_count self.new.due ≡ 0 }
         ensures counts { (n : ℕ) → counted_in self.new.stop n ≡ n }
         ensures frames { self.new.frames ≡ self.old.frames }
-        ensures stands { EntersAt part.now (registers_in self.old) (registers_in self.new) (λ place h. entry (Read register count) place ∷ h) }
+        ensures stands { EntersAt part.now (registers_in self.old) (registers_in self.new) (read_entered register count) }
         ensures reads { OfHistory part.now (registers_in self.old) (λ kept h place.
-            answer_of part.now kept h (Read register count) place ≡ words_left part.now (entry (Read register count) place ∷ h) self.new.due) }
+            answer_of part.now kept h (Read register count) place ≡ words_left part.now (read_entered register count place h) self.new.due) }
     {
         if !reads_frames(self.settings(), register, count) {
             self.due = Due::Same(self.read_value(part, register), count);

@@ -1,22 +1,19 @@
 //! The registers of a device, and what an access does to them.
-ghost use Rattle.std.specs.Prelude.{◌≡◌, ◌≤◌, ◌<◌, ◌+◌, ◌*◌, ◌/◌, ◌%◌, ◌==◌, ◌&&◌, not, ℕ, ◌∷◌, [], List, Bool, true, false, Option, None, Some, IfSome, IfNone, IsTrue, ◌↔◌, ◌-◌, ◌++◌, length, take};
-ghost use Rattle.x7_words.specs.Word.{words_of_bytes};
-ghost use Rattle.x7_packets.specs.Cutting.{IsRun, run_steps};
-ghost use Rattle.x7_packets.specs.History.{command_held, entered, entered_all, entry, executed_by, History, until, Write};
-ghost use Rattle.x7_packets.specs.Packet.{payload_steps};
+ghost use Rattle.std.specs.Prelude.{◌≡◌, ◌≤◌, ◌<◌, ◌+◌, ◌*◌, ◌/◌, ◌%◌, ◌&&◌, not, ℕ, ◌∷◌, [], true, false, Option, None, Some, IfSome, IfNone, ◌-◌, length, take};
+ghost use Rattle.x7_packets.specs.Cutting.{IsRun};
+ghost use Rattle.x7_packets.specs.History.{command_held, entered, entry, executed_by, History, Write};
 ghost use Rattle.x7_part.specs.Part.{PartData};
 ghost use Rattle.x7_regs.specs.Register.{number_of};
 ghost use Rattle.x7_flow.specs.Settings.{AreSettingsAfter};
-ghost use Rattle.x7_flow.specs.Standing.{FramesFit, FramesStandFor};
+ghost use Rattle.x7_flow.specs.Standing.{FramesFit, FramesStandFor, word_to};
 ghost use Rattle.x7_flow.specs.Words.{words_before};
 ghost use Rattle.x7_engine.specs.Kept.{is_fallback};
-ghost use Rattle.x7_engine.specs.Registers.{has_effect};
+ghost use Rattle.x7_engine.specs.Registers.{executed_after, has_effect};
 ghost use Rattle.x7_engine.specs.Standing.{counted_in, due_count};
 ghost use Rattle.x7_engine.specs.State.{last_counted};
-ghost use Rattle.x7_engine.specs.Stops.{access_line, fault_of, frame_line, or_else, stop_by};
-ghost use Rattle.x7_engine.specs.Values.{cause_of, read_out};
+ghost use Rattle.x7_engine.specs.Stops.{access_line, frame_line, or_else, stop_by};
 ghost use Rattle.x7_engine.specs.declared.kept.Kept.{Kept as KeptData};
-ghost use Rattle.x7_engine.specs.Entering.{AreRead, Enters, EntersAt, EntersIf, OfHistory, ReadsIf, RunEnters, RunReads, up_to_stop, words_entered};
+ghost use Rattle.x7_engine.specs.Entering.{AreRead, Enters, EntersAt, EntersIf, OfHistory, ReadsIf, RunEnters, RunReads, step_entered, up_to_stop, word_entered, words_entered};
 
 use crate::clock::Clock;
 use crate::controls::{Controls, is_dec, masked};
@@ -138,7 +135,7 @@ pub(crate) struct Registers {
 }
 
 impl Registers {
-    ghost use Rattle.x7_engine.specs.Standing.{EndsWords, HoldsRun, IsHeaderStep, IsNext, RegistersStandFor, registers_in, TellsNothing, words_left};
+    ghost use Rattle.x7_engine.specs.Standing.{HoldsRun, IsHeaderStep, RegistersStandFor, registers_in, TellsNothing};
 
     /// Those of a device that took nothing, with what the reset kept and frames after a reset.
     pub(crate) fn new(kept: &Kept, frames: Frames) -> Registers
@@ -206,8 +203,8 @@ impl Registers {
 
     /// The line that a written word comes to by its register alone, which executes a command or none.
     fn line_of(&self, idcode: u32, reg: Reg, word: u32, executed: Option<u8>) -> Option<Stop>
-        ensures value { (part : PartData) (kept : KeptData) (h : History) (n : ℕ) → idcode ≡ part.idcode → RegistersStandFor part kept (registers_in self.now) h n → executed ≡ executed_by (command_held h) (Write (number_of reg) word)
-            → result ≡ access_line part kept h (Write (number_of reg) word) }
+        ensures value { (part : PartData) (kept : KeptData) (h : History) (n : ℕ) → idcode ≡ part.idcode → RegistersStandFor part kept (registers_in self.now) h n → executed ≡ executed_after h reg word
+            → result ≡ access_line part kept h (word_to reg word) }
         ensures counts { (n : ℕ) → counted_in result n ≡ n }
     {
         let Progress { check, matched, .. } = self.progress;
@@ -326,7 +323,7 @@ impl Registers {
         ensures due { self.new.due ≡ self.old.due }
         ensures frames { FramesFit part.now self.new.frames }
         ensures stands { EntersIf (0 < count) part.now (registers_in self.old) (registers_in self.new)
-            (up_to_stop (registers_in self.new) (λ n h. entry (Write register word) (n + count) ∷ h) (count - result)) (count - result) }
+            (up_to_stop (registers_in self.new) (word_entered register word count) (count - result)) (count - result) }
     {
         let left = self.tick(part, count);
         if self.stop.is_some() {
@@ -482,8 +479,8 @@ impl Registers {
         ensures at_rest { (line : Stop) → self.new.stop ≡ Some line → due_count self.new.due ≡ 0 }
         ensures frames { FramesFit part.now self.new.frames }
         ensures stands { EntersIf (0 < count) part.now (registers_in self.old) (registers_in self.new)
-            (up_to_stop (registers_in self.new) (λ n h. entered (n + count) step h) (count - result)) (count - result) }
-        ensures reads { ReadsIf (0 < count) part.now (registers_in self.old) (registers_in self.new) (up_to_stop (registers_in self.new) (λ n h. entered (n + count) step h) (count - result)) }
+            (up_to_stop (registers_in self.new) (step_entered step count) (count - result)) (count - result) }
+        ensures reads { ReadsIf (0 < count) part.now (registers_in self.old) (registers_in self.new) (up_to_stop (registers_in self.new) (step_entered step count) (count - result)) }
     {
         let left = self.tick(part, count);
         if self.stop.is_some() {

@@ -63,6 +63,7 @@ fn is_ignored(kind: Kind, wrote: bool) -> bool
 
 impl Registers {
     ghost use Rattle.x7_engine.specs.Standing.{RegistersStandFor, registers_in};
+    ghost use Rattle.x7_engine.specs.Entering.{OfHistory};
 
     /// The running check; at a fault `Crc` the one that was wanted.
     fn check(&self) -> u32
@@ -76,7 +77,7 @@ impl Registers {
 
     /// The word of STAT.
     fn stat(&self, part: &Part) -> u32
-        ensures { (kept : Kept) (h : History) (n : ℕ) → RegistersStandFor part.now kept (registers_in self.now) h n → result ≡ status_of (stat_parts part.now (fault_of self.now.stop) (startup_progress h n) (has_ghigh h)) }
+        ensures { OfHistory part.now (registers_in self.now) (λ kept h n. result ≡ status_of (stat_parts part.now (fault_of self.now.stop) (startup_progress h n) (has_ghigh h))) }
     {
         let crc_error = is_crc(self.stop);
         let lines = self.clock.lines();
@@ -110,7 +111,7 @@ impl Registers {
 
     /// FAR as it is read.
     fn far(&self, part: &Part) -> u32
-        ensures { (kept : Kept) (h : History) (n : ℕ) → RegistersStandFor part.now kept (registers_in self.now) h n → result ≡ far_in part.now (less (frames_due self.now.due) (flow_of part.now h)) }
+        ensures { OfHistory part.now (registers_in self.now) (λ kept h n. result ≡ far_in part.now (less (frames_due self.now.due) (flow_of part.now h))) }
     {
         self.frames.far(part)
     }
@@ -118,7 +119,7 @@ impl Registers {
     /// The value of a register as it is read, and 0 for one that is only written and for frame data.
     #[rattlefmt::skip]
     pub(crate) fn value(&self, part: &Part, reg: Reg) -> u32
-        ensures { (kept : Kept) (h : History) (n : ℕ) → RegistersStandFor part.now kept (registers_in self.now) h n → result ≡ value_owing part.now kept (fault_of self.now.stop) h n (frames_due self.now.due) reg }
+        ensures { OfHistory part.now (registers_in self.now) (λ kept h n. result ≡ value_owing part.now kept (fault_of self.now.stop) h n (frames_due self.now.due) reg) }
     {
         match reg {
             Reg::Crc     => self.check(),
@@ -146,7 +147,7 @@ impl Registers {
 
     /// What a read of a register number gives: its value, and 0 for a number without a register.
     pub(crate) fn read_value(&self, part: &Part, register: u8) -> u32
-        ensures { (kept : Kept) (h : History) (n : ℕ) → self.now.stop ≡ None → due_count self.now.due ≡ 0 → RegistersStandFor part.now kept (registers_in self.now) h n → result ≡ read_value part.now kept h n register }
+        ensures { self.now.stop ≡ None → due_count self.now.due ≡ 0 → OfHistory part.now (registers_in self.now) (λ kept h n. result ≡ read_value part.now kept h n register) }
     {
         match reg_of(register) {
             Some(reg) => self.value(part, reg),

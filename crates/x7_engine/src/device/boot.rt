@@ -1,14 +1,10 @@
 //! What a boot asks of a device.
-ghost use Rattle.std.specs.Prelude.{◌≡◌, ◌≤◌, ◌==◌, ℕ, Bool, false, List, [], Option, None, Some};
+ghost use Rattle.std.specs.Prelude.{◌≡◌, Bool, []};
 ghost use Rattle.x7_part.specs.Part.{PartData};
-ghost use Rattle.x7_regs.specs.declared.boot_status.Kind.TheVariants.{Bench};
 ghost use Rattle.x7_engine.specs.Standing.{DeviceState, DeviceStandsFor, MayWrap, NoWordDue};
-ghost use Rattle.x7_engine.specs.State.{line_by, state_of, stop_in};
-ghost use Rattle.x7_engine.specs.Stops.{fault_of};
-ghost use Rattle.x7_engine.specs.Values.{cause_of};
 ghost use Rattle.x7_engine.specs.declared.kept.Kept.{Kept as KeptData};
 ghost use Rattle.x7_engine.specs.declared.stop.Stop.TheVariants as stop;
-ghost use Rattle.x7_engine.specs.Past.{OfPast, state_at};
+ghost use Rattle.x7_engine.specs.Past.{BootGoesOn, OfPast, state_at};
 
 use super::Device;
 
@@ -24,8 +20,6 @@ impl Device {
 /// The flash may end in each attempt of a boot that hasn't started, that no IPROG and no fault Id, Crc or Watchdog ended,
 /// and in which no word is due; and none is before the first byte.
 pub fn flash_may_end()
-    ensures may { (part : PartData) (kept : KeptData) (wrapped : Bool) (d : DeviceState) (bytes : List ℕ) → DeviceStandsFor part kept wrapped d bytes → (kept.kind ≡ Bench → ⊥)
-        → ((state_of part kept wrapped bytes).phase == 7) ≡ false → cause_of (fault_of (line_by (stop_in part kept bytes))) false ≡ None
-        → (line_by (stop_in part kept bytes) ≡ Some stop.Iprog → ⊥) → NoWordDue d → MayWrap d }
+    ensures may { (d : DeviceState) → OfPast d (λ p. BootGoesOn p → NoWordDue d → MayWrap d) }
     ensures first { (part : PartData) (kept : KeptData) (wrapped : Bool) (d : DeviceState) → DeviceStandsFor part kept wrapped d [] → NoWordDue d }
 {}

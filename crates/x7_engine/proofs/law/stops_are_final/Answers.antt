@@ -5,16 +5,16 @@ pub returns-clause-place : goal.returns-clause-place
 returns-clause-place c = stop_place
 
 pub returns-clause-before : goal.returns-clause-before
-returns-clause-before c = no_stop_before
+returns-clause-before c = λ p more s. no_stop_before p.part p.kept p.bytes more s
 
 pub returns-clause-stop : goal.returns-clause-stop
-returns-clause-stop c = stop_is_final-stop
+returns-clause-stop c = λ p more s t. stop_is_final-stop p.part p.kept p.bytes more s t.fits t.stop
 
 pub returns-clause-state : goal.returns-clause-state
-returns-clause-state c = stop_is_final-state
+returns-clause-state c = λ p more s t. stop_is_final-state p.part p.kept p.wrapped p.bytes more s t.fits t.stop
 
 pub returns-clause-reads : goal.returns-clause-reads
-returns-clause-reads c = stop_is_final-reads
+returns-clause-reads c = λ p more s t. stop_is_final-reads p.part p.kept p.bytes more s t.fits t.stop
 
 pub returns-clause-memory : goal.returns-clause-memory
-returns-clause-memory c = stop_is_final-memory
+returns-clause-memory c = λ p more s t. stop_is_final-memory p.part p.kept p.bytes more s t.fits t.stop

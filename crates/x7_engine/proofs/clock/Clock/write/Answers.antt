@@ -10,11 +10,11 @@ use Rattle.x7_engine.proofs.ClockLemmas.{startup_written, watch_written}
 use Rattle.x7_engine.proofs.clock.Clock.write.Goals as goal
 
 pub returns : goal.returns
-returns c = λ part kept h place e t z s.
+returns c = λ part kept h place w s.
     let access : Access = Write (number_of c.args.reg) c.args.word in
     record {
-      startup = subst (λ t. StandsFor part.lock part.matched c.move_startup.new.startup t) (startup_written h access place c.args.executed c.args.taken c.args.cor0 e t z)
+      startup = subst (λ t. StandsFor part.lock part.matched c.move_startup.new.startup t) (startup_written h access place c.args.executed c.args.taken c.args.cor0 w.executed_is w.taken_is w.cor0_is)
           (c.move_startup.ensures part.lock part.matched (startup_calls h place) s.startup);
-      watchdog = subst (λ t. WatchesFor (is_fallback kept.kind) kept.timer c.move_watchdog.new.watchdog t) (watch_written part h access place c.args.executed e)
+      watchdog = subst (λ t. WatchesFor (is_fallback kept.kind) kept.timer c.move_watchdog.new.watchdog t) (watch_written part h access place c.args.executed w.executed_is)
           (c.move_watchdog.ensures (is_fallback kept.kind) kept.timer (watch_calls part h place) s.watchdog);
     }

@@ -51,7 +51,7 @@ returns-then-not-reads_frames-clause-reads c = λ kept h place s.
     let read = other_read part c.args.self.now.frames.pipeline c.args.self.now.frames.memory h c.args.register c.args.count place other are in
     answered part kept h c.args.register c.args.count place None (read_line part kept h c.args.register c.args.count None read.0)
     ∙ ap (λ b. if b then frames_read part h c.args.count else replicate c.args.count (read_value part kept h place c.args.register)) other
-    ∙ ap (replicate c.args.count) (sym (c.read_value.ensures kept h place c.requires.going c.requires.none_due s))
+    ∙ ap (replicate c.args.count) (sym (c.read_value.ensures c.requires.going c.requires.none_due kept h place s))
 
 pub returns-in-Some-clause-stands : goal.returns-in-Some-clause-stands
 returns-in-Some-clause-stands c = λ kept h place next s.

@@ -7,7 +7,7 @@ use Rattle.x7_engine.proofs.FrameLemmas.{none_frames, value_now}
 use Rattle.x7_engine.proofs.registers.Registers.read_value.Goals as goal
 
 pub returns-in-Some : goal.returns-in-Some
-returns-in-Some c = λ kept h n e z s.
+returns-in-Some c = λ e z kept h n s.
     c.value.ensures kept h n s
     ∙ ap (λ (k : ℕ). value_owing c.args.part.now kept (fault_of c.args.self.now.stop) h n k c.in-Some.reg) (none_frames c.args.self.now.due z)
     ∙ value_now c.args.part.now kept (fault_of c.args.self.now.stop) h n c.in-Some.reg
