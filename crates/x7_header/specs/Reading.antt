@@ -105,6 +105,20 @@ lacks_by lack (Err (fault.Cut total)) later = lack
 lacks_by lack (Err (fault.Field place)) later = 0
 lacks_by lack (Err fault.Raw) later = 0
 
+-- the fields of a text and of a number of this letter
+abbrev pub text_of_letter : ℕ → Field
+text_of_letter letter = record { letter = letter; kind = Kind.Counted }
+
+abbrev pub number_of_letter : ℕ → Field
+number_of_letter letter = record { letter = letter; kind = Kind.Four }
+
+-- what one of them lacks that the bytes begin with, and the fields after it
+abbrev pub text_wants : ℕ → List ℕ → (List ℕ → ℕ) → ℕ
+text_wants letter bytes later = lacks_by (text_lacks bytes) (field_at (length bytes) (text_of_letter letter) bytes) later
+
+abbrev pub number_wants : ℕ → List ℕ → (List ℕ → ℕ) → ℕ
+number_wants letter bytes later = lacks_by (number_lacks bytes) (field_at (length bytes) (number_of_letter letter) bytes) later
+
 -- what the first of these fields lacks that isn't whole, and none where all are whole
 abbrev pub fields_lack : List Field → List ℕ → ℕ
 fields_lack [] bytes = 0

@@ -2,10 +2,9 @@
 //!
 //! Each call reads at the beginning of what is left of an input; `total` is how many bytes the input
 //! has, or how many of it were read so far. A `Cut` is final only where the input has ended.
-ghost use Rattle.std.specs.Prelude.{◌≡◌, ◌≤◌, ◌<◌, ◌+◌, ◌^◌, ◌++◌, ℕ, List, length, IfOk, IsErrOf, Ok, Err};
+ghost use Rattle.std.specs.Prelude.{◌≡◌, ◌≤◌, ◌<◌, ◌+◌, ◌++◌, ℕ, List, length, IfOk, IsErrOf, Ok, Err};
 ghost use Rattle.x7_words.specs.Word.{bytes_of_word, word_of_bytes};
-ghost use Rattle.x7_header.specs.Header.{Kind, field_bytes};
-ghost use Rattle.x7_header.specs.Reading.{Gives, letter_at, bytes_at, field_at, fixed_at};
+ghost use Rattle.x7_header.specs.Reading.{Gives, letter_at, bytes_at, field_at, fixed_at, number_of_letter, text_of_letter};
 
 use crate::fault::HeaderFault;
 use crate::header::FIXED_BYTES;
@@ -52,16 +51,16 @@ fn first_bytes(bytes: &[u8], count: usize, total: usize) -> Result<(&[u8], &[u8]
 pub fn text_field(bytes: &[u8], letter: u8, total: usize) -> Result<(&[u8], &[u8]), HeaderFault>
     requires { length bytes.now ≤ total }
     ensures value { Gives (λ x. (x.0.now, x.1.now)) result
-        (field_at total (record { letter = letter; kind = Kind.Counted }) bytes.now) }
+        (field_at total (text_of_letter letter) bytes.now) }
     // What follows is left of the bytes.
     ensures within { IfOk result (λ x. length x.1.now ≤ length bytes.now) }
     // A field that is whole is judged alike whatever follows.
     ensures more { IfOk result (λ x. (all : ℕ) (rest : List ℕ) →
-        field_at all (record { letter = letter; kind = Kind.Counted }) (bytes.now ++ rest)
+        field_at all (text_of_letter letter) (bytes.now ++ rest)
         ≡ Ok (x.0.now, x.1.now ++ rest)) }
     // So is a wrong letter.
     ensures other { (place : ℕ) (rest : List ℕ) → IsErrOf result (HeaderFault.Field place) →
-        field_at (total + length rest) (record { letter = letter; kind = Kind.Counted }) (bytes.now ++ rest)
+        field_at (total + length rest) (text_of_letter letter) (bytes.now ++ rest)
         ≡ Err (HeaderFault.Field place) }
 {
     match after_letter(bytes, letter, total)? {
@@ -77,18 +76,18 @@ pub fn text_field(bytes: &[u8], letter: u8, total: usize) -> Result<(&[u8], &[u8
 pub fn number_field(bytes: &[u8], letter: u8, total: usize) -> Result<(u32, &[u8]), HeaderFault>
     requires { length bytes.now ≤ total }
     ensures value { Gives (λ x. (bytes_of_word x.0, x.1.now)) result
-        (field_at total (record { letter = letter; kind = Kind.Four }) bytes.now) }
+        (field_at total (number_of_letter letter) bytes.now) }
     // The number is the word of the field's four bytes.
     ensures word { IfOk result (λ x. word_of_bytes (bytes_of_word x.0) ≡ x.0) }
     // What follows is left of the bytes.
     ensures within { IfOk result (λ x. length x.1.now ≤ length bytes.now) }
     // A field that is whole is judged alike whatever follows.
     ensures more { IfOk result (λ x. (all : ℕ) (rest : List ℕ) →
-        field_at all (record { letter = letter; kind = Kind.Four }) (bytes.now ++ rest)
+        field_at all (number_of_letter letter) (bytes.now ++ rest)
         ≡ Ok (bytes_of_word x.0, x.1.now ++ rest)) }
     // So is a wrong letter.
     ensures other { (place : ℕ) (rest : List ℕ) → IsErrOf result (HeaderFault.Field place) →
-        field_at (total + length rest) (record { letter = letter; kind = Kind.Four }) (bytes.now ++ rest)
+        field_at (total + length rest) (number_of_letter letter) (bytes.now ++ rest)
         ≡ Err (HeaderFault.Field place) }
 {
     let (number, rest) = first_bytes(after_letter(bytes, letter, total)?, 4, total)?;

@@ -1,7 +1,7 @@
 //! How many bytes to read next of a header, for a caller who reads an input piece by piece.
 ghost use Rattle.std.specs.Prelude.{◌≡◌, ◌<◌, ◌+◌, ◌++◌, ℕ, List, length, IfErr, IfOk, MatchResult, Ok};
-ghost use Rattle.x7_header.specs.Header.{EndsInHeader, Kind, layout};
-ghost use Rattle.x7_header.specs.Reading.{FieldWaits, HeaderWaits, LayoutWaits, field_at, fields_lack, header_lacks, lacks_by, number_lacks, text_lacks};
+ghost use Rattle.x7_header.specs.Header.{EndsInHeader, layout};
+ghost use Rattle.x7_header.specs.Reading.{FieldWaits, HeaderWaits, LayoutWaits, field_at, fields_lack, header_lacks, number_lacks, number_of_letter, number_wants, text_lacks, text_of_letter, text_wants};
 
 use crate::fault::HeaderFault;
 use crate::field::{behind_fixed_bytes, number_field, text_field};
@@ -34,11 +34,11 @@ fn number_lack(prefix: &[u8]) -> usize
 /// What follows the field of text of this letter, or how many bytes it waits for: none where its letter is wrong.
 fn behind_text(bytes: &[u8], letter: u8) -> Result<&[u8], usize>
     ensures whole { IfOk result (λ rest. (text : List ℕ) × ((total : ℕ) (more : List ℕ) →
-        field_at total (record { letter = letter; kind = Kind.Counted }) (bytes.now ++ more) ≡ Ok (text, rest.now ++ more))) }
-    ensures waits { IfErr result (λ lack. FieldWaits (record { letter = letter; kind = Kind.Counted }) bytes.now lack) }
+        field_at total (text_of_letter letter) (bytes.now ++ more) ≡ Ok (text, rest.now ++ more))) }
+    ensures waits { IfErr result (λ lack. FieldWaits (text_of_letter letter) bytes.now lack) }
     ensures lacks { MatchResult result
-        (λ rest. (later : List ℕ → ℕ) → lacks_by (text_lacks bytes.now) (field_at (length bytes.now) (record { letter = letter; kind = Kind.Counted }) bytes.now) later ≡ later rest.now)
-        (λ lack. (later : List ℕ → ℕ) → lacks_by (text_lacks bytes.now) (field_at (length bytes.now) (record { letter = letter; kind = Kind.Counted }) bytes.now) later ≡ lack) }
+        (λ rest. (later : List ℕ → ℕ) → text_wants letter bytes.now later ≡ later rest.now)
+        (λ lack. (later : List ℕ → ℕ) → text_wants letter bytes.now later ≡ lack) }
 {
     match text_field(bytes, letter, bytes.len()) {
         Ok((_, rest)) => Ok(rest),
@@ -49,10 +49,10 @@ fn behind_text(bytes: &[u8], letter: u8) -> Result<&[u8], usize>
 
 /// Nothing where the field of a number of this letter is whole, or how many bytes it waits for: none where its letter is wrong.
 fn behind_number(bytes: &[u8], letter: u8) -> Result<(), usize>
-    ensures waits { IfErr result (λ lack. FieldWaits (record { letter = letter; kind = Kind.Four }) bytes.now lack) }
+    ensures waits { IfErr result (λ lack. FieldWaits (number_of_letter letter) bytes.now lack) }
     ensures lacks { MatchResult result
-        (λ _. lacks_by (number_lacks bytes.now) (field_at (length bytes.now) (record { letter = letter; kind = Kind.Four }) bytes.now) (λ _. 0) ≡ 0)
-        (λ lack. lacks_by (number_lacks bytes.now) (field_at (length bytes.now) (record { letter = letter; kind = Kind.Four }) bytes.now) (λ _. 0) ≡ lack) }
+        (λ _. number_wants letter bytes.now (λ _. 0) ≡ 0)
+        (λ lack. number_wants letter bytes.now (λ _. 0) ≡ lack) }
 {
     match number_field(bytes, letter, bytes.len()) {
         Ok(_) => Ok(()),
