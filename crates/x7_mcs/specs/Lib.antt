@@ -4,3 +4,4 @@ pub mod Places
 pub mod Flash
 pub mod Text
 pub mod State
+pub mod Images

@@ -1,8 +1,9 @@
 //! The bytes of a flash that is being read, and the places that its records gave.
-ghost use Rattle.std.specs.Prelude.{◌≡◌, ℕ, Bool, true, false, ◌≤◌, ◌<◌, ◌+◌, ◌-◌, ◌*◌, ◌/◌, ◌%◌, ◌^◌, ◌==◌, ◌&&◌, ◌⊎◌, nat_le, nat_lt, max, if◌then◌else◌, List, [], ◌∷◌, length, get_or, None, Some, Ok, Err, IfOk, MatchResult, MatchOption};
+ghost use Rattle.std.specs.Prelude.{◌≡◌, ℕ, true, ◌≤◌, ◌<◌, ◌+◌, ◌-◌, ◌*◌, ◌/◌, ◌%◌, ◌^◌, ◌==◌, ◌&&◌, nat_le, nat_lt, max, if◌then◌else◌, List, [], length, get_or, None, Some, Ok, Err, IfOk, MatchResult, MatchOption};
 ghost use Rattle.std.specs.Int.{bit_at};
-ghost use Rattle.x7_mcs.specs.Places.{DataRecord, overlap, with_record};
-ghost use Rattle.x7_mcs.specs.State.{AreFree, Holds, IsFirstMarked, IsPlaced, is_marked};
+ghost use Rattle.x7_mcs.specs.Places.{DataRecord, overlap};
+ghost use Rattle.x7_mcs.specs.Images.{HoldsIn, HoldsMore, IsRefused, data_at};
+ghost use Rattle.x7_mcs.specs.State.{AreFree, IsFirstMarked, IsPlaced, is_marked};
 ghost use Rattle.x7_mcs.specs.declared.fault.McsFault.{McsFault};
 
 use crate::fault::McsFault;
@@ -173,7 +174,7 @@ fn first_marked(marks: &[u16], place: usize, count: usize) -> Option<usize>
 #[inline(always)]
 fn taken_place(image: &Image, place: usize, count: usize) -> Option<usize>
     requires { place + count < 2 ^ 34 }
-    ensures least { (xs : List DataRecord) → Holds xs image.now.bytes.items image.now.marks.items → result ≡ overlap xs place count }
+    ensures least { (xs : List DataRecord) → HoldsIn image.now xs → result ≡ overlap xs place count }
     ensures within { MatchOption result (Unit {0}) (λ q. q < place + count) }
 {
     if place >= image.bytes.len() {
@@ -191,11 +192,8 @@ pub(crate) fn put_content(
     content: &[u8],
 ) -> Result<(), McsFault>
     requires { (place < 2 ^ 33) × (length content.now < 256) }
-    ensures { (xs : List DataRecord) → Holds xs image.old.bytes.items image.old.marks.items
-        → MatchResult result
-        (λ _. (with_record n xs (record { place = place; bytes = content.now }) ≡ Ok (record { place = place; bytes = content.now } ∷ xs))
-        × Holds (record { place = place; bytes = content.now } ∷ xs) image.new.bytes.items image.new.marks.items)
-        (λ fault. (fault ≡ McsFault.NoMemory) ⊎ (with_record n xs (record { place = place; bytes = content.now }) ≡ Err fault)) }
+    ensures { (xs : List DataRecord) → HoldsIn image.old xs
+        → MatchResult result (λ _. HoldsMore image.new n xs (data_at place content.now)) (λ fault. IsRefused n xs (data_at place content.now) fault) }
 {
     if content.len() == 0 {
         return Ok(());

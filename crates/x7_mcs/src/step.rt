@@ -1,9 +1,10 @@
 //! One line more.
-ghost use Rattle.std.specs.Prelude.{◌≡◌, ℕ, Bool, true, false, ◌≤◌, ◌<◌, ◌+◌, ◌^◌, List, length, get_or, Some, Result, MatchResult, MatchOption};
-ghost use Rattle.x7_mcs.specs.Record.{data_of, meaning_of, pairs};
+ghost use Rattle.std.specs.Prelude.{true, ◌<◌, ◌+◌, ◌^◌, List, length, Some, Result, MatchResult, MatchOption};
+ghost use Rattle.x7_mcs.specs.Record.{data_of, meaning_of};
 ghost use Rattle.x7_mcs.specs.Places.{DataRecord};
-ghost use Rattle.x7_mcs.specs.Flash.{Reading, after_data, after_line, after_meaning};
-ghost use Rattle.x7_mcs.specs.State.{Fails, Goes, Holds, Took, at_base};
+ghost use Rattle.x7_mcs.specs.Flash.{Reading, after_data, after_line};
+ghost use Rattle.x7_mcs.specs.State.{Fails};
+ghost use Rattle.x7_mcs.specs.Images.{CameTo, GoesFrom, HoldsIn, after_record, reading_at};
 ghost use Rattle.x7_mcs.specs.declared.fault.McsFault.{McsFault};
 
 use crate::digits::put_pairs;
@@ -34,10 +35,10 @@ fn put_data(
 ) -> Result<Context, McsFault>
     requires content { length content.now < 256 }
     requires address { address < 2 ^ 16 }
-    ensures { (xs : List DataRecord) → Holds xs image.old.bytes.items image.old.marks.items
+    ensures { (xs : List DataRecord) → HoldsIn image.old xs
         → MatchResult result
-        (λ c. Took (after_data n (at_base context.base context.ended xs) address content.now) c.base c.ended image.new.bytes.items image.new.marks.items)
-        (λ f. Fails (after_data n (at_base context.base context.ended xs) address content.now) f) }
+        (λ c. CameTo (after_data n (reading_at context xs) address content.now) c image.new)
+        (λ f. Fails (after_data n (reading_at context xs) address content.now) f) }
 {
     match put_content(image, n, context.base as usize + address as usize, content) {
         Ok(()) => Ok(context),
@@ -52,10 +53,10 @@ fn put_record(
     context: Context,
     bytes: &[u8],
 ) -> Result<Context, McsFault>
-    ensures { (xs : List DataRecord) → Holds xs image.old.bytes.items image.old.marks.items
+    ensures { (xs : List DataRecord) → HoldsIn image.old xs
         → MatchResult result
-        (λ c. Took (after_meaning n (at_base context.base context.ended xs) bytes.now (meaning_of n context.ended bytes.now)) c.base c.ended image.new.bytes.items image.new.marks.items)
-        (λ f. Fails (after_meaning n (at_base context.base context.ended xs) bytes.now (meaning_of n context.ended bytes.now)) f) }
+        (λ c. CameTo (after_record n context xs bytes.now) c image.new)
+        (λ f. Fails (after_record n context xs bytes.now) f) }
 {
     match meaning_of(n, context.ended, bytes) {
         Err(fault) => Err(fault),
@@ -80,10 +81,10 @@ fn put_line(
     context: Context,
     line: &[u8],
 ) -> Result<Context, McsFault>
-    ensures { (xs : List DataRecord) → Holds xs image.old.bytes.items image.old.marks.items
+    ensures { (xs : List DataRecord) → HoldsIn image.old xs
         → MatchResult result
-        (λ c. Took (after_line n (at_base context.base context.ended xs) line.now) c.base c.ended image.new.bytes.items image.new.marks.items)
-        (λ f. Fails (after_line n (at_base context.base context.ended xs) line.now) f) }
+        (λ c. CameTo (after_line n (reading_at context xs) line.now) c image.new)
+        (λ f. Fails (after_line n (reading_at context xs) line.now) f) }
 {
     if line.len() == 0 {
         return Ok(context);
@@ -121,11 +122,11 @@ pub(crate) fn take_line<'t>(
     context: Context,
     text: &'t [u8],
 ) -> Result<Taken<'t>, McsFault>
-    ensures { (whole : Result Reading McsFault) → Goes whole text.now n context.base context.ended image.old.bytes.items image.old.marks.items
+    ensures { (whole : Result Reading McsFault) → GoesFrom whole text.now n context image.old
         → MatchResult result
         (λ t. MatchOption t.rest
-        (Took whole t.context.base t.context.ended image.new.bytes.items image.new.marks.items)
-        (λ rest. Goes whole rest.now (n + 1) t.context.base t.context.ended image.new.bytes.items image.new.marks.items × (length rest.now < length text.now)))
+        (CameTo whole t.context image.new)
+        (λ rest. GoesFrom whole rest.now (n + 1) t.context image.new × (length rest.now < length text.now)))
         (λ f. Fails whole f) }
 {
     if !context.ended

@@ -1,0 +1,45 @@
+-- An image and a place in a text, each in one value.
+use Rattle.std.specs.Prelude.{◌≡◌, ◌⊎◌, ℕ, List, ◌∷◌, Result, Ok, Err}
+use Rattle.x7_mcs.specs.Flash.{Reading, after_meaning}
+use Rattle.x7_mcs.specs.Places.{DataRecord, with_record}
+use Rattle.x7_mcs.specs.Record.{meaning_of}
+use Rattle.x7_mcs.specs.State.{Goes, Holds, Took, at_base}
+use Rattle.x7_mcs.specs.declared.fault.McsFault.{McsFault}
+use Rattle.x7_mcs.specs.declared.fault.McsFault.TheVariants as fault
+use Rattle.x7_mcs.specs.declared.image.Image.{Image}
+use Rattle.x7_mcs.specs.declared.step.Context.{Context}
+
+-- the image has these records
+abbrev pub HoldsIn : Image → List DataRecord → Type 0
+HoldsIn image records = Holds records image.bytes.items image.marks.items
+
+-- ---- a record's data
+
+abbrev pub data_at : ℕ → List ℕ → DataRecord
+data_at place bytes = record { place = place; bytes = bytes }
+
+-- the record is taken, and the image has it too
+abbrev pub HoldsMore : Image → ℕ → List DataRecord → DataRecord → Type 0
+HoldsMore image n records r = (with_record n records r ≡ Ok (r ∷ records)) × HoldsIn image (r ∷ records)
+
+-- it is refused; want of memory says nothing
+abbrev pub IsRefused : ℕ → List DataRecord → DataRecord → McsFault → Type 0
+IsRefused n records r f = (f ≡ fault.NoMemory) ⊎ (with_record n records r ≡ Err f)
+
+-- ---- a text up to a line
+
+-- what stands at a line behind these records
+abbrev pub reading_at : Context → List DataRecord → Reading
+reading_at context records = at_base context.base context.ended records
+
+-- after the bytes of line n's record
+abbrev pub after_record : ℕ → Context → List DataRecord → List ℕ → Result Reading McsFault
+after_record n context records bytes = after_meaning n (reading_at context records) bytes (meaning_of n context.ended bytes)
+
+-- a reading came to this, and the image has its records
+abbrev pub CameTo : Result Reading McsFault → Context → Image → Type 0
+CameTo reading context image = Took reading context.base context.ended image.bytes.items image.marks.items
+
+-- what a text gives is what its rest, from line n on, gives after this
+abbrev pub GoesFrom : Result Reading McsFault → List ℕ → ℕ → Context → Image → Type 0
+GoesFrom whole rest n context image = Goes whole rest n context.base context.ended image.bytes.items image.marks.items
