@@ -9,6 +9,7 @@ use Rattle.x7_listing.specs.Line.{Line, bytes_of, FitsLine, IsListed}
 use Rattle.x7_listing.specs.Listed.{texts_of}
 use Rattle.x7_listing.specs.Assembly.{AreHeadedAsm, asm_limit, assembled, Begins, HasNoHead, IsAsm}
 use Rattle.x7_listing.specs.declared.assembler.AsmFault.{AsmFault}
+use Rattle.x7_listing.specs.declared.body.Body.{Body}
 use Rattle.x7_listing.specs.declared.assembler.AsmFault.TheVariants as fault
 
 -- the first texts are those of lines, whose bytes these are, and the others are left
@@ -110,11 +111,37 @@ pub record TakesFront (a b : AssemblerState) (piece rest : List ℕ) : Type 0 wh
 abbrev pub FailsIn : AssemblerState → List ℕ → AsmFault → Type 0
 FailsIn a piece f = (f ≡ fault.NoMemory) ⊎ ((text more : List ℕ) → length (text ++ piece) < 2 ^ 63 → AssemblerStandsFor a text → IsAsm ((text ++ piece) ++ more) (Err f))
 
+-- what is read so far: the bytes, where those of lines begin, their check, and how many lines were
+pub record BodyState : Type 0 where
+  pub out : List ℕ
+  pub start : ℕ
+  pub checker : CheckerState
+  pub count : ℕ
+
+abbrev pub body_in : Body → BodyState
+body_in b = record { out = b.out.items; start = b.start; checker = b.checker; count = b.count }
+
+abbrev pub body_of : AssemblerState → BodyState
+body_of a = record { out = a.out; start = a.start; checker = a.checker; count = a.count }
+
+abbrev pub BodyGoes : List (List ℕ) → List (List ℕ) → BodyState → Type 0
+BodyGoes all left b = Goes all left b.out b.start b.checker b.count
+
+abbrev pub BodyWaits : Bool → List (List ℕ) → List (List ℕ) → BodyState → Type 0
+BodyWaits begun all left b = Waits begun all left b.out b.start b.checker b.count
+
 -- a fault at the next text, which is read whether the first one was or not
-abbrev pub FailsAt : Bool → List ℕ → List ℕ → ℕ → CheckerState → ℕ → AsmFault → Type 0
-FailsAt begun line out start checker count f = (f ≡ fault.NoMemory) ⊎ ((all left : List (List ℕ)) → count < 2 ^ 63 → Waits begun all (line ∷ left) out start checker count → AreHeadedAsm all (Err f))
+abbrev pub FailsAt : Bool → List ℕ → BodyState → AsmFault → Type 0
+FailsAt begun line b f = (f ≡ fault.NoMemory) ⊎ ((all left : List (List ℕ)) → b.count < 2 ^ 63 → BodyWaits begun all (line ∷ left) b → AreHeadedAsm all (Err f))
 
 -- the next text is read
-abbrev pub ReadsNext : Bool → List ℕ → List ℕ → ℕ → CheckerState → ℕ → List ℕ → ℕ → CheckerState → ℕ → Type 0
-ReadsNext begun line out start checker count out2 start2 checker2 count2 =
-    (all left : List (List ℕ)) → count < 2 ^ 63 → Waits begun all (line ∷ left) out start checker count → Goes all left out2 start2 checker2 count2
+abbrev pub ReadsNext : Bool → List ℕ → BodyState → BodyState → Type 0
+ReadsNext begun line old new = (all left : List (List ℕ)) → old.count < 2 ^ 63 → BodyWaits begun all (line ∷ left) old → BodyGoes all left new
+
+-- lines of a text are read, and this is left, whatever follows
+abbrev pub ReadsLines : BodyState → BodyState → List ℕ → List ℕ → Type 0
+ReadsLines old new text tail = (all : List (List ℕ)) (more : List ℕ) → old.count + length text < 2 ^ 63 → BodyGoes all (split (text ++ more)) old → BodyGoes all (split (tail ++ more)) new
+
+-- a fault in a text's lines
+abbrev pub FailsInLines : BodyState → List ℕ → AsmFault → Type 0
+FailsInLines old text f = (f ≡ fault.NoMemory) ⊎ ((all : List (List ℕ)) (more : List ℕ) → old.count + length text < 2 ^ 63 → BodyGoes all (split (text ++ more)) old → AreHeadedAsm all (Err f))

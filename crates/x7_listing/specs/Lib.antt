@@ -11,3 +11,4 @@ pub mod Telling
 pub mod Taking
 pub mod TakingRuns
 pub mod TakingAtOnce
+pub mod Pens

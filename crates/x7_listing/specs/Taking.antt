@@ -3,6 +3,7 @@ use Rattle.std.specs.Prelude.{◌≡◌, ℕ, Bool, true, List, [], ◌++◌}
 use Rattle.x7_packets.specs.Reading.{Place, Searching, Session, IsReading, tail_of}
 use Rattle.x7_packets.specs.Cutting.{CutterState, CutterStandsFor}
 use Rattle.x7_packets.specs.Mode.{Mode}
+use Rattle.x7_packets.specs.Run.{IsNext, told_bytes}
 use Rattle.x7_packets.specs.declared.stream.Run.{Run}
 use Rattle.x7_packets.specs.declared.stream.Run.TheVariants as run
 use Rattle.x7_listing.specs.Telling.{Finished, ListerState, Told}
@@ -29,3 +30,7 @@ pub record EndsRuns (l : ListerState) (given before bytes : List ℕ) : Type 0 w
 abbrev pub TakesRun : Run → ListerState → List ℕ → List ℕ → List ℕ → Mode → Type 0
 TakesRun run.End l given before bytes due = EndsRuns l given before bytes
 TakesRun r l given before bytes due = TakerStandsFor l given before bytes due
+
+-- the next run of a stream is taken
+abbrev pub TakesNext : Run → ListerState → ListerState → Type 0
+TakesNext r old new = (given before bytes : List ℕ) (due next : Mode) → TakerStandsFor old given before bytes due → IsNext bytes due r next → TakesRun r new given before (bytes ++ told_bytes r) next

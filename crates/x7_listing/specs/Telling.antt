@@ -66,6 +66,14 @@ ToldAt true line held all start (Synced gap packets tail) m = (m ≡ Mode.Due �
 abbrev pub Told : Bool → ℕ → List ℕ → List ℕ → List ℕ → List Session → Place → Mode → Type 0
 Told synced line held all before sessions place m = ToldAt synced line held all (before ++ flat_map session_text sessions) place m
 
+-- all of a reading was told but what an end tells: no sync word is still to be told
+pub record ToldWhole (synced : Bool) (line : ℕ) (held all before : List ℕ) (sessions : List Session) (place : Place) : Type 0 where
+  pub bytes : List ℕ
+  pub reading : IsReading bytes sessions place
+  pub mode : Mode
+  pub told : Told synced line held all before sessions place mode
+  pub not_due : mode ≡ Mode.Due → ⊥
+
 -- A run writes what it adds to a reading: what is told before it is told after it.
 abbrev pub Writes : Cut → Bool → ℕ → List ℕ → List ℕ → Bool → ℕ → List ℕ → List ℕ → Type 0
 Writes run synced line held all synced2 line2 held2 all2 =

@@ -2,7 +2,7 @@
 ghost use Rattle.std.specs.Prelude.{◌≡◌, ℕ, List, [], ◌+◌, ◌^◌, ◌<◌, ◌≤◌, ◌⊎◌, true, false, length, Ok, Err, IfOk, IfErr, OnOk, MatchOption, MatchResult};
 ghost use Rattle.x7_words.specs.Word.{AreBytes};
 ghost use Rattle.x7_listing.specs.Assembly.{IsAsm};
-ghost use Rattle.x7_listing.specs.Assembling.{AssemblerStandsFor, FailsAt, FailsIn, ReadsNext, TakesFront, TakesPiece};
+ghost use Rattle.x7_listing.specs.Assembling.{AssemblerStandsFor, FailsAt, FailsIn, ReadsNext, TakesFront, TakesPiece, body_of};
 ghost use Rattle.x7_listing.specs.StreamListing.{stream_listing};
 
 use crate::bit_line::header_of_line;
@@ -90,8 +90,8 @@ impl Assembler {
 
     /// Reads the line that is held, which is the text's first.
     fn read_first(&mut self) -> Result<(), AsmFault>
-        ensures ok { OnOk result (ReadsNext false self.old.held self.old.out self.old.start self.old.checker self.old.count self.new.out self.new.start self.new.checker self.new.count) }
-        ensures fault { IfErr result (FailsAt false self.old.held self.old.out self.old.start self.old.checker self.old.count) }
+        ensures ok { OnOk result (ReadsNext false self.old.held (body_of self.old) (body_of self.new)) }
+        ensures fault { IfErr result (FailsAt false self.old.held (body_of self.old)) }
         ensures count { self.new.count ≤ self.old.count + 1 }
     {
         if let Some(header) = header_of_line(self.alloc, &self.held)? {
@@ -105,8 +105,8 @@ impl Assembler {
 
     /// Reads the line that is held.
     fn read_next(&mut self) -> Result<(), AsmFault>
-        ensures ok { OnOk result (ReadsNext self.old.begun self.old.held self.old.out self.old.start self.old.checker self.old.count self.new.out self.new.start self.new.checker self.new.count) }
-        ensures fault { IfErr result (FailsAt self.old.begun self.old.held self.old.out self.old.start self.old.checker self.old.count) }
+        ensures ok { OnOk result (ReadsNext self.old.begun self.old.held (body_of self.old) (body_of self.new)) }
+        ensures fault { IfErr result (FailsAt self.old.begun self.old.held (body_of self.old)) }
         ensures count { self.new.count ≤ self.old.count + 1 }
     {
         if self.begun {

@@ -10,7 +10,8 @@ ghost use Rattle.x7_text.specs.Row.{close};
 ghost use Rattle.x7_listing.specs.TakingAtOnce.{TakesAtOnce};
 ghost use Rattle.x7_listing.specs.AtOnce.{command_lines, nop_lines, row_text, zero_lines};
 ghost use Rattle.x7_listing.specs.HeadLine.{head_text};
-ghost use Rattle.x7_listing.specs.Telling.{Tells, words_place, words_told};
+ghost use Rattle.x7_listing.specs.Pens.{TellsFor, TellsOn, lister_with};
+ghost use Rattle.x7_listing.specs.Telling.{words_place, words_told};
 
 use crate::line::{put_command, put_head};
 use crate::pen::{Pen, in_session, session_line};
@@ -122,8 +123,7 @@ pub(crate) fn put_idle(text: &mut Vec<u8>, pen: Pen, count: usize) -> Pen
     ensures len { vec_len text.new ≤ vec_len text.old + (4 * count + 1) }
     ensures room { vec_capacity text.old ≤ vec_capacity text.new }
     ensures told { (c : CutterState) (given before bytes : List ℕ) → Takes c c (bytes_of_word nop_word) (Cut.Head nop_word Step.Nop)
-        → Tells c pen.synced pen.line (take pen.count pen.held) text.old.items given before bytes
-        → Tells c result.synced result.line (take result.count result.held) text.new.items given before (bytes ++ nop_bytes count) }
+        → TellsFor (lister_with c pen text.old.items) given before bytes → TellsFor (lister_with c result text.new.items) given before (bytes ++ nop_bytes count) }
 {
     put_close(text, session_line(pen));
     put_nops(text, count);
@@ -138,8 +138,7 @@ fn put_zero_words(text: &mut Vec<u8>, pen: Pen, count: usize) -> Pen
     ensures len { vec_len text.new ≤ vec_len text.old + (14 * count + 1) }
     ensures room { vec_capacity text.old ≤ vec_capacity text.new }
     ensures told { (c : CutterState) (given before bytes : List ℕ) → Takes c c (bytes_of_word 0) (Cut.Head 0 Step.Filler)
-        → Tells c pen.synced pen.line (take pen.count pen.held) text.old.items given before bytes
-        → Tells c result.synced result.line (take result.count result.held) text.new.items given before (bytes ++ equal_bytes 0 count) }
+        → TellsFor (lister_with c pen text.old.items) given before bytes → TellsFor (lister_with c result text.new.items) given before (bytes ++ equal_bytes 0 count) }
 {
     put_close(text, session_line(pen));
     put_zeros(text, count);
@@ -154,8 +153,7 @@ pub(crate) fn put_write(text: &mut Vec<u8>, pen: Pen, register: u8, w: u32) -> P
     ensures len { vec_len text.new ≤ vec_len text.old + 97 }
     ensures room { vec_capacity text.old ≤ vec_capacity text.new }
     ensures told { (old new : CutterState) (rest given before bytes : List ℕ) → WritesOne old new rest register w
-        → Tells old pen.synced pen.line (take pen.count pen.held) text.old.items given before bytes
-        → Tells new result.synced result.line (take result.count result.held) text.new.items given before (bytes ++ take 8 rest) }
+        → TellsFor (lister_with old pen text.old.items) given before bytes → TellsFor (lister_with new result text.new.items) given before (bytes ++ take 8 rest) }
 {
     in_session(put_one_word(text, session_line(pen), register, w))
 }
@@ -217,8 +215,7 @@ fn put_short_write(text: &mut Vec<u8>, pen: Pen, register: u8, count: usize, res
     ensures len { vec_len text.new ≤ vec_len text.old + 189 }
     ensures room { vec_capacity text.old ≤ vec_capacity text.new }
     ensures told { (old new : CutterState) (given before bytes : List ℕ) → WritesFew old new rest.now register count
-        → Tells old pen.synced pen.line (take pen.count pen.held) text.old.items given before bytes
-        → Tells new result.synced result.line (take result.count result.held) text.new.items given before (bytes ++ take (4 + 4 * count) rest.now) }
+        → TellsFor (lister_with old pen text.old.items) given before bytes → TellsFor (lister_with new result text.new.items) given before (bytes ++ take (4 + 4 * count) rest.now) }
 {
     put_short_head(text, session_line(pen), register, count);
     in_session(put_first_words(text, first_64(&rest[4..]), count))
@@ -234,8 +231,7 @@ fn put_gap(text: &mut Vec<u8>, pen: Pen, count: usize, rest: &[u8]) -> Pen
     ensures len { vec_len text.new ≤ vec_len text.old + 112 }
     ensures room { vec_capacity text.old ≤ vec_capacity text.new }
     ensures told { (old new : CutterState) (given before bytes : List ℕ) → EndsGap old new rest.now count
-        → Tells old pen.synced pen.line (take pen.count pen.held) text.old.items given before bytes
-        → Tells new result.synced result.line (take result.count result.held) text.new.items given before (bytes ++ take (count + 4) rest.now) }
+        → TellsFor (lister_with old pen text.old.items) given before bytes → TellsFor (lister_with new result text.new.items) given before (bytes ++ take (count + 4) rest.now) }
 {
     put_first_bytes(text, first_32(rest), count);
     put(text, b"sync\n");
@@ -254,8 +250,7 @@ pub(crate) struct Taken {
 fn take_gap(text: &mut Vec<u8>, cutter: &mut Cutter, pen: Pen, rest: &[u8]) -> Option<Taken>
     requires { vec_len text.old + 131 * length rest.now ≤ vec_capacity text.old }
     ensures some { IfSome result (λ t. TakesAtOnce cutter.old cutter.new rest.now t.size (vec_len text.old) (vec_len text.new)) }
-    ensures told { IfSome result (λ t. (given before bytes : List ℕ) → Tells cutter.old pen.synced pen.line (take pen.count pen.held) text.old.items given before bytes
-        → Tells cutter.new t.pen.synced t.pen.line (take t.pen.count t.pen.held) text.new.items given before (bytes ++ take t.size rest.now)) }
+    ensures told { IfSome result (λ t. TellsOn (lister_with cutter.old pen text.old.items) (lister_with cutter.new t.pen text.new.items) (take t.size rest.now)) }
     ensures none { IfNone result (cutter.new ≡ cutter.old) }
     ensures same { IfNone result (text.new ≡ text.old) }
     ensures room { vec_capacity text.old ≤ vec_capacity text.new }
@@ -283,8 +278,7 @@ pub(crate) fn take_short(
 ) -> Option<Taken>
     requires { vec_len text.old + 131 * length rest.now ≤ vec_capacity text.old }
     ensures some { IfSome result (λ t. TakesAtOnce cutter.old cutter.new rest.now t.size (vec_len text.old) (vec_len text.new)) }
-    ensures told { IfSome result (λ t. (given before bytes : List ℕ) → Tells cutter.old pen.synced pen.line (take pen.count pen.held) text.old.items given before bytes
-        → Tells cutter.new t.pen.synced t.pen.line (take t.pen.count t.pen.held) text.new.items given before (bytes ++ take t.size rest.now)) }
+    ensures told { IfSome result (λ t. TellsOn (lister_with cutter.old pen text.old.items) (lister_with cutter.new t.pen text.new.items) (take t.size rest.now)) }
     ensures none { IfNone result (cutter.new ≡ cutter.old) }
     ensures same { IfNone result (text.new ≡ text.old) }
     ensures room { vec_capacity text.old ≤ vec_capacity text.new }

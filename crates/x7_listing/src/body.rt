@@ -1,10 +1,9 @@
 //! The bytes of a text's lines, as the lines come.
-ghost use Rattle.std.specs.Prelude.{◌≡◌, ℕ, List, [], ◌∷◌, ◌++◌, ◌+◌, ◌^◌, ◌<◌, ◌≤◌, ◌⊎◌, true, drop, length, vec_len, vec_capacity, Err, IfErr, IfOk, OnOk};
-ghost use Rattle.x7_text.specs.Lines.{has_no_end, split};
+ghost use Rattle.std.specs.Prelude.{◌≡◌, ◌+◌, ◌<◌, ◌≤◌, true, drop, length, vec_len, vec_capacity, Err, IfErr, IfOk, OnOk};
+ghost use Rattle.x7_text.specs.Lines.{has_no_end};
 ghost use Rattle.x7_text.specs.Reads.{Reads};
 ghost use Rattle.x7_crc.specs.Checking.{check_of_bytes, Keeps};
-ghost use Rattle.x7_listing.specs.Assembly.{AreHeadedAsm};
-ghost use Rattle.x7_listing.specs.Assembling.{FailsAt, Goes, ReadsNext};
+ghost use Rattle.x7_listing.specs.Assembling.{FailsAt, FailsInLines, ReadsLines, ReadsNext, body_in};
 ghost use Rattle.x7_listing.specs.Line.{bytes_of, FitsLine, text_of};
 
 use crate::assembler::{ASM_LIMIT, AsmFault};
@@ -41,8 +40,8 @@ pub(crate) struct Body {
 impl Body {
     /// Appends the bytes of the next line.
     pub(crate) fn put_one(&mut self, line: &[u8]) -> Result<(), AsmFault>
-        ensures ok { OnOk result (ReadsNext true line.now self.old.out.items self.old.start self.old.checker self.old.count self.new.out.items self.new.start self.new.checker self.new.count) }
-        ensures fault { IfErr result (FailsAt true line.now self.old.out.items self.old.start self.old.checker self.old.count) }
+        ensures ok { OnOk result (ReadsNext true line.now (body_in self.old) (body_in self.new)) }
+        ensures fault { IfErr result (FailsAt true line.now (body_in self.old)) }
         ensures count { self.new.count ≤ self.old.count + 1 }
     {
         self.count = self.count.saturating_add(1);
@@ -59,11 +58,9 @@ impl Body {
 
     /// Appends the bytes of the text's lines that have their end. Answers the text behind the last end.
     pub(crate) fn put_lines<'t>(&mut self, text: &'t [u8]) -> Result<&'t [u8], AsmFault>
-        ensures ok { IfOk result (λ tail. (all : List (List ℕ)) (more : List ℕ) → self.old.count + length text.now < 2 ^ 63 → Goes all (split (text.now ++ more)) self.old.out.items self.old.start self.old.checker self.old.count
-            → Goes all (split (tail.now ++ more)) self.new.out.items self.new.start self.new.checker self.new.count) }
+        ensures ok { IfOk result (λ tail. ReadsLines (body_in self.old) (body_in self.new) text.now tail.now) }
         ensures tail { IfOk result (λ tail. (has_no_end tail.now ≡ true) × (self.new.count + length tail.now ≤ self.old.count + length text.now)) }
-        ensures fault { IfErr result (λ fault. (fault ≡ AsmFault.NoMemory) ⊎ ((all : List (List ℕ)) (more : List ℕ) → self.old.count + length text.now < 2 ^ 63 → Goes all (split (text.now ++ more)) self.old.out.items self.old.start self.old.checker self.old.count
-            → AreHeadedAsm all (Err fault))) }
+        ensures fault { IfErr result (FailsInLines (body_in self.old) text.now) }
     {
         let mut rest = text;
         loop {

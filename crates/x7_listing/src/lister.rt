@@ -2,7 +2,8 @@
 ghost use Rattle.std.specs.Prelude.{◌≡◌, ℕ, ◌+◌, ◌*◌, ◌≤◌, List, [], ◌++◌, OnOk, OnErr, length, take, vec_len, vec_capacity};
 ghost use Rattle.x7_packets.specs.Mode.{Mode};
 ghost use Rattle.x7_listing.specs.Taking.{TakerStandsFor};
-ghost use Rattle.x7_listing.specs.Telling.{Finished, ListerStandsFor, Rests, Tells};
+ghost use Rattle.x7_listing.specs.Telling.{Finished, ListerStandsFor};
+ghost use Rattle.x7_listing.specs.Pens.{RestsOn, lister_with};
 
 mod taking;
 
@@ -16,8 +17,7 @@ use x7_words::NoMemory;
 /// Takes a whole piece, and writes what it tells.
 fn take_all(text: &mut Vec<u8>, cutter: &mut Cutter, pen: Pen, piece: &[u8]) -> Pen
     requires { vec_len text.old + (131 * length piece.now + (3 * length cutter.old.kept + 128)) ≤ vec_capacity text.old }
-    ensures rests { (given before bytes : List ℕ) → Tells cutter.old pen.synced pen.line (take pen.count pen.held) text.old.items given before bytes
-        → Rests cutter.new result.synced result.line (take result.count result.held) text.new.items given before (bytes ++ piece.now) }
+    ensures rests { RestsOn (lister_with cutter.old pen text.old.items) (lister_with cutter.new result text.new.items) piece.now }
 {
     let mut now = pen;
     let mut at = 0;

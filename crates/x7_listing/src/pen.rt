@@ -2,16 +2,15 @@
 ghost use Rattle.std.specs.Prelude.{◌≡◌, ℕ, ◌+◌, ◌*◌, ◌/◌, ◌<◌, ◌≤◌, ◌==◌, List, [], ◌∷◌, ◌++◌, false, true, if◌then◌else◌, codes, length, take, vec_len, vec_capacity};
 ghost use Rattle.x7_words.specs.Word.{words_of_bytes};
 ghost use Rattle.x7_packets.specs.Packet.{payload_steps};
-ghost use Rattle.x7_packets.specs.Reading.{IsReading, Place, Session, tail_of};
+ghost use Rattle.x7_packets.specs.Reading.{Place, Session, tail_of};
 ghost use Rattle.x7_packets.specs.Cutting.{IsNeed, IsRun, run_bytes};
-ghost use Rattle.x7_packets.specs.Mode.{Mode};
 ghost use Rattle.x7_regs.specs.Register.{number_of};
 ghost use Rattle.x7_regs.specs.declared.register.Reg.TheVariants.{Cmd};
 ghost use Rattle.x7_text.specs.Appends.{Appends};
 ghost use Rattle.x7_text.specs.Digits.{hex_byte};
 ghost use Rattle.x7_text.specs.Row.{close, in_line_after, open_text};
 ghost use Rattle.x7_listing.specs.Listing.{reading_text};
-ghost use Rattle.x7_listing.specs.Telling.{GapTold, Told, words_place, words_told, Writes};
+ghost use Rattle.x7_listing.specs.Telling.{GapTold, ToldWhole, words_place, words_told, Writes};
 
 use crate::line::{put_command, put_head, put_sync};
 use x7_packets::Cut;
@@ -239,8 +238,8 @@ fn end_session(text: &mut Vec<u8>, line: usize, kept: &[u8])
 pub(crate) fn put_end(text: &mut Vec<u8>, pen: Pen, kept: &[u8])
     requires short { length kept.now ≤ 3 }
     requires room { vec_len text.old + 64 ≤ vec_capacity text.old }
-    ensures told { (given before bytes : List ℕ) (sessions : List Session) (place : Place) (m : Mode) → Told pen.synced pen.line (take pen.count pen.held) (given ++ text.old.items) before sessions place m
-        → (m ≡ Mode.Due → ⊥) → IsReading bytes sessions place → kept.now ≡ tail_of place → given ++ text.new.items ≡ before ++ reading_text sessions place }
+    ensures told { (given before : List ℕ) (sessions : List Session) (place : Place) → ToldWhole pen.synced pen.line (take pen.count pen.held) (given ++ text.old.items) before sessions place
+        → kept.now ≡ tail_of place → given ++ text.new.items ≡ before ++ reading_text sessions place }
 {
     if pen.synced {
         end_session(text, pen.line, kept);

@@ -1,12 +1,11 @@
 //! A lister of runs: those of a stream, one after another.
 ghost use Rattle.std.specs.Prelude.{◌≡◌, ℕ, ◌+◌, ◌*◌, ◌≤◌, ◌<◌, List, ◌++◌, OnOk, OnErr, true, if◌then◌else◌, length, min, take, vec_len, vec_capacity};
 ghost use Rattle.x7_packets.specs.Cutting.{CutterState};
-ghost use Rattle.x7_packets.specs.Reading.{IsReading, Place, Session, tail_of};
-ghost use Rattle.x7_packets.specs.Run.{cut_of, FitsRun, IsNext, told_bytes};
-ghost use Rattle.x7_packets.specs.Mode.{Mode};
+ghost use Rattle.x7_packets.specs.Reading.{Place, Session, tail_of};
+ghost use Rattle.x7_packets.specs.Run.{cut_of, FitsRun, told_bytes};
 ghost use Rattle.x7_listing.specs.Listing.{reading_text};
-ghost use Rattle.x7_listing.specs.Telling.{Told};
-ghost use Rattle.x7_listing.specs.Taking.{lister_of, TakerStandsFor, TakesRun};
+ghost use Rattle.x7_listing.specs.Pens.{PenToldWhole, lister_with};
+ghost use Rattle.x7_listing.specs.Taking.{TakesNext};
 
 use super::Lister;
 use crate::pen::{Pen, new_pen, put_end, put_run};
@@ -67,8 +66,8 @@ fn tail_len(pen: Pen) -> usize
 /// Appends what is left at the end of a stream, whose tail the pen holds.
 fn put_last(text: &mut Vec<u8>, pen: Pen)
     requires room { vec_len text.old + 64 ≤ vec_capacity text.old }
-    ensures told { (given before bytes : List ℕ) (sessions : List Session) (place : Place) (m : Mode) → Told pen.synced pen.line (take pen.count pen.held) (given ++ text.old.items) before sessions place m
-        → (m ≡ Mode.Due → ⊥) → IsReading bytes sessions place → (pen.synced ≡ true → take pen.count pen.held ≡ tail_of place) → given ++ text.new.items ≡ before ++ reading_text sessions place }
+    ensures told { (given before : List ℕ) (sessions : List Session) (place : Place) → PenToldWhole pen (given ++ text.old.items) before sessions place
+        → (pen.synced ≡ true → take pen.count pen.held ≡ tail_of place) → given ++ text.new.items ≡ before ++ reading_text sessions place }
 {
     put_end(text, pen, &pen.held[..tail_len(pen)]);
 }
@@ -77,10 +76,7 @@ fn put_last(text: &mut Vec<u8>, pen: Pen)
 fn put_next(text: &mut Vec<u8>, pen: Pen, run: Run) -> Pen
     requires run { FitsRun run }
     requires room { vec_len text.old + (64 + 3 * length (told_bytes run)) ≤ vec_capacity text.old }
-    ensures takes { (cutter : CutterState) (given before bytes : List ℕ) (due next : Mode)
-        → TakerStandsFor (lister_of cutter pen.synced pen.line (take pen.count pen.held) text.old.items) given before bytes due
-        → IsNext bytes due run.entry next
-        → TakesRun run.entry (lister_of cutter result.synced result.line (take result.count result.held) text.new.items) given before (bytes ++ told_bytes run.entry) next }
+    ensures takes { (cutter : CutterState) → TakesNext run.entry (lister_with cutter pen text.old.items) (lister_with cutter result text.new.items) }
 {
     match run {
         Run::Tail(tail) => with_tail(pen, tail),
@@ -96,8 +92,7 @@ impl Lister {
     /// Takes the next run of a stream. The end ends the listing, and begins a new one. `NoMemory` changes nothing.
     pub fn take(&mut self, run: &Run<'_>) -> Result<(), NoMemory>
         requires { FitsRun run.now }
-        ensures ok { OnOk result ((given before bytes : List ℕ) (due next : Mode) → TakerStandsFor self.old given before bytes due → IsNext bytes due run.now next
-            → TakesRun run.now self.new given before (bytes ++ told_bytes run.now) next) }
+        ensures ok { OnOk result (TakesNext run.now self.old self.new) }
         ensures err { OnErr result (self.new ≡ self.old) }
     {
         let Some(room) = told_len(*run).checked_mul(3) else {

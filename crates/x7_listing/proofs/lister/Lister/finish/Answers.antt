@@ -11,7 +11,7 @@ returns-clause-ok c = λ given before bytes s.
     let P : List ℕ → Type 0 = λ x. Tells c.self.inside.cutter c.self.inside.pen.synced c.self.inside.pen.line (take c.self.inside.pen.count c.self.inside.pen.held) x given before bytes in
     let t : P c.reserve.new.self.items = subst P (sym c.reserve.ensures.items) r.tells in
     let listing : List ℕ = reading_text t.sessions t.at in
-    let told : given ++ c.put_end.new.text.items ≡ before ++ listing = c.put_end.ensures.told given before bytes t.sessions t.at _ t.told r.ready t.cut.reading (c.kept.ensures.tail bytes t.sessions t.at t.cut) in
+    let told : given ++ c.put_end.new.text.items ≡ before ++ listing = c.put_end.ensures.told given before t.sessions t.at (record { bytes = bytes; reading = t.cut.reading; mode = _; told = t.told; not_due = r.ready }) (c.kept.ensures.tail bytes t.sessions t.at t.cut) in
     record {
       listing = listing;
       is = record { sessions = t.sessions; place = t.at; reading = t.cut.reading; is = refl };

@@ -1,0 +1,27 @@
+-- What a lister tells with its pen (this project's choice).
+use Rattle.std.specs.Prelude.{List, ℕ, ◌++◌, take}
+use Rattle.x7_packets.specs.Cutting.{CutterState}
+use Rattle.x7_packets.specs.Reading.{Place, Session}
+use Rattle.x7_listing.specs.Taking.{lister_of}
+use Rattle.x7_listing.specs.Telling.{ListerState, ListerStandsFor, Tells, ToldWhole}
+use Rattle.x7_listing.specs.declared.pen.Pen.{Pen}
+
+-- a lister with this pen
+abbrev pub lister_with : CutterState → Pen → List ℕ → ListerState
+lister_with cutter pen text = lister_of cutter pen.synced pen.line (take pen.count pen.held) text
+
+-- the texts given and the lister's are those before and what is told of these bytes
+abbrev pub TellsFor : ListerState → List ℕ → List ℕ → List ℕ → Type 0
+TellsFor l given before bytes = Tells l.cutter l.synced l.line l.held l.text given before bytes
+
+-- the lister tells these bytes more
+abbrev pub TellsOn : ListerState → ListerState → List ℕ → Type 0
+TellsOn old new more = (given before bytes : List ℕ) → TellsFor old given before bytes → TellsFor new given before (bytes ++ more)
+
+-- the same, and then no sync word is still to be told
+abbrev pub RestsOn : ListerState → ListerState → List ℕ → Type 0
+RestsOn old new more = (given before bytes : List ℕ) → TellsFor old given before bytes → ListerStandsFor new given before (bytes ++ more)
+
+-- a pen has told all of a reading but what an end tells, behind the listings before
+abbrev pub PenToldWhole : Pen → List ℕ → List ℕ → List Session → Place → Type 0
+PenToldWhole pen all before sessions place = ToldWhole pen.synced pen.line (take pen.count pen.held) all before sessions place
