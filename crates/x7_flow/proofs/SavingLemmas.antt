@@ -1,26 +1,23 @@
 -- What is kept of frames leads back over one access.
-use Rattle.std.proofs.Common.{◌≡◌, ℕ, ◌+◌, ◌-◌, ◌==◌, ◌&&◌, Bool, true, false, if◌then◌else◌, List, [], ◌∷◌, length, get_or, Option, None, Some, refl, sym, ap, subst, ◌∙◌, arith, ne_eqb}
+use Rattle.std.proofs.Common.{◌≡◌, ℕ, ◌-◌, ◌&&◌, Bool, true, false, if◌then◌else◌, List, [], ◌∷◌, Option, None, Some, refl, sym, ap, subst, ◌∙◌, arith}
 use Rattle.x7_packets.specs.History.{Entry, History}
-use Rattle.x7_part.specs.Part.{PartData, frame_words}
-use Rattle.x7_part.specs.declared.slot.Slot.{Slot}
-use Rattle.x7_part.specs.declared.slot.Slot.TheVariants.{Pad, End}
+use Rattle.x7_part.specs.Part.{PartData}
 use Rattle.x7_memory.specs.FrameMap.{FrameMap, AreSame}
 use Rattle.x7_memory.specs.Frames.{AreFramesOf, frame_at}
 use Rattle.x7_memory.specs.Planned.{PlanRow, planned}
 use Rattle.x7_memory.proofs.MapLemmas.{override_same, same_memory}
 use Rattle.x7_regs.specs.Command.{command_with}
-use Rattle.x7_pipeline.specs.Runs.{frames_of, put_over, rest_of, slots_from}
+use Rattle.x7_pipeline.specs.Runs.{put_over}
 use Rattle.x7_pipeline.specs.FarAsRead.{has_frame_at}
 use Rattle.x7_pipeline.specs.Copies.{copied, is_mfw}
-use Rattle.x7_pipeline.specs.Faults.{completes}
 use Rattle.x7_pipeline.specs.Pipeline.{PipelineData}
-use Rattle.x7_pipeline.specs.Saving.{ChangesAt, SavedState, address_of, newest_slot, next_put, takes_copies}
+use Rattle.x7_pipeline.specs.Saving.{ChangesAt, SavedState, next_put}
 use Rattle.x7_pipeline.proofs.SavedLemmas.{changes_copy, changes_none, taken_back, word_changes as one_word}
 use Rattle.x7_flow.specs.declared.asked.Asked.{Asked}
 use Rattle.x7_flow.specs.declared.asked.Asked.TheVariants.{Load, Order, Word, Copies, Reads, Other}
 use Rattle.x7_flow.specs.Settings.{Settings, settings_after, settings_of}
 use Rattle.x7_flow.specs.Flow.{Flow, asks, flow_of}
-use Rattle.x7_flow.specs.FrameMemory.{landed_more, memory_of, newest_put, puts}
+use Rattle.x7_flow.specs.FrameMemory.{landed_more, memory_of, puts}
 use Rattle.x7_flow.specs.Saving.{FramesBack, KeepsFrames}
 use Rattle.x7_flow.specs.Sound.{IsSound}
 use Rattle.x7_flow.specs.Standing.{FramesFit, FramesStandFor, FramesState, HasFlow}

@@ -39,8 +39,8 @@ abbrev pub after_load : ℕ → ℕ → History → History
 after_load w place h = entry (Write (number_of reg.Far) w) place ∷ h
 
 -- the pairs of a history that goes on from a FAR load behind an earlier one; and where that one's source doesn't count
-abbrev pub pairs_behind : PartData → History → ℕ → History → List PlanRow
-pairs_behind part earlier w later = pairs_loaded part (settings_of part.idcode earlier) (source_of part earlier) w later
+abbrev pub pairs_after_load : PartData → History → ℕ → History → List PlanRow
+pairs_after_load part earlier w later = pairs_loaded part (settings_of part.idcode earlier) (source_of part earlier) w later
 
 abbrev pub pairs_alone : PartData → History → ℕ → History → List PlanRow
 pairs_alone part earlier w later = pairs_loaded part (settings_of part.idcode earlier) None w later

@@ -23,7 +23,7 @@ ghost use Rattle.x7_flow.specs.FrameMemory.{landed_more, memory_of};
 ghost use Rattle.x7_flow.specs.FrameWrites.{CopiesTo, FrameWrite, RunHolds, TakesWrite, placed, with_frames};
 ghost use Rattle.x7_flow.specs.InWords.{base_after, frame_taken, words_given, words_written};
 ghost use Rattle.x7_flow.specs.Inside.{HasFrames};
-ghost use Rattle.x7_flow.specs.Later.{BeginsRun, MemoryGets, after_load, flow_from, holds_mfw, pairs_after, pairs_alone, pairs_behind, pairs_from, pairs_loaded};
+ghost use Rattle.x7_flow.specs.Later.{BeginsRun, MemoryGets, after_load, flow_from, holds_mfw, pairs_after, pairs_alone, pairs_after_load, pairs_from, pairs_loaded};
 ghost use Rattle.x7_flow.specs.NeedsAddress.{LacksAddress, LacksSource, RunsAtAddress};
 ghost use Rattle.x7_flow.specs.Quiet.{AreQuiet};
 ghost use Rattle.x7_flow.specs.Saving.{AreKept, FramesBack};
@@ -46,7 +46,7 @@ pub fn memory_laws()
     ensures flow { (part : PartData) (later earlier : History) → flow_of part (later ++ earlier) ≡ flow_from part (settings_of part.idcode earlier) (flow_of part earlier) later }
     ensures memory { (part : PartData) (later earlier : History) → MemoryGets part (later ++ earlier) earlier (pairs_after part earlier later) }
     ensures loaded { (part : PartData) (later earlier : History) (w place : ℕ) →
-        MemoryGets part (later ++ after_load w place earlier) earlier (pairs_behind part earlier w later) }
+        MemoryGets part (later ++ after_load w place earlier) earlier (pairs_after_load part earlier w later) }
 {}
 
 /// The memory is the zero map overridden, stretch by stretch in order, by the stretch's landed frames and its copies.

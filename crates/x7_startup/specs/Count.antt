@@ -57,11 +57,11 @@ abbrev pub bytes_alike : ℕ → Bool → List WatchCall
 bytes_alike count eos = replicate count (Watched eos)
 
 -- whether the next byte fires after so many of these, and that none of so many does
-abbrev pub FiresBehind : Bool → ℕ → List WatchCall → ℕ → Bool → Type 0
-FiresBehind off first calls count eos = Fires off first (calls ++ bytes_alike count eos) eos
+abbrev pub FiresAfter : Bool → ℕ → List WatchCall → ℕ → Bool → Type 0
+FiresAfter off first calls count eos = Fires off first (calls ++ bytes_alike count eos) eos
 
 abbrev pub NoneFires : Bool → ℕ → List WatchCall → ℕ → Bool → Type 0
-NoneFires off first calls count eos = (k : ℕ) → k < count → ¬ FiresBehind off first calls k eos
+NoneFires off first calls count eos = (k : ℕ) → k < count → ¬ FiresAfter off first calls k eos
 
 -- the count at which it fires, 0 where TIMER has it off
 abbrev pub full_count : Bool → ℕ → ℕ

@@ -1,6 +1,6 @@
 //! The configuration watchdog (UG470, watchdog): it counts the bytes that have it on.
 ghost use Rattle.std.specs.Prelude.{◌≡◌, ◌<◌, ◌≤◌, ◌^◌, ◌+◌, ◌-◌, ◌*◌, ◌==◌, ◌&&◌, ◌↔◌, ◌∷◌, ◌++◌, not, min, ℕ, Bool, IsTrue, List, [], IfSome, IfNone, if◌then◌else◌};
-ghost use Rattle.x7_startup.specs.Count.{WatchCall, Load, Reload, Watched, Watch, WatchesFor, Fires, FiresBehind, NoneFires, bytes_alike, full_count};
+ghost use Rattle.x7_startup.specs.Count.{WatchCall, Load, Reload, Watched, Watch, WatchesFor, Fires, FiresAfter, NoneFires, bytes_alike, full_count};
 
 use std::marker::Model;
 
@@ -75,7 +75,7 @@ impl Watchdog {
     pub fn bytes(&mut self, count: u64, eos: bool) -> Option<u64>
         ensures within { IfSome result (λ n. (0 < n) × (n ≤ count)) }
         ensures fires { (off : Bool) (first : ℕ) (calls : List WatchCall) → WatchesFor off first self.old calls →
-            IfSome result (λ n. (0 < n) × (n ≤ count) × FiresBehind off first calls (n - 1) eos × WatchesFor off first self.new (calls ++ bytes_alike n eos)
+            IfSome result (λ n. (0 < n) × (n ≤ count) × FiresAfter off first calls (n - 1) eos × WatchesFor off first self.new (calls ++ bytes_alike n eos)
             × NoneFires off first calls (n - 1) eos) }
         ensures quiet { (off : Bool) (first : ℕ) (calls : List WatchCall) → WatchesFor off first self.old calls →
             IfNone result (WatchesFor off first self.new (calls ++ bytes_alike count eos) × NoneFires off first calls count eos) }
