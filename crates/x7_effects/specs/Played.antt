@@ -1,7 +1,9 @@
 -- What planned streams do on a device at rest (this project's choice).
 use Rattle.std.specs.Prelude.{◌≡◌, ℕ, Bool, List, ◌++◌, replicate, take, unwrap_or}
 use Rattle.std.specs.List.{flat_map}
+use Rattle.x7_words.specs.Word.{AreBytes}
 use Rattle.x7_part.specs.Part.{PartData, frame_words}
+use Rattle.x7_part.specs.PartRange.{IsPart}
 use Rattle.x7_part.specs.declared.slot.Slot.{Slot}
 use Rattle.x7_part.specs.declared.slot.Slot.TheVariants.{Frame, Pad, End}
 use Rattle.x7_memory.specs.FrameMap.{AreSame, FrameMap, override}
@@ -11,6 +13,12 @@ use Rattle.x7_engine.specs.declared.kept.Kept.{Kept}
 use Rattle.x7_engine.specs.Rest.{AtRest}
 use Rattle.x7_engine.specs.State.{memory_in, reads_of, state_of}
 use Rattle.x7_planner.specs.Readback.{read_stream}
+
+-- a device of a part is at rest after these bytes
+pub record Rests (part : PartData) (kept : Kept) (bytes : List ℕ) : Type 0 where
+  pub fits : AreBytes bytes
+  pub at_rest : AtRest part kept bytes
+  pub is_part : IsPart part
 
 -- the words of a memory at a slot: its frame at an address, zeros at a pad
 abbrev pub slot_words : PartData → FrameMap → Slot → List ℕ

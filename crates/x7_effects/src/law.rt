@@ -1,7 +1,7 @@
 //! What planned streams do on a device at rest. The functions do nothing: their contracts are the laws.
 ghost use Rattle.std.specs.Prelude.{◌≡◌, ◌++◌, ℕ, List, []};
 ghost use Rattle.x7_planner.specs.Partial.{AreLongest, WritesOnce, joined_runs, pairs_in, partial_stream, runs_of, stretches_of};
-ghost use Rattle.x7_effects.specs.Played.{PlaysBoth, PlaysFull, PlaysPartial, PlaysRead, ReadsBack};
+ghost use Rattle.x7_effects.specs.Played.{PlaysBoth, PlaysFull, PlaysPartial, PlaysRead, ReadsBack, Rests};
 ghost use Rattle.x7_engine.specs.Kept.{on_the_bench};
 ghost use Rattle.x7_engine.specs.Rest.{AtRest};
 ghost use Rattle.x7_engine.specs.State.{memory_in};
@@ -18,7 +18,7 @@ ghost use Rattle.x7_words.specs.Word.{AreBytes};
 /// After any bytes at rest the full stream of a plan at addresses of the part leaves the plan over zeros and ends startup,
 /// without a stop, and the device is at rest again; so also on a new device.
 pub fn full_streams_play()
-    ensures plays { (part : PartData) (kept : Kept) (bytes : List ℕ) (plan : PlanData) → AreBytes bytes → AtRest part kept bytes → IsPart part → IsPlanFor part plan
+    ensures plays { (part : PartData) (kept : Kept) (bytes : List ℕ) (plan : PlanData) → Rests part kept bytes → IsPlanFor part plan
         → PlaysFull part kept bytes (full_stream part plan) plan }
     ensures new { (part : PartData) (plan : PlanData) → IsPart part → IsPlanFor part plan → PlaysFull part on_the_bench [] (full_stream part plan) plan }
 {}
@@ -26,7 +26,7 @@ pub fn full_streams_play()
 /// After any bytes at rest the partial stream of a plan at addresses of the part overrides the memory by just the plan; the
 /// phase stays, there is no stop, and the device is at rest again.
 pub fn partial_streams_play()
-    ensures { (part : PartData) (kept : Kept) (bytes : List ℕ) (plan : PlanData) → AreBytes bytes → AtRest part kept bytes → IsPart part → IsPlanFor part plan
+    ensures { (part : PartData) (kept : Kept) (bytes : List ℕ) (plan : PlanData) → Rests part kept bytes → IsPlanFor part plan
         → PlaysPartial part kept bytes (partial_stream part plan.rows) plan }
 {}
 
@@ -41,7 +41,7 @@ pub fn partial_streams_write_once()
 /// After any bytes at rest the read stream of n slots from an address on reads out a frame of zeros and the frames along
 /// these slots; memory and phase stay, there is no stop, and the device is at rest again.
 pub fn read_streams_play()
-    ensures { (part : PartData) (kept : Kept) (bytes : List ℕ) (address n : ℕ) → AreBytes bytes → AtRest part kept bytes → IsPart part → CanRead part address n
+    ensures { (part : PartData) (kept : Kept) (bytes : List ℕ) (address n : ℕ) → Rests part kept bytes → CanRead part address n
         → PlaysRead part kept bytes (read_stream part address n) address n }
 {}
 
@@ -49,10 +49,10 @@ pub fn read_streams_play()
 /// behind a partial one the plan over what was there before; a partial stream behind a full one leaves the later plan over
 /// the earlier one, and startup stays ended.
 pub fn streams_play_in_turn()
-    ensures full { (part : PartData) (kept : Kept) (bytes : List ℕ) (plan : PlanData) (far n : ℕ) → AreBytes bytes → AtRest part kept bytes → IsPart part → IsPlanFor part plan → CanRead part far n
+    ensures full { (part : PartData) (kept : Kept) (bytes : List ℕ) (plan : PlanData) (far n : ℕ) → Rests part kept bytes → IsPlanFor part plan → CanRead part far n
         → ReadsBack part kept bytes (bytes ++ full_stream part plan) (total part plan) far n }
-    ensures partial { (part : PartData) (kept : Kept) (bytes : List ℕ) (plan : PlanData) (far n : ℕ) → AreBytes bytes → AtRest part kept bytes → IsPart part → IsPlanFor part plan → CanRead part far n
+    ensures partial { (part : PartData) (kept : Kept) (bytes : List ℕ) (plan : PlanData) (far n : ℕ) → Rests part kept bytes → IsPlanFor part plan → CanRead part far n
         → ReadsBack part kept bytes (bytes ++ partial_stream part plan.rows) (override (memory_in part kept bytes) (planned plan.rows)) far n }
-    ensures both { (part : PartData) (kept : Kept) (bytes : List ℕ) (plan later : PlanData) → AreBytes bytes → AtRest part kept bytes → IsPart part → IsPlanFor part plan → IsPlanFor part later
+    ensures both { (part : PartData) (kept : Kept) (bytes : List ℕ) (plan later : PlanData) → Rests part kept bytes → IsPlanFor part plan → IsPlanFor part later
         → PlaysBoth part kept ((bytes ++ full_stream part plan) ++ partial_stream part later.rows) plan later }
 {}
