@@ -9,10 +9,7 @@
 use Rattle.std.specs.Prelude.{ℕ, ◌+◌, ◌-◌, ◌*◌, ◌/◌, max, List, [], ◌∷◌, ◌++◌, length, replicate}
 use Rattle.std.specs.List.{flat_map, repeat}
 use Rattle.x7_words.specs.Word.{bytes_of_word}
-
--- the bytes of a flash at most (this project's choice)
-abbrev pub flash_limit : ℕ
-flash_limit = 134217728
+pub use Rattle.x7_words.specs.Flash.{flash_limit}
 
 -- the bytes of a sector
 abbrev pub sector : ℕ

@@ -92,3 +92,24 @@ pub record EndsAtUpdate (part : PartData) (golden : PlanData) (t : Trial) (by_en
 abbrev pub FallsBackFrom : PartData → PlanData → List ℕ → List ℕ → Type 0
 FallsBackFrom part golden update image =
     (b : BootedState) (t : Trial) (cause : Cause) → (is : IsBoot part image b) → UpdateFails part golden update t cause false → FallsBack part golden cause b.attempts b.end is.last
+
+-- ---- the boot in one value
+
+-- the part, the golden plan, the update, and what the boot from their image came to
+pub record ImageBoot : Type 0 where
+  pub part : PartData
+  pub golden : PlanData
+  pub update : List ℕ
+  pub booted : BootedState
+
+abbrev pub IsImageBoot : ImageBoot → Type 0
+IsImageBoot i = BootsImage i.part i.golden i.update i.booted
+
+abbrev pub FailsAtUpdate : ImageBoot → Trial → Cause → Bool → Type 0
+FailsAtUpdate i t cause forbidden = UpdateFails i.part i.golden i.update t cause forbidden
+
+abbrev pub BootFallsBack : ImageBoot → Cause → Trial → Type 0
+BootFallsBack i cause last = FallsBack i.part i.golden cause i.booted.attempts i.booted.end last
+
+abbrev pub BootEndsAt : ImageBoot → Trial → BootEnd → Trial → Type 0
+BootEndsAt i t by_end last = EndsAtUpdate i.part i.golden t by_end i.booted.attempts i.booted.end last

@@ -9,7 +9,6 @@ ghost use Rattle.x7_boot.specs.Image.{flash_limit};
 use crate::attempt::Ending;
 use crate::cache::PageCache;
 use crate::fault::BootFault;
-use crate::layout::FLASH_LIMIT;
 use crate::next::{Next, next_of};
 use crate::trial::try_once;
 use std::alloc::Global;
@@ -17,7 +16,7 @@ use std::marker::Model;
 use x7_engine::{Device, Kept};
 use x7_part::Part;
 use x7_regs::Kind;
-use x7_words::Flash;
+use x7_words::{FLASH_LIMIT, Flash};
 
 /// An attempt of a boot.
 #[derive(Clone, Copy, Debug, PartialEq, Eq)]

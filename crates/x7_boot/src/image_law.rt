@@ -9,7 +9,7 @@ ghost use Rattle.x7_memory.specs.Planned.{IsPlanFor, PlanData};
 ghost use Rattle.x7_planner.specs.Full.{full_stream};
 ghost use Rattle.x7_boot.specs.Attempt.{Trial};
 ghost use Rattle.x7_boot.specs.Boot.{BootedState};
-ghost use Rattle.x7_boot.specs.ImageBoot.{BootsImage, EndsAtUpdate, FallsBack, FallsBackFrom, HasImage, StartsUpdate, TriesUpdate, UpdateEnds, UpdateFails, golden_image};
+ghost use Rattle.x7_boot.specs.ImageBoot.{BootEndsAt, BootFallsBack, BootsImage, FailsAtUpdate, FallsBackFrom, HasImage, ImageBoot, IsImageBoot, StartsUpdate, TriesUpdate, UpdateEnds, UpdateFails, golden_image};
 ghost use Rattle.x7_boot.specs.declared.attempt.Ending.TheVariants as ending;
 ghost use Rattle.x7_boot.specs.declared.boots.BootEnd.TheVariants as boot_end;
 
@@ -18,12 +18,9 @@ ghost use Rattle.x7_boot.specs.declared.boots.BootEnd.TheVariants as boot_end;
 /// that is a full stream itself starts with the memory of its plan.
 pub fn images_boot()
     ensures tries { (part : PartData) (golden : PlanData) (update : List ℕ) (b : BootedState) → BootsImage part golden update b → TriesUpdate part golden update b.attempts }
-    ensures falls_back { (part : PartData) (golden : PlanData) (update : List ℕ) (b : BootedState) (t : Trial) (cause : Cause) → (boots : BootsImage part golden update b)
-        → UpdateFails part golden update t cause false → FallsBack part golden cause b.attempts b.end boots.boot.last }
-    ensures stops { (part : PartData) (golden : PlanData) (update : List ℕ) (b : BootedState) (t : Trial) (cause : Cause) → (boots : BootsImage part golden update b)
-        → UpdateFails part golden update t cause true → EndsAtUpdate part golden t boot_end.Stopped b.attempts b.end boots.boot.last }
-    ensures starts { (part : PartData) (golden : PlanData) (update : List ℕ) (b : BootedState) (t : Trial) → (boots : BootsImage part golden update b)
-        → UpdateEnds part golden update t ending.Started → EndsAtUpdate part golden t boot_end.Started b.attempts b.end boots.boot.last }
+    ensures falls_back { (i : ImageBoot) (t : Trial) (cause : Cause) → (boots : IsImageBoot i) → FailsAtUpdate i t cause false → BootFallsBack i cause boots.boot.last }
+    ensures stops { (i : ImageBoot) (t : Trial) (cause : Cause) → (boots : IsImageBoot i) → FailsAtUpdate i t cause true → BootEndsAt i t boot_end.Stopped boots.boot.last }
+    ensures starts { (i : ImageBoot) (t : Trial) → (boots : IsImageBoot i) → UpdateEnds i.part i.golden i.update t ending.Started → BootEndsAt i t boot_end.Started boots.boot.last }
     ensures full { (part : PartData) (golden update : PlanData) (b : BootedState) → (boots : BootsImage part golden (full_stream part update) b)
         → IsPlanFor part update → StartsUpdate part golden update b.attempts b.end boots.boot.last }
 {}

@@ -6,13 +6,7 @@ ghost use Rattle.x7_boot.specs.Image.{closed_slots, filled_to, first_sector, fla
 use crate::fault::ImageFault;
 use std::alloc::Global;
 use x7_part::Part;
-use x7_words::{NoMemory, bytes_of};
-
-/// The bytes of a flash at most (this project's choice).
-pub const FLASH_LIMIT: u64 = 134_217_728;
-
-/// The bytes of a sector.
-const SECTOR: u64 = 65_536;
+use x7_words::{FLASH_LIMIT, NoMemory, SECTOR, bytes_of};
 
 /// The first place at or behind this one at which a sector begins.
 fn sector_from(place: u64) -> u64

@@ -17,5 +17,5 @@ pub use boots::{BootEnd, Booted, Tried, boot};
 pub use fault::{BootFault, ImageFault};
 pub use image_law::{images_boot, images_fall_back, premises_hold};
 pub use law::{every_flash_boots, one_boot, starts_are_checked, startup_is_checked};
-pub use layout::{FLASH_LIMIT, image, image_for};
+pub use layout::{image, image_for};
 pub use next::Next;

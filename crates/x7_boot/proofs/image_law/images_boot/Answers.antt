@@ -2,13 +2,13 @@ use Rattle.x7_boot.proofs.ImageBootLemmas.{boot_falls_back, boot_has_full, boot_
 use Rattle.x7_boot.proofs.image_law.images_boot.Goals as goal
 
 pub returns-clause-falls_back : goal.returns-clause-falls_back
-returns-clause-falls_back c = boot_falls_back
+returns-clause-falls_back c = λ i t cause boots f. boot_falls_back i.part i.golden i.update i.booted t cause boots f
 
 pub returns-clause-stops : goal.returns-clause-stops
-returns-clause-stops c = boot_stops
+returns-clause-stops c = λ i t cause boots f. boot_stops i.part i.golden i.update i.booted t cause boots f
 
 pub returns-clause-starts : goal.returns-clause-starts
-returns-clause-starts c = boot_starts
+returns-clause-starts c = λ i t boots e. boot_starts i.part i.golden i.update i.booted t boots e
 
 pub returns-clause-full : goal.returns-clause-full
 returns-clause-full c = boot_has_full
