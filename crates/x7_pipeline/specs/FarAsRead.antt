@@ -1,6 +1,6 @@
 -- The frame address register: what a load leaves in it, and what it reads as while frames are written or read
 -- (UG470, frame address register).
-use Rattle.std.specs.Prelude.{ℕ, ◌-◌, ◌/◌, ◌%◌, ◌^◌, max, nat_lt, Bool, if◌then◌else◌, List, [], ◌∷◌, length, drop, slice_index, Option, Some, None, unwrap_or}
+use Rattle.std.specs.Prelude.{◌≡◌, ℕ, ◌-◌, ◌/◌, ◌%◌, ◌^◌, max, nat_lt, Bool, true, if◌then◌else◌, List, [], ◌∷◌, length, drop, slice_index, Option, Some, None, unwrap_or}
 use Rattle.x7_part.specs.Part.{PartData, frame_words}
 use Rattle.x7_part.specs.FrameAddress.{far_width}
 use Rattle.x7_part.specs.AddressOrder.{addresses_in}
@@ -11,6 +11,9 @@ use Rattle.x7_pipeline.specs.Runs.{frames_of, slots_from}
 -- the part has a frame at the address: there are slots from it on
 abbrev pub has_frame_at : PartData → ℕ → Bool
 has_frame_at part far = nat_lt 0 (length (slots_from part far))
+
+abbrev pub IsBase : PartData → ℕ → Type 0
+IsBase part far = has_frame_at part far ≡ true
 
 -- the base that a FAR load leaves: the bits of an address
 abbrev pub loaded_base : PartData → ℕ → ℕ

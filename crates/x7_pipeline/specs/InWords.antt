@@ -1,5 +1,5 @@
 -- Runs and landed frames in other words, for the laws of this crate.
-use Rattle.std.specs.Prelude.{◌≡◌, ℕ, ◌<◌, List, [], ◌++◌, length, reverse, slice_index_or, Option, Some, None, All}
+use Rattle.std.specs.Prelude.{◌≡◌, ℕ, ◌+◌, ◌*◌, ◌<◌, List, [], ◌++◌, length, reverse, slice_index_or, Option, Some, None, All}
 use Rattle.std.specs.List.{filter_map, flat_map, zip}
 use Rattle.x7_part.specs.Part.{PartData, frame_words}
 use Rattle.x7_part.specs.declared.slot.Slot.{Slot}
@@ -26,12 +26,16 @@ abbrev pub placed_from : PartData → ℕ → List (List ℕ) → List PlanRow
 placed_from part base frames = filter_map pair_of (zip (slots_from part base) frames)
 
 -- the memory is another one with what a run has landed
-abbrev pub HasLanded : PartData → ℕ → List ℕ → FrameMap → FrameMap → Type 0
-HasLanded part base run under memory = AreSame memory (put_over (landed part base run) under)
+abbrev pub HasRun : PartData → ℕ → List ℕ → FrameMap → FrameMap → Type 0
+HasRun part base run under memory = AreSame memory (put_over (landed part base run) under)
 
 -- words that were all written
 abbrev pub all_written : List ℕ → List ℕ → Written
 all_written words run = record { run = onto words run; count = length words; fault = None }
+
+-- the place in a readback of a word of its nth frame, after the pad
+abbrev pub place_in : PartData → ℕ → ℕ → ℕ
+place_in part n i = frame_words part * (1 + n) + i
 
 -- the slot so many after the first from a base on
 abbrev pub slot_after : PartData → ℕ → ℕ → Slot

@@ -1,5 +1,5 @@
 //! Laws of runs, of FAR as read, of readback and of faults. The functions do nothing: their contracts are the laws.
-ghost use Rattle.std.specs.Prelude.{◌≡◌, ◌≢◌, ◌+◌, ◌*◌, ◌<◌, ◌≤◌, ◌↔◌, ℕ, true, false, reverse, min, List, [], ◌∷◌, ◌++◌, Contains, Option, Some, None};
+ghost use Rattle.std.specs.Prelude.{◌≡◌, ◌≢◌, ◌+◌, ◌<◌, ◌≤◌, ◌↔◌, ℕ, true, false, reverse, min, List, [], ◌∷◌, ◌++◌, Contains, Option, Some, None};
 ghost use Rattle.x7_part.specs.Part.{PartData, frame_words};
 ghost use Rattle.x7_part.specs.AddressOrder.{addresses_in};
 ghost use Rattle.x7_memory.specs.FrameMap.{FrameMap, AreSame};
@@ -8,8 +8,8 @@ ghost use Rattle.x7_memory.specs.Planned.{PlanRow};
 ghost use Rattle.x7_regs.specs.declared.command.Command.{Command};
 ghost use Rattle.x7_pipeline.specs.declared.fault.RunFault.{RunFault};
 ghost use Rattle.x7_pipeline.specs.Runs.{rest_of, frames_of, but_newest, landed, put_over, Lands};
-ghost use Rattle.x7_pipeline.specs.InWords.{AreCutFrom, HasLanded, Overruns, all_written, placed_from, slot_after};
-ghost use Rattle.x7_pipeline.specs.FarAsRead.{has_frame_at, far_of, last_address};
+ghost use Rattle.x7_pipeline.specs.InWords.{AreCutFrom, HasRun, Overruns, all_written, place_in, placed_from, slot_after};
+ghost use Rattle.x7_pipeline.specs.FarAsRead.{IsBase, has_frame_at, far_of, last_address};
 ghost use Rattle.x7_pipeline.specs.Copies.{copied, is_wcfg, is_mfw, newest_of, source_after};
 ghost use Rattle.x7_pipeline.specs.Readback.{word_at, read_at, read_limit, given_stored};
 ghost use Rattle.x7_pipeline.specs.Faults.{write_fault, copy_fault, read_fault};
@@ -32,7 +32,7 @@ pub fn run_laws()
     ensures more { (part : PartData) (base : ℕ) (run longer longest : List ℕ) (old middle new : FrameMap) →
         Lands part base run longer old middle → Lands part base longer longest middle new → Lands part base run longest old new }
     ensures memory { (part : PartData) (base : ℕ) (run longer : List ℕ) (under old new : FrameMap) →
-        Lands part base run longer old new → HasLanded part base run under old → HasLanded part base longer under new }
+        Lands part base run longer old new → HasRun part base run under old → HasRun part base longer under new }
 {}
 
 /// Words in order are all written, or they are written up to the first that is refused.
@@ -55,7 +55,7 @@ pub fn source_laws()
 pub fn far_laws()
     ensures loaded { (part : PartData) (base : ℕ) → far_of part base [] 0 ≡ base }
     ensures nowhere { (part : PartData) (base : ℕ) (run : List ℕ) (given : ℕ) → has_frame_at part base ≡ false → far_of part base run given ≡ base }
-    ensures last { (part : PartData) (base : ℕ) (run : List ℕ) (given : ℕ) → 0 < frame_words part → has_frame_at part base ≡ true → read_limit part base ≤ given →
+    ensures last { (part : PartData) (base : ℕ) (run : List ℕ) (given : ℕ) → 0 < frame_words part → IsBase part base → read_limit part base ≤ given →
         far_of part base run given ≡ last_address part }
 {}
 
@@ -63,7 +63,7 @@ pub fn far_laws()
 pub fn read_laws()
     ensures pad { (part : PartData) (base : ℕ) (memory : FrameMap) (i : ℕ) → i < frame_words part → read_at part base memory i ≡ 0 }
     ensures frames { (part : PartData) (base : ℕ) (memory : FrameMap) (n i : ℕ) → i < frame_words part →
-        read_at part base memory (frame_words part * (1 + n) + i) ≡ word_at (slot_after part base n) memory i }
+        read_at part base memory (place_in part n i) ≡ word_at (slot_after part base n) memory i }
     ensures zeros { (part : PartData) (base : ℕ) (memory : FrameMap) (place : ℕ) → 0 < frame_words part → read_limit part base ≤ place → read_at part base memory place ≡ 0 }
     ensures stored { (part : PartData) (base given n : ℕ) → given_stored part base (given + n) ≡ min (given_stored part base given + n) (read_limit part base) }
 {}
@@ -93,6 +93,6 @@ pub fn saving_laws()
         AreSame (put_over (pair_at (frame_at part old) at) (frame_at part new)) (frame_at part old) }
     ensures copy { (part : PartData) (p : PipelineData) → OfFlow part p (λ f. (old new : FrameMap) → copy_fault part f.command f.base f.source ≡ None
         → AreSame new (put_over (copied f.base f.source) old) → ChangesNext part p old new) }
-    ensures word { (part : PartData) (p : PipelineData) → OfFlow part p (λ f. (word : ℕ) (old new : FrameMap) → is_mfw f.command ≡ false
-        → LandsAt part f (word ∷ []) old new → ChangesNext part p old new) }
+    ensures word { (part : PartData) (p : PipelineData) → OfFlow part p (λ f. (w : ℕ) (old new : FrameMap) → is_mfw f.command ≡ false
+        → LandsAt part f (w ∷ []) old new → ChangesNext part p old new) }
 {}
