@@ -1,9 +1,10 @@
 -- Streams one after another (UG470, packet types; that a dummy word parts them is this project's choice): what is read of both is what is read of each, and so is what they ask.
-use Rattle.std.specs.Prelude.{◌≡◌, ℕ, ◌+◌, ◌==◌, ◌⊎◌, List, [], ◌∷◌, ◌++◌, false}
+use Rattle.std.specs.Prelude.{◌≡◌, ℕ, ◌+◌, ◌==◌, ◌⊎◌, List, [], ◌∷◌, ◌++◌, length, None, false}
 use Rattle.std.specs.List.{AllByRecursion}
 use Rattle.x7_packets.specs.Reading.{Place, Searching, Synced, Session, is_synced}
 use Rattle.x7_packets.specs.ByHand.{Reading}
-use Rattle.x7_packets.specs.History.{History, entry}
+use Rattle.x7_packets.specs.History.{History, entry, history_of}
+use Rattle.x7_packets.specs.Packet.{IsPacket, Packet, latest_of}
 
 -- the bytes begin with a dummy word
 abbrev pub BeginsWithDummy : List ℕ → Type 0
@@ -41,3 +42,11 @@ after_gap before prefix (s ∷ sessions) place = record { sessions = before ++ r
 -- a reading after one that ends searching
 abbrev pub after : Reading → Reading → Reading
 after first more = after_gap first.sessions (gap_of first.place) more.sessions more.place
+
+-- the history of bytes and of more bytes behind them
+abbrev pub history_after : List ℕ → List ℕ → History
+history_after bytes more = moved (length bytes) (history_of more) ++ history_of bytes
+
+-- the packet is one that may come next
+abbrev pub Follows : List Packet → Packet → Type 0
+Follows packets packet = IsPacket (latest_of None packets) packet

@@ -7,6 +7,7 @@ use Rattle.x7_packets.specs.declared.header.Step.TheVariants.{Bad, Filler, Nop, 
 use Rattle.x7_packets.specs.Packet.{Packet}
 use Rattle.x7_packets.specs.Reading.{Place, Session}
 use Rattle.x7_packets.specs.ByHand.{Reading}
+use Rattle.x7_packets.specs.RunningCheck.{RegisterWrite}
 
 -- the bytes of words
 abbrev pub stream : List ℕ → List ℕ
@@ -34,6 +35,13 @@ reading head register count = packet_with head (Read register count) []
 
 abbrev pub opening : ℕ → ℕ → ℕ → List ℕ → Packet
 opening head register count payload = packet_with head (Open register count) payload
+
+abbrev pub opened : ℕ → ℕ → Packet
+opened head register = opening head register 0 []
+
+-- a word written to a register
+abbrev pub write_of : ℕ → ℕ → RegisterWrite
+write_of register word = record { register = register; word = word }
 
 -- DESYNC written to CMD: its words, and its packet
 abbrev pub desync_words : List ℕ

@@ -1,6 +1,6 @@
 -- What a stream asks of the registers, and the commands that it executes (UG470, configuration registers).
 -- Places, and the commands that a write to FAR executes again, are this project's choice where the guide leaves them open.
-use Rattle.std.specs.Prelude.{ℕ, ◌+◌, ◌*◌, ◌-◌, ◌%◌, ◌^◌, ◌<◌, ◌≤◌, ◌==◌, nat_lt, ◌&&◌, ◌||◌, Bool, false, not, if◌then◌else◌, List, [], ◌∷◌, length, Option, Some, None}
+use Rattle.std.specs.Prelude.{◌≡◌, ℕ, ◌+◌, ◌*◌, ◌-◌, ◌%◌, ◌^◌, ◌<◌, ◌≤◌, ◌==◌, nat_lt, ◌&&◌, ◌||◌, Bool, false, not, if◌then◌else◌, List, [], ◌∷◌, ◌++◌, length, Option, Some, None}
 use Rattle.std.specs.List.{flat_map}
 use Rattle.x7_regs.specs.Register.{number_of}
 use Rattle.x7_regs.specs.Command.{code_of}
@@ -75,6 +75,13 @@ history_in r = history r.sessions r.place
 abbrev pub next_in : Reading → ℕ
 next_in r = next_word r.sessions r.place
 
+-- bytes more enter no access, or this one
+abbrev pub EntersNone : List ℕ → List ℕ → Type 0
+EntersNone bytes more = history_of (bytes ++ more) ≡ history_of bytes
+
+abbrev pub EntersOne : List ℕ → List ℕ → Entry → Type 0
+EntersOne bytes more e = history_of (bytes ++ more) ≡ e ∷ history_of bytes
+
 -- the access writes this register
 abbrev pub writes : ℕ → Access → Bool
 writes register (Write r w) = r == register
@@ -144,3 +151,7 @@ Placed n (e ∷ h) = (0 < e.place) × (e.place ≤ n) × Placed (e.place - 1) h
 abbrev pub AllBehind : ℕ → ℕ → History → Type 0
 AllBehind n m [] = Unit {0}
 AllBehind n m (e ∷ h) = (n < e.place) × (e.place ≤ m) × AllBehind n m h
+
+-- bytes more enter these accesses, each with a place among them
+abbrev pub EntersNewer : List ℕ → List ℕ → Type 0
+EntersNewer bytes more = (newer : History) × (history_of (bytes ++ more) ≡ newer ++ history_of bytes) × AllBehind (length bytes) (length (bytes ++ more)) newer

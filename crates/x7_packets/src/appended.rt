@@ -1,11 +1,11 @@
 //! Laws of streams one after another, and of packets one after another.
-ghost use Rattle.std.specs.Prelude.{◌≡◌, ◌==◌, ℕ, List, [], ◌∷◌, ◌++◌, false, length, take, None};
+ghost use Rattle.std.specs.Prelude.{◌≡◌, ◌==◌, ℕ, List, [], ◌∷◌, ◌++◌, false, take, None};
 ghost use Rattle.std.specs.List.{AllByRecursion};
 ghost use Rattle.x7_words.specs.Word.{AreBytes};
-ghost use Rattle.x7_packets.specs.Appended.{MayFollow, after, moved};
+ghost use Rattle.x7_packets.specs.Appended.{Follows, MayFollow, after, history_after};
 ghost use Rattle.x7_packets.specs.ByHand.{reading_of};
 ghost use Rattle.x7_packets.specs.History.{history_of};
-ghost use Rattle.x7_packets.specs.Packet.{IsPacket, IsWhole, Packet, Packets, latest_of, words};
+ghost use Rattle.x7_packets.specs.Packet.{IsWhole, Packet, Packets, words};
 ghost use Rattle.x7_packets.specs.Reading.{Searching, is_synced, tail_of};
 ghost use Rattle.x7_packets.specs.SyncWord.{HasNoSync, sync_bytes};
 ghost use Rattle.x7_packets.specs.Taking.{AllWhole};
@@ -16,13 +16,13 @@ pub fn streams_append()
     ensures reading { (bytes more : List ℕ) → AreBytes (bytes ++ more) → MayFollow (reading_of bytes).place more
         → reading_of (bytes ++ more) ≡ after (reading_of bytes) (reading_of more) }
     ensures history { (bytes more : List ℕ) → AreBytes (bytes ++ more) → MayFollow (reading_of bytes).place more
-        → history_of (bytes ++ more) ≡ moved (length bytes) (history_of more) ++ history_of bytes }
+        → history_of (bytes ++ more) ≡ history_after bytes more }
     ensures synced { (bytes more : List ℕ) → AreBytes (bytes ++ more) → MayFollow (reading_of bytes).place more
         → is_synced (reading_of (bytes ++ more)).place ≡ is_synced (reading_of more).place }
     ensures tail { (bytes more : List ℕ) → AreBytes (bytes ++ more) → MayFollow (reading_of bytes).place more
         → tail_of (reading_of (bytes ++ more)).place ≡ tail_of (reading_of more).place }
     ensures prefixes { (bytes more : List ℕ) (k : ℕ) → AreBytes (bytes ++ more) → MayFollow (reading_of bytes).place more
-        → history_of (bytes ++ take k more) ≡ moved (length bytes) (history_of (take k more)) ++ history_of bytes }
+        → history_of (bytes ++ take k more) ≡ history_after bytes (take k more) }
 {}
 
 /// Bytes without the sync word are a gap, and ask nothing; and bytes that lack a byte of the sync word are without it.
@@ -34,8 +34,8 @@ pub fn gaps_ask_nothing()
 
 /// Words that end in no open payload, and then those of a packet: the packets are one more.
 pub fn packets_append()
-    ensures one { (ws : List ℕ) (packets : List Packet) (packet : Packet) → Packets ws packets → AllWhole None packets → IsPacket (latest_of None packets) packet
+    ensures one { (ws : List ℕ) (packets : List Packet) (packet : Packet) → Packets ws packets → AllWhole None packets → Follows packets packet
         → Packets (ws ++ words packet) (packets ++ packet ∷ []) }
-    ensures whole { (packets : List Packet) (packet : Packet) → AllWhole None packets → IsPacket (latest_of None packets) packet → IsWhole packet
+    ensures whole { (packets : List Packet) (packet : Packet) → AllWhole None packets → Follows packets packet → IsWhole packet
         → AllWhole None (packets ++ packet ∷ []) }
 {}

@@ -1,7 +1,7 @@
 //! Worked examples: the definitions compute to these values, which follow from the format's rules.
 ghost use Rattle.std.specs.Prelude.{◌≡◌, [], ◌∷◌, ◌++◌};
 ghost use Rattle.x7_packets.specs.ByHand.{packets_of, reading_of};
-ghost use Rattle.x7_packets.specs.Examples.{bad, desync_packet, desync_words, filler, nop, opening, reading, reading_at, reading_with, session_with, synced};
+ghost use Rattle.x7_packets.specs.Examples.{bad, desync_packet, desync_words, filler, nop, opened, opening, reading, reading_at, reading_with, session_with, synced, write_of};
 ghost use Rattle.x7_packets.specs.History.{entry, executed, history_of};
 ghost use Rattle.x7_packets.specs.History as access;
 ghost use Rattle.x7_packets.specs.Reading.{Searching, Synced};
@@ -14,7 +14,7 @@ pub fn examples_of_the_search()
         ≡ reading_at (Synced (0xFF ∷ 0xAA ∷ []) (nop 0x20000000 ∷ []) []) }
     ensures in_the_place_of_a_header { reading_of (synced (0x30004000 ∷ 0xAA995566 ∷ 0x50000001 ∷ 5 ∷ []))
         ≡ reading_at (Synced []
-        (opening 0x30004000 2 0 [] ∷ filler 0xAA995566 ∷ opening 0x50000001 2 1 (5 ∷ []) ∷ []) []) }
+        (opened 0x30004000 2 ∷ filler 0xAA995566 ∷ opening 0x50000001 2 1 (5 ∷ []) ∷ []) []) }
     ensures in_a_payload { reading_of (synced (0x30004001 ∷ 0xAA995566 ∷ []))
         ≡ reading_at (Synced [] (opening 0x30004001 2 1 (0xAA995566 ∷ []) ∷ []) []) }
 {}
@@ -29,11 +29,11 @@ pub fn examples_of_headers()
     ensures type_2_behind_none { packets_of (0x50000001 ∷ 0x48000001 ∷ 0x20000000 ∷ [])
         ≡ bad 0x50000001 ∷ bad 0x48000001 ∷ nop 0x20000000 ∷ [] }
     ensures type_2_behind_a_write { packets_of (0x30004000 ∷ 0x50000002 ∷ 17 ∷ 18 ∷ [])
-        ≡ opening 0x30004000 2 0 [] ∷ opening 0x50000002 2 2 (17 ∷ 18 ∷ []) ∷ [] }
+        ≡ opened 0x30004000 2 ∷ opening 0x50000002 2 2 (17 ∷ 18 ∷ []) ∷ [] }
     ensures type_2_behind_a_read { packets_of (0x30004000 ∷ 0x28006000 ∷ 0x48000065 ∷ 0x50000001 ∷ 7 ∷ [])
-        ≡ opening 0x30004000 2 0 [] ∷ reading 0x28006000 3 0 ∷ reading 0x48000065 3 101 ∷ opening 0x50000001 3 1 (7 ∷ []) ∷ [] }
+        ≡ opened 0x30004000 2 ∷ reading 0x28006000 3 0 ∷ reading 0x48000065 3 101 ∷ opening 0x50000001 3 1 (7 ∷ []) ∷ [] }
     ensures no_header { packets_of (0x30008000 ∷ 0x38000000 ∷ 0x40000000 ∷ 0x58000000 ∷ 0xE0000000 ∷ [])
-        ≡ opening 0x30008000 4 0 [] ∷ bad 0x38000000 ∷ bad 0x40000000
+        ≡ opened 0x30008000 4 ∷ bad 0x38000000 ∷ bad 0x40000000
         ∷ bad 0x58000000 ∷ bad 0xE0000000 ∷ [] }
 {}
 
@@ -65,5 +65,5 @@ pub fn examples_of_the_history()
     ensures desync_once { executed (history_of (0xFF ∷ synced (0x30008001 ∷ 13 ∷ 0xAA995566 ∷ 0x30002001 ∷ 5 ∷ []))) ≡ 13 ∷ [] }
     ensures cleared { open_writes (history_of (synced (0x30008001 ∷ 7 ∷ 0x30002001 ∷ 0 ∷ []))) ≡ [] }
     ensures open { open_writes (history_of (synced (0x30008001 ∷ 7 ∷ 0x30018001 ∷ 9 ∷ 0x30010001 ∷ 1 ∷ 0x30008001 ∷ 1 ∷ [])))
-        ≡ record { register = 4; word = 1 } ∷ record { register = 12; word = 9 } ∷ [] }
+        ≡ write_of 4 1 ∷ write_of 12 9 ∷ [] }
 {}

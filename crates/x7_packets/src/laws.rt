@@ -4,7 +4,7 @@ ghost use Rattle.x7_words.specs.Word.{AreBytes, AreWords};
 ghost use Rattle.x7_packets.specs.ByHand.{AreOfOneSession, Reading, packets_of, reading_of};
 ghost use Rattle.x7_packets.specs.Cutting.{Adds, CutterReads, CutterState, GoesOnBy, WentFrom, run_steps};
 ghost use Rattle.x7_packets.specs.Ended.{HasEnded};
-ghost use Rattle.x7_packets.specs.History.{Access, AllBehind, AllFit, Entry, entered_all, entry, History, history, history_in, history_of, next_in, next_word, Placed, until};
+ghost use Rattle.x7_packets.specs.History.{Access, AllFit, EntersNewer, EntersNone, EntersOne, Entry, entered_all, entry, History, history, history_in, history_of, next_in, next_word, Placed, until};
 ghost use Rattle.x7_packets.specs.Packet.{Packet, Packets};
 ghost use Rattle.x7_packets.specs.Reading.{IsReading, Place, Searching, Session, Synced, is_synced, tail_of};
 ghost use Rattle.x7_packets.specs.declared.cutter.Cut.{Cut};
@@ -70,10 +70,9 @@ pub fn accesses_fit()
 /// The history of bytes grows byte by byte: by one access at most, which that byte ends.
 pub fn histories_grow()
     ensures one { (bytes : List ℕ) (x : ℕ) → AreBytes (bytes ++ x ∷ [])
-        → (history_of (bytes ++ x ∷ []) ≡ history_of bytes)
-        ⊎ ((access : Access) × (history_of (bytes ++ x ∷ []) ≡ entry access (length bytes + 1) ∷ history_of bytes)) }
+        → EntersNone bytes (x ∷ []) ⊎ ((access : Access) × EntersOne bytes (x ∷ []) (entry access (length bytes + 1))) }
     ensures newer { (bytes more : List ℕ) → AreBytes (bytes ++ more)
-        → (newer : History) × (history_of (bytes ++ more) ≡ newer ++ history_of bytes) × AllBehind (length bytes) (length (bytes ++ more)) newer }
+        → EntersNewer bytes more }
     ensures front { (bytes more : List ℕ) → AreBytes (bytes ++ more) → until (length bytes) (history_of (bytes ++ more)) ≡ history_of bytes }
     ensures placed { (bytes : List ℕ) → AreBytes bytes → Placed (length bytes) (history_of bytes) }
 {}
@@ -81,7 +80,7 @@ pub fn histories_grow()
 /// Up to four bytes enter one access at most.
 pub fn four_bytes_enter_one()
     ensures { (bytes more : List ℕ) → AreBytes (bytes ++ more) → length more ≤ 4
-        → (history_of (bytes ++ more) ≡ history_of bytes) ⊎ ((e : Entry) × (history_of (bytes ++ more) ≡ e ∷ history_of bytes)) }
+        → EntersNone bytes more ⊎ ((e : Entry) × EntersOne bytes more e) }
 {}
 
 /// Where bytes end searching, DESYNC is the newest access of their history, or there is none.

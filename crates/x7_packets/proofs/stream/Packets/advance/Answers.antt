@@ -1,4 +1,4 @@
-use Rattle.std.proofs.Common.{◌≡◌, Bool, true, false, [], ◌++◌, length, refl, ap, sym, subst, ◌∙◌, ◌<◌, ◌+◌, arith}
+use Rattle.std.proofs.Common.{◌≡◌, Bool, true, false, [], ◌++◌, length, ap, sym, subst, ◌∙◌, ◌<◌, ◌+◌, arith}
 use Rattle.x7_words.specs.Input.{preceded}
 use Rattle.x7_words.proofs.InputLemmas.{preceded-nil, preceded-preceded, stays_at, stays_on}
 use Rattle.x7_packets.specs.PacketsState.{PacketsState}
