@@ -9,7 +9,7 @@ use Rattle.x7_pipeline.specs.InWords.{placed_from}
 use Rattle.x7_pipeline.specs.Runs.{onto}
 use Rattle.x7_flow.specs.Settings.{settings_of, takes_copies, takes_frames}
 use Rattle.x7_flow.specs.Flow.{run_of, source_of}
-use Rattle.x7_flow.specs.Later.{after_load, holds_mfw}
+use Rattle.x7_flow.specs.Later.{after_load, has_mfw}
 use Rattle.x7_flow.specs.Words.{with_words}
 
 -- the word of FAR and its place, the place where the words of FDRI begin, and their frames: some, and the last one, which stays in the buffer
@@ -54,6 +54,6 @@ pub record RunHolds (part : PartData) (h : History) (frames : List (List ℕ)) :
 -- words of MFWR after a history put this frame, behind a FAR load of this word
 pub record CopiesTo (part : PartData) (h : History) (far : ℕ) (frame : List ℕ) : Type 0 where
   pub takes : takes_copies (settings_of part.idcode h) ≡ true
-  pub mfw : holds_mfw h ≡ true
+  pub mfw : has_mfw h ≡ true
   pub source : source_of part h ≡ Some frame
   pub address : has_frame_at part (loaded_base part far) ≡ true

@@ -46,8 +46,8 @@ abbrev pub pairs_alone : PartData → History → ℕ → History → List PlanR
 pairs_alone part earlier w later = pairs_loaded part (settings_of part.idcode earlier) None w later
 
 -- the command held is MFW
-abbrev pub holds_mfw : History → Bool
-holds_mfw h = is_mfw (command_with (command_held h))
+abbrev pub has_mfw : History → Bool
+has_mfw h = is_mfw (command_with (command_held h))
 
 -- a history that goes on is where words of FDRI begin a run
 pub record BeginsRun (part : PartData) (s : Settings) (f : Flow) (later : History) : Type 0 where

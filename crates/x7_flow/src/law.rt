@@ -23,7 +23,7 @@ ghost use Rattle.x7_flow.specs.FrameMemory.{landed_more, memory_of};
 ghost use Rattle.x7_flow.specs.FrameWrites.{CopiesTo, FrameWrite, RunHolds, TakesWrite, placed, with_frames};
 ghost use Rattle.x7_flow.specs.InWords.{base_after, frame_taken, words_given, words_written};
 ghost use Rattle.x7_flow.specs.Inside.{HasFrames};
-ghost use Rattle.x7_flow.specs.Later.{BeginsRun, MemoryGets, after_load, flow_from, holds_mfw, pairs_after, pairs_alone, pairs_after_load, pairs_from, pairs_loaded};
+ghost use Rattle.x7_flow.specs.Later.{BeginsRun, MemoryGets, after_load, flow_from, has_mfw, pairs_after, pairs_alone, pairs_after_load, pairs_from, pairs_loaded};
 ghost use Rattle.x7_flow.specs.NeedsAddress.{LacksAddress, LacksSource, RunsAtAddress};
 ghost use Rattle.x7_flow.specs.Quiet.{AreQuiet};
 ghost use Rattle.x7_flow.specs.Saving.{AreKept, FramesBack};
@@ -114,7 +114,7 @@ pub fn later_laws()
         pairs_from part s f (later ++ middle) ≡ pairs_from part (settings_from part.idcode s middle) (flow_from part s f middle) later ++ pairs_from part s f middle }
     ensures alike { (part : PartData) (s t : Settings) (source : Option (List ℕ)) (w : ℕ) (later : History) → AreAlike s t → MasksFirst later →
         pairs_loaded part s source w later ≡ pairs_loaded part t source w later }
-    ensures alone { (part : PartData) (later earlier : History) (w place : ℕ) → holds_mfw earlier ≡ false →
+    ensures alone { (part : PartData) (later earlier : History) (w place : ℕ) → has_mfw earlier ≡ false →
         MemoryGets part (later ++ after_load w place earlier) earlier (pairs_alone part earlier w later) }
 {}
 
