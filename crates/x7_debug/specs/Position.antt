@@ -1,5 +1,5 @@
 -- Positions in a stream: the first bytes of it, taken by a new device (this project's choice).
-use Rattle.std.specs.Prelude.{ℕ, ◌+◌, ◌-◌, ◌==◌, Bool, true, false, List, take, unwrap_or}
+use Rattle.std.specs.Prelude.{◌≡◌, ℕ, ◌+◌, ◌-◌, ◌<◌, ◌≤◌, ◌==◌, Bool, true, false, List, take, unwrap_or}
 use Rattle.std.specs.List.{find, range_with_len}
 use Rattle.x7_part.specs.Part.{PartData}
 use Rattle.x7_memory.specs.FrameMap.{FrameMap}
@@ -47,7 +47,18 @@ holds_in (stop.Phase phase) r = r.phase == phase
 abbrev pub holds_at : PartData → List ℕ → Stop → ℕ → Bool
 holds_at part stream stop n = holds_in stop (state_at part stream n)
 
--- the positions behind this one, up to the last
+-- the least position after this one where it holds
+pub record IsLeastAfter (part : PartData) (stream : List ℕ) (stop : Stop) (at n : ℕ) : Type 0 where
+  pub after : at < n
+  pub within : n ≤ last_of part stream
+  pub holds : holds_at part stream stop n ≡ true
+  pub before : (k : ℕ) → at < k → k < n → holds_at part stream stop k ≡ false
+
+-- it holds at no position after this one
+abbrev pub HoldsNowhereAfter : PartData → List ℕ → Stop → ℕ → Type 0
+HoldsNowhereAfter part stream stop at = (k : ℕ) → at < k → k ≤ last_of part stream → holds_at part stream stop k ≡ false
+
+-- the positions after this one, up to the last
 abbrev pub later_than : PartData → List ℕ → ℕ → List ℕ
 later_than part stream at = range_with_len (at + 1) (last_of part stream - at)
 
