@@ -1,5 +1,5 @@
 -- Texts cut at their line ends, and one line more.
-use Rattle.std.proofs.Common.{◌≡◌, ◌≢◌, inl, inr, ℕ, ◌+◌, ◌-◌, ◌^◌, ◌<◌, ◌≤◌, Bool, true, false, List, [], ◌∷◌, ◌++◌, Ok, Err, length, map, refl, ap, sym, subst, ◌∙◌, arith, append_assoc, length-append, length-drop, take, drop, codes}
+use Rattle.std.proofs.Common.{◌≡◌, inl, inr, ℕ, ◌+◌, ◌-◌, ◌^◌, ◌<◌, ◌≤◌, Bool, true, false, List, [], ◌∷◌, ◌++◌, Ok, Err, length, map, refl, ap, sym, subst, ◌∙◌, arith, append_assoc, length-append, length-drop, take, drop}
 use Rattle.std.proofs.lemmas.List.{drop-append-le, length-take-le, take-append-drop, take-append-le}
 use Rattle.std.proofs.lemmas.List.Sums.{fold-append}
 use Rattle.x7_words.proofs.ListLemmas.{all-append, map-append}
@@ -8,9 +8,8 @@ use Rattle.x7_listing.specs.Assembling.{Goes, Opens, Went}
 use Rattle.x7_listing.specs.declared.assembler.AsmFault.TheVariants as fault
 use Rattle.x7_crc.specs.Checking.{check_of_bytes}
 use Rattle.x7_crc.specs.Checking.{CheckerState, Keeps}
-use Rattle.x7_listing.specs.Line.{Line, Empty, Comment, Bytes, Sync, Nop, Write, Read, Write2, Read2, Word, Data, Cmd, Check, bytes_of, FitsLine, text_of}
+use Rattle.x7_listing.specs.Line.{Line, bytes_of, FitsLine, text_of}
 use Rattle.x7_text.specs.Reads.{Reads}
-use Rattle.x7_crc.proofs.CheckerLemmas.{still-keeps}
 
 pub one-more : (lines : List Line) (l : Line) → assembled (lines ++ l ∷ []) ≡ with_line (assembled lines) l
 one-more lines l = fold-append with_line [] lines (l ∷ [])

@@ -126,6 +126,20 @@ data_appends t0 t1 t2 line register w row digits h n e f b c =
       room = omega (arith, b.room, c.room);
     }
 
+-- the same, as texts alone: a row to CMD, and a row and the digits of a word to another register
+pub command_row-is : (line register w : ℕ) → register ≡ 4 → close line ++ command_lines w ≡ close line ++ head_text (Open register 1) (write_head register) ++ words_told 0 (payload_steps register (w ∷ []))
+command_row-is line register w e =
+    subst (λ (r : ℕ). close line ++ command_lines w ≡ close line ++ head_text (Open r 1) (write_head r) ++ words_told 0 (payload_steps r (w ∷ []))) (sym e)
+    (sym (append_assoc (close line) (write_line 4) (command_line w)) ∙ ap (λ t. close line ++ t ++ command_line w) (sym (write_line-is 4 (omega arith))) ∙ ap (λ t. close line ++ head_text (Open 4 1) (write_head 4) ++ t) (sym (append-nil (command_line w))))
+
+pub data_row-is : (line register w : ℕ) → register < 32 → (register ≡ 4 → ⊥) → (close line ++ write_start register) ++ hex_word w ≡ close line ++ head_text (Open register 1) (write_head register) ++ words_told 0 (payload_steps register (w ∷ []))
+data_row-is line register w h n =
+    let H : List ℕ = write_line register in
+    let told : words_told 0 (payload_steps register (w ∷ [])) ≡ codes "data " ++ hex_word w =
+    data_told register 0 (w ∷ []) (is_data register n) ∙ append-nil _ ∙ ap (λ t. codes "data" ++ t) (append-nil (32 ∷ hex_word w)) in
+    append_assoc (close line) (write_start register) (hex_word w) ∙ ap (λ t. close line ++ t) (append_assoc H (codes "data ") (hex_word w)) ∙ sym (append_assoc (close line) H (codes "data " ++ hex_word w))
+    ∙ ap (λ t. close line ++ t ++ (codes "data " ++ hex_word w)) (sym (write_line-is register h)) ∙ ap (λ t. close line ++ head_text (Open register 1) (write_head register) ++ t) (sym told)
+
 -- the header's line of a short write
 short_line-is : (register count : ℕ) → register < 32 → count < 20 → head_text (Open register count) (short_head register count) ≡ write_name register ++ (decimal count ++ 10 ∷ [])
 short_line-is register count h k =

@@ -1,5 +1,5 @@
 -- The bytes of a gap: which are told, and which are held since they may yet be a sync word.
-use Rattle.std.proofs.Common.{◌≡◌, ℕ, ◌+◌, ◌-◌, ◌<◌, ◌≤◌, ◌^◌, List, [], ◌∷◌, ◌++◌, inl, inr, length, take, drop, get_or, slice_index_or, refl, ap, sym, ◌∙◌, append_assoc, append-nil, arith, length-append, take-append-drop, codes, zero, suc}
+use Rattle.std.proofs.Common.{◌≡◌, ℕ, ◌+◌, ◌-◌, ◌<◌, ◌≤◌, ◌^◌, List, [], ◌∷◌, ◌++◌, inl, inr, length, take, drop, get_or, slice_index_or, refl, ap, sym, ◌∙◌, append_assoc, append-nil, arith, take-append-drop, codes, zero, suc}
 use Rattle.std.proofs.lemmas.List.{take_more}
 use Rattle.x7_words.specs.Word.{bytes_of_word, words_of_bytes}
 use Rattle.x7_text.specs.Digits.{hex_byte}

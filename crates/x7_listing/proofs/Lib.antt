@@ -14,8 +14,10 @@ pub mod PlaceLemmas
 pub mod QuickLemmas
 pub mod RoundLemmas
 pub mod RowLemmas
+pub mod WordsAtLemmas
 pub mod RunLemmas
 pub mod SessionLemmas
+pub mod SheetLemmas
 pub mod ShortLemmas
 pub mod StandLemmas
 pub mod StreamLemmas

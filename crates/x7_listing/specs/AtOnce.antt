@@ -1,5 +1,5 @@
 -- The lines of what is told at once: no-ops and zero words in a row, short writes, and a gap with its sync word (this project's choice).
-use Rattle.std.specs.Prelude.{◌≡◌, ◌==◌, Bool, not, ℕ, zero, suc, List, [], ◌∷◌, ◌++◌, codes, get_or, take}
+use Rattle.std.specs.Prelude.{◌≡◌, ◌==◌, Bool, not, ℕ, zero, suc, ◌+◌, List, [], ◌∷◌, ◌++◌, codes, drop, get_or, take}
 use Rattle.x7_packets.specs.Nops.{nop_word}
 use Rattle.x7_packets.specs.declared.header.Step.{Step}
 use Rattle.x7_packets.specs.declared.header.Step.TheVariants.{Filler, Nop}
@@ -50,3 +50,8 @@ AreRows text n (row ∷ rows) = (row_text row ≡ text n) × AreRows text (suc n
 -- two bytes differ
 abbrev pub differs : ℕ → ℕ → Bool
 differs a b = not (a == b)
+
+-- what stands where a line has words: eight bytes for each, the first behind one at place p, the others nine further each
+abbrev pub words_at : List ℕ → ℕ → ℕ → List (List ℕ)
+words_at text p zero = []
+words_at text p (suc n) = take 8 (drop (p + 1) text) ∷ words_at text (p + 9) n

@@ -1,10 +1,12 @@
 //! Writing what is told at once: no-ops and zero words in a row, short writes, and a short gap with the sync word behind it.
-ghost use Rattle.std.specs.Prelude.{◌≡◌, ℕ, ◌+◌, ◌*◌, ◌<◌, ◌≤◌, true, List, [], ◌∷◌, ◌++◌, IfNone, IfSome, decimal, length, take, vec_len, vec_capacity};
+ghost use Rattle.std.specs.Prelude.{◌≡◌, ℕ, ◌+◌, ◌*◌, ◌<◌, ◌≤◌, true, List, [], ◌∷◌, ◌++◌, IfNone, IfSome, IsFalse, decimal, length, take, vec_len, vec_capacity};
 ghost use Rattle.x7_words.specs.Word.{bytes_of_word};
 ghost use Rattle.x7_packets.specs.AtOnce.{EndsGap, short_head, Takes, write_head, WritesFew, WritesOne};
 ghost use Rattle.x7_packets.specs.Cutting.{CutterState};
 ghost use Rattle.x7_packets.specs.Nops.{equal_bytes, nop_bytes, nop_word};
 ghost use Rattle.x7_packets.specs.Packet.{payload_steps};
+ghost use Rattle.x7_regs.specs.Register.{number_of};
+ghost use Rattle.x7_regs.specs.declared.register.Reg.TheVariants.{Cmd};
 ghost use Rattle.x7_text.specs.Appends.{Appends};
 ghost use Rattle.x7_text.specs.Row.{close};
 ghost use Rattle.x7_listing.specs.TakingAtOnce.{TakesAtOnce};
@@ -16,6 +18,7 @@ ghost use Rattle.x7_listing.specs.Telling.{words_place, words_told};
 use crate::line::{put_command, put_head};
 use crate::pen::{Pen, in_session, session_line};
 use crate::rows::{command_row, name_row, write_row};
+use crate::sheet::{SHEET, Sheet};
 use x7_packets::{Cut, Cutter, Step};
 use x7_regs::Reg;
 use x7_text::{hex_of_word, put, put_close, put_first_bytes, put_first_words};
@@ -147,7 +150,7 @@ fn put_zero_words(text: &mut Vec<u8>, pen: Pen, count: usize) -> Pen
 
 /// Appends what a write of one word adds.
 #[inline(always)]
-pub(crate) fn put_write(text: &mut Vec<u8>, pen: Pen, register: u8, w: u32) -> Pen
+fn put_write(text: &mut Vec<u8>, pen: Pen, register: u8, w: u32) -> Pen
     requires range { register < 32 }
     requires room { vec_len text.old + 97 ≤ vec_capacity text.old }
     ensures len { vec_len text.new ≤ vec_len text.old + 97 }
@@ -265,6 +268,87 @@ fn take_gap(text: &mut Vec<u8>, cutter: &mut Cutter, pen: Pen, rest: &[u8]) -> O
         pen: put_gap(text, pen, count, rest),
         size: count + 4,
     })
+}
+
+/// Puts the lines of a write of one word on a sheet, of a small word where it is to CMD, behind an open line of `in_line` words.
+/// Gives how many words stand in the open line then.
+#[inline(always)]
+fn put_on_sheet(sheet: &mut Sheet, in_line: usize, register: u8, w: u32) -> usize
+    requires range { register < 32 }
+    requires small { register ≡ number_of Cmd → w < 32 }
+    requires room { length sheet.old + 40 ≤ 2048 }
+    ensures within { result < 8 }
+    ensures count { result ≡ words_place 0 (payload_steps register (w ∷ [])) }
+    ensures text { sheet.new ≡ sheet.old ++ (close in_line ++ head_text (Step.Open register 1) (write_head register) ++ words_told 0 (payload_steps register (w ∷ []))) }
+    ensures len { length sheet.new ≤ length sheet.old + 40 }
+{
+    if register == Reg::Cmd.number() {
+        sheet.put_row(command_row(in_line, w));
+        return 0;
+    }
+    sheet.put_row(write_row(in_line, register));
+    sheet.put_eight(&hex_of_word(w));
+    1
+}
+
+/// Whether a write's lines aren't put on a sheet: of a word to CMD that is no small one.
+#[inline(always)]
+fn is_far(register: u8, w: u32) -> bool
+    ensures { IsFalse result → register ≡ number_of Cmd → w < 32 }
+{
+    register == Reg::Cmd.number() && w >= 32
+}
+
+/// Appends a sheet's text, and takes it away.
+fn put_sheet(text: &mut Vec<u8>, sheet: &mut Sheet)
+    requires { vec_len text.old + length sheet.old ≤ vec_capacity text.old }
+    ensures appends { Appends text.old text.new sheet.old (length sheet.old) }
+    ensures clear { sheet.new ≡ [] }
+{
+    put(text, sheet.text());
+    sheet.clear();
+}
+
+/// Takes the writes of one word that come next, one after another, and appends what they add. The sheet is empty before and
+/// after.
+#[inline(always)]
+pub(crate) fn take_writes(
+    text: &mut Vec<u8>,
+    sheet: &mut Sheet,
+    cutter: &mut Cutter,
+    pen: Pen,
+    rest: &[u8],
+) -> Option<Taken>
+    requires room { vec_len text.old + 131 * length rest.now ≤ vec_capacity text.old }
+    requires sheet { sheet.old ≡ [] }
+    ensures some { IfSome result (λ t. TakesAtOnce cutter.old cutter.new rest.now t.size (vec_len text.old) (vec_len text.new)) }
+    ensures told { IfSome result (λ t. TellsOn (lister_with cutter.old pen text.old.items) (lister_with cutter.new t.pen text.new.items) (take t.size rest.now)) }
+    ensures none { IfNone result (cutter.new ≡ cutter.old) }
+    ensures same { IfNone result (text.new ≡ text.old) }
+    ensures room { vec_capacity text.old ≤ vec_capacity text.new }
+    ensures sheet { sheet.new ≡ [] }
+{
+    let mut now = pen;
+    let mut at = 0;
+    while sheet.len() <= SHEET - 40 {
+        let Some((register, w)) = cutter.take_write(&rest[at..]) else {
+            break;
+        };
+        at += 8;
+        if is_far(register, w) {
+            put_sheet(text, sheet);
+            return Some(Taken {
+                pen: put_write(text, now, register, w),
+                size: at,
+            });
+        }
+        now = in_session(put_on_sheet(sheet, session_line(now), register, w));
+    }
+    if at == 0 {
+        return None;
+    }
+    put_sheet(text, sheet);
+    Some(Taken { pen: now, size: at })
 }
 
 /// Takes a write of a few words, zero words in a row, or a short gap with its sync word, that come next, and appends what they

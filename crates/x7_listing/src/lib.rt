@@ -15,6 +15,7 @@ mod quick;
 mod reading;
 mod rows;
 mod runs;
+mod sheet;
 
 pub use assembler::{ASM_LIMIT, AsmFault, Assembler, assemble};
 pub use bit_line::header_line;

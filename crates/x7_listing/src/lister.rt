@@ -7,8 +7,9 @@ ghost use Rattle.x7_listing.specs.Pens.{RestsOn, lister_with};
 
 mod taking;
 
-use crate::at_once::{put_idle, put_write, take_short};
+use crate::at_once::{put_idle, take_short, take_writes};
 use crate::pen::{Pen, new_pen, put_end, put_run};
+use crate::sheet::Sheet;
 use std::alloc::Global;
 use std::marker::Model;
 use x7_packets::{Cut, Cutter};
@@ -19,6 +20,7 @@ fn take_all(text: &mut Vec<u8>, cutter: &mut Cutter, pen: Pen, piece: &[u8]) -> 
     requires { vec_len text.old + (131 * length piece.now + (3 * length cutter.old.kept + 128)) ≤ vec_capacity text.old }
     ensures rests { RestsOn (lister_with cutter.old pen text.old.items) (lister_with cutter.new result text.new.items) piece.now }
 {
+    let mut sheet = Sheet::new();
     let mut now = pen;
     let mut at = 0;
     loop {
@@ -29,9 +31,9 @@ fn take_all(text: &mut Vec<u8>, cutter: &mut Cutter, pen: Pen, piece: &[u8]) -> 
             at += 4 * nops;
             continue;
         }
-        if let Some((register, w)) = cutter.take_write(rest) {
-            now = put_write(text, now, register, w);
-            at += 8;
+        if let Some(taken) = take_writes(text, &mut sheet, cutter, now, rest) {
+            now = taken.pen;
+            at += taken.size;
             continue;
         }
         if let Some(taken) = take_short(text, cutter, now, rest) {

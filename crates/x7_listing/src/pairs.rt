@@ -48,7 +48,7 @@ fn number_at(table: &[u8; 64], text: &[u8], at: usize) -> u8
 
 /// A bit for each of the first 32 bytes that differs from that of a row, that of the first byte lowest.
 #[inline(always)]
-fn differences(text: &[u8], row: &[u8; 32]) -> u64
+pub(crate) fn differences(text: &[u8], row: &[u8; 32]) -> u64
     requires { 32 ≤ length text.now }
     ensures { result ≡ mask_l (zip2 differs (chunk 0 32 text.now) row.now) }
 {

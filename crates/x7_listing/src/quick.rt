@@ -1,13 +1,16 @@
-//! Lines of a listing that are read at once: full rows, single words and commands, and no-ops by eight.
-ghost use Rattle.std.specs.Prelude.{◌≡◌, ◌≤◌, ◌+◌, drop, length, vec_len, vec_capacity, IfOk, MatchOption};
+//! Lines of a listing that are read at once: full rows, bytes, single words and commands, and no-ops by eight.
+ghost use Rattle.std.specs.Prelude.{◌≡◌, ℕ, List, ◌<◌, ◌≤◌, ◌+◌, ◌*◌, ◌++◌, codes, drop, length, slice_index, take, vec_len, vec_capacity, IfOk, IsTrue, MatchOption};
+ghost use Rattle.std.specs.List.{flat_map};
+ghost use Rattle.std.specs.Simd.Lanes.{chunk};
+ghost use Rattle.x7_listing.specs.AtOnce.{words_at};
 ghost use Rattle.x7_text.specs.Reads.{StaysWithin};
 ghost use Rattle.x7_listing.specs.Assembling.{TakesFirst, TakesLines};
 
 use crate::assembler::ASM_LIMIT;
-use crate::pairs::put_pair;
+use crate::pairs::{differences, put_pair};
 use crate::reading::{access_at, put_command, put_digits, put_word};
 use std::simd::prelude::*;
-use x7_text::{data_line, put, put_byte_row};
+use x7_text::{front_of_hex, put};
 use x7_words::{NoMemory, is_same};
 
 /// The lines of eight no-ops.
@@ -32,7 +35,7 @@ fn put_nops(out: &mut Vec<u8>, text: &[u8]) -> Option<WholeLines>
     ensures takes { MatchOption result (out.new.items ≡ out.old.items) (λ taken. TakesFirst text.now out.old.items out.new.items taken.size taken.count) }
     ensures room { StaysWithin out.old out.new 32 }
 {
-    if !is_same(&text[..32], NOPS) {
+    if (differences(text, NOPS).trailing_zeros() as usize) < 32 {
         return None;
     }
     put(out, NOP_BYTES);
@@ -59,7 +62,7 @@ fn put_sync(out: &mut Vec<u8>, text: &[u8]) -> Option<WholeLines>
 fn two_eights(text: &[u8], one: usize, other: usize) -> u8x16
     requires one { one + 8 ≤ length text.now }
     requires other { other + 8 ≤ length text.now }
-    ensures { length result ≡ 16 }
+    ensures { result ≡ chunk one 8 text.now ++ chunk other 8 text.now }
 {
     let (a, b) = (
         u8x8::from_slice(&text[one..]),
@@ -68,74 +71,62 @@ fn two_eights(text: &[u8], one: usize, other: usize) -> u8x16
     a.shuffle(b, [0, 1, 2, 3, 4, 5, 6, 7, 8, 9, 10, 11, 12, 13, 14, 15])
 }
 
-/// What stands where a full `data` line has its digits.
+/// Sixteen bytes and sixteen more.
 #[inline(always)]
-fn row_digits(text: &[u8]) -> u8x64
-    requires { 77 ≤ length text.now }
-    ensures { length result ≡ 64 }
+fn both(a: u8x16, b: u8x16) -> u8x32
+    requires a { length a ≡ 16 }
+    requires b { length b ≡ 16 }
+    ensures { result ≡ a ++ b }
 {
-    let (a, b) = (two_eights(text, 5, 14), two_eights(text, 23, 32));
-    let (c, d) = (two_eights(text, 41, 50), two_eights(text, 59, 68));
-    let low = a.shuffle(
+    a.shuffle(
         b,
         [
             0, 1, 2, 3, 4, 5, 6, 7, 8, 9, 10, 11, 12, 13, 14, 15, 16, 17, 18, 19, 20, 21, 22, 23,
             24, 25, 26, 27, 28, 29, 30, 31,
         ],
-    );
-    let high = c.shuffle(
-        d,
-        [
-            0, 1, 2, 3, 4, 5, 6, 7, 8, 9, 10, 11, 12, 13, 14, 15, 16, 17, 18, 19, 20, 21, 22, 23,
-            24, 25, 26, 27, 28, 29, 30, 31,
-        ],
-    );
-    low.shuffle(
+    )
+}
+
+/// What stands where a full `data` line has its digits.
+#[inline(always)]
+fn row_digits(text: &[u8]) -> [u8; 64]
+    requires { 77 ≤ length text.now }
+    ensures { result ≡ flat_map (λ (word : List ℕ). word) (words_at text.now 4 8) }
+{
+    let low = both(two_eights(text, 5, 14), two_eights(text, 23, 32));
+    let high = both(two_eights(text, 41, 50), two_eights(text, 59, 68));
+    let all: u8x64 = low.shuffle(
         high,
         [
             0, 1, 2, 3, 4, 5, 6, 7, 8, 9, 10, 11, 12, 13, 14, 15, 16, 17, 18, 19, 20, 21, 22, 23,
             24, 25, 26, 27, 28, 29, 30, 31, 32, 33, 34, 35, 36, 37, 38, 39, 40, 41, 42, 43, 44, 45,
             46, 47, 48, 49, 50, 51, 52, 53, 54, 55, 56, 57, 58, 59, 60, 61, 62, 63,
         ],
-    )
+    );
+    all.to_array()
 }
 
-/// The bytes of 64 digits. Of what is no digit it gives any.
+/// Whether spaces stand where a full `data` line has them.
 #[inline(always)]
-fn bytes_of_digits(digits: u8x64) -> [u8; 32]
-    requires { length digits ≡ 64 }
+fn has_spaces(text: &[u8]) -> bool
+    requires { 77 ≤ length text.now }
+    ensures { IsTrue result → (k : ℕ) → k < 8 → slice_index text.now (4 + 9 * k) ≡ 32 }
 {
-    let numbers = (digits & u8x64::splat(15)) + (digits >> 6) * u8x64::splat(9);
-    let high = numbers.shuffle(
-        numbers,
-        [
-            0, 2, 4, 6, 8, 10, 12, 14, 16, 18, 20, 22, 24, 26, 28, 30, 32, 34, 36, 38, 40, 42, 44,
-            46, 48, 50, 52, 54, 56, 58, 60, 62,
-        ],
-    );
-    let low = numbers.shuffle(
-        numbers,
-        [
-            1, 3, 5, 7, 9, 11, 13, 15, 17, 19, 21, 23, 25, 27, 29, 31, 33, 35, 37, 39, 41, 43, 45,
-            47, 49, 51, 53, 55, 57, 59, 61, 63,
-        ],
-    );
-    ((high << 4) + low).to_array()
-}
-
-/// Appends these bytes, if their full `data` line begins the text.
-#[inline(always)]
-fn put_row(out: &mut Vec<u8>, text: &[u8], bytes: &[u8; 32]) -> Option<WholeLines>
-    requires room { vec_len out.old + 32 ≤ vec_capacity out.old }
-    requires long { 77 ≤ length text.now }
-    ensures takes { MatchOption result (out.new.items ≡ out.old.items) (λ taken. TakesFirst text.now out.old.items out.new.items taken.size taken.count) }
-    ensures room { StaysWithin out.old out.new 32 }
-{
-    if !is_same(&data_line(bytes), &text[..77]) {
-        return None;
+    for k in 0..8 {
+        if text[4 + 9 * k] != b' ' {
+            return false;
+        }
     }
-    put(out, bytes);
-    Some(WholeLines { size: 77, count: 1 })
+    true
+}
+
+/// Whether a text begins with the word `data`.
+#[inline(always)]
+fn is_data(text: &[u8]) -> bool
+    requires { 77 ≤ length text.now }
+    ensures { IsTrue result → take 4 text.now ≡ codes "data" }
+{
+    [text[0], text[1], text[2], text[3]] == *b"data"
 }
 
 /// Appends the bytes of a full `data` line, if one begins the text.
@@ -146,10 +137,36 @@ fn put_data(out: &mut Vec<u8>, text: &[u8]) -> Option<WholeLines>
     ensures takes { MatchOption result (out.new.items ≡ out.old.items) (λ taken. TakesFirst text.now out.old.items out.new.items taken.size taken.count) }
     ensures room { StaysWithin out.old out.new 32 }
 {
-    put_row(out, text, &bytes_of_digits(row_digits(text)))
+    if text[76] != b'\n' || !is_data(text) || !has_spaces(text) {
+        return None;
+    }
+    let front = front_of_hex(&row_digits(text));
+    if front.digits != 64 {
+        return None;
+    }
+    put(out, &front.bytes);
+    Some(WholeLines { size: 77, count: 1 })
 }
 
-/// Appends the bytes of a full `bytes` line, if one begins the text.
+/// Whether a text begins with the word of a `bytes` line and the space behind it.
+#[inline(always)]
+fn is_bytes(text: &[u8]) -> bool
+    requires { 77 ≤ length text.now }
+    ensures { IsTrue result → take 6 text.now ≡ codes "bytes " }
+{
+    [text[0], text[1], text[2], text[3], text[4], text[5]] == *b"bytes "
+}
+
+/// The 64 bytes behind the first six.
+#[inline(always)]
+fn behind_word(text: &[u8]) -> [u8; 64]
+    requires { 77 ≤ length text.now }
+    ensures { result ≡ take 64 (drop 6 text.now) }
+{
+    u8x64::from_slice(&text[6..]).to_array()
+}
+
+/// Appends the bytes of a `bytes` line, if one begins the text.
 #[inline(always)]
 fn put_bytes(out: &mut Vec<u8>, text: &[u8]) -> Option<WholeLines>
     requires room { vec_len out.old + 32 ≤ vec_capacity out.old }
@@ -157,10 +174,21 @@ fn put_bytes(out: &mut Vec<u8>, text: &[u8]) -> Option<WholeLines>
     ensures takes { MatchOption result (out.new.items ≡ out.old.items) (λ taken. TakesFirst text.now out.old.items out.new.items taken.size taken.count) }
     ensures room { StaysWithin out.old out.new 32 }
 {
-    if !is_same(&text[..6], b"bytes ") || text[70] != b'\n' || !put_byte_row(out, &text[6..70]) {
+    if !is_bytes(text) {
         return None;
     }
-    Some(WholeLines { size: 71, count: 1 })
+    let front = front_of_hex(&behind_word(text));
+    let count = front.digits / 2;
+    if count == 0 || front.digits != 2 * count || text[6 + front.digits] != b'\n' {
+        return None;
+    }
+    let end = out.len() + count;
+    put(out, &front.bytes);
+    out.truncate(end);
+    Some(WholeLines {
+        size: 7 + front.digits,
+        count: 1,
+    })
 }
 
 /// The place of the first of these bytes among 16, or one behind them.

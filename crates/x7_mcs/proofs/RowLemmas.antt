@@ -1,5 +1,5 @@
 -- The line of a row of sixteen bytes.
-use Rattle.std.proofs.Common.{◌≡◌, ℕ, ◌+◌, ◌/◌, ◌%◌, ◌^◌, ◌<◌, ◌≤◌, List, [], ◌∷◌, ◌++◌, length, get_or, suc, take, drop, map, replicate, bit_and, Bool, true, false, not, eqb, refl, ap, ap₂, sym, subst, ◌∙◌, arith, append_assoc, take-append-drop}
+use Rattle.std.proofs.Common.{◌≡◌, ℕ, ◌+◌, ◌/◌, ◌%◌, ◌^◌, ◌<◌, ◌≤◌, List, [], ◌∷◌, ◌++◌, length, get_or, suc, take, map, replicate, bit_and, Bool, true, false, not, eqb, refl, ap, ap₂, sym, subst, ◌∙◌, arith, append_assoc}
 use Rattle.std.proofs.lemmas.Grind.{flat_map-append}
 use Rattle.std.proofs.lemmas.List.{take_all}
 use Rattle.std.proofs.lemmas.List.Sums.{sum_by-cons}
@@ -81,15 +81,37 @@ row-written address v content fields first second last l s f c d =
 pub whole-row : (row whole : List ℕ) → whole ≡ take 16 row → length row ≤ 16 → whole ≡ row
 whole-row row whole e h = e ∙ take_all 16 row h
 
-is-equal : (b : Bool) → not b ≡ false → b ≡ true
-is-equal true e = refl
-is-equal false e = absurd cc
+-- two pieces compared
+pub same-piece : (a b : List ℕ) (r : Bool) → r ≡ pointwise eqb a b → r ≡ true → a ≡ b
+same-piece a b r e h = (slice_eq-Decides Decides-eqb a b (pointwise eqb a b) refl).0 (sym e ∙ h)
 
--- a text whose first 44 bytes are a line
-pub front-line : (text line rest written : List ℕ) → line ≡ take 44 text → rest ≡ drop 44 text → not (pointwise eqb written line) ≡ false → text ≡ written ++ rest
-front-line text line rest written e f n =
-    let same : written ≡ line = (slice_eq-Decides Decides-eqb written line (pointwise eqb written line) refl).0 (is-equal (pointwise eqb written line) n) in
-    sym (take-append-drop 44 text) ∙ ap (λ t. t ++ drop 44 text) (sym e ∙ sym same) ∙ ap (λ t. written ++ t) (sym f)
+pub not-other : (a b : List ℕ) (r : Bool) → r ≡ not (pointwise eqb a b) → r ≡ false → a ≡ b
+not-other a b r e h = same-piece a b (pointwise eqb a b) refl (by (pointwise eqb a b) (sym e ∙ h))
+  where
+    by : (b : Bool) → not b ≡ false → b ≡ true
+    by true e = refl
+    by false e = absurd cc
+
+abbrev Pieces : List ℕ → Type 0
+Pieces xs = get_or xs 0 0 ∷ (chunk 1 8 xs ++ (chunk 9 16 xs ++ (chunk 25 16 xs ++ ((get_or xs 41 0 ∷ get_or xs 42 0 ∷ []) ++ get_or xs 43 0 ∷ [])))) ≡ xs
+
+-- a line of 44 bytes is its pieces
+pub in-pieces : (line : List ℕ) → length line ≡ 44 → get_or line 0 0 ∷ (chunk 1 8 line ++ (chunk 9 16 line ++ (chunk 25 16 line ++ ((get_or line 41 0 ∷ get_or line 42 0 ∷ []) ++ get_or line 43 0 ∷ [])))) ≡ line
+in-pieces line e = let h : Pieces (pick_l 0 line (range_with_len 0 44)) = refl in subst Pieces (pick_l_whole 0 line 44 e) h
+
+-- a line whose pieces are those of a row
+pub row-stands : (address v : ℕ) (line content fields first second last f1 s1 g1 : List ℕ) → length line ≡ 44 → length content ≡ 16 → get_or line 0 0 ≡ 58 → get_or line 43 0 ≡ 10 → f1 ≡ chunk 9 16 line → s1 ≡ chunk 25 16 line → g1 ≡ chunk 1 8 line
+    → f1 ≡ first → s1 ≡ second → g1 ≡ fields → get_or line 41 0 ∷ get_or line 42 0 ∷ [] ≡ last → v ≡ sum_byte (16 ∷ address / 256 ∷ address % 256 ∷ 0 ∷ content)
+    → fields ≡ flat_map hex_byte (16 ∷ address / 256 ∷ address % 256 ∷ 0 ∷ []) → first ++ second ≡ flat_map hex_byte content → last ≡ hex_byte v → line ≡ data_line address content
+row-stands address v line content fields first second last f1 s1 g1 long l zero end a b c d e f g s h i j =
+    let one : chunk 9 16 line ≡ first = sym a ∙ d in
+    let two : chunk 25 16 line ≡ second = sym b ∙ e in
+    let three : chunk 1 8 line ≡ fields = sym c ∙ f in
+    sym (in-pieces line long)
+    ∙ ap₂ (λ (x y : ℕ). x ∷ (chunk 1 8 line ++ (chunk 9 16 line ++ (chunk 25 16 line ++ ((get_or line 41 0 ∷ get_or line 42 0 ∷ []) ++ y ∷ []))))) zero end
+    ∙ ap₂ (λ (x y : List ℕ). 58 ∷ (x ++ (y ++ (chunk 25 16 line ++ ((get_or line 41 0 ∷ get_or line 42 0 ∷ []) ++ 10 ∷ []))))) three one
+    ∙ ap₂ (λ (x y : List ℕ). 58 ∷ (fields ++ (first ++ (x ++ (y ++ 10 ∷ []))))) two g
+    ∙ row-written address v content fields first second last l s h i j
 
 pub are-bytes : (xs : List ℕ) → ((i : ℕ) → get_or xs i 0 < 256) → AreBytes xs
 are-bytes [] h = tt

@@ -1,7 +1,7 @@
 //! The usual line, a data record of sixteen bytes: written at once, and read by a guess that is written again and compared.
-ghost use Rattle.std.specs.Prelude.{◌≡◌, ◌<◌, ◌/◌, ◌%◌, ◌^◌, [], ◌∷◌, ◌++◌, length, map, MatchOption};
+ghost use Rattle.std.specs.Prelude.{◌≡◌, ◌<◌, ◌≤◌, ◌+◌, ◌/◌, ◌%◌, ◌^◌, [], ◌∷◌, ◌++◌, length, map, IsTrue, MatchOption};
 ghost use Rattle.std.specs.List.{flat_map, sum};
-ghost use Rattle.std.specs.Simd.Lanes.{Each1};
+ghost use Rattle.std.specs.Simd.Lanes.{Each1, chunk};
 ghost use Rattle.x7_text.specs.Digits.{hex_byte, hex_digit};
 ghost use Rattle.x7_words.specs.Word.{AreBytes};
 ghost use Rattle.x7_mcs.specs.Record.{sum_byte};
@@ -86,6 +86,23 @@ pub(crate) fn row_line(address: u32, content: &[u8; 16]) -> [u8; 44]
     line
 }
 
+/// The eight bytes of a line behind its first.
+#[inline(always)]
+fn fields_in(line: &[u8; 44]) -> [u8; 8]
+    ensures { result ≡ chunk 1 8 line.now }
+{
+    u8x8::from_slice(&line[1..]).to_array()
+}
+
+/// Sixteen bytes of a line from a place on.
+#[inline(always)]
+fn sixteen_in(line: &[u8; 44], at: usize) -> [u8; 16]
+    requires { at + 16 ≤ 44 }
+    ensures { result ≡ chunk at 16 line.now }
+{
+    u8x16::from_slice(&line[at..]).to_array()
+}
+
 /// A data record of sixteen bytes.
 #[derive(Clone, Copy)]
 pub(crate) struct Row {
@@ -101,9 +118,9 @@ fn guess_numbers(digits: u8x16) -> u8x16 {
 
 /// The bytes that 32 digits in upper case would show.
 #[inline(always)]
-fn guess_bytes(first: &[u8; 16], second: &[u8; 16]) -> [u8; 16] {
-    let first = guess_numbers(u8x16::from_array(*first));
-    let second = guess_numbers(u8x16::from_array(*second));
+fn guess_bytes(first: [u8; 16], second: [u8; 16]) -> [u8; 16] {
+    let first = guess_numbers(u8x16::from_array(first));
+    let second = guess_numbers(u8x16::from_array(second));
     let high = first.shuffle(
         second,
         [0, 2, 4, 6, 8, 10, 12, 14, 16, 18, 20, 22, 24, 26, 28, 30],
@@ -132,13 +149,33 @@ fn guess_row(line: &[u8; 44]) -> Row
         + 256 * guess_number(line[4])
         + 16 * guess_number(line[5])
         + guess_number(line[6]);
-    let (mut first, mut second) = ([0; 16], [0; 16]);
-    first.copy_from_slice(&line[9..25]);
-    second.copy_from_slice(&line[25..41]);
     Row {
         address,
-        content: guess_bytes(&first, &second),
+        content: guess_bytes(sixteen_in(line, 9), sixteen_in(line, 25)),
     }
+}
+
+/// Whether a line is that of a data record of sixteen bytes at an address. It is compared piece by piece.
+#[inline(always)]
+fn is_row_line(line: &[u8; 44], address: u32, content: &[u8; 16]) -> bool
+    requires { address < 2 ^ 16 }
+    ensures line { IsTrue result → line.now ≡ data_line address content.now }
+    ensures bytes { AreBytes content.now }
+{
+    if line[0] != b':' || line[43] != b'\n' {
+        return false;
+    }
+    let (first, second) = hex_of_content(content);
+    if sixteen_in(line, 9) != first {
+        return false;
+    }
+    if sixteen_in(line, 25) != second {
+        return false;
+    }
+    if fields_in(line) != hex_of_fields(address) {
+        return false;
+    }
+    [line[41], line[42]] == hex_of_byte(sum_byte_of_row(address, content))
 }
 
 /// The row whose line a text begins with, as it is written here, and the text after it. None says nothing of the text.
@@ -151,11 +188,8 @@ pub(crate) fn first_row(text: &[u8]) -> Option<(Row, &[u8])>
     ensures shorter { MatchOption result (Unit {0}) (λ r. length r.1.now < length text.now) }
 {
     let (line, rest) = text.split_first_chunk::<44>()?;
-    if line[0] != b':' || line[43] != b'\n' {
-        return None;
-    }
     let row = guess_row(line);
-    if row_line(row.address, &row.content) != *line {
+    if !is_row_line(line, row.address, &row.content) {
         return None;
     }
     Some((row, rest))

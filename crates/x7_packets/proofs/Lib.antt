@@ -1,3 +1,4 @@
+pub mod BlockLemmas
 pub mod ByHandLemmas
 pub mod CutLemmas
 pub mod EndLemmas
@@ -6,6 +7,7 @@ pub mod GrowthLemmas
 pub mod HistoryLemmas
 pub mod NopLemmas
 pub mod PacketLemmas
+pub mod PlaceLemmas
 pub mod SearchLemmas
 pub mod SyncLemmas
 pub mod TakeLemmas

@@ -1,7 +1,6 @@
 -- A search by the first place of the sync word in a piece, behind a gap that ended in an earlier piece.
-use Rattle.std.proofs.Common.{zero, suc, Bool, true, false, IsTrue, ◌↔◌, if◌then◌else◌, take-add, get_or-take, ◌≡◌, ℕ, ◌+◌, ◌-◌, ◌<◌, ◌≤◌, List, [], ◌∷◌, ◌++◌, length, take, drop, get_or, refl, ap, sym, subst, ◌∙◌, ◌⊎◌, append_assoc, arith, length-append, length-take, inl, inr, Option, None, Some}
+use Rattle.std.proofs.Common.{zero, suc, Bool, true, false, IsTrue, ◌↔◌, if◌then◌else◌, take-add, get_or-take, ◌≡◌, ℕ, ◌+◌, ◌-◌, ◌<◌, ◌≤◌, List, [], ◌∷◌, ◌++◌, length, take, drop, get_or, refl, ap, sym, subst, ◌∙◌, append_assoc, arith, length-append, length-take, inl, inr, Option, None, Some}
 use Rattle.std.proofs.lemmas.List.{take-append-drop, take_more, take-take, drop_at}
-use Rattle.std.proofs.lemmas.Bool.Decides.{nat_tests}
 use Rattle.std.specs.Option.{is_some, IfSome}
 use Rattle.memchr.specs.Find.{OccursAt}
 use Rattle.memchr.proofs.lemmas.MatchLemmas.{OccursAt-part, OccursAt-from_part}
@@ -143,26 +142,11 @@ four_bytes at bytes h =
     ∙ ap (λ (k : ℕ). get_or bytes at 0 ∷ get_or bytes (at + 1) 0 ∷ get_or bytes k 0 ∷ get_or bytes (suc (suc (suc at))) 0 ∷ []) two
     ∙ ap (λ (k : ℕ). get_or bytes at 0 ∷ get_or bytes (at + 1) 0 ∷ get_or bytes (at + 2) 0 ∷ get_or bytes k 0 ∷ []) three
 
--- the sync word at a place, by its four bytes
-pub first_sync : (bytes : List ℕ) (at : ℕ) (r : Bool) → at + 4 ≤ length bytes → ((k : ℕ) → k < at → OccursAt bytes sync_bytes k → ⊥)
-    → (IsTrue r ↔ (get_or bytes at 0 ∷ get_or bytes (at + 1) 0 ∷ get_or bytes (at + 2) 0 ∷ get_or bytes (at + 3) 0 ∷ [] ≡ sync_bytes)) → r ≡ true → IsFirstSync bytes at
-first_sync bytes at false h n f e = absurd (cc)
-first_sync bytes at true h n f e = record { here = OccursAt-from_part bytes sync_bytes at h (four_bytes at bytes h ∙ f.0 refl); first = n }
-
-at_or_before : (at k : ℕ) → k < at + 1 → (k < at) ⊎ (k ≡ at)
-at_or_before at k h = grind (arith, nat_tests)
-
-pub no_sync_yet : (bytes : List ℕ) (at : ℕ) (r : Bool) → at + 4 ≤ length bytes → ((k : ℕ) → k < at → OccursAt bytes sync_bytes k → ⊥)
-    → (IsTrue r ↔ (get_or bytes at 0 ∷ get_or bytes (at + 1) 0 ∷ get_or bytes (at + 2) 0 ∷ get_or bytes (at + 3) 0 ∷ [] ≡ sync_bytes)) → r ≡ false → (k : ℕ) → k < at + 1 → OccursAt bytes sync_bytes k → ⊥
-no_sync_yet bytes at true h n f e k l o = absurd (cc)
-no_sync_yet bytes at false h n f e k l o = elim (at_or_before at k l) [
-  | inl m ↦ n k m o
-  | inr m ↦ (
-      let here : OccursAt bytes sync_bytes at = subst (OccursAt bytes sync_bytes) m o in
-      let no : IsTrue false = f.1 (sym (four_bytes at bytes h) ∙ OccursAt-part bytes sync_bytes at here) in
-      absurd (cc)
-      )
-]
+-- the sync word at a place, where its four bytes stand there
+pub occurs_by_bytes : (bytes : List ℕ) (at : ℕ) → at + 4 ≤ length bytes → get_or bytes at 0 ≡ 0xAA → get_or bytes (at + 1) 0 ≡ 0x99 → get_or bytes (at + 2) 0 ≡ 0x55 → get_or bytes (at + 3) 0 ≡ 0x66 → OccursAt bytes sync_bytes at
+occurs_by_bytes bytes at h a b c d =
+    let whole : get_or bytes at 0 ∷ get_or bytes (at + 1) 0 ∷ get_or bytes (at + 2) 0 ∷ get_or bytes (at + 3) 0 ∷ [] ≡ sync_bytes = cc in
+    OccursAt-from_part bytes sync_bytes at h (four_bytes at bytes h ∙ whole)
 
 -- the sync word is not complete behind three bytes of which the first is 0
 clear_step : (m : LastThree) (gap : List ℕ) (x : ℕ) → m.first ≡ 0 → MatcherStandsFor m gap → HasNoSync gap → HasNoSync (gap ++ x ∷ [])

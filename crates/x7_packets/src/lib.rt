@@ -8,6 +8,7 @@ mod header;
 mod laws;
 mod machine;
 mod nops;
+mod places;
 mod stream;
 mod sync;
 

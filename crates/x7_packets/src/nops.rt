@@ -2,11 +2,14 @@
 ghost use Rattle.std.specs.Prelude.{◌≡◌, ◌≤◌, ◌*◌, length, take};
 ghost use Rattle.x7_packets.specs.Nops.{equal_bytes};
 
-use x7_words::word_of;
+use x7_words::{bytes_of, word_of};
 
-/// How many of the first words are this one, one after the other.
+/// How many words a block has.
+const BLOCK: usize = 8;
+
+/// How many of the first words are this one, one after the other, counted word by word.
 #[inline(always)]
-pub(crate) fn count_equal(bytes: &[u8], w: u32) -> usize
+fn count_words(bytes: &[u8], w: u32) -> usize
     ensures within { 4 * result ≤ length bytes.now }
     ensures equal { take (4 * result) bytes.now ≡ equal_bytes w result }
 {
@@ -17,4 +20,44 @@ pub(crate) fn count_equal(bytes: &[u8], w: u32) -> usize
         }
     }
     words.len()
+}
+
+/// The bytes of eight words that are this one.
+#[inline(always)]
+fn block_of(w: u32) -> [u8; 32]
+    ensures { result ≡ equal_bytes w 8 }
+{
+    let mut block = [0; 32];
+    block.copy_from_slice([bytes_of(w); BLOCK].as_flattened());
+    block
+}
+
+/// How many of the first blocks of eight words have none but this one.
+#[inline(always)]
+fn count_blocks(bytes: &[u8], w: u32) -> usize
+    ensures within { 32 * result ≤ length bytes.now }
+    ensures equal { take (32 * result) bytes.now ≡ equal_bytes w (8 * result) }
+{
+    let block = block_of(w);
+    let (blocks, _) = bytes.as_chunks::<32>();
+    for (i, next) in blocks.iter().enumerate() {
+        if *next != block {
+            return i;
+        }
+    }
+    blocks.len()
+}
+
+/// How many of the first words are this one, one after the other.
+#[inline(always)]
+pub(crate) fn count_equal(bytes: &[u8], w: u32) -> usize
+    ensures within { 4 * result ≤ length bytes.now }
+    ensures equal { take (4 * result) bytes.now ≡ equal_bytes w result }
+{
+    let near = count_words(&bytes[..bytes.len().min(32)], w);
+    if near < BLOCK {
+        return near;
+    }
+    let blocks = count_blocks(bytes, w);
+    BLOCK * blocks + count_words(&bytes[32 * blocks..], w)
 }

@@ -3,15 +3,11 @@ ghost use Rattle.std.specs.Prelude.{◌≡◌, ℕ, List, [], ◌∷◌, ◌++�
 ghost use Rattle.x7_packets.specs.SyncWord.{EndsWithSync, HasNoSync, sync_bytes};
 ghost use Rattle.x7_packets.specs.Matching.{IsClear, IsFirstSync, MatcherStandsFor, Searched};
 
-use memchr::memmem;
+use crate::places::{REACH, first_of_places, first_sync};
 use std::marker::Model;
 
-/// The sync word's bytes (UG470, sync word).
-const SYNC: [u8; 4] = [0xAA, 0x99, 0x55, 0x66];
-
-/// How many bytes are searched byte by byte, before the searcher of long gaps is made: more than a short gap between two
-/// sessions has.
-const NEAR: usize = 16;
+/// How many bytes of a piece end a sync word that began before it, at most.
+const SEAM: usize = 3;
 
 /// Whether four bytes are the sync word.
 #[inline(always)]
@@ -24,16 +20,14 @@ fn is_sync(bytes: [u8; 4]) -> bool
 /// Where the sync word first stands among the first 32 bytes, if it does.
 #[inline(always)]
 pub(crate) fn near_sync(bytes: &[u8]) -> Option<usize>
-    requires { 32 ≤ length bytes.now }
+    requires { 35 ≤ length bytes.now }
     ensures first { IfSome result (λ at. IsFirstSync bytes.now at) }
     ensures near { IfSome result (λ at. at + 4 ≤ 32) }
 {
-    for at in 0..29 {
-        if is_sync([bytes[at], bytes[at + 1], bytes[at + 2], bytes[at + 3]]) {
-            return Some(at);
-        }
+    match first_of_places(bytes, 0) {
+        Some(at) if at < 29 => Some(at),
+        _ => None,
     }
-    None
 }
 
 /// A search for the sync word, byte by byte: the last three bytes taken, 0 for each that isn't there.
@@ -103,14 +97,14 @@ impl Matcher {
         ensures within { IfSome result (λ n. (0 < n) × (n ≤ length bytes.now)) }
         ensures found { (gap : List ℕ) → MatcherStandsFor self.old gap → HasNoSync gap → Searched gap bytes.now result self.new }
     {
-        if bytes.len() < NEAR {
+        if bytes.len() < REACH {
             return self.search_bytewise(bytes);
         }
-        let near = self.search_bytewise(&bytes[..NEAR]);
+        let near = self.search_bytewise(&bytes[..SEAM]);
         if near.is_some() {
             return near;
         }
-        match memmem::find(bytes, &SYNC) {
+        match first_sync(bytes) {
             Some(at) => Some(at + 4),
             None => {
                 *self = Matcher::behind(bytes);

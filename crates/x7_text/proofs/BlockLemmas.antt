@@ -1,11 +1,14 @@
 -- Digits in vector registers.
-use Rattle.std.proofs.Common.{◌≡◌, ℕ, zero, suc, ◌+◌, ◌/◌, ◌%◌, ◌^◌, ◌<◌, cond, ltb, List, [], ◌∷◌, ◌++◌, length, map, replicate, bit_and, refl, ap, ap₂, subst, ◌∙◌, arith, get_or}
+use Rattle.std.proofs.Common.{◌≡◌, ◌==◌, ℕ, zero, suc, ◌+◌, ◌*◌, ◌/◌, ◌%◌, ◌^◌, ◌<◌, Bool, true, false, if◌then◌else◌, cond, codes, ltb, List, [], ◌∷◌, ◌++◌, length, map, replicate, drop, append_assoc, append-nil, bit_and, refl, ap, ap₂, sym, subst, ◌∙◌, arith, get_or, inl, inr, w8}
 use Rattle.std.proofs.lemmas.Grind.{common_steps}
 use Rattle.std.proofs.lemmas.Nat.Bits.{and_high}
-use Rattle.std.proofs.lemmas.Simd.{Each1-from_get_or, pick_l_whole}
+use Rattle.std.proofs.lemmas.Bool.{cases_lt, eqb-true}
+use Rattle.std.proofs.lemmas.List.{ext_get_or, get_or-map, length-map}
+use Rattle.std.proofs.lemmas.Simd.{Each1-from_get_or, Each1-get_or, get_or-swz_l_below, length-swz_l, pick_l_whole, put_chunk_is, swz_l, SwzOk, SwzOk-from_below}
 use Rattle.std.specs.List.{flat_map, range_with_len}
-use lib.Lanes.{Each1, pick_l, sel_l, top, zip2}
+use lib.Lanes.{Each1, pick_l, put_chunk, sel_l, top, zip2}
 use Rattle.x7_text.specs.Digits.{hex_byte, hex_digit}
+use Rattle.x7_text.specs.Row.{line}
 
 digit_step : (x : ℕ) → x < 16 → (x + cond (top 7 (cond (ltb 9 x) 255 0)) 55 48) % 256 ≡ hex_digit x
 digit_step x h = grind (arith, common_steps)
@@ -17,6 +20,50 @@ digits_are [] zero e h = refl
 digits_are [] (suc n) e h = absurd (omega (arith, e))
 digits_are (x ∷ xs) zero e h = absurd (omega (arith, e))
 digits_are (x ∷ xs) (suc n) e h = ap₂ (λ (a : ℕ) (b : List ℕ). a ∷ b) (digit_step x h.0) (digits_are xs n (omega (arith, e)) h.1)
+
+-- ---- digits looked up, where the table stands once for each sixteen lanes
+
+each : (ℕ → Bool) → ℕ → Bool
+each p zero = true
+each p (suc n) = if p n then each p n else false
+
+each-step : (a b : Bool) → (if a then b else false) ≡ true → (a ≡ true) × (b ≡ true)
+each-step true true e = (refl, refl)
+each-step true false e = absurd (cc)
+each-step false b e = absurd (cc)
+
+each-at : (p : ℕ → Bool) (n k : ℕ) → each p n ≡ true → k < n → p k ≡ true
+unfolding each
+each-at p zero k e h = absurd (omega (arith, h))
+each-at p (suc n) k e h = elim (cases_lt k n) [
+  | inl l ↦ each-at p n k (each-step (p n) (each p n) e).1 l
+  | inr g ↦ (let last : n ≡ k = omega (arith, g, h) in subst (λ (m : ℕ). p m ≡ true) last (each-step (p n) (each p n) e).0)
+]
+
+abbrev pub table : List ℕ
+table = codes "0123456789ABCDEF0123456789ABCDEF0123456789ABCDEF0123456789ABCDEF"
+
+is-digit : ℕ → Bool
+is-digit k = get_or table k 0 == hex_digit (k % 16)
+
+all-digits : each is-digit 64 ≡ true
+unfolding each is-digit
+all-digits = refl
+
+table-digit : (k : ℕ) → k < 64 → get_or table k 0 ≡ hex_digit (k % 16)
+unfolding is-digit
+table-digit k h = eqb-true _ _ (each-at is-digit 64 k all-digits h)
+
+pub look-up-fits : (js : List ℕ) → length js ≡ 64 → Each1 (λ n. n < 16) js → SwzOk w8 16 64 0 js
+look-up-fits js long small = SwzOk-from_below w8 16 4 64 0 js refl (omega (arith, long)) small
+
+pub looked-up : (js : List ℕ) → length js ≡ 64 → Each1 (λ n. n < 16) js → swz_l w8 16 table 0 js ≡ map hex_digit js
+looked-up js long small =
+    ext_get_or 0 (swz_l w8 16 table 0 js) (map hex_digit js) (length-swz_l w8 16 table 0 js ∙ sym (length-map js hex_digit)) (λ i h.
+    let within : i < length js = omega (arith, h, length-swz_l w8 16 table 0 js) in
+    let below : get_or js i 0 < 16 = Each1-get_or (λ n. n < 16) js i 0 within small in
+    let rest : (16 * ((0 + i) / 16) + get_or js i 0) % 16 ≡ get_or js i 0 = omega (arith, below) in
+    get_or-swz_l_below w8 16 table 0 js i within below ∙ table-digit (16 * ((0 + i) / 16) + get_or js i 0) (omega (arith, within, long, below)) ∙ ap hex_digit rest ∙ sym (get_or-map hex_digit js i 0 0 within))
 
 abbrev pub positions : List ℕ
 positions = 0 ∷ 32 ∷ 1 ∷ 33 ∷ 2 ∷ 34 ∷ 3 ∷ 35 ∷ 4 ∷ 36 ∷ 5 ∷ 37 ∷ 6 ∷ 38 ∷ 7 ∷ 39 ∷ 8 ∷ 40 ∷ 9 ∷ 41 ∷ 10 ∷ 42 ∷ 11 ∷ 43 ∷ 12 ∷ 44 ∷ 13 ∷ 45 ∷ 14 ∷ 46 ∷ 15 ∷ 47 ∷ 16 ∷ 48 ∷ 17 ∷ 49 ∷ 18 ∷ 50 ∷ 19 ∷ 51 ∷ 20 ∷ 52 ∷ 21 ∷ 53 ∷ 22 ∷ 54 ∷ 23 ∷ 55 ∷ 24 ∷ 56 ∷ 25 ∷ 57 ∷ 26 ∷ 58 ∷ 27 ∷ 59 ∷ 28 ∷ 60 ∷ 29 ∷ 61 ∷ 30 ∷ 62 ∷ 31 ∷ 63 ∷ []
@@ -64,3 +111,16 @@ four-woven bs e = let h : FourWoven (pick_l 0 bs (range_with_len 0 4)) = refl in
 
 pub four_halves : (bs : List ℕ) → length bs ≡ 4 → pick_l 0 (zip2 (λ a b. a / 2 ^ b) bs (replicate 4 4) ++ zip2 bit_and bs (replicate 4 15)) (0 ∷ 4 ∷ 1 ∷ 5 ∷ 2 ∷ 6 ∷ 3 ∷ 7 ∷ []) ≡ halves bs
 four_halves bs e = four-woven bs e ∙ masked_are bs
+
+-- a `bytes` line, its digits stored over line ends behind its word
+pub bytes-line : (bs digits : List ℕ) → digits ≡ flat_map hex_byte bs → length bs ≡ 32
+    → codes "bytes " ++ (put_chunk 0 (replicate 65 10) digits ++ []) ≡ line (codes "bytes ") hex_byte bs
+bytes-line bs digits e long =
+    let size : length digits ≡ 64 = ap length e ∙ length-hex bs ∙ ap (λ (n : ℕ). 2 * n) long in
+    let behind : drop (length digits) (replicate 65 10) ≡ 10 ∷ [] = ap (λ (n : ℕ). drop n (replicate 65 10)) size in
+    ap (λ t. codes "bytes " ++ t) (append-nil (put_chunk 0 (replicate 65 10) digits) ∙ put_chunk_is 0 (replicate 65 10) digits (omega (arith, size)) ∙ ap (λ t. digits ++ t) behind ∙ ap (λ t. t ++ 10 ∷ []) e)
+    ∙ sym (append_assoc (codes "bytes ") (flat_map hex_byte bs) (10 ∷ []))
+  where
+    length-hex : (xs : List ℕ) → length (flat_map hex_byte xs) ≡ 2 * length xs
+    length-hex [] = refl
+    length-hex (x ∷ xs) = omega (arith, length-hex xs)

@@ -1,6 +1,9 @@
 -- Digits in vector registers, and what is not the text of anything.
-use Rattle.std.proofs.Common.{Result, Ok, Err, ◌≡◌, ℕ, zero, suc, ◌+◌, ◌*◌, ◌/◌, ◌%◌, ◌^◌, ◌<◌, Bool, true, false, IsTrue, List, [], ◌∷◌, ◌++◌, length, map, replicate, bit_and, refl, ap, ap₂, subst, sym, ◌∙◌, arith, get_or, ◌-◌, take_all}
+use Rattle.std.proofs.Common.{Result, Ok, Err, ◌≡◌, ℕ, zero, suc, ◌+◌, ◌*◌, ◌/◌, ◌%◌, ◌^◌, ◌<◌, Bool, true, false, IsTrue, List, [], ◌∷◌, ◌++◌, length, map, replicate, bit_and, refl, ap, ap₂, subst, sym, ◌∙◌, arith, eqb, get_or, ◌-◌, take_all}
+use Rattle.std.proofs.lemmas.Bool.Decides.{Decides-eqb}
 use Rattle.std.proofs.lemmas.Grind.{common_steps}
+use Rattle.std.proofs.lemmas.Slice.Eq.{slice_eq-Decides}
+use Rattle.std.specs.Cmp.Lexicographic.{pointwise}
 use Rattle.std.specs.Char.{is_ascii_digit}
 use Rattle.std.proofs.lemmas.Fmt.{decimal_digit, IsAscii-decimal, parse-decimal}
 use Rattle.std.proofs.lemmas.Str.{IsUtf8-from_ascii}
@@ -8,7 +11,7 @@ use Rattle.std.specs.Fmt.{decimal}
 use Rattle.std.specs.Str.{IsUtf8}
 use Rattle.std.specs.Str.Parse.{ParsesUnsigned}
 use Rattle.std.proofs.lemmas.Nat.Bits.{and_high}
-use Rattle.std.proofs.lemmas.Simd.{Each1-from_get_or, pick_l_whole}
+use Rattle.std.proofs.lemmas.Simd.{pick_l_whole}
 use Rattle.std.specs.List.{flat_map, range_with_len}
 use lib.Lanes.{Each1, pick_l, zip2}
 use Rattle.std.specs.Simd.{first_chunks}
@@ -77,6 +80,13 @@ pairs-digits (a ∷ b ∷ cs) = ap (λ t. (digit_value a * 16 + digit_value b) %
 pub refuted : (b : Bool) → b ≡ false → IsTrue b → ⊥
 refuted true e h = absurd cc
 refuted false e h = cc
+
+-- two texts compared
+pub same-yes : (a b : List ℕ) (r : Bool) → r ≡ pointwise eqb a b → r ≡ true → a ≡ b
+same-yes a b r e h = (slice_eq-Decides Decides-eqb a b (pointwise eqb a b) refl).0 (sym e ∙ h)
+
+pub same-no : (a b : List ℕ) (r : Bool) → r ≡ pointwise eqb a b → a ≡ b → r ≡ true
+same-no a b r e h = e ∙ (slice_eq-Decides Decides-eqb a b (pointwise eqb a b) refl).1 h
 
 -- digits that written out again are others are no digits
 pub no-bytes : (ds told r : List ℕ) (b : Bool) → r ≡ bytes_value ds → told ≡ flat_map hex_byte r → b ≡ false → (told ≡ ds → IsTrue b) → (bs : List ℕ) → AreBytes bs → ds ≡ flat_map hex_byte bs → ⊥

@@ -3,6 +3,7 @@ pub mod BlockLemmas
 pub mod ByteLemmas
 pub mod CaseLemmas
 pub mod DigitLemmas
+pub mod FrontLemmas
 pub mod LineLemmas
 pub mod ReadRowLemmas
 pub mod RowLemmas

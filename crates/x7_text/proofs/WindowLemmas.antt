@@ -2,7 +2,7 @@
 use Rattle.std.proofs.Common.{◌≡◌, ℕ, zero, suc, ◌+◌, ◌-◌, ◌*◌, ◌/◌, ◌<◌, ◌≤◌, List, [], ◌∷◌, ◌++◌, codes, drop, get_or, length, length-append, length-take-le, take, take_all, refl, ap, sym, ◌∙◌, append_assoc, arith, ◌==◌, false}
 use Rattle.std.proofs.Math.Seq.{take-add, take-append-add}
 use Rattle.std.proofs.lemmas.Bool.Decides.{nat_tests}
-use Rattle.std.proofs.lemmas.List.{take-take}
+use Rattle.std.proofs.lemmas.List.{take-append-le, take-take}
 use Rattle.std.specs.List.{flat_map}
 use Rattle.std.specs.Simd.{first_chunks}
 use Rattle.x7_words.specs.Word.{words_of_bytes}
@@ -114,6 +114,21 @@ first_bytes old begun all told cut new bytes n count some few long is b e f g h 
     ∙ ap (λ t. (codes "bytes " ++ flat_map hex_byte (take count bytes)) ++ t) ends in
     h ∙ ap (λ t. t ++ 10 ∷ []) (shown ∙ ap (λ t. t ++ flat_map hex_byte (take count bytes)) b ∙ append_assoc old (codes "bytes ") (flat_map hex_byte (take count bytes)))
     ∙ append_assoc old (codes "bytes " ++ flat_map hex_byte (take count bytes)) (10 ∷ []) ∙ ap (λ t. old ++ t) (sym text)
+
+-- the same, where all of the line was written
+pub first_of_line : (old all cut new bytes : List ℕ) (n count : ℕ) → 0 < count → count < 32 → length bytes ≡ 32 → all ≡ old ++ line (codes "bytes ") hex_byte bytes → n ≡ length old + (6 + 2 * count) → cut ≡ take n all → new ≡ cut ++ 10 ∷ []
+    → new ≡ old ++ bytes_text (take count bytes)
+first_of_line old all cut new bytes n count some few long e at f g =
+    let hex : List ℕ = flat_map hex_byte bytes in
+    let begun : List ℕ = old ++ codes "bytes " in
+    let whole : all ≡ ((old ++ codes "bytes ") ++ flat_map hex_byte bytes) ++ 10 ∷ [] =
+    e ∙ sym (append_assoc old (codes "bytes " ++ hex) (10 ∷ [])) ∙ ap (λ t. t ++ 10 ∷ []) (sym (append_assoc old (codes "bytes ") hex)) in
+    let within : n ≤ length ((old ++ codes "bytes ") ++ flat_map hex_byte bytes) = omega (arith, at, few, long, length-append (old ++ codes "bytes ") hex, length-append old (codes "bytes "), length-hex_bytes bytes) in
+    first_bytes old (old ++ codes "bytes ") ((old ++ codes "bytes ") ++ flat_map hex_byte bytes) (flat_map hex_byte bytes) cut new bytes n count some few long refl refl at refl
+    (f ∙ ap (take n) whole ∙ take-append-le n ((old ++ codes "bytes ") ++ flat_map hex_byte bytes) (10 ∷ []) within) g
+
+pub first_line-length : (bytes : List ℕ) → length bytes ≡ 32 → length (line (codes "bytes ") hex_byte bytes) ≡ 71
+first_line-length bytes long = omega (arith, long, length-append (codes "bytes " ++ flat_map hex_byte bytes) (10 ∷ []), length-append (codes "bytes ") (flat_map hex_byte bytes), length-hex_bytes bytes)
 
 pub first_bytes-length : (bytes told : List ℕ) → length bytes ≡ 32 → told ≡ flat_map hex_byte bytes → length told ≡ 64
 first_bytes-length bytes told long is = ap length is ∙ length-hex_bytes bytes ∙ omega (arith, long)

@@ -8,15 +8,17 @@ ghost use Rattle.x7_words.specs.Word.{words_of_bytes};
 
 use std::simd::prelude::*;
 
-/// The digits of numbers below 16.
+/// The sixteen digits, once for each sixteen lanes of a block.
+const DIGITS: [u8; 64] = *b"0123456789ABCDEF0123456789ABCDEF0123456789ABCDEF0123456789ABCDEF";
+
+/// The digits of numbers below 16, each looked up.
 #[inline(always)]
 fn hex_digits(numbers: u8x64) -> u8x64
     requires lanes { length numbers ≡ 64 }
     requires below { Each1 (λ n. n < 16) numbers }
     ensures { result ≡ map hex_digit numbers }
 {
-    let is_letter = numbers.simd_gt(u8x64::splat(9));
-    numbers + is_letter.select(u8x64::splat(b'A' - 10), u8x64::splat(b'0'))
+    u8x64::from_array(DIGITS).swizzle_dyn_within::<16>(numbers)
 }
 
 /// The two halves of each byte, the high one first.
@@ -107,5 +109,18 @@ pub fn data_line(bytes: &[u8; 32]) -> [u8; 77]
         write_spaced(&mut text, 4 + 9 * k, word);
     }
     text[76] = b'\n';
+    text
+}
+
+/// The `bytes` line of 32 bytes, with its line end.
+#[inline(always)]
+pub(crate) fn bytes_line(bytes: &[u8; 32]) -> [u8; 71]
+    ensures { result ≡ line (codes "bytes ") hex_byte bytes.now }
+{
+    let mut text = [b'\n'; 71];
+    u8x4::from_array(*b"byte").copy_to_slice(&mut text);
+    text[4] = b's';
+    text[5] = b' ';
+    u8x64::from_array(hex_of_block(bytes)).copy_to_slice(&mut text[6..]);
     text
 }

@@ -21,7 +21,7 @@ pub use law::{
 };
 pub use lines::first_line;
 pub use read_row::{put_byte_row, put_word_row};
-pub use reading::{block_of_hex, decimal_below, word_of_hex};
+pub use reading::{Front, block_of_hex, decimal_below, front_of_hex, word_of_hex};
 pub use room::{make_room, put};
 pub use row::{put_bytes, put_close, put_word, put_words};
 pub use window::{put_first_bytes, put_first_words};

@@ -1,5 +1,5 @@
 //! Digits read back: what they would stand for is written out again and compared, so that only digits are taken.
-ghost use Rattle.std.specs.Prelude.{◌≡◌, ◌≢◌, ℕ, List, ◌<◌, ◌≤◌, ◌^◌, length, map, slice_index, decimal, MatchOption};
+ghost use Rattle.std.specs.Prelude.{◌≡◌, ◌≢◌, ℕ, List, ◌<◌, ◌≤◌, ◌^◌, length, map, take, slice_index, decimal, MatchOption};
 ghost use Rattle.std.specs.List.{flat_map};
 ghost use Rattle.std.specs.Simd.Lanes.{Each1};
 ghost use Rattle.x7_words.specs.Word.{AreBytes};
@@ -45,12 +45,15 @@ fn bytes_of_eight(digits: &[u8; 8]) -> [u8; 4]
 pub fn word_of_hex(digits: &[u8]) -> Option<u32>
     ensures { MatchOption result ((w : ℕ) → w < 2 ^ 32 → digits.now ≢ hex_word w) (λ w. digits.now ≡ hex_word w) }
 {
+    if digits.len() != 8 {
+        return None;
+    }
     let (eights, _) = digits.as_chunks::<8>();
     let [eight] = eights else {
         return None;
     };
     let bytes = bytes_of_eight(eight);
-    if is_same(&hex_of_four(&bytes), digits) {
+    if hex_of_four(&bytes) == *eight {
         return Some(word_of(bytes));
     }
     None
@@ -136,9 +139,43 @@ pub fn block_of_hex(digits: &[u8; 64]) -> Option<[u8; 32]>
     ensures { MatchOption result ((bs : List ℕ) → AreBytes bs → digits.now ≢ flat_map hex_byte bs) (λ bs. digits.now ≡ flat_map hex_byte bs) }
 {
     let bytes = bytes_of_digits(digits);
-    if is_same(&hex_of_block(&bytes), digits) {
+    if hex_of_block(&bytes) == *digits {
         Some(bytes)
     } else {
         None
+    }
+}
+
+/// How many of the first bytes of two blocks are the same.
+#[inline(always)]
+fn same_front(a: &[u8; 64], b: &[u8; 64]) -> usize
+    ensures within { result ≤ 64 }
+    ensures same { take result a.now ≡ take result b.now }
+{
+    let differ = u8x64::from_array(*a)
+        .simd_ne(u8x64::from_array(*b))
+        .to_bitmask();
+    differ.trailing_zeros() as usize
+}
+
+/// What the digits at the front of a block stand for, others behind it, and how many digits there are.
+#[derive(Clone, Copy)]
+pub struct Front {
+    pub bytes: [u8; 32],
+    pub digits: usize,
+}
+
+/// The digits at the front of a block, which may have none.
+#[inline(always)]
+pub fn front_of_hex(block: &[u8; 64]) -> Front
+    ensures within { result.digits ≤ 64 }
+    ensures long { length result.bytes ≡ 32 }
+    ensures fit { AreBytes result.bytes }
+    ensures digits { take result.digits block.now ≡ take result.digits (flat_map hex_byte result.bytes) }
+{
+    let bytes = bytes_of_digits(block);
+    Front {
+        bytes,
+        digits: same_front(block, &hex_of_block(&bytes)),
     }
 }

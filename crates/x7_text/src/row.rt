@@ -6,7 +6,7 @@ ghost use Rattle.x7_text.specs.Digits.{hex_byte};
 ghost use Rattle.x7_text.specs.Row.{line, line_start, line_end, next_in_line, open_text, in_line_after, spaced, close};
 ghost use Rattle.x7_words.specs.Word.{words_of_bytes};
 
-use crate::block::{data_line, hex_of_block, hex_of_few};
+use crate::block::{bytes_line, data_line, hex_of_few};
 use crate::digits::{hex_of_byte, hex_of_word};
 use crate::room::put;
 use x7_words::word_of;
@@ -83,24 +83,13 @@ fn put_data_lines(text: &mut Vec<u8>, lines: &[[u8; 32]])
     }
 }
 
-/// Appends the `bytes` line of 32 bytes.
-#[inline(always)]
-fn put_bytes_line(text: &mut Vec<u8>, bytes: &[u8; 32])
-    requires { vec_len text.old + 71 ≤ vec_capacity text.old }
-    ensures appends { Appends text.old text.new (line (codes "bytes ") hex_byte bytes.now) 71 }
-{
-    put(text, b"bytes ");
-    put(text, &hex_of_block(bytes));
-    put(text, b"\n");
-}
-
 /// Appends whole `bytes` lines.
 fn put_bytes_lines(text: &mut Vec<u8>, lines: &[[u8; 32]])
     requires { vec_len text.old + 71 * length lines.now ≤ vec_capacity text.old }
     ensures appends { Appends text.old text.new (flat_map (line (codes "bytes ") hex_byte) lines.now) (71 * length lines.now) }
 {
     for bytes in lines {
-        put_bytes_line(text, bytes);
+        put(text, &bytes_line(bytes));
     }
 }
 

@@ -4,7 +4,7 @@ ghost use Rattle.x7_text.specs.Appends.{Appends};
 ghost use Rattle.x7_text.specs.Row.{bytes_text, in_line_after, open_text, spaced};
 ghost use Rattle.x7_words.specs.Word.{words_of_bytes};
 
-use crate::block::{data_line, hex_of_block};
+use crate::block::{bytes_line, data_line};
 use crate::room::put;
 
 /// Appends the first of eight words, one or more, to a new `data` line. Gives how many words stand in the open line then.
@@ -55,8 +55,7 @@ pub fn put_first_bytes(text: &mut Vec<u8>, bytes: &[u8; 32], count: usize)
         return;
     }
     let end = text.len() + (6 + 2 * count);
-    put(text, b"bytes ");
-    put(text, &hex_of_block(bytes));
+    put(text, &bytes_line(bytes));
     text.truncate(end);
     put(text, b"\n");
 }

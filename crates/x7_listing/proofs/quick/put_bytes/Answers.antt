@@ -1,13 +1,9 @@
-use Rattle.std.proofs.Common.{refl, arith, List, ℕ}
-use Rattle.std.specs.List.{flat_map}
-use Rattle.x7_text.specs.Digits.{hex_byte}
-use Rattle.x7_text.specs.Row.{IsByteRow}
-use Rattle.x7_listing.specs.Line.{Bytes}
-use Rattle.x7_listing.proofs.QuickLemmas.{takes-row}
-use Rattle.x7_listing.proofs.LineLemmas.{read-yes}
+use Rattle.std.proofs.Common.{◌/◌, ◌∙◌, arith, ap, sym, take}
+use Rattle.x7_listing.proofs.WordsAtLemmas.{takes-front}
 use Rattle.x7_listing.proofs.quick.put_bytes.Goals as goal
 
 pub returns-clause-takes : goal.returns-clause-takes
 returns-clause-takes c =
-    let r = read-yes IsByteRow (flat_map hex_byte) (λ (bs : List ℕ). bs) _ _ _ c.put_byte_row.result c.put_byte_row.ensures.reads c.if-not-put_byte_row.false in
-    takes-row (Bytes r.0) _ _ c.args.text.now c.args.out.now.items c.put_byte_row.new.out.items 6 64 r.1 tt refl (c.is_same.ensures.0 c.if-not-is_same.false) r.2 c.if-text-ne10.false (omega arith) r.3
+    takes-front c.args.text.now c.front_of_hex-front.result.bytes c.args.out.now.items c.put.new.text.items c.truncate.new.self.items c.front_of_hex-front.result.digits (c.front_of_hex-front.result.digits / 2) _ c.requires.long
+    (c.is_bytes.ensures c.if-not-is_bytes.false) c.front_of_hex-front.ensures.within c.front_of_hex-front.ensures.long c.front_of_hex-front.ensures.fit
+    (ap (take c.front_of_hex-front.result.digits) (sym c.behind_word.ensures) ∙ c.front_of_hex-front.ensures.digits) (omega arith) (omega arith) (omega arith) (omega arith) c.put.ensures.appends.items c.truncate.ensures.items

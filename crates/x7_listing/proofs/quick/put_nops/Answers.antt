@@ -1,22 +1,22 @@
 use Rattle.std.proofs.Common.{[], ◌∷◌, refl, arith, ap, sym, ◌∙◌, drop, ◌++◌}
-use Rattle.std.proofs.lemmas.List.{length-take-le, take-append-drop}
+use Rattle.std.proofs.lemmas.List.{take-append-drop}
 use Rattle.x7_listing.specs.Line.{Nop}
+use Rattle.x7_listing.proofs.RowLemmas.{same-by-mask}
 use Rattle.x7_listing.proofs.quick.put_nops.Goals as goal
 
-pub slice_bounds-is_same-end : goal.slice_bounds-is_same-end
-slice_bounds-is_same-end c = sym (length-take-le 32 c.args.text.now (omega arith))
-
 pub returns-clause-takes : goal.returns-clause-takes
-returns-clause-takes c = record {
-  some = omega arith;
-  within = omega arith;
-  few = omega arith;
-  takes = record {
-    lines = Nop ∷ Nop ∷ Nop ∷ Nop ∷ Nop ∷ Nop ∷ Nop ∷ Nop ∷ [];
-    fit = (tt, (tt, (tt, (tt, (tt, (tt, (tt, (tt, tt))))))));
-    listed = (tt, (tt, (tt, (tt, (tt, (tt, (tt, (tt, tt))))))));
-    text_is = sym (take-append-drop 32 c.args.text.now) ∙ ap (λ t. t ++ drop 32 c.args.text.now) (c.is_same.ensures.0 c.if-not-is_same.false);
-    appended = c.put.ensures.appends.items;
-    count_is = refl;
-  };
-}
+returns-clause-takes c =
+    let same = same-by-mask 32 c.differences.result c.args.text.now _ (omega arith) refl (omega arith) c.differences.ensures (omega arith) in
+    record {
+      some = omega arith;
+      within = omega arith;
+      few = omega arith;
+      takes = record {
+        lines = Nop ∷ Nop ∷ Nop ∷ Nop ∷ Nop ∷ Nop ∷ Nop ∷ Nop ∷ [];
+        fit = (tt, (tt, (tt, (tt, (tt, (tt, (tt, (tt, tt))))))));
+        listed = (tt, (tt, (tt, (tt, (tt, (tt, (tt, (tt, tt))))))));
+        text_is = sym (take-append-drop 32 c.args.text.now) ∙ ap (λ t. t ++ drop 32 c.args.text.now) same;
+        appended = c.put.ensures.appends.items;
+        count_is = refl;
+      };
+    }

@@ -1,4 +1,4 @@
-use Rattle.std.proofs.Common.{◌∙◌, inr, sym, refl, subst, arith, Result, false}
+use Rattle.std.proofs.Common.{inr, sym, subst, arith, Result, false}
 use Rattle.x7_words.specs.declared.input.Failed.{Failed}
 use Rattle.x7_words.proofs.InputLemmas.{stays_at, stays_on}
 use Rattle.x7_packets.specs.declared.stream.Run.{Run}

@@ -1,4 +1,4 @@
-use Rattle.std.proofs.Common.{◌≡◌, ◌≤◌, true, false}
+use Rattle.std.proofs.Common.{◌≡◌, true, false}
 use Rattle.x7_words.specs.Input.{AtEnd, Stays}
 use Rattle.x7_listing.proofs.TakingRunsLemmas.{TakesSome, TellsEnough}
 use Rattle.x7_listing.proofs.runs.take_runs.Given as goal

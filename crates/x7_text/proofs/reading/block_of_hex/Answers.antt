@@ -1,5 +1,9 @@
-use Rattle.x7_text.proofs.DigitLemmas.{no-bytes}
+use Rattle.std.proofs.Common.{sym, ◌∙◌}
+use Rattle.x7_text.proofs.DigitLemmas.{no-bytes, same-no, same-yes}
 use Rattle.x7_text.proofs.reading.block_of_hex.Goals as goal
 
-pub returns-else-is_same : goal.returns-else-is_same
-returns-else-is_same c = no-bytes c.args.digits.now c.hex_of_block.result c.bytes_of_digits-bytes.result c.is_same.result c.bytes_of_digits-bytes.ensures.value c.hex_of_block.ensures c.if-is_same.false c.is_same.ensures.1
+pub returns-then-eq : goal.returns-then-eq
+returns-then-eq c = sym (same-yes _ c.args.digits.now c.eq.result c.eq.ensures c.if-eq.true) ∙ c.hex_of_block.ensures
+
+pub returns-else-eq : goal.returns-else-eq
+returns-else-eq c = no-bytes c.args.digits.now c.hex_of_block.result c.bytes_of_digits-bytes.result c.eq.result c.bytes_of_digits-bytes.ensures.value c.hex_of_block.ensures c.if-eq.false (same-no _ c.args.digits.now c.eq.result c.eq.ensures)

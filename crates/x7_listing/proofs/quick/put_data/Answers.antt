@@ -1,0 +1,9 @@
+use Rattle.std.proofs.Common.{arith}
+use Rattle.x7_listing.proofs.WordsAtLemmas.{takes-full}
+use Rattle.x7_listing.proofs.quick.put_data.Goals as goal
+
+pub returns-clause-takes : goal.returns-clause-takes
+returns-clause-takes c =
+    takes-full c.args.text.now c.front_of_hex-front.result.bytes c.args.out.now.items c.put.new.text.items c.row_digits.result c.front_of_hex-front.result.digits c.requires.long
+    (c.is_data.ensures c.if-not-is_data.false) (c.has_spaces.ensures c.if-not-has_spaces.false) c.if-text-ne10.false
+    c.front_of_hex-front.ensures.long c.front_of_hex-front.ensures.fit (omega arith) c.row_digits.ensures c.front_of_hex-front.ensures.digits c.put.ensures.appends.items

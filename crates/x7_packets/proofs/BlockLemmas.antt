@@ -1,0 +1,59 @@
+-- Equal words in a row, a block of them at a time.
+use Rattle.std.proofs.Common.{Bool, true, false, not, eqb, ◌≡◌, ℕ, zero, suc, ◌+◌, ◌-◌, ◌*◌, ◌/◌, ◌<◌, ◌≤◌, List, [], ◌++◌, length, take, drop, drop-drop, take-add, take_all, length-drop, replicate, get_or, refl, ap, sym, ◌∙◌, append_assoc, arith}
+use Rattle.std.proofs.Math.Nat.{mul-suc}
+use Rattle.std.proofs.lemmas.Bool.Decides.{Decides-eqb}
+use Rattle.std.proofs.lemmas.Slice.Eq.{slice_eq-Decides}
+use Rattle.std.specs.Cmp.Lexicographic.{pointwise}
+use Rattle.std.specs.List.{flat_map}
+use Rattle.std.specs.Simd.{first_chunks}
+use Rattle.x7_words.specs.Word.{bytes_of_word}
+use Rattle.x7_packets.specs.Nops.{equal_bytes}
+
+chunk-at : (n m k : ℕ) (xs d : List ℕ) → k < m → get_or (first_chunks n m xs) k d ≡ take n (drop (n * k) xs)
+chunk-at n zero k xs d h = absurd (omega (arith, h))
+chunk-at n (suc m) zero xs d h = ap (λ (j : ℕ). take n (drop j xs)) (let e : 0 ≡ n * 0 = omega arith in e)
+chunk-at n (suc m) (suc k) xs d h =
+    chunk-at n m k (drop n xs) d (omega (arith, h)) ∙ ap (take n) (drop-drop (n * k) n xs ∙ ap (λ (j : ℕ). drop j xs) (let m : n * suc k ≡ n * k + n = mul-suc n k in let e : n + n * k ≡ n * suc k = omega (arith, m) in e))
+
+equal-add : (w m n : ℕ) → equal_bytes w (m + n) ≡ equal_bytes w m ++ equal_bytes w n
+equal-add w zero n = ap (equal_bytes w) (let e : 0 + n ≡ n = omega arith in e)
+equal-add w (suc m) n =
+    ap (equal_bytes w) (let e : suc m + n ≡ suc (m + n) = omega arith in e) ∙ ap (λ t. bytes_of_word w ++ t) (equal-add w m n) ∙ sym (append_assoc (bytes_of_word w) (equal_bytes w m) (equal_bytes w n))
+
+-- two blocks compared
+pub same-block : (a b : List ℕ) (r : Bool) → r ≡ not (pointwise eqb a b) → r ≡ false → a ≡ b
+same-block a b r e h = (slice_eq-Decides Decides-eqb a b (pointwise eqb a b) refl).0 (by (pointwise eqb a b) (sym e ∙ h))
+  where
+    by : (t : Bool) → not t ≡ false → t ≡ true
+    by true e = refl
+    by false e = absurd cc
+
+-- the bytes of a word, so many times
+pub eight-equal : (n w : ℕ) (bytes : List ℕ) → bytes ≡ bytes_of_word w → flat_map (λ x. x) (replicate n bytes) ≡ equal_bytes w n
+eight-equal zero w bytes e = refl
+eight-equal (suc n) w bytes e = ap (λ t. bytes ++ t) (eight-equal n w bytes e) ∙ ap (λ t. t ++ equal_bytes w n) e
+
+pub block-more : (bytes : List ℕ) (blocks : List (List ℕ)) (i w : ℕ) → blocks ≡ first_chunks 32 (length bytes / 32) bytes → i < length blocks → get_or blocks i [] ≡ equal_bytes w 8
+    → take (32 * i) bytes ≡ equal_bytes w (8 * i) → take (32 * (i + 1)) bytes ≡ equal_bytes w (8 * (i + 1))
+block-more bytes blocks i w e h b s = whole ∙ ap (λ t. equal_bytes w (8 * i) ++ t) here ∙ sym (equal-add w (8 * i) 8) ∙ ap (equal_bytes w) (let k : 8 * i + 8 ≡ 8 * (i + 1) = omega arith in k)
+  where
+    chunks : (n m : ℕ) (xs : List ℕ) → length (first_chunks n m xs) ≡ m
+    chunks n zero xs = refl
+    chunks n (suc m) xs = ap (λ (k : ℕ). suc k) (chunks n m (drop n xs))
+
+    within : i < length bytes / 32
+    within = omega (arith, h, ap length e, chunks 32 (length bytes / 32) bytes)
+
+    here : take 32 (drop (32 * i) bytes) ≡ equal_bytes w 8
+    here = sym (ap (λ (t : List (List ℕ)). get_or t i []) e ∙ chunk-at 32 (length bytes / 32) i bytes [] within) ∙ b
+
+    whole : take (32 * (i + 1)) bytes ≡ equal_bytes w (8 * i) ++ take 32 (drop (32 * i) bytes)
+    whole = ap (λ (k : ℕ). take k bytes) (let k : 32 * (i + 1) ≡ 32 * i + 32 = omega arith in k) ∙ take-add (32 * i) 32 bytes ∙ ap (λ t. t ++ take 32 (drop (32 * i) bytes)) s
+
+-- whole blocks, and words behind them
+pub equal-behind : (bytes : List ℕ) (b k w : ℕ) → 32 * b ≤ length bytes → take (32 * b) bytes ≡ equal_bytes w (8 * b) → take (4 * k) (take (length bytes - 32 * b) (drop (32 * b) bytes)) ≡ equal_bytes w k
+    → take (4 * (8 * b + k)) bytes ≡ equal_bytes w (8 * b + k)
+equal-behind bytes b k w h e f =
+    let rest : take (length bytes - 32 * b) (drop (32 * b) bytes) ≡ drop (32 * b) bytes = take_all (length bytes - 32 * b) (drop (32 * b) bytes) (omega (arith, length-drop (32 * b) bytes, h)) in
+    ap (λ (j : ℕ). take j bytes) (let j : 4 * (8 * b + k) ≡ 32 * b + 4 * k = omega arith in j) ∙ take-add (32 * b) (4 * k) bytes
+    ∙ ap (λ t. t ++ take (4 * k) (drop (32 * b) bytes)) e ∙ ap (λ t. equal_bytes w (8 * b) ++ t) (ap (take (4 * k)) (sym rest) ∙ f) ∙ sym (equal-add w (8 * b) k)

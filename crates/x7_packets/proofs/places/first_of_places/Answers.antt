@@ -1,0 +1,11 @@
+use Rattle.x7_packets.proofs.PlaceLemmas.{first_set, none_set}
+use Rattle.x7_packets.proofs.places.first_of_places.Goals as goal
+
+pub returns-then-end_bits-eq0 : goal.returns-then-end_bits-eq0
+returns-then-end_bits-eq0 c = none_set c.args.bytes.now c.args.at _ c.end_bits.ensures c.if-end_bits-eq0.true
+
+pub returns-then-bits-eq0 : goal.returns-then-bits-eq0
+returns-then-bits-eq0 c = none_set c.args.bytes.now c.args.at _ c.sync_bits-bits.ensures.all c.if-bits-eq0.true
+
+pub returns : goal.returns
+returns c = first_set c.args.bytes.now c.args.at _ _ c.sync_bits-bits.ensures.some c.sync_bits-bits.ensures.all c.lowest.ensures.set c.lowest.ensures.below

@@ -1,0 +1,42 @@
+-- How many of the first bytes of two blocks are the same, by the mask of those that differ.
+use Rattle.std.proofs.Common.{◌≡◌, ◌==◌, ℕ, zero, suc, ◌+◌, ◌%◌, ◌^◌, ◌≤◌, ◌-◌, Bool, true, false, not, cond, w8, List, [], ◌∷◌, length, take, map, refl, ap, sym, ◌∙◌, arith, inl, inr}
+use Rattle.std.specs.List.{prefix_len}
+use Rattle.std.proofs.lemmas.Bool.{cases_eq, eqb-true}
+use Rattle.std.proofs.lemmas.List.{map-id}
+use Rattle.std.proofs.lemmas.Simd.{leading_from_mask_l, length-zip2, mask_l-mod, tops_compared, trailing_mask_l}
+use lib.Lanes.{mask_l, top, zip2}
+use lib.Count.{count_trailing_zeros, trailing_le}
+use mir.Val.{bits, hbits}
+
+-- two bytes differ
+abbrev pub differs : ℕ → ℕ → Bool
+differs a b = not (a == b)
+
+same-step : (b : Bool) (n r x y : ℕ) (xs ys : List ℕ) → (b ≡ true → x ≡ y) → suc n ≤ cond (not (not b)) (1 + r) 0 → (n ≤ r → take n xs ≡ take n ys) → x ∷ take n xs ≡ y ∷ take n ys
+same-step true n r x y xs ys e h more = let s = e refl in ap (λ (k : ℕ). k ∷ take n xs) s ∙ ap (λ t. y ∷ t) (more (omega (arith, h)))
+same-step false n r x y xs ys e h more = absurd (omega (arith, h))
+
+same-so-far : (n : ℕ) (xs ys : List ℕ) → n ≤ prefix_len (λ b. not b) (zip2 differs xs ys) → take n xs ≡ take n ys
+same-so-far zero xs ys h = refl
+same-so-far (suc n) [] ys h = absurd (omega (arith, h))
+same-so-far (suc n) (x ∷ xs) [] h = absurd (omega (arith, h))
+same-so-far (suc n) (x ∷ xs) (y ∷ ys) h = same-step (x == y) n (prefix_len (λ b. not b) (zip2 differs xs ys)) x y xs ys (eqb-true x y) h (same-so-far n xs ys)
+
+pub few-zeros : (m : ℕ) → count_trailing_zeros 64 m ≤ 64
+few-zeros m = trailing_le 64 m
+
+before-set : (m : ℕ) (ds : List Bool) → length ds ≡ 64 → m ≡ mask_l ds → count_trailing_zeros 64 m ≤ prefix_len (λ b. not b) ds
+before-set m ds long e =
+    let same : mask_l (map (λ (b : Bool). b) ds) ≡ mask_l ds = ap mask_l (map-id ds) in
+    elim (cases_eq (mask_l (map (λ (b : Bool). b) ds)) 0) [
+      | inl none ↦ omega (arith, leading_from_mask_l (λ (b : Bool). b) ds none, long, few-zeros m)
+      | inr some ↦ omega (arith, ap (count_trailing_zeros 64) (e ∙ sym same), trailing_mask_l (λ (b : Bool). b) 64 ds (omega (arith, long)) (omega (arith, some)))
+    ]
+
+pub same-by-mask : (m n : ℕ) (a b : List ℕ) → length a ≡ 64 → length b ≡ 64 → m ≡ mask_l (zip2 differs a b) → n ≡ count_trailing_zeros 64 m → take n a ≡ take n b
+same-by-mask m n a b p q e f =
+    let size : length (zip2 differs a b) ≡ 64 = length-zip2 differs a b (p ∙ sym q) ∙ p in
+    same-so-far n a b (omega (arith, f, before-set m (zip2 differs a b) size e))
+
+pub mask-differs : (xs ys : List ℕ) → length xs ≡ 64 → length ys ≡ 64 → mask_l (map (top (hbits w8)) (zip2 (λ a b. cond (differs a b) (2 ^ bits w8 - 1) 0) xs ys)) % 2 ^ 64 ≡ mask_l (zip2 differs xs ys)
+mask-differs xs ys e f = ap (λ ms. mask_l ms % 2 ^ 64) (tops_compared w8 differs xs ys) ∙ mask_l-mod (zip2 differs xs ys) 64 (omega (arith, length-zip2 differs xs ys (e ∙ sym f), e))
