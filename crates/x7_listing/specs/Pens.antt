@@ -1,6 +1,10 @@
 -- What a lister tells with its pen (this project's choice).
 use Rattle.std.specs.Prelude.{List, ℕ, ◌++◌, take}
+use Rattle.x7_words.specs.Word.{bytes_of_word}
+use Rattle.x7_packets.specs.AtOnce.{Takes}
 use Rattle.x7_packets.specs.Cutting.{CutterState}
+use Rattle.x7_packets.specs.declared.cutter.Cut.TheVariants.{Head}
+use Rattle.x7_packets.specs.declared.header.Step.{Step}
 use Rattle.x7_packets.specs.Reading.{Place, Session}
 use Rattle.x7_listing.specs.Taking.{lister_of}
 use Rattle.x7_listing.specs.Telling.{ListerState, ListerStandsFor, Tells, ToldWhole}
@@ -9,6 +13,10 @@ use Rattle.x7_listing.specs.declared.pen.Pen.{Pen}
 -- a lister with this pen
 abbrev pub lister_with : CutterState → Pen → List ℕ → ListerState
 lister_with cutter pen text = lister_of cutter pen.synced pen.line (take pen.count pen.held) text
+
+-- a cutter takes this word in a header's place, and is as it was
+abbrev pub TakesHead : CutterState → ℕ → Step → Type 0
+TakesHead c w step = Takes c c (bytes_of_word w) (Head w step)
 
 -- the texts given and the lister's are those before and what is told of these bytes
 abbrev pub TellsFor : ListerState → List ℕ → List ℕ → List ℕ → Type 0

@@ -1,7 +1,6 @@
 //! Writing what is told at once: no-ops and zero words in a row, short writes, and a short gap with the sync word behind it.
 ghost use Rattle.std.specs.Prelude.{◌≡◌, ℕ, ◌+◌, ◌*◌, ◌<◌, ◌≤◌, true, List, [], ◌∷◌, ◌++◌, IfNone, IfSome, IsFalse, decimal, length, take, vec_len, vec_capacity};
-ghost use Rattle.x7_words.specs.Word.{bytes_of_word};
-ghost use Rattle.x7_packets.specs.AtOnce.{EndsGap, short_head, Takes, write_head, WritesFew, WritesOne};
+ghost use Rattle.x7_packets.specs.AtOnce.{EndsGap, short_head, write_head, WritesFew, WritesOne};
 ghost use Rattle.x7_packets.specs.Cutting.{CutterState};
 ghost use Rattle.x7_packets.specs.Nops.{equal_bytes, nop_bytes, nop_word};
 ghost use Rattle.x7_packets.specs.Packet.{payload_steps};
@@ -12,14 +11,14 @@ ghost use Rattle.x7_text.specs.Row.{close};
 ghost use Rattle.x7_listing.specs.TakingAtOnce.{TakesAtOnce};
 ghost use Rattle.x7_listing.specs.AtOnce.{command_lines, nop_lines, row_text, zero_lines};
 ghost use Rattle.x7_listing.specs.HeadLine.{head_text};
-ghost use Rattle.x7_listing.specs.Pens.{TellsFor, TellsOn, lister_with};
+ghost use Rattle.x7_listing.specs.Pens.{TakesHead, TellsOn, lister_with};
 ghost use Rattle.x7_listing.specs.Telling.{words_place, words_told};
 
 use crate::line::{put_command, put_head};
 use crate::pen::{Pen, in_session, session_line};
 use crate::rows::{command_row, name_row, write_row};
 use crate::sheet::{SHEET, Sheet};
-use x7_packets::{Cut, Cutter, Step};
+use x7_packets::{Cutter, Step};
 use x7_regs::Reg;
 use x7_text::{hex_of_word, put, put_close, put_first_bytes, put_first_words};
 
@@ -125,8 +124,8 @@ pub(crate) fn put_idle(text: &mut Vec<u8>, pen: Pen, count: usize) -> Pen
     requires room { vec_len text.old + (4 * count + 1) ≤ vec_capacity text.old }
     ensures len { vec_len text.new ≤ vec_len text.old + (4 * count + 1) }
     ensures room { vec_capacity text.old ≤ vec_capacity text.new }
-    ensures told { (c : CutterState) (given before bytes : List ℕ) → Takes c c (bytes_of_word nop_word) (Cut.Head nop_word Step.Nop)
-        → TellsFor (lister_with c pen text.old.items) given before bytes → TellsFor (lister_with c result text.new.items) given before (bytes ++ nop_bytes count) }
+    ensures told { (c : CutterState) → TakesHead c nop_word Step.Nop
+        → TellsOn (lister_with c pen text.old.items) (lister_with c result text.new.items) (nop_bytes count) }
 {
     put_close(text, session_line(pen));
     put_nops(text, count);
@@ -140,8 +139,8 @@ fn put_zero_words(text: &mut Vec<u8>, pen: Pen, count: usize) -> Pen
     requires room { vec_len text.old + (14 * count + 1) ≤ vec_capacity text.old }
     ensures len { vec_len text.new ≤ vec_len text.old + (14 * count + 1) }
     ensures room { vec_capacity text.old ≤ vec_capacity text.new }
-    ensures told { (c : CutterState) (given before bytes : List ℕ) → Takes c c (bytes_of_word 0) (Cut.Head 0 Step.Filler)
-        → TellsFor (lister_with c pen text.old.items) given before bytes → TellsFor (lister_with c result text.new.items) given before (bytes ++ equal_bytes 0 count) }
+    ensures told { (c : CutterState) → TakesHead c 0 Step.Filler
+        → TellsOn (lister_with c pen text.old.items) (lister_with c result text.new.items) (equal_bytes 0 count) }
 {
     put_close(text, session_line(pen));
     put_zeros(text, count);
@@ -155,8 +154,8 @@ fn put_write(text: &mut Vec<u8>, pen: Pen, register: u8, w: u32) -> Pen
     requires room { vec_len text.old + 97 ≤ vec_capacity text.old }
     ensures len { vec_len text.new ≤ vec_len text.old + 97 }
     ensures room { vec_capacity text.old ≤ vec_capacity text.new }
-    ensures told { (old new : CutterState) (rest given before bytes : List ℕ) → WritesOne old new rest register w
-        → TellsFor (lister_with old pen text.old.items) given before bytes → TellsFor (lister_with new result text.new.items) given before (bytes ++ take 8 rest) }
+    ensures told { (old new : CutterState) (rest : List ℕ) → WritesOne old new rest register w
+        → TellsOn (lister_with old pen text.old.items) (lister_with new result text.new.items) (take 8 rest) }
 {
     in_session(put_one_word(text, session_line(pen), register, w))
 }
@@ -217,8 +216,8 @@ fn put_short_write(text: &mut Vec<u8>, pen: Pen, register: u8, count: usize, res
     requires room { vec_len text.old + 189 ≤ vec_capacity text.old }
     ensures len { vec_len text.new ≤ vec_len text.old + 189 }
     ensures room { vec_capacity text.old ≤ vec_capacity text.new }
-    ensures told { (old new : CutterState) (given before bytes : List ℕ) → WritesFew old new rest.now register count
-        → TellsFor (lister_with old pen text.old.items) given before bytes → TellsFor (lister_with new result text.new.items) given before (bytes ++ take (4 + 4 * count) rest.now) }
+    ensures told { (old new : CutterState) → WritesFew old new rest.now register count
+        → TellsOn (lister_with old pen text.old.items) (lister_with new result text.new.items) (take (4 + 4 * count) rest.now) }
 {
     put_short_head(text, session_line(pen), register, count);
     in_session(put_first_words(text, first_64(&rest[4..]), count))
@@ -233,8 +232,8 @@ fn put_gap(text: &mut Vec<u8>, pen: Pen, count: usize, rest: &[u8]) -> Pen
     requires room { vec_len text.old + 112 ≤ vec_capacity text.old }
     ensures len { vec_len text.new ≤ vec_len text.old + 112 }
     ensures room { vec_capacity text.old ≤ vec_capacity text.new }
-    ensures told { (old new : CutterState) (given before bytes : List ℕ) → EndsGap old new rest.now count
-        → TellsFor (lister_with old pen text.old.items) given before bytes → TellsFor (lister_with new result text.new.items) given before (bytes ++ take (count + 4) rest.now) }
+    ensures told { (old new : CutterState) → EndsGap old new rest.now count
+        → TellsOn (lister_with old pen text.old.items) (lister_with new result text.new.items) (take (count + 4) rest.now) }
 {
     put_first_bytes(text, first_32(rest), count);
     put(text, b"sync\n");

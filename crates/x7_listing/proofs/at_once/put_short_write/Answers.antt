@@ -9,7 +9,7 @@ use Rattle.x7_listing.proofs.SessionLemmas.{data_place, data_told, is_data}
 use Rattle.x7_listing.proofs.at_once.put_short_write.Goals as goal
 
 pub returns-clause-told : goal.returns-clause-told
-returns-clause-told c = λ old new given before bytes x s.
+returns-clause-told c = λ old new x given before bytes s.
     let rest = c.args.rest.now in
     let front : take (4 * c.args.count) c.first_64.result.now ≡ take (4 * c.args.count) (drop 4 c.args.rest.now) = front_of_front _ c.args.count (drop 4 c.args.rest.now) c.first_64.result.now (omega (arith, c.requires.few)) (omega (arith, c.requires.long)) c.first_64.ensures in
     let ws : List ℕ = words_of_bytes (take (4 * c.args.count) c.first_64.result.now) in

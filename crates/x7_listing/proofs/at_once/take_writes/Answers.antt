@@ -28,5 +28,5 @@ returns-then-is_far-clause-told c = λ given before bytes s.
     let same : c.put_sheet.new.text.items ≡ c.args.text.now.items ++ c.loop-cutter.sheet = c.put_sheet.ensures.appends.items ∙ ap (λ (v : Vec ℕ Global). v.items ++ c.loop-cutter.sheet) c.loop-cutter.invariant.text in
     subst (Tells c.take_write.new.self c.put_write.result.synced c.put_write.result.line (take c.put_write.result.count c.put_write.result.held) c.put_write.new.text.items given before)
     (seam c.args.rest.now bytes _ c.loop-cutter.at 8 c.loop-cutter.invariant.within refl)
-    (c.put_write.ensures.told c.loop-cutter.cutter c.take_write.new.self _ given before (bytes ++ take c.loop-cutter.at c.args.rest.now) c.in-Some.ensures.some
+    (c.put_write.ensures.told c.loop-cutter.cutter c.take_write.new.self _ c.in-Some.ensures.some given before (bytes ++ take c.loop-cutter.at c.args.rest.now)
     (subst (λ (x : List ℕ). Tells c.loop-cutter.cutter c.loop-cutter.now.synced c.loop-cutter.now.line (take c.loop-cutter.now.count c.loop-cutter.now.held) x given before (bytes ++ take c.loop-cutter.at c.args.rest.now)) (sym same) (c.loop-cutter.invariant.tells given before bytes s)))

@@ -58,7 +58,7 @@ loop-rest-preserved-then-nops-gt0 c =
       tells = λ given before bytes s.
           subst (Tells c.loop-rest.cutter c.put_idle-now.result.synced c.put_idle-now.result.line (take c.put_idle-now.result.count c.put_idle-now.result.held) c.put_idle-now.new.text.items given before)
           (seam c.args.piece.now bytes _ c.loop-rest.at (4 * c.nop_count-nops.result) c.loop-rest.invariant.within c.nop_count-nops.ensures.nops)
-          (c.put_idle-now.ensures.told c.loop-rest.cutter given before (bytes ++ take c.loop-rest.at c.args.piece.now) (c.nop_count-nops.ensures.same c.if-nops-gt0.true) (c.loop-rest.invariant.tells given before bytes s));
+          (c.put_idle-now.ensures.told c.loop-rest.cutter (c.nop_count-nops.ensures.same c.if-nops-gt0.true) given before (bytes ++ take c.loop-rest.at c.args.piece.now) (c.loop-rest.invariant.tells given before bytes s));
     }
 
 pub loop-rest-preserved-in-Some : goal.loop-rest-preserved-in-Some
