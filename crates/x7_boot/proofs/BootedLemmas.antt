@@ -9,7 +9,7 @@ use Rattle.x7_engine.specs.Kept.{is_fallback}
 use Rattle.x7_engine.specs.Standing.{DeviceState}
 use Rattle.x7_engine.specs.declared.kept.Kept.{Kept}
 use Rattle.x7_boot.specs.Attempt.{IsDeviceOf, Trial, Tries}
-use Rattle.x7_boot.specs.Boot.{IsBoot, Led, LeadsTo, at_power, next_by, tried}
+use Rattle.x7_boot.specs.Boot.{IsBoot, Led, LeadsTo, next_by, tried}
 use Rattle.x7_boot.specs.declared.attempt.Ending.{Ending}
 use Rattle.x7_boot.specs.declared.boots.BootEnd.{BootEnd}
 use Rattle.x7_boot.specs.declared.boots.Tried.{Tried}
@@ -24,10 +24,6 @@ where_all (Some all) P f = f all
 pub where_on : (known : Option (List ℕ)) (P Q R : List ℕ → Type 0) → ((all : List ℕ) → P all → Q all → R all) → WhereTold known P → WhereTold known Q → WhereTold known R
 where_on None P Q R f p q = tt
 where_on (Some all) P Q R f p q = f all p q
-
--- no attempt yet
-pub led_first : (part : PartData) (all : List ℕ) → Led part all at_power 0 [] 0
-led_first part all = record { older = []; leads = refl; tried_are = refl; count = refl }
 
 one_more : (older : List Trial) (t : Trial) (attempts : List Tried) (next : Tried) → attempts ≡ reverse (map tried older) → next ≡ tried t → attempts ++ next ∷ [] ≡ reverse (map tried (t ∷ older))
 one_more older t attempts next e f =

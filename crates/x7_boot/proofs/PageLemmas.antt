@@ -1,13 +1,11 @@
 -- Lemmas on the pages of a flash that are kept, and on the rest of a page.
-use Rattle.std.proofs.Common.{◌≡◌, ◌+◌, ◌-◌, ◌*◌, ◌/◌, ◌%◌, ◌<◌, ◌≤◌, ◌++◌, ℕ, Bool, true, false, List, [], length, take, drop, slice_range, Option, None, Some, IsSome, is_some, Vec, nat_eq, min, refl, ap, sym, subst, ◌∙◌, drop-drop, length-drop, length-take, inl, inr, arith}
+use Rattle.std.proofs.Common.{◌≡◌, ◌+◌, ◌-◌, ◌*◌, ◌/◌, ◌%◌, ◌<◌, ◌≤◌, ◌++◌, ℕ, Bool, true, List, [], length, take, drop, slice_range, Option, None, Some, IsSome, is_some, Vec, nat_eq, min, refl, ap, sym, subst, ◌∙◌, drop-drop, length-drop, length-take, inl, inr, arith}
 use Rattle.std.proofs.lemmas.List.{drop-take, take-take, take_rest}
-use Rattle.std.proofs.lemmas.Bool.{false≢true}
 use Rattle.std.specs.Cmp.{nat_eq_equiv}
 use Rattle.std.specs.Map.{lookup, lookup_entry}
 use Rattle.std.specs.declared.alloc.Global.{Global}
 use Rattle.lru.specs.LruCache.{LruCache, lru_cache, promoted, put_entries}
-use Rattle.lru.proofs.CallerLemmas.{Contains-lookup, Contains-lookup_entry, Contains-promoted, Contains-put_entries, Contains-take, lookup-put_entries}
-use Rattle.lru.proofs.Splits.{Contains-nil}
+use Rattle.lru.proofs.CallerLemmas.{Contains-lookup, Contains-lookup_entry, Contains-promoted, Contains-put_entries, lookup-put_entries}
 use Rattle.x7_words.specs.Flash.{WhereTold}
 use Rattle.x7_boot.specs.Image.{flash_limit}
 use Rattle.x7_boot.specs.Pages.{AreFrom, ArePages, HasPage, IsBlock, IsLoaded, IsRest, Pages, Reaches, block_end, page_end, page_size}
@@ -16,17 +14,11 @@ use Rattle.x7_boot.specs.declared.cache.Loaded.TheVariants.{Kept, Read}
 
 -- ---- pages that are kept
 
-pub no_pages : (known : Option (List ℕ)) (extent : ℕ) → ArePages known extent []
-no_pages known extent page c = absurd (Contains-nil page c)
-
 pages_promoted : (known : Option (List ℕ)) (extent : ℕ) (test : ℕ → Bool) (pages : Pages) → ArePages known extent pages → ArePages known extent (promoted test pages)
 pages_promoted known extent test pages are page c = are page (Contains-promoted test pages page c)
 
 pub pages_on_promote : (known : Option (List ℕ)) (extent : ℕ) (test : ℕ → Bool) (cache new : LruCache ℕ (Vec ℕ Global)) → new ≡ lru_cache (promoted test cache.entries) cache.cap → ArePages known extent cache.entries → ArePages known extent new.entries
 pages_on_promote known extent test cache new e are = subst (λ (k : LruCache ℕ (Vec ℕ Global)). ArePages known extent k.entries) (sym e) (pages_promoted known extent test cache.entries are)
-
-pub pages_taken : (known : Option (List ℕ)) (extent n : ℕ) (pages : Pages) → ArePages known extent pages → ArePages known extent (take n pages)
-pages_taken known extent n pages are page c = are page (Contains-take n pages page c)
 
 same_number : (a b : ℕ) → nat_eq a b ≡ true → b ≡ a
 same_number a b e = grind arith
@@ -101,10 +93,6 @@ pages_split known extent number count index stop cache new page block lent front
 pub there_put : (cache : LruCache ℕ (Vec ℕ Global)) (number : ℕ) (page : Vec ℕ Global) → IsSome (lookup (nat_eq number) (put_entries nat_eq cache number page))
 there_put cache number page = rw (lookup-put_entries nat_eq cache number page nat_eq_equiv) refl
 
-pub no_page : (o : Option (Vec ℕ Global)) → is_some o ≡ false → o ≡ None
-no_page None e = refl
-no_page (Some page) e = absurd (false≢true (sym e))
-
 -- a page that was there is there
 pub there_promoted : (test : ℕ → Bool) (pages : Pages) → is_some (lookup test pages) ≡ true → IsSome (lookup test (promoted test pages))
 there_promoted test pages e = by (lookup_entry test pages) refl
@@ -118,9 +106,6 @@ there_promoted test pages e = by (lookup_entry test pages) refl
 -- a place stands before the end of its page
 pub within_page : (at extent : ℕ) → at < extent → at < page_end at extent
 within_page at extent l = grind arith
-
-pub begins_within : (at extent : ℕ) → at < extent → at / page_size * page_size < extent
-begins_within at extent l = omega (arith, l)
 
 told_from : (known : Option (List ℕ)) (bytes : List ℕ) (start more at end stop : ℕ) → start + more ≡ at → end ≡ stop → at ≤ stop → WhereTold known (λ all. bytes ≡ slice_range all start end)
     → WhereTold known (λ all. drop more bytes ≡ slice_range all at stop)

@@ -331,19 +331,6 @@ feeds_gap keep address taken known d new l gap fallback count again due =
       none = λ k m. gap_open d.part keep (take k l.bytes) fallback (fewer_ask_nothing l.bytes k fits nothing);
     }
 
--- a new device stands for no byte of a flash
-pub leaves_first : (part : PartData) (kept : Kept) (address : ℕ) (known : Option (List ℕ)) (d : DeviceState) → DeviceStandsFor part kept false d [] → Leaves address known d
-leaves_first part kept address known d s = record {
-  part = part;
-  kept = kept;
-  wrapped = false;
-  bytes = [];
-  stands = s;
-  few = omega arith;
-  read = let same : address + 0 ≡ address = omega arith in
-      where_all known (λ all. [] ≡ slice_range all address (address + 0)) (λ all. empty_range all address ∙ sym (ap (slice_range all address) same));
-}
-
 -- so does one where the flash has ended
 pub leaves_out : (part : PartData) (kept : Kept) (address : ℕ) (known : Option (List ℕ)) (d new : DeviceState) (at : ℕ) → (f : Feeds part kept address known d at) → DeviceStandsFor part kept true new f.bytes → Leaves address known new
 leaves_out part kept address known d new at f s = record {

@@ -1,5 +1,5 @@
 //! The boot of a device from a flash.
-ghost use Rattle.std.specs.Prelude.{◌≡◌, ◌≤◌, ◌<◌, ◌↔◌, List, true, Err, IfOk, IsErrOf};
+ghost use Rattle.std.specs.Prelude.{◌≡◌, ◌≤◌, ◌<◌, ◌↔◌, List, true, Err, IfOk, IsErrOf, OnOk};
 ghost use Rattle.x7_words.specs.Flash.{FlashFails, OnlyReads, WhereTold};
 ghost use Rattle.x7_words.specs.Word.{AreBytes};
 ghost use Rattle.x7_engine.specs.Standing.{NoWordDue};
@@ -103,6 +103,8 @@ pub fn boot<F: Flash>(alloc: Global, part: &Part, flash: &mut F) -> Result<Boote
     ensures part { IfOk result (λ booted. booted.device.part ≡ part.now) }
     ensures due { IfOk result (λ booted. NoWordDue booted.device) }
     ensures failed { IsErrOf result BootFault.Failed → FlashFails (F.state flash.old) (F.state flash.new) }
+    ensures quiet { OnOk result ((F.state flash.new).faults ≡ (F.state flash.old).faults) }
+    ensures no_memory { IsErrOf result BootFault.NoMemory → (F.state flash.new).faults ≡ (F.state flash.old).faults }
     ensures too_large { (result ≡ Err BootFault.TooLarge) ↔ (flash_limit < (F.state flash.old).extent) }
     ensures flash { OnlyReads (F.state flash.old) (F.state flash.new) (F.found_since flash.old) (F.found_since flash.new) }
 {

@@ -1,5 +1,5 @@
 //! An attempt over a flash.
-ghost use Rattle.std.specs.Prelude.{◌≡◌, ◌≤◌, ◌<◌, ◌^◌, ℕ, List, Option, length, true, false, IfOk, IsErrOf, IsTrue};
+ghost use Rattle.std.specs.Prelude.{◌≡◌, ◌≤◌, ◌<◌, ◌^◌, ℕ, List, Option, length, true, false, IfOk, IsErrOf, IsTrue, OnOk};
 ghost use Rattle.x7_regs.specs.declared.boot_status.Kind.TheVariants.{Bench};
 ghost use Rattle.x7_regs.specs.declared.boot_status.Cause.TheVariants.{Wrap};
 ghost use Rattle.x7_words.specs.Flash.{FlashFails, OnlyReads, WhereTold};
@@ -86,6 +86,8 @@ pub(crate) fn try_once<F: Flash>(
     ensures part { IfOk result (λ ending. device.new.part ≡ device.old.part) }
     ensures due { IfOk result (λ ending. NoWordDue device.new) }
     ensures failed { IsErrOf result BootFault.Failed → FlashFails (F.state flash.old) (F.state flash.new) }
+    ensures quiet { OnOk result ((F.state flash.new).faults ≡ (F.state flash.old).faults) }
+    ensures no_memory { IsErrOf result BootFault.NoMemory → (F.state flash.new).faults ≡ (F.state flash.old).faults }
     ensures not_large { IsErrOf result BootFault.TooLarge → ⊥ }
     ensures flash { OnlyReads (F.state flash.old) (F.state flash.new) (F.found_since flash.old) (F.found_since flash.new) }
 {

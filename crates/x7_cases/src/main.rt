@@ -8,9 +8,9 @@ use x7_tool::run;
 use x7_words::{MemoryFlash, MemoryInputs, MemorySink};
 
 /// The files of cases, each with the end `.txt`.
-const SUBJECTS: [&str; 17] = [
+const SUBJECTS: [&str; 19] = [
     "list", "asm", "play", "frames", "startup", "mcs", "plan", "partial", "image", "boot",
-    "attempts", "chains", "parts", "debug", "faults", "damaged", "limits",
+    "attempts", "chains", "update", "parts", "debug", "svf", "faults", "damaged", "limits",
 ];
 
 /// The command `x7`.

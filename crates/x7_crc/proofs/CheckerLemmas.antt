@@ -27,10 +27,6 @@ check-folded h register word place e n = rw (e, n) (sym (check_of-more (running_
 pub check-reset : (h : History) (register word place : ℕ) → executes 7 h (Write register word) ≡ true → running_check (entry (Write register word) place ∷ h) ≡ 0
 check-reset h register word place e = check-cleared h register word place (ap (λ b. b || (register == 0)) e)
 
--- any other write but one to CRC
-pub kept-open : (h : History) (register word : ℕ) → executes 7 h (Write register word) ≡ false → (register == 0) ≡ false → clears h (Write register word) ≡ false
-kept-open h register word e n = ap (λ b. b || (register == 0)) e ∙ n
-
 -- one payload word more
 pub entered-more : (register n : ℕ) (ws : List ℕ) (w : ℕ) (h : History) → entered_all n (payload_steps register (ws ++ w ∷ [])) h ≡ entry (Write register w) (n + 4 * length ws + 4) ∷ entered_all n (payload_steps register ws) h
 entered-more register n [] w h = let e : n + 4 ≡ n + 4 * 0 + 4 = omega arith in ap (λ (k : ℕ). entry (Write register w) k ∷ h) e

@@ -53,9 +53,6 @@ entry_at n i xs t h = entry n 0 i xs t h ∙ ap (advanced n) (zero-add i)
 pub low_mask : (n v : ℕ) → bit_and v (2 ^ n - 1) ≡ v % 2 ^ n
 low_mask n v = and_mask v n
 
-pub register_step : (v : ℕ) → bit_xor (v / 32) (advanced 5 (bit_and v 31)) ≡ advanced 5 v
-register_step v = rw (low_mask 5 v) (sym (advanced-split 5 v))
-
 advanced_byte : (n v : ℕ) → advanced (8 + n) v ≡ bit_xor (advanced (8 + n) (v % 256)) (advanced n (v / 256))
 advanced_byte n v =
     advanced-add 8 n v ∙ ap (advanced n) (advanced-split 8 v) ∙ advanced-xor n (v / 256) (advanced 8 (v % 256))

@@ -36,7 +36,8 @@ pub(crate) struct SavedRegisters {
 impl SavedRegisters {
     /// Those of a device on the bench that took nothing.
     pub(crate) fn new() -> SavedRegisters
-        ensures { (part : PartData) (f : FramesState) → FramesStandFor part f [] 0 → RegistersStandFor part on_the_bench (registers_with (values_in result) f) [] 0 }
+        ensures stands { (part : PartData) (f : FramesState) → FramesStandFor part f [] 0 → RegistersStandFor part on_the_bench (registers_with (values_in result) f) [] 0 }
+        ensures none_due { result.due ≡ Due.Nothing }
     {
         SavedRegisters {
             words: Words::new(&ON_THE_BENCH),

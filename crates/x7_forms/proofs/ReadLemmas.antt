@@ -108,11 +108,11 @@ read_steady limit name =
 -- ---- causes of steps one after the other
 
 -- an event by its cause
-fault_by : (reason : Why) (name : List ℕ) → (row_of reason).cause ≡ Fault → read_fault name ≡ record { reason = reason; concerned = name }
+pub fault_by : (reason : Why) (name : List ℕ) → (row_of reason).cause ≡ Fault → read_fault name ≡ record { reason = reason; concerned = name }
 fault_by why.ReadFault name e = refl
 fault_by reason name e = absurd (cc)
 
-absence_by : (reason : Why) (name : List ℕ) → (row_of reason).cause ≡ Absence → missing name ≡ record { reason = reason; concerned = name }
+pub absence_by : (reason : Why) (name : List ℕ) → (row_of reason).cause ≡ Absence → missing name ≡ record { reason = reason; concerned = name }
 absence_by why.Missing name e = refl
 absence_by reason name e = absurd (cc)
 

@@ -27,9 +27,11 @@ pub data Cause : Type 0 where
   Fault : Cause
   -- a name isn't there, by the contents or by a count of absences
   Absence : Cause
-  -- the output failed, by its count of faults
+  -- the output failed, or a write of the flash, by its count of faults
   Break : Cause
-  -- what the inputs hold
+  -- a byte of the flash that was read back is another than the one written
+  Difference : Cause
+  -- what the inputs and the flash hold
   Contents : Cause
 
 -- a key of a part file, and its row where it is a row's
@@ -64,6 +66,8 @@ input_text input.Empty = codes "empty"
 input_text input.Foreign = codes "foreign"
 input_text input.Range = codes "range"
 input_text input.Image = codes "image"
+input_text input.Long = codes "long"
+input_text (input.Layout place) = codes "layout byte " ++ decimal place
 
 -- a row of the table of reasons: the words stand before the name, the detail after it
 pub record Row : Type 0 where
@@ -82,6 +86,7 @@ row_of why.ReadFault = record { ends_as = status.ReadFault; cause = Fault; words
 row_of why.WriteFault = record { ends_as = status.WriteFault; cause = Break; words = codes "write fault"; detail = [] }
 row_of why.NoMemory = record { ends_as = status.NoMemory; cause = Want; words = codes "no memory"; detail = [] }
 row_of why.TooLarge = record { ends_as = status.TooLarge; cause = Contents; words = codes "too large "; detail = [] }
+row_of (why.Differs place) = record { ends_as = status.Differs; cause = Difference; words = codes "differs "; detail = codes ": byte " ++ decimal place }
 
 abbrev pub cause_of : Event → Cause
 cause_of e = (row_of e.reason).cause
@@ -118,6 +123,9 @@ no_memory = record { reason = why.NoMemory; concerned = [] }
 
 abbrev pub too_large : List ℕ → Event
 too_large name = record { reason = why.TooLarge; concerned = name }
+
+abbrev pub differs : List ℕ → ℕ → Event
+differs name place = record { reason = why.Differs place; concerned = name }
 
 -- too many words were read out
 abbrev pub too_many_reads : Event

@@ -21,7 +21,9 @@ pub data Asked : Type 0 where
   Imaging : (golden update : List ℕ) → Asked
   ImagingFor : (part golden update : List ℕ) → Asked
   Debugging : (part stream script : List ℕ) → Asked
+  PlayingSvf : (part text : List ℕ) → Asked
   Booting : (part flash : List ℕ) → Asked
+  Updating : (flash stream : List ℕ) → Asked
 
 -- a form of one name
 abbrev pub one_name : (List ℕ → Asked) → List (List ℕ) → Option Asked
@@ -105,7 +107,9 @@ form_of (command ∷ names) =
     else if bytes_eq command (codes "plan") then plan_form names
     else if bytes_eq command (codes "gen") then gen_form names
     else if bytes_eq command (codes "debug") then debug_form names
+    else if bytes_eq command (codes "svf") then two_names PlayingSvf names
     else if bytes_eq command (codes "boot") then two_names Booting names
+    else if bytes_eq command (codes "update") then two_names Updating names
     else None
 
 -- what a form of the code asks for
@@ -122,7 +126,9 @@ asked_by (form.Gen part seed) = Generating part.now seed
 asked_by (form.Image golden update) = Imaging golden.now update.now
 asked_by (form.ImageFor part golden update) = ImagingFor part.now golden.now update.now
 asked_by (form.Debug part stream script) = Debugging part.now stream.now script.now
+asked_by (form.Svf part text) = PlayingSvf part.now text.now
 asked_by (form.Boot part flash) = Booting part.now flash.now
+asked_by (form.Update flash stream) = Updating flash.now stream.now
 
 abbrev pub asked : Option Form → Option Asked
 asked None = None
@@ -143,14 +149,36 @@ names_of (Some (PlanningPartial part frames)) = part ∷ frames ∷ []
 names_of (Some (PlanningRead part far n)) = part ∷ []
 names_of (Some (Generating part seed)) = part ∷ []
 names_of (Some (Debugging part stream script)) = part ∷ stream ∷ script ∷ []
+names_of (Some (PlayingSvf part text)) = part ∷ text ∷ []
 names_of (Some (Booting part flash)) = part ∷ []
+names_of (Some (Updating flash stream)) = stream ∷ []
 
--- the name of the flash that a form reads
+-- what a form does with a flash: nothing, or it reads or updates the one of a name
+pub data FlashUse : Type 0 where
+  Unused : FlashUse
+  Read : (name : List ℕ) → FlashUse
+  Updated : (name : List ℕ) → FlashUse
+
+abbrev pub flash_use : Option Asked → FlashUse
+flash_use (Some (Booting part flash)) = Read flash
+flash_use (Some (Updating flash stream)) = Updated flash
+flash_use form = Unused
+
+abbrev pub names_used : FlashUse → List (List ℕ)
+names_used Unused = []
+names_used (Read name) = name ∷ []
+names_used (Updated name) = name ∷ []
+
+-- the name of the flash that a form reads or updates
 abbrev pub flash_names : Option Asked → List (List ℕ)
-flash_names (Some (Booting part flash)) = flash ∷ []
-flash_names form = []
+flash_names form = names_used (flash_use form)
 
 -- the stream that a form lists as it reads it; every other form writes its whole text at its end
 abbrev pub listed_by : Option Asked → Option (List ℕ)
 listed_by (Some (Listing stream)) = Some stream
 listed_by form = None
+
+-- the stream with which a form updates its flash; no other form writes a flash
+abbrev pub updated_by : Option Asked → Option (List ℕ)
+updated_by (Some (Updating flash stream)) = Some stream
+updated_by form = None

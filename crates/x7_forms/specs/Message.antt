@@ -18,6 +18,7 @@ number_of status.ReadFault = 6
 number_of status.WriteFault = 7
 number_of status.NoMemory = 8
 number_of status.TooLarge = 9
+number_of status.Differs = 11
 
 -- the status of a whole text, by whether what it reports stopped at a fault
 abbrev pub text_status : Bool → Status

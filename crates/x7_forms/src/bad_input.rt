@@ -44,6 +44,10 @@ pub enum InputFault {
     Range,
     /// An image with this update stream would be larger than a flash may be.
     Image,
+    /// The stream ends behind the end of the flash.
+    Long,
+    /// The flash has no layout that can be updated; the place shows where.
+    Layout(u64),
 }
 
 /// The start of the line, before the name of the input.
@@ -116,6 +120,8 @@ pub(crate) fn say_bad_input<E: Sink>(
         InputFault::Foreign => say_at(err, name, b": foreign", b""),
         InputFault::Range => say_at(err, name, b": range", b""),
         InputFault::Image => say_at(err, name, b": image", b""),
+        InputFault::Long => say_at(err, name, b": long", b""),
+        InputFault::Layout(place) => say_number(err, name, b": layout byte ", place),
         InputFault::Sum { line, want, got } => {
             let mut buffer = Buffer::new();
             say_sum(

@@ -1,6 +1,6 @@
 //! The forms of the command line.
 ghost use Rattle.std.specs.Prelude.{◌≡◌, map, string_bytes};
-ghost use Rattle.x7_forms.specs.Form.{Assembling, Booting, FromMcs, Listing, PlanningFull, ToMcs, debug_form, form_of, gen_form, image_form, number_in, one_name, plan_form, plan_read_form, play_form, two_names, word_in, PlanningPartial, asked};
+ghost use Rattle.x7_forms.specs.Form.{Assembling, Booting, FromMcs, Listing, PlayingSvf, PlanningFull, ToMcs, debug_form, form_of, gen_form, image_form, number_in, one_name, plan_form, plan_read_form, play_form, two_names, word_in, PlanningPartial, Updating, asked};
 
 use x7_text::{decimal_below, word_of_hex};
 
@@ -89,12 +89,26 @@ pub enum Form<'w> {
         /// The script's name.
         script: &'w str,
     },
+    /// `svf PART TEXT`: what an SVF text does, played on the test access port of a new device.
+    Svf {
+        /// The part file's name.
+        part: &'w str,
+        /// The text's name.
+        text: &'w str,
+    },
     /// `boot PART FLASH`: which image a device starts from a flash.
     Boot {
         /// The part file's name.
         part: &'w str,
         /// The flash's name.
         flash: &'w str,
+    },
+    /// `update FLASH STREAM`: a flash that is updated with a stream.
+    Update {
+        /// The flash's name.
+        flash: &'w str,
+        /// The stream's name.
+        stream: &'w str,
     },
 }
 
@@ -267,6 +281,19 @@ fn debug_form(names: &[String]) -> Option<Form<'_>>
     }
 }
 
+/// `svf PART TEXT`.
+fn svf_form(names: &[String]) -> Option<Form<'_>>
+    ensures { asked result ≡ two_names PlayingSvf (map string_bytes names.now) }
+{
+    match names {
+        [part, text] => Some(Form::Svf {
+            part: part.as_str(),
+            text: text.as_str(),
+        }),
+        _ => None,
+    }
+}
+
 /// `boot PART FLASH`.
 fn boot_form(names: &[String]) -> Option<Form<'_>>
     ensures { asked result ≡ two_names Booting (map string_bytes names.now) }
@@ -275,6 +302,19 @@ fn boot_form(names: &[String]) -> Option<Form<'_>>
         [part, flash] => Some(Form::Boot {
             part: part.as_str(),
             flash: flash.as_str(),
+        }),
+        _ => None,
+    }
+}
+
+/// `update FLASH STREAM`.
+fn update_form(names: &[String]) -> Option<Form<'_>>
+    ensures { asked result ≡ two_names Updating (map string_bytes names.now) }
+{
+    match names {
+        [flash, stream] => Some(Form::Update {
+            flash: flash.as_str(),
+            stream: stream.as_str(),
         }),
         _ => None,
     }
@@ -315,7 +355,9 @@ pub fn words_of(words: &Vec<String>) -> Option<Form<'_>>
         "gen" => gen_form(names),
         "image" => image_form(names),
         "debug" => debug_form(names),
+        "svf" => svf_form(names),
         "boot" => boot_form(names),
+        "update" => update_form(names),
         _ => None,
     }
 }

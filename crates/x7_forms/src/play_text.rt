@@ -6,8 +6,8 @@ ghost use Rattle.x7_text.specs.Appends.{Appends};
 ghost use Rattle.x7_part.specs.Part.{PartData};
 ghost use Rattle.x7_memory.specs.Frames.{AreFramesOf, frame_at};
 ghost use Rattle.x7_engine.specs.declared.kept.Kept.{Kept};
-ghost use Rattle.x7_engine.specs.Standing.{DeviceStandsFor, NoWordDue};
-ghost use Rattle.x7_engine.specs.State.{memory_in, state_of};
+ghost use Rattle.x7_engine.specs.Standing.{DeviceStandsFor, NoWordDue, frames_due};
+ghost use Rattle.x7_engine.specs.State.{memory_in, state_of, state_owing};
 ghost use Rattle.x7_forms.specs.Report.{line_of, lines_text, report_text};
 
 use crate::reports::{report_head, shown_frames};
@@ -100,15 +100,18 @@ impl Model for PlayText {
 }
 
 impl PlayText {
-    /// The report of a device and of the words that it read out.
+    /// The report of a device and of the words that it read out. While words of frame data are due, FAR is that of the words
+    /// given so far.
     pub fn new(
         alloc: Global,
         device: Device,
         reads: &[u32],
         stopped: bool,
     ) -> Result<PlayText, NoMemory>
-        ensures { IfOk result (λ text. (part : PartData) (kept : Kept) (wrapped : Bool) (bytes : List ℕ) → DeviceStandsFor part kept wrapped device bytes → NoWordDue device
+        ensures value { IfOk result (λ text. (part : PartData) (kept : Kept) (wrapped : Bool) (bytes : List ℕ) → DeviceStandsFor part kept wrapped device bytes → NoWordDue device
             → text ≡ record { stopped = stopped; text = report_text part (state_of part kept wrapped bytes) reads.now (memory_in part kept bytes) }) }
+        ensures owing { IfOk result (λ text. (part : PartData) (kept : Kept) (wrapped : Bool) (bytes : List ℕ) → DeviceStandsFor part kept wrapped device bytes
+            → text ≡ record { stopped = stopped; text = report_text part (state_owing part kept wrapped bytes (frames_due device.registers.due)) reads.now (memory_in part kept bytes) }) }
     {
         let fars = shown_frames(alloc, device.part(), device.memory())?;
         let head = report_head(alloc, &device, reads, fars.len())?;

@@ -1,10 +1,12 @@
 //! Why a command has no whole text, and the line that says so.
-ghost use Rattle.std.specs.Prelude.{◌≡◌, ◌++◌, [], codes};
+ghost use Rattle.std.specs.Prelude.{◌≡◌, ◌++◌, [], codes, decimal};
 ghost use Rattle.x7_words.specs.Sink.{Tells};
+ghost use Rattle.x7_forms.specs.Event.{differs, line_of};
 
 use crate::bad_input::{InputFault, say_bad_input};
 use crate::bad_part::say_bad_part;
 use crate::status::Status;
+use itoa::Buffer;
 use x7_part::PartFault;
 use x7_words::{Failed, Sink, write_pieces};
 
@@ -27,6 +29,8 @@ pub enum Why {
     NoMemory,
     /// An input has more bytes than its limit; of the name `reads`, too many words were read out.
     TooLarge,
+    /// A byte of the flash that was read back is another than the one written; its place.
+    Differs(u64),
 }
 
 impl Why {
@@ -45,6 +49,7 @@ impl Why {
             Why::WriteFault => Status::WriteFault,
             Why::NoMemory => Status::NoMemory,
             Why::TooLarge => Status::TooLarge,
+            Why::Differs(_) => Status::Differs,
         }
     }
 
@@ -61,6 +66,7 @@ impl Why {
             Why::WriteFault => b"x7: write fault",
             Why::NoMemory => b"x7: no memory",
             Why::TooLarge => b"x7: too large ",
+            Why::Differs(_) => b"x7: differs ",
         }
     }
 }
@@ -70,6 +76,15 @@ fn say_line<'x, E: Sink>(err: &mut E, words: &'x [u8], name: &'x str) -> Result<
     ensures { Tells (E.state err.old) (words.now ++ (name.now ++ codes "\n")) (E.state err.new) }
 {
     write_pieces(err, &[words, name.as_bytes(), b"\n"])
+}
+
+/// Writes the line of a byte of a flash that differs. No memory is taken.
+fn say_differs<E: Sink>(err: &mut E, name: &str, place: u64) -> Result<(), Failed>
+    ensures { Tells (E.state err.old) (line_of (differs name.now place)) (E.state err.new) }
+{
+    let mut buffer = Buffer::new();
+    let place = buffer.format(place).as_bytes();
+    write_pieces(err, &[b"x7: differs ", name.as_bytes(), b": byte ", place, b"\n"])
 }
 
 /// Why a command has no whole text, with the name of the input concerned, which is empty where none is.
@@ -99,6 +114,7 @@ impl<'w> Refusal<'w> {
         match self.reason {
             Why::BadPart(fault) => say_bad_part(err, self.name, fault),
             Why::BadInput(fault) => say_bad_input(err, self.name, fault),
+            Why::Differs(place) => say_differs(err, self.name, place),
             _ => say_line(err, self.reason.words(), self.name),
         }
     }

@@ -6,8 +6,8 @@ ghost use Rattle.x7_part.specs.Part.{PartData};
 ghost use Rattle.x7_memory.specs.Frames.{AreFramesOf, frame_at};
 ghost use Rattle.x7_text.specs.Row.{data_text};
 ghost use Rattle.x7_engine.specs.declared.kept.Kept.{Kept};
-ghost use Rattle.x7_engine.specs.Standing.{DeviceStandsFor, NoWordDue};
-ghost use Rattle.x7_engine.specs.State.{memory_in, state_of};
+ghost use Rattle.x7_engine.specs.Standing.{DeviceStandsFor, NoWordDue, frames_due};
+ghost use Rattle.x7_engine.specs.State.{memory_in, state_of, state_owing};
 ghost use Rattle.x7_forms.specs.Report.{frames_text, is_blank, is_shown, line_of, reads_text, report_text, shown, state_text};
 
 use std::alloc::Global;
@@ -190,8 +190,10 @@ pub(crate) fn report_head(
     reads: &[u32],
     count: usize,
 ) -> Result<Vec<u8>, NoMemory>
-    ensures { IfOk result (λ text. (part : PartData) (kept : Kept) (wrapped : Bool) (bytes : List ℕ) → DeviceStandsFor part kept wrapped device.now bytes → NoWordDue device.now
+    ensures value { IfOk result (λ text. (part : PartData) (kept : Kept) (wrapped : Bool) (bytes : List ℕ) → DeviceStandsFor part kept wrapped device.now bytes → NoWordDue device.now
         → text.items ≡ state_text part.name (state_of part kept wrapped bytes) ++ reads_text reads.now ++ codes "frames " ++ decimal count ++ codes "\n") }
+    ensures owing { IfOk result (λ text. (part : PartData) (kept : Kept) (wrapped : Bool) (bytes : List ℕ) → DeviceStandsFor part kept wrapped device.now bytes
+        → text.items ≡ state_text part.name (state_owing part kept wrapped bytes (frames_due device.now.registers.due)) ++ reads_text reads.now ++ codes "frames " ++ decimal count ++ codes "\n") }
 {
     let mut text = Vec::new(alloc);
     put_state(&mut text, device.part().name(), &device.state())?;

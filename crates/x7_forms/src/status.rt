@@ -24,6 +24,8 @@ pub enum Status {
     NoMemory,
     /// An input has more bytes than its limit, or too many words were read out.
     TooLarge,
+    /// A byte of the flash that was read back is another than the one written.
+    Differs,
 }
 
 impl Status {
@@ -55,6 +57,7 @@ impl Status {
             Status::WriteFault => 7,
             Status::NoMemory => 8,
             Status::TooLarge => 9,
+            Status::Differs => 11,
         }
     }
 }

@@ -1,6 +1,6 @@
 -- Lemmas on the bits of bytes: eight clocks under CFG_IN complete a byte.
-use Rattle.std.proofs.Common.{◌≡◌, ℕ, zero, suc, ◌+◌, ◌-◌, ◌*◌, ◌/◌, ◌%◌, ◌^◌, ◌<◌, ◌≤◌, ◌==◌, nat_lt, Bool, true, false, if◌then◌else◌, List, [], ◌∷◌, ◌++◌, length, map, take, drop, slice_index, refl, ap, ap₂, sym, subst, ◌∙◌, append_assoc, append-nil, length-append, arith}
-use Rattle.std.specs.List.{flat_map, fold}
+use Rattle.std.proofs.Common.{◌≡◌, ℕ, zero, suc, ◌+◌, ◌-◌, ◌*◌, ◌/◌, ◌%◌, ◌^◌, ◌<◌, ◌≤◌, ◌==◌, nat_lt, Bool, true, false, if◌then◌else◌, List, [], ◌∷◌, ◌++◌, length, take, drop, slice_index, refl, ap, ap₂, sym, subst, ◌∙◌, append_assoc, append-nil, length-append, arith}
+use Rattle.std.specs.List.{fold}
 use Rattle.std.proofs.lemmas.List.Sums.{fold-append}
 use Rattle.x7_words.specs.Word.{AreBytes}
 use Rattle.x7_part.specs.Part.{PartData}
@@ -10,7 +10,7 @@ use Rattle.x7_jtag.specs.declared.instruction.Instruction.TheVariants as instruc
 use Rattle.x7_jtag.specs.declared.state.State.{State}
 use Rattle.x7_jtag.specs.declared.state.State.TheVariants as state
 use Rattle.x7_jtag.specs.Bits.{bit_of, bits_from, byte_bits, bytes_bits, hex_digit, mirrored}
-use Rattle.x7_jtag.specs.Clocks.{clock, inner_clocks, shift_clocks}
+use Rattle.x7_jtag.specs.Clocks.{clock, inner_clocks}
 use Rattle.x7_jtag.specs.Port.{Port, clocked, number_of_bit, port_after, new_port, with_bit, words_read}
 use Rattle.x7_jtag.specs.Queue.{Queue, offered}
 use Rattle.x7_jtag.specs.States.{Clock}

@@ -1,11 +1,10 @@
 -- Lemmas on bytes that are offered while no word waits: the device takes them at once, up to the one with which a word is read out.
-use Rattle.std.proofs.Common.{◌≡◌, ◌⊎◌, inl, inr, ℕ, zero, suc, ◌+◌, ◌-◌, ◌*◌, ◌<◌, ◌≤◌, ◌==◌, ◌&&◌, nat_lt, Bool, true, false, if◌then◌else◌, List, [], ◌∷◌, ◌++◌, length, take, drop, slice_index, Option, Some, None, refl, ap, sym, subst, ◌∙◌, append_assoc, append-nil, length-append, length-drop, arith}
-use Rattle.std.proofs.Math.Seq.{take-length}
+use Rattle.std.proofs.Common.{◌≡◌, ◌⊎◌, inl, inr, ℕ, zero, suc, ◌-◌, ◌*◌, ◌<◌, ◌≤◌, ◌==◌, ◌&&◌, Bool, false, if◌then◌else◌, List, [], ◌∷◌, ◌++◌, length, take, drop, slice_index, refl, ap, sym, subst, ◌∙◌, append_assoc, append-nil, length-append, length-drop, arith}
 use Rattle.std.proofs.lemmas.List.{length-take-le, take_all, take-append-drop, take-take}
 use Rattle.std.specs.Option.{IsSome, is_some}
 use Rattle.std.specs.List.{fold}
 use Rattle.x7_words.specs.Word.{AreBytes}
-use Rattle.x7_words.proofs.ListLemmas.{all-append, all_front}
+use Rattle.x7_words.proofs.ListLemmas.{all_front}
 use Rattle.x7_part.specs.Part.{PartData}
 use Rattle.x7_engine.specs.declared.fed.Fed.{Fed}
 use Rattle.x7_engine.specs.declared.fed.Fed.TheVariants as fed
@@ -15,7 +14,7 @@ use Rattle.x7_engine.specs.State.{reads_of, stop_in}
 use Rattle.x7_engine.specs.UntilRead.{ReadBefore, no_room}
 use Rattle.x7_engine.proofs.ReadsLemmas.{reads_grow}
 use Rattle.x7_jtag.specs.Port.{words_read}
-use Rattle.x7_jtag.specs.Queue.{Queue, bits_read, dropped, in_turn, most_held, offered, waits, with_room}
+use Rattle.x7_jtag.specs.Queue.{Queue, dropped, in_turn, most_held, offered, waits, with_room}
 use Rattle.x7_jtag.specs.Tap.{Holds, QueueStandsFor, QueueState, Stands, Took, given_by, words_taken}
 use Rattle.x7_jtag.proofs.TookLemmas.{reads-took, taken-all, took-more}
 

@@ -1,5 +1,6 @@
 pub mod BitLemmas
 pub mod PieceLemmas
+pub mod MarkLemmas
 pub mod SvfLemmas
 pub mod OutcomeLemmas
 pub mod TookLemmas

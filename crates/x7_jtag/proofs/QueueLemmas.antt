@@ -1,5 +1,5 @@
 -- What holds of the queue of a port after any clocks.
-use Rattle.std.proofs.Common.{◌≡◌, ℕ, ◌+◌, ◌*◌, ◌%◌, ◌<◌, ◌≤◌, ◌≢◌, ◌==◌, ◌&&◌, nat_lt, Bool, true, false, if◌then◌else◌, List, [], ◌∷◌, ◌++◌, length, refl, sym, subst, ap, ◌∙◌, append_assoc, append-nil, arith, length-append}
+use Rattle.std.proofs.Common.{◌≡◌, ℕ, ◌+◌, ◌<◌, ◌≤◌, ◌≢◌, ◌==◌, ◌&&◌, nat_lt, Bool, true, false, if◌then◌else◌, List, [], ◌∷◌, ◌++◌, length, refl, sym, subst, ap, ◌∙◌, append_assoc, append-nil, arith, length-append}
 use Rattle.std.specs.List.{fold}
 use Rattle.x7_words.specs.Word.{AreBytes}
 use Rattle.x7_words.proofs.ListLemmas.{all-append, all_front}
@@ -13,7 +13,7 @@ use Rattle.x7_jtag.specs.declared.state.State.TheVariants as state
 use Rattle.x7_jtag.specs.Events.{byte_at_eight, data_events, events_in, events_of, idle_events, update_events}
 use Rattle.x7_jtag.specs.Instructions.{instruction_of}
 use Rattle.x7_jtag.specs.Port.{Port, clocked, new_port, number_of_bit, port_after, with_bit, words_read}
-use Rattle.x7_jtag.specs.Queue.{Event, Byte, Bit, Program, Queue, bits_read, dropped, waits, give_held, empty, by_event, most_held, queue_after, Sound, with_room}
+use Rattle.x7_jtag.specs.Queue.{Event, Byte, Bit, Program, Queue, bits_read, dropped, waits, give_held, empty, by_event, most_held, Sound, with_room}
 use Rattle.x7_jtag.specs.States.{Clock}
 use Rattle.x7_jtag.proofs.EventLemmas.{queue-events}
 

@@ -1,10 +1,9 @@
 -- What a text comes to: its statements, or the line on which the first begins that is none (this project's profile of SVF).
-use Rattle.std.specs.Prelude.{◌≡◌, ℕ, false, List, [], ◌∷◌, ◌++◌, Option, Some, None, Result, Ok, Err, map}
+use Rattle.std.specs.Prelude.{◌≡◌, ℕ, false, List, [], ◌∷◌, ◌++◌, Option, Some, None, Result, Ok, Err}
 use Rattle.x7_jtag.specs.Comments.{clean_text}
-use Rattle.x7_jtag.specs.Pieces.{Mark, Word, Open, Close, End, Piece, pieces, mark_of}
+use Rattle.x7_jtag.specs.Pieces.{Mark, Word, Open, Close, End, Piece, pieces}
 use Rattle.x7_jtag.specs.Statements.{statement_of}
 use Rattle.x7_jtag.specs.declared.statement.Statement.{Statement}
-use Rattle.x7_jtag.specs.declared.token.Token.{Token}
 use Rattle.x7_jtag.specs.declared.fault.SvfFault.{SvfFault}
 use Rattle.x7_jtag.specs.declared.fault.SvfFault.TheVariants as fault
 
@@ -54,21 +53,36 @@ IsSvfOf text (Err fault.NoMemory) = ⊥
 
 -- ---- steps of a reader
 
+-- the marks before the first `;`, or all
+abbrev pub marks_before : List Piece → List Mark
+marks_before [] = []
+marks_before (p ∷ ps) = elim p.mark as (λ m. List Mark) [
+  | Word w ↦ Word w ∷ marks_before ps
+  | Open ↦ Open ∷ marks_before ps
+  | Close ↦ Close ∷ marks_before ps
+  | End ↦ []
+]
+
+-- the pieces after the first `;`
+abbrev pub pieces_after : List Piece → Option (List Piece)
+pieces_after [] = None
+pieces_after (p ∷ ps) = elim p.mark as (λ m. Option (List Piece)) [
+  | Word w ↦ pieces_after ps
+  | Open ↦ pieces_after ps
+  | Close ↦ pieces_after ps
+  | End ↦ Some ps
+]
+
+-- the marks of a text up to its first `;`
+abbrev pub statement_marks : List ℕ → List Mark
+statement_marks text = marks_before (pieces 1 text)
+
 -- the same of its pieces, where want of memory tells nothing of them
 abbrev pub IsFault : List Piece → SvfFault → Type 0
 IsFault ps (fault.Line n) = IsBad ps n
 IsFault ps fault.NoMemory = Unit {0}
 
--- the marks of tokens
-abbrev pub marks : List Token → List Mark
-marks ts = map mark_of ts
-
 -- words after words
 abbrev pub after_words : List (List ℕ) → Option (List (List ℕ)) → Option (List (List ℕ))
 after_words ws None = None
 after_words ws (Some vs) = Some (ws ++ vs)
-
--- an ended statement after marks
-abbrev pub after_marks : List Mark → Option (List Mark × List Piece) → Option (List Mark × List Piece)
-after_marks ms None = None
-after_marks ms (Some r) = Some (ms ++ r.0, r.1)

@@ -1,8 +1,6 @@
 //! Blanks in place of comments.
-ghost use Rattle.std.specs.Prelude.{◌≡◌, ◌+◌, true, false, length, IfOk};
+ghost use Rattle.std.specs.Prelude.{◌≡◌, ◌+◌, true, false, length};
 ghost use Rattle.x7_jtag.specs.Comments.{begins_comment, clean_text, begins_with, is_inside, shown};
-
-use std::alloc::{AllocError, Global};
 
 /// Whether a text begins with a byte.
 fn begins_with(text: &[u8], byte: u8) -> bool
@@ -40,18 +38,17 @@ fn stand_in(inside: bool, byte: u8, after: &[u8]) -> u8
     }
 }
 
-/// The text with blanks in place of comments, byte for byte.
-pub(crate) fn cleaned(alloc: Global, text: &[u8]) -> Result<Vec<u8>, AllocError>
-    ensures is { IfOk result (λ out. out.items ≡ clean_text false text.now) }
-    ensures long { IfOk result (λ out. length out.items ≡ length text.now) }
+/// Puts blanks in the place of comments, byte for byte.
+pub(crate) fn clean(text: &mut Vec<u8>)
+    ensures is { text.new.items ≡ clean_text false text.old.items }
+    ensures long { length text.new.items ≡ length text.old.items }
 {
-    let mut out = Vec::new(alloc);
     let mut inside = false;
-    let mut rest = text;
-    while let [byte, after @ ..] = rest {
-        inside = comment_after(inside, *byte, after);
-        out.push(stand_in(inside, *byte, after))?;
-        rest = after;
+    for at in 0..text.len() {
+        let byte = text[at];
+        let after = &text[at + 1..];
+        inside = comment_after(inside, byte, after);
+        let shown = stand_in(inside, byte, after);
+        text[at] = shown;
     }
-    Ok(out)
 }

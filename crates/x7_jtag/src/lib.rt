@@ -30,6 +30,6 @@ pub use laws::{
 pub use play::{Differ, play_svf};
 pub use state::State;
 pub use statement::Statement;
-pub use svf::{Svf, svf_of};
+pub use svf::{Svf, svf_from, svf_of};
 pub use tap::Tap;
 pub use text::play_line;

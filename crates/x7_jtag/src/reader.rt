@@ -1,71 +1,52 @@
-//! One statement from its tokens.
-ghost use Rattle.std.specs.Prelude.{◌≡◌, ◌<◌, ◌≤◌, ◌+◌, ◌*◌, ◌^◌, ◌∷◌, [], ℕ, List, true, false, length, IfOk, IfSome, Option, Some, None};
+//! One statement of a text.
+ghost use Rattle.std.specs.Prelude.{◌≡◌, ◌<◌, ◌≤◌, ◌+◌, ◌*◌, ◌^◌, ◌∷◌, [], ℕ, List, true, false, length, IfOk, MatchOption, Option, Some, None};
 ghost use Rattle.std.specs.List.{list_all};
 ghost use Rattle.x7_jtag.specs.Fields.{all_fit, bits_option as bits_if, digit_width, fits, scan_by, scan_of, width};
 ghost use Rattle.x7_jtag.specs.Pieces.{mark_of, pieces};
 ghost use Rattle.x7_jtag.specs.Scanned.{fields_of, items_of};
-ghost use Rattle.x7_jtag.specs.Statements.{statement_by, statement_of};
-ghost use Rattle.x7_jtag.specs.Svf.{ended, marks};
-ghost use Rattle.x7_jtag.specs.Took.{taken_as, words_as};
+ghost use Rattle.x7_jtag.specs.Statements.{statement_by};
+ghost use Rattle.x7_jtag.specs.Svf.{pieces_after, statement_marks};
+ghost use Rattle.x7_jtag.specs.Took.{words_as};
 ghost use Rattle.x7_jtag.specs.Words.{is_free_mark, statement_if_words as if_words, word_list, words_of};
 
 use crate::bits::{Bits, value_of};
 use crate::fields::{Given, fields};
 use crate::statement::Statement;
-use crate::token::{Token, next};
+use crate::token::{Token, next, next_in};
 use crate::words::{is_any_word, is_keyword, number, statement_of_words};
 use std::alloc::{AllocError, Global};
 
-/// The tokens of a statement, and what is after its end.
-#[derive(Debug, Drop)]
-pub(crate) struct Taken<'t> {
-    pub tokens: Vec<Token<'t>>,
-    pub line: u64,
-    pub rest: &'t [u8],
-}
-
-/// The tokens up to the first end.
-pub(crate) fn take_statement<'t>(
-    alloc: Global,
-    text: &'t [u8],
-    line: u64,
-) -> Result<Option<Taken<'t>>, AllocError>
+/// The text behind the first `;`, and the line there.
+pub(crate) fn behind_end(text: &[u8], line: u64) -> Option<(&[u8], u64)>
     requires { line + length text.now < 2 ^ 63 }
-    ensures is { IfOk result (λ r. ended (pieces line text.now) ≡ taken_as r) }
-    ensures within { IfOk result (λ r. IfSome r (λ t. (length t.tokens.items + length t.rest.now < length text.now) × (t.line + length t.rest.now ≤ line + length text.now))) }
+    ensures { MatchOption result (pieces_after (pieces line text.now) ≡ None)
+        (λ p. (pieces_after (pieces line text.now) ≡ Some (pieces p.1 p.0.now)) × (length p.0.now < length text.now) × (p.1 + length p.0.now ≤ line + length text.now)) }
 {
-    let mut tokens = Vec::new(alloc);
     let mut rest = text;
     let mut here = line;
     while let Some((token, at, after)) = next(rest, here) {
         here = at;
         rest = after;
         match token {
-            Token::End => {
-                return Ok(Some(Taken {
-                    tokens,
-                    line: here,
-                    rest,
-                }));
-            }
-            _ => tokens.push(token)?,
+            Token::End => return Some((rest, here)),
+            _ => (),
         }
     }
-    Ok(None)
+    None
 }
 
-/// The words of tokens, where all are words.
-fn words<'t>(alloc: Global, tokens: &[Token<'t>]) -> Result<Option<Vec<&'t [u8]>>, AllocError>
-    ensures { IfOk result (λ r. words_as r ≡ words_of (marks tokens.now)) }
+/// The words of a statement from here on, where it has words alone.
+fn words<'t>(alloc: Global, text: &'t [u8]) -> Result<Option<Vec<&'t [u8]>>, AllocError>
+    ensures { IfOk result (λ r. words_as r ≡ words_of (statement_marks text.now)) }
 {
     let mut out = Vec::new(alloc);
-    let mut rest = tokens;
-    while !rest.is_empty() {
-        match rest[0] {
+    let mut rest = text;
+    while let Some((token, after)) = next_in(rest) {
+        match token {
             Token::Word(word) => out.push(word)?,
             _ => return Ok(None),
         }
-        rest = &rest[1..];
+        rest = after;
     }
     Ok(Some(out))
 }
@@ -80,28 +61,24 @@ fn is_free_token(token: &Token<'_>) -> bool
     }
 }
 
-fn are_free(tokens: &[Token<'_>]) -> bool
-    ensures { result ≡ list_all is_free_mark (marks tokens.now) }
+fn are_free(text: &[u8]) -> bool
+    ensures { result ≡ list_all is_free_mark (statement_marks text.now) }
 {
-    let mut rest = tokens;
-    while !rest.is_empty() {
-        if !is_free_token(&rest[0]) {
+    let mut rest = text;
+    while let Some((token, after)) = next_in(rest) {
+        if !is_free_token(&token) {
             return false;
         }
-        rest = &rest[1..];
+        rest = after;
     }
     true
 }
 
-/// The statement of a keyword and tokens that are words.
-fn word_statement(
-    alloc: Global,
-    key: &[u8],
-    tokens: &[Token<'_>],
-) -> Result<Option<Statement>, AllocError>
-    ensures { IfOk result (λ r. r ≡ if_words key.now (words_of (marks tokens.now))) }
+/// The statement of a keyword and the words after it.
+fn word_statement(alloc: Global, key: &[u8], text: &[u8]) -> Result<Option<Statement>, AllocError>
+    ensures { IfOk result (λ r. r ≡ if_words key.now (words_of (statement_marks text.now))) }
 {
-    match words(alloc, tokens)? {
+    match words(alloc, text)? {
         Some(words) => Ok(statement_of_words(key, &words)),
         None => Ok(None),
     }
@@ -200,11 +177,14 @@ fn scan_of_fields(ir: bool, count: u32, given: Given) -> Option<Statement>
     }
 }
 
-/// The scan of the tokens after its keyword.
-fn scan(alloc: Global, ir: bool, tokens: &[Token<'_>]) -> Result<Option<Statement>, AllocError>
-    ensures { IfOk result (λ r. r ≡ scan_of ir (marks tokens.now)) }
+/// The scan of what stands after its keyword.
+fn scan(alloc: Global, ir: bool, text: &[u8]) -> Result<Option<Statement>, AllocError>
+    ensures { IfOk result (λ r. r ≡ scan_of ir (statement_marks text.now)) }
 {
-    let [Token::Word(digits), after @ ..] = tokens else {
+    let Some((first, after)) = next_in(text) else {
+        return Ok(None);
+    };
+    let Token::Word(digits) = first else {
         return Ok(None);
     };
     let Some(count) = number(digits, 536_870_912) else {
@@ -219,38 +199,25 @@ fn scan(alloc: Global, ir: bool, tokens: &[Token<'_>]) -> Result<Option<Statemen
     }
 }
 
-/// The statement of a keyword and the tokens after it.
-fn statement_of_key(
+/// The statement of a keyword and of what stands after it.
+pub(crate) fn statement_of_key(
     alloc: Global,
     key: &[u8],
-    tokens: &[Token<'_>],
+    text: &[u8],
 ) -> Result<Option<Statement>, AllocError>
-    ensures { IfOk result (λ r. r ≡ statement_by key.now (marks tokens.now)) }
+    ensures { IfOk result (λ r. r ≡ statement_by key.now (statement_marks text.now)) }
 {
     if is_keyword(key, b"SIR") {
-        return scan(alloc, true, tokens);
+        return scan(alloc, true, text);
     }
     if is_keyword(key, b"SDR") {
-        return scan(alloc, false, tokens);
+        return scan(alloc, false, text);
     }
     if is_keyword(key, b"FREQUENCY") {
-        if are_free(tokens) {
+        if are_free(text) {
             return Ok(Some(Statement::Nothing));
         }
         return Ok(None);
     }
-    word_statement(alloc, key, tokens)
-}
-
-/// The statement of tokens.
-pub(crate) fn read_statement(
-    alloc: Global,
-    tokens: &[Token<'_>],
-) -> Result<Option<Statement>, AllocError>
-    ensures { IfOk result (λ r. r ≡ statement_of (marks tokens.now)) }
-{
-    let [Token::Word(key), after @ ..] = tokens else {
-        return Ok(None);
-    };
-    statement_of_key(alloc, key, after)
+    word_statement(alloc, key, text)
 }

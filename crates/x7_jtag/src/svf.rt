@@ -1,15 +1,15 @@
 //! The statements of a text.
-ghost use Rattle.std.specs.Prelude.{◌≡◌, ◌<◌, ◌≤◌, ◌+◌, ◌*◌, ◌^◌, ◌∷◌, [], ℕ, List, length, MatchResult, MatchOption, Some, None, IfOk, IfErr, Ok, Err, ◌⊎◌};
+ghost use Rattle.std.specs.Prelude.{◌≡◌, ◌<◌, ◌≤◌, ◌+◌, ◌*◌, ◌^◌, ◌∷◌, [], ℕ, List, length, MatchResult, MatchOption, Some, None, IfOk, IfErr, Ok, Err, ◌⊎◌, vec_len};
 ghost use Rattle.std.specs.List.{slice_get};
 ghost use Rattle.x7_jtag.specs.Pieces.{pieces};
 ghost use Rattle.x7_jtag.specs.Svf.{BeginWith, IsFault, IsSvfOf};
 ghost use Rattle.x7_jtag.specs.declared.fault.SvfFault.{SvfFault as FaultData};
 
-use crate::comment::cleaned;
+use crate::comment::clean;
 use crate::fault::SvfFault;
-use crate::reader::{read_statement, take_statement};
+use crate::reader::{behind_end, statement_of_key};
 use crate::statement::Statement;
-use crate::token::next;
+use crate::token::{Token, next};
 use std::alloc::Global;
 use std::marker::Model;
 
@@ -56,14 +56,14 @@ fn statements(alloc: Global, text: &[u8]) -> Result<Vec<Statement>, SvfFault>
     let mut out = Vec::new(alloc);
     let mut rest = text;
     let mut line: u64 = 1;
-    while let Some((_, here, _)) = next(rest, line) {
-        let Ok(found) = take_statement(alloc, rest, line) else {
-            return Err(SvfFault::NoMemory);
-        };
-        let Some(took) = found else {
+    while let Some((first, here, after)) = next(rest, line) {
+        let Token::Word(key) = first else {
             return Err(SvfFault::Line(here));
         };
-        let Ok(read) = read_statement(alloc, &took.tokens) else {
+        let Some((behind, line_behind)) = behind_end(after, here) else {
+            return Err(SvfFault::Line(here));
+        };
+        let Ok(read) = statement_of_key(alloc, key, after) else {
             return Err(SvfFault::NoMemory);
         };
         let Some(one) = read else {
@@ -72,10 +72,25 @@ fn statements(alloc: Global, text: &[u8]) -> Result<Vec<Statement>, SvfFault>
         if out.push(one).is_err() {
             return Err(SvfFault::NoMemory);
         }
-        line = took.line;
-        rest = took.rest;
+        line = line_behind;
+        rest = behind;
     }
     Ok(out)
+}
+
+/// The same of a text that is given up for them: beside it they take the digits of its scans alone. A text has at most 2^29
+/// bytes.
+pub fn svf_from(alloc: Global, text: Vec<u8>) -> Result<Svf, SvfFault>
+    requires { vec_len text ≤ 2 ^ 29 }
+    ensures statements { IfOk result (λ svf. IsSvfOf text.items (Ok svf)) }
+    ensures fault { IfErr result (λ fault. (fault ≡ FaultData.NoMemory) ⊎ IsSvfOf text.items (Err fault)) }
+{
+    let mut text = text;
+    clean(&mut text);
+    match statements(alloc, &text) {
+        Ok(statements) => Ok(Svf { statements }),
+        Err(fault) => Err(fault),
+    }
 }
 
 /// The statements of a text, or the line on which the first begins that is none. A text has at most 2^29 bytes.
@@ -84,11 +99,9 @@ pub fn svf_of(alloc: Global, text: &[u8]) -> Result<Svf, SvfFault>
     ensures statements { IfOk result (λ svf. IsSvfOf text.now (Ok svf)) }
     ensures fault { IfErr result (λ fault. (fault ≡ FaultData.NoMemory) ⊎ IsSvfOf text.now (Err fault)) }
 {
-    let Ok(clean) = cleaned(alloc, text) else {
+    let mut copy = Vec::new(alloc);
+    if copy.extend_from_slice(text).is_err() {
         return Err(SvfFault::NoMemory);
-    };
-    match statements(alloc, &clean) {
-        Ok(statements) => Ok(Svf { statements }),
-        Err(fault) => Err(fault),
     }
+    svf_from(alloc, copy)
 }

@@ -1,7 +1,7 @@
 //! The next word, bracket or end of a text without comments.
 ghost use Rattle.std.specs.Prelude.{◌≡◌, ◌+◌, ◌<◌, ◌≤◌, ◌^◌, ◌∷◌, [], ℕ, List, true, false, length, MatchOption, slice_index, drop, take};
 ghost use Rattle.x7_jtag.specs.Pieces.{byte_mark, is_blank, is_word_byte, line_after, mark_of, Piece, pieces, Word};
-ghost use Rattle.x7_jtag.specs.Comments.{begins_with};
+ghost use Rattle.x7_jtag.specs.Svf.{statement_marks};
 
 /// A word, a bracket or the end of a statement.
 #[derive(Clone, Copy, Debug)]
@@ -105,4 +105,33 @@ pub(crate) fn next(text: &[u8], line: u64) -> Option<(Token<'_>, u64, &[u8])>
     }
     let (token, after) = first(rest);
     Some((token, here, after))
+}
+
+/// The text after the blanks that it begins with.
+fn after_blanks(text: &[u8]) -> &[u8]
+    ensures same { statement_marks text.now ≡ statement_marks result.now }
+    ensures within { length result.now ≤ length text.now }
+    ensures stop { 0 < length result.now → is_blank (slice_index result.now 0) ≡ false }
+{
+    let mut rest = text;
+    while !rest.is_empty() && is_between(rest[0]) {
+        rest = &rest[1..];
+    }
+    rest
+}
+
+/// The next word or bracket of a statement, and the text after it; none where the statement, or the text, ends.
+pub(crate) fn next_in(text: &[u8]) -> Option<(Token<'_>, &[u8])>
+    ensures { MatchOption result (statement_marks text.now ≡ [])
+        (λ p. (statement_marks text.now ≡ mark_of p.0 ∷ statement_marks p.1.now) × (length p.1.now < length text.now)) }
+{
+    let rest = after_blanks(text);
+    if rest.is_empty() {
+        return None;
+    }
+    let (token, after) = first(rest);
+    match token {
+        Token::End => None,
+        _ => Some((token, after)),
+    }
 }

@@ -1,5 +1,5 @@
 //! Assembling a whole text.
-ghost use Rattle.std.specs.Prelude.{◌≡◌, ℕ, List, [], ◌+◌, ◌^◌, ◌<◌, ◌≤◌, ◌⊎◌, true, false, length, Ok, Err, IfOk, IfErr, OnOk, MatchOption, MatchResult};
+ghost use Rattle.std.specs.Prelude.{◌≡◌, ℕ, List, [], ◌+◌, ◌^◌, ◌<◌, ◌≤◌, ◌⊎◌, true, false, length, Ok, Err, IfOk, IfErr, OnErr, OnOk, MatchOption, MatchResult};
 ghost use Rattle.x7_words.specs.Word.{AreBytes};
 ghost use Rattle.x7_listing.specs.Assembly.{IsAsm};
 ghost use Rattle.x7_listing.specs.Assembling.{AssemblerStandsFor, FailsAt, FailsIn, ReadsNext, TakesFront, TakesPiece, body_of};
@@ -148,8 +148,8 @@ impl Assembler {
         }
     }
 
-    /// Takes the next piece of the text. After an error no more of it is to be taken.
-    pub fn feed(&mut self, piece: &[u8]) -> Result<(), AsmFault>
+    /// Takes the next piece of the text.
+    fn take(&mut self, piece: &[u8]) -> Result<(), AsmFault>
         ensures ok { OnOk result (TakesPiece self.old self.new piece.now) }
         ensures fault { IfErr result (FailsIn self.old piece.now) }
     {
@@ -163,6 +163,21 @@ impl Assembler {
         match found {
             Some(rest) => self.take_lines(rest),
             None => Ok(()),
+        }
+    }
+
+    /// Takes the next piece of the text. After an error it is one that has taken no text.
+    pub fn feed(&mut self, piece: &[u8]) -> Result<(), AsmFault>
+        ensures ok { OnOk result (TakesPiece self.old self.new piece.now) }
+        ensures fault { IfErr result (FailsIn self.old piece.now) }
+        ensures err { OnErr result (AssemblerStandsFor self.new []) }
+    {
+        match self.take(piece) {
+            Ok(()) => Ok(()),
+            Err(fault) => {
+                *self = Assembler::new(self.alloc);
+                Err(fault)
+            }
         }
     }
 

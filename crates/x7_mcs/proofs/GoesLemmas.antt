@@ -25,13 +25,6 @@ module _ (whole s : Result Reading McsFault) (n : ℕ) (left : List (List ℕ)) 
     holds = t.holds;
   }
 
-  pub comes-to : (base : ℕ) (ended : Bool) (bytes marks : List ℕ) → left ≡ [] → Took s base ended bytes marks → Took whole base ended bytes marks
-  comes-to base ended bytes marks l t = record {
-    records = t.records;
-    is = e ∙ ap (λ r. and_then r (λ q. after_lines n q left)) t.is ∙ ap (after_lines n (at_base base ended t.records)) l;
-    holds = t.holds;
-  }
-
 no-mark : (p : ℕ) → is_marked [] p ≡ false
 no-mark p = ap (λ (v : ℕ). v == 1) (bit_at-zero (p % 16))
 

@@ -22,10 +22,6 @@ line-last text t e = ap bare e
 abbrev pub NextLine : List ℕ → List ℕ → Option (Bor (List ℕ)) → Type 0
 NextLine text t o = MatchOption o (lines_of text ≡ t ∷ []) (λ more. (lines_of text ≡ t ∷ lines_of more.now) × (length more.now < length text))
 
-pub some-left : (text t : List ℕ) (o : Option (Bor (List ℕ))) → NextLine text t o → (left : List (List ℕ)) × (lines_of text ≡ t ∷ left)
-some-left text t None h = ([], h)
-some-left text t (Some x) h = (lines_of x.now, h.0)
-
 abbrev pub FirstLine : List ℕ → List ℕ → Option (Bor (List ℕ)) → Type 0
 FirstLine text t o = MatchOption o (split text ≡ t ∷ []) (λ more. (split text ≡ t ∷ split more.now) × (length more.now < length text))
 

@@ -24,9 +24,6 @@ module _ (digits rest pair more out : List ℕ) (o : Option ℕ) (long : 2 ≤ l
   pub pair-more : (x : ℕ) (next : List ℕ) → o ≡ Some x → next ≡ out ++ x ∷ [] → pairs digits ≡ ahead next (pairs more)
   pair-more x next f g = split-pairs ∙ ap (λ p. ahead out (led p (pairs more))) f ∙ ahead-led out x (pairs more) ∙ ap (λ t. ahead t (pairs more)) (sym g)
 
-  pub pair-none : o ≡ None → pairs digits ≡ None
-  pair-none f = split-pairs ∙ ap (λ p. ahead out (led p (pairs more))) f
-
 kept : (o : Option (List ℕ)) → o ≡ ahead [] o
 kept None = refl
 kept (Some bs) = refl

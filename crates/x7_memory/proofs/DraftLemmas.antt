@@ -23,13 +23,6 @@ at_no : (a : ℕ) (r : PlanRow) → (r.far ≡ a → ⊥) → at a r ≡ 0
 unfolding at
 at_no a r n = rw (ne_eqb r.far a n) refl
 
-at_most_one : (a : ℕ) (r : PlanRow) → at a r ≤ 1
-at_most_one a r =
-    elim (eqb_tells r.far a) [
-      | inl y ↦ let e = at_yes a r y.1 in omega arith
-      | inr n ↦ let e = at_no a r n.1 in omega arith
-    ]
-
 many_cons : (a : ℕ) (r : PlanRow) (rows : List PlanRow) → many a (r ∷ rows) ≡ at a r + many a rows
 unfolding many
 many_cons a r rows = sum_by-cons (at a) r rows

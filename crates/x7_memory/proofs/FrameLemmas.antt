@@ -1,8 +1,7 @@
 -- Frames by their addresses.
-use Rattle.std.proofs.Common.{◌≡◌, ℕ, zero, suc, ◌+◌, ◌-◌, ◌<◌, ◌≤◌, inl, inr, List, [], ◌∷◌, ◌++◌, length, get_or, set, replicate, eq-eqb, ne_eqb, Some, None, refl, sym, ap, ◌∙◌, ◌==◌, if◌then◌else◌, arith}
+use Rattle.std.proofs.Common.{◌≡◌, ℕ, zero, suc, ◌+◌, ◌-◌, ◌<◌, ◌≤◌, inl, inr, List, [], ◌∷◌, length, get_or, set, eq-eqb, ne_eqb, Some, None, refl, sym, ◌∙◌, ◌==◌, if◌then◌else◌, arith}
 use Rattle.std.specs.Prelude.{Contains}
 use Rattle.std.proofs.lemmas.Bool.Decides.{eqb_tells}
-use Rattle.std.proofs.lemmas.List.{set-append_left, length-append, length-replicate, length-set, append_assoc, replicate-append-replicate}
 use Rattle.x7_part.specs.AddressOrder.{Rises, rise}
 use Rattle.x7_memory.specs.Frames.{frame_among}
 
@@ -61,29 +60,3 @@ among_set l (suc r) far new a (b ∷ fars) (words ∷ frames) (rise _ _ _ le mor
           rw (ne_eqb a far n) (among_here b fars words (set frames r new) a y.1 ∙ sym (among_here b fars words frames a y.1))
       | inr n ↦ rw (among_behind b fars words (set frames r new) a n.1, among_behind b fars words frames a n.1) ih
     ]
-
--- ---- frames of which the last are zero
-
-set_filled : (frames : List (List ℕ)) (count rank : ℕ) (zero_frame new : List ℕ) → rank < count → length frames ≤ count →
-    set (frames ++ replicate (rank + 1 - length frames) zero_frame) rank new
-    ++ replicate (count - length (set (frames ++ replicate (rank + 1 - length frames) zero_frame) rank new)) zero_frame
-    ≡ set (frames ++ replicate (count - length frames) zero_frame) rank new
-set_filled frames count rank z new h le =
-    let few = rank + 1 - length frames in
-    let front = frames ++ replicate few z in
-    let long : length front ≡ length frames + few = length-append frames (replicate few z) ∙ ap (λ n. length frames + n) (length-replicate few z) in
-    let same : length (set front rank new) ≡ length front = length-set front rank new in
-    let rest : front ++ replicate (count - length front) z ≡ frames ++ replicate (count - length frames) z =
-    append_assoc frames (replicate few z) (replicate (count - length front) z)
-    ∙ ap (λ t. frames ++ t) (replicate-append-replicate few (count - length front) z ∙ ap (λ n. replicate n z) (omega arith)) in
-    ap (λ n. set front rank new ++ replicate (count - n) z) same
-    ∙ sym (set-append_left front (replicate (count - length front) z) rank new (omega arith))
-    ∙ ap (λ t. set t rank new) rest
-
-pub put_filled : (frames filled : List (List ℕ)) (count rank : ℕ) (own z new words : List ℕ) → filled ≡ frames ++ replicate (rank + 1 - length frames) own → own ≡ z → new ≡ words →
-    length frames ≤ count → rank < length (frames ++ replicate (count - length frames) z) →
-    set filled rank new ++ replicate (count - length (set filled rank new)) z ≡ set (frames ++ replicate (count - length frames) z) rank words
-put_filled frames filled count rank own z new words e f g le h =
-    let long : length (frames ++ replicate (count - length frames) z) ≡ count =
-    length-append frames (replicate (count - length frames) z) ∙ ap (λ n. length frames + n) (length-replicate (count - length frames) z) ∙ (omega arith) in
-    rw (e, f, g) (set_filled frames count rank z words (omega arith) le)

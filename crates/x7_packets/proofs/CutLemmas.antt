@@ -24,18 +24,6 @@ fresh n is m a = record { reading = record { fits = tt; joined = refl; each = tt
 more_bytes : (bytes more : List ℕ) → AreBytes bytes → AreBytes more → AreBytes (bytes ++ more)
 more_bytes = all-append (λ b. b < 256)
 
--- a piece used up while searching
-pub none_taken : (c : CutterState) (bytes : List ℕ) (sessions : List Session) (place : Place) → CutterStandsFor c bytes sessions place → c.mode ≡ Mode.Searching → Went c c (bytes ++ []) sessions place Need
-none_taken c bytes sessions (Synced gap packets tail) s is = absurd (let h : AtPlace c Mode.Searching (Synced gap packets tail) = rw is at s.at in h)
-none_taken c bytes sessions (Searching gap) s is =
-    record {
-      new_sessions = sessions;
-      new_place = Searching gap;
-      stands = rw append-nil s;
-      adds = (refl, refl);
-      turns = (λ e. absurd (let h : Mode.Searching ≡ Mode.Due = sym is ∙ e in cc), λ e. absurd (let h : Mode.Searching ≡ Mode.Due = sym is ∙ e in cc));
-    }
-
 -- fewer bytes than a word lacks
 pub kept_more : (c n : CutterState) (bytes more : List ℕ) (sessions : List Session) (place : Place) → CutterStandsFor c bytes sessions place
     → c.mode ≡ Mode.Synced → n.mode ≡ Mode.Synced → n.machine ≡ c.machine → n.kept ≡ c.kept ++ more → length c.kept + length more < 4 → AreBytes more

@@ -2,7 +2,7 @@
 use Rattle.std.proofs.Common.{◌≡◌, ℕ, ◌+◌, ◌*◌, ◌==◌, inl, inr, Bool, true, false, if◌then◌else◌, List, [], ◌∷◌, ◌++◌, length, refl, ap, sym, ◌∙◌, append_assoc, append-nil, arith, length-append}
 use Rattle.std.proofs.lemmas.Grind.{flat_map-append}
 use Rattle.std.proofs.lemmas.List.{length-map}
-use Rattle.std.specs.List.{flat_map, fold}
+use Rattle.std.specs.List.{flat_map}
 use Rattle.x7_words.specs.Word.{bytes_of_word}
 use Rattle.x7_packets.specs.SyncWord.{sync_bytes}
 use Rattle.x7_packets.specs.declared.header.Step.{Step}
@@ -164,11 +164,3 @@ cut_enters old new bytes more sessions place run n s w e =
 pub kept_all : (P : History → Type 0) (register : ℕ) → ((h : History) (w place : ℕ) → P h → P (entry (Write register w) place ∷ h)) → (n : ℕ) (ws : List ℕ) (h : History) → P h → P (entered_all n (payload_steps register ws) h)
 kept_all P register keeps n [] h p = p
 kept_all P register keeps n (w ∷ ws) h p = kept_all P register keeps (n + 4) ws (entry (Write register w) (n + 4) ∷ h) (keeps h w (n + 4) p)
-
--- what each write of a register changes by a step of its own, a run of them changes by all of them
-pub folded_all : {A : Type 0} (value : History → A) (more : A → ℕ → A) (register : ℕ) → ((h : History) (w place : ℕ) → value (entry (Write register w) place ∷ h) ≡ more (value h) w)
-    → (n : ℕ) (ws : List ℕ) (h : History) → value (entered_all n (payload_steps register ws) h) ≡ fold more (value h) ws
-folded_all value more register steps n [] h = refl
-folded_all value more register steps n (w ∷ ws) h =
-    folded_all value more register steps (n + 4) ws (entry (Write register w) (n + 4) ∷ h)
-    ∙ ap (λ a. fold more a ws) (steps h w (n + 4))

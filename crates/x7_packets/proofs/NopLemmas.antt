@@ -126,9 +126,6 @@ all_nops (suc k) c bytes sessions gap packets synced none s =
       nothing = more.nothing ∙ one.nothing;
     }
 
-pub idles_none : (c : CutterState) (bytes : List ℕ) (sessions : List Session) (place : Place) → CutterStandsFor c bytes sessions place → Idles c (bytes ++ []) sessions place
-idles_none c bytes sessions place s = record { new_place = place; stands = subst (λ (b : List ℕ). CutterStandsFor c b sessions place) (sym (append-nil bytes)) s; nothing = refl }
-
 pub idles_nops : (k : ℕ) (c : CutterState) (bytes : List ℕ) (sessions : List Session) (place : Place) → c.mode ≡ Mode.Synced → c.kept ≡ [] → c.machine.due ≡ 0 → CutterStandsFor c bytes sessions place → Idles c (bytes ++ nop_bytes k) sessions place
 idles_nops k c bytes sessions (Searching gap) synced empty none s = absurd (let h : AtPlace c Mode.Synced (Searching gap) = rw synced at s.at in h)
 idles_nops k c bytes sessions (Synced gap packets tail) synced empty none s =

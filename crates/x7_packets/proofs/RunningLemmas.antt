@@ -27,9 +27,6 @@ turns_left kept (b ∷ left) = 2 * (4 - length kept)
 
 -- ---- places and their tails
 
-tail_of_with : (gap : List ℕ) (packets : List Packet) (tail t : List ℕ) → tail_of (with_tail t (Synced gap packets tail)) ≡ t
-tail_of_with gap packets tail t = refl
-
 with_own_tail : (place : Place) → with_tail (tail_of place) place ≡ place
 with_own_tail (Searching gap) = refl
 with_own_tail (Synced gap packets tail) = refl
@@ -37,10 +34,6 @@ with_own_tail (Synced gap packets tail) = refl
 with_tail_twice : (t u : List ℕ) (place : Place) → with_tail t (with_tail u place) ≡ with_tail t place
 with_tail_twice t u (Searching gap) = refl
 with_tail_twice t u (Synced gap packets tail) = refl
-
-bare_is : (place : Place) → tail_of place ≡ [] → with_tail [] place ≡ place
-bare_is (Searching gap) e = refl
-bare_is (Synced gap packets tail) e = ap (Synced gap packets) (sym e)
 
 -- ---- what a run adds, whatever bytes are kept behind the words before it
 

@@ -550,7 +550,3 @@ column_lists cs t i x d h low high =
     let f = rank_found cs t i x d h low high in
     let r = (get_or cs i d).rank + (x - (get_or cs i d).first) in
     (r, f.0, get_or_default (column_addresses cs) r x 0 f.0 ∙ f.1)
-
--- past all slots there is no slot behind any of them
-pub far_past : (cs : List Column) (s n : ℕ) → s ≤ length (column_slots cs) → length (column_slots cs) < 2 ^ 63 → 2 ^ 64 ≤ s + n → End ≡ get_or (column_slots cs) (s + n) End
-far_past cs s n h f p = sym (get_or_past (column_slots cs) (s + n) End (omega arith))

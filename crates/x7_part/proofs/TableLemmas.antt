@@ -1,7 +1,7 @@
 -- The table of a part's columns, row by row.
-use Rattle.std.proofs.Common.{◌≡◌, ℕ, ◌+◌, ◌*◌, ◌^◌, ◌<◌, ◌≤◌, List, [], ◌∷◌, ◌++◌, length, refl, sym, ap, ◌∙◌, arith, length-append, append_assoc, get_or, drop}
+use Rattle.std.proofs.Common.{◌≡◌, ℕ, ◌+◌, ◌*◌, ◌^◌, ◌<◌, List, [], ◌∷◌, ◌++◌, length, refl, sym, ap, ◌∙◌, arith, length-append, append_assoc, get_or, drop}
 use Rattle.std.specs.Prelude.{sum}
-use Rattle.std.proofs.lemmas.List.{drop_more, drop_all}
+use Rattle.std.proofs.lemmas.List.{drop_more}
 use Rattle.std.proofs.lemmas.List.Sums.{sum_by-cons}
 use Rattle.x7_part.specs.Part.{FieldWidths, RowData}
 use Rattle.x7_part.specs.FrameAddress.{row_address, column_low}
@@ -25,10 +25,6 @@ frames_cons far r rows = length-append (addresses_of far r) (addresses far rows)
 pub frames_more : (far : FieldWidths) (i : ℕ) (rows : List RowData) (d : RowData) → i < length rows →
     length (addresses far (drop i rows)) ≡ sum (get_or rows i d).minors + length (addresses far (drop (i + 1) rows))
 frames_more far i rows d h = rw (drop_more rows i d h) (frames_cons far (get_or rows i d) (drop (i + 1) rows))
-
-pub frames_done : (far : FieldWidths) (i : ℕ) (rows : List RowData) → length rows ≤ i → length (addresses far (drop i rows)) ≡ 0
-unfolding addresses
-frames_done far i rows h = rw (drop_all i rows h) refl
 
 table_cons : (far : FieldWidths) (rank slot n : ℕ) (r : RowData) (rows : List RowData) → n ≡ sum r.minors →
     table_of far rank slot (r ∷ rows) ≡ row_columns (2 ^ column_low far) (row_address far r) 0 rank slot r.minors ++ table_of far (rank + n) (slot + (n + 2)) rows

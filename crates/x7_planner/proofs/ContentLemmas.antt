@@ -253,12 +253,6 @@ pub record StartsUpTo (rows : List PlanRow) (contents : List Content) (starts : 
   pub begun : IsBegun (rows_of contents) start k
   pub done : (j : ℕ) (d : Content) (e : PlanRow) → j < k → IsFirst (rows_of contents) (get_or rows (get_or contents j d).row e).words (get_or starts (get_or contents j d).row 0)
 
-pub starts_none : (rows : List PlanRow) (contents : List Content) (starts : List ℕ) → StartsUpTo rows contents starts 0 0
-starts_none rows contents starts = record {
-  begun = record { behind = omega arith; none = (λ e. refl); first = (λ d h. absurd (omega (arith, h))) };
-  done = (λ j d e h. absurd (omega (arith, h)));
-}
-
 pub starts_more : (rows : List PlanRow) (contents : List Content) (starts : List ℕ) (start k s : ℕ) (c : Content) → AreGrouped rows contents → StartsUpTo rows contents starts start k → length starts ≡ length rows → k < length contents
     → c ≡ get_or contents k c → ((d : PlanRow) → IsFirst (rows_of contents) (get_or (rows_of contents) k d).words s) → s ≤ k → StartsUpTo rows contents (set starts c.row s) s (k + 1)
 starts_more rows contents starts start k s c g u n l r f b = record {

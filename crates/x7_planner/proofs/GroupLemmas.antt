@@ -4,7 +4,7 @@ use Rattle.std.proofs.lemmas.Bool.{cases_eq}
 use Rattle.std.specs.Prelude.{nat_le}
 use Rattle.std.specs.List.{flat_map}
 use Rattle.std.proofs.lemmas.Grind.{flat_map-append}
-use Rattle.std.proofs.lemmas.List.{append-nil, take_all, take_more, length-map, map-append, get_or_default, length_push, get_or_push, get_or_append_left}
+use Rattle.std.proofs.lemmas.List.{append-nil, take_more, length-map, map-append, get_or_default, length_push, get_or_push, get_or_append_left}
 use Rattle.x7_memory.specs.Planned.{PlanRow, planned_addresses}
 use Rattle.x7_part.specs.Part.{PartData, frame_words}
 use Rattle.x7_planner.specs.Contents.{AreGrouped, AreStarts, AreTogether, IsFirst, row_of, rows_of}
@@ -59,10 +59,6 @@ first_far contents words a e t f =
 pub leads_by : (contents : List Content) (words : List ℕ) (a far : ℕ) (e : Content) (b : Bool) → AreTogether (rows_of contents) → IsFirst (rows_of contents) words a → b ≡ nat_le 3 (length (with_content words (rows_of contents))) → b ≡ true
     → ((get_or contents a e).far == far) ≡ (nat_le 3 (length (with_content words (rows_of contents))) && (get_or (planned_addresses (with_content words (rows_of contents))) 0 0 == far))
 leads_by contents words a far e b t f n y = rw (sym n ∙ y) (ap (λ (x : ℕ). x == far) (sym (first_far contents words a e t f)))
-
-pub no_lead : (contents : List Content) (words : List ℕ) (far : ℕ) (b : Bool) → b ≡ nat_le 3 (length (with_content words (rows_of contents))) → b ≡ false
-    → false ≡ (nat_le 3 (length (with_content words (rows_of contents))) && (get_or (planned_addresses (with_content words (rows_of contents))) 0 0 == far))
-no_lead contents words far b n y = rw (sym n ∙ y) refl
 
 -- ---- a row's content
 
@@ -153,10 +149,6 @@ pub copies_end : (contents : List Content) (words old new : List ℕ) (a k : ℕ
 copies_end contents words old new a k e b t f l m s y h =
     h ∙ ap (λ x. old ++ bytes_of_words (flat_map copy_words (planned_addresses x)))
     (sym (up-to (rows_of contents) words a k t f l (λ d g. same_words-false (get_or contents k e).words.now words (sym s ∙ y) (ap (λ (r : PlanRow). r.words) (sym (row-at contents k d e m)) ∙ g))))
-
-pub copies_all : (contents : List Content) (words old new : List ℕ) (k : ℕ) → length contents ≤ k → new ≡ old ++ bytes_of_words (flat_map copy_words (planned_addresses (with_content words (take k (rows_of contents)))))
-    → new ≡ old ++ bytes_of_words (flat_map copy_words (planned_addresses (with_content words (rows_of contents))))
-copies_all contents words old new k l h = h ∙ ap (λ x. old ++ bytes_of_words (flat_map copy_words (planned_addresses (with_content words x)))) (take_all k (rows_of contents) (omega (arith, l, length-map contents row_of)))
 
 pub group_written : (part : PartData) (old one two three new words fars : List ℕ) (first width : ℕ) → width ≡ frame_words part → get_or fars 0 0 ≡ first
     → one ≡ old ++ bytes_of_words (0x30008001 ∷ 1 ∷ 0x30002001 ∷ first ∷ 0x30004000 ∷ (0x50000000 + width) ∷ []) → two ≡ one ++ bytes_of_words words → three ≡ two ++ bytes_of_words (0x30008001 ∷ 2 ∷ [])

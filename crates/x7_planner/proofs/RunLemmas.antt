@@ -9,7 +9,7 @@ use Rattle.x7_part.specs.PartRange.{IsPart}
 use Rattle.x7_planner.proofs.FewLemmas.{by_rows, rows_few}
 use Rattle.std.proofs.lemmas.Bool.{cases_eq}
 use Rattle.std.proofs.lemmas.Grind.{flat_map-append}
-use Rattle.std.proofs.lemmas.List.{append-nil, length-drop, take_rest, drop-drop, drop_all, length-map, take-map}
+use Rattle.std.proofs.lemmas.List.{length-drop, take_rest, drop-drop, length-map, take-map}
 use Rattle.x7_memory.specs.Planned.{AreInOrder, PlanRow, planned_addresses}
 use Rattle.x7_part.specs.Part.{PartData, frame_words}
 use Rattle.x7_planner.specs.Contents.{IsRunLength, row_of, rows_of}
@@ -140,10 +140,6 @@ runs_stepped part frames all mid new at count i l e h =
       omega (arith, i, inside, length-map (drop at frames) row_of, length-drop at frames),
       runs_step part frames all mid new at count run e (h ∙ ap (λ (n : ℕ). mid ++ bytes_of_words (stretch_words part (Rows (rows_of (take n (drop at frames)))))) same),
     )
-
-pub runs_all : (part : PartData) (frames : List Content) (old new : List ℕ) (at : ℕ) → length frames ≤ at → new ++ bytes_of_words (runs_words part (rows_of (drop at frames))) ≡ old ++ bytes_of_words (runs_words part (rows_of frames))
-    → new ≡ old ++ bytes_of_words (runs_words part (rows_of frames))
-runs_all part frames old new at l e = sym (append-nil new) ∙ ap (λ t. new ++ bytes_of_words (runs_words part (rows_of t))) (sym (drop_all at frames l)) ∙ e
 
 -- ---- the other rows are some of the rows
 

@@ -74,15 +74,6 @@ calls_at : (s : FullStreamState) (at behind : NextPiece) → s.next ≡ at → c
 calls_at s at behind e h = subst (λ (x : NextPiece). calls_from (length (slots_in s.part)) behind < calls_from (length (slots_in s.part)) x) (sym e) h
 
 module _ (s : FullStreamState) (old new : List ℕ) where
-  pub wrote_opening : s.next ≡ next.Opening → new ≡ old ++ bytes_of_words (full_opening s.part) → Writes s old new (next.Slot 0)
-  wrote_opening e adds = record {
-    piece = bytes_of_words (full_opening s.part);
-    adds = adds;
-    before = λ told h. ap (λ (t : List ℕ). t ++ bytes_of_words (full_opening s.part)) (before_at s told next.Opening e h) ∙ sym (append-nil (bytes_of_words (full_opening s.part)));
-    inside = omega arith;
-    fewer = λ n. calls_at s next.Opening (next.Slot 0) e (omega arith);
-  }
-
   frames_before : (n to : ℕ) → s.next ≡ next.Slot n → n ≤ to → (told : List ℕ) → HasTold s told →
       told ++ bytes_of_words (slot_words s.part s.plan (drop n (take to (slots_in s.part)))) ≡ stream_of (pieces_to s.part s.plan to)
   frames_before n to e h told t =
@@ -110,47 +101,6 @@ module _ (s : FullStreamState) (old new : List ℕ) where
         ∙ ap (λ (t : List Slot). bytes_of_words (full_opening s.part) ++ bytes_of_words (slot_words s.part s.plan t)) (take_all to (slots_in s.part) (omega (arith, c, last)));
     inside = omega arith;
     fewer = λ _. calls_at s (next.Slot n) next.Check e (omega arith);
-  }
-
-  checked_before : (at : NextPiece) (check : ℕ) → s.next ≡ at → check ≡ s.check.check → (told : List ℕ) → HasTold s told →
-      told ++ bytes_of_words (check_words check) ≡ with_piece (stream_of (pieces_before s.part s.plan at)) Check
-  checked_before at check e k told h =
-      ap (λ (c : ℕ). told ++ bytes_of_words (check_words c)) (k ∙ h.checked.sum.check_is) ∙ ap (λ (t : List ℕ). with_piece t Check) (before_at s told at e h)
-
-  pub wrote_check : (check : ℕ) → s.next ≡ next.Check → check ≡ s.check.check → new ≡ old ++ bytes_of_words (check_words check) → Writes s old new next.Start
-  wrote_check check e k adds = record {
-    piece = bytes_of_words (check_words check);
-    adds = adds;
-    before = checked_before next.Check check e k;
-    inside = omega arith;
-    fewer = λ _. calls_at s next.Check next.Start e (omega arith);
-  }
-
-  pub wrote_start : s.next ≡ next.Start → new ≡ old ++ bytes_of_words start_words → Writes s old new next.LastCheck
-  wrote_start e adds = record {
-    piece = bytes_of_words start_words;
-    adds = adds;
-    before = λ told h. ap (λ (t : List ℕ). t ++ bytes_of_words start_words) (before_at s told next.Start e h);
-    inside = omega arith;
-    fewer = λ _. calls_at s next.Start next.LastCheck e (omega arith);
-  }
-
-  pub wrote_last_check : (check : ℕ) → s.next ≡ next.LastCheck → check ≡ s.check.check → new ≡ old ++ bytes_of_words (check_words check) → Writes s old new next.Desync
-  wrote_last_check check e k adds = record {
-    piece = bytes_of_words (check_words check);
-    adds = adds;
-    before = checked_before next.LastCheck check e k;
-    inside = omega arith;
-    fewer = λ _. calls_at s next.LastCheck next.Desync e (omega arith);
-  }
-
-  pub wrote_desync : s.next ≡ next.Desync → new ≡ old ++ bytes_of_words full_ending → Writes s old new next.Nothing
-  wrote_desync e adds = record {
-    piece = bytes_of_words full_ending;
-    adds = adds;
-    before = λ told h. ap (λ (t : List ℕ). t ++ bytes_of_words full_ending) (before_at s told next.Desync e h);
-    inside = omega arith;
-    fewer = λ _. calls_at s next.Desync next.Nothing e (omega arith);
   }
 
   pub wrote_nothing : s.next ≡ next.Nothing → new ≡ old → Writes s old new next.Nothing

@@ -94,9 +94,6 @@ command-place FallEdge = (refl, omega arith, omega arith)
 pub no-register-length : (text : List ℕ) → (1 < length text → length text < 10 → ⊥) → (n : ℕ) → n < 32 → text ≡ reg_name n → ⊥
 no-register-length text h n b e = let p = register-place n b in let l : length text ≡ length (reg_name n) = ap length e in h (omega (arith, p.1)) (omega (arith, p.2))
 
-pub no-command-length : (text : List ℕ) → (1 < length text → length text < 10 → ⊥) → (c : Command) → text ≡ command_name_of c → ⊥
-no-command-length text h c e = let p = command-place c in let l : length text ≡ length (command_name_of c) = ap length e in h (omega (arith, p.1)) (omega (arith, p.2))
-
 -- no name of a register, where that of the table is another
 pub no-register : (text name : List ℕ) (k : ℕ) → k ≡ get_or REGISTERS (place_of text) 0 → name ≡ reg_name k → (name ≡ text → ⊥) → (n : ℕ) → n < 32 → text ≡ reg_name n → ⊥
 no-register text name k found is other n b e =

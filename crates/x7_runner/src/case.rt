@@ -16,6 +16,8 @@ pub struct Case {
     /// Whether later cases have what `out` got, and its name there.
     pub is_kept: bool,
     pub kept: String,
+    /// Whether they have what the flash holds in its place.
+    pub keeps_flash: bool,
 }
 
 impl Case {
@@ -28,6 +30,7 @@ impl Case {
             expected: Expected::new(alloc),
             is_kept: false,
             kept: String::new(alloc),
+            keeps_flash: false,
         }
     }
 
@@ -36,6 +39,20 @@ impl Case {
         let slice = slice_of(shared, line)?;
         self.expected.out.extend_from_slice(slice)?;
         Ok(())
+    }
+
+    /// Appends bytes of a shared input to what the flash is afterwards.
+    fn put_flash_slice(&mut self, shared: &[Named], line: &str) -> Result<(), Fault> {
+        self.expected.has_flash = true;
+        let slice = slice_of(shared, line)?;
+        self.expected.flash.extend_from_slice(slice)?;
+        Ok(())
+    }
+
+    /// Takes the name under which later cases have what the flash holds.
+    fn put_kept_flash(&mut self, name: &str) -> Result<(), Fault> {
+        self.keeps_flash = true;
+        self.put_kept(name)
     }
 
     /// Takes the name under which later cases have what `out` got.
@@ -54,7 +71,9 @@ impl Case {
             "cut_each" => self.outside.put_damaged(Damage::Cut, shared, rest),
             "change_each" => self.outside.put_damaged(Damage::Bit, shared, rest),
             "out_slice" => self.put_out_slice(shared, rest),
+            "flash_after_slice" => self.put_flash_slice(shared, rest),
             "keep" => self.put_kept(rest),
+            "keep_flash" => self.put_kept_flash(rest),
             _ => self.take_plain(key, rest),
         }
     }

@@ -120,6 +120,20 @@ fn compare_read_failed(
     Ok(())
 }
 
+/// That a failed write of the flash leaves its message, and no text.
+fn compare_write_failed(notes: &mut Notes, came: &Ending) -> Result<(), Fault> {
+    notes.compare_texts("out", b"", &came.out)?;
+    notes.compare_texts("err", b"x7: write fault\n", &came.err)
+}
+
+/// Whether a call of the flash that failed may be a write.
+fn is_write(words: &[String], came: &Ending) -> bool {
+    match words.first() {
+        Some(word) => word.as_str() == "update" && u64::from(came.status) == WRITE_FAULT,
+        None => false,
+    }
+}
+
 /// That a run in which a call of the object failed ended as it should.
 pub fn compare_failed(
     notes: &mut Notes,
@@ -132,6 +146,7 @@ pub fn compare_failed(
     match object {
         Object::Err => compare_err_failed(notes, whole, came),
         Object::Out => compare_out_failed(notes, whole, came),
+        Object::Flash if is_write(words, came) => compare_write_failed(notes, came),
         Object::In | Object::Flash => compare_read_failed(notes, words, blamed, whole, came),
     }
 }

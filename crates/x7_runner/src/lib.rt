@@ -17,6 +17,7 @@ mod running;
 mod shell;
 mod subject;
 mod token;
+mod writing;
 
 pub use command::Command;
 pub use fault::Fault;

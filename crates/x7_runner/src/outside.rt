@@ -3,6 +3,7 @@ use crate::damage::{Damage, Damaged};
 use crate::fault::Fault;
 use crate::named::{Named, put_bytes, put_slice, put_text, put_texts};
 use crate::token::positive;
+use crate::writing::Writing;
 use std::alloc::Global;
 
 /// An object that a run works on, and whose calls can fail.
@@ -54,6 +55,7 @@ pub struct Outside {
     pub damaged: Vec<Damaged>,
     /// At most one.
     pub flash: Vec<Named>,
+    pub writing: Writing,
     /// The most bytes of one read: a run for each, or one run without a limit.
     pub pieces: Vec<u32>,
     /// The most bytes of one read of a run that should come to the same as the one beside it.
@@ -77,6 +79,7 @@ impl Outside {
             inputs: Vec::new(alloc),
             damaged: Vec::new(alloc),
             flash: Vec::new(alloc),
+            writing: Writing::new(),
             pieces: Vec::new(alloc),
             alike: Vec::new(alloc),
             write_piece: u32::MAX,
@@ -196,6 +199,8 @@ impl Outside {
             "text" => put_text(self.alloc, &mut self.inputs, rest),
             "text_lines" => put_texts(self.alloc, &mut self.inputs, rest),
             "flash" => self.put_flash(rest),
+            "flash_room" => self.writing.put_room(rest),
+            "flash_tears" => self.writing.put_tear(rest),
             "piece" => self.put_pieces(rest),
             "alike" => self.put_alike(rest),
             "write_piece" => self.put_write_piece(rest),

@@ -208,6 +208,7 @@ impl Objects {
     ) -> Result<(), Fault> {
         put_inputs(&mut self.inputs, alloc, shared, given, turn)?;
         self.flash.fail_at(turn.call_of(Object::Flash))?;
+        given.writing.prepare(&mut self.flash)?;
         let piece = given.write_piece;
         limit(&mut self.out, piece, turn.call_of(Object::Out))?;
         limit(&mut self.err, piece, turn.call_of(Object::Err))

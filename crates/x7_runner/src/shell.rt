@@ -33,8 +33,17 @@ impl Screen {
     }
 }
 
-/// The file that is the flash: the one of that name behind the word `boot` and a part.
+/// The file that `update` writes: the one of that name behind the word.
+fn updated(words: &str) -> Option<&str> {
+    let (name, _) = first_word(words.strip_prefix("update ")?);
+    Some(name)
+}
+
+/// The file that is the flash: that of `update`, or the one of that name behind the word `boot` and a part.
 fn flash_of(words: &str) -> Option<&str> {
+    if let Some(name) = updated(words) {
+        return Some(name);
+    }
     let (_, rest) = words.strip_prefix("boot ")?.split_once(' ')?;
     let (name, _) = first_word(rest);
     Some(name)
@@ -48,6 +57,9 @@ fn put_outside(
     words: &str,
 ) -> Result<(), Fault> {
     given.put_words(words)?;
+    if updated(words).is_some() {
+        given.writing.put_room("1000 4000000")?;
+    }
     match flash_of(words) {
         Some(name) => put_under(alloc, &mut given.flash, name, bytes_of(files, name)?),
         None => Ok(()),
@@ -227,6 +239,20 @@ fn put_file(alloc: Global, files: &mut Vec<Named>, name: &str, bytes: &[u8]) -> 
     Ok(())
 }
 
+/// Puts the flash that `x7 update` left in place of the one that it found.
+fn put_updated(
+    alloc: Global,
+    files: &mut Vec<Named>,
+    line: &str,
+    flash: &[u8],
+) -> Result<(), Fault> {
+    let (name, words) = first_word(line);
+    match updated(words) {
+        Some(file) if name == "x7" => put_file(alloc, files, file, flash),
+        _ => Ok(()),
+    }
+}
+
 /// The text before the mark, and the one behind it where the mark is there.
 fn cut<'a>(line: &'a str, mark: &str) -> (&'a str, Option<&'a str>) {
     match line.split_once(mark) {
@@ -282,6 +308,7 @@ fn show_line<C: Command>(
     let (line, to) = cut(line, " > ");
     let (line, filter) = cut(line, " | ");
     execute(command, alloc, files, line, &mut screen.given)?;
+    put_updated(alloc, files, line, &screen.given.flash)?;
     put_given(screen, filter)?;
     redirect(alloc, files, screen, to)?;
     screen.text.extend_from_slice(&screen.given.err)?;

@@ -23,7 +23,7 @@ struct Subject {
     good: u32,
 }
 
-/// Runs the case, and makes its text an input of later cases, under a name that none has yet.
+/// Runs the case, and makes its text, or what its flash holds, an input of later cases, under a name that none has yet.
 fn keep<C: Command>(
     command: &C,
     alloc: Global,
@@ -37,6 +37,9 @@ fn keep<C: Command>(
     let turn = Turn::new(None, u32::MAX);
     let mut ending = Ending::new(alloc);
     ran(command, alloc, shared, &case.outside, &turn, &mut ending)?;
+    if case.keeps_flash {
+        return put_under(alloc, shared, name, &ending.flash);
+    }
     put_under(alloc, shared, name, &ending.out)
 }
 

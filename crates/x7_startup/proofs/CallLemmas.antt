@@ -141,9 +141,6 @@ start_desync false (DropBack ∷ calls) d = start_desync false calls d
 
 -- ---- what a call leaves
 
-pub new_stands : (lock matched : ℕ) → StandsFor lock matched (record { armed = false; begun = None; tick_bytes = 0; ticks = 0; phase = 0 }) []
-new_stands lock matched = record { armed_is = refl; stores = record { begun_is = refl; tick_bytes_are = refl; ticks_are = refl; phase_is = refl } }
-
 pub arm_stands : (lock matched : ℕ) (s : Stored) (calls : List Call) → StandsFor lock matched s calls →
     StandsFor lock matched (record s { armed = true }) (calls ++ Arm ∷ [])
 arm_stands lock matched s calls h =

@@ -58,10 +58,7 @@ ran_all w ticks₀ phase₀ count ticks phase left end h t first s =
     ] in
     rw z (omega arith, p)
 
--- one tick in the last phase, in a phase that waits, and in one that doesn't
-pub tick_ends : (w : ℕ → ℕ) (ticks phase : ℕ) → 7 ≤ phase → Runs w ticks phase 1 (min (ticks + 1) 65535) phase
-tick_ends w ticks phase late t e s = (omega arith, phase_ended w t 1 phase s late)
-
+-- one tick in a phase that waits, and in one that doesn't
 pub tick_stays : (w : ℕ → ℕ) (ticks phase wait : ℕ) → wait ≡ w phase → wait < 2 ^ 16 → ticks < wait → Runs w ticks phase 1 (min (ticks + 1) 65535) phase
 tick_stays w ticks phase wait is small below t e s = (omega arith, phase_stays w t 1 phase s (omega arith))
 

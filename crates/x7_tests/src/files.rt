@@ -195,6 +195,48 @@ fn a_name_is_opened_as_it_is(rt: HostRuntime) -> Result<(), Fail> {
     Ok(())
 }
 
+/// Attaches a file of two sectors, erases the second, programs bytes over its start, and reads five of them.
+fn written_bytes<F: Flash>(flash: &mut F, name: &str) -> Option<[u8; 5]> {
+    let Ok(()) = flash.attach(name) else {
+        return None;
+    };
+    if flash.size() != 131072 {
+        return None;
+    }
+    let Ok(()) = flash.erase(1) else {
+        return None;
+    };
+    let Ok(()) = flash.program(65535, &[0x0F, 0x5A, 0xFF]) else {
+        return None;
+    };
+    let Ok(()) = flash.program(65536, &[0xF0]) else {
+        return None;
+    };
+    let mut buf = [0; 5];
+    match flash.read_at(65534, &mut buf) {
+        Ok(()) => Some(buf),
+        Err(_) => None,
+    }
+}
+
+#[test]
+fn a_file_is_written_as_a_flash(rt: HostRuntime) -> Result<(), Fail> {
+    let alloc = rt.alloc();
+    let mut bytes = Vec::new(alloc);
+    bytes.resize(131072, 0x3C)?;
+    let folder = env::temp_dir(&rt)?;
+    let name = format!(in alloc; "x7-words-written-{}", process::id(rt.process()))?;
+    let path = folder.join(alloc, name.as_str())?;
+    fs::write(&rt, path.as_path(), bytes.as_slice())?;
+    let mut flash = FileFlash::new(&rt);
+    let found = written_bytes(&mut flash, path.as_path().as_str());
+    let kept = fs::read(&rt, path.as_path())?;
+    fs::remove_file(&rt, path.as_path())?;
+    assert!(rt; found == Some([0x3C, 0x0C, 0x50, 0xFF, 0xFF]));
+    assert!(rt; kept.len() == 131072);
+    Ok(())
+}
+
 /// A writer that takes one byte a call, and after so many bytes nothing.
 #[derive(Drop)]
 struct Narrow {

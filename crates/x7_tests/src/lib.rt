@@ -2,9 +2,13 @@
 #![tactic(auto)]
 
 #[cfg(test)]
+mod failing;
+#[cfg(test)]
 mod faults;
 #[cfg(test)]
 mod files;
+#[cfg(test)]
+mod forgetful;
 #[cfg(test)]
 mod frames;
 #[cfg(test)]
@@ -13,3 +17,5 @@ mod port;
 mod status;
 #[cfg(test)]
 mod texts;
+#[cfg(test)]
+mod updates;

@@ -71,7 +71,7 @@ EndedIn stream old new end =
 ended_cause : (cause : Cause) (stream : List ℕ) (old new : Outside) (event : Event) → cause_of event ≡ cause
     → EndedBy cause (known_in old) new.inputs.given (FailsAmong (stream ∷ []) old.inputs new.inputs) (LacksAmong (stream ∷ []) old.inputs new.inputs) stream (SinkFails old.out new.out) old.out.written new.out.written event
     → HasCause (Some (Listing stream)) old new (Err event)
-ended_cause Break stream old new event e h = rw e (h.0, h.1)
+ended_cause Break stream old new event e h = rw e (h.0, inl h.1)
 ended_cause cause stream old new event e h = has_cause (Listing stream) old new (Err event) (answers_over (Listing stream) old new (Err event) h.0)
 
 left_as : (reason : Why) (stream : List ℕ) (old new : Outside) → LeftAs reason (known_in old) stream old.out.written new.out.written → ListLeaves reason stream old new
@@ -91,8 +91,8 @@ ended_left Break stream old new event h = some_of (known_in old) stream old.out 
 ended_left cause stream old new event h = left_as event.reason stream old new h.1
 
 pub list_ends : (stream : List ℕ) (old new : Outside) (end : Result Answer Event) → EndedIn stream old new end → StaysNear (final_status end) (Some (Listing stream)) old new → Ends (Some (Listing stream)) old new end
-list_ends stream old new (Ok answer) h n = record { cause = has_cause (Listing stream) old new (Ok answer) (answers_over (Listing stream) old new (Ok answer) h.0); wrote = h.1; near = n }
-list_ends stream old new (Err event) h n = record { cause = ended_cause (cause_of event) stream old new event refl h; wrote = ended_left (cause_of event) stream old new event h; near = n }
+list_ends stream old new (Ok answer) h n = record { cause = has_cause (Listing stream) old new (Ok answer) (answers_over (Listing stream) old new (Ok answer) h.0); wrote = h.1; near = n; updates = tt }
+list_ends stream old new (Err event) h n = record { cause = ended_cause (cause_of event) stream old new event refl h; wrote = ended_left (cause_of event) stream old new event h; near = n; updates = tt }
 
 -- the same of a call's result
 pub list_seen : {A : Type 0} (stream : List ℕ) (old new : Outside) (r : Result A Refusal) → OnOk r ((text : List ℕ) × EndedIn stream old new (Ok (record { stopped = false; text = text })))

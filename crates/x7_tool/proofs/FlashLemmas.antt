@@ -2,13 +2,16 @@
 use Rattle.std.proofs.Common.{◌≡◌, ◌≤◌, ◌∙◌, ap, arith, ℕ, Bool, List, [], ◌∷◌, Option, None, Some, Result, Ok, Err, refl, subst, sym, inl, inr, ◌⊎◌}
 use Rattle.std.specs.Prelude.{IsTrue}
 use Rattle.x7_words.specs.Count.{HasRisen}
-use Rattle.x7_words.specs.Flash.{AsksFor, FlashFails, FlashState, FlashStays, OnlyReads, Unattached}
+use Rattle.x7_words.specs.Flash.{AsksFor, FlashFails, FlashState, FlashStays, OnlyReads, Unattached, Unwritten}
+use Rattle.x7_words.specs.Input.{InputsState}
+use Rattle.x7_update.proofs.ToldLemmas.{moments_none, only_read}
 use Rattle.x7_words.specs.declared.input.SelectFault.{SelectFault}
 use Rattle.x7_words.specs.declared.input.SelectFault.TheVariants.{Missing, Failed}
 use Rattle.x7_part.specs.Part.{PartData}
 use Rattle.x7_forms.specs.Event.{Event, Cause, Want, Fault, Absence, cause_of, missing, read_fault, too_large}
-use Rattle.x7_forms.specs.Form.{Asked, Booting, flash_names, names_of}
+use Rattle.x7_forms.specs.Form.{Asked, Booting, FlashUse, Read, Unused, Updated, flash_names, flash_use, names_of, updated_by}
 use Rattle.x7_forms.specs.Known.{Absent, Answer, Broken, Failing, Found, Held, Known, Lacking, Mishap, flash_found, known_of, mishap_event, part_of, spoiled, spoiled_name, with_inputs, with_mishap}
+use Rattle.x7_tool.specs.Leaving.{MayBeFound, UsesFlash}
 use Rattle.x7_tool.specs.Outcome.{BootedAs, FlashBoots, Gives}
 use Rattle.x7_tool.specs.Outside.{Fails, FlashFailsAmong, FlashLacksAmong, KeepsFlash, Lacks, Outside, ReadsFlash, known_in}
 use Rattle.x7_tool.specs.Run.{AnswersOver, FlashComes, IsUnattached}
@@ -56,7 +59,7 @@ booted_due (Some t) flash given F L name part_name part end same o read h =
     inr (o.1, subst (λ (r : Result PartData Event). BootedAs name r (t.flash name) end) (sym read.1) (subst (λ (f : Option Found). FlashBoots name part f end) (sym (same t refl)) h))
 
 -- what is known of the flash
-told_flash : (contents : Option (List ℕ → Option (List ℕ))) (flash : Option (List ℕ)) (name : List ℕ) (t : Known) → with_inputs contents flash ≡ Some t → t.flash name ≡ flash_found flash
+pub told_flash : (contents : Option (List ℕ → Option (List ℕ))) (flash : Option (List ℕ)) (name : List ℕ) (t : Known) → with_inputs contents flash ≡ Some t → t.flash name ≡ flash_found flash
 told_flash None flash name t e = absurd (cc)
 told_flash (Some inputs) flash name t e = let same : known_of inputs flash ≡ t = cc in ap (λ (k : Known). k.flash name) (sym same)
 
@@ -120,9 +123,21 @@ was_failed old new fault e h = subst (λ (f : SelectFault). Unattached old new f
 pub reads_none : (name : List ℕ) (s : FlashState) → ReadsFlash name s s
 reads_none name s = record { bytes = refl; write_faults = refl; moments = refl; faults = omega arith; absences = omega arith; no_other = λ other h. inl h }
 
-pub kept_same : (names : List (List ℕ)) (s : FlashState) → KeepsFlash names s s
-kept_same [] s = refl
-kept_same (name ∷ more) s = reads_none name s
+-- a flash that was not used
+kept_same : (u : FlashUse) (s : FlashState) → KeepsFlash u s s
+kept_same Unused s = refl
+kept_same (Read name) s = reads_none name s
+kept_same (Updated name) s = record { faults = omega arith; absences = omega arith; write_faults = omega arith; no_other = λ other h. inl h }
+
+-- what a flash held may be found
+pub found_same : (known : Option Known) (stream : Option (List ℕ)) (all : List ℕ) → MayBeFound known stream all all
+found_same known None all = refl
+found_same known (Some stream) all = inl refl
+
+pub uses_same : (form : Option Asked) (inputs : InputsState) (s : FlashState) (since : ℕ → List ℕ → Type 0) → UsesFlash form inputs s s since since
+uses_same form inputs s since =
+    let known = with_inputs inputs.contents s.bytes in
+    record { keeps = kept_same (flash_use form) s; moments = moments_none s since (MayBeFound known (updated_by form)) (λ all e. found_same known (updated_by form) all) }
 
 -- an attach that asks for this name
 pub reads_asked : (name : List ℕ) (old new : FlashState) (past since : ℕ → List ℕ → Type 0) → FlashStays old new past since → AsksFor old name new → ReadsFlash name old new
@@ -139,6 +154,12 @@ reads_on name old mid new past since r o = record {
   no_other = λ other h. r.no_other other (subst (λ (names : List ℕ → Bool). IsTrue (names other)) o.names h);
 }
 
--- a form that names its flash
-pub kept_named : (form : Option Asked) (asks : Asked) (name : List ℕ) (old new : FlashState) → form ≡ Some asks → flash_names (Some asks) ≡ name ∷ [] → ReadsFlash name old new → KeepsFlash (flash_names form) old new
-kept_named form asks name old new e n r = subst (λ (names : List (List ℕ)). KeepsFlash names old new) (sym (ap flash_names e ∙ n)) r
+-- a form that reads its flash
+pub uses_read : (form : Option Asked) (asks : Asked) (name : List ℕ) (inputs : InputsState) (old new : FlashState) (past since : ℕ → List ℕ → Type 0) → form ≡ Some asks → flash_use (Some asks) ≡ Read name
+    → ReadsFlash name old new → Unwritten old new past since → UsesFlash form inputs old new past since
+uses_read form asks name inputs old new past since e n r u =
+    let known = with_inputs inputs.contents old.bytes in
+    record {
+      keeps = subst (λ (u : FlashUse). KeepsFlash u old new) (sym (ap flash_use e ∙ n)) r;
+      moments = only_read old new past since (MayBeFound known (updated_by form)) (λ all e. found_same known (updated_by form) all) r.bytes u;
+    }

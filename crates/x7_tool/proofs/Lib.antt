@@ -4,8 +4,11 @@ pub mod BootTextLemmas
 pub mod Causes
 pub mod DebugLemmas
 pub mod FlashLemmas
+pub mod FoundLemmas
 pub mod GenerateLemmas
 pub mod PlanLemmas
 pub mod PromiseLemmas
 pub mod RunLemmas
+pub mod SvfLemmas
 pub mod TurnLemmas
+pub mod UpdateLemmas

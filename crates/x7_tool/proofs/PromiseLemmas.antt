@@ -1,9 +1,11 @@
 -- What planned streams do, by what was known when they were written.
-use Rattle.std.proofs.Common.{◌≡◌, ◌∙◌, ◌<◌, ◌≤◌, ℕ, List, ◌∷◌, length, map, reverse, Bool, true, false, if◌then◌else◌, Option, Some, Result, Ok, Err, ap, arith, refl, subst, sym}
+use Rattle.std.proofs.Common.{◌≡◌, ◌∙◌, ◌<◌, ◌≤◌, ◌++◌, ℕ, List, ◌∷◌, length, map, reverse, drop, take, Bool, true, false, if◌then◌else◌, Option, Some, Result, Ok, Err, ap, arith, refl, subst, sym}
 use Rattle.std.specs.Prelude.{Contains, nat_lt}
 use Rattle.std.proofs.lemmas.Bool.Decides.{nat_tests}
 use Rattle.std.proofs.lemmas.List.Sorted.{All-permutation}
+use Rattle.std.proofs.lemmas.List.{take-append-drop}
 use Rattle.x7_words.specs.Word.{AreBytes}
+use Rattle.x7_words.proofs.ListLemmas.{all_front}
 use Rattle.x7_part.specs.AddressOrder.{addresses_in}
 use Rattle.x7_part.specs.Part.{PartData}
 use Rattle.x7_part.specs.PartFile.{part_in}
@@ -11,7 +13,7 @@ use Rattle.x7_part.specs.PartRange.{IsPart}
 use Rattle.x7_part.specs.declared.fault.PartFault.{PartFault}
 use Rattle.x7_part.proofs.FileRowLemmas.{text_is}
 use Rattle.x7_engine.specs.Kept.{on_the_bench}
-use Rattle.x7_engine.specs.State.{reads_of}
+use Rattle.x7_engine.specs.State.{reads_of, taken_of}
 use Rattle.x7_boot.specs.declared.boots.BootEnd.{BootEnd}
 use Rattle.x7_boot.specs.declared.boots.BootEnd.TheVariants as boot_end
 use Rattle.x7_boot.specs.Attempt.{Trial}
@@ -25,14 +27,20 @@ use Rattle.x7_boot.proofs.SlotLemmas.{image_fits}
 use Rattle.x7_memory.specs.Planned.{IsPlanFor, PlanData}
 use Rattle.x7_planner.specs.Full.{full_stream}
 use Rattle.x7_regs.specs.declared.boot_status.Cause.{Cause}
+use Rattle.x7_jtag.specs.declared.statement.Statement.{Statement}
+use Rattle.x7_jtag.specs.Play.{clocks_played, first_difference, port_played}
+use Rattle.x7_jtag.specs.Port.{Port, port_after, words_read}
+use Rattle.x7_jtag.specs.Queue.{Sound}
+use Rattle.x7_jtag.specs.Shown.{bytes_taken}
+use Rattle.x7_jtag.proofs.QueueLemmas.{port-sound}
 use Rattle.x7_effects.specs.Played.{PlaysFull, PlaysPartial, PlaysRead}
 use Rattle.x7_effects.proofs.LawLemmas.{full_law, partial_law, read_law}
 use Rattle.x7_forms.specs.declared.bad_input.InputFault.TheVariants as input
 use Rattle.x7_forms.specs.Event.{Event, bad_input, too_many_reads}
-use Rattle.x7_forms.specs.Form.{Asked, Booting, Generating, Imaging, ImagingFor, PlanningFull, PlanningPartial, PlanningRead, Playing}
+use Rattle.x7_forms.specs.Form.{Asked, Booting, Generating, Imaging, ImagingFor, PlanningFull, PlanningPartial, PlanningRead, Playing, PlayingSvf}
 use Rattle.x7_forms.specs.Known.{Answer, Found, Held, Known, and_so, data_of, part_by, part_limit, part_of, reads_limit, report_of, reported, stream_limit, whole_in}
-use Rattle.x7_tool.specs.Outcome.{BootedAs, BootsAs, FlashBoots, Gives, ImageStreams, PlanTexts, PlannedFull, PlannedPartial, PlannedRead, gen_answer, has_failed, image_by, image_streams, plan_texts, text_limit}
-use Rattle.x7_tool.specs.Promise.{FallsBackAs, FallsBackFrom, HoldsImage, PromiseOf, PromisesFull, PromisesImage, PromisesImageFor, PromisesPartial, PromisesPlayed, PromisesRead, PromisesStart, PromisesSummary, StartsChecked, StartsUpdateAs}
+use Rattle.x7_tool.specs.Outcome.{BootedAs, BootsAs, FlashBoots, Gives, ImageStreams, PlanTexts, PlannedFull, PlannedPartial, PlannedRead, PlayedSvf, gen_answer, has_failed, image_by, image_streams, plan_texts, text_limit}
+use Rattle.x7_tool.specs.Promise.{FallsBackAs, FallsBackFrom, HoldsImage, PromiseOf, PromisesFull, PromisesImage, PromisesImageFor, PromisesPartial, PromisesPlayed, PromisesPort, PromisesRead, PromisesStart, PromisesSummary, StartsChecked, StartsUpdateAs}
 use Rattle.x7_tool.proofs.GenerateLemmas.{generated_plays, planned_is}
 
 -- ---- the part that was read is a part
@@ -173,6 +181,28 @@ play_promised known part streams (Err event) d answer e f h = absurd (cc)
 play_promised known part streams (Ok q) (Err event) answer e f h = absurd (cc)
 play_promised known part streams (Ok q) (Ok bytes) answer e f h = record { device = q; bytes = bytes; read = e; joined = f; report = reported_is q bytes answer h; checked = λ fits late. checked q on_the_bench false bytes fits late }
 
+-- ---- a port
+
+-- what the device of a port took are bytes
+taken_fits : (part : PartData) (statements : List Statement) → AreBytes (bytes_taken part (port_played part statements))
+taken_fits part statements =
+    let p : Port = port_played part statements in
+    let n : ℕ = taken_of part on_the_bench p.queue.given in
+    let sound : Sound (words_read part) p.queue = port-sound part (clocks_played statements (first_difference part statements)) in
+    let fits : AreBytes p.queue.given = all_front (λ b. b < 256) p.queue.given p.queue.held sound.fits in
+    all_front (λ b. b < 256) (take n p.queue.given) (drop n p.queue.given) (subst AreBytes (sym (take-append-drop n p.queue.given)) fits)
+
+port_promised : (known : Known) (part text : List ℕ) (read : Result PlanTexts Event) (answer : Answer) → plan_texts known part text ≡ read → PlayedSvf text read (Ok answer) → PromisesPort known part text answer
+port_promised known part text (Err event) answer e p = absurd (cc)
+port_promised known part text (Ok texts) answer e p = record {
+  texts = texts;
+  statements = p.0;
+  read = e;
+  has = p.1;
+  shows = sym p.2;
+  checked = λ late. checked texts.part on_the_bench false (bytes_taken texts.part (port_played texts.part p.0)) (taken_fits texts.part p.0) late;
+}
+
 -- ---- an image
 
 image_fits_by : (b : Bool) (n l : ℕ) (e : Event) (text : List ℕ) (answer : Answer) → nat_lt l n ≡ b → (if b then Err e else Ok (record { stopped = false; text = text })) ≡ Ok answer → (n ≤ l) × (answer.text ≡ text)
@@ -204,6 +234,7 @@ promised known (PlanningPartial part frames) answer a = partial_promised known p
 promised known (PlanningRead part far n) answer a = read_promised known part far n (part_of known part) answer refl a
 promised known (Generating part seed) answer a = summary_promised known part seed (part_of known part) answer refl a
 promised known (Playing part streams) answer a = play_promised known part streams (part_of known part) (data_of known stream_limit streams) answer refl refl a
+promised known (PlayingSvf part text) answer a = port_promised known part text (plan_texts known part text) answer refl a
 promised known (Imaging golden update) answer a = image_promised known golden update (image_streams known golden update) answer refl a
 promised known (ImagingFor part golden update) answer a = image_for_promised known part golden update (part_of known part) (image_streams known golden update) answer refl refl a
 promised known (Booting part flash) answer a = start_promised known part flash (part_of known part) answer refl a

@@ -15,16 +15,17 @@ use Rattle.x7_forms.specs.declared.refusal.Why.{Why}
 use Rattle.x7_forms.specs.declared.refusal.Why.TheVariants as why
 use Rattle.x7_forms.specs.declared.status.Status.{Status}
 use Rattle.x7_forms.specs.declared.status.Status.TheVariants as status
-use Rattle.x7_forms.specs.Event.{Event, Cause, Wording, Want, Fault, Absence, Break, Contents, cause_of, no_memory, row_of, status_of, usage, write_fault}
-use Rattle.x7_forms.specs.Form.{Asked, Assembling, FromMcs, flash_names, listed_by, names_of}
+use Rattle.x7_forms.specs.Event.{Event, Cause, Wording, Want, Fault, Absence, Break, Contents, Difference, cause_of, no_memory, row_of, status_of, usage, write_fault}
+use Rattle.x7_forms.specs.Form.{Asked, Assembling, FromMcs, flash_use, listed_by, names_of, updated_by}
 use Rattle.x7_forms.specs.Message.{final_status, text_status}
 use Rattle.x7_forms.specs.Known.{Answer, Failing, Known, Lacking, Mishap, and_so, found, known_of, taken_whole, whole_in, with_inputs, within}
 use Rattle.x7_forms.specs.Step.{AnswersBy, DecidedBy, DueBy, FreeBy, IsCausedBy, IsDue, OpenBy}
 use Rattle.x7_tool.specs.Ahead.{StaysNear, StaysNearIn}
+use Rattle.x7_tool.specs.Leaving.{Updates}
 use Rattle.x7_tool.specs.Outcome.{AssembledAs, Gives, IsOutcome, mcs_image, text_limit}
 use Rattle.x7_tool.specs.Outside.{Fails, IsQuiet, KeepsFlash, Lacks, Outside, known_in}
 use Rattle.x7_tool.specs.Promise.{Promise}
-use Rattle.x7_tool.specs.Run.{Agrees, AnswersOver, CausedBy, Ends, EndsAs, GetsBy, GetsPrefix, Happens, HasCause, LeavesBy, LeftBy, Puts, Says, Wrote}
+use Rattle.x7_tool.specs.Run.{Agrees, AnswersOver, CausedBy, Ends, EndsAs, GetsBy, GetsPrefix, Happens, HasCause, LeavesBy, LeftAtBreak, LeftBy, Puts, Says, Wrote}
 use Rattle.x7_tool.specs.Runs.{Back, Runs}
 use Rattle.x7_tool.proofs.FlashLemmas.{answers_over}
 use Rattle.x7_tool.proofs.PromiseLemmas.{promised}
@@ -45,7 +46,8 @@ event_by known form old new event Want k q h = inl h
 event_by known form old new event Fault k q h = absurd (q.0 event.concerned h.0)
 event_by known form old new event Absence k q (inl h) = absurd (q.1 event.concerned h.0)
 event_by known form old new event Absence k q (inr h) = inr (rw k at h)
-event_by known form old new event Break k q h = absurd (q.2 h.1)
+event_by known form old new event Break k q h = elim h.1 [ inl fails ↦ absurd (q.2 fails) | inr fails ↦ absurd (q.3 fails) ]
+event_by known form old new event Difference k q h = let agrees : Agrees (known_in old) form (Err event) = h.1 in inr (rw k at agrees)
 event_by known form old new event Contents k q h = inr (rw k at h)
 
 -- the end is the outcome or want of memory
@@ -170,7 +172,7 @@ promise_is (Some form) old new (Err event) h = no_promise (known_in old) (Some f
 -- ---- a run
 
 -- how a command ended is what its run comes to
-pub runs : (form : Option Asked) (old new : Outside) (s : Status) (end : Result Answer Event) → s ≡ final_status end → Says old.err new.err end → Ends form old new end → KeepsFlash (flash_names form) old.flash new.flash → Runs form old new s
+pub runs : (form : Option Asked) (old new : Outside) (s : Status) (end : Result Answer Event) → s ≡ final_status end → Says old.err new.err end → Ends form old new end → KeepsFlash (flash_use form) old.flash new.flash → Runs form old new s
 runs form old new s end e t h f =
     let outcome : (known : Known) → known_in old ≡ Some known → IsQuiet form old new → (s ≡ status.NoMemory) ⊎ IsOutcome known form end = outcome_is form old new s end e h.cause in
     record {
@@ -185,12 +187,13 @@ runs form old new s end e t h f =
       back = back_is form old new s end outcome;
       promise = promise_is form old new end h.cause;
       flash = f;
+      updates = h.updates;
     }
 
 -- ---- a text that is whole before it is written
 
 -- what other forms leave where nothing was written
-leaves_all : (form : Asked) (cause : Cause) (old new : Outside) (event : Event) → listed_by (Some form) ≡ None → (cause ≡ Break → ⊥) → new.out.written ≡ old.out.written → LeftBy cause (Some form) old new event
+pub leaves_all : (form : Asked) (cause : Cause) (old new : Outside) (event : Event) → listed_by (Some form) ≡ None → (cause ≡ Break → ⊥) → new.out.written ≡ old.out.written → LeftBy cause (Some form) old new event
 leaves_all form Break old new event l n e = absurd (n refl)
 leaves_all form cause old new event l n e = subst (λ (s : Option (List ℕ)). LeavesBy s event old new) (sym l) e
 
@@ -207,7 +210,7 @@ open_by Break h e = h
 open_by cause h e = absurd (cc)
 
 -- a text that isn't ready was not refused by the output
-no_break : (known : Option Known) (given : ℕ) (F L : List ℕ → Type 0) (Due : Known → Result Answer Event → Type 0) (event : Event) → IsCausedBy known given F L Due (Err event) → cause_of event ≡ Break → ⊥
+pub no_break : (known : Option Known) (given : ℕ) (F L : List ℕ → Type 0) (Due : Known → Result Answer Event → Type 0) (event : Event) → IsCausedBy known given F L Due (Err event) → cause_of event ≡ Break → ⊥
 no_break known given F L Due event (inl h) = free_by (cause_of event) known given F L Due event h
 no_break None given F L Due event (inr h) = open_by (cause_of event) h
 no_break (Some t) given F L Due event (inr h) = decided_by (cause_of event) h.0
@@ -216,30 +219,61 @@ gets_by : (known : Option Known) (form : Asked) (answer : Answer) (old new : Sin
 gets_by None form answer old new l h p = (answer.text, p)
 gets_by (Some known) form answer old new l h p = subst (λ (s : Option (List ℕ)). GetsBy s known form old new) (sym l) (answer, (h, p))
 
-near_all : (form : Asked) (s : Status) (old new : Outside) → listed_by (Some form) ≡ None → StaysNear s (Some form) old new
+pub near_all : (form : Asked) (s : Status) (old new : Outside) → listed_by (Some form) ≡ None → StaysNear s (Some form) old new
 near_all form s old new l = subst (λ (x : Option (List ℕ)). StaysNearIn s x old new) (sym l) tt
 
+-- the stream that a form lists, or else the one with which it updates its flash
+abbrev pub streamed : Option (List ℕ) → Option (List ℕ) → Option (List ℕ)
+streamed None updated = updated
+streamed (Some listed) updated = Some listed
+
+none_listed : (listed updated : Option (List ℕ)) → streamed listed updated ≡ None → listed ≡ None
+none_listed None updated e = refl
+none_listed (Some listed) updated e = absurd (cc)
+
+none_updated : (listed updated : Option (List ℕ)) → streamed listed updated ≡ None → updated ≡ None
+none_updated None updated e = e
+none_updated (Some listed) updated e = absurd (cc)
+
+-- such a form updates no flash
+updates_none : (form : Asked) (old new : Outside) (end : Result Answer Event) → updated_by (Some form) ≡ None → Updates (updated_by (Some form)) old new end
+updates_none form old new end u = subst (λ (x : Option (List ℕ)). Updates x old new end) (sym u) tt
+
 -- a form whose text is ready before any of it is written ends as it should where its text has its cause and was put
-puts_end : (form : Asked) (old new : Outside) (whole : Result Answer Event) (got : Result Bool Event) → listed_by (Some form) ≡ None → AnswersOver form old new whole → Puts whole old.out new.out got → EndsAs (Some form) old new got
-puts_end form old new (Ok answer) (Ok stopped) l c p =
-    (answer.text, record { cause = subst (λ (s : Bool). HasCause (Some form) old new (Ok (record { stopped = s; text = answer.text }))) (sym p.0) (has_cause form old new (Ok answer) c); wrote = p.1; near = near_all form (text_status stopped) old new l })
-puts_end form old new (Ok answer) (Err event) l c p =
+puts_end : (form : Asked) (old new : Outside) (whole : Result Answer Event) (got : Result Bool Event) → listed_by (Some form) ≡ None → updated_by (Some form) ≡ None → AnswersOver form old new whole → Puts whole old.out new.out got
+    → EndsAs (Some form) old new got
+puts_end form old new (Ok answer) (Ok stopped) l u c p =
+    (answer.text, record {
+      cause = subst (λ (s : Bool). HasCause (Some form) old new (Ok (record { stopped = s; text = answer.text }))) (sym p.0) (has_cause form old new (Ok answer) c);
+      wrote = p.1;
+      near = near_all form (text_status stopped) old new l;
+      updates = updates_none form old new (Ok (record { stopped = stopped; text = answer.text })) u;
+    })
+puts_end form old new (Ok answer) (Err event) l u c p =
     subst (λ (e : Event). Ends (Some form) old new (Err e)) (sym p.0)
-    (record { cause = (refl, p.1); wrote = gets_by (known_in old) form answer old.out new.out l (has_cause form old new (Ok answer) c) p.2; near = near_all form status.WriteFault old new l })
-puts_end form old new (Err event) (Ok stopped) l c p = let e : true ≡ false = ap is_ok p.0 in absurd (cc)
-puts_end form old new (Err event) (Err other) l c p =
+    (record {
+      cause = (refl, inl p.1);
+      wrote = subst (λ (x : Option (List ℕ)). LeftAtBreak x form old new) (sym u) (gets_by (known_in old) form answer old.out new.out l (has_cause form old new (Ok answer) c) p.2);
+      near = near_all form status.WriteFault old new l;
+      updates = updates_none form old new (Err write_fault) u;
+    })
+puts_end form old new (Err event) (Ok stopped) l u c p = let e : true ≡ false = ap is_ok p.0 in absurd (cc)
+puts_end form old new (Err event) (Err other) l u c p =
     subst (λ (e : Event). Ends (Some form) old new (Err e)) (sym (ap event_in p.0))
     (record {
       cause = has_cause form old new (Err event) c;
       wrote = leaves_all form (cause_of event) old new event l (no_break (known_in old) new.inputs.given (Fails (Some form) old new) (Lacks (Some form) old new) (λ t end. Gives t form end) event c) p.1;
       near = near_all form (status_of event) old new l;
+      updates = updates_none form old new (Err event) u;
     })
 
 pub text_ends : (form : Option Asked) (asks : Asked) (old new : Outside) (whole : Result Answer Event) (got : Result Bool Event)
-    → form ≡ Some asks → listed_by (Some asks) ≡ None → AnswersOver asks old new whole → Puts whole old.out new.out got → EndsAs form old new got
-text_ends form asks old new whole got e l c p = subst (λ (f : Option Asked). EndsAs f old new got) (sym e) (puts_end asks old new whole got l c p)
+    → form ≡ Some asks → streamed (listed_by (Some asks)) (updated_by (Some asks)) ≡ None → AnswersOver asks old new whole → Puts whole old.out new.out got → EndsAs form old new got
+text_ends form asks old new whole got e n c p =
+    subst (λ (f : Option Asked). EndsAs f old new got) (sym e)
+    (puts_end asks old new whole got (none_listed (listed_by (Some asks)) (updated_by (Some asks)) n) (none_updated (listed_by (Some asks)) (updated_by (Some asks)) n) c p)
 
 -- the same of a form that reads inputs alone
 pub ready_ends : (form : Option Asked) (asks : Asked) (old new : Outside) (whole : Result Answer Event) (got : Result Bool Event)
-    → form ≡ Some asks → listed_by (Some asks) ≡ None → AnswersBy (names_of (Some asks)) old.inputs new.inputs (λ t end. Gives t asks end) whole → Puts whole old.out new.out got → EndsAs form old new got
+    → form ≡ Some asks → streamed (listed_by (Some asks)) (updated_by (Some asks)) ≡ None → AnswersBy (names_of (Some asks)) old.inputs new.inputs (λ t end. Gives t asks end) whole → Puts whole old.out new.out got → EndsAs form old new got
 ready_ends form asks old new whole got e l c p = text_ends form asks old new whole got e l (answers_over asks old new whole (c old.flash.bytes)) p

@@ -2,6 +2,7 @@ pub mod Ahead
 pub mod BootText
 pub mod Debug
 pub mod Generated
+pub mod Leaving
 pub mod Outcome
 pub mod Outside
 pub mod Planned
@@ -10,4 +11,5 @@ pub mod Ready
 pub mod Run
 pub mod Runs
 pub mod Streamed
+pub mod Svf
 pub mod Turns

@@ -1,10 +1,21 @@
 -- What a command comes to, over known inputs and a known flash: the first event in the order of the work decides (this project's choice).
-use Rattle.std.specs.Prelude.{◌≡◌, ℕ, List, ◌∷◌, Option, None, Some, is_some, Result, Ok, Err, Bool, false, if◌then◌else◌, length, nat_lt, take, ◌⊎◌, ◌<◌, ◌≤◌, map, reverse, true}
+use Rattle.std.specs.Prelude.{◌≡◌, ◌≢◌, ◌+◌, ℕ, List, [], ◌∷◌, ◌++◌, ◌||◌, Option, None, Some, is_some, Result, Ok, Err, Bool, false, if◌then◌else◌, length, nat_lt, take, ◌⊎◌, ◌<◌, ◌≤◌, map, reverse, true}
+use Rattle.x7_jtag.specs.declared.fault.SvfFault.{SvfFault}
+use Rattle.x7_jtag.specs.declared.fault.SvfFault.TheVariants as svf
+use Rattle.x7_jtag.specs.declared.play.Differ.{Differ}
+use Rattle.x7_jtag.specs.declared.statement.Statement.{Statement}
+use Rattle.x7_jtag.specs.Play.{first_difference, port_played}
+use Rattle.x7_jtag.specs.PlayText.{play_text}
+use Rattle.x7_jtag.specs.Port.{Port}
+use Rattle.x7_jtag.specs.Shown.{fault_shown, memory_shown, state_shown}
+use Rattle.x7_jtag.specs.Svf.{IsSvfOf}
+use Rattle.x7_forms.specs.Report.{report_text}
 use Rattle.x7_listing.specs.Assembly.{IsAsm}
 use Rattle.x7_listing.specs.StreamListing.{stream_listing}
 use Rattle.x7_listing.specs.declared.assembler.AsmFault.{AsmFault}
 use Rattle.x7_listing.specs.declared.assembler.AsmFault.TheVariants as asm
 use Rattle.x7_part.specs.Part.{PartData}
+use Rattle.x7_words.specs.Flash.{WhereTold}
 use Rattle.x7_words.specs.Word.{AreBytes}
 use Rattle.x7_boot.specs.Attempt.{Trial}
 use Rattle.x7_boot.specs.Boot.{LeadsToEnd, tried}
@@ -13,6 +24,10 @@ use Rattle.x7_boot.specs.declared.boots.BootEnd.{BootEnd}
 use Rattle.x7_boot.specs.declared.boots.BootEnd.TheVariants as boot_end
 use Rattle.x7_boot.specs.declared.fault.BootFault.{BootFault}
 use Rattle.x7_boot.specs.declared.fault.BootFault.TheVariants as fault
+use Rattle.x7_update.specs.Layout.{HasLayout, update_place}
+use Rattle.x7_update.specs.Refused.{IsTooLong, NoLayoutAt}
+use Rattle.x7_update.specs.declared.fault.UpdateFault.{UpdateFault}
+use Rattle.x7_update.specs.declared.fault.UpdateFault.TheVariants as update_fault
 use Rattle.x7_engine.specs.Kept.{on_the_bench}
 use Rattle.x7_engine.specs.State.{line_by, stop_in}
 use Rattle.x7_engine.specs.Stops.{fault_of}
@@ -37,8 +52,8 @@ use Rattle.x7_debug.specs.Script.{IsScriptOf}
 use Rattle.x7_debug.specs.Transcript.{final_position, transcript_of}
 use Rattle.x7_tool.specs.Generated.{gen_text}
 use Rattle.x7_forms.specs.declared.bad_input.InputFault.TheVariants as input
-use Rattle.x7_forms.specs.Event.{Event, bad_input, missing, no_memory, read_fault, too_large, usage}
-use Rattle.x7_forms.specs.Form.{Asked, Assembling, Booting, Debugging, FromMcs, Imaging, ImagingFor, Listing, PlanningFull, PlanningRead, Playing, ToMcs, PlanningPartial, Generating}
+use Rattle.x7_forms.specs.Event.{Event, bad_input, differs, missing, no_memory, read_fault, too_large, usage, write_fault}
+use Rattle.x7_forms.specs.Form.{Asked, Assembling, Booting, Debugging, FromMcs, Imaging, ImagingFor, Listing, PlanningFull, PlanningRead, Playing, PlayingSvf, ToMcs, PlanningPartial, Generating, Updating}
 use Rattle.x7_tool.specs.BootText.{boot_text}
 use Rattle.x7_forms.specs.Known.{Absent, Answer, Broken, Found, Held, Known, and_so, data_in, part_of, played, stream_limit, whole_in, within}
 
@@ -103,7 +118,7 @@ mcs_read known text = and_so (whole_in known text_limit text) (λ bytes. mcs_ima
 
 -- ---- plans
 
--- a part, and a frames text
+-- a part, and a text for it
 pub record PlanTexts : Type 0 where
   pub part : PartData
   pub text : List ℕ
@@ -196,6 +211,30 @@ DebuggedAs name (Err event) end = Err event ≡ end
 DebuggedAs name (Ok d) (Ok answer) = (orders : List Order) × (IsScriptOf d.script (Ok orders) × (shown_of d.part d.stream orders ≡ answer))
 DebuggedAs name (Ok d) (Err event) = (fault : ScriptFault) × (IsScriptOf d.script (Err fault) × (script_event name fault ≡ event))
 
+-- ---- SVF
+
+-- the event of an SVF text that has a statement at fault
+abbrev pub svf_event : List ℕ → SvfFault → Event
+svf_event name (svf.Line line) = bad_input name (input.Line line)
+svf_event name svf.NoMemory = no_memory
+
+-- the line of what differs first, and the report of the device of a port with no words read out
+abbrev pub svf_shown : PartData → Option Differ → Port → Answer
+svf_shown part differ p = record {
+  stopped = is_some differ || is_some (fault_shown part p);
+  text = play_text differ ++ report_text part (state_shown part p) [] (memory_shown part p);
+}
+
+-- what statements come to on a new device
+abbrev pub svf_answer : PartData → List Statement → Answer
+svf_answer part statements = svf_shown part (first_difference part statements) (port_played part statements)
+
+-- `svf PART TEXT`: what the text's statements come to, or the line of the first that is none
+abbrev pub PlayedSvf : List ℕ → Result PlanTexts Event → Result Answer Event → Type 0
+PlayedSvf name (Err event) end = Err event ≡ end
+PlayedSvf name (Ok texts) (Ok answer) = (statements : List Statement) × IsSvfOf texts.text (Ok statements) × (svf_answer texts.part statements ≡ answer)
+PlayedSvf name (Ok texts) (Err event) = (fault : SvfFault) × IsSvfOf texts.text (Err fault) × (svf_event name fault ≡ event)
+
 -- ---- images
 
 -- the data of a golden and of an update stream
@@ -258,6 +297,62 @@ boot_event name fault.Failed = read_fault name
 boot_event name fault.TooLarge = too_large name
 boot_event name fault.NoMemory = no_memory
 
+-- ---- updates
+
+-- the names of an update: its flash, and the stream that the flash gets
+pub record UpdateNames : Type 0 where
+  pub flash : List ℕ
+  pub stream : List ℕ
+
+-- an update writes no text
+abbrev pub no_text : Answer
+no_text = record { stopped = false; text = [] }
+
+-- the event of an update that came to no end
+abbrev pub update_event : UpdateNames → UpdateFault → Event
+update_event names (update_fault.Failed true) = write_fault
+update_event names (update_fault.Failed false) = read_fault names.flash
+update_event names update_fault.TooLong = bad_input names.stream input.Long
+update_event names (update_fault.NoLayout place) = bad_input names.flash (input.Layout place)
+update_event names (update_fault.Differs place wrote read) = differs names.flash place
+update_event names update_fault.NoMemory = no_memory
+
+-- a flash has a layout in which the stream fits
+pub record CanTake (stream flash : List ℕ) : Type 0 where
+  pub layout : HasLayout flash
+  pub fits : update_place flash + length stream ≤ length flash
+
+-- why a flash isn't updated with a stream, by its bytes where they are told; a byte read back may differ only where they aren't
+abbrev pub IsUpdateFault : Option (List ℕ) → List ℕ → UpdateFault → Type 0
+IsUpdateFault told stream (update_fault.NoLayout place) = WhereTold told (λ flash. NoLayoutAt (length flash) flash place)
+IsUpdateFault told stream update_fault.TooLong = WhereTold told (IsTooLong stream)
+IsUpdateFault told stream (update_fault.Differs place wrote read) = (wrote ≢ read) × (told ≡ None)
+IsUpdateFault told stream (update_fault.Failed writing) = ⊥
+IsUpdateFault told stream update_fault.NoMemory = ⊥
+
+-- the update of a flash of these bytes, where they are told, with the data of a stream
+abbrev pub UpdatesWith : UpdateNames → Option (List ℕ) → Result (List ℕ) Event → Result Answer Event → Type 0
+UpdatesWith names told (Err event) end = Err event ≡ end
+UpdatesWith names told (Ok stream) (Ok answer) = (answer ≡ no_text) × WhereTold told (CanTake stream)
+UpdatesWith names told (Ok stream) (Err event) = (fault : UpdateFault) × IsUpdateFault told stream fault × (update_event names fault ≡ event)
+
+-- the same of any flash: one that is larger than a flash may be is refused before the stream is read
+abbrev pub UpdatesTold : UpdateNames → Option (List ℕ) → Result (List ℕ) Event → Result Answer Event → Type 0
+UpdatesTold names told stream end =
+    (WhereTold told (λ flash. flash_limit < length flash) × (end ≡ Err (too_large names.flash)))
+    ⊎ (WhereTold told (λ flash. length flash ≤ flash_limit) × UpdatesWith names told stream end)
+
+-- the update of what is found under the flash's name
+abbrev pub FlashUpdates : UpdateNames → Option Found → Result (List ℕ) Event → Result Answer Event → Type 0
+FlashUpdates names None stream end = UpdatesTold names None stream end
+FlashUpdates names (Some (Held flash)) stream end = UpdatesTold names (Some flash) stream end
+FlashUpdates names (Some Absent) stream end = end ≡ Err (missing names.flash)
+FlashUpdates names (Some (Broken bytes)) stream end = end ≡ Err (read_fault names.flash)
+
+-- `update FLASH STREAM`: no text, or why the flash isn't updated
+abbrev pub UpdatedAs : Known → UpdateNames → Result Answer Event → Type 0
+UpdatedAs known names end = FlashUpdates names (known.flash names.flash) (stream_data known names.stream) end
+
 -- a form comes to this end, each form one case
 abbrev pub Gives : Known → Asked → Result Answer Event → Type 0
 Gives known (Listing stream) end = listed known stream ≡ end
@@ -272,7 +367,9 @@ Gives known (Generating part seed) end = gen_made known part seed ≡ end
 Gives known (Imaging golden update) end = imaged known golden update ≡ end
 Gives known (ImagingFor part golden update) end = imaged_for known part golden update ≡ end
 Gives known (Debugging part stream script) end = DebuggedAs script (debug_inputs known part stream script) end
+Gives known (PlayingSvf part text) end = PlayedSvf text (plan_texts known part text) end
 Gives known (Booting part flash) end = BootedAs flash (part_of known part) (known.flash flash) end
+Gives known (Updating flash stream) end = UpdatedAs known (record { flash = flash; stream = stream }) end
 
 -- the words come to this end: words without a form are a wrong usage
 abbrev pub IsOutcome : Known → Option Asked → Result Answer Event → Type 0

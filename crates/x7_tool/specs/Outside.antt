@@ -1,10 +1,10 @@
 -- What a command works over, and what is known of it and has failed (this project's choice).
-use Rattle.std.specs.Prelude.{◌≡◌, ◌≤◌, ℕ, IsTrue, List, [], ◌∷◌, Option, ◌⊎◌}
+use Rattle.std.specs.Prelude.{◌≡◌, ◌≤◌, ℕ, IsTrue, List, [], ◌∷◌, Option, None, Some, ◌⊎◌}
 use Rattle.x7_words.specs.Count.{HasRisen}
-use Rattle.x7_words.specs.Flash.{FlashFails, FlashState}
+use Rattle.x7_words.specs.Flash.{FlashFails, FlashState, WriteFails}
 use Rattle.x7_words.specs.Input.{InputsState}
 use Rattle.x7_words.specs.Sink.{SinkFails, SinkState}
-use Rattle.x7_forms.specs.Form.{Asked, flash_names, names_of}
+use Rattle.x7_forms.specs.Form.{Asked, FlashUse, Read, Unused, Updated, flash_names, names_of, updated_by}
 use Rattle.x7_forms.specs.Known.{Known, with_inputs}
 use Rattle.x7_forms.specs.Step.{Among, FailsAmong, LacksAmong}
 
@@ -43,9 +43,15 @@ Fails form old new name = FailsAmong (names_of form) old.inputs new.inputs name 
 abbrev pub Lacks : Option Asked → Outside → Outside → List ℕ → Type 0
 Lacks form old new name = LacksAmong (names_of form) old.inputs new.inputs name ⊎ FlashLacksAmong (flash_names form) old.flash new.flash name
 
--- nothing that the form names failed or was missing, and the output didn't fail
+-- a write of the flash failed, which only a form with a stream for it writes
+abbrev pub WritesFail : Option (List ℕ) → FlashState → FlashState → Type 0
+WritesFail None old new = ⊥
+WritesFail (Some stream) old new = WriteFails old new
+
+-- nothing that the form names failed or was missing, and neither the output nor a write of the flash failed
 abbrev pub IsQuiet : Option Asked → Outside → Outside → Type 0
-IsQuiet form old new = ((name : List ℕ) → ¬ Fails form old new name) × ((name : List ℕ) → ¬ Lacks form old new name) × ¬ SinkFails old.out new.out
+IsQuiet form old new =
+    ((name : List ℕ) → ¬ Fails form old new name) × ((name : List ℕ) → ¬ Lacks form old new name) × (¬ SinkFails old.out new.out) × (¬ WritesFail (updated_by form) old.flash new.flash)
 
 -- ---- the flash
 
@@ -58,7 +64,15 @@ pub record ReadsFlash (name : List ℕ) (old new : FlashState) : Type 0 where
   pub absences : old.absences ≤ new.absences
   pub no_other : (other : List ℕ) → IsTrue (new.names other) → IsTrue (old.names other) ⊎ (other ≡ name)
 
--- by the names that a form gives its flash: it is untouched where there is none, and else read at most
-abbrev pub KeepsFlash : List (List ℕ) → FlashState → FlashState → Type 0
-KeepsFlash [] old new = new ≡ old
-KeepsFlash (name ∷ more) old new = ReadsFlash name old new
+-- A flash was read and written: no count falls, and it was asked for no other name than this.
+pub record WritesFlash (name : List ℕ) (old new : FlashState) : Type 0 where
+  pub faults : old.faults ≤ new.faults
+  pub absences : old.absences ≤ new.absences
+  pub write_faults : old.write_faults ≤ new.write_faults
+  pub no_other : (other : List ℕ) → IsTrue (new.names other) → IsTrue (old.names other) ⊎ (other ≡ name)
+
+-- by what a form does with a flash: it is untouched, read at most, or read and written
+abbrev pub KeepsFlash : FlashUse → FlashState → FlashState → Type 0
+KeepsFlash Unused old new = new ≡ old
+KeepsFlash (Read name) old new = ReadsFlash name old new
+KeepsFlash (Updated name) old new = WritesFlash name old new

@@ -15,12 +15,16 @@ use Rattle.x7_boot.specs.Attempt.{Trial}
 use Rattle.x7_boot.specs.Boot.{BootedState, IsBoot, end_state, tried}
 use Rattle.x7_boot.specs.Checked.{HasChecked}
 use Rattle.x7_boot.specs.ImageBoot.{FallsBack, HasImage, StartsUpdate, UpdateFails, golden_image}
+use Rattle.x7_jtag.specs.declared.statement.Statement.{Statement}
+use Rattle.x7_jtag.specs.Play.{port_played}
+use Rattle.x7_jtag.specs.Shown.{bytes_taken, state_shown}
+use Rattle.x7_jtag.specs.Svf.{IsSvfOf}
 use Rattle.x7_effects.specs.Played.{PlaysFull, PlaysPartial, PlaysRead}
 use Rattle.x7_forms.specs.Event.{Event}
 use Rattle.x7_tool.specs.Generated.{generated, planned_summary}
-use Rattle.x7_forms.specs.Form.{Asked, Booting, Generating, Imaging, ImagingFor, PlanningFull, PlanningPartial, PlanningRead, Playing}
+use Rattle.x7_forms.specs.Form.{Asked, Booting, Generating, Imaging, ImagingFor, PlanningFull, PlanningPartial, PlanningRead, Playing, PlayingSvf}
 use Rattle.x7_forms.specs.Known.{Answer, Held, Known, data_of, part_of, report_of, stream_limit}
-use Rattle.x7_tool.specs.Outcome.{BootsAs, ImageStreams, PlanTexts, image_streams, plan_texts}
+use Rattle.x7_tool.specs.Outcome.{BootsAs, ImageStreams, PlanTexts, image_streams, plan_texts, svf_answer}
 
 -- The stream of `plan full`: after any bytes at rest it leaves the plan of the frames text over zeros and ends startup, and the device is at rest again.
 pub record PromisesFull (known : Known) (part frames stream : List ℕ) : Type 0 where
@@ -59,6 +63,15 @@ pub record PromisesPlayed (known : Known) (part : List ℕ) (streams : List (Lis
   pub joined : data_of known stream_limit streams ≡ Ok bytes
   pub report : answer ≡ report_of device bytes
   pub checked : AreBytes bytes → 0 < (state_of device on_the_bench false bytes).phase → HasChecked device on_the_bench bytes
+
+-- The text of `svf`: it is that of the statements of the SVF text, and startup has begun only where the bytes that the device took made their checks.
+pub record PromisesPort (known : Known) (part text : List ℕ) (answer : Answer) : Type 0 where
+  pub texts : PlanTexts
+  pub statements : List Statement
+  pub read : plan_texts known part text ≡ Ok texts
+  pub has : IsSvfOf texts.text (Ok statements)
+  pub shows : answer ≡ svf_answer texts.part statements
+  pub checked : 0 < (state_shown texts.part (port_played texts.part statements)).phase → HasChecked texts.part on_the_bench (bytes_taken texts.part (port_played texts.part statements))
 
 -- a boot from these bytes falls back to the full stream of a plan, which is the golden stream, where the update fails and CTL0 allows it
 abbrev pub FallsBackFrom : PartData → ImageStreams → List ℕ → Type 0
@@ -119,6 +132,7 @@ PromiseOf known (PlanningPartial part frames) answer = PromisesPartial known par
 PromiseOf known (PlanningRead part far n) answer = PromisesRead known part far n answer.text
 PromiseOf known (Generating part seed) answer = PromisesSummary known part seed answer.text
 PromiseOf known (Playing part streams) answer = PromisesPlayed known part streams answer
+PromiseOf known (PlayingSvf part text) answer = PromisesPort known part text answer
 PromiseOf known (Imaging golden update) answer = PromisesImage known golden update answer.text
 PromiseOf known (ImagingFor part golden update) answer = PromisesImageFor known part golden update answer.text
 PromiseOf known (Booting part flash) answer = PromisesStart known part flash answer

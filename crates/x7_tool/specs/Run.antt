@@ -1,20 +1,22 @@
 -- What may end a command, and what its output holds then (this project's choice).
-use Rattle.std.specs.Prelude.{◌≡◌, ℕ, List, [], ◌∷◌, ◌++◌, Option, None, Some, Result, Ok, Err, Bool, ◌⊎◌}
-use Rattle.x7_words.specs.Flash.{FlashState}
+use Rattle.std.specs.Prelude.{◌≡◌, ◌<◌, ℕ, List, [], ◌∷◌, ◌++◌, length, Option, None, Some, Result, Ok, Err, Bool, ◌⊎◌}
+use Rattle.x7_words.specs.Flash.{FlashState, WhereTold}
+use Rattle.x7_boot.specs.Image.{flash_limit}
 use Rattle.x7_words.specs.Sink.{PutsAll, PutsSome, SinkFails, SinkState, Tells}
 use Rattle.x7_words.specs.Word.{AreBytes}
 use Rattle.x7_listing.specs.StreamListing.{stream_listing}
 use Rattle.x7_forms.specs.declared.refusal.Why.{Why}
 use Rattle.x7_forms.specs.declared.refusal.Why.TheVariants as why
-use Rattle.x7_forms.specs.Event.{Event, Cause, Wording, Want, Fault, Absence, Break, Contents, cause_of, line_of, missing, no_memory, read_fault, usage, write_fault}
-use Rattle.x7_forms.specs.Form.{Asked, listed_by}
+use Rattle.x7_forms.specs.Event.{Event, Cause, Wording, Want, Fault, Absence, Break, Contents, Difference, cause_of, differs, line_of, missing, no_memory, read_fault, too_large, usage, write_fault}
+use Rattle.x7_forms.specs.Form.{Asked, FlashUse, Updated, flash_use, listed_by, updated_by}
 use Rattle.x7_forms.specs.Known.{Answer, Failing, Held, Known, Lacking, Mishap, bytes_found, flash_found, with_mishap}
 use Rattle.x7_part.specs.Part.{PartData}
 use Rattle.x7_forms.specs.Message.{final_status}
 use Rattle.x7_forms.specs.Step.{IsCausedBy}
 use Rattle.x7_tool.specs.Ahead.{StaysNear}
 use Rattle.x7_tool.specs.Outcome.{FlashBoots, Gives}
-use Rattle.x7_tool.specs.Outside.{Fails, FlashFailsAmong, FlashLacksAmong, Lacks, Outside, known_in}
+use Rattle.x7_tool.specs.Leaving.{Updates}
+use Rattle.x7_tool.specs.Outside.{Fails, FlashFailsAmong, FlashLacksAmong, Lacks, Outside, WritesFail, known_in}
 
 -- ---- why
 
@@ -33,13 +35,19 @@ abbrev pub Happens : Option Known → Mishap → Asked → Event → Type 0
 Happens None mishap form event = Unit {0}
 Happens (Some known) mishap form event = Gives (with_mishap mishap known) form (Err event)
 
+-- the event is a byte that differs, of a flash that the form updates and whose bytes aren't told
+abbrev pub IsDifference : FlashUse → FlashState → Event → Type 0
+IsDifference (Updated name) old event = (place : ℕ) × (event ≡ differs name place) × (old.bytes ≡ None)
+IsDifference _ old event = ⊥
+
 -- what a cause says of an event: a fault, or an absence by its count, comes of a name behind which nothing else came before
 abbrev pub CausedBy : Cause → Asked → Outside → Outside → Event → Type 0
 CausedBy Wording form old new event = ⊥
 CausedBy Want form old new event = event ≡ no_memory
 CausedBy Fault form old new event = Fails (Some form) old new event.concerned × Happens (known_in old) (Failing event.concerned new.inputs.given) form event
 CausedBy Absence form old new event = (Lacks (Some form) old new event.concerned × Happens (known_in old) (Lacking event.concerned) form event) ⊎ Shows (known_in old) form (Err event)
-CausedBy Break form old new event = (event ≡ write_fault) × SinkFails old.out new.out
+CausedBy Break form old new event = (event ≡ write_fault) × (SinkFails old.out new.out ⊎ WritesFail (updated_by (Some form)) old.flash new.flash)
+CausedBy Difference form old new event = IsDifference (flash_use (Some form)) old.flash event × Agrees (known_in old) form (Err event)
 CausedBy Contents form old new event = Agrees (known_in old) form (Err event)
 
 -- why a command ended so: words without a form are a wrong usage, a whole text is that of the known contents, and an event has its cause
@@ -93,9 +101,14 @@ abbrev pub GetsPrefix : Option Known → Asked → SinkState → SinkState → T
 GetsPrefix None form old new = (text : List ℕ) × PutsSome old text new
 GetsPrefix (Some known) form old new = GetsBy (listed_by (Some form)) known form old new
 
+-- what the output got where it failed: a prefix of the text; where a write of the flash failed, nothing
+abbrev pub LeftAtBreak : Option (List ℕ) → Asked → Outside → Outside → Type 0
+LeftAtBreak None form old new = GetsPrefix (known_in old) form old.out new.out
+LeftAtBreak (Some stream) form old new = new.out.written ≡ old.out.written
+
 -- what the output got after an event of this cause
 abbrev pub LeftBy : Cause → Option Asked → Outside → Outside → Event → Type 0
-LeftBy Break (Some form) old new event = GetsPrefix (known_in old) form old.out new.out
+LeftBy Break (Some form) old new event = LeftAtBreak (updated_by (Some form)) form old new
 LeftBy _ form old new event = LeavesBy (listed_by form) event old new
 
 -- what the output got: the whole text, or what the event leaves of it
@@ -105,11 +118,12 @@ Wrote form old new (Err event) = LeftBy (cause_of event) form old new event
 
 -- ---- the end of a command
 
--- how a command ended: why, what the output got, and how far was read
+-- how a command ended: why, what the output got, how far was read, and what an update left
 pub record Ends (form : Option Asked) (old new : Outside) (end : Result Answer Event) : Type 0 where
   pub cause : HasCause form old new end
   pub wrote : Wrote form old new end
   pub near : StaysNear (final_status end) form old new
+  pub updates : Updates (updated_by form) old new end
 
 -- the same by whether what it wrote reports a fault
 abbrev pub EndsAs : Option Asked → Outside → Outside → Result Bool Event → Type 0
@@ -134,6 +148,10 @@ AnswersOver form old new got = IsCausedBy (known_in old) new.inputs.given (Fails
 -- a flash was not attached: its name isn't there, or the flash failed
 abbrev pub IsUnattached : List ℕ → FlashState → FlashState → Event → Type 0
 IsUnattached name old new event = ((event ≡ missing name) × FlashLacksAmong (name ∷ []) old new name) ⊎ ((event ≡ read_fault name) × FlashFailsAmong (name ∷ []) old new name)
+
+-- a flash can't be used: it was not attached, or it is larger than a flash may be
+abbrev pub IsUnopened : List ℕ → FlashState → FlashState → Event → Type 0
+IsUnopened name old new event = IsUnattached name old new event ⊎ ((event ≡ too_large name) × WhereTold old.bytes (λ all. flash_limit < length all))
 
 -- what a boot from a flash of this name comes to: want of memory, a flash that was not attached or failed, or what its bytes give
 abbrev pub FlashComes : List ℕ → PartData → FlashState → FlashState → Result Answer Event → Type 0

@@ -7,10 +7,11 @@ use Rattle.x7_boot.specs.Image.{flash_limit}
 use Rattle.x7_forms.specs.declared.status.Status.{Status}
 use Rattle.x7_forms.specs.declared.status.Status.TheVariants as status
 use Rattle.x7_forms.specs.Event.{Event}
-use Rattle.x7_forms.specs.Form.{Asked, Assembling, FromMcs, flash_names}
+use Rattle.x7_forms.specs.Form.{Asked, Assembling, FromMcs, flash_use, updated_by}
 use Rattle.x7_forms.specs.Message.{final_status}
 use Rattle.x7_forms.specs.Known.{Answer, Known, stream_limit}
 use Rattle.x7_tool.specs.Ahead.{StaysNear}
+use Rattle.x7_tool.specs.Leaving.{Updates}
 use Rattle.x7_tool.specs.Outcome.{IsOutcome}
 use Rattle.x7_tool.specs.Outside.{IsQuiet, KeepsFlash, Outside, known_in}
 use Rattle.x7_tool.specs.Promise.{Promise}
@@ -64,5 +65,7 @@ pub record Runs (form : Option Asked) (old new : Outside) (s : Status) : Type 0 
   pub back : Back form old new s end
   -- a planned stream that was written does on a device at rest what was planned
   pub promise : Promise (known_in old) form end
-  -- the flash stays, and was asked for no name but the form's
-  pub flash : KeepsFlash (flash_names form) old.flash new.flash
+  -- the flash is untouched, read or written as the form says, and was asked for no name but the form's
+  pub flash : KeepsFlash (flash_use form) old.flash new.flash
+  -- an update that is done left the flash as it is after one, and one that was refused left its bytes
+  pub updates : Updates (updated_by form) old new end

@@ -1,6 +1,6 @@
 //! The command `boot`: which image a device starts from a flash, and why not another.
-ghost use Rattle.std.specs.Prelude.{◌≡◌, ◌++◌, ◌⊎◌, ◌≤◌, ℕ, List, [], ◌∷◌, Some, codes, decimal, length, IfErr, IfOk, OnOk, true};
-ghost use Rattle.x7_words.specs.Flash.{AsksFor, IsSized};
+ghost use Rattle.std.specs.Prelude.{◌≡◌, ◌++◌, ◌⊎◌, ◌≤◌, ℕ, List, [], ◌∷◌, Some, codes, decimal, length, IfErr, IfOk, OnOk};
+ghost use Rattle.x7_words.specs.Flash.{Unwritten};
 ghost use Rattle.x7_text.specs.Digits.{hex_word};
 ghost use Rattle.x7_part.specs.Part.{PartData};
 ghost use Rattle.x7_boot.specs.Attempt.{IsDeviceOf, Trial};
@@ -14,7 +14,7 @@ ghost use Rattle.x7_tool.specs.Outcome.{BootsAs, boot_event, has_failed};
 ghost use Rattle.x7_forms.specs.Play.{text_of_play};
 ghost use Rattle.x7_forms.specs.Step.{seen};
 ghost use Rattle.x7_tool.specs.Outside.{Outside, ReadsFlash};
-ghost use Rattle.x7_tool.specs.Run.{AnswersOver, FlashComes, IsUnattached};
+ghost use Rattle.x7_tool.specs.Run.{AnswersOver, FlashComes};
 
 use std::alloc::Global;
 use x7_boot::{BootEnd, BootFault, Booted, Ending, Tried};
@@ -22,7 +22,8 @@ use x7_forms::{PlayText, Refusal, Why, put_number, put_text, read_part, report};
 use x7_part::Part;
 use x7_regs::{Cause, Kind};
 use x7_text::{hex_of_word, make_room, put_decimal};
-use x7_words::{Flash, Inputs, NoMemory, SelectFault};
+use crate::attach::attach;
+use x7_words::{Flash, Inputs, NoMemory};
 
 /// What began an attempt, in a word.
 fn kind_words(kind: Kind) -> &'static [u8]
@@ -204,27 +205,6 @@ fn refusal_of<'w>(name: &'w str, fault: BootFault) -> Refusal<'w>
     }
 }
 
-/// Attaches the flash of this name.
-fn attach<'w, F: Flash>(flash: &mut F, name: &'w str) -> Result<(), Refusal<'w>>
-    ensures attached { OnOk result ((F.state flash.new).attached ≡ true) }
-    ensures err { IfErr result (λ r. IsUnattached name.now (F.state flash.old) (F.state flash.new) (event_of r)) }
-    ensures reads { ReadsFlash name.now (F.state flash.old) (F.state flash.new) }
-    ensures asks { AsksFor (F.state flash.old) name.now (F.state flash.new) }
-    ensures sized { IsSized (F.state flash.new) }
-{
-    match flash.attach(name) {
-        Ok(()) => Ok(()),
-        Err(SelectFault::Missing) => Err(Refusal {
-            reason: Why::Missing,
-            name,
-        }),
-        Err(SelectFault::Failed) => Err(Refusal {
-            reason: Why::ReadFault,
-            name,
-        }),
-    }
-}
-
 /// Boots a part from the flash of this name.
 fn boot_from<'w, F: Flash>(
     alloc: Global,
@@ -234,6 +214,7 @@ fn boot_from<'w, F: Flash>(
 ) -> Result<PlayText, Refusal<'w>>
     ensures due { FlashComes name.now part.now (F.state flash.old) (F.state flash.new) (seen text_of_play result) }
     ensures reads { ReadsFlash name.now (F.state flash.old) (F.state flash.new) }
+    ensures unwritten { Unwritten (F.state flash.old) (F.state flash.new) (F.found_since flash.old) (F.found_since flash.new) }
 {
     match attach(flash, name) {
         Ok(()) => (),
@@ -256,6 +237,7 @@ pub(crate) fn boot<'w, I: Inputs, F: Flash>(
     ensures due { (before after : Outside) → AnswersOver (Booting part.now name.now) (record before { inputs = I.state inputs.old; flash = F.state flash.old })
         (record after { inputs = I.state inputs.new; flash = F.state flash.new }) (seen text_of_play result) }
     ensures reads { ReadsFlash name.now (F.state flash.old) (F.state flash.new) }
+    ensures unwritten { Unwritten (F.state flash.old) (F.state flash.new) (F.found_since flash.old) (F.found_since flash.new) }
 {
     match read_part(alloc, inputs, part) {
         Ok(part) => boot_from(alloc, &part, flash, name),

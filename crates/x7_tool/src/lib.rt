@@ -2,6 +2,7 @@
 #![tactic(auto)]
 
 mod asm;
+mod attach;
 mod boot;
 mod debug;
 mod generate;
@@ -10,8 +11,10 @@ mod list;
 mod mcs;
 mod plan;
 mod stream;
+mod svf;
 mod text;
 mod top;
+mod update;
 
 pub use boot::boot_text;
 pub use generate::gen_text;

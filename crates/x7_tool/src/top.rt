@@ -1,9 +1,13 @@
 //! The top call.
-ghost use Rattle.std.specs.Prelude.{map, string_bytes};
+ghost use Rattle.std.specs.Prelude.{ℕ, List, map, string_bytes};
 ghost use Rattle.x7_words.specs.Sink.{SinkState};
-ghost use Rattle.x7_forms.specs.Form.{flash_names, form_of};
+ghost use Rattle.x7_words.specs.Word.{AreBytes};
+ghost use Rattle.x7_boot.specs.Boot.{BootedState, IsBoot};
+ghost use Rattle.x7_recovery.specs.Recovery.{BootsAs, Updating};
+ghost use Rattle.x7_forms.specs.Form.{form_of};
 ghost use Rattle.x7_forms.specs.Step.{seen};
-ghost use Rattle.x7_tool.specs.Outside.{KeepsFlash, outside};
+ghost use Rattle.x7_tool.specs.Leaving.{FoundSince, IsUpdateOf, UsesFlash};
+ghost use Rattle.x7_tool.specs.Outside.{outside};
 ghost use Rattle.x7_tool.specs.Run.{EndsAs};
 ghost use Rattle.x7_tool.specs.Runs.{RanAs, Runs};
 
@@ -15,7 +19,9 @@ use crate::image::{image, image_for};
 use crate::list::list;
 use crate::mcs::{mcs, unmcs};
 use crate::plan::{plan_full, plan_partial, plan_read};
+use crate::svf::svf;
 use crate::text::put_whole;
+use crate::update::update;
 use std::alloc::Global;
 use x7_forms::{Form, Refusal, Status, Why, play, words_of};
 use x7_words::{Flash, Inputs, Sink};
@@ -30,7 +36,8 @@ fn answer<'w, I: Inputs, O: Sink, F: Flash>(
 ) -> Result<bool, Refusal<'w>>
     ensures ends { (e f : SinkState) → EndsAs (form_of (map string_bytes words.now.items)) (outside (I.state inputs.old) (F.state flash.old) (O.state out.old) e)
         (outside (I.state inputs.new) (F.state flash.new) (O.state out.new) f) (seen (λ stopped. stopped) result) }
-    ensures flash { KeepsFlash (flash_names (form_of (map string_bytes words.now.items))) (F.state flash.old) (F.state flash.new) }
+    ensures flash { UsesFlash (form_of (map string_bytes words.now.items)) (I.state inputs.old) (F.state flash.old) (F.state flash.new)
+        (F.found_since flash.old) (F.found_since flash.new) }
 {
     match words_of(words) {
         None => Err(Refusal::unnamed(Why::Usage)),
@@ -69,10 +76,17 @@ fn answer<'w, I: Inputs, O: Sink, F: Flash>(
                 script,
             },
         ) => put_whole(debug(alloc, inputs, part, stream, script), out),
+        Some(Form::Svf { part, text }) => put_whole(svf(alloc, inputs, part, text), out),
         Some(Form::Boot { part, flash: name }) => put_whole(
             boot(alloc, inputs, flash, part, name),
             out,
         ),
+        Some(
+            Form::Update {
+                flash: name,
+                stream,
+            },
+        ) => update(alloc, inputs, flash, name, stream),
     }
 }
 
@@ -87,7 +101,8 @@ fn carry_out<I: Inputs, O: Sink, E: Sink, F: Flash>(
 ) -> Status
     ensures ran { RanAs (form_of (map string_bytes words.now.items)) (outside (I.state inputs.old) (F.state flash.old) (O.state out.old) (E.state err.old))
         (outside (I.state inputs.new) (F.state flash.new) (O.state out.new) (E.state err.new)) result }
-    ensures flash { KeepsFlash (flash_names (form_of (map string_bytes words.now.items))) (F.state flash.old) (F.state flash.new) }
+    ensures flash { UsesFlash (form_of (map string_bytes words.now.items)) (I.state inputs.old) (F.state flash.old) (F.state flash.new)
+        (F.found_since flash.old) (F.found_since flash.new) }
 {
     match answer(alloc, words, inputs, flash, out) {
         Ok(stopped) => Status::of_text(stopped),
@@ -98,6 +113,9 @@ fn carry_out<I: Inputs, O: Sink, E: Sink, F: Flash>(
 /// Runs the command that the words ask for, without the program's own name.
 ///
 /// The text goes to `out` as it is made; where a command has no whole text, one line goes to `err`.
+///
+/// Power may be lost at any moment. What is found of the flash then is what it held, or what an update leaves of it; a boot of
+/// that is the one before the update, or starts with the golden stream, or is the one behind it.
 pub fn run<I: Inputs, O: Sink, E: Sink, F: Flash>(
     alloc: Global,
     words: &Vec<String>,
@@ -106,7 +124,13 @@ pub fn run<I: Inputs, O: Sink, E: Sink, F: Flash>(
     out: &mut O,
     err: &mut E,
 ) -> Status
-    ensures { Runs (form_of (map string_bytes words.now.items)) (outside (I.state inputs.old) (F.state flash.old) (O.state out.old) (E.state err.old)) (outside (I.state inputs.new) (F.state flash.new) (O.state out.new) (E.state err.new)) result }
+    ensures ran { Runs (form_of (map string_bytes words.now.items)) (outside (I.state inputs.old) (F.state flash.old) (O.state out.old) (E.state err.old)) (outside (I.state inputs.new) (F.state flash.new) (O.state out.new) (E.state err.new)) result }
+    ensures flash { UsesFlash (form_of (map string_bytes words.now.items)) (I.state inputs.old) (F.state flash.old) (F.state flash.new)
+        (F.found_since flash.old) (F.found_since flash.new) }
+    ensures found { (found : List ℕ) → F.found_since flash.new (F.state flash.old).moments found
+        → FoundSince (form_of (map string_bytes words.now.items)) (I.state inputs.old) (F.state flash.old) found }
+    ensures boots { (u : Updating) (found : List ℕ) (b : BootedState) → IsUpdateOf (form_of (map string_bytes words.now.items)) (I.state inputs.old) (F.state flash.old) u
+        → F.found_since flash.new (F.state flash.old).moments found → AreBytes found → IsBoot u.part found b → BootsAs u found b }
 {
     carry_out(alloc, words, inputs, flash, out, err)
 }

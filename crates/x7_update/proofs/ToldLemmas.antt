@@ -1,6 +1,6 @@
 -- Lemmas on bytes that may be told, and on what calls leave of them one after the other.
 use Rattle.std.proofs.Common.{◌≡◌, ℕ, ◌+◌, ◌≤◌, List, length, Option, None, Some, option_map, Result, Ok, Err, OnOk, OnErr, refl, ap, sym, subst, ◌∙◌, arith}
-use Rattle.x7_words.specs.Flash.{Elapses, FlashState, IsTorn, OnlyReads, OnlyWrites, TornFrom, WhereTold, WithinWrite, replaced}
+use Rattle.x7_words.specs.Flash.{Elapses, FlashState, IsTorn, OnlyWrites, TornFrom, Unwritten, WhereTold, WithinWrite, replaced}
 use Rattle.x7_words.proofs.FlashLemmas.{elapses_none, elapses_on, elapses_unwritten, elapses_weaker, left_is_torn}
 use Rattle.x7_update.specs.Writing.{AtAnyMoment, Becomes, BecomesBytes, Leaves}
 
@@ -14,6 +14,11 @@ told_all (Some all) P f = f all refl
 pub told_map : (told : Option (List ℕ)) (P Q : List ℕ → Type 0) → ((all : List ℕ) → told ≡ Some all → P all → Q all) → WhereTold told P → WhereTold told Q
 told_map None P Q f t = tt
 told_map (Some all) P Q f t = f all refl t
+
+-- what holds whatever the answer is
+pub on_ok : {E : Type 0} (P : Type 0) (answer : Result (Unit {0}) E) → P → OnOk answer P
+on_ok P (Ok _) p = p
+on_ok P (Err _) p = tt
 
 pub on_ok_map : {E : Type 0} (P Q : Type 0) (answer : Result (Unit {0}) E) → OnOk answer P → (P → Q) → OnOk answer Q
 on_ok_map P Q (Ok _) p f = f p
@@ -115,23 +120,23 @@ moments_on a b c past mids since P Q R f m l n = record {
       (λ found w. told_map a.bytes (λ all. (mid : List ℕ) × (b.bytes ≡ Some mid) × P all mid) (λ all. R all found) (λ all e p. f all p.0 found e p.2 (told_at b.bytes (λ mid. Q mid found) w p.0 p.1)) l);
 }
 
--- a read after them
-pub moments_read : (a b c : FlashState) (past mids since : ℕ → List ℕ → Type 0) (P : List ℕ → List ℕ → Type 0) → AtAnyMoment a b past mids P → OnlyReads b c mids since → AtAnyMoment a c past since P
-moments_read a b c past mids since P m r = record {
-  leaves = told_map a.bytes (λ all. (now : List ℕ) × (b.bytes ≡ Some now) × P all now) (λ all. (now : List ℕ) × (c.bytes ≡ Some now) × P all now) (λ all e p. (p.0, r.bytes ∙ p.1, p.2)) m.leaves;
-  elapses = elapses_unwritten a.moments b c past mids since (λ found. WhereTold a.bytes (λ all. P all found)) m.elapses r.unwritten;
+-- an attach or a read after them, which leaves the bytes and writes nothing
+pub moments_read : (a b c : FlashState) (past mids since : ℕ → List ℕ → Type 0) (P : List ℕ → List ℕ → Type 0) → AtAnyMoment a b past mids P → c.bytes ≡ b.bytes → Unwritten b c mids since → AtAnyMoment a c past since P
+moments_read a b c past mids since P m same u = record {
+  leaves = told_map a.bytes (λ all. (now : List ℕ) × (b.bytes ≡ Some now) × P all now) (λ all. (now : List ℕ) × (c.bytes ≡ Some now) × P all now) (λ all e p. (p.0, same ∙ p.1, p.2)) m.leaves;
+  elapses = elapses_unwritten a.moments b c past mids since (λ found. WhereTold a.bytes (λ all. P all found)) m.elapses u;
 }
 
--- a read before them
-pub read_moments : (a b c : FlashState) (past mids since : ℕ → List ℕ → Type 0) (P : List ℕ → List ℕ → Type 0) → ((all : List ℕ) → a.bytes ≡ Some all → P all all) → OnlyReads a b past mids → AtAnyMoment b c mids since P → AtAnyMoment a c past since P
-read_moments a b c past mids since P h r n =
+-- an attach or a read before them
+pub read_moments : (a b c : FlashState) (past mids since : ℕ → List ℕ → Type 0) (P : List ℕ → List ℕ → Type 0) → ((all : List ℕ) → a.bytes ≡ Some all → P all all) → b.bytes ≡ a.bytes → Unwritten a b past mids → AtAnyMoment b c mids since P → AtAnyMoment a c past since P
+read_moments a b c past mids since P h kept u n =
     moments_on a b c past mids since (λ all mid. mid ≡ all) P P (λ all mid found e same p. subst (λ x. P x found) same p)
-    (moments_read a a b past past mids P (moments_none a past P h) r)
-    (told_all a.bytes (λ all. (mid : List ℕ) × (b.bytes ≡ Some mid) × (mid ≡ all)) (λ all e. (all, r.bytes ∙ e, refl))) n
+    (moments_read a a b past past mids P (moments_none a past P h) kept u)
+    (told_all a.bytes (λ all. (mid : List ℕ) × (b.bytes ≡ Some mid) × (mid ≡ all)) (λ all e. (all, kept ∙ e, refl))) n
 
--- only reads
-pub only_read : (a b : FlashState) (past since : ℕ → List ℕ → Type 0) (P : List ℕ → List ℕ → Type 0) → ((all : List ℕ) → a.bytes ≡ Some all → P all all) → OnlyReads a b past since → AtAnyMoment a b past since P
-only_read a b past since P h r = moments_read a a b past past since P (moments_none a past P h) r
+-- only these
+pub only_read : (a b : FlashState) (past since : ℕ → List ℕ → Type 0) (P : List ℕ → List ℕ → Type 0) → ((all : List ℕ) → a.bytes ≡ Some all → P all all) → b.bytes ≡ a.bytes → Unwritten a b past since → AtAnyMoment a b past since P
+only_read a b past since P h kept u = moments_read a a b past past since P (moments_none a past P h) kept u
 
 -- what is found within a write, and what it leaves, is torn
 pub write_moments : {E : Type 0} (place : ℕ) (target : List ℕ → List ℕ) (old new : FlashState) (past since : ℕ → List ℕ → Type 0) (answer : Result (Unit {0}) E)

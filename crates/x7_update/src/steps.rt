@@ -2,7 +2,7 @@
 ghost use Rattle.std.specs.Prelude.{◌≡◌, ◌+◌, ◌≤◌, ℕ, List, true, length, IfErr, OnOk, OnErr, option_map};
 ghost use Rattle.x7_words.specs.Flash.{OnlyReads, OnlyWrites, WhereTold, WriteFails};
 ghost use Rattle.x7_update.specs.After.{ClosesTo, IsAfter, MayBeLeft, switched};
-ghost use Rattle.x7_update.specs.Layout.{IsFree, open_word};
+ghost use Rattle.x7_update.specs.Layout.{HasLayout, IsFree, open_word};
 ghost use Rattle.x7_update.specs.Refused.{CanBeUpdated, HasCause, IsEarly};
 ghost use Rattle.x7_update.specs.Slots.{Finds, Fits};
 ghost use Rattle.x7_update.specs.Writing.{AtAnyMoment, Becomes, EndFails, HasWanted, OnlyUses, Opening, Replaced, Replacing};
@@ -82,6 +82,7 @@ fn finish<F: Flash>(
 fn take_steps<F: Flash>(alloc: Global, flash: &mut F, stream: &[u8]) -> Result<(), UpdateFault>
     requires { (F.state flash.old).attached ≡ true }
     ensures updated { OnOk result (Becomes (F.state flash.old) (F.state flash.new) (IsAfter stream.now)) }
+    ensures layout { OnOk result (WhereTold (F.state flash.old).bytes HasLayout) }
     ensures any_moment { AtAnyMoment (F.state flash.old) (F.state flash.new) (F.found_since flash.old) (F.found_since flash.new)
         (MayBeLeft stream.now) }
     ensures refused { IfErr result (HasCause stream.now (F.state flash.old) (F.state flash.new)) }
@@ -115,6 +116,7 @@ fn take_steps<F: Flash>(alloc: Global, flash: &mut F, stream: &[u8]) -> Result<(
 pub fn update<F: Flash>(alloc: Global, flash: &mut F, stream: &[u8]) -> Result<(), UpdateFault>
     requires { (F.state flash.old).attached ≡ true }
     ensures updated { OnOk result (Becomes (F.state flash.old) (F.state flash.new) (IsAfter stream.now)) }
+    ensures layout { OnOk result (WhereTold (F.state flash.old).bytes HasLayout) }
     ensures found { (found : List ℕ) → F.found_since flash.new (F.state flash.old).moments found →
         WhereTold (F.state flash.old).bytes (λ all. MayBeLeft stream.now all found) }
     ensures any_moment { AtAnyMoment (F.state flash.old) (F.state flash.new) (F.found_since flash.old) (F.found_since flash.new)

@@ -1,10 +1,13 @@
 -- Lemmas on a file as a flash: what it counts is what a caller of any flash may know.
-use Rattle.std.proofs.Common.{◌≡◌, ◌≤◌, ℕ, List, true, false, Option, None, Some, Result, Ok, Err, OnOk, OnErr, IfErr, is_some, refl, sym, ap, ◌∙◌, inl, arith}
+use Rattle.std.proofs.Common.{◌≡◌, ◌≤◌, ℕ, ◌+◌, List, [], ◌∷◌, ◌++◌, length, subst, true, false, Option, None, Some, Result, Ok, Err, OnOk, OnErr, IfErr, is_some, refl, sym, ap, ◌∙◌, inl, arith}
+use Rattle.std.proofs.lemmas.List.{append-nil, length-append}
+use Rattle.std.proofs.lemmas.List.Folds.{concat-append}
+use Rattle.std.specs.List.{concat}
 use Rattle.std.specs.declared.io.ErrorKind.{ErrorKind}
 use Rattle.x7_words.specs.Count.{HasRisen, raised}
 use Rattle.x7_words.specs.Flash.{Elapses, OnlyReads, OnlyWrites, Unattached, Unwritten}
 use Rattle.x7_words.proofs.CountLemmas.{raised_risen}
-use Rattle.x7_words.specs.Files.{IsExtent, RealFlash, after_opening, size_told}
+use Rattle.x7_words.specs.Files.{Clears, ClearsAt, ClearsPieces, IsExtent, RealFlash, Tells, after_opening, size_told}
 use Rattle.x7_words.specs.declared.input.Failed.{Failed as FailedCall}
 use Rattle.x7_words.specs.declared.input.SelectFault.{SelectFault}
 use Rattle.x7_words.specs.declared.input.SelectFault.TheVariants.{Missing, Failed}
@@ -44,6 +47,11 @@ pub failed_read_at : {F : Type 0} → (old new : RealFlash F) (file : Option F) 
 failed_read_at old new file (Ok _) e = tt
 failed_read_at old new file (Err _) e = raised_risen old.faults new.faults (ap (λ f. f.faults) e)
 
+-- a read that is Ok counts no fault
+pub quiet_read_at : {F : Type 0} → (old new : RealFlash F) (file : Option F) (answer : Result (Unit {0}) FailedCall) → OnOk answer (new ≡ record old { file = file }) → OnOk answer (new.faults ≡ old.faults)
+quiet_read_at old new file (Ok _) e = ap (λ f. f.faults) e
+quiet_read_at old new file (Err _) e = tt
+
 -- of a read nothing is told
 pub untold_read_at : (answer : Result (Unit {0}) FailedCall) → OnOk answer (Unit {0})
 untold_read_at (Ok _) = tt
@@ -73,6 +81,33 @@ only_reads old new answer was is o e rises = record {
 }
 
 -- ---- a write
+
+-- what holds whatever the answer is
+pub on_ok : {A E P : Type 0} → (answer : Result A E) → P → OnOk answer P
+on_ok (Ok _) p = p
+on_ok (Err _) p = tt
+
+-- no byte is cleared
+pub clears-none : {F : Type 0} → (t : Tells F) (place : ℕ) (file : F) → Clears F t place [] file file
+clears-none t place file = record { pieces = []; are = refl; each = refl }
+
+-- a piece more is cleared
+pieces-more : {F : Type 0} → (t : Tells F) (place : ℕ) (pieces : List (List ℕ)) (piece : List ℕ) (old between new : F) → ClearsPieces F t place pieces old between
+    → ClearsAt F t (place + length (concat pieces)) piece between new → ClearsPieces F t place (pieces ++ piece ∷ []) old new
+pieces-more {F} t place [] piece old between new same one =
+    let here : place + 0 ≡ place = omega arith in
+    (new, subst (λ file. ClearsAt F t place piece file new) same (subst (λ at. ClearsAt F t at piece between new) here one), refl)
+pieces-more {F} t place (first ∷ pieces) piece old between new (behind, cleared, others) one =
+    let there : place + length (first ++ concat pieces) ≡ place + length first + length (concat pieces) = omega (arith, length-append first (concat pieces)) in
+    (behind, cleared, pieces-more t (place + length first) pieces piece behind between new others (subst (λ at. ClearsAt F t at piece between new) there one))
+
+pub clears-more : {F : Type 0} → (t : Tells F) (place at : ℕ) (front piece given : List ℕ) (old between new : F) → Clears F t place front old between → at ≡ place + length front → ClearsAt F t at piece between new
+    → given ≡ front ++ piece → Clears F t place given old new
+clears-more {F} t place at front piece given old between new c is one both = record {
+  pieces = c.pieces ++ piece ∷ [];
+  are = concat-append c.pieces (piece ∷ []) ∙ ap (λ s. concat c.pieces ++ s) (append-nil piece) ∙ ap (λ s. s ++ piece) c.are ∙ sym both;
+  each = pieces-more t place c.pieces piece old between new c.each (subst (λ n. ClearsAt F t n piece between new) (is ∙ ap (λ s. place + length s) (sym c.are)) one);
+}
 
 -- a write that fails counts a fault of writes
 pub failed_write : {F : Type 0} → (old new : RealFlash F) (file : Option F) (answer : Result (Unit {0}) FailedCall) → OnErr answer (new ≡ record old { file = file; write_faults = raised old.write_faults }) → OnErr answer (HasRisen old.write_faults new.write_faults)

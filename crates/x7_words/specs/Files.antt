@@ -1,10 +1,11 @@
 -- What is told of the real inputs and sinks (this project's choice).
-use Rattle.std.specs.Prelude.{◌≡◌, ◌↔◌, ◌<◌, ℕ, Bool, true, false, List, length, take, Option, None, Some, IfSome, is_some, Result, Ok, Err}
-use Rattle.std.specs.Io.KnownBytes.{Consumes, IsAtEnd, Keeps}
+use Rattle.std.specs.Prelude.{◌≡◌, ◌↔◌, ◌+◌, ◌<◌, ℕ, Bool, true, false, List, [], ◌∷◌, length, take, bit_and, Option, None, Some, IfSome, is_some, Result, Ok, Err}
+use Rattle.std.specs.Io.KnownBytes.{Appends, Consumes, IsAtEnd, Keeps}
+use Rattle.std.specs.List.{concat}
 use Rattle.std.specs.declared.io.ErrorKind.{ErrorKind}
 use Rattle.std.specs.declared.io.ErrorKind.TheVariants.{NotFound}
 use Rattle.x7_words.specs.Count.{raised}
-use Rattle.x7_words.specs.Flash.{FlashState}
+use Rattle.x7_words.specs.Flash.{FlashState, zip_with}
 use Rattle.x7_words.specs.Input.{InputsState}
 use Rattle.x7_words.specs.declared.input.SelectFault.{SelectFault}
 use Rattle.x7_words.specs.declared.input.SelectFault.TheVariants.{Missing, Failed}
@@ -78,10 +79,47 @@ abbrev pub ReadsAt : {F : Type 0} → (F → Option ℕ) → (F → Option (List
 ReadsAt {F} position left place bytes old new =
     (there : F) × IfSome (position old) (λ _. position there ≡ Some place) × Consumes (left there) (left new) bytes
 
--- the same of a file that is open before and after
-abbrev pub ReadsOpen : {F : Type 0} → (F → Option ℕ) → (F → Option (List ℕ)) → ℕ → List ℕ → Option F → Option F → Type 0
-ReadsOpen position left place bytes (Some old) (Some new) = ReadsAt position left place bytes old new
-ReadsOpen position left place bytes old new = ⊥
+-- A file was written from the place on with these bytes: as far as it knows its place and what it was given.
+abbrev pub WritesAt : {F : Type 0} → (F → Option ℕ) → (F → Option (List ℕ)) → ℕ → List ℕ → F → F → Type 0
+WritesAt {F} position contents place bytes old new =
+    (there : F) × IfSome (position old) (λ _. position there ≡ Some place) × Appends (contents there) (contents new) bytes
+
+-- what files of a type tell of themselves
+pub record Tells (F : Type 0) : Type 0 where
+  -- the place at which the next read or write begins
+  pub position : F → Option ℕ
+  -- the bytes that reads will give
+  pub left : F → Option (List ℕ)
+  -- the bytes that were written
+  pub contents : F → Option (List ℕ)
+
+abbrev pub file_tells : {F : Type 0} → (F → Option ℕ) → (F → Option (List ℕ)) → (F → Option (List ℕ)) → Tells F
+file_tells position left contents = record { position = position; left = left; contents = contents }
+
+-- the bytes from the place on were read, and then each of them AND the given one was written there
+pub record ClearsAt (F : Type 0) (t : Tells F) (place : ℕ) (given : List ℕ) (old new : F) : Type 0 where
+  pub before : List ℕ
+  pub between : F
+  pub long : length before ≡ length given
+  pub reads : ReadsAt t.position t.left place before old between
+  pub writes : WritesAt t.position t.contents place (zip_with bit_and before given) between new
+
+-- the same piece by piece, each behind the one before
+abbrev pub ClearsPieces : (F : Type 0) → Tells F → ℕ → List (List ℕ) → F → F → Type 0
+ClearsPieces F t place [] old new = new ≡ old
+ClearsPieces F t place (piece ∷ pieces) old new =
+    (between : F) × ClearsAt F t place piece old between × ClearsPieces F t (place + length piece) pieces between new
+
+-- each byte from the place on was made the old one AND the given one, in pieces
+pub record Clears (F : Type 0) (t : Tells F) (place : ℕ) (given : List ℕ) (old new : F) : Type 0 where
+  pub pieces : List (List ℕ)
+  pub are : concat pieces ≡ given
+  pub each : ClearsPieces F t place pieces old new
+
+-- this holds of a file that is open before and after
+abbrev pub WhileOpen : {F : Type 0} → (F → F → Type 0) → Option F → Option F → Type 0
+WhileOpen holds (Some old) (Some new) = holds old new
+WhileOpen holds old new = ⊥
 
 -- a file's end was sought, at this place: the number of its bytes, as far as it knows them
 abbrev pub EndsAt : {F : Type 0} → (F → Option ℕ) → (F → Option (List ℕ)) → ℕ → F → F → Type 0

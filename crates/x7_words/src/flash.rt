@@ -40,7 +40,7 @@ pub trait Flash {
         ensures extent { result ≡ (state self.now).extent }
         ensures sized { IsSized (state self.now) };
 
-    /// Fills the buffer with the bytes from the place on. After an error it may hold anything, as
+    /// Fills the buffer with the bytes from the place on, and counts no fault. After an error it may hold anything, as
     /// after a failed read of a file.
     fn read_at(&mut self, place: u64, buf: &mut [u8]) -> Result<(), Failed>
         requires attached { (state self.old).attached ≡ true }
@@ -48,6 +48,7 @@ pub trait Flash {
         ensures read { OnOk result (WhereTold (state self.old).bytes
             (λ all. buf.new ≡ slice_range all place (place + length buf.old))) }
         ensures length { length buf.new ≡ length buf.old }
+        ensures quiet { OnOk result ((state self.new).faults ≡ (state self.old).faults) }
         ensures failed { OnErr result (FlashFails (state self.old) (state self.new)) }
         ensures only { OnlyReads (state self.old) (state self.new) (found_since self.old) (found_since self.new) }
         ensures sized { IsSized (state self.new) }

@@ -3,8 +3,8 @@ ghost use Rattle.std.specs.Prelude.{◌≡◌, ◌+◌, ◌*◌, ◌<◌, ◌≤
 ghost use Rattle.std.specs.Io.KnownBytes.{Consumes};
 ghost use Rattle.std.specs.Io.Seek.{MovesTo};
 ghost use Rattle.x7_words.specs.Count.{raised};
-ghost use Rattle.x7_words.specs.Files.{after_opening, size_told, EndsAt, IsExtent, ReadsAt, ReadsOpen, RefusedFor};
-ghost use Rattle.x7_words.specs.Flash.{zip_with};
+ghost use Rattle.x7_words.specs.Files.{after_opening, file_tells, size_told, Clears, ClearsAt, EndsAt, IsExtent, ReadsAt, RefusedFor, WhileOpen, WritesAt};
+ghost use Rattle.x7_words.specs.Flash.{erased_sector, zip_with};
 
 use super::count_refusal;
 use crate::count::next_count;
@@ -50,7 +50,7 @@ fn read_from<F: Read + Seek>(file: &mut F, place: u64, buf: &mut [u8]) -> io::Re
     fill(file, buf)
 }
 
-/// The bytes that a write takes at once.
+/// The bytes of which a program reads and writes at once.
 const PIECE: usize = 4096;
 
 /// Opens a file for reading and writing, or for reading alone where it may not be written.
@@ -73,13 +73,20 @@ fn open_sized<R: Files>(rt: &R, name: &str) -> io::Result<(R::File, u64)>
     Ok((file, extent))
 }
 
-/// Makes so many pieces from the place on FF, and waits until they are kept.
-fn erase_from<F: Write + Seek + OpenFile>(file: &mut F, place: u64, pieces: u64) -> io::Result<()> {
-    file.seek(SeekFrom::Start(place))?;
-    let ones = [0xFF; PIECE];
-    for _ in 0..pieces {
-        file.write_all(&ones)?;
-    }
+/// Writes bytes from the place on.
+fn write_from<F: Write + Seek>(file: &mut F, place: u64, bytes: &[u8]) -> io::Result<()>
+    ensures { OnOk result (WritesAt F.stream_position F.contents place bytes.now file.old file.new) }
+{
+    go_to(file, place)?;
+    file.write_all(bytes)
+}
+
+/// Makes the bytes of a sector from the place on FF, and waits until they are kept.
+fn erase_from<F: Write + Seek + OpenFile>(file: &mut F, place: u64) -> io::Result<()>
+    ensures { OnOk result (WritesAt F.stream_position F.contents place erased_sector file.old file.new) }
+{
+    let ones = [0xFF; SECTOR as usize];
+    write_from(file, place, &ones)?;
     file.sync_data()
 }
 
@@ -93,23 +100,31 @@ fn clear_bits(bytes: &mut [u8], given: &[u8])
     }
 }
 
-/// Makes each byte from the place on the old one AND the given one, and waits until they are kept.
+/// Makes each byte of a piece from the place on the old one AND the given one.
+fn clear_piece<F: Read + Write + Seek>(file: &mut F, place: u64, given: &[u8]) -> io::Result<()>
+    requires { length given.now ≤ 4096 }
+    ensures { OnOk result (ClearsAt F (file_tells F.stream_position F.remaining F.contents) place given.now file.old file.new) }
+{
+    let mut buffer = [0; PIECE];
+    let piece = &mut buffer[..given.len()];
+    read_from(file, place, piece)?;
+    clear_bits(piece, given);
+    write_from(file, place, piece)
+}
+
+/// Makes each byte from the place on the old one AND the given one, piece by piece, and waits until they are kept.
 fn program_from<F: Read + Write + Seek + OpenFile>(
     file: &mut F,
     place: u64,
     given: &[u8],
 ) -> io::Result<()>
     requires { place + length given.now < 2 ^ 64 }
+    ensures { OnOk result (Clears F (file_tells F.stream_position F.remaining F.contents) place given.now file.old file.new) }
 {
-    let mut buffer = [0; PIECE];
     let mut done = 0;
     while done < given.len() {
         let count = PIECE.min(given.len() - done);
-        let at = place + done as u64;
-        read_from(file, at, &mut buffer[..count])?;
-        clear_bits(&mut buffer[..count], &given[done..done + count]);
-        file.seek(SeekFrom::Start(at))?;
-        file.write_all(&buffer[..count])?;
+        clear_piece(file, place + done as u64, &given[done..done + count])?;
         done += count;
     }
     file.sync_data()
@@ -214,7 +229,7 @@ impl<'r, R: Files> Flash for FileFlash<'r, R> {
         requires attached { is_some self.old.file ≡ true }
         requires within { place + length buf.old ≤ self.old.extent }
         ensures read { OnOk result
-            (ReadsOpen R.File.stream_position R.File.remaining place buf.new self.old.file self.new.file) }
+            (WhileOpen (ReadsAt R.File.stream_position R.File.remaining place buf.new) self.old.file self.new.file) }
         ensures length { length buf.new ≡ length buf.old }
         ensures open { is_some self.new.file ≡ true }
         ensures ok { OnOk result (self.new ≡ record self.old { file = self.new.file }) }
@@ -236,6 +251,8 @@ impl<'r, R: Files> Flash for FileFlash<'r, R> {
     fn erase(&mut self, sector: u64) -> Result<(), Failed>
         requires attached { is_some self.old.file ≡ true }
         requires within { sector * 65536 + 65536 ≤ self.old.extent }
+        ensures written { OnOk result (WhileOpen
+            (WritesAt R.File.stream_position R.File.contents (sector * 65536) erased_sector) self.old.file self.new.file) }
         ensures open { is_some self.new.file ≡ true }
         ensures ok { OnOk result (self.new ≡ record self.old { file = self.new.file }) }
         ensures err { OnErr result (self.new ≡
@@ -246,7 +263,7 @@ impl<'r, R: Files> Flash for FileFlash<'r, R> {
         let Some(file) = &mut self.file else {
             unreachable!()
         };
-        if erase_from(file, sector * SECTOR, SECTOR / PIECE as u64).is_ok() {
+        if erase_from(file, sector * SECTOR).is_ok() {
             return Ok(());
         }
         self.write_faults = next_count(self.write_faults);
@@ -256,6 +273,9 @@ impl<'r, R: Files> Flash for FileFlash<'r, R> {
     fn program(&mut self, place: u64, given: &[u8]) -> Result<(), Failed>
         requires attached { is_some self.old.file ≡ true }
         requires within { place + length given.now ≤ self.old.extent }
+        ensures written { OnOk result (WhileOpen
+            (Clears R.File (file_tells R.File.stream_position R.File.remaining R.File.contents) place given.now)
+            self.old.file self.new.file) }
         ensures open { is_some self.new.file ≡ true }
         ensures ok { OnOk result (self.new ≡ record self.old { file = self.new.file }) }
         ensures err { OnErr result (self.new ≡

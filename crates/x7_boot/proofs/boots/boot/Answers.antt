@@ -21,6 +21,7 @@ attempts-preserved g c =
       room = next.few c.in-Again.kept c.in-Again.place c.in-Again.is;
       limit = i.limit;
       pages = pages_of (f.state c.args.flash.now).bytes (f.state c.attempts.flash).bytes (f.state c.args.flash.now).extent (f.state c.attempts.flash).extent c.try_once.new.pages.pages.entries i.flash.bytes i.flash.extent c.try_once.ensures.pages;
+      quiet = t.quiet ∙ i.quiet;
       flash = reads_on _ _ _ _ _ _ i.flash t.flash;
     }
 

@@ -10,6 +10,7 @@ pub pages-init : goal.pages-init
 pages-init g c = record {
   feeds = c.begin-at.ensures (g.F.Flash.state c.args.flash.now).bytes c.requires.left;
   kept = c.requires.pages;
+  quiet = refl;
   flash = reads_at _ _;
   size = c.size-size.ensures.extent;
 }
@@ -37,6 +38,7 @@ pages-preserved g c =
       feeds = feeds_on c.args.device.now.part c.args.keep c.args.address (g.F.Flash.state c.args.flash.now).bytes c.pages.device c.take_page.new.device c.bytes_from-bytes.result.now c.pages.at (c.pages.at + length c.bytes_from-bytes.result.now) c.take_page.result refl
           (from_limited known extent c.pages.at c.bytes_from-bytes.result.now c.requires.limit from) f from.told t c.in-Goes.is;
       kept = are;
+      quiet = c.in_ok-loaded.ensures.quiet ∙ c.pages.invariant.quiet;
       flash = reads_on _ _ _ _ _ _ c.pages.invariant.flash c.in_ok-loaded.ensures.flash;
       size = c.pages.invariant.size;
     }

@@ -40,3 +40,9 @@ returns-in-Range g c = rw c.in-Range.is c.say_at-in-Range.ensures
 
 pub returns-in-Image : goal.returns-in-Image
 returns-in-Image g c = rw c.in-Image.is c.say_at-in-Image.ensures
+
+pub returns-in-Long : goal.returns-in-Long
+returns-in-Long g c = rw c.in-Long.is c.say_at-in-Long.ensures
+
+pub returns-in-Layout : goal.returns-in-Layout
+returns-in-Layout g c = rw c.in-Layout.is c.say_number-in-Layout.ensures

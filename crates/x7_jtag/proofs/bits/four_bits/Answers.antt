@@ -1,4 +1,4 @@
-use Rattle.std.proofs.Common.{◌-◌, length, arith}
+use Rattle.std.proofs.Common.{arith}
 use Rattle.x7_jtag.proofs.ByteLemmas.{bits-within}
 use Rattle.x7_jtag.proofs.bits.four_bits.Goals as goal
 

@@ -1,4 +1,4 @@
-use Rattle.std.proofs.Common.{◌≡◌, ◌<◌, ◌+◌, ◌*◌, ◌-◌, ◌^◌, ◌++◌, ℕ, take, drop, length, arith, ap, sym, subst, ◌∙◌, append-nil}
+use Rattle.std.proofs.Common.{◌≡◌, ◌*◌, ◌-◌, ◌^◌, ◌++◌, ℕ, take, drop, length, arith, ap, sym, ◌∙◌}
 use Rattle.x7_jtag.specs.Bits.{bytes_bits}
 use Rattle.x7_jtag.specs.Clocks.{shift_clocks}
 use Rattle.x7_jtag.proofs.PlayLemmas.{bytes-on, ready-bytes, ready-holds}

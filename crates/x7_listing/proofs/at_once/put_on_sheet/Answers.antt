@@ -1,4 +1,4 @@
-use Rattle.std.proofs.Common.{ap, ap₂, ◌++◌, ◌∙◌, sym, append_assoc, List, ℕ}
+use Rattle.std.proofs.Common.{ap, ◌++◌, ◌∙◌, sym, append_assoc, List, ℕ}
 use Rattle.x7_listing.specs.AtOnce.{write_start}
 use Rattle.x7_text.specs.Row.{close}
 use Rattle.x7_listing.proofs.AtOnceLemmas.{command_row-is, data_row-is}

@@ -1,4 +1,4 @@
-use Rattle.std.proofs.Common.{◌≡◌, ◌+◌, ◌-◌, ◌++◌, ◌∙◌, ap, append_assoc, arith, drop, length, refl, subst, sym, take, List, Vec, ℕ}
+use Rattle.std.proofs.Common.{◌≡◌, ◌-◌, ◌++◌, ◌∙◌, ap, append_assoc, arith, drop, length, refl, subst, sym, take, List, Vec, ℕ}
 use Rattle.std.specs.declared.alloc.Global.{Global}
 use Rattle.x7_listing.specs.Telling.{Tells}
 use Rattle.x7_listing.proofs.AtOnceLemmas.{rest_length, seam, write_told}

@@ -1,4 +1,4 @@
-use Rattle.std.proofs.Common.{◌≡◌, ◌≤◌, ◌<◌, ◌+◌, ◌*◌, ◌-◌, ◌++◌, [], List, ℕ, length, take}
+use Rattle.std.proofs.Common.{◌≡◌, ◌≤◌, ◌<◌, ◌*◌, ◌-◌, ◌++◌, [], List, ℕ, length, take}
 use Rattle.x7_listing.specs.Telling.{Tells}
 use Rattle.x7_listing.proofs.at_once.take_writes.Given as goal
 

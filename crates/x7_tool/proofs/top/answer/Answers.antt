@@ -1,12 +1,13 @@
 use Rattle.std.proofs.Common.{◌≡◌, refl, false, Some, map, string_bytes, sym, ap, ◌∙◌}
-use Rattle.x7_forms.specs.Form.{Assembling, Booting, Debugging, FromMcs, Generating, Imaging, ImagingFor, Listing, PlanningFull, PlanningPartial, PlanningRead, Playing, ToMcs, asked, asked_by, form_of}
+use Rattle.x7_forms.specs.Form.{Assembling, Booting, Debugging, FromMcs, Generating, Imaging, ImagingFor, Listing, PlanningFull, PlanningPartial, PlanningRead, Playing, PlayingSvf, ToMcs, Updating, asked, asked_by, form_of}
 use Rattle.x7_forms.specs.Play.{text_of_play}
 use Rattle.x7_forms.specs.Step.{seen}
 use Rattle.x7_tool.specs.Outside.{outside}
 use Rattle.x7_tool.specs.Ready.{whole_of, text_of_image}
 use Rattle.x7_tool.specs.Run.{EndsAs}
-use Rattle.x7_tool.proofs.FlashLemmas.{kept_named, kept_same}
+use Rattle.x7_tool.proofs.FlashLemmas.{uses_read, uses_same}
 use Rattle.x7_tool.proofs.RunLemmas.{ready_ends, text_ends}
+use Rattle.x7_tool.proofs.UpdateLemmas.{update_ends, update_uses}
 use Rattle.x7_tool.proofs.top.answer.Goals as goal
 
 pub returns-in-Ok-clause-ends : goal.returns-in-Ok-clause-ends
@@ -95,6 +96,12 @@ returns-in-Some-Debug-clause-ends g c = λ e f.
     ready_ends _ (Debugging c.in-Some-Debug.part.now c.in-Some-Debug.stream.now c.in-Some-Debug.script.now) (outside (g.I.Inputs.state c.args.inputs.now) flash (g.O.Sink.state c.args.out.now) e) (outside (g.I.Inputs.state c.debug.new.inputs) flash (g.O.Sink.state c.put_whole-in-Some-Debug.new.out) f) (seen whole_of c.debug.result) _
     (sym c.words_of.ensures ∙ ap asked c.in-Some-Debug.is ∙ ap (λ f. Some (asked_by f)) c.in-Some-Debug.field-0-is) refl c.debug.ensures c.put_whole-in-Some-Debug.ensures
 
+pub returns-in-Some-Svf-clause-ends : goal.returns-in-Some-Svf-clause-ends
+returns-in-Some-Svf-clause-ends g c = λ e f.
+    let flash = g.F.Flash.state c.args.flash.now in
+    ready_ends _ (PlayingSvf c.in-Some-Svf.part.now c.in-Some-Svf.text.now) (outside (g.I.Inputs.state c.args.inputs.now) flash (g.O.Sink.state c.args.out.now) e) (outside (g.I.Inputs.state c.svf.new.inputs) flash (g.O.Sink.state c.put_whole-in-Some-Svf.new.out) f) (seen text_of_play c.svf.result) _
+    (sym c.words_of.ensures ∙ ap asked c.in-Some-Svf.is ∙ ap (λ f. Some (asked_by f)) c.in-Some-Svf.field-0-is) refl c.svf.ensures c.put_whole-in-Some-Svf.ensures
+
 pub returns-in-Some-Boot-clause-ends : goal.returns-in-Some-Boot-clause-ends
 returns-in-Some-Boot-clause-ends g c = λ e f.
     let old = outside (g.I.Inputs.state c.args.inputs.now) (g.F.Flash.state c.args.flash.now) (g.O.Sink.state c.args.out.now) e in
@@ -104,46 +111,59 @@ returns-in-Some-Boot-clause-ends g c = λ e f.
 
 pub returns-in-Some-Boot-clause-flash : goal.returns-in-Some-Boot-clause-flash
 returns-in-Some-Boot-clause-flash g c =
-    kept_named _ (Booting c.in-Some-Boot.part.now c.in-Some-Boot.name.now) c.in-Some-Boot.name.now _ _ (sym c.words_of.ensures ∙ ap asked c.in-Some-Boot.is ∙ ap (λ f. Some (asked_by f)) c.in-Some-Boot.field-0-is) refl c.boot.ensures.reads
+    uses_read _ (Booting c.in-Some-Boot.part.now c.in-Some-Boot.name.now) c.in-Some-Boot.name.now _ _ _ _ _ (sym c.words_of.ensures ∙ ap asked c.in-Some-Boot.is ∙ ap (λ f. Some (asked_by f)) c.in-Some-Boot.field-0-is) refl c.boot.ensures.reads c.boot.ensures.unwritten
 
 pub returns-in-None-clause-flash : goal.returns-in-None-clause-flash
-returns-in-None-clause-flash g c = kept_same _ (g.F.Flash.state c.args.flash.now)
+returns-in-None-clause-flash g c = uses_same _ _ (g.F.Flash.state c.args.flash.now) _
 
 pub returns-in-Ok-clause-flash : goal.returns-in-Ok-clause-flash
-returns-in-Ok-clause-flash g c = kept_same _ (g.F.Flash.state c.args.flash.now)
+returns-in-Ok-clause-flash g c = uses_same _ _ (g.F.Flash.state c.args.flash.now) _
 
 pub returns-in-Err-clause-flash : goal.returns-in-Err-clause-flash
-returns-in-Err-clause-flash g c = kept_same _ (g.F.Flash.state c.args.flash.now)
+returns-in-Err-clause-flash g c = uses_same _ _ (g.F.Flash.state c.args.flash.now) _
+
+pub returns-in-Some-Svf-clause-flash : goal.returns-in-Some-Svf-clause-flash
+returns-in-Some-Svf-clause-flash g c = uses_same _ _ (g.F.Flash.state c.args.flash.now) _
 
 pub returns-in-Some-Play-clause-flash : goal.returns-in-Some-Play-clause-flash
-returns-in-Some-Play-clause-flash g c = kept_same _ (g.F.Flash.state c.args.flash.now)
+returns-in-Some-Play-clause-flash g c = uses_same _ _ (g.F.Flash.state c.args.flash.now) _
 
 pub returns-in-Some-Asm-clause-flash : goal.returns-in-Some-Asm-clause-flash
-returns-in-Some-Asm-clause-flash g c = kept_same _ (g.F.Flash.state c.args.flash.now)
+returns-in-Some-Asm-clause-flash g c = uses_same _ _ (g.F.Flash.state c.args.flash.now) _
 
 pub returns-in-Some-Mcs-clause-flash : goal.returns-in-Some-Mcs-clause-flash
-returns-in-Some-Mcs-clause-flash g c = kept_same _ (g.F.Flash.state c.args.flash.now)
+returns-in-Some-Mcs-clause-flash g c = uses_same _ _ (g.F.Flash.state c.args.flash.now) _
 
 pub returns-in-Some-Unmcs-clause-flash : goal.returns-in-Some-Unmcs-clause-flash
-returns-in-Some-Unmcs-clause-flash g c = kept_same _ (g.F.Flash.state c.args.flash.now)
+returns-in-Some-Unmcs-clause-flash g c = uses_same _ _ (g.F.Flash.state c.args.flash.now) _
 
 pub returns-in-Some-PlanFull-clause-flash : goal.returns-in-Some-PlanFull-clause-flash
-returns-in-Some-PlanFull-clause-flash g c = kept_same _ (g.F.Flash.state c.args.flash.now)
+returns-in-Some-PlanFull-clause-flash g c = uses_same _ _ (g.F.Flash.state c.args.flash.now) _
 
 pub returns-in-Some-PlanPartial-clause-flash : goal.returns-in-Some-PlanPartial-clause-flash
-returns-in-Some-PlanPartial-clause-flash g c = kept_same _ (g.F.Flash.state c.args.flash.now)
+returns-in-Some-PlanPartial-clause-flash g c = uses_same _ _ (g.F.Flash.state c.args.flash.now) _
 
 pub returns-in-Some-PlanRead-clause-flash : goal.returns-in-Some-PlanRead-clause-flash
-returns-in-Some-PlanRead-clause-flash g c = kept_same _ (g.F.Flash.state c.args.flash.now)
+returns-in-Some-PlanRead-clause-flash g c = uses_same _ _ (g.F.Flash.state c.args.flash.now) _
 
 pub returns-in-Some-Gen-clause-flash : goal.returns-in-Some-Gen-clause-flash
-returns-in-Some-Gen-clause-flash g c = kept_same _ (g.F.Flash.state c.args.flash.now)
+returns-in-Some-Gen-clause-flash g c = uses_same _ _ (g.F.Flash.state c.args.flash.now) _
 
 pub returns-in-Some-Image-clause-flash : goal.returns-in-Some-Image-clause-flash
-returns-in-Some-Image-clause-flash g c = kept_same _ (g.F.Flash.state c.args.flash.now)
+returns-in-Some-Image-clause-flash g c = uses_same _ _ (g.F.Flash.state c.args.flash.now) _
 
 pub returns-in-Some-ImageFor-clause-flash : goal.returns-in-Some-ImageFor-clause-flash
-returns-in-Some-ImageFor-clause-flash g c = kept_same _ (g.F.Flash.state c.args.flash.now)
+returns-in-Some-ImageFor-clause-flash g c = uses_same _ _ (g.F.Flash.state c.args.flash.now) _
 
 pub returns-in-Some-Debug-clause-flash : goal.returns-in-Some-Debug-clause-flash
-returns-in-Some-Debug-clause-flash g c = kept_same _ (g.F.Flash.state c.args.flash.now)
+returns-in-Some-Debug-clause-flash g c = uses_same _ _ (g.F.Flash.state c.args.flash.now) _
+
+pub returns-in-Some-Update-clause-ends : goal.returns-in-Some-Update-clause-ends
+returns-in-Some-Update-clause-ends g c = λ e f.
+    let old = outside (g.I.Inputs.state c.args.inputs.now) (g.F.Flash.state c.args.flash.now) (g.O.Sink.state c.args.out.now) e in
+    let new = outside (g.I.Inputs.state c.update.new.inputs) (g.F.Flash.state c.update.new.flash) (g.O.Sink.state c.args.out.now) f in
+    update_ends _ (Updating c.in-Some-Update.name.now c.in-Some-Update.stream.now) old new _ (sym c.words_of.ensures ∙ ap asked c.in-Some-Update.is ∙ ap (λ f. Some (asked_by f)) c.in-Some-Update.field-0-is) (c.update.ensures.ends old new refl)
+
+pub returns-in-Some-Update-clause-flash : goal.returns-in-Some-Update-clause-flash
+returns-in-Some-Update-clause-flash g c =
+    update_uses _ (Updating c.in-Some-Update.name.now c.in-Some-Update.stream.now) _ _ _ _ _ (sym c.words_of.ensures ∙ ap asked c.in-Some-Update.is ∙ ap (λ f. Some (asked_by f)) c.in-Some-Update.field-0-is) c.update.ensures.flash

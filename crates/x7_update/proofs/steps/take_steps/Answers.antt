@@ -1,14 +1,21 @@
 use Rattle.std.proofs.Common.{◌≡◌, ◌+◌, ◌≤◌, ℕ, List, Some, length, refl, sym, ◌∙◌, arith}
+use Rattle.x7_words.specs.Flash.{WhereTold}
 use Rattle.x7_update.specs.After.{MayBeLeft, untouched}
-use Rattle.x7_update.specs.Layout.{IsFree}
+use Rattle.x7_update.specs.Layout.{HasLayout, IsFree}
 use Rattle.x7_update.specs.Slots.{Finds}
 use Rattle.x7_update.specs.Writing.{HasWanted, Opening, Replaced, Replacing}
 use Rattle.x7_update.proofs.CaseLemmas.{opening_left, replaced_free, replaced_wanted, replacing_left}
-use Rattle.x7_update.proofs.ToldLemmas.{becomes_leaves, becomes_then, moments_on, moments_weaker, read_moments, told_at}
+use Rattle.x7_update.proofs.ToldLemmas.{becomes_leaves, becomes_then, moments_on, moments_weaker, on_ok, read_moments, told_at, told_map}
 use Rattle.x7_update.proofs.steps.take_steps.Goals as goal
 
 pub returns-in-Err-clause-refused : goal.returns-in-Err-clause-refused
 returns-in-Err-clause-refused g c = c.in-Err.ensures.fault c.args.stream.now
+
+pub returns-clause-layout : goal.returns-clause-layout
+returns-clause-layout g c =
+    let told = (g.F.Flash.state c.args.flash.now).bytes in
+    on_ok (WhereTold told HasLayout) c.finish.result
+    (told_map told (λ all. Finds (length all) all c.in-Ok-find_slots.slots) HasLayout (λ all e finds. record { size = finds.sized; slots = finds.has }) c.in-Ok-find_slots.ensures.finds)
 
 pub finish-requires-clause-written : goal.finish-requires-clause-written
 finish-requires-clause-written g c =
@@ -48,7 +55,7 @@ returns-clause-any_moment g c =
     let stream = c.args.stream.now in
     let known : (all : List ℕ) → mid.bytes ≡ Some all → Finds (length all) all slots =
     λ all e. told_at first.bytes (λ all. Finds (length all) all slots) c.in-Ok-find_slots.ensures.finds all (sym c.find_slots.ensures.only.bytes ∙ e) in
-    read_moments first mid last _ _ _ (MayBeLeft stream) (λ all e. untouched refl) c.find_slots.ensures.only
+    read_moments first mid last _ _ _ (MayBeLeft stream) (λ all e. untouched refl) c.find_slots.ensures.only.bytes c.find_slots.ensures.only.unwritten
     (moments_on mid then last _ _ _ (Replaced slots.update stream) (Opening slots.next) (MayBeLeft stream)
     (λ all now found e r opening.
     let long : mid.extent ≡ length all = told_at mid.bytes (λ all. mid.extent ≡ length all) (g.met.F.Flash.counted c.find_slots.new.flash) all e in

@@ -3,8 +3,8 @@ use Rattle.x7_engine.proofs.FrameLemmas.{frames_at}
 use Rattle.x7_engine.proofs.saved.SavedRegisters.new.Goals as goal
 use Rattle.x7_engine.specs.Kept.{on_the_bench}
 
-pub returns : goal.returns
-returns c = λ part f are. record {
+pub returns-clause-stands : goal.returns-clause-stands
+returns-clause-stands c = λ part f are. record {
   places = tt;
   words = c.new.ensures;
   controls = c.new-2.ensures;

@@ -14,5 +14,5 @@ returns-in-Ok-clause-ok c = λ part bytes h.
     let p = c.args.self in
     let on = not_over p.over part bytes p.device p.buffer p.reads.items c.if-self.false h in
     let all = played_all part bytes p.device p.reads.items on.0 on.1 in
-    let text = rw c.deref.ensures.value at (c.in-Ok.ensures part on_the_bench false all.prefix all.stands all.none_due) in
+    let text = rw c.deref.ensures.value at (c.in-Ok.ensures.value part on_the_bench false all.prefix all.stands all.none_due) in
     reported_is part bytes p.device p.reads.items _ c.fault.result c.is_some-stopped.result all (c.fault.ensures part on_the_bench false all.prefix all.stands) c.is_some-stopped.ensures refl ∙ ap Ok (sym text)

@@ -3,7 +3,7 @@ use Rattle.x7_words.specs.Word.{AreBytes}
 use Rattle.x7_words.proofs.ListLemmas.{all_from_places}
 use Rattle.x7_engine.specs.Kept.{on_the_bench}
 use Rattle.x7_jtag.specs.Tap.{QueueState}
-use Rattle.x7_jtag.proofs.GiveLemmas.{gives, given-within, taken-given}
+use Rattle.x7_jtag.proofs.GiveLemmas.{gives, given-within}
 use Rattle.x7_jtag.proofs.queue.Queue.give.Goals as goal
 
 pub returns-clause-within : goal.returns-clause-within

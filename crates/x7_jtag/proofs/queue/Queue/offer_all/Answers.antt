@@ -1,4 +1,4 @@
-use Rattle.std.proofs.Common.{◌<◌, ◌+◌, length, arith, refl, ap}
+use Rattle.std.proofs.Common.{length, arith, ap}
 use Rattle.x7_jtag.proofs.GiveLemmas.{offers-end, offers-more, rest-after}
 use Rattle.x7_jtag.proofs.queue.Queue.offer_all.Goals as goal
 

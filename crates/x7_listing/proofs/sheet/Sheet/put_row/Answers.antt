@@ -1,4 +1,4 @@
-use Rattle.std.proofs.Common.{◌≡◌, ◌+◌, ◌++◌, ◌∙◌, ap, ap₂, arith, get_or, length, take, ℕ, List}
+use Rattle.std.proofs.Common.{◌≡◌, ◌++◌, ◌∙◌, ap, ap₂, arith, get_or, length, take, ℕ, List}
 use Rattle.x7_listing.proofs.SheetLemmas.{row-part, stored, stored-length, text-length}
 use Rattle.x7_listing.proofs.sheet.Sheet.put_row.Goals as goal
 

@@ -1,5 +1,5 @@
 use Rattle.std.proofs.Common.{None, inl, refl}
-use Rattle.x7_words.proofs.FileFlashLemmas.{attached-ok, attached-refused, attached-err, attach_write_faults, failed_read_at, failed_write, only_reads, only_writes, untold_passes, untold_read_at, untold_torn, untold_unwritten, untold_written}
+use Rattle.x7_words.proofs.FileFlashLemmas.{attached-ok, attached-refused, attached-err, attach_write_faults, failed_read_at, failed_write, only_reads, only_writes, quiet_read_at, untold_passes, untold_read_at, untold_torn, untold_unwritten, untold_written}
 use Rattle.x7_words.proofs.files.flash.FileFlashFlash.TheImpl.Goals as goal
 
 pub attach-tells : goal.attach-tells
@@ -28,6 +28,7 @@ read_at-tells g c =
     record {
       read = untold_read_at c.result;
       length = c.ensures.length;
+      quiet = quiet_read_at old new new.file c.result c.ensures.ok;
       failed = failed_read_at old new new.file c.result c.ensures.err;
       only = only_reads old new c.result c.requires.attached c.ensures.open c.ensures.ok c.ensures.err c.ensures.faults;
       sized = tt;

@@ -2,7 +2,7 @@ use Rattle.std.proofs.lemmas.Result.{on_ok_weaker}
 use Rattle.x7_listing.proofs.AssemblerLemmas.{err-weaker, fails-behind, takes-twice}
 use Rattle.x7_listing.specs.Assembling.{TakesFront}
 use Rattle.x7_listing.proofs.BitLemmas.{some-of}
-use Rattle.x7_listing.proofs.assembler.Assembler.feed.Goals as goal
+use Rattle.x7_listing.proofs.assembler.Assembler.take.Goals as goal
 
 pub returns-in-Some-clause-ok : goal.returns-in-Some-clause-ok
 returns-in-Some-clause-ok c = on_ok_weaker c.take_lines-in-Some.result (λ h. takes-twice c.args.self.now c.complete.new.self c.take_lines-in-Some.new.self c.args.piece.now c.in-Some.rest.now (some-of _ _ c.in-Ok.found c.in-Some.rest c.in-Some.is c.in-Ok.ensures.ok) h) c.take_lines-in-Some.ensures.ok

@@ -1,6 +1,6 @@
 use Rattle.std.proofs.Common.{inl, inr, refl}
 use Rattle.x7_tool.proofs.FlashLemmas.{was_failed, reads_asked, was_missing}
-use Rattle.x7_tool.proofs.boot.attach.Goals as goal
+use Rattle.x7_tool.proofs.attach.attach.Goals as goal
 
 pub returns-in-Ok-clause-reads : goal.returns-in-Ok-clause-reads
 returns-in-Ok-clause-reads g c = reads_asked c.args.name.now _ _ _ _ c.attach.ensures.stays c.attach.ensures.asks

@@ -1,0 +1,49 @@
+-- What playing an SVF text comes to, from the tap and the device that played it.
+use Rattle.std.proofs.Common.{◌≡◌, ◌++◌, ◌⊎◌, inl, inr, ℕ, List, [], Bool, false, Option, Err, ap, subst, sym, ◌∙◌}
+use Rattle.std.specs.Prelude.{◌||◌, is_some}
+use Rattle.x7_part.specs.Part.{PartData}
+use Rattle.x7_engine.specs.declared.fault.Fault.{Fault}
+use Rattle.x7_engine.specs.declared.regs.Regs.{Regs}
+use Rattle.x7_engine.specs.Kept.{on_the_bench}
+use Rattle.x7_engine.specs.Standing.{DeviceState, frames_due}
+use Rattle.x7_engine.specs.State.{memory_in, state_owing}
+use Rattle.x7_forms.specs.Event.{Event, no_memory}
+use Rattle.x7_forms.specs.Known.{Answer}
+use Rattle.x7_forms.specs.Report.{report_text}
+use Rattle.x7_jtag.specs.declared.fault.SvfFault.{SvfFault}
+use Rattle.x7_jtag.specs.declared.fault.SvfFault.TheVariants as svf
+use Rattle.x7_jtag.specs.declared.play.Differ.{Differ}
+use Rattle.x7_jtag.specs.declared.statement.Statement.{Statement}
+use Rattle.x7_jtag.specs.Play.{clocks_played, first_difference}
+use Rattle.x7_jtag.specs.PlayText.{play_text}
+use Rattle.x7_jtag.specs.Port.{Port, port_after}
+use Rattle.x7_jtag.specs.Shown.{bytes_taken, fault_shown, memory_shown, state_shown}
+use Rattle.x7_jtag.specs.Svf.{IsSvfOf}
+use Rattle.x7_jtag.specs.Tap.{TapStandsFor, TapState}
+use Rattle.x7_jtag.proofs.LawLemmas.{shows-is}
+use Rattle.x7_tool.specs.Outcome.{svf_answer, svf_event, svf_shown}
+
+-- the port after the clocks that were played
+abbrev pub played_to : PartData → List Statement → Option Differ → Port
+played_to part statements differ = port_after part (clocks_played statements differ)
+
+pub svf_is : (part : PartData) (statements : List Statement) (t : TapState) (d : DeviceState) (differ : Option Differ) (fault : Option Fault) (stopped : Bool) (line : List ℕ) (report text : Answer)
+    → TapStandsFor part t d (clocks_played statements differ) → differ ≡ first_difference part statements → fault ≡ fault_shown part (played_to part statements differ) → stopped ≡ (is_some differ || is_some fault) → line ≡ play_text differ
+    → report ≡ record {
+      stopped = stopped;
+      text = report_text part (state_owing part on_the_bench false (bytes_taken part (played_to part statements differ)) (frames_due d.registers.due)) [] (memory_in part on_the_bench (bytes_taken part (played_to part statements differ)));
+    }
+    → text ≡ record { stopped = report.stopped; text = line ++ report.text } → text ≡ svf_answer part statements
+svf_is part statements t d differ fault stopped line report text s e f b l r is =
+    let p : Port = played_to part statements differ in
+    is ∙ ap (λ (x : Answer). record { stopped = x.stopped; text = line ++ x.text }) r
+    ∙ ap (λ (x : List ℕ). record { stopped = stopped; text = x ++ report_text part (state_owing part on_the_bench false (bytes_taken part p) (frames_due d.registers.due)) [] (memory_shown part p) }) l
+    ∙ ap (λ (x : Regs). record { stopped = stopped; text = play_text differ ++ report_text part x [] (memory_shown part p) }) (shows-is part t d (clocks_played statements differ) s)
+    ∙ ap (λ (x : Bool). record { stopped = x; text = play_text differ ++ report_text part (state_shown part p) [] (memory_shown part p) }) (b ∙ ap (λ (x : Option Fault). is_some differ || is_some x) f)
+    ∙ ap (λ (x : Option Differ). svf_shown part x (played_to part statements x)) e
+
+-- a text that is refused has the event of its fault
+pub refused : (text read name : List ℕ) (fault : SvfFault) (event : Event) → read ≡ text → (fault ≡ svf.NoMemory) ⊎ IsSvfOf read (Err fault) → event ≡ svf_event name fault
+    → (event ≡ no_memory) ⊎ ((f : SvfFault) × (IsSvfOf text (Err f) × (svf_event name f ≡ event)))
+refused text read name fault event r (inl n) e = inl (e ∙ ap (svf_event name) n)
+refused text read name fault event r (inr is) e = inr (fault, (subst (λ (t : List ℕ). IsSvfOf t (Err fault)) r is, sym e))

@@ -1,0 +1,56 @@
+-- What a run leaves of a flash, and what may be found of it after a power loss at any moment (this project's choice).
+use Rattle.std.specs.Prelude.{◌≡◌, ℕ, List, Option, None, Some, Result, Ok, Err, ◌⊎◌}
+use Rattle.x7_words.specs.Flash.{FlashState, WhereTold}
+use Rattle.x7_words.specs.Input.{InputsState}
+use Rattle.x7_update.specs.After.{IsAfter, MayBeLeft}
+use Rattle.x7_update.specs.Writing.{AtAnyMoment, Becomes}
+use Rattle.x7_recovery.specs.Recovery.{IsPrepared, Updating}
+use Rattle.x7_forms.specs.declared.refusal.Why.{Why}
+use Rattle.x7_forms.specs.declared.refusal.Why.TheVariants as why
+use Rattle.x7_forms.specs.Event.{Event}
+use Rattle.x7_forms.specs.Form.{Asked, flash_use, updated_by}
+use Rattle.x7_forms.specs.Known.{Answer, Known, with_inputs}
+use Rattle.x7_tool.specs.Outcome.{stream_data}
+use Rattle.x7_tool.specs.Outside.{KeepsFlash, Outside, known_in}
+
+-- where the contents are told, these are the data of the stream of this name
+abbrev pub HasData : Option Known → List ℕ → List ℕ → Type 0
+HasData None stream bytes = Unit {0}
+HasData (Some known) stream bytes = stream_data known stream ≡ Ok bytes
+
+-- What may be found of a flash: what it held, or what an update with the data of a stream leaves. Only a form with a stream for it writes a flash.
+abbrev pub MayBeFound : Option Known → Option (List ℕ) → List ℕ → List ℕ → Type 0
+MayBeFound known None flash found = found ≡ flash
+MayBeFound known (Some stream) flash found = (found ≡ flash) ⊎ ((bytes : List ℕ) × HasData known stream bytes × MayBeLeft bytes flash found)
+
+-- what a run does to the flash, and what may be found of it at any moment of the run and is left of it
+pub record UsesFlash (form : Option Asked) (inputs : InputsState) (old new : FlashState) (past since : ℕ → List ℕ → Type 0) : Type 0 where
+  pub keeps : KeepsFlash (flash_use form) old new
+  pub moments : AtAnyMoment old new past since (MayBeFound (with_inputs inputs.contents old.bytes) (updated_by form))
+
+-- what may be found of the flash since a run began with it
+abbrev pub FoundSince : Option Asked → InputsState → FlashState → List ℕ → Type 0
+FoundSince form inputs flash found = WhereTold flash.bytes (λ all. MayBeFound (with_inputs inputs.contents flash.bytes) (updated_by form) all found)
+
+-- A run updates a flash, whose bytes are told, with a stream, whose data are told; a device boots from it, and it is prepared for the update.
+pub record IsUpdateOf (form : Option Asked) (inputs : InputsState) (flash : FlashState) (u : Updating) : Type 0 where
+  pub known : Known
+  pub told : with_inputs inputs.contents flash.bytes ≡ Some known
+  pub name : List ℕ
+  pub updates : updated_by form ≡ Some name
+  pub stream : stream_data known name ≡ Ok u.stream
+  pub bytes : flash.bytes ≡ Some u.flash
+  pub prepared : IsPrepared u
+
+-- by the reason of an update that wasn't done: where it comes before the first write, the bytes stay
+abbrev pub KeepsBytes : Why → FlashState → FlashState → Type 0
+KeepsBytes why.ReadFault old new = Unit {0}
+KeepsBytes why.WriteFault old new = Unit {0}
+KeepsBytes (why.Differs place) old new = Unit {0}
+KeepsBytes reason old new = new.bytes ≡ old.bytes
+
+-- an update that is done leaves the flash as it is after one with the stream's data
+abbrev pub Updates : Option (List ℕ) → Outside → Outside → Result Answer Event → Type 0
+Updates None old new end = Unit {0}
+Updates (Some stream) old new (Ok answer) = (bytes : List ℕ) × HasData (known_in old) stream bytes × Becomes old.flash new.flash (IsAfter bytes)
+Updates (Some stream) old new (Err event) = KeepsBytes event.reason old.flash new.flash

@@ -1,0 +1,6 @@
+-- What playing an SVF text reads, as the definitions see it.
+use Rattle.x7_tool.specs.declared.svf.Given.{Given}
+use Rattle.x7_tool.specs.Outcome.{PlanTexts}
+
+abbrev pub texts_of : Given → PlanTexts
+texts_of g = record { part = g.part; text = g.text.items }

@@ -1,0 +1,53 @@
+//! A flash that a command reads or updates, attached under its name.
+ghost use Rattle.std.specs.Prelude.{◌≡◌, ◌≤◌, IfErr, OnOk, length, true};
+ghost use Rattle.x7_words.specs.Flash.{AsksFor, FlashStays, IsSized, WhereTold};
+ghost use Rattle.x7_boot.specs.Image.{flash_limit};
+ghost use Rattle.x7_forms.specs.Message.{event_of};
+ghost use Rattle.x7_tool.specs.Outside.{ReadsFlash};
+ghost use Rattle.x7_tool.specs.Run.{IsUnattached, IsUnopened};
+
+use x7_forms::{Refusal, Why};
+use x7_words::{FLASH_LIMIT, Flash, SelectFault};
+
+/// Attaches the flash of this name.
+pub(crate) fn attach<'w, F: Flash>(flash: &mut F, name: &'w str) -> Result<(), Refusal<'w>>
+    ensures attached { OnOk result ((F.state flash.new).attached ≡ true) }
+    ensures err { IfErr result (λ r. IsUnattached name.now (F.state flash.old) (F.state flash.new) (event_of r)) }
+    ensures reads { ReadsFlash name.now (F.state flash.old) (F.state flash.new) }
+    ensures stays { FlashStays (F.state flash.old) (F.state flash.new) (F.found_since flash.old) (F.found_since flash.new) }
+    ensures asks { AsksFor (F.state flash.old) name.now (F.state flash.new) }
+    ensures sized { IsSized (F.state flash.new) }
+{
+    match flash.attach(name) {
+        Ok(()) => Ok(()),
+        Err(SelectFault::Missing) => Err(Refusal {
+            reason: Why::Missing,
+            name,
+        }),
+        Err(SelectFault::Failed) => Err(Refusal {
+            reason: Why::ReadFault,
+            name,
+        }),
+    }
+}
+
+/// Attaches the flash of this name, which is no larger than a flash may be.
+pub(crate) fn open_flash<'w, F: Flash>(flash: &mut F, name: &'w str) -> Result<(), Refusal<'w>>
+    ensures attached { OnOk result ((F.state flash.new).attached ≡ true) }
+    ensures within { OnOk result (WhereTold (F.state flash.new).bytes (λ all. length all ≤ flash_limit)) }
+    ensures err { IfErr result (λ r. IsUnopened name.now (F.state flash.old) (F.state flash.new) (event_of r)) }
+    ensures stays { FlashStays (F.state flash.old) (F.state flash.new) (F.found_since flash.old) (F.found_since flash.new) }
+    ensures asks { AsksFor (F.state flash.old) name.now (F.state flash.new) }
+{
+    match attach(flash, name) {
+        Ok(()) => (),
+        Err(refusal) => return Err(refusal),
+    }
+    if flash.size() > FLASH_LIMIT {
+        return Err(Refusal {
+            reason: Why::TooLarge,
+            name,
+        });
+    }
+    Ok(())
+}

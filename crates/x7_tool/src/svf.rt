@@ -1,0 +1,125 @@
+//! The command `svf`.
+ghost use Rattle.std.specs.Prelude.{◌≡◌, ◌⊎◌, ◌≤◌, ◌||◌, ℕ, [], ◌∷◌, Ok, Err, IfErr, IfOk, vec_len};
+ghost use Rattle.x7_forms.specs.Message.{event_of};
+ghost use Rattle.x7_forms.specs.Event.{no_memory};
+ghost use Rattle.x7_forms.specs.Play.{text_of_play};
+ghost use Rattle.x7_forms.specs.Step.{AnswersAs, AnswersBy, seen};
+ghost use Rattle.x7_jtag.specs.Svf.{IsSvfOf};
+ghost use Rattle.x7_jtag.specs.declared.fault.SvfFault.{SvfFault as FaultData};
+ghost use Rattle.x7_tool.specs.Outcome.{PlayedSvf, plan_texts, svf_answer, svf_event};
+ghost use Rattle.x7_tool.specs.Svf.{texts_of};
+
+use std::alloc::Global;
+use x7_engine::Device;
+use x7_forms::{InputFault, PlayText, Refusal, TEXT_LIMIT, Why, read_part, read_whole};
+use x7_jtag::{Svf, SvfFault, Tap, play_line, play_svf, svf_from};
+use x7_part::Part;
+use x7_words::{Inputs, NoMemory};
+
+/// What playing an SVF text reads: a part, and the text.
+#[derive(Drop)]
+pub(crate) struct Given {
+    part: Part,
+    text: Vec<u8>,
+}
+
+/// Why a text gives no statements.
+fn refusal_of<'w>(name: &'w str, fault: SvfFault) -> Refusal<'w>
+    ensures { event_of result ≡ svf_event name.now fault }
+{
+    match fault {
+        SvfFault::Line(line) => Refusal {
+            reason: Why::BadInput(InputFault::Line(line)),
+            name,
+        },
+        SvfFault::NoMemory => Refusal::unnamed(Why::NoMemory),
+    }
+}
+
+/// Reads the inputs in the order of the words.
+fn read_given<'w, I: Inputs>(
+    alloc: Global,
+    inputs: &mut I,
+    part: &'w str,
+    text: &'w str,
+) -> Result<Given, Refusal<'w>>
+    ensures given { AnswersAs (part.now ∷ text.now ∷ []) (I.state inputs.old) (I.state inputs.new)
+        (λ known. plan_texts known part.now text.now) (seen texts_of result) }
+    ensures within { IfOk result (λ given. vec_len given.text ≤ 536870912) }
+{
+    let part = match read_part(alloc, inputs, part) {
+        Ok(part) => part,
+        Err(refusal) => return Err(refusal),
+    };
+    match read_whole(alloc, inputs, text, TEXT_LIMIT) {
+        Ok(text) => Ok(Given { part, text }),
+        Err(refusal) => Err(refusal),
+    }
+}
+
+/// The statements of a text, which is given up for them.
+fn statements_of<'w>(alloc: Global, text: Vec<u8>, name: &'w str) -> Result<Svf, Refusal<'w>>
+    requires { vec_len text ≤ 536870912 }
+    ensures ok { IfOk result (λ svf. IsSvfOf text.items (Ok svf)) }
+    ensures err { IfErr result (λ r. (event_of r ≡ no_memory) ⊎ ((fault : FaultData) × (IsSvfOf text.items (Err fault) × (svf_event name.now fault ≡ event_of r)))) }
+{
+    match svf_from(alloc, text) {
+        Ok(svf) => Ok(svf),
+        Err(fault) => Err(refusal_of(name, fault)),
+    }
+}
+
+fn either(one: bool, other: bool) -> bool
+    ensures { result ≡ (one || other) }
+{
+    one || other
+}
+
+/// What statements come to on a new device of the part, ready to be written: the line of what differs first, and the device's
+/// report.
+fn played(alloc: Global, part: &Part, svf: &Svf) -> Result<PlayText, NoMemory>
+    ensures { IfOk result (λ text. text_of_play text ≡ svf_answer part.now svf.now) }
+{
+    let mut device = Device::new(alloc, part)?;
+    let mut tap = Tap::new();
+    let differ = play_svf(svf, &mut tap, &mut device);
+    let stopped = either(differ.is_some(), device.fault().is_some());
+    let mut line = Vec::new(alloc);
+    play_line(&mut line, differ)?;
+    let report = PlayText::new(alloc, device, &[], stopped)?;
+    let text = report.after(line)?;
+    Ok(text)
+}
+
+/// The text of an SVF text's part and bytes.
+fn text_of<'w>(alloc: Global, given: Given, name: &'w str) -> Result<PlayText, Refusal<'w>>
+    requires { vec_len given.text ≤ 536870912 }
+    ensures ok { IfOk result (λ text. PlayedSvf name.now (Ok (texts_of given)) (Ok (text_of_play text))) }
+    ensures err { IfErr result (λ r. (event_of r ≡ no_memory) ⊎ PlayedSvf name.now (Ok (texts_of given)) (Err (event_of r))) }
+{
+    let Given { part, text } = given;
+    let svf = match statements_of(alloc, text, name) {
+        Ok(svf) => svf,
+        Err(refusal) => return Err(refusal),
+    };
+    match played(alloc, &part, &svf) {
+        Ok(text) => Ok(text),
+        Err(_) => Err(Refusal::unnamed(Why::NoMemory)),
+    }
+}
+
+/// The text of `svf PART TEXT`: what the SVF text does, played on the test access port of a new device.
+pub(crate) fn svf<'w, I: Inputs>(
+    alloc: Global,
+    inputs: &mut I,
+    part: &'w str,
+    text: &'w str,
+) -> Result<PlayText, Refusal<'w>>
+    ensures { AnswersBy (part.now ∷ text.now ∷ []) (I.state inputs.old) (I.state inputs.new)
+        (λ known end. PlayedSvf text.now (plan_texts known part.now text.now) end) (seen text_of_play result) }
+{
+    match read_given(alloc, inputs, part, text) {
+        Ok(given) => text_of(alloc, given, text),
+        Err(refusal) => Err(refusal),
+    }
+}

@@ -1,0 +1,80 @@
+//! The command `update`: a flash gets another update stream, and may lose its power at any moment.
+ghost use Rattle.std.specs.Prelude.{◌≡◌, ℕ, List, Some};
+ghost use Rattle.x7_forms.specs.Form.{Updating};
+ghost use Rattle.x7_forms.specs.Message.{event_of};
+ghost use Rattle.x7_forms.specs.Step.{seen};
+ghost use Rattle.x7_tool.specs.Leaving.{UsesFlash};
+ghost use Rattle.x7_tool.specs.Outcome.{update_event};
+ghost use Rattle.x7_tool.specs.Outside.{Outside};
+ghost use Rattle.x7_tool.specs.Run.{EndsAs};
+ghost use Rattle.x7_update.specs.declared.fault.UpdateFault.TheVariants.{Failed};
+
+use crate::attach::open_flash;
+use crate::stream::read_stream;
+use std::alloc::Global;
+use x7_forms::{InputFault, Refusal, Why};
+use x7_update::UpdateFault;
+use x7_words::{Flash, Inputs};
+
+/// A write of the flash failed, or a read.
+fn failed<'w>(flash: &'w str, writing: bool) -> Refusal<'w>
+    ensures { (stream : List ℕ) → event_of result ≡ update_event (record { flash = flash.now; stream = stream }) (Failed writing) }
+{
+    if writing {
+        return Refusal::unnamed(Why::WriteFault);
+    }
+    Refusal {
+        reason: Why::ReadFault,
+        name: flash,
+    }
+}
+
+/// Why a flash wasn't updated.
+fn refusal_of<'w>(flash: &'w str, stream: &'w str, fault: UpdateFault) -> Refusal<'w>
+    ensures { event_of result ≡ update_event (record { flash = flash.now; stream = stream.now }) fault }
+{
+    match fault {
+        UpdateFault::Failed { writing } => failed(flash, writing),
+        UpdateFault::TooLong => Refusal {
+            reason: Why::BadInput(InputFault::Long),
+            name: stream,
+        },
+        UpdateFault::NoLayout(place) => Refusal {
+            reason: Why::BadInput(InputFault::Layout(place)),
+            name: flash,
+        },
+        UpdateFault::Differs { place, .. } => Refusal {
+            reason: Why::Differs(place),
+            name: flash,
+        },
+        UpdateFault::NoMemory => Refusal::unnamed(Why::NoMemory),
+    }
+}
+
+/// Updates the flash of `update FLASH STREAM` with the stream's data. No text is written.
+pub(crate) fn update<'w, I: Inputs, F: Flash>(
+    alloc: Global,
+    inputs: &mut I,
+    flash: &mut F,
+    name: &'w str,
+    stream: &'w str,
+) -> Result<bool, Refusal<'w>>
+    ensures ends { (before after : Outside) → after.out ≡ before.out → EndsAs (Some (Updating name.now stream.now))
+        (record before { inputs = I.state inputs.old; flash = F.state flash.old })
+        (record after { inputs = I.state inputs.new; flash = F.state flash.new }) (seen (λ stopped. stopped) result) }
+    ensures flash { UsesFlash (Some (Updating name.now stream.now)) (I.state inputs.old) (F.state flash.old) (F.state flash.new)
+        (F.found_since flash.old) (F.found_since flash.new) }
+{
+    match open_flash(flash, name) {
+        Ok(()) => (),
+        Err(refusal) => return Err(refusal),
+    }
+    let read = match read_stream(alloc, inputs, stream) {
+        Ok(read) => read,
+        Err(refusal) => return Err(refusal),
+    };
+    match x7_update::update(alloc, flash, &read.bytes[read.start..]) {
+        Ok(()) => Ok(false),
+        Err(fault) => Err(refusal_of(name, stream, fault)),
+    }
+}
