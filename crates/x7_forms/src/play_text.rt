@@ -1,13 +1,11 @@
 //! The report of a play, ready to be written: the lines of its frames are made as they are written.
-ghost use Rattle.std.specs.Prelude.{◌≡◌, ◌++◌, ◌+◌, ◌*◌, ◌≤◌, ℕ, List, Bool, length, vec_len, vec_capacity, IfOk, OnErr, OnOk};
-ghost use Rattle.std.specs.List.{flat_map};
+ghost use Rattle.std.specs.Prelude.{◌≡◌, ◌++◌, ◌+◌, ◌*◌, ◌≤◌, length, vec_len, vec_capacity, IfOk, OnErr, OnOk};
 ghost use Rattle.x7_words.specs.Sink.{Counts, PutsAll, PutsSome, SinkFails};
 ghost use Rattle.x7_text.specs.Appends.{Appends};
-ghost use Rattle.x7_part.specs.Part.{PartData};
 ghost use Rattle.x7_memory.specs.Frames.{AreFramesOf, frame_at};
-ghost use Rattle.x7_engine.specs.declared.kept.Kept.{Kept};
-ghost use Rattle.x7_engine.specs.Standing.{DeviceStandsFor, NoWordDue, frames_due};
-ghost use Rattle.x7_engine.specs.State.{memory_in, state_of, state_owing};
+ghost use Rattle.x7_engine.specs.Past.{OfPast, memory_at, state_at};
+ghost use Rattle.x7_engine.specs.Standing.{NoWordDue, frames_due};
+ghost use Rattle.x7_engine.specs.State.{state_owing};
 ghost use Rattle.x7_forms.specs.Report.{line_of, lines_text, report_text};
 
 use crate::reports::{report_head, shown_frames};
@@ -108,10 +106,9 @@ impl PlayText {
         reads: &[u32],
         stopped: bool,
     ) -> Result<PlayText, NoMemory>
-        ensures value { IfOk result (λ text. (part : PartData) (kept : Kept) (wrapped : Bool) (bytes : List ℕ) → DeviceStandsFor part kept wrapped device bytes → NoWordDue device
-            → text ≡ record { stopped = stopped; text = report_text part (state_of part kept wrapped bytes) reads.now (memory_in part kept bytes) }) }
-        ensures owing { IfOk result (λ text. (part : PartData) (kept : Kept) (wrapped : Bool) (bytes : List ℕ) → DeviceStandsFor part kept wrapped device bytes
-            → text ≡ record { stopped = stopped; text = report_text part (state_owing part kept wrapped bytes (frames_due device.registers.due)) reads.now (memory_in part kept bytes) }) }
+        ensures value { IfOk result (λ text. OfPast device (λ p. NoWordDue device → text ≡ record { stopped = stopped; text = report_text p.part (state_at p) reads.now (memory_at p) })) }
+        ensures owing { IfOk result (λ text. OfPast device (λ p.
+            text ≡ record { stopped = stopped; text = report_text p.part (state_owing p.part p.kept p.wrapped p.bytes (frames_due device.registers.due)) reads.now (memory_at p) })) }
     {
         let fars = shown_frames(alloc, device.part(), device.memory())?;
         let head = report_head(alloc, &device, reads, fars.len())?;

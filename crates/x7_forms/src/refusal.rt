@@ -84,7 +84,10 @@ fn say_differs<E: Sink>(err: &mut E, name: &str, place: u64) -> Result<(), Faile
 {
     let mut buffer = Buffer::new();
     let place = buffer.format(place).as_bytes();
-    write_pieces(err, &[b"x7: differs ", name.as_bytes(), b": byte ", place, b"\n"])
+    write_pieces(
+        err,
+        &[b"x7: differs ", name.as_bytes(), b": byte ", place, b"\n"],
+    )
 }
 
 /// Why a command has no whole text, with the name of the input concerned, which is empty where none is.

@@ -1,13 +1,12 @@
 //! The report of a device.
-ghost use Rattle.std.specs.Prelude.{◌≡◌, ◌++◌, ◌+◌, ◌<◌, ◌≤◌, ℕ, List, [], ◌∷◌, slice_index, codes, decimal, Bool, length, vec_len, vec_capacity, IfOk, OnErr, OnOk};
+ghost use Rattle.std.specs.Prelude.{◌≡◌, ◌++◌, ◌+◌, ◌<◌, [], ◌∷◌, slice_index, codes, decimal, length, IfOk, OnErr, OnOk};
 ghost use Rattle.std.specs.List.{flat_map};
 ghost use Rattle.x7_part.specs.AddressOrder.{addresses_in};
-ghost use Rattle.x7_part.specs.Part.{PartData};
 ghost use Rattle.x7_memory.specs.Frames.{AreFramesOf, frame_at};
 ghost use Rattle.x7_text.specs.Row.{data_text};
-ghost use Rattle.x7_engine.specs.declared.kept.Kept.{Kept};
-ghost use Rattle.x7_engine.specs.Standing.{DeviceStandsFor, NoWordDue, frames_due};
-ghost use Rattle.x7_engine.specs.State.{memory_in, state_of, state_owing};
+ghost use Rattle.x7_engine.specs.Past.{OfPast, memory_at, state_at};
+ghost use Rattle.x7_engine.specs.Standing.{NoWordDue, frames_due};
+ghost use Rattle.x7_engine.specs.State.{state_owing};
 ghost use Rattle.x7_forms.specs.Report.{frames_text, is_blank, is_shown, line_of, reads_text, report_text, shown, state_text};
 
 use std::alloc::Global;
@@ -190,10 +189,10 @@ pub(crate) fn report_head(
     reads: &[u32],
     count: usize,
 ) -> Result<Vec<u8>, NoMemory>
-    ensures value { IfOk result (λ text. (part : PartData) (kept : Kept) (wrapped : Bool) (bytes : List ℕ) → DeviceStandsFor part kept wrapped device.now bytes → NoWordDue device.now
-        → text.items ≡ state_text part.name (state_of part kept wrapped bytes) ++ reads_text reads.now ++ codes "frames " ++ decimal count ++ codes "\n") }
-    ensures owing { IfOk result (λ text. (part : PartData) (kept : Kept) (wrapped : Bool) (bytes : List ℕ) → DeviceStandsFor part kept wrapped device.now bytes
-        → text.items ≡ state_text part.name (state_owing part kept wrapped bytes (frames_due device.now.registers.due)) ++ reads_text reads.now ++ codes "frames " ++ decimal count ++ codes "\n") }
+    ensures value { IfOk result (λ text. OfPast device.now (λ p. NoWordDue device.now
+        → text.items ≡ state_text p.part.name (state_at p) ++ reads_text reads.now ++ codes "frames " ++ decimal count ++ codes "\n")) }
+    ensures owing { IfOk result (λ text. OfPast device.now (λ p.
+        text.items ≡ state_text p.part.name (state_owing p.part p.kept p.wrapped p.bytes (frames_due device.now.registers.due)) ++ reads_text reads.now ++ codes "frames " ++ decimal count ++ codes "\n")) }
 {
     let mut text = Vec::new(alloc);
     put_state(&mut text, device.part().name(), &device.state())?;
@@ -208,8 +207,8 @@ pub(crate) fn report_head(
 /// words in `data` lines of eight; `frames N` and the `frame` lines of all frames that have a word other than 0.
 #[tactic(auto, unfolding(crate::specs::Report::report_text))]
 pub fn report(alloc: Global, device: &Device, reads: &[u32]) -> Result<Vec<u8>, NoMemory>
-    ensures { IfOk result (λ text. (part : PartData) (kept : Kept) (wrapped : Bool) (bytes : List ℕ) → DeviceStandsFor part kept wrapped device.now bytes → NoWordDue device.now
-        → text.items ≡ report_text part (state_of part kept wrapped bytes) reads.now (memory_in part kept bytes)) }
+    ensures { IfOk result (λ text. OfPast device.now (λ p. NoWordDue device.now
+        → text.items ≡ report_text p.part (state_at p) reads.now (memory_at p))) }
 {
     let mut text = Vec::new(alloc);
     put_state(&mut text, device.part().name(), &device.state())?;
