@@ -1,24 +1,28 @@
 -- A stream's first bytes, by which its header is judged.
-use Rattle.std.proofs.Common.{◌≡◌, ◌⊎◌, ℕ, ◌+◌, ◌-◌, ◌<◌, ◌≤◌, Bool, true, false, List, [], ◌∷◌, ◌++◌, Ok, Err, Option, None, Some, inl, inr, length, drop, refl, ap, sym, subst, ◌∙◌, arith, append_assoc, append-nil, length-append}
+use Rattle.std.proofs.Common.{◌≡◌, ◌⊎◌, ℕ, ◌+◌, ◌-◌, ◌<◌, ◌≤◌, Bool, true, false, List, [], ◌∷◌, ◌++◌, Result, Ok, Err, Option, None, Some, inl, inr, length, drop, refl, ap, sym, subst, ◌∙◌, arith, append_assoc, append-nil, length-append}
 use Rattle.std.specs.Prelude.{MatchOption, nat_eq, nat_le}
 use Rattle.std.proofs.lemmas.Bool.{leb-true}
 use Rattle.std.specs.List.{starts_with}
 use Rattle.std.proofs.Math.Seq.{drop-append_seam}
 use Rattle.x7_words.specs.Input.{InputsState, AtEnd, Stays, Takes, preceded}
+use Rattle.x7_words.specs.Word.{AreBytes}
 use Rattle.x7_words.proofs.CountLemmas.{risen_from}
 use Rattle.x7_words.proofs.InputLemmas.{preceded-preceded}
 use Rattle.x7_words.proofs.ListLemmas.{shorter_front}
 use Rattle.x7_header.specs.Header.{Contents, EndsInHeader, listed, fixed_bytes, HasOtherLetter, HasOtherLetterAt, HaveHeader, fields_bytes, header_bytes, layout}
 use Rattle.x7_header.specs.Reading.{HeaderWaits, header_at}
+use Rattle.x7_header.specs.declared.fault.HeaderFault.{HeaderFault}
 use Rattle.x7_header.specs.declared.fault.HeaderFault.TheVariants as header
-use Rattle.x7_header.proofs.HeaderLemmas.{err_is, header_again, header_refused, ok_not_err, raw_at}
+use Rattle.x7_header.proofs.CutLemmas.{is_cut}
+use Rattle.x7_header.proofs.HeaderLemmas.{err_is, field_at_place, header_again, header_refused, ok_not_err, raw_at}
 use Rattle.x7_listing.specs.BitLine.{bit_text}
 use Rattle.x7_listing.specs.Listing.{listing_of}
 use Rattle.x7_listing.specs.StreamListing.{listing_by, stream_listing}
 use Rattle.x7_listing.proofs.BitLemmas.{header-limit}
-use Rattle.x7_forms.specs.Event.{Event, too_large}
+use Rattle.x7_forms.specs.Event.{Event, read_fault, too_large}
 use Rattle.x7_forms.specs.Known.{stream_limit}
-use Rattle.x7_forms.specs.Turn.{BeginAt, FrontRead, HoldsFew, IsFront, IsRefused, Reads, RefusedAt, Unfronted, Unread}
+use Rattle.x7_forms.specs.Turn.{BeginAt, FrontRead, HoldsFew, IsFront, IsRefused, NoLetterGiven, Reads, RefusedAt, Unfronted, Unread}
+use Rattle.x7_forms.proofs.HeadLemmas.{gives_self}
 use Rattle.x7_forms.proofs.ReadLemmas.{reads_as, reads_on}
 
 -- a stream that begins as no header does
@@ -139,16 +143,24 @@ holds_few old piece bytes n start p (inr (zero, raw)) = elim p.waiting [
   | inr inside ↦ absurd (raw (inside.after ++ piece) (p.joined ∙ ap (λ b. b ++ piece) inside.fixed_are ∙ append_assoc fixed_bytes inside.after piece))
 ]
 
-pub refused_soon : (old piece bytes : List ℕ) (n place : ℕ) → IsPiece old piece bytes n → RefusedAt bytes place → length bytes ≤ place + 1
-refused_soon old piece bytes n place p (inl e) = omega (arith, e)
-refused_soon old piece bytes n place p (inr h) =
+-- the bytes up to a wrong letter, which judge a header
+record LetterFront (bytes : List ℕ) (place : ℕ) : Type 0 where
+  front : List ℕ
+  more : List ℕ
+  parts : bytes ≡ front ++ more
+  size : length front ≡ place + 1
+  long : 13 ≤ length front
+  judges : Judge front
+
+letter_front : (bytes : List ℕ) (place : ℕ) → HasOtherLetterAt bytes place → LetterFront bytes place
+letter_front bytes place h =
     let o : HasOtherLetter layout h.0 (length bytes - place) = h.3 in
     let before = fields_bytes o.done o.contents in
     let after = before ++ o.other ∷ [] in
     let front = fixed_bytes ++ after in
     let e : bytes ≡ front ++ o.rest = h.1 ∙ ap (λ b. fixed_bytes ++ b) (o.bytes_are ∙ sym (append_assoc before (o.other ∷ []) o.rest)) ∙ sym (append_assoc fixed_bytes after o.rest) in
-    let long : length bytes ≡ length front + length o.rest = omega (arith, ap length e, length-append front o.rest) in
-    let at : length front ≡ place + 1 = omega (arith, long, h.2, o.left_is) in
+    let all : length bytes ≡ length front + length o.rest = omega (arith, ap length e, length-append front o.rest) in
+    let at : length front ≡ place + 1 = omega (arith, all, h.2, o.left_is) in
     let there : HasOtherLetterAt front place = (
       after,
       refl,
@@ -167,8 +179,74 @@ refused_soon old piece bytes n place p (inr h) =
         differs = o.differs;
       },
     ) in
-    let none = first_judged old piece bytes front o.rest n p (fixed_long after) e (letter_judges front place there) in
-    omega (arith, long, at, ap length none)
+    record { front = front; more = o.rest; parts = e; size = at; long = fixed_long after; judges = letter_judges front place there }
+
+pub refused_soon : (old piece bytes : List ℕ) (n place : ℕ) → IsPiece old piece bytes n → RefusedAt bytes place → length bytes ≤ place + 1
+refused_soon old piece bytes n place p (inl e) = omega (arith, e)
+refused_soon old piece bytes n place p (inr h) =
+    let f = letter_front bytes place h in
+    let none = first_judged old piece bytes f.front f.more n p f.long f.parts f.judges in
+    omega (arith, f.size, ap length f.parts, ap length none, length-append f.front f.more)
+
+-- ---- a fault before the header is judged
+
+-- what judges a header goes on behind bytes that wait for so many, up to the last of them at least
+judged_late : (old rest front more : List ℕ) (n : ℕ) (b : Bool) → nat_le (length front) (length old) ≡ b → HeaderWaits old n → 0 < n → old ++ rest ≡ front ++ more → Judge front → length front < length old + n → ⊥
+judged_late old rest front more n true l w p e j k =
+    let s = shorter_front front old more rest (leb-true _ _ l) (sym e) in
+    j s.0 (length (old ++ [])) (ap header_at (sym s.1 ∙ sym (append-nil old)) ∙ w [] p)
+judged_late old rest front more n false l w p e j k =
+    let less : length old ≤ length front = grind (arith, l) in
+    let s = shorter_front old front rest more less e in
+    let long : length s.0 < n = omega (arith, k, ap length s.1, length-append old s.0) in
+    j [] (length (old ++ s.0)) (ap header_at (append-nil front ∙ s.1) ∙ w s.0 long)
+
+-- a wrong letter stands no earlier than the last byte that was asked for
+pub letter_late : (old rest all : List ℕ) (n place : ℕ) → 0 < n → all ≡ old → (length all < 13 → length all + n ≡ 13) → (EndsInHeader all → HeaderWaits all n) → (0 < length old → EndsInHeader old)
+    → HasOtherLetterAt (old ++ rest) place → length old + n ≤ place + 1
+letter_late [] rest all n place some e fixed waits waiting h =
+    let f = letter_front rest place h in
+    omega (arith, ap length e, fixed, f.long, f.size)
+letter_late (x ∷ old) rest all n place some e fixed waits waiting h =
+    let f = letter_front ((x ∷ old) ++ rest) place h in
+    let w : HeaderWaits (x ∷ old) n = subst (λ (o : List ℕ). EndsInHeader o → HeaderWaits o n) e waits (waiting (omega arith)) in
+    by (nat_le (length (x ∷ old) + n) (place + 1)) refl f w
+  where
+    by : (b : Bool) → nat_le (length (x ∷ old) + n) (place + 1) ≡ b → LetterFront ((x ∷ old) ++ rest) place → HeaderWaits (x ∷ old) n → length (x ∷ old) + n ≤ place + 1
+    by true l f w = leb-true _ _ l
+    by false l f w =
+        let less : place + 1 < length (x ∷ old) + n = grind (arith, l) in
+        absurd (judged_late (x ∷ old) rest f.front f.more n (nat_le (length f.front) (length (x ∷ old))) refl w some f.parts f.judges (omega (arith, f.size, less)))
+
+-- none was given where the bytes before are those that were read, and fewer than so many more were given
+pub none_given : (old mid new : InputsState) (bytes all : List ℕ) (n count : ℕ) → 0 < n → count ≤ n → all ≡ bytes → (length all < 13 → length all + n ≡ 13) → (EndsInHeader all → HeaderWaits all n) → (0 < length bytes → EndsInHeader bytes)
+    → Reads old bytes mid → new.given < mid.given + count → NoLetterGiven old new
+none_given old mid new bytes all n count some few e fixed waits waiting r g told place is h = by mid.rest refl
+  where
+    by : (rest : Option (List ℕ)) → mid.rest ≡ rest → new.given ≤ old.given + place
+    by None m = let none : None ≡ Some told = ap (preceded bytes) (sym m) ∙ sym r.takes.taken ∙ is in absurd cc
+    by (Some rest) m =
+        let same : Some (bytes ++ rest) ≡ Some told = ap (preceded bytes) (sym m) ∙ sym r.takes.taken ∙ is in
+        let whole : told ≡ bytes ++ rest = cc in
+        let late = letter_late bytes rest all n place some e fixed waits waiting (subst (λ (b : List ℕ). HasOtherLetterAt b place) whole h) in
+        omega (arith, g, few, r.takes.given, late)
+
+-- a header that is refused at a byte that is there is refused at a wrong letter
+pub letter_there : (bytes : List ℕ) (place : ℕ) → AreBytes bytes → stream_listing bytes ≡ Err place → place < length bytes → HasOtherLetterAt bytes place
+letter_there bytes place fits e l = by (header_at bytes) refl
+  where
+    by : (r : Result (Contents × ℕ) HeaderFault) → header_at bytes ≡ r → HasOtherLetterAt bytes place
+    by (Ok head) h = let no : listing_by bytes (Ok head) ≡ Err place = sym (ap (listing_by bytes) h) ∙ e in absurd cc
+    by (Err header.Raw) h = let no : listing_by bytes (Err header.Raw) ≡ Err place = sym (ap (listing_by bytes) h) ∙ e in absurd cc
+    by (Err (header.Field at)) h =
+        let same : listing_by bytes (Err (header.Field at)) ≡ Err place = sym (ap (listing_by bytes) h) ∙ e in
+        let there : at ≡ place = cc in
+        subst (HasOtherLetterAt bytes) there (field_at_place bytes at (starts_with nat_eq bytes fixed_bytes) fits refl h)
+    by (Err (header.Cut at)) h =
+        let same : listing_by bytes (Err (header.Cut at)) ≡ Err place = sym (ap (listing_by bytes) h) ∙ e in
+        let there : at ≡ place = cc in
+        let end = ((is_cut (λ (x : Contents × ℕ). x) (header_at bytes) bytes fits (gives_self (header_at bytes)) at).0 h).0 in
+        absurd (omega (arith, end, there, l))
 
 -- what a value that was found has
 pub found_some : {A : Type 0} (found : Option A) (x : A) (P : Type 0) (Q : A → Type 0) → found ≡ Some x → MatchOption found P Q → Q x
@@ -214,10 +292,10 @@ front_read old mid piece bytes line n start last s0 s1 s2 p a b r t q k e few sh
     })
 
 -- a turn that was not read, before the header was judged
-pub unfronted_turn : (old mid new : InputsState) (name bytes : List ℕ) (left : ℕ) (event : Event) → Reads old bytes mid → length bytes + left ≡ stream_limit → new.asked ≡ mid.asked → (event ≡ too_large name → ⊥) → Unread mid name new left event → Unfronted old name new event
-unfronted_turn old mid new name bytes left event r n q small (inl h) =
-    inr (inl (h.0, record { risen = risen_from old.faults mid.faults new.faults r.stays.faults h.1.risen; selected = h.1.selected; given = omega (arith, n, r.takes.given, h.1.given) }, q ∙ r.asked))
-unfronted_turn old mid new name bytes left event r n q small (inr h) = absurd (small h.0)
+pub unfronted_turn : (old mid new : InputsState) (name bytes : List ℕ) (left : ℕ) (event : Event) → Reads old bytes mid → length bytes + left ≡ stream_limit → new.asked ≡ mid.asked → (event ≡ too_large name → ⊥) → (event ≡ read_fault name → NoLetterGiven old new) → Unread mid name new left event → Unfronted old name new event
+unfronted_turn old mid new name bytes left event r n q small late (inl h) =
+    inr (inl (h.0, record { risen = risen_from old.faults mid.faults new.faults r.stays.faults h.1.risen; selected = h.1.selected; given = omega (arith, n, r.takes.given, h.1.given) }, q ∙ r.asked, late h.0))
+unfronted_turn old mid new name bytes left event r n q small late (inr h) = absurd (small h.0)
 
 -- what was read, by its parts
 pub reads_by : (old new : InputsState) (bytes : List ℕ) → new.selected ≡ true → old.rest ≡ preceded bytes new.rest → new.given ≤ old.given + length bytes → new.asked ≡ old.asked → Stays old new → Reads old bytes new

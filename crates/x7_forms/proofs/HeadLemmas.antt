@@ -69,7 +69,7 @@ other_more bytes more place (after, are, within, w) = (
 field_more : (bytes more : List ℕ) (place : ℕ) → AreBytes bytes → header_at bytes ≡ Err (header.Field place) → header_at (bytes ++ more) ≡ Err (header.Field place)
 field_more bytes more place fits e = header_refused (bytes ++ more) place (other_more bytes more place (field_at_place bytes place (starts_with nat_eq bytes fixed_bytes) fits refl e))
 
-gives_self : {X : Type 0} (r : Result X HeaderFault) → Gives (λ x. x) r r
+pub gives_self : {X : Type 0} (r : Result X HeaderFault) → Gives (λ x. x) r r
 gives_self (Ok x) = refl
 gives_self (Err e) = refl
 

@@ -44,6 +44,17 @@ HasPlayed part bytes p = HasPlayedBy p.over part bytes p.device p.buffer p.reads
 abbrev pub PlaysOn : Player → Player → List ℕ → Type 0
 PlaysOn old new more = (part : PartData) (bytes : List ℕ) → HasPlayed part bytes old → HasPlayed part (bytes ++ more) new
 
+-- this holds of some first bytes of a piece
+pub record OfFront (piece : List ℕ) (Holds : List ℕ → Type 0) : Type 0 where
+  pub front : List ℕ
+  pub left : List ℕ
+  pub parts : piece ≡ front ++ left
+  pub holds : Holds front
+
+-- its device was given these bytes more; words that they read out may be due
+abbrev pub PlaysFront : Player → Player → List ℕ → Type 0
+PlaysFront old new front = (part : PartData) (bytes : List ℕ) → HasPlayed part bytes old → Plays part (bytes ++ front) new.device new.reads.items
+
 -- with so many bytes more it was given no more than a device counts
 abbrev pub MayPlayBy : Bool → DeviceState → ReadBufState → List ℕ → ℕ → Type 0
 MayPlayBy over d buffer reads count = (part : PartData) × ((bytes : List ℕ) × (HasPlayedBy over part bytes d buffer reads × (length bytes + count ≤ 2 ^ 63)))

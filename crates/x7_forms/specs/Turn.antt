@@ -1,5 +1,5 @@
 -- Inputs that are read turn by turn.
-use Rattle.std.specs.Prelude.{◌≡◌, ◌≢◌, ◌<◌, ◌≤◌, ◌⊎◌, ◌++◌, ℕ, Bool, true, false, List, [], Option, Ok, Err, IfSome, drop, length, ◌+◌}
+use Rattle.std.specs.Prelude.{◌≡◌, ◌≢◌, ◌<◌, ◌≤◌, ◌⊎◌, ◌++◌, ℕ, Bool, true, false, List, [], Some, Ok, Err, IfSome, drop, length, ◌+◌}
 use Rattle.x7_words.specs.Input.{InputsState, AtEnd, Fails, Misses, Stays, Takes, preceded}
 use Rattle.x7_header.specs.Header.{Contents, HasOtherLetterAt, HaveHeader, fixed_bytes, header_bytes}
 use Rattle.x7_forms.specs.Event.{Event, bad_input, missing, no_memory, read_fault, too_large}
@@ -90,6 +90,14 @@ pub record IsBadFront (old new : InputsState) (name : List ℕ) (event : Event) 
   -- none behind the byte at which the header is refused
   pub soon : length bytes ≤ place + 1
 
+-- where what is left of an open input is told, and another letter stands in it than its header's, that one was not given
+abbrev pub NoLetterGiven : InputsState → InputsState → Type 0
+NoLetterGiven old new = (bytes : List ℕ) (place : ℕ) → old.rest ≡ Some bytes → HasOtherLetterAt bytes place → new.given ≤ old.given + place
+
+-- a stream's front was not read, since the inputs failed before its header was judged
+abbrev pub BreaksFront : InputsState → List ℕ → InputsState → Event → Type 0
+BreaksFront old name new event = (event ≡ read_fault name) × Breaks old (stream_limit + 1) new × (new.asked ≡ old.asked) × NoLetterGiven old new
+
 -- a stream's front was not read: want of memory, the inputs failed, or the header is refused
 abbrev pub Unfronted : InputsState → List ℕ → InputsState → Event → Type 0
-Unfronted old name new event = (event ≡ no_memory) ⊎ (((event ≡ read_fault name) × Breaks old (stream_limit + 1) new × (new.asked ≡ old.asked)) ⊎ IsBadFront old new name event)
+Unfronted old name new event = (event ≡ no_memory) ⊎ (BreaksFront old name new event ⊎ IsBadFront old new name event)

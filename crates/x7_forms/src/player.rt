@@ -1,10 +1,10 @@
 //! A device that plays bytes piece by piece, and the words that it reads out.
-ghost use Rattle.std.specs.Prelude.{◌≡◌, ◌++◌, ◌+◌, ◌<◌, ◌≤◌, ◌⊎◌, ℕ, List, [], true, false, Ok, Err, length, vec_len, IfErr, IfOk, OnOk};
+ghost use Rattle.std.specs.Prelude.{◌≡◌, ◌++◌, ◌+◌, ◌<◌, ◌≤◌, ◌⊎◌, ℕ, List, [], true, false, Ok, Err, length, vec_capacity, vec_len, IfErr, IfOk, OnErr, OnOk};
 ghost use Rattle.x7_part.specs.Part.{PartData};
 ghost use Rattle.x7_forms.specs.Event.{no_memory, too_many_reads};
 ghost use Rattle.x7_forms.specs.Message.{event_of};
 ghost use Rattle.x7_forms.specs.Known.{reported};
-ghost use Rattle.x7_forms.specs.Play.{HasPlayed, HasPlayedBy, MayPlay, MayPlayBy, PlaysOn, text_of_play};
+ghost use Rattle.x7_forms.specs.Play.{HasPlayed, HasPlayedBy, MayPlay, MayPlayBy, OfFront, Plays, PlaysFront, PlaysOn, emptied, text_of_play};
 
 use crate::play_text::PlayText;
 use crate::refusal::{Refusal, Why};
@@ -19,27 +19,29 @@ const READS_LIMIT: usize = 16_777_216;
 /// How many words a device reads out before they are moved.
 const READS_ROOM: u32 = 4_096;
 
-/// Moves the words of a buffer after those that were read out before, and says whether they are over the limit together.
-fn gather(buffer: &mut ReadBuf, reads: &mut Vec<u32>) -> Result<bool, NoMemory>
-    requires { vec_len reads.old ≤ 16777216 }
-    ensures words { IfOk result (λ over. over ≡ false → reads.new.items ≡ reads.old.items ++ buffer.old.words) }
-    ensures within { IfOk result (λ over. over ≡ false → vec_len reads.new ≤ 16777216) }
-    ensures cleared { IfOk result (λ over. over ≡ false → buffer.new ≡ record buffer.old { words = [] }) }
-    ensures over { IfOk result (λ over. over ≡ true → 16777216 < vec_len reads.old + length buffer.old.words) }
+/// Moves the words of a buffer after those that were read out before, for which there is room, and says whether they are
+/// over the limit together.
+fn gather(buffer: &mut ReadBuf, reads: &mut Vec<u32>) -> bool
+    requires few { vec_len reads.old ≤ 16777216 }
+    requires most { buffer.old.most ≡ Some 4096 }
+    requires room { vec_len reads.old + 4096 ≤ vec_capacity reads.old }
+    ensures words { result ≡ false → reads.new.items ≡ reads.old.items ++ buffer.old.words }
+    ensures within { result ≡ false → vec_len reads.new ≤ 16777216 }
+    ensures cleared { result ≡ false → buffer.new ≡ record buffer.old { words = [] } }
+    ensures over { result ≡ true → 16777216 < vec_len reads.old + length buffer.old.words }
 {
     if buffer.words().len() > READS_LIMIT - reads.len() {
-        return Ok(true);
+        return true;
     }
-    match reads.extend_from_slice(buffer.words()) {
-        Ok(()) => (),
-        Err(_) => return Err(NoMemory),
-    }
+    let Ok(()) = reads.extend_from_slice(buffer.words()) else {
+        unreachable!()
+    };
     buffer.clear();
-    Ok(false)
+    false
 }
 
 /// Feeds the bytes of a piece to a device, up to one that stops it, gathers the words that it reads out, and says whether
-/// they are over the limit.
+/// they are over the limit. The room for words is made before the bytes are fed that read them out.
 fn feed(
     device: &mut Device,
     buffer: &mut ReadBuf,
@@ -47,16 +49,20 @@ fn feed(
     piece: &[u8],
 ) -> Result<bool, NoMemory>
     requires { MayPlayBy false device.old buffer.old reads.old.items (length piece.now) }
-    ensures { IfOk result (λ over. (part : PartData) (bytes : List ℕ) → HasPlayedBy false part bytes device.old buffer.old reads.old.items
+    ensures ok { IfOk result (λ over. (part : PartData) (bytes : List ℕ) → HasPlayedBy false part bytes device.old buffer.old reads.old.items
         → HasPlayedBy over part (bytes ++ piece.now) device.new buffer.new reads.new.items) }
+    ensures front { OnErr result (OfFront piece.now (λ front. (part : PartData) (bytes : List ℕ) → HasPlayedBy false part bytes device.old buffer.old reads.old.items
+        → Plays part (bytes ++ front) device.new reads.new.items)) }
+    ensures buffer { OnErr result (buffer.new ≡ emptied) }
 {
     let mut at = 0;
     'feeds: loop {
+        let Ok(()) = reads.reserve(READS_ROOM as usize) else {
+            return Err(NoMemory);
+        };
         let fed = device.feed(&piece[at..], buffer);
-        match gather(buffer, reads) {
-            Ok(false) => (),
-            Ok(true) => return Ok(true),
-            Err(NoMemory) => return Err(NoMemory),
+        if gather(buffer, reads) {
+            return Ok(true);
         }
         match fed {
             Fed::ReadFull(count) => at += count,
@@ -92,11 +98,14 @@ impl Player {
     }
 
     /// Plays the bytes of a piece, up to one that stops the device. Where more words than the limit were read out, nothing
-    /// more is played. After an error the device has taken some first bytes of the piece, and the words that these read out
-    /// are lost: nothing is promised of the player then.
+    /// more is played. After an error the device has taken some first bytes of the piece, and has the words that these read
+    /// out but for those that are still due.
     pub fn play(&mut self, piece: &[u8]) -> Result<(), NoMemory>
         requires { MayPlay self.old (length piece.now) }
-        ensures { OnOk result (PlaysOn self.old self.new piece.now) }
+        ensures ok { OnOk result (PlaysOn self.old self.new piece.now) }
+        ensures front { OnErr result (OfFront piece.now (PlaysFront self.old self.new)) }
+        ensures not_over { OnErr result (self.new.over ≡ false) }
+        ensures buffer { OnErr result (self.new.buffer ≡ emptied) }
     {
         if self.over {
             return Ok(());

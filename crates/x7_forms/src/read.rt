@@ -108,6 +108,7 @@ pub fn next_turn<'w, I: Inputs>(
     ensures end { IfOk result (λ turn. turn.last ≡ true → AtEnd (I.state inputs.new).rest) }
     ensures length { length buf.new ≡ length buf.old }
     ensures err { IfErr result (λ r. Unread (I.state inputs.old) name.now (I.state inputs.new) left (event_of r)) }
+    ensures soon { IfErr result (λ r. event_of r ≡ read_fault name.now → (I.state inputs.new).given < (I.state inputs.old).given + length buf.old) }
     ensures over { IfErr result (λ r. event_of r ≡ too_large name.now → left < length buf.old) }
     ensures asked { (I.state inputs.new).asked ≡ (I.state inputs.old).asked }
     ensures inputs { Stays (I.state inputs.old) (I.state inputs.new) }

@@ -26,12 +26,16 @@ impl Model for Bits {
 pub(crate) fn value_of(digit: u8) -> u8
     ensures { result ≡ hex_digit digit }
 {
+    // all three before the choice, which then needs no jump
+    let decimal = digit.saturating_sub(b'0');
+    let upper = digit.saturating_sub(55);
+    let lower = digit.saturating_sub(87);
     if digit <= b'9' {
-        digit.saturating_sub(b'0')
+        decimal
     } else if digit <= b'F' {
-        digit.saturating_sub(55)
+        upper
     } else {
-        digit.saturating_sub(87)
+        lower
     }
 }
 

@@ -15,12 +15,9 @@ pub(crate) enum Token<'t> {
 fn is_in_word(byte: u8) -> bool
     ensures { result ≡ is_word_byte byte }
 {
-    !(byte == b' '
-        || byte == b'\t'
-        || byte == b'\n'
-        || byte == b'('
-        || byte == b')'
-        || byte == b';')
+    let blank = (byte == b' ') | (byte == b'\t') | (byte == b'\n');
+    let other = (byte == b'(') | (byte == b')') | (byte == b';');
+    !(blank | other)
 }
 
 /// How many bytes the word has that a text begins with.

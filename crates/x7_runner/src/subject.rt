@@ -34,7 +34,11 @@ fn keep<C: Command>(
     if has_name(shared, name) {
         return Err(Fault::Line);
     }
-    let turn = Turn::new(None, u32::MAX);
+    let whole = Turn::new(None, u32::MAX);
+    let turn = match case.outside.failing.first() {
+        Some(failing) => whole.failing(failing.object, failing.call),
+        None => whole,
+    };
     let mut ending = Ending::new(alloc);
     ran(command, alloc, shared, &case.outside, &turn, &mut ending)?;
     if case.keeps_flash {

@@ -1,7 +1,7 @@
 //! Updates of a flash that forgets, and of real files.
 use crate::forgetful::Forgetful;
 use std::alloc::{AllocError, Global};
-use std::fs::unix;
+use std::os::unix::fs::symlink;
 use std::path::PathBuf;
 use std::test::Fail;
 use std::{env, fs, process};
@@ -91,7 +91,7 @@ fn a_byte_that_was_lost_differs(rt: HostRuntime) -> Result<(), Fail> {
     };
     let (status, message) = run_over(rt.alloc(), &mut flash, "i")?;
     assert!(rt; status == 11);
-    assert!(rt; message.as_slice() == b"x7: differs i: byte 131088\n");
+    assert!(rt; message.as_slice() == b"x7: differs i: byte 131088\n".as_slice());
     assert!(rt; stands_at(flash.flash.bytes(), 0, &SPENT));
     assert!(rt; stands_at(flash.flash.bytes(), 32, &FREE));
     Ok(())
@@ -118,7 +118,7 @@ fn a_link_is_its_file_and_a_folder_is_none(rt: HostRuntime) -> Result<(), Fail> 
     let folder = env::temp_dir(&rt)?;
     let name = format!(in rt.alloc(); "x7-link-{}", process::id(rt.process()))?;
     let link = folder.join(rt.alloc(), name.as_str())?;
-    unix::symlink(&rt, path.as_path(), link.as_path())?;
+    symlink(&rt, path.as_path(), link.as_path())?;
     let mut file = FileFlash::new(&rt);
     let (linked, _) = run_over(rt.alloc(), &mut file, link.as_path().as_str())?;
     let bytes = fs::read(&rt, path.as_path())?;
@@ -153,7 +153,7 @@ fn changed(
 fn a_file_that_shrank_cannot_be_read(rt: HostRuntime) -> Result<(), Fail> {
     let (answer, left) = changed(&rt, "shrank", b"short")?;
     assert!(rt; answer == Err(UpdateFault::Failed { writing: false }));
-    assert!(rt; left.as_slice() == b"short");
+    assert!(rt; left.as_slice() == b"short".as_slice());
     Ok(())
 }
 

@@ -1,6 +1,7 @@
 -- Lemmas on specs/Ahead.
-use Rattle.std.proofs.Common.{◌≡◌, ℕ, ◌+◌, ◌≤◌, ◌⊎◌, inl, inr, Bool, true, false, List, [], ◌++◌, Option, Some, Result, Ok, Err, length, length-append, ap, sym, subst, ◌∙◌, append-nil, arith}
-use Rattle.x7_words.specs.Input.{InputsState, preceded, Selects}
+use Rattle.std.proofs.Common.{◌≡◌, ℕ, ◌+◌, ◌<◌, ◌≤◌, ◌⊎◌, inl, inr, Bool, true, false, List, [], ◌++◌, Option, Some, Result, Ok, Err, length, length-append, ap, sym, subst, ◌∙◌, append-nil, arith}
+use Rattle.x7_words.specs.Input.{Asks, InputsState, preceded, Selects}
+use Rattle.x7_words.specs.Word.{AreBytes}
 use Rattle.x7_words.specs.Sink.{SinkState, appended, PutsFront}
 use Rattle.x7_words.proofs.SinkLemmas.{appended-appended, appended-nil}
 use Rattle.x7_listing.specs.Telling.{ListerState}
@@ -13,10 +14,11 @@ use Rattle.x7_forms.specs.declared.status.Status.{Status}
 use Rattle.x7_forms.specs.declared.status.Status.TheVariants as status
 use Rattle.x7_forms.specs.Event.{Event, status_of, bad_input, missing, no_memory, read_fault, too_large, write_fault}
 use Rattle.x7_forms.specs.Form.{Listing}
-use Rattle.x7_forms.specs.Turn.{IsBadFront, Unfronted, Unopened, Unread}
+use Rattle.x7_forms.specs.Turn.{IsBadFront, NoLetterGiven, Unfronted, Unopened, Unread}
 use Rattle.x7_tool.specs.Turns.{Lists}
+use Rattle.x7_forms.proofs.FrontLemmas.{letter_there}
 use Rattle.x7_forms.proofs.ReadLemmas.{known_all}
-use Rattle.x7_tool.proofs.Causes.{may_follow}
+use Rattle.x7_tool.proofs.Causes.{may_follow, nothing_taken}
 
 -- ---- the definitions, by the contents, the rest and what was written
 
@@ -32,17 +34,24 @@ SoonBy contents stream rest =
     (inputs : List ℕ → Option (List ℕ)) (bytes left : List ℕ) (place : ℕ) → contents ≡ Some inputs → inputs stream ≡ Some bytes → rest ≡ Some left → stream_listing bytes ≡ Err place
     → length bytes ≤ length left + (place + 1)
 
-abbrev pub StaysBy : Status → Option (List ℕ → Option (List ℕ)) → List ℕ → Option (List ℕ) → Option (List ℕ) → Option (List ℕ) → Type 0
-StaysBy status.WriteFault contents stream rest old new = NearBy contents stream rest old new
-StaysBy status.BadInput contents stream rest old new = SoonBy contents stream rest
-StaysBy s contents stream rest old new = Unit {0}
+-- the byte at which the header is refused was not given
+abbrev pub UnjudgedBy : Option (List ℕ → Option (List ℕ)) → List ℕ → ℕ → Type 0
+UnjudgedBy contents stream given =
+    (inputs : List ℕ → Option (List ℕ)) (bytes : List ℕ) (place : ℕ) → contents ≡ Some inputs → inputs stream ≡ Some bytes → AreBytes bytes → stream_listing bytes ≡ Err place → place < length bytes → given ≤ place
 
-stays_by : (s : Status) (stream : List ℕ) (old new : Outside) → StaysBy s old.inputs.contents stream new.inputs.rest old.out.written new.out.written → StaysNearBy s stream old new
+abbrev pub StaysBy : Status → Option (List ℕ → Option (List ℕ)) → List ℕ → ℕ → Option (List ℕ) → Option (List ℕ) → Option (List ℕ) → Type 0
+StaysBy status.WriteFault contents stream given rest old new = NearBy contents stream rest old new
+StaysBy status.BadInput contents stream given rest old new = SoonBy contents stream rest
+StaysBy status.ReadFault contents stream given rest old new = UnjudgedBy contents stream given
+StaysBy s contents stream given rest old new = Unit {0}
+
+stays_by : (s : Status) (stream : List ℕ) (old new : Outside) → StaysBy s old.inputs.contents stream new.inputs.given new.inputs.rest old.out.written new.out.written → StaysNearBy s stream old new
 stays_by status.WriteFault stream old new h = h
 stays_by status.BadInput stream old new h = h
+stays_by status.ReadFault stream old new h = h
 stays_by s stream old new h = tt
 
-pub stays_near : (event : Event) (stream : List ℕ) (old new : Outside) → StaysBy (status_of event) old.inputs.contents stream new.inputs.rest old.out.written new.out.written → StaysNear (status_of event) (Some (Listing stream)) old new
+pub stays_near : (event : Event) (stream : List ℕ) (old new : Outside) → StaysBy (status_of event) old.inputs.contents stream new.inputs.given new.inputs.rest old.out.written new.out.written → StaysNear (status_of event) (Some (Listing stream)) old new
 stays_near event stream old new h = stays_by (status_of event) stream old new h
 
 -- what has become longer
@@ -111,25 +120,46 @@ bad_soon contents stream name m n event s b inputs bytes left place c i r l =
     let same = same_place place b.place (stream_listing (b.bytes ++ t.0)) (ap stream_listing (sym whole) ∙ l) refused in
     omega (arith, b.soon, same, ap length whole, ap length tail, length-append b.bytes t.0)
 
+-- ---- what a fault finds
+
+-- where the header was not judged yet, no wrong letter was given
+pub front_unjudged : (contents : Option (List ℕ → Option (List ℕ))) (stream name : List ℕ) (m n : InputsState) → Selects contents stream m.rest → Asks name m → NoLetterGiven m n → UnjudgedBy contents stream n.given
+front_unjudged contents stream name m n s a g inputs bytes place c i fits e l =
+    let t = known_all inputs stream [] m.rest (nothing_taken (Some inputs) stream m.rest (subst (λ (k : Option (List ℕ → Option (List ℕ))). Selects k stream m.rest) c s)) in
+    let whole : bytes ≡ t.0 = let f = t.1.1 in cc in
+    let rest : m.rest ≡ Some bytes = t.1.0 ∙ ap Some (sym whole) in
+    omega (arith, a.given, g bytes place rest (letter_there bytes place fits e l))
+
+-- where the header was judged well, none is refused
+pub judged_unjudged : (contents : Option (List ℕ → Option (List ℕ))) (stream taken : List ℕ) (rest : Option (List ℕ)) (given : ℕ) → Selects contents stream (preceded taken rest) → ((left : List ℕ) → (text : List ℕ) × (stream_listing (taken ++ left) ≡ Ok text))
+    → UnjudgedBy contents stream given
+judged_unjudged contents stream taken rest given s goes inputs bytes place c i fits e l =
+    let t = known_all inputs stream taken rest (subst (λ (k : Option (List ℕ → Option (List ℕ))). Selects k stream (preceded taken rest)) c s) in
+    let whole : bytes ≡ taken ++ t.0 = let f = t.1.1 in cc in
+    let well = goes t.0 in
+    let both : Err place ≡ Ok well.0 = sym e ∙ ap stream_listing whole ∙ well.1 in
+    absurd cc
+
 -- ---- by the event
 
 module _ (contents : Option (List ℕ → Option (List ℕ))) (stream : List ℕ) (rest old new : Option (List ℕ)) where
-  as_event : (event other : Event) → event ≡ other → StaysBy (status_of other) contents stream rest old new → StaysBy (status_of event) contents stream rest old new
-  as_event event other e h = subst (λ (x : Event). StaysBy (status_of x) contents stream rest old new) (sym e) h
+  as_event : (given : ℕ) (event other : Event) → event ≡ other → StaysBy (status_of other) contents stream given rest old new → StaysBy (status_of event) contents stream given rest old new
+  as_event given event other e h = subst (λ (x : Event). StaysBy (status_of x) contents stream given rest old new) (sym e) h
 
-  pub unopened_near : (s n : InputsState) (name : List ℕ) (event : Event) → Unopened s name n event → StaysBy (status_of event) contents stream rest old new
-  unopened_near s n name event (inl h, none) = as_event event (missing name) h.0 tt
-  unopened_near s n name event (inr h, none) = as_event event (read_fault name) h.0 tt
+  pub unopened_near : (s n : InputsState) (name : List ℕ) (event : Event) → Asks name n → Unopened s name n event → StaysBy (status_of event) contents stream n.given rest old new
+  unopened_near s n name event a (inl h, none) = as_event n.given event (missing name) h.0 tt
+  unopened_near s n name event a (inr h, none) = as_event n.given event (read_fault name) h.0 (λ inputs bytes place c i fits e l. omega (arith, a.given))
 
-  pub unfronted_near : (m n : InputsState) (name : List ℕ) (event : Event) → n.rest ≡ rest → Selects contents stream m.rest → Unfronted m name n event → StaysBy (status_of event) contents stream rest old new
-  unfronted_near m n name event e s (inl h) = as_event event no_memory h tt
-  unfronted_near m n name event e s (inr (inl h)) = as_event event (read_fault name) h.0 tt
-  unfronted_near m n name event e s (inr (inr h)) = as_event event (bad_input name (input.Byte h.place)) h.is (subst (λ (r : Option (List ℕ)). SoonBy contents stream r) e (bad_soon contents stream name m n event s h))
+  pub unfronted_near : (m n : InputsState) (name : List ℕ) (event : Event) → n.rest ≡ rest → Selects contents stream m.rest → Asks name m → Unfronted m name n event → StaysBy (status_of event) contents stream n.given rest old new
+  unfronted_near m n name event e s a (inl h) = as_event n.given event no_memory h tt
+  unfronted_near m n name event e s a (inr (inl h)) = as_event n.given event (read_fault name) h.0 (front_unjudged contents stream name m n s a h.3)
+  unfronted_near m n name event e s a (inr (inr h)) = as_event n.given event (bad_input name (input.Byte h.place)) h.is (subst (λ (r : Option (List ℕ)). SoonBy contents stream r) e (bad_soon contents stream name m n event s h))
 
-  pub unread_near : (s n : InputsState) (name : List ℕ) (left : ℕ) (event : Event) → Unread s name n left event → StaysBy (status_of event) contents stream rest old new
-  unread_near s n name left event (inl h) = as_event event (read_fault name) h.0 tt
-  unread_near s n name left event (inr h) = as_event event (too_large name) h.0 tt
+  pub unread_near : (s n : InputsState) (name taken : List ℕ) (left : ℕ) (event : Event) → Selects contents stream (preceded taken s.rest) → ((more : List ℕ) → (text : List ℕ) × (stream_listing (taken ++ more) ≡ Ok text))
+      → Unread s name n left event → StaysBy (status_of event) contents stream n.given rest old new
+  unread_near s n name taken left event sel goes (inl h) = as_event n.given event (read_fault name) h.0 (judged_unjudged contents stream taken s.rest n.given sel goes)
+  unread_near s n name taken left event sel goes (inr h) = as_event n.given event (too_large name) h.0 tt
 
-  pub unwritten_near : (Q : Type 0) (event : Event) → NearBy contents stream rest old new → (event ≡ no_memory) ⊎ ((event ≡ write_fault) × Q) → StaysBy (status_of event) contents stream rest old new
-  unwritten_near Q event n (inl h) = as_event event no_memory h tt
-  unwritten_near Q event n (inr h) = as_event event write_fault h.0 n
+  pub unwritten_near : (Q : Type 0) (given : ℕ) (event : Event) → NearBy contents stream rest old new → (event ≡ no_memory) ⊎ ((event ≡ write_fault) × Q) → StaysBy (status_of event) contents stream given rest old new
+  unwritten_near Q given event n (inl h) = as_event given event no_memory h tt
+  unwritten_near Q given event n (inr h) = as_event given event write_fault h.0 n

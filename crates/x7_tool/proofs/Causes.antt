@@ -233,7 +233,7 @@ both_err (Ok a) P Q R f p q = tt
 both_err (Err e) P Q R f p q = f e p q
 
 -- nothing was taken of a selected stream
-nothing_taken : (contents : Option (List ℕ → Option (List ℕ))) (stream : List ℕ) (rest : Option (List ℕ)) → Selects contents stream rest → Selects contents stream (preceded [] rest)
+pub nothing_taken : (contents : Option (List ℕ → Option (List ℕ))) (stream : List ℕ) (rest : Option (List ℕ)) → Selects contents stream rest → Selects contents stream (preceded [] rest)
 nothing_taken contents stream None s = s
 nothing_taken contents stream (Some rest) s = s
 

@@ -242,13 +242,15 @@ updates_none form old new end u = subst (λ (x : Option (List ℕ)). Updates x o
 -- a form whose text is ready before any of it is written ends as it should where its text has its cause and was put
 puts_end : (form : Asked) (old new : Outside) (whole : Result Answer Event) (got : Result Bool Event) → listed_by (Some form) ≡ None → updated_by (Some form) ≡ None → AnswersOver form old new whole → Puts whole old.out new.out got
     → EndsAs (Some form) old new got
-puts_end form old new (Ok answer) (Ok stopped) l u c p =
-    (answer.text, record {
-      cause = subst (λ (s : Bool). HasCause (Some form) old new (Ok (record { stopped = s; text = answer.text }))) (sym p.0) (has_cause form old new (Ok answer) c);
-      wrote = p.1;
-      near = near_all form (text_status stopped) old new l;
-      updates = updates_none form old new (Ok (record { stopped = stopped; text = answer.text })) u;
-    })
+puts_end form old new (Ok answer) (Ok stopped) l u c p = (
+  answer.text,
+  record {
+    cause = subst (λ (s : Bool). HasCause (Some form) old new (Ok (record { stopped = s; text = answer.text }))) (sym p.0) (has_cause form old new (Ok answer) c);
+    wrote = p.1;
+    near = near_all form (text_status stopped) old new l;
+    updates = updates_none form old new (Ok (record { stopped = stopped; text = answer.text })) u;
+  },
+)
 puts_end form old new (Ok answer) (Err event) l u c p =
     subst (λ (e : Event). Ends (Some form) old new (Err e)) (sym p.0)
     (record {

@@ -211,7 +211,7 @@ fault_ends flash stream bytes old new (Differs place wrote read) out asked withi
   cause = (
     (place, refl, h.1),
     agreed (known_in old) old.flash.bytes flash stream (Err (differs flash place)) (told_flash old.inputs.contents old.flash.bytes flash)
-    (λ t e. fault_told (names flash stream) old.flash.bytes (stream_data t stream) bytes (Differs place wrote read) within (data_at (known_in old) stream bytes has t e) h)
+        (λ t e. fault_told (names flash stream) old.flash.bytes (stream_data t stream) bytes (Differs place wrote read) within (data_at (known_in old) stream bytes has t e) h),
   );
   wrote = out_same old new out;
   near = near_all (Updating flash stream) (status_of (differs flash place)) old new refl;
@@ -228,14 +228,16 @@ pub done_ends : (flash stream bytes : List ℕ) (old new : Outside) → new.out 
     → EndsAs (Some (Updating flash stream)) old new (Ok false)
 done_ends flash stream bytes old new out within has layout becomes =
     let told = old.flash.bytes in
-    let n = names flash stream in
-    ([], record {
-      cause = agreed (known_in old) told flash stream (Ok no_text) (told_flash old.inputs.contents told flash)
-          (λ t e. inr (within, subst (λ (r : Result (List ℕ) Event). UpdatesWith n told r (Ok no_text)) (sym (data_at (known_in old) stream bytes has t e)) (refl, can_take told new.flash.bytes bytes layout becomes)));
-      wrote = out_same old new out ∙ sym (appended-nil old.out.written);
-      near = near_all (Updating flash stream) (text_status false) old new refl;
-      updates = (bytes, has, becomes);
-    })
+    let n = names flash stream in (
+      [],
+      record {
+        cause = agreed (known_in old) told flash stream (Ok no_text) (told_flash old.inputs.contents told flash)
+            (λ t e. inr (within, subst (λ (r : Result (List ℕ) Event). UpdatesWith n told r (Ok no_text)) (sym (data_at (known_in old) stream bytes has t e)) (refl, can_take told new.flash.bytes bytes layout becomes)));
+        wrote = out_same old new out ∙ sym (appended-nil old.out.written);
+        near = near_all (Updating flash stream) (text_status false) old new refl;
+        updates = (bytes, has, becomes);
+      },
+    )
 
 -- ---- what an update leaves of the flash
 

@@ -1,6 +1,7 @@
 -- How far `list` reads ahead of what it writes (this project's choice).
-use Rattle.std.specs.Prelude.{◌≡◌, ℕ, ◌+◌, ◌≤◌, List, length, Option, None, Some, Err}
+use Rattle.std.specs.Prelude.{◌≡◌, ℕ, ◌+◌, ◌<◌, ◌≤◌, List, length, Option, None, Some, Err}
 use Rattle.x7_words.specs.Sink.{SinkState, appended}
+use Rattle.x7_words.specs.Word.{AreBytes}
 use Rattle.x7_listing.specs.StreamListing.{stream_listing}
 use Rattle.x7_forms.specs.Form.{Asked, listed_by}
 use Rattle.x7_forms.specs.declared.status.Status.{Status}
@@ -23,10 +24,17 @@ IsSoon stream old new =
     (inputs : List ℕ → Option (List ℕ)) (bytes left : List ℕ) (place : ℕ) → old.inputs.contents ≡ Some inputs → inputs stream ≡ Some bytes → new.inputs.rest ≡ Some left → stream_listing bytes ≡ Err place
     → length bytes ≤ length left + (place + 1)
 
--- where the sink failed, or the header of a stream was refused, no more of it was read
+-- where the stream is told as bytes, and its header is refused at one that it has, that byte was not given
+abbrev pub IsUnjudged : List ℕ → Outside → Outside → Type 0
+IsUnjudged stream old new =
+    (inputs : List ℕ → Option (List ℕ)) (bytes : List ℕ) (place : ℕ) → old.inputs.contents ≡ Some inputs → inputs stream ≡ Some bytes → AreBytes bytes → stream_listing bytes ≡ Err place → place < length bytes
+    → new.inputs.given ≤ place
+
+-- where the sink failed, or the header of a stream was refused, no more of it was read; and a fault comes before a header's refusal only where it came first
 abbrev pub StaysNearBy : Status → List ℕ → Outside → Outside → Type 0
 StaysNearBy status.WriteFault stream old new = IsNear stream old new
 StaysNearBy status.BadInput stream old new = IsSoon stream old new
+StaysNearBy status.ReadFault stream old new = IsUnjudged stream old new
 StaysNearBy s stream old new = Unit {0}
 
 -- the same of the stream that a form lists; other forms read each input whole, and write at the end

@@ -16,13 +16,13 @@ ghost use Rattle.x7_forms.specs.Step.{seen};
 ghost use Rattle.x7_tool.specs.Outside.{Outside, ReadsFlash};
 ghost use Rattle.x7_tool.specs.Run.{AnswersOver, FlashComes};
 
+use crate::attach::attach;
 use std::alloc::Global;
 use x7_boot::{BootEnd, BootFault, Booted, Ending, Tried};
 use x7_forms::{PlayText, Refusal, Why, put_number, put_text, read_part, report};
 use x7_part::Part;
 use x7_regs::{Cause, Kind};
 use x7_text::{hex_of_word, make_room, put_decimal};
-use crate::attach::attach;
 use x7_words::{Flash, Inputs, NoMemory};
 
 /// What began an attempt, in a word.

@@ -5,7 +5,7 @@ use Rattle.x7_forms.specs.declared.front.Judged.{Judged}
 use Rattle.x7_forms.specs.Message.{event_of}
 use Rattle.x7_forms.specs.Turn.{BeginAt, IsFront}
 use Rattle.std.proofs.lemmas.List.{take-append-le}
-use Rattle.x7_forms.proofs.FrontLemmas.{found_none, found_some, front_read, joined_taken, piece_of, reads_by, refused_soon, unfronted_turn}
+use Rattle.x7_forms.proofs.FrontLemmas.{found_none, found_some, front_read, joined_taken, none_given, piece_of, reads_by, refused_soon, unfronted_turn}
 use Rattle.x7_forms.proofs.front.read_front.Goals as goal
 
 pub returns-in-Ok-Some-clause-front : goal.returns-in-Ok-Some-clause-front
@@ -58,7 +58,10 @@ returns-in-Err-clause-err g c =
     let old = c.loop-turn.bytes.items in
     unfronted_turn (i.state c.args.inputs.now) (i.state c.loop-turn.inputs) (i.state c.next_turn.new.inputs) c.args.stream.now old (67108864 - c.len-left.result) (event_of c.in-Err.refusal)
     (reads_by (i.state c.args.inputs.now) (i.state c.loop-turn.inputs) old v.selected v.taken v.given v.asked v.inputs) (omega (arith, v.few, c.len-left.ensures)) c.next_turn.ensures.asked
-    (λ e. absurd (omega (arith, c.in-Err.ensures.over e, v.few, c.len-left.ensures, v.piece, c.min-count.ensures, length-take-le c.min-count.result c.loop-turn.piece (omega (arith, c.min-count.ensures, v.piece))))) c.in-Err.ensures.err
+    (λ e. absurd (omega (arith, c.in-Err.ensures.over e, v.few, c.len-left.ensures, v.piece, c.min-count.ensures, length-take-le c.min-count.result c.loop-turn.piece (omega (arith, c.min-count.ensures, v.piece)))))
+    (λ e. none_given (i.state c.args.inputs.now) (i.state c.loop-turn.inputs) (i.state c.next_turn.new.inputs) old c.deref.result.now c.wanted.result (length (take c.min-count.result c.loop-turn.piece)) c.wanted.ensures.some
+    (omega (arith, c.min-count.ensures, length-take-le c.min-count.result c.loop-turn.piece (omega (arith, c.min-count.ensures, v.piece)))) c.deref.ensures.value c.wanted.ensures.fixed c.wanted.ensures.waits v.waiting
+    (reads_by (i.state c.args.inputs.now) (i.state c.loop-turn.inputs) old v.selected v.taken v.given v.asked v.inputs) (c.in-Err.ensures.soon e)) c.in-Err.ensures.err
 
 pub loop-turn-preserved : goal.loop-turn-preserved
 loop-turn-preserved g c =

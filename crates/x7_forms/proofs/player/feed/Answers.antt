@@ -1,9 +1,10 @@
-use Rattle.std.proofs.Common.{◌≡◌, ◌+◌, ◌-◌, ◌<◌, ◌++◌, false, take, drop, length, length-append, length-drop, length-take-le, ap, ◌∙◌, arith}
-use Rattle.std.proofs.lemmas.List.{take_rest}
+use Rattle.std.proofs.Common.{◌≡◌, ◌+◌, ◌-◌, ◌<◌, ◌++◌, ℕ, List, false, subst, sym, take, drop, length, length-append, length-drop, length-take-le, ap, ◌∙◌, arith}
+use Rattle.std.proofs.lemmas.List.{take-append-drop, take_rest}
 use Rattle.x7_words.specs.Word.{AreBytes}
 use Rattle.x7_words.proofs.ListLemmas.{all_from_places}
 use Rattle.x7_engine.specs.Kept.{on_the_bench}
 use Rattle.x7_engine.specs.Standing.{taken_in}
+use Rattle.x7_forms.specs.Play.{Plays}
 use Rattle.x7_forms.proofs.PlayLemmas.{emptied_again, full_words, is_end, most_is, words_are}
 use Rattle.x7_forms.proofs.PlayerLemmas.{may_feed, turn_end, turn_full, turn_over}
 use Rattle.x7_forms.proofs.player.feed.Goals as goal
@@ -20,8 +21,8 @@ feed-fed-requires c =
     let left = length-drop at piece in
     rw (take_rest piece at, left) (may_feed m.0 (m.1.0 ++ take at piece) c.feeds.device c.feeds.reads.items (length piece - at) s (omega (arith, few, before, size, c.feeds.invariant.at)))
 
-pub returns-in-Ok-true : goal.returns-in-Ok-true
-returns-in-Ok-true c = λ part bytes h.
+pub returns-then-gather-clause-ok : goal.returns-then-gather-clause-ok
+returns-then-gather-clause-ok c = λ part bytes h.
     let v = c.feeds.invariant in
     let piece = c.args.piece.now in
     let at = c.feeds.at in
@@ -32,7 +33,26 @@ returns-in-Ok-true c = λ part bytes h.
     let words = words_are c.feeds.buffer c.feed-fed.new.read reads.0 reads.1 v.buffer in
     let fits : AreBytes piece = all_from_places (λ b. b < 256) piece (λ k l. omega (arith, c.type_inv.piece k)) in
     turn_over part bytes piece at n c.feeds.device c.feed-fed.new.self c.feeds.reads.items reads.0 h.0.fits fits s (λ i. (stopped i).2) reads.2
-    (omega (arith, c.in-Ok-true.ensures.over c.in-Ok-true.field-0-test, ap length words, c.feeds.reads.ok.0))
+    (omega (arith, c.gather.ensures.over c.if-gather.true, ap length words, ap length c.reserve.ensures.items, c.feeds.reads.ok.0, c.reserve.new.self.ok.0))
+
+pub gather-requires-clause-most : goal.gather-requires-clause-most
+gather-requires-clause-most c =
+    let v = c.feeds.invariant in
+    let m = c.requires in
+    let s = v.plays m.0 m.1.0 m.1.1.0 in
+    let reads = c.feed-fed.ensures.reads m.0 on_the_bench false s.taken s.stands in
+    most_is c.feeds.buffer c.feed-fed.new.read reads.0 reads.1 v.buffer
+
+pub returns-in_default-clause-front : goal.returns-in_default-clause-front
+returns-in_default-clause-front c =
+    let piece = c.args.piece.now in
+    let at = c.feeds.at in
+    record {
+      front = take at piece;
+      left = drop at piece;
+      parts = sym (take-append-drop at piece);
+      holds = λ part bytes h. subst (λ (reads : List ℕ). Plays part (bytes ++ take at piece) c.feeds.device reads) (sym c.reserve.ensures.items) (c.feeds.invariant.plays part bytes h);
+    }
 
 pub feeds-smaller : goal.feeds-smaller
 feeds-smaller c =
@@ -45,8 +65,9 @@ feeds-smaller c =
     let most = most_is c.feeds.buffer c.feed-fed.new.read reads.0 reads.1 v.buffer in
     let answer = c.in-ReadFull.ensures.answer m.0 on_the_bench false s.taken s.stands in
     let full : length c.feed-fed.new.read.words ≡ 4096 = full_words c.feed-fed.new.read most answer.2 in
-    let size : length c.gather.new.reads.items ≡ length c.feeds.reads.items + length c.feed-fed.new.read.words = ap length (c.in-Ok-false.ensures.words c.in-Ok-false.field-0-test) ∙ length-append c.feeds.reads.items c.feed-fed.new.read.words in
-    omega (arith, full, size, c.feeds.reads.ok.0, c.gather.new.reads.ok.0, c.in-Ok-false.ensures.within c.in-Ok-false.field-0-test)
+    let size : length c.gather.new.reads.items ≡ length c.feeds.reads.items + length c.feed-fed.new.read.words =
+    ap length (c.gather.ensures.words c.if-gather.false ∙ ap (λ r. r ++ c.feed-fed.new.read.words) c.reserve.ensures.items) ∙ length-append c.feeds.reads.items c.feed-fed.new.read.words in
+    omega (arith, full, size, c.feeds.reads.ok.0, c.gather.new.reads.ok.0, c.gather.ensures.within c.if-gather.false)
 
 pub feeds-preserved : goal.feeds-preserved
 feeds-preserved c =
@@ -60,10 +81,10 @@ feeds-preserved c =
     let reads0 = c.feed-fed.ensures.reads m.0 on_the_bench false s0.taken s0.stands in
     let most = most_is c.feeds.buffer c.feed-fed.new.read reads0.0 reads0.1 v.buffer in
     let fits : AreBytes piece = all_from_places (λ b. b < 256) piece (λ k l. omega (arith, c.type_inv.piece k)) in
-    let few = c.in-Ok-false.ensures.within c.in-Ok-false.field-0-test in
+    let few = c.gather.ensures.within c.if-gather.false in
     record {
       at = omega (arith, within, length-drop at piece, v.at);
-      buffer = emptied_again c.feed-fed.new.read c.gather.new.buffer (c.in-Ok-false.ensures.cleared c.in-Ok-false.field-0-test) most;
+      buffer = emptied_again c.feed-fed.new.read c.gather.new.buffer (c.gather.ensures.cleared c.if-gather.false) most;
       few = few;
       plays = λ part bytes h.
           let s = v.plays part bytes h in
@@ -71,12 +92,12 @@ feeds-preserved c =
           let stands = rw (take_rest piece at) at (c.in-ReadFull.ensures.stands part on_the_bench false s.taken s.stands) in
           let answer = rw (take_rest piece at) at (c.in-ReadFull.ensures.answer part on_the_bench false s.taken s.stands) in
           let words = words_are c.feeds.buffer c.feed-fed.new.read reads.0 reads.1 v.buffer in
-          let now = c.in-Ok-false.ensures.words c.in-Ok-false.field-0-test ∙ ap (λ x. c.feeds.reads.items ++ x) words in
+          let now = c.gather.ensures.words c.if-gather.false ∙ ap (λ r. r ++ c.feed-fed.new.read.words) c.reserve.ensures.items ∙ ap (λ x. c.feeds.reads.items ++ x) words in
           turn_full part bytes piece at count c.feeds.device c.feed-fed.new.self c.feeds.reads.items c.gather.new.reads.items reads.0 fits s stands answer.0 reads.2 now (omega (arith, few, c.gather.new.reads.ok.0));
     }
 
-pub returns-in_default : goal.returns-in_default
-returns-in_default c = λ part bytes h.
+pub returns-in_default-fed-clause-ok : goal.returns-in_default-fed-clause-ok
+returns-in_default-fed-clause-ok c = λ part bytes h.
     let v = c.feeds.invariant in
     let piece = c.args.piece.now in
     let at = c.feeds.at in
@@ -88,8 +109,8 @@ returns-in_default c = λ part bytes h.
     let words = words_are c.feeds.buffer c.feed-fed.new.read reads.0 reads.1 v.buffer in
     let most = most_is c.feeds.buffer c.feed-fed.new.read reads.0 reads.1 v.buffer in
     let fits : AreBytes piece = all_from_places (λ b. b < 256) piece (λ k l. omega (arith, c.type_inv.piece k)) in
-    let few = c.in-Ok-false.ensures.within c.in-Ok-false.field-0-test in
-    let now = c.in-Ok-false.ensures.words c.in-Ok-false.field-0-test ∙ ap (λ x. c.feeds.reads.items ++ x) words in
-    let end = turn_end part bytes piece at c.feeds.device c.feed-fed.new.self c.feed-fed.new.read c.feeds.reads.items c.gather.new.reads.items reads.0 c.feed-fed.result fits s (is_end c.feed-fed.result c.in_default.not-ReadFull) (λ i. (stopped i).2) stands answer reads.2 now
+    let few = c.gather.ensures.within c.if-gather.false in
+    let now = c.gather.ensures.words c.if-gather.false ∙ ap (λ r. r ++ c.feed-fed.new.read.words) c.reserve.ensures.items ∙ ap (λ x. c.feeds.reads.items ++ x) words in
+    let end = turn_end part bytes piece at c.feeds.device c.feed-fed.new.self c.feed-fed.new.read c.feeds.reads.items c.gather.new.reads.items reads.0 c.feed-fed.result fits s (is_end c.feed-fed.result c.in_default-fed.not-ReadFull) (λ i. (stopped i).2) stands answer reads.2 now
     (omega (arith, few, c.gather.new.reads.ok.0)) in
-    (end.0, end.1, emptied_again c.feed-fed.new.read c.gather.new.buffer (c.in-Ok-false.ensures.cleared c.in-Ok-false.field-0-test) most)
+    (end.0, end.1, emptied_again c.feed-fed.new.read c.gather.new.buffer (c.gather.ensures.cleared c.if-gather.false) most)

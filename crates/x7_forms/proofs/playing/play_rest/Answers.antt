@@ -28,7 +28,7 @@ returns-then-turn-clause-ok g c =
     let piece = take n c.next_turn.new.buf in
     let size : length piece ≡ n = length-take-le n c.next_turn.new.buf (omega (arith, c.in-Ok.ensures.within.1, c.next_turn.ensures.length)) in
     let reads = reads_on (i.state c.args.inputs.now) (i.state c.loop-turn.inputs) (i.state c.next_turn.new.inputs) v.told.0 piece v.told.1.2 c.in-Ok.ensures.ok c.next_turn.ensures.asked c.next_turn.ensures.inputs in
-    let plays : PlaysOn c.loop-turn.player c.play.new.self piece = from_ok c.play.result (sym c.is_err.ensures.value ∙ c.if-is_err.false) c.play.ensures in
+    let plays : PlaysOn c.loop-turn.player c.play.new.self piece = from_ok c.play.result (sym c.is_err.ensures.value ∙ c.if-is_err.false) c.play.ensures.ok in
     (v.told.0 ++ piece, omega (arith, v.told.1.0, size, length-append v.told.0 piece, c.in-Ok.ensures.within.0), on_on c.args.player.now c.loop-turn.player c.play.new.self v.told.0 piece v.told.1.1 plays, (reads.takes.taken, c.in-Ok.ensures.end c.if-turn.true))
 
 pub loop-turn-preserved : goal.loop-turn-preserved
@@ -39,7 +39,7 @@ loop-turn-preserved g c =
     let piece = take n c.next_turn.new.buf in
     let size : length piece ≡ n = length-take-le n c.next_turn.new.buf (omega (arith, c.in-Ok.ensures.within.1, c.next_turn.ensures.length)) in
     let reads = reads_on (i.state c.args.inputs.now) (i.state c.loop-turn.inputs) (i.state c.next_turn.new.inputs) v.told.0 piece v.told.1.2 c.in-Ok.ensures.ok c.next_turn.ensures.asked c.next_turn.ensures.inputs in
-    let plays : PlaysOn c.loop-turn.player c.play.new.self piece = from_ok c.play.result (sym c.is_err.ensures.value ∙ c.if-is_err.false) c.play.ensures in
+    let plays : PlaysOn c.loop-turn.player c.play.new.self piece = from_ok c.play.result (sym c.is_err.ensures.value ∙ c.if-is_err.false) c.play.ensures.ok in
     record {
       selected = c.in-Ok.ensures.ok.selected;
       inputs = stays_on _ _ _ v.inputs c.next_turn.ensures.inputs;

@@ -23,7 +23,7 @@ play_rest-requires-clause-may g c =
     let count = c.in-Ok-next_turn.turn.count in
     let start = c.in-Ok-data_start.start in
     let slice = take (count - start) (drop start c.next_turn.new.buf) in
-    let plays : PlaysOn c.args.player.now c.play.new.self slice = from_ok c.play.result (sym c.is_err.ensures.value ∙ c.if-is_err.false) c.play.ensures in
+    let plays : PlaysOn c.args.player.now c.play.new.self slice = from_ok c.play.result (sym c.is_err.ensures.value ∙ c.if-is_err.false) c.play.ensures.ok in
     may_on c.args.player.now c.play.new.self slice c.args.limit (c.args.limit - count) (omega (arith, c.in-Ok-next_turn.ensures.within.0, length-take (count - start) (drop start c.next_turn.new.buf))) plays c.requires.may
 
 pub returns-else-is_err-clause-ok : goal.returns-else-is_err-clause-ok
@@ -42,7 +42,7 @@ returns-else-is_err-clause-ok g c =
     let start = c.in-Ok-data_start.start in
     let slice = take (count - start) (drop start buf) in
     let same : drop start first ≡ slice = slice_of start count buf (omega (arith, size, c.in-Ok-data_start.ensures.within)) in
-    let plays : PlaysOn c.args.player.now c.play.new.self slice = from_ok c.play.result (sym c.is_err.ensures.value ∙ c.if-is_err.false) c.play.ensures in
+    let plays : PlaysOn c.args.player.now c.play.new.self slice = from_ok c.play.result (sym c.is_err.ensures.value ∙ c.if-is_err.false) c.play.ensures.ok in
     let given = (i.state c.play_rest.new.inputs).given in
     let F = FailsAmong (name ∷ []) (i.state c.args.inputs.now) (i.state c.play_rest.new.inputs) in
     let L = LacksAmong (name ∷ []) (i.state c.args.inputs.now) (i.state c.play_rest.new.inputs) in

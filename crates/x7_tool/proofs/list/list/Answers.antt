@@ -29,7 +29,7 @@ returns-in-Err g c = λ before after.
     let stream = c.args.stream.now in
     let event = event_of c.in-Err.refusal in
     list_ends stream old new (Err event) (unopened old.inputs new.inputs old.flash.bytes stream (SinkFails old.out new.out) old.out.written event c.in-Err.ensures.err c.open.ensures.asks)
-    (stays_near event stream old new (unopened_near old.inputs.contents stream new.inputs.rest old.out.written new.out.written old.inputs new.inputs stream event c.in-Err.ensures.err))
+    (stays_near event stream old new (unopened_near old.inputs.contents stream new.inputs.rest old.out.written new.out.written old.inputs new.inputs stream event c.open.ensures.asks c.in-Err.ensures.err))
 
 pub returns-in-Err-read_front : goal.returns-in-Err-read_front
 returns-in-Err-read_front g c = λ before after.
@@ -41,7 +41,7 @@ returns-in-Err-read_front g c = λ before after.
     let event = event_of c.in-Err-read_front.refusal in
     list_ends stream old new (Err event)
     (unfronted old.inputs (i.state c.open.new.inputs) new.inputs old.flash.bytes stream (SinkFails old.out new.out) old.out.written event c.open.ensures.inputs c.in-Ok.ensures.ok.found c.open.ensures.asks c.in-Err-read_front.ensures.err)
-    (stays_near event stream old new (unfronted_near old.inputs.contents stream new.inputs.rest old.out.written new.out.written (i.state c.open.new.inputs) new.inputs stream event refl c.in-Ok.ensures.ok.found c.in-Err-read_front.ensures.err))
+    (stays_near event stream old new (unfronted_near old.inputs.contents stream new.inputs.rest old.out.written new.out.written (i.state c.open.new.inputs) new.inputs stream event refl c.in-Ok.ensures.ok.found c.open.ensures.asks c.in-Err-read_front.ensures.err))
 
 pub returns-in-Err-put_front : goal.returns-in-Err-put_front
 returns-in-Err-put_front g c = λ before after.
@@ -74,7 +74,7 @@ returns-in-Err-put_front g c = λ before after.
       | inr h ↦ ends_same (with_inputs contents flash) given F L stream Full old now r write_fault h.0 (front_failed contents flash given F L stream taken line sent rest last Full old now sel f.end h.1 c.put_front.ensures.fits goes c.in-Err-put_front.ensures.err)
     ] in
     let put = c.in-Err-put_front.ensures.err [] (subst AreBytes (sym (append-nil _)) c.put_front.ensures.fits) in
-    let near = unwritten_near contents stream rest old now _ r (front_near contents stream taken rest old now sel f.few (longer_front old now _ put)) c.in-Err-put_front.ensures.why in
+    let near = unwritten_near contents stream rest old now _ given r (front_near contents stream taken rest old now sel f.few (longer_front old now _ put)) c.in-Err-put_front.ensures.why in
     list_ends stream (record before { inputs = i.state c.args.inputs.now; out = o.state c.args.out.now }) (record after { inputs = i.state c.read_front.new.inputs; out = o.state c.put_front.new.out }) (Err r) (end c.in-Err-put_front.ensures.why) (stays_near r stream (record before { inputs = i.state c.args.inputs.now; out = o.state c.args.out.now }) (record after { inputs = i.state c.read_front.new.inputs; out = o.state c.put_front.new.out }) near)
 
 pub returns-then-front : goal.returns-then-front
@@ -119,7 +119,7 @@ returns-then-front g c = λ before after.
     end w)
     c.put_end.ensures.err c.put_end.ensures.why in
     let longer = longer_twice old (o.state c.put_front.new.out).written now (lists_longer c.put_front.new.lister old (o.state c.put_front.new.out).written _ _ lists) c.put_end.ensures.longer in
-    let near = err_weaker c.put_end.result (λ r w. stays_near (event_of r) stream (record before { inputs = i.state c.args.inputs.now; out = o.state c.args.out.now }) (record after { inputs = i.state c.read_front.new.inputs; out = o.state c.put_end.new.out }) (unwritten_near contents stream rest old now _ (event_of r) (front_near contents stream taken rest old now sel f.few longer) w)) c.put_end.ensures.why in
+    let near = err_weaker c.put_end.result (λ r w. stays_near (event_of r) stream (record before { inputs = i.state c.args.inputs.now; out = o.state c.args.out.now }) (record after { inputs = i.state c.read_front.new.inputs; out = o.state c.put_end.new.out }) (unwritten_near contents stream rest old now _ given (event_of r) (front_near contents stream taken rest old now sel f.few longer) w)) c.put_end.ensures.why in
     list_seen stream (record before { inputs = i.state c.args.inputs.now; out = o.state c.args.out.now }) (record after { inputs = i.state c.read_front.new.inputs; out = o.state c.put_end.new.out }) c.put_end.result ok err near
 
 pub returns-in-Err-next_turn : goal.returns-in-Err-next_turn
@@ -131,10 +131,11 @@ returns-in-Err-next_turn g c = λ before after.
     let new = record after { inputs = i.state c.next_turn.new.inputs; out = o.state c.loop-turn.out } in
     let stream = c.args.stream.now in
     let event = event_of c.in-Err-next_turn.refusal in
+    let t = v.told.1.1 in
     list_ends stream old new (Err event)
     (unread_end old.inputs (i.state c.loop-turn.inputs) new.inputs old.flash.bytes stream v.told.0 c.loop-turn.lister c.loop-turn.left (SinkFails old.out new.out) old.out.written new.out.written event
     v.inputs v.told.1.0 v.told.1.3 v.told.1.1 v.told.1.2 c.in-Err-next_turn.ensures.err c.next_turn.ensures.asked)
-    (stays_near event stream old new (unread_near old.inputs.contents stream new.inputs.rest old.out.written new.out.written (i.state c.loop-turn.inputs) new.inputs stream _ event c.in-Err-next_turn.ensures.err))
+    (stays_near event stream old new (unread_near old.inputs.contents stream new.inputs.rest old.out.written new.out.written (i.state c.loop-turn.inputs) new.inputs stream v.told.0 _ event v.told.1.0 (λ more. (t.line ++ listing_of (t.sent ++ more), t.goes more)) c.in-Err-next_turn.ensures.err))
 
 pub returns-in-Err-put_turn : goal.returns-in-Err-put_turn
 returns-in-Err-put_turn g c = λ before after.
@@ -171,7 +172,7 @@ returns-in-Err-put_turn g c = λ before after.
     let rest = (i.state c.next_turn.new.inputs).rest in
     let few : length piece ≤ 65536 = omega (arith, length-take-le n c.next_turn.new.buf (omega (arith, c.in-Ok-next_turn.ensures.within.1, c.next_turn.ensures.length, v.piece)), c.in-Ok-next_turn.ensures.within.1, v.piece) in
     let near = turn_near contents stream taken piece t.line t.sent c.loop-turn.lister rest old (o.state c.loop-turn.out).written now sel t.close few t.lists c.put_turn.ensures.longer in
-    list_ends stream (record before { inputs = i.state c.args.inputs.now; out = o.state c.args.out.now }) (record after { inputs = i.state c.next_turn.new.inputs; out = o.state c.put_turn.new.out }) (Err r) (end c.in-Err-put_turn.ensures.why) (stays_near r stream (record before { inputs = i.state c.args.inputs.now; out = o.state c.args.out.now }) (record after { inputs = i.state c.next_turn.new.inputs; out = o.state c.put_turn.new.out }) (unwritten_near contents stream rest old now _ r near (why_weaker c.in-Err-put_turn.ensures.why)))
+    list_ends stream (record before { inputs = i.state c.args.inputs.now; out = o.state c.args.out.now }) (record after { inputs = i.state c.next_turn.new.inputs; out = o.state c.put_turn.new.out }) (Err r) (end c.in-Err-put_turn.ensures.why) (stays_near r stream (record before { inputs = i.state c.args.inputs.now; out = o.state c.args.out.now }) (record after { inputs = i.state c.next_turn.new.inputs; out = o.state c.put_turn.new.out }) (unwritten_near contents stream rest old now _ given r near (why_weaker c.in-Err-put_turn.ensures.why)))
 
 pub returns-then-turn : goal.returns-then-turn
 returns-then-turn g c = λ before after.
@@ -218,7 +219,7 @@ returns-then-turn g c = λ before after.
     let few : length piece ≤ 65536 = omega (arith, length-take-le n c.next_turn.new.buf (omega (arith, c.in-Ok-next_turn.ensures.within.1, c.next_turn.ensures.length, v.piece)), c.in-Ok-next_turn.ensures.within.1, v.piece) in
     let longer = longer_twice (o.state c.loop-turn.out).written (o.state c.put_turn.new.out).written now c.put_turn.ensures.longer c.put_end-then-turn.ensures.longer in
     let near = turn_near contents stream taken piece t.line t.sent c.loop-turn.lister (i.state c.next_turn.new.inputs).rest old (o.state c.loop-turn.out).written now sel t.close few t.lists longer in
-    let close = err_weaker c.put_end-then-turn.result (λ r w. stays_near (event_of r) stream (record before { inputs = i.state c.args.inputs.now; out = o.state c.args.out.now }) (record after { inputs = i.state c.next_turn.new.inputs; out = o.state c.put_end-then-turn.new.out }) (unwritten_near contents stream (i.state c.next_turn.new.inputs).rest old now _ (event_of r) near w)) c.put_end-then-turn.ensures.why in
+    let close = err_weaker c.put_end-then-turn.result (λ r w. stays_near (event_of r) stream (record before { inputs = i.state c.args.inputs.now; out = o.state c.args.out.now }) (record after { inputs = i.state c.next_turn.new.inputs; out = o.state c.put_end-then-turn.new.out }) (unwritten_near contents stream (i.state c.next_turn.new.inputs).rest old now _ given (event_of r) near w)) c.put_end-then-turn.ensures.why in
     list_seen stream (record before { inputs = i.state c.args.inputs.now; out = o.state c.args.out.now }) (record after { inputs = i.state c.next_turn.new.inputs; out = o.state c.put_end-then-turn.new.out }) c.put_end-then-turn.result ok err close
 
 pub loop-turn-preserved : goal.loop-turn-preserved

@@ -1,12 +1,23 @@
 use Rattle.std.proofs.Common.{◌<◌, arith}
 use Rattle.x7_words.specs.Word.{AreBytes}
 use Rattle.x7_words.proofs.ListLemmas.{all_from_places}
-use Rattle.x7_forms.proofs.PlayerLemmas.{over_stays}
+use Rattle.x7_forms.proofs.PlayerLemmas.{not_over, over_stays}
 use Rattle.x7_forms.proofs.player.Player.play.Goals as goal
 
-pub returns-then-self : goal.returns-then-self
-returns-then-self c = λ part bytes h.
+pub returns-then-self-clause-ok : goal.returns-then-self-clause-ok
+returns-then-self-clause-ok c = λ part bytes h.
     let p = c.args.self.now in
     let piece = c.args.piece.now in
     let fits : AreBytes piece = all_from_places (λ b. b < 256) piece (λ k l. omega (arith, c.type_inv.piece k)) in
     over_stays p.over part bytes piece p.device p.buffer p.reads.items c.if-self.true fits h
+
+pub returns-in-Err-clause-front : goal.returns-in-Err-clause-front
+returns-in-Err-clause-front c =
+    let p = c.args.self.now in
+    let f = c.in-Err.ensures.front in
+    record {
+      front = f.front;
+      left = f.left;
+      parts = f.parts;
+      holds = λ part bytes h. f.holds part bytes (not_over p.over part bytes p.device p.buffer p.reads.items c.if-self.false h);
+    }
