@@ -1,9 +1,10 @@
 -- Equal words in a row, a block of them at a time.
-use Rattle.std.proofs.Common.{Bool, true, false, not, eqb, ◌≡◌, ℕ, zero, suc, ◌+◌, ◌-◌, ◌*◌, ◌/◌, ◌<◌, ◌≤◌, List, [], ◌++◌, length, take, drop, drop-drop, take-add, take_all, length-drop, replicate, get_or, refl, ap, sym, ◌∙◌, append_assoc, arith}
+use Rattle.std.proofs.Common.{Bool, true, false, not, cond, w8, map, ◌%◌, ◌^◌, ◌==◌, ◌≡◌, ℕ, zero, suc, ◌+◌, ◌-◌, ◌*◌, ◌/◌, ◌<◌, ◌≤◌, List, [], ◌∷◌, ◌++◌, length, take, drop, drop-drop, take-add, take_all, length-drop, replicate, get_or, refl, ap, sym, ◌∙◌, append_assoc, arith}
 use Rattle.std.proofs.Math.Nat.{mul-suc}
-use Rattle.std.proofs.lemmas.Bool.Decides.{Decides-eqb}
-use Rattle.std.proofs.lemmas.Slice.Eq.{slice_eq-Decides}
-use Rattle.std.specs.Cmp.Lexicographic.{pointwise}
+use Rattle.std.proofs.lemmas.Bool.{eqb-true}
+use Rattle.std.proofs.lemmas.Simd.{length-zip2, mask_l-mod, tops_compared}
+use lib.Lanes.{mask_l, top, zip2}
+use mir.Val.{bits, hbits}
 use Rattle.std.specs.List.{flat_map}
 use Rattle.std.specs.Simd.{first_chunks}
 use Rattle.x7_words.specs.Word.{bytes_of_word}
@@ -20,13 +21,26 @@ equal-add w zero n = ap (equal_bytes w) (let e : 0 + n ≡ n = omega arith in e)
 equal-add w (suc m) n =
     ap (equal_bytes w) (let e : suc m + n ≡ suc (m + n) = omega arith in e) ∙ ap (λ t. bytes_of_word w ++ t) (equal-add w m n) ∙ sym (append_assoc (bytes_of_word w) (equal_bytes w m) (equal_bytes w n))
 
--- two blocks compared
-pub same-block : (a b : List ℕ) (r : Bool) → r ≡ not (pointwise eqb a b) → r ≡ false → a ≡ b
-same-block a b r e h = (slice_eq-Decides Decides-eqb a b (pointwise eqb a b) refl).0 (by (pointwise eqb a b) (sym e ∙ h))
-  where
-    by : (t : Bool) → not t ≡ false → t ≡ true
-    by true e = refl
-    by false e = absurd cc
+-- ---- two blocks compared in registers
+
+abbrev differs : ℕ → ℕ → Bool
+differs a b = not (a == b)
+
+mask-differs : (xs ys : List ℕ) → length xs ≡ 32 → length ys ≡ 32 → mask_l (map (top (hbits w8)) (zip2 (λ a b. cond (differs a b) (2 ^ bits w8 - 1) 0) xs ys)) % 2 ^ 64 ≡ mask_l (zip2 differs xs ys)
+mask-differs xs ys e f = ap (λ ms. mask_l ms % 2 ^ 64) (tops_compared w8 differs xs ys) ∙ mask_l-mod (zip2 differs xs ys) 64 (omega (arith, length-zip2 differs xs ys (e ∙ sym f), e))
+
+same-head : (b : Bool) (m x y : ℕ) (xs ys : List ℕ) → (b ≡ true → x ≡ y) → cond (not b) 1 0 + 2 * m ≡ 0 → (m ≡ 0 → xs ≡ ys) → x ∷ xs ≡ y ∷ ys
+same-head true m x y xs ys e h more = ap (λ (k : ℕ). k ∷ xs) (e refl) ∙ ap (λ t. y ∷ t) (more (omega (arith, h)))
+same-head false m x y xs ys e h more = absurd (omega (arith, h))
+
+same-by-none : (xs ys : List ℕ) → length xs ≡ length ys → mask_l (zip2 differs xs ys) ≡ 0 → xs ≡ ys
+same-by-none [] [] e h = refl
+same-by-none [] (y ∷ ys) e h = absurd (omega (arith, e))
+same-by-none (x ∷ xs) [] e h = absurd (omega (arith, e))
+same-by-none (x ∷ xs) (y ∷ ys) e h = same-head (x == y) (mask_l (zip2 differs xs ys)) x y xs ys (eqb-true x y) h (same-by-none xs ys (omega (arith, e)))
+
+pub same-block : (a b : List ℕ) → length a ≡ 32 → length b ≡ 32 → mask_l (map (top (hbits w8)) (zip2 (λ a b. cond (differs a b) (2 ^ bits w8 - 1) 0) a b)) % 2 ^ 64 ≡ 0 → a ≡ b
+same-block a b p q e = same-by-none a b (p ∙ sym q) (sym (mask-differs a b p q) ∙ e)
 
 -- the bytes of a word, so many times
 pub eight-equal : (n w : ℕ) (bytes : List ℕ) → bytes ≡ bytes_of_word w → flat_map (λ x. x) (replicate n bytes) ≡ equal_bytes w n

@@ -1,7 +1,8 @@
 //! Equal words in a row (UG470, packet types).
-ghost use Rattle.std.specs.Prelude.{◌≡◌, ◌≤◌, ◌*◌, length, take};
+ghost use Rattle.std.specs.Prelude.{◌≡◌, ◌≤◌, ◌*◌, length, take, IsTrue};
 ghost use Rattle.x7_packets.specs.Nops.{equal_bytes};
 
+use std::simd::prelude::*;
 use x7_words::{bytes_of, word_of};
 
 /// How many words a block has.
@@ -32,6 +33,17 @@ fn block_of(w: u32) -> [u8; 32]
     block
 }
 
+/// Whether two blocks are the same, all their bytes at once.
+#[inline(always)]
+fn is_block(a: &[u8; 32], b: &[u8; 32]) -> bool
+    ensures { IsTrue result → a.now ≡ b.now }
+{
+    u8x32::from_array(*a)
+        .simd_ne(u8x32::from_array(*b))
+        .to_bitmask()
+        == 0
+}
+
 /// How many of the first blocks of eight words have none but this one.
 #[inline(always)]
 fn count_blocks(bytes: &[u8], w: u32) -> usize
@@ -41,7 +53,7 @@ fn count_blocks(bytes: &[u8], w: u32) -> usize
     let block = block_of(w);
     let (blocks, _) = bytes.as_chunks::<32>();
     for (i, next) in blocks.iter().enumerate() {
-        if *next != block {
+        if !is_block(next, &block) {
             return i;
         }
     }
