@@ -43,11 +43,8 @@ static void program(int f, long place, const unsigned char *given, long count) {
 }
 
 static void erase(int f, long number) {
-    unsigned char ones[PIECE];
-    memset(ones, 0xFF, PIECE);
-    if (lseek(f, number * SECTOR, SEEK_SET) < 0) stop("seek");
-    for (int i = 0; i < SECTOR / PIECE; i++)
-        if (write(f, ones, PIECE) != PIECE) stop("write");
+    memset(sector, 0xFF, SECTOR);
+    write_at(f, number * SECTOR, sector, SECTOR);
     if (fdatasync(f)) stop("sync");
 }
 

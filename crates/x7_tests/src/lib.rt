@@ -8,8 +8,6 @@ mod faults;
 #[cfg(test)]
 mod files;
 #[cfg(test)]
-mod forgetful;
-#[cfg(test)]
 mod frames;
 #[cfg(test)]
 mod port;
@@ -17,5 +15,3 @@ mod port;
 mod status;
 #[cfg(test)]
 mod texts;
-#[cfg(test)]
-mod updates;
