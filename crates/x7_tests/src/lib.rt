@@ -8,6 +8,8 @@ mod faults;
 #[cfg(test)]
 mod files;
 #[cfg(test)]
+mod forgetful;
+#[cfg(test)]
 mod frames;
 #[cfg(test)]
 mod port;
@@ -15,3 +17,5 @@ mod port;
 mod status;
 #[cfg(test)]
 mod texts;
+#[cfg(test)]
+mod updates;

@@ -146,7 +146,7 @@ out_same old new e = ap (λ (s : SinkState). s.written) e
 
 -- bytes that stay, whatever the reason
 pub keeps_all : (reason : Why) (old new : FlashState) → new.bytes ≡ old.bytes → KeepsBytes reason old new
-keeps_all why.ReadFault old new e = tt
+keeps_all why.ReadFault old new e = inr e
 keeps_all why.WriteFault old new e = tt
 keeps_all (why.Differs place) old new e = tt
 keeps_all reason old new e = e
@@ -199,7 +199,7 @@ pub fault_ends : (flash stream bytes : List ℕ) (old new : Outside) (fault : Up
 fault_ends flash stream bytes old new (Failed true) out asked within has h early =
     record { cause = (refl, inr h); wrote = out_same old new out; near = near_all (Updating flash stream) (status_of write_fault) old new refl; updates = tt }
 fault_ends flash stream bytes old new (Failed false) out asked within has h early =
-    refused_ends flash stream old new (read_fault flash) out (inl (inr (record { among = inl refl; asked = asked; risen = h }), flash_due (known_in old) (Failing flash new.inputs.given) flash stream refl)) tt
+    refused_ends flash stream old new (read_fault flash) out (inl (inr (record { among = inl refl; asked = asked; risen = h }), flash_due (known_in old) (Failing flash new.inputs.given) flash stream refl)) (inl h)
 fault_ends flash stream bytes old new TooLong out asked within has h early =
     refused_ends flash stream old new (bad_input stream input.Long) out
     (update_over flash stream old new (Err (bad_input stream input.Long)) (tt, tt) (λ t e. fault_told (names flash stream) old.flash.bytes (stream_data t stream) bytes TooLong within (data_at (known_in old) stream bytes has t e) h)) (early tt)

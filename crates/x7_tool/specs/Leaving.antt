@@ -1,6 +1,6 @@
 -- What a run leaves of a flash, and what may be found of it after a power loss at any moment (this project's choice).
 use Rattle.std.specs.Prelude.{◌≡◌, ℕ, List, Option, None, Some, Result, Ok, Err, ◌⊎◌}
-use Rattle.x7_words.specs.Flash.{FlashState, WhereTold}
+use Rattle.x7_words.specs.Flash.{FlashFails, FlashState, WhereTold}
 use Rattle.x7_words.specs.Input.{InputsState}
 use Rattle.x7_update.specs.After.{IsAfter, MayBeLeft}
 use Rattle.x7_update.specs.Writing.{AtAnyMoment, Becomes}
@@ -42,14 +42,14 @@ pub record IsUpdateOf (form : Option Asked) (inputs : InputsState) (flash : Flas
   pub bytes : flash.bytes ≡ Some u.flash
   pub prepared : IsPrepared u
 
--- by the reason of an update that wasn't done: where it comes before the first write, the bytes stay
+-- by the reason of an update that wasn't done: the bytes stay, but where a write or a read of the flash failed, or a byte differs
 abbrev pub KeepsBytes : Why → FlashState → FlashState → Type 0
-KeepsBytes why.ReadFault old new = Unit {0}
+KeepsBytes why.ReadFault old new = FlashFails old new ⊎ (new.bytes ≡ old.bytes)
 KeepsBytes why.WriteFault old new = Unit {0}
 KeepsBytes (why.Differs place) old new = Unit {0}
 KeepsBytes reason old new = new.bytes ≡ old.bytes
 
--- an update that is done leaves the flash as it is after one with the stream's data
+-- An update that is done leaves the flash as it is after one with the stream's data. One that isn't leaves its bytes, as its reason says.
 abbrev pub Updates : Option (List ℕ) → Outside → Outside → Result Answer Event → Type 0
 Updates None old new end = Unit {0}
 Updates (Some stream) old new (Ok answer) = (bytes : List ℕ) × HasData (known_in old) stream bytes × Becomes old.flash new.flash (IsAfter bytes)

@@ -67,5 +67,5 @@ pub record Runs (form : Option Asked) (old new : Outside) (s : Status) : Type 0 
   pub promise : Promise (known_in old) form end
   -- the flash is untouched, read or written as the form says, and was asked for no name but the form's
   pub flash : KeepsFlash (flash_use form) old.flash new.flash
-  -- an update that is done left the flash as it is after one, and one that was refused left its bytes
+  -- an update that is done left the flash as it is after one; one that isn't left its bytes, but where a write or a read of the flash failed, or a byte differs
   pub updates : Updates (updated_by form) old new end
