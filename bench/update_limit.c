@@ -13,20 +13,15 @@ static unsigned char sector[SECTOR];
 
 static void stop(const char *what) { perror(what); exit(1); }
 
-static void read_at(int f, long place, unsigned char *to, long count) {
-    if (lseek(f, place, SEEK_SET) != place) stop("seek");
-    for (long done = 0; done < count;) {
-        long n = read(f, to + done, count - done);
-        if (n <= 0) stop("read");
-        done += n;
-    }
-}
+enum { READ, WRITE };
 
-static void write_at(int f, long place, const unsigned char *from, long count) {
+/* Reads or writes all of the bytes from the place on. */
+static void move_at(int f, int call, long place, unsigned char *bytes, long count) {
     if (lseek(f, place, SEEK_SET) != place) stop("seek");
     for (long done = 0; done < count;) {
-        long n = write(f, from + done, count - done);
-        if (n <= 0) stop("write");
+        long left = count - done;
+        long n = call == READ ? read(f, bytes + done, left) : write(f, bytes + done, left);
+        if (n <= 0) stop(call == READ ? "read" : "write");
         done += n;
     }
 }
@@ -35,16 +30,16 @@ static void program(int f, long place, const unsigned char *given, long count) {
     unsigned char old[PIECE];
     for (long done = 0; done < count; done += PIECE) {
         long n = count - done < PIECE ? count - done : PIECE;
-        read_at(f, place + done, old, n);
+        move_at(f, READ, place + done, old, n);
         for (long i = 0; i < n; i++) old[i] &= given[done + i];
-        write_at(f, place + done, old, n);
+        move_at(f, WRITE, place + done, old, n);
     }
     if (fdatasync(f)) stop("sync");
 }
 
 static void erase(int f, long number) {
     memset(sector, 0xFF, SECTOR);
-    write_at(f, number * SECTOR, sector, SECTOR);
+    move_at(f, WRITE, number * SECTOR, sector, SECTOR);
     if (fdatasync(f)) stop("sync");
 }
 
@@ -56,8 +51,8 @@ int main(int argc, char **argv) {
     long size = lseek(f, 0, SEEK_END), count = of.st_size;
     unsigned char *stream = malloc(count + 1);
     if (!stream) stop("memory");
-    read_at(s, 0, stream, count);
-    read_at(f, 0, sector, SECTOR);
+    move_at(s, READ, 0, stream, count);
+    move_at(f, READ, 0, sector, SECTOR);
     long update = (long)sector[12] << 24 | sector[13] << 16 | sector[14] << 8 | sector[15];
     static const unsigned char open_word[4] = {0xAA, 0x99, 0x55, 0x66}, spent[4], ones[4] = {0xFF, 0xFF, 0xFF, 0xFF};
     long opened = -1, next = 0;
@@ -71,13 +66,13 @@ int main(int argc, char **argv) {
     for (long number = update / SECTOR; number < size / SECTOR; number++) erase(f, number);
     program(f, update, stream, count);
     for (long place = update; place < size; place += SECTOR) {
-        read_at(f, place, sector, SECTOR);
+        move_at(f, READ, place, sector, SECTOR);
         for (long i = 0; i < SECTOR; i++) {
             long at = place - update + i;
             if (sector[i] != (at < count ? stream[at] : 0xFF)) return 11;
         }
     }
     program(f, 32 * next, open_word, 4);
-    read_at(f, 32 * next, sector, 4);
+    move_at(f, READ, 32 * next, sector, 4);
     return memcmp(sector, open_word, 4) ? 11 : 0;
 }
