@@ -3,7 +3,7 @@ use Rattle.std.proofs.Common.{◌≡◌, ◌==◌, ◌+◌, ◌<◌, inl, inr, �
 use Rattle.std.specs.Prelude.{if◌then◌else◌, nat_le, ◌||◌}
 use Rattle.std.proofs.lemmas.Bool.Decides.{nat_tests}
 use Rattle.x7_words.specs.Word.{AreBytes}
-use Rattle.x7_words.proofs.ListLemmas.{all_back, all_front}
+use Rattle.x7_words.proofs.ListLemmas.{all_back, all_front, all_take}
 use Rattle.x7_packets.specs.History.{Write}
 use Rattle.x7_part.specs.Part.{PartData}
 use Rattle.x7_engine.specs.Kept.{is_fallback}
@@ -22,7 +22,7 @@ use Rattle.x7_boot.specs.declared.attempt.Ending.TheVariants as ending
 use Rattle.x7_boot.specs.declared.boots.BootEnd.{BootEnd}
 use Rattle.x7_boot.specs.declared.boots.BootEnd.TheVariants as boot_end
 use Rattle.x7_boot.specs.declared.next.Next.TheVariants.{Again, Ends}
-use Rattle.x7_boot.proofs.StartLemmas.{front_fits, seven_late}
+use Rattle.x7_boot.proofs.StartLemmas.{seven_late}
 
 -- a stop is no start
 no_cause_starts : (c : Option Cause) → failed_by c ≡ Some ending.Started → ⊥
@@ -57,7 +57,7 @@ trial_fits part flash t fits is = by is
 
     by : IsTrial part flash t → AreBytes t.bytes
     by (inl first) = all_front (λ b. b < 256) t.bytes first.rest (subst AreBytes first.taken behind)
-    by (inr out) = subst AreBytes (sym out.taken) (front_fits (taken_of part t.kept (drop t.address flash)) (drop t.address flash) behind)
+    by (inr out) = subst AreBytes (sym out.taken) (all_take (λ b. b < 256) (taken_of part t.kept (drop t.address flash)) (drop t.address flash) behind)
 
 pub attempt_checked : (part : PartData) (flash : List ℕ) (t : Trial) → AreBytes flash → IsTrial part flash t → 0 < (end_state part t).phase → HasChecked part t.kept t.bytes
 attempt_checked part flash t fits is late = checked part t.kept t.wrapped t.bytes (trial_fits part flash t fits is) late

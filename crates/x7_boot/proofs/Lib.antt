@@ -1,15 +1,10 @@
 pub mod BootedLemmas
 pub mod CheckedLemmas
 pub mod EveryBootLemmas
-pub mod FirstSlotLemmas
-pub mod FullTrialLemmas
-pub mod ImageBootLemmas
 pub mod ImageLemmas
 pub mod LeastLemmas
 pub mod OneBootLemmas
 pub mod PageLemmas
-pub mod PremiseLemmas
-pub mod SlotLemmas
 pub mod StartLemmas
 pub mod TookLemmas
 pub mod TrialLemmas

@@ -3,7 +3,7 @@ use Rattle.std.proofs.Common.{◌≡◌, ◌==◌, ◌<◌, ◌⊎◌, inl, inr,
 use Rattle.std.specs.Prelude.{nat_lt}
 use Rattle.std.proofs.lemmas.Bool.Decides.{nat_tests}
 use Rattle.x7_words.specs.Word.{AreBytes}
-use Rattle.x7_words.proofs.ListLemmas.{all_front}
+use Rattle.x7_words.proofs.ListLemmas.{all_front, all_take}
 use Rattle.x7_packets.specs.History.{Entry, History, executes, history_of, until}
 use Rattle.x7_packets.proofs.GrowthLemmas.{front_of}
 use Rattle.x7_part.specs.Part.{PartData}
@@ -73,9 +73,6 @@ never_seven part kept bytes fits never = by ((state_of part kept false bytes).ph
 
 -- ---- the first of some bytes
 
-pub front_fits : (k : ℕ) (bytes : List ℕ) → AreBytes bytes → AreBytes (take k bytes)
-front_fits k bytes fits = all_front (λ b. b < 256) (take k bytes) (drop k bytes) (subst AreBytes (sym (take-append-drop k bytes)) fits)
-
 pub front_history : (k : ℕ) (bytes : List ℕ) → AreBytes bytes → history_of (take k bytes) ≡ until (length (take k bytes)) (history_of bytes)
 front_history k bytes fits =
     let whole : take k bytes ++ drop k bytes ≡ bytes = take-append-drop k bytes in
@@ -100,4 +97,4 @@ goes_on part kept bytes early none = ends_by_stop part kept bytes early ∙ ap (
 pub front_open : (part : PartData) (kept : Kept) (k : ℕ) (bytes : List ℕ) → AreBytes bytes → NeverStarts (history_of bytes) → stop_in part kept (take k bytes) ≡ None → ending_at part kept (take k bytes) ≡ None
 front_open part kept k bytes fits never none =
     goes_on part kept (take k bytes)
-    (never_seven part kept (take k bytes) (front_fits k bytes fits) (subst NeverStarts (sym (front_history k bytes fits)) (never_until (length (take k bytes)) (history_of bytes) never))) none
+    (never_seven part kept (take k bytes) (all_take (λ b. b < 256) k bytes fits) (subst NeverStarts (sym (front_history k bytes fits)) (never_until (length (take k bytes)) (history_of bytes) never))) none

@@ -93,6 +93,12 @@ pub record Took (part : PartData) (kept : Kept) (d : DeviceState) (bytes piece :
   pub steps : StepsTo part kept (bytes ++ take count piece) step
   pub none : (k : ℕ) → k < count → ending_at part kept (bytes ++ take k piece) ≡ None
 
+-- whatever bytes the device had taken, without a stop and in an attempt that nothing had ended: it took bytes of a page
+abbrev pub TakesPage : DeviceState → List ℕ → Step → DeviceState → Type 0
+TakesPage old page step new =
+    (part : PartData) (kept : Kept) (bytes : List ℕ) → DeviceStandsFor part kept false old bytes → stop_in part kept bytes ≡ None → ending_at part kept bytes ≡ None
+    → Took part kept new bytes page step
+
 -- a device in an attempt that nothing has ended, with room in the count for so many bytes more
 pub record IsReady (d : DeviceState) (more : ℕ) : Type 0 where
   pub part : PartData

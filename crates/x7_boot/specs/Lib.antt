@@ -1,7 +1,6 @@
 pub mod Attempt
 pub mod Boot
+pub mod BootLines
 pub mod Checked
-pub mod Example
 pub mod Image
-pub mod ImageBoot
 pub mod Pages

@@ -61,6 +61,11 @@ ArePages known extent pages = (page : ℕ × Vec ℕ Global) → Contains pages 
 abbrev pub KeepsPages : List ℕ → ℕ → ℕ → Pages → Pages → Type 0
 KeepsPages block number count old new = (known : Option (List ℕ)) (extent : ℕ) → IsBlock known extent number count block → ArePages known extent old → ArePages known extent new
 
+-- of whatever flash these are pages, and this the block that was loaded: these are its bytes from the place on
+abbrev pub HoldsFrom : Pages → List ℕ → ℕ → Loaded → List ℕ → Type 0
+HoldsFrom pages block at loaded bytes =
+    (known : Option (List ℕ)) (extent : ℕ) → at < extent → ArePages known extent pages → IsLoaded known extent (at / page_size) block loaded → AreFrom known extent at bytes
+
 -- the page of a place of a flash is among pages of it
 pub record HasPage (pages : Pages) (at : ℕ) : Type 0 where
   pub known : Option (List ℕ)

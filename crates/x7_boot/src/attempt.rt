@@ -5,7 +5,7 @@ ghost use Rattle.x7_engine.specs.Standing.{DeviceStandsFor};
 ghost use Rattle.x7_engine.specs.State.{stop_in};
 ghost use Rattle.x7_engine.specs.Values.{cause_of};
 ghost use Rattle.x7_engine.specs.declared.kept.Kept.{Kept as KeptData};
-ghost use Rattle.x7_boot.specs.Attempt.{ending_at, IsReady, step_by, Took};
+ghost use Rattle.x7_boot.specs.Attempt.{IsReady, step_by, TakesPage};
 
 use x7_engine::{Device, Fault, Fed, ReadBuf, UntilStarted};
 use x7_regs::Cause;
@@ -62,8 +62,7 @@ fn step_of(fed: Fed, cause: Option<Cause>) -> Step
 /// Gives a device bytes of a flash, up to what ends the attempt or stops the device.
 pub(crate) fn take_page(device: &mut Device, page: &[u8]) -> Step
     requires { IsReady device.old (length page.now) }
-    ensures { (part : PartData) (kept : KeptData) (bytes : List ℕ) → DeviceStandsFor part kept false device.old bytes → stop_in part kept bytes ≡ None
-        → ending_at part kept bytes ≡ None → Took part kept device.new bytes page.now result }
+    ensures { TakesPage device.old page.now result device.new }
 {
     let mut read = ReadBuf::dropping();
     match device.feed_until_started(page, &mut read) {

@@ -2,7 +2,7 @@
 ghost use Rattle.std.specs.Prelude.{◌≡◌, ◌+◌, ◌*◌, ◌/◌, ◌%◌, ◌<◌, ◌≤◌, ℕ, List, Option, None, [], length, true, nat_eq, IfOk, OnOk, IsErrOf, IsSome};
 ghost use Rattle.x7_words.specs.Flash.{FlashFails, OnlyReads};
 ghost use Rattle.std.specs.Map.{lookup};
-ghost use Rattle.x7_boot.specs.Pages.{AreFrom, ArePages, HasPage, IsBlock, IsLoaded, IsRest, KeepsPages, Reaches, block_pages, page_size};
+ghost use Rattle.x7_boot.specs.Pages.{ArePages, HasPage, HoldsFrom, IsBlock, IsLoaded, IsRest, KeepsPages, Reaches, block_pages, page_size};
 
 use crate::fault::BootFault;
 use crate::pages::{BLOCK_PAGES, PAGE, read_block};
@@ -152,8 +152,7 @@ impl PageCache {
     pub(crate) fn bytes_from(&self, at: u64, loaded: Loaded) -> &[u8]
         requires page { HasPage self.now.pages.entries at }
         requires block { Reaches at self.now.block.items loaded }
-        ensures { (known : Option (List ℕ)) (extent : ℕ) → at < extent → ArePages known extent self.now.pages.entries
-            → IsLoaded known extent (at / page_size) self.now.block.items loaded → AreFrom known extent at result.now }
+        ensures { HoldsFrom self.now.pages.entries self.now.block.items at loaded result.now }
     {
         match loaded {
             Loaded::Kept => self.rest_of_page(at),

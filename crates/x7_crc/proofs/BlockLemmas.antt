@@ -6,7 +6,8 @@ use Rattle.std.proofs.lemmas.Nat.{xor_comm}
 use Rattle.std.proofs.lemmas.List.{drop_all, drop-drop, length-drop}
 use Rattle.std.specs.List.{flat_map}
 use Rattle.std.specs.Simd.{first_chunks}
-use Rattle.x7_words.specs.Word.{word_of_bytes, words_of_bytes}
+use Rattle.x7_words.proofs.WordLemmas.{words_apart}
+use Rattle.x7_words.specs.Word.{words_of_bytes}
 use Rattle.x7_crc.specs.RunningCheck.{check_after, writes_to}
 use Rattle.x7_crc.specs.ShiftRegister.{advanced}
 use Rattle.x7_crc.proofs.CheckLemmas.{advanced_by_write, check_after-append, check_after_fits, check_after-none}
@@ -121,16 +122,6 @@ four_of (a ∷ b ∷ []) e = absurd (omega arith)
 four_of (a ∷ b ∷ c ∷ []) e = absurd (omega arith)
 four_of (a ∷ b ∷ c ∷ d ∷ []) e = refl
 four_of (a ∷ b ∷ c ∷ d ∷ x ∷ ws) e = absurd (omega arith)
-
-pub words_apart : (k : ℕ) (bs : List ℕ) → k * 4 ≤ length bs → words_of_bytes bs ≡ words_of_bytes (take (k * 4) bs) ++ words_of_bytes (drop (k * 4) bs)
-words_apart zero bs h = refl
-words_apart (suc k) [] h = absurd (omega arith)
-words_apart (suc k) (a ∷ []) h = absurd (omega arith)
-words_apart (suc k) (a ∷ b ∷ []) h = absurd (omega arith)
-words_apart (suc k) (a ∷ b ∷ c ∷ []) h = absurd (omega arith)
-words_apart (suc k) (a ∷ b ∷ c ∷ d ∷ bs) h =
-    let e : suc k * 4 ≡ suc (suc (suc (suc (k * 4)))) = omega arith in
-    rw e (ap (λ x. word_of_bytes (a ∷ b ∷ c ∷ d ∷ []) ∷ x) (words_apart k bs (omega arith)))
 
 pub words_by_blocks : (n : ℕ) (bs : List ℕ) → n * 16 ≤ length bs → words_of_bytes bs ≡ flat_map words_of_bytes (first_chunks 16 n bs) ++ words_of_bytes (drop (n * 16) bs)
 words_by_blocks zero bs h = refl

@@ -1,11 +1,10 @@
 -- Lemmas on specs/RunningCheck: the check is what the shift register holds.
-use Rattle.std.proofs.Common.{Bool, ◌≡◌, ℕ, zero, suc, ◌+◌, ◌/◌, ◌^◌, ◌<◌, ◌≤◌, List, [], ◌∷◌, ◌++◌, length, bit_xor, refl, sym, ap, ◌∙◌, arith, lit<, append_assoc, append-nil, map, drop, get_or, add-one, drop-cons, subst, ◌*◌}
+use Rattle.std.proofs.Common.{Bool, ◌≡◌, ℕ, ◌+◌, ◌^◌, ◌<◌, ◌≤◌, List, [], ◌∷◌, ◌++◌, length, bit_xor, refl, sym, ap, ◌∙◌, arith, lit<, append_assoc, append-nil, map, drop, get_or, add-one, drop-cons, subst, ◌*◌}
 use Rattle.std.proofs.Math.Nat.{zero-mul}
 use Rattle.std.specs.Int.Bits.{xor_zero_l}
 use Rattle.std.proofs.lemmas.Nat.{xor_comm, xor_lt}
 use Rattle.std.proofs.lemmas.List.{drop_all}
-use Rattle.std.specs.Simd.{first_chunks}
-use Rattle.x7_words.specs.Word.{word_of_bytes, words_of_bytes}
+use Rattle.x7_words.specs.Word.{word_of_bytes}
 use Rattle.x7_crc.specs.Polynomial.{from_highest, IsRemainder, mirrored, remainder}
 use Rattle.x7_crc.specs.RunningCheck.{bits_of_write, bits_of_writes, check_after, check_of, dividend, generator, low_bits, writes_to}
 use Rattle.x7_crc.specs.ShiftRegister.{shifted_all, advanced}
@@ -80,20 +79,6 @@ check_after-linear v register word h k l =
 -- the check of writes, and of more behind them
 pub check_of-more : (v : ℕ) (writes more : List (ℕ × ℕ)) → v ≡ check_of writes → check_after v more ≡ check_of (writes ++ more)
 check_of-more v writes more e = ap (λ x. check_after x more) e ∙ sym (check_after-append 0 writes more (lit< tt))
-
--- ---- the words of a slice, by its chunks
-
-pub words_by_chunks : (n : ℕ) (bs : List ℕ) → length bs / 4 ≡ n → words_of_bytes bs ≡ map word_of_bytes (first_chunks 4 n bs)
-words_by_chunks zero [] h = refl
-words_by_chunks zero (a ∷ []) h = refl
-words_by_chunks zero (a ∷ b ∷ []) h = refl
-words_by_chunks zero (a ∷ b ∷ c ∷ []) h = refl
-words_by_chunks zero (a ∷ b ∷ c ∷ d ∷ bs) h = absurd (omega arith)
-words_by_chunks (suc n) [] h = absurd (omega arith)
-words_by_chunks (suc n) (a ∷ []) h = absurd (omega arith)
-words_by_chunks (suc n) (a ∷ b ∷ []) h = absurd (omega arith)
-words_by_chunks (suc n) (a ∷ b ∷ c ∷ []) h = absurd (omega arith)
-words_by_chunks (suc n) (a ∷ b ∷ c ∷ d ∷ bs) h = ap (λ x. word_of_bytes (a ∷ b ∷ c ∷ d ∷ []) ∷ x) (words_by_chunks n bs (omega arith))
 
 check_after_next : (v register i : ℕ) (chunks : List (List ℕ)) → v < 2 ^ 32 → i < length chunks →
     check_after v (writes_to register (map word_of_bytes (drop i chunks)))

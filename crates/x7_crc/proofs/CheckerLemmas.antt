@@ -1,6 +1,7 @@
 -- The check after a written word, a run and a piece.
-use Rattle.std.proofs.Common.{◌≡◌, ◌==◌, ◌||◌, ◌≤◌, ◌<◌, ◌^◌, Bool, ◌+◌, ◌-◌, ◌*◌, ℕ, true, false, [], ◌∷◌, ◌++◌, List, length, take, drop, refl, sym, ap, subst, ◌∙◌, lit<, arith, append_assoc, take-add, take_all, min, length-drop, length-append}
+use Rattle.std.proofs.Common.{◌≡◌, ◌==◌, ◌||◌, ◌≤◌, ◌<◌, ◌^◌, Bool, ◌+◌, ◌-◌, ◌*◌, ℕ, true, false, [], ◌∷◌, ◌++◌, List, length, take, drop, refl, sym, ap, subst, ◌∙◌, lit<, arith, append_assoc, take_all, min, length-drop, length-append}
 use Rattle.std.proofs.lemmas.List.{take-append-drop, take-append-le}
+use Rattle.x7_words.proofs.ListLemmas.{take_up_to}
 use Rattle.x7_packets.specs.Cutting.{between, CutterState, CutterStandsFor, Goes, run_steps, Went}
 use Rattle.x7_packets.specs.History.{command_held, entered_all, entry, executes, History, history_of, next_word, Write}
 use Rattle.x7_packets.specs.Packet.{payload_steps}
@@ -33,9 +34,6 @@ entered-more register n [] w h = let e : n + 4 ≡ n + 4 * 0 + 4 = omega arith i
 entered-more register n (v ∷ ws) w h = let e : n + 4 + 4 * length ws + 4 ≡ n + 4 * length (v ∷ ws) + 4 = omega arith in
     entered-more register (n + 4) ws w (entry (Write register v) (n + 4) ∷ h) ∙ ap (λ (k : ℕ). entry (Write register w) k ∷ entered_all (n + 4) (payload_steps register ws) (entry (Write register v) (n + 4) ∷ h)) e
 
-reached : (piece : List ℕ) (at to : ℕ) → at ≤ to → take at piece ++ between piece at to ≡ take to piece
-reached piece at to h = let e : at + (to - at) ≡ to = omega arith in sym (take-add at (to - at) piece) ∙ ap (λ (k : ℕ). take k piece) e
-
 -- a call of the cutter, and the sum after its run
 pub took : (c d : CutterState) (run : Cut) (check held check2 held2 at to : ℕ) (bytes piece : List ℕ)
     → Checks c check held (bytes ++ take at piece) → at ≤ to
@@ -49,7 +47,7 @@ took c d run check held check2 held2 at to bytes piece s h went after =
     let n : ℕ = next_word s.sessions s.place in
     let grown : history_of (bytes ++ take at piece ++ between piece at to) ≡ entered_all (next_word s.sessions s.place) (run_steps run) (history_of (bytes ++ take at piece)) =
     cut_enters c d (bytes ++ take at piece) (between piece at to) s.sessions s.place run (next_word s.sessions s.place) s.stands w (next_word-is (bytes ++ take at piece) s.sessions s.place s.stands.reading) in
-    let e : bytes ++ take at piece ++ between piece at to ≡ bytes ++ take to piece = append_assoc bytes (take at piece) (between piece at to) ∙ ap (λ t. bytes ++ t) (reached piece at to h) in
+    let e : bytes ++ take at piece ++ between piece at to ≡ bytes ++ take to piece = append_assoc bytes (take at piece) (between piece at to) ∙ ap (λ t. bytes ++ t) (take_up_to piece at to h) in
     let all : Checks d check2 held2 (bytes ++ take at piece ++ between piece at to) = record {
       sessions = w.new_sessions;
       place = w.new_place;

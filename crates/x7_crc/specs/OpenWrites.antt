@@ -1,14 +1,21 @@
 -- The running check of a history of accesses: that of its writes since the check was last cleared (UG470, cyclic redundancy
 -- check).
-use Rattle.std.specs.Prelude.{ℕ, List, [], ◌∷◌, ◌++◌}
-use Rattle.x7_packets.specs.History.{History}
-use Rattle.x7_packets.specs.RunningCheck.{RegisterWrite, open_writes}
+use Rattle.std.specs.Prelude.{◌≡◌, ◌≢◌, ℕ, false, List, [], ◌∷◌, ◌++◌}
+use Rattle.x7_regs.specs.Register.{number_of}
+use Rattle.x7_regs.specs.declared.register.Reg.TheVariants.{Lout}
+use Rattle.x7_packets.specs.History.{History, Write}
+use Rattle.x7_packets.specs.RunningCheck.{RegisterWrite, clears, open_writes}
 use Rattle.x7_crc.specs.RunningCheck.{check_of}
 
 -- writes that stand with the newest first, in the order in which they came
 abbrev pub in_order : List RegisterWrite → List (ℕ × ℕ)
 in_order [] = []
 in_order (write ∷ before) = in_order before ++ (write.register, write.word) ∷ []
+
+-- the write goes on with the check: it does not clear it, and is none of LOUT
+pub record Folds (h : History) (register word : ℕ) : Type 0 where
+  pub goes_on : clears h (Write register word) ≡ false
+  pub other : register ≢ number_of Lout
 
 -- the running check of a history
 abbrev pub running_check : History → ℕ

@@ -1,7 +1,7 @@
 -- The running check of writes to registers (UG470, cyclic redundancy check). That it is CRC-32C, in this order of the bits
 -- and from 0 on, is this project's choice.
 use Rattle.std.specs.Prelude.{◌==◌, ℕ, zero, suc, ◌+◌, ◌*◌, ◌/◌, ◌%◌, ◌^◌, Bool, List, [], ◌∷◌, ◌++◌, length, map, bit_xor}
-use Rattle.x7_crc.specs.Polynomial.{from_highest, mirrored, remainder}
+use Rattle.x7_crc.specs.Polynomial.{from_highest, IsRemainder, mirrored, remainder}
 
 -- the polynomial of CRC-32C, x^32 + 1EDC6F41
 abbrev pub generator : ℕ
@@ -30,6 +30,14 @@ dividend before bits = bit_xor (mirrored 32 before * 2 ^ length bits) (from_high
 unfoldable pub check_after : ℕ → List (ℕ × ℕ) → ℕ
 check_after before writes =
     mirrored 32 (remainder generator 32 (length (bits_of_writes writes)) (dividend before (bits_of_writes writes)))
+
+-- a check is that of writes that begin with the check `before`, as the remainder of their bits
+abbrev pub IsCheckAfter : ℕ → List (ℕ × ℕ) → ℕ → Type 0
+IsCheckAfter before writes check = IsRemainder (dividend before (bits_of_writes writes)) generator 32 (mirrored 32 check)
+
+-- a check after one write more
+abbrev pub folded : ℕ → ℕ → ℕ → ℕ
+folded check register word = check_after check ((register, word) ∷ [])
 
 -- the check of writes
 abbrev pub check_of : List (ℕ × ℕ) → ℕ

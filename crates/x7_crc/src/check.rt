@@ -44,7 +44,7 @@ fn fold_blocks(prev: u32, reg: u8, blocks: &[[u8; 16]]) -> u32
 }
 
 /// The same word by word.
-#[tactic(auto, using(crate::proofs::CheckLemmas::words_by_chunks))]
+#[tactic(auto, using(x7_words::proofs::WordLemmas::words_by_chunks))]
 fn fold_words(prev: u32, reg: u8, bytes: &[u8]) -> u32
     requires { reg < 32 }
     ensures { result ≡ check_after prev (writes_to reg (words_of_bytes bytes.now)) }

@@ -2,6 +2,7 @@
 use Rattle.std.proofs.Common.{◌≡◌, ℕ, ◌≤◌, Bool, List, [], ◌++◌, length, take, drop, Option, Some, None, refl, ap, sym, subst, ◌∙◌, arith, append_assoc}
 use Rattle.std.proofs.Math.Seq.{take-append_seam, take-length}
 use Rattle.std.proofs.lemmas.List.{take-append-drop}
+use Rattle.x7_words.proofs.ListLemmas.{taken_and_left}
 use Rattle.x7_words.specs.Word.{AreBytes}
 use Rattle.x7_part.specs.Part.{PartData}
 use Rattle.x7_engine.specs.declared.fed.Fed.{Fed}
@@ -38,15 +39,11 @@ stopped-part part kept front rest s fits e place =
     let taken : taken_of part kept (front ++ rest) ≡ length front = taken-stopped part kept (front ++ rest) s (stop_is_final-stop part kept front rest s fits e) ∙ place in
     sym (ap (λ (n : ℕ). take n (front ++ rest)) taken ∙ take-append_seam front rest)
 
--- bytes and a piece, of which so many are taken
-piece-split : (bytes piece : List ℕ) (n : ℕ) → (bytes ++ take n piece) ++ drop n piece ≡ bytes ++ piece
-piece-split bytes piece n = append_assoc bytes (take n piece) (drop n piece) ∙ ap (λ t. bytes ++ t) (take-append-drop n piece)
-
 module _ (part : PartData) (kept : Kept) (wrapped : Bool) (bytes piece : List ℕ) (d : DeviceState) where
   at-stop : (n : ℕ) (s : Stopped) → AreBytes (bytes ++ piece) → DeviceStandsFor part kept wrapped d (bytes ++ take n piece) → stop_in part kept (bytes ++ take n piece) ≡ Some s → s.place ≡ length (bytes ++ take n piece)
       → DeviceStandsFor part kept wrapped d (take (taken_of part kept (bytes ++ piece)) (bytes ++ piece))
   at-stop n s fits stands e place =
-      let whole = piece-split bytes piece n in
+      let whole = taken_and_left bytes piece n in
       let same : bytes ++ take n piece ≡ take (taken_of part kept (bytes ++ piece)) (bytes ++ piece)
       = stopped-part part kept (bytes ++ take n piece) (drop n piece) s (subst (λ b. AreBytes b) (sym whole) fits) e place ∙ ap (λ b. take (taken_of part kept b) b) whole in
       subst (λ b. DeviceStandsFor part kept wrapped d b) same stands

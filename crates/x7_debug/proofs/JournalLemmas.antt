@@ -5,7 +5,7 @@ use Rattle.std.proofs.lemmas.Bool.{cases_lt}
 use Rattle.std.proofs.lemmas.List.{take_all}
 use Rattle.std.proofs.Math.Seq.{take-add}
 use Rattle.std.specs.List.{AllByRecursion}
-use Rattle.x7_words.proofs.ListLemmas.{all_front}
+use Rattle.x7_words.proofs.ListLemmas.{all_front, take_up_to}
 use Rattle.x7_part.specs.Part.{PartData}
 use Rattle.x7_engine.specs.Kept.{on_the_bench}
 use Rattle.x7_engine.specs.Standing.{DeviceState, DeviceStandsFor, NoWordDue, fed_of}
@@ -24,19 +24,10 @@ pub oldest_within : (part : PartData) (stream : List ℕ) (at : ℕ) (us : List 
 oldest_within part stream at [] l = omega arith
 oldest_within part stream at (u ∷ us) l = omega (arith, oldest_within part stream u.taken us l.3, l.1)
 
--- fewer records lead less far back
-pub oldest_of_fewer : (part : PartData) (stream : List ℕ) (at n : ℕ) (us : List UndoState) → Leads part stream at us → oldest_by at us ≤ oldest_by at (take n us)
-oldest_of_fewer part stream at zero us l = oldest_within part stream at us l
-oldest_of_fewer part stream at (suc n) [] l = omega arith
-oldest_of_fewer part stream at (suc n) (u ∷ us) l = oldest_of_fewer part stream u.taken n us l.3
-
 leads_fewer : (part : PartData) (stream : List ℕ) (at n : ℕ) (us : List UndoState) → Leads part stream at us → Leads part stream at (take n us)
 leads_fewer part stream at zero us l = tt
 leads_fewer part stream at (suc n) [] l = tt
 leads_fewer part stream at (suc n) (u ∷ us) l = (l.0, l.1, l.2, leads_fewer part stream u.taken n us l.3)
-
-all_fewer : (P : UndoState → Type 0) (n : ℕ) (us : List UndoState) → AllByRecursion P us → AllByRecursion P (take n us)
-all_fewer P n us a = all_front P (take n us) (drop n us) (subst (AllByRecursion P) (sym (take-append-drop n us)) a)
 
 -- ---- how far records reach that were made since a position
 
@@ -115,10 +106,6 @@ refed part stream d e n q s =
     } in
     subst (λ (x : DeviceState). StandsAt part stream x n) (sym q) there
 
--- the bytes from one position to another one
-joins : (stream : List ℕ) (from to : ℕ) → from ≤ to → take from stream ++ take (to - from) (drop from stream) ≡ take to stream
-joins stream from to h = let sum : from + (to - from) ≡ to = omega arith in sym (take-add from (to - from) stream) ∙ ap (λ (k : ℕ). take k stream) sum
-
 -- a device at up to four bytes behind a record goes back to it
 pub goes_back : (part : PartData) (stream : List ℕ) (d new : DeviceState) (at : ℕ) (u : UndoState) (r : IsRecord part stream u) → StandsAt part stream d at → u.taken ≤ at → at ≤ u.taken + 4
     → ((more : List ℕ) (old : DeviceState) → Keeps u old → NoWordDue old → length more ≤ 4 → DeviceStandsFor part on_the_bench false old (take u.taken stream) → DeviceStandsFor part on_the_bench false d (take u.taken stream ++ more) → AreEqual new old)
@@ -126,7 +113,7 @@ pub goes_back : (part : PartData) (stream : List ℕ) (d new : DeviceState) (at 
 goes_back part stream d new at u r s low high back =
     let more : List ℕ = take (at - u.taken) (drop u.taken stream) in
     let few : length more ≤ 4 = omega (arith, length-take (at - u.taken) (drop u.taken stream), high) in
-    let now : DeviceStandsFor part on_the_bench false d (take u.taken stream ++ more) = subst (λ (b : List ℕ). DeviceStandsFor part on_the_bench false d b) (sym (joins stream u.taken at low)) s.stands in
+    let now : DeviceStandsFor part on_the_bench false d (take u.taken stream ++ more) = subst (λ (b : List ℕ). DeviceStandsFor part on_the_bench false d b) (sym (take_up_to stream u.taken at low)) s.stands in
     refed part stream new r.device u.taken (back more r.device r.keeps r.stands.none_due few r.stands.stands now) r.stands
 
 -- records of a device that went on, with one more
@@ -282,32 +269,6 @@ goes_forward old new l within oldest fed = record {
   forward_fed = λ m. fed.1;
   near_fed = λ r m. absurd (omega (arith, l, m));
   far_fed = λ m. absurd (omega (arith, l, m, within));
-}
-
-pub goes_near : (old new : SessionState) → new.at < old.at → old.oldest ≤ new.at → new.oldest ≡ old.oldest → old.fed ≤ new.fed → new.fed ≤ old.fed + 3 → GoesWith old new
-goes_near old new l reach oldest least most = record {
-  stays_oldest = λ e. absurd (omega (arith, l, e));
-  forward_oldest = λ m. absurd (omega (arith, l, m));
-  near_oldest = λ m r. oldest;
-  far_oldest = λ m. absurd (omega (arith, reach, m));
-  never_less = least;
-  stays_fed = λ e. absurd (omega (arith, l, e));
-  forward_fed = λ m. absurd (omega (arith, l, m));
-  near_fed = λ r m. most;
-  far_fed = λ m. absurd (omega (arith, reach, m));
-}
-
-pub goes_far : (old new : SessionState) → new.at < old.oldest → old.oldest ≤ old.at → new.oldest ≤ new.at - 253 → old.fed ≤ new.fed → new.fed ≤ old.fed + new.at → GoesWith old new
-goes_far old new l within oldest least most = record {
-  stays_oldest = λ e. absurd (omega (arith, l, within, e));
-  forward_oldest = λ m. absurd (omega (arith, l, within, m));
-  near_oldest = λ m r. absurd (omega (arith, l, r));
-  far_oldest = λ m. oldest;
-  never_less = least;
-  stays_fed = λ e. absurd (omega (arith, l, within, e));
-  forward_fed = λ m. absurd (omega (arith, l, within, m));
-  near_fed = λ r m. absurd (omega (arith, l, r));
-  far_fed = λ m. most;
 }
 
 -- ---- what holds on the way

@@ -6,7 +6,7 @@ use Rattle.std.specs.List.{find, range_with_len}
 use Rattle.std.proofs.Math.Seq.{take-add, take-length}
 use Rattle.std.proofs.lemmas.List.{length-take-le, take-append-drop}
 use Rattle.x7_words.specs.Word.{AreBytes}
-use Rattle.x7_words.proofs.ListLemmas.{all_front}
+use Rattle.x7_words.proofs.ListLemmas.{all_front, take_up_to}
 use Rattle.x7_part.specs.Part.{PartData}
 use Rattle.x7_engine.specs.Kept.{on_the_bench}
 use Rattle.x7_engine.specs.Standing.{DeviceState, DeviceStandsFor, NoWordDue}
@@ -47,15 +47,11 @@ taken-at part stream n fits within = by (stop_in part on_the_bench (take n strea
 take-twice : (n : ℕ) (stream : List ℕ) → n ≤ length stream → take n (take n stream) ≡ take n stream
 take-twice n stream h = ap (λ (k : ℕ). take k (take n stream)) (sym (length-take-le n stream h)) ∙ take-length (take n stream)
 
--- the bytes from one position to another
-joins : (stream : List ℕ) (from to : ℕ) → from ≤ to → take from stream ++ take (to - from) (drop from stream) ≡ take to stream
-joins stream from to h = let sum : from + (to - from) ≡ to = omega arith in sym (take-add from (to - from) stream) ∙ ap (λ (k : ℕ). take k stream) sum
-
 -- a device that took the bytes from one position to another stands there
 pub moved : (part : PartData) (stream piece : List ℕ) (d : DeviceState) (from to : ℕ) → AreBytes stream → from ≤ to → to ≤ last_of part stream → piece ≡ take (to - from) (drop from stream)
     → DeviceStandsFor part on_the_bench false d (take (taken_of part on_the_bench (take from stream ++ piece)) (take from stream ++ piece)) → NoWordDue d → StandsAt part stream d to
 moved part stream piece d from to fits le within is stands due =
-    let whole : take from stream ++ piece ≡ take to stream = ap (λ t. take from stream ++ t) is ∙ joins stream from to le in
+    let whole : take from stream ++ piece ≡ take to stream = ap (λ t. take from stream ++ t) is ∙ take_up_to stream from to le in
     let few : to ≤ length stream = omega (arith, within, last-within part stream fits) in
     let same : take (taken_of part on_the_bench (take from stream ++ piece)) (take from stream ++ piece) ≡ take to stream
     = ap (λ b. take (taken_of part on_the_bench b) b) whole ∙ ap (λ (k : ℕ). take k (take to stream)) (taken-at part stream to fits within) ∙ take-twice to stream few in

@@ -4,7 +4,8 @@ use Rattle.x7_text.specs.Digits.{hex_word}
 use Rattle.x7_part.specs.Part.{PartData}
 use Rattle.x7_memory.specs.FrameMap.{FrameMap}
 use Rattle.x7_engine.specs.declared.regs.Regs.{Regs}
-use Rattle.x7_engine.specs.Text.{end_text, frame_text, phase_text, reg_text}
+use Rattle.x7_report.specs.Frames.{frame_text}
+use Rattle.x7_report.specs.State.{end_text, phase_text, reg_text}
 use Rattle.x7_debug.specs.declared.order.Order.{Order}
 use Rattle.x7_debug.specs.declared.order.Order.TheVariants as order
 use Rattle.x7_debug.specs.Position.{last_of, memory_at, state_at, until_of}

@@ -9,9 +9,10 @@ use crate::order::Order;
 use crate::script::Script;
 use crate::session::Session;
 use std::alloc::Global;
-use x7_engine::{Regs, end_words, frame_line, phase_line, reg_lines};
+use x7_engine::Regs;
 use x7_memory::Memory;
 use x7_part::Part;
+use x7_report::{end_words, frame_line, phase_line, reg_lines};
 use x7_text::{hex_of_word, make_room, put, put_decimal};
 use x7_words::NoMemory;
 

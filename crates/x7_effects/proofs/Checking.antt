@@ -44,15 +44,6 @@ abbrev pub after_items : Checking → List Item → Checking
 after_items c [] = c
 after_items c (i ∷ items) = after_items (after_item c i) items
 
--- after the step of any word, and after those of words in order
-abbrev pub after_step : Checking → Step → Checking
-after_step c (step.Payload register w) = after_write c register w
-after_step c _ = c
-
-abbrev pub after_steps : Checking → List (ℕ × Step) → Checking
-after_steps c [] = c
-after_steps c (s ∷ steps) = after_steps (after_step c s.1) steps
-
 -- the check and the command of a history; none is 0 and NULL
 abbrev pub checking_of : History → Checking
 checking_of h = record { check = running_check h; held = command_held h }
@@ -94,10 +85,6 @@ pieces_length (p ∷ pieces) = piece_length p + pieces_length pieces
 abbrev pub AgreesWith : ℕ → Access → Type 0
 AgreesWith check (access.Write register w) = register ≡ 0 → w ≡ check
 AgreesWith check _ = Unit {0}
-
-abbrev pub ChecksAgree : History → Type 0
-ChecksAgree [] = Unit {0}
-ChecksAgree (e ∷ h) = AgreesWith (running_check h) e.access × ChecksAgree h
 
 -- the piece can be written, and no item writes CRC by itself
 abbrev pub IsPiece : Piece → Type 0

@@ -10,7 +10,7 @@ use Rattle.x7_crc.specs.RunningCheck.{check_after, check_of, writes_to}
 use Rattle.x7_crc.specs.OpenWrites.{in_order, running_check}
 use Rattle.x7_crc.proofs.CheckLemmas.{check_after-none, check_after_fits, check_after-append, check_of-more}
 use Rattle.x7_effects.proofs.Items.{Item, desync, closed, Noop, Dummy, Write, WriteLong, Read, ReadLong, item_words, IsItem, AreItems, writes_entered, item_entered, items_entered, MayLead, opened, bytes_of_words}
-use Rattle.x7_effects.proofs.Checking.{Checking, clears_by, after_write, after_writes, after_item, after_items, after_step, after_steps, checking_of, at_first, ClearFirst, Piece, Put, Check, piece_item, with_checks, ChecksAgree, IsPiece, ArePieces, register_written}
+use Rattle.x7_effects.proofs.Checking.{Checking, clears_by, after_write, after_writes, after_item, after_items, checking_of, at_first, ClearFirst, Piece, Put, Check, piece_item, with_checks, IsPiece, ArePieces, register_written}
 use Rattle.x7_effects.proofs.StreamLemmas.{opened_history, appended_history, items_entered-append}
 use Rattle.x7_words.specs.Word.{AreBytes}
 use Rattle.x7_packets.specs.ByHand.{reading_of}
@@ -96,31 +96,6 @@ pub pieces_fit : (c : Checking) (pieces : List Piece) → c.check < 2 ^ 32 → A
 pieces_fit c [] f a = tt
 pieces_fit c (p ∷ pieces) f a = (piece_fits c p f a.0, pieces_fit (after_item c (piece_item c p)) pieces (item_fits c (piece_item c p) f) a.1)
 
--- writes to other registers, and a word that is the check, agree
-writes_agree : (place r : ℕ) (ws : List ℕ) (h : History) → (r ≡ 0 → ⊥) → ChecksAgree h → ChecksAgree (writes_entered place r ws h)
-writes_agree place r [] h n a = a
-writes_agree place r (w ∷ ws) h n a = writes_agree (place + 4) r ws (entry (access.Write r w) (place + 4) ∷ h) n (λ e. absurd (n e), a)
-
-item_agrees : (place : ℕ) (i : Item) (h : History) → (register_written i ≡ Some 0 → ⊥) → ChecksAgree h → ChecksAgree (item_entered place i h)
-item_agrees place Noop h n a = a
-item_agrees place Dummy h n a = a
-item_agrees place (Write r ws) h n a = writes_agree (place + 4) r ws h (λ e. n (ap (λ (x : ℕ). Some x) e)) a
-item_agrees place (WriteLong r ws) h n a = writes_agree (place + 8) r ws h (λ e. n (ap (λ (x : ℕ). Some x) e)) a
-item_agrees place (Read r k) h n a = (tt, a)
-item_agrees place (ReadLong r k) h n a = (tt, a)
-
-piece_agrees : (place : ℕ) (p : Piece) (h : History) → IsPiece p → ChecksAgree h → ChecksAgree (item_entered place (piece_item (checking_of h) p) h)
-piece_agrees place (Put i) h f a = item_agrees place i h f.1 a
-piece_agrees place Check h f a = (λ e. refl, a)
-
-pub pieces_agree : (place : ℕ) (pieces : List Piece) (h : History) → ArePieces pieces → ChecksAgree h → ChecksAgree (items_entered place (with_checks (checking_of h) pieces) h)
-pieces_agree place [] h f a = a
-pieces_agree place (p ∷ pieces) h f a =
-    let i : Item = piece_item (checking_of h) p in
-    let n : ℕ = place + 4 * length (item_words i) in
-    subst (λ (c : Checking). ChecksAgree (items_entered n (with_checks c pieces) (item_entered place i h))) (item_checked place i h)
-    (pieces_agree n pieces (item_entered place i h) f.1 (piece_agrees place p h f.0 a))
-
 -- the word of a check is that of the items before it
 pub checks_after : (c : Checking) (prefix back : List Piece) → with_checks c (prefix ++ back) ≡ with_checks c prefix ++ with_checks (after_items c (with_checks c prefix)) back
 checks_after c [] back = refl
@@ -128,47 +103,3 @@ checks_after c (p ∷ prefix) back = ap (λ t. piece_item c p ∷ t) (checks_aft
 
 pub begins : checking_of [] ≡ record { check = 0; held = 0 }
 begins = checking_is (checking_of []) (record { check = 0; held = 0 }) (check_after-none 0 (lit< tt)) refl
-
-pub check_value : (leading : List ℕ) (prefix back : List Piece) → MayLead leading → AreItems (with_checks (record { check = 0; held = 0 }) prefix)
-    → (let items : List Item = with_checks (record { check = 0; held = 0 }) prefix in
-    let word : ℕ = running_check (history_of (bytes_of_words (opened leading items))) in
-    (rest : List Item) × (with_checks (record { check = 0; held = 0 }) (prefix ++ Check ∷ back) ≡ items ++ Write 0 (word ∷ []) ∷ rest))
-check_value leading prefix back m f =
-    let items : List Item = with_checks at_first prefix in
-    let c : Checking = after_items at_first items in
-    let place : ℕ = 4 * length leading + 4 in
-    let same : c ≡ checking_of (history_of (bytes_of_words (opened leading items))) =
-    ap (λ (x : Checking). after_items x items) (sym begins) ∙ sym (items_checked place items []) ∙ ap checking_of (sym (opened_history leading items m f)) in
-    let rest : List Item = with_checks (after_item c (Write 0 (c.check ∷ []))) back in
-    (rest, checks_after at_first prefix (Check ∷ back) ∙ ap (λ (x : ℕ). items ++ Write 0 (x ∷ []) ∷ rest) (ap (λ (x : Checking). x.check) same))
-
-pub checks_cleared : (c d : Checking) (pieces : List Piece) → with_checks c (Put (Write 4 (7 ∷ [])) ∷ pieces) ≡ with_checks d (Put (Write 4 (7 ∷ [])) ∷ pieces)
-checks_cleared c d pieces = refl
-
--- after any bytes whose checks agree, all checks agree
-pub checks_appended : (bytes leading : List ℕ) (pieces : List Piece) (k : ℕ) → AreBytes bytes → MayFollow (reading_of bytes).place (bytes_of_words (closed leading (with_checks at_first pieces) k)) → MayLead leading → ArePieces pieces → ClearFirst pieces
-    → ChecksAgree (history_of bytes) → ChecksAgree (history_of (bytes ++ bytes_of_words (closed leading (with_checks at_first pieces) k)))
-checks_appended bytes leading pieces k b e m f same a =
-    let items : List Item = with_checks at_first pieces in
-    let n : ℕ = length bytes + 4 * length leading + 4 in
-    let h : History = history_of bytes in
-    let fits : AreItems items = pieces_fit at_first pieces (omega arith) f in
-    let agree : ChecksAgree (items_entered n items h) = subst (λ (t : List Item). ChecksAgree (items_entered n t h)) (same (checking_of h)) (pieces_agree n pieces h f a) in
-    subst ChecksAgree (sym (appended_history bytes leading items k b e m fits ∙ items_entered-append n items (desync ∷ []) h)) (λ r. absurd (omega (arith, r)), agree)
-
--- the same of any words, each with its step
-step_checked : (place : ℕ) (s : Step) (h : History) → checking_of (entered place s h) ≡ after_step (checking_of h) s
-step_checked place (step.Payload r w) h = write_checked h r w place
-step_checked place (step.Read r n) h = by_count (n == 0)
-  where
-    by_count : (b : Bool) → checking_of (if b then h else entry (access.Read r n) place ∷ h) ≡ checking_of h
-    by_count true = refl
-    by_count false = refl
-step_checked place (step.Bad w) h = refl
-step_checked place step.Filler h = refl
-step_checked place step.Nop h = refl
-step_checked place (step.Open r n) h = refl
-
-pub steps_checked : (place : ℕ) (steps : List (ℕ × Step)) (h : History) → checking_of (entered_all place steps h) ≡ after_steps (checking_of h) steps
-steps_checked place [] h = refl
-steps_checked place (s ∷ steps) h = steps_checked (place + 4) steps (entered (place + 4) s.1 h) ∙ ap (λ (c : Checking). after_steps c steps) (step_checked (place + 4) s.1 h)

@@ -5,6 +5,7 @@ use Rattle.std.proofs.lemmas.Grind.{flat_map-append}
 use Rattle.std.proofs.lemmas.List.{length-map}
 use Rattle.std.proofs.lemmas.List.Elements.{All-head, All-tail}
 use Rattle.std.proofs.lemmas.Bool.Decides.{eqb_tells}
+use Rattle.x7_memory.proofs.ZeroLemmas.{zero_words}
 use Rattle.x7_words.specs.Word.{AreWords, AreBytes}
 use Rattle.x7_words.proofs.ListLemmas.{all-append}
 use Rattle.x7_packets.specs.Packet.{NoneEnds, ends_session}
@@ -18,13 +19,13 @@ use Rattle.x7_part.proofs.PartLemmas.{slots_count}
 use Rattle.x7_memory.specs.Planned.{PlanRow, PlanData, IsPlan, planned, planned_addresses}
 use Rattle.x7_memory.proofs.PlanLemmas.{planned_here, planned_behind}
 use Rattle.x7_effects.proofs.Items.{Item, Write, WriteLong, items_entered, item_words, sync_word, items_words, bytes_of_words, closed, opened, desync, bus_width_head}
-use Rattle.x7_effects.proofs.Checking.{Checking, Piece, Put, Check, IsPiece, ArePieces, ClearFirst, at_first, with_checks, piece_item, piece_length, pieces_length, after_item, ChecksAgree}
+use Rattle.x7_effects.proofs.Checking.{Checking, Piece, Put, Check, IsPiece, ArePieces, ClearFirst, at_first, with_checks, piece_item, piece_length, pieces_length, after_item}
 use Rattle.x7_effects.proofs.Frames.{joined, AreWide, zero_frame, frame_of, frames_at, row_frames}
 use Rattle.x7_planner.specs.Partial.{Stretch, Copies, Rows}
 use Rattle.x7_effects.proofs.Streams.{stream_of, full_pieces, full_stream, copy_pieces, stretch_pieces, stretches_pieces, partial_pieces, read_pieces, read_stream, HaveWords, IsStretch, AreStretches}
 use Rattle.x7_effects.proofs.FrameLemmas.{all_wide, plan_wide, first_small}
 use Rattle.x7_effects.proofs.StreamLemmas.{bytes_count, appended_history, appended_ends, head_leads, items_entered-append}
-use Rattle.x7_effects.proofs.CheckingLemmas.{pieces_fit, checks_appended}
+use Rattle.x7_effects.proofs.CheckingLemmas.{pieces_fit}
 use Rattle.x7_packets.specs.Appended.{MayFollow}
 use Rattle.x7_packets.specs.ByHand.{reading_of}
 use Rattle.x7_packets.specs.History as access
@@ -55,10 +56,6 @@ joined_length width (frame ∷ frames) w =
     let long : length (joined frames) ≡ width * length frames = joined_length width frames w.1 in
     length-append frame (joined frames) ∙ grind (arith, w.0, long)
 
-zeros_are_words : (n : ℕ) → AreWords (replicate n 0)
-zeros_are_words zero = tt
-zeros_are_words (suc n) = (omega arith, zeros_are_words n)
-
 planned_words : (rows : List PlanRow) (far : ℕ) (z : List ℕ) → HaveWords rows → AreWords z → AreWords (unwrap_or (planned rows far) z)
 unfolding planned
 planned_words [] far z f g = g
@@ -70,9 +67,9 @@ planned_words (r ∷ rows) far z f g =
 
 frames_words : (part : PartData) (plan : PlanData) (places : List Slot) → HaveWords plan.rows → AllByRecursion AreWords (frames_at part plan places)
 frames_words part plan [] f = tt
-frames_words part plan (Frame far ∷ places) f = (planned_words plan.rows far (zero_frame part) f (zeros_are_words (frame_words part)), frames_words part plan places f)
-frames_words part plan (Pad ∷ places) f = (zeros_are_words (frame_words part), frames_words part plan places f)
-frames_words part plan (End ∷ places) f = (zeros_are_words (frame_words part), frames_words part plan places f)
+frames_words part plan (Frame far ∷ places) f = (planned_words plan.rows far (zero_frame part) f (zero_words (frame_words part)), frames_words part plan places f)
+frames_words part plan (Pad ∷ places) f = (zero_words (frame_words part), frames_words part plan places f)
+frames_words part plan (End ∷ places) f = (zero_words (frame_words part), frames_words part plan places f)
 
 rows_words : (rows : List PlanRow) (last : List ℕ) → HaveWords rows → AreWords last → AllByRecursion AreWords (row_frames rows ++ last ∷ [])
 rows_words [] last f g = (g, tt)
@@ -159,7 +156,7 @@ stretch_fits part (Rows rows) f = (
   one_fits 4 1 (omega arith) (λ h. omega (arith, h)) refl (omega arith),
   (
     one_fits 1 (get_or (planned_addresses rows) 0 0) (omega arith) (λ h. omega (arith, h)) refl (first_fits (planned_addresses rows) f.2),
-    (long_fits (joined (row_frames rows ++ zero_frame part ∷ [])) f.0 (joined_words (row_frames rows ++ zero_frame part ∷ []) (rows_words rows (zero_frame part) f.1 (zeros_are_words (frame_words part)))), tt),
+    (long_fits (joined (row_frames rows ++ zero_frame part ∷ [])) f.0 (joined_words (row_frames rows ++ zero_frame part ∷ []) (rows_words rows (zero_frame part) f.1 (zero_words (frame_words part)))), tt),
   ),
 )
 
@@ -219,9 +216,6 @@ stream_length pieces k = omega (arith, closed_length bus_width_head (with_checks
 pub full_length : (part : PartData) (plan : PlanData) → IsPlan plan → plan.width ≡ frame_words part → length (full_stream part plan) ≡ 4 * (55 + frame_words part * length (slots_in part))
 full_length part plan is e = stream_length (full_pieces part plan) 16 ∙ omega (arith, frames_long part plan (slots_in part) is e)
 
-pub read_length : (part : PartData) (far n : ℕ) → length (read_stream part far n) ≡ 100
-read_length part far n = stream_length (read_pieces part far n) 4
-
 -- a planner's stream after bytes that end searching
 stream_parted : (bytes : List ℕ) (pieces : List Piece) (k : ℕ) → is_synced (reading_of bytes).place ≡ false → MayFollow (reading_of bytes).place (stream_of pieces k)
 stream_parted bytes pieces k e = record { searching = e; apart = inr (bytes_of_words (closed (0xFFFFFFFF ∷ 0xFFFFFFFF ∷ 0xFFFFFFFF ∷ 0x000000BB ∷ 0x11220044 ∷ 0xFFFFFFFF ∷ 0xFFFFFFFF ∷ []) (with_checks at_first pieces) k), refl) }
@@ -234,10 +228,6 @@ stream_appended bytes pieces k b e f =
 
 pub stream_ends : (bytes : List ℕ) (pieces : List Piece) (k : ℕ) → AreBytes bytes → is_synced (reading_of bytes).place ≡ false → ArePieces pieces → is_synced (reading_of (bytes ++ stream_of pieces k)).place ≡ false
 stream_ends bytes pieces k b e f = appended_ends bytes bus_width_head (with_checks at_first pieces) k b (stream_parted bytes pieces k e) head_leads (pieces_fit at_first pieces (omega arith) f)
-
-pub stream_agrees : (bytes : List ℕ) (pieces : List Piece) (k : ℕ) → AreBytes bytes → is_synced (reading_of bytes).place ≡ false → ArePieces pieces → ClearFirst pieces
-    → ChecksAgree (history_of bytes) → ChecksAgree (history_of (bytes ++ stream_of pieces k))
-stream_agrees bytes pieces k b e f c a = checks_appended bytes bus_width_head pieces k b (stream_parted bytes pieces k e) head_leads f c a
 
 -- the word of DESYNC is the last access, and its place
 pub last_is : (n : ℕ) (items : List Item) (h : History) → items_entered n (items ++ desync ∷ []) h ≡ entry (access.Write 4 13) (n + 4 * length (items_words items) + 8) ∷ items_entered n items h

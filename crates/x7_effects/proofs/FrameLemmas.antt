@@ -9,6 +9,7 @@ use Rattle.std.proofs.lemmas.Bool.Decides.{eqb_tells}
 use Rattle.std.proofs.lemmas.Nat.{pow_pos}
 use Rattle.std.proofs.Math.Nat.{pow-le-pow_right}
 use Rattle.std.proofs.lemmas.List.{length-replicate}
+use Rattle.x7_pipeline.proofs.LawLemmas.{zip-nil}
 use Rattle.x7_part.specs.Part.{FieldWidths, RowData, PartData, frame_words}
 use Rattle.x7_part.specs.PartRange.{IsPart}
 use Rattle.x7_part.specs.FrameAddress.{AreRows, AreWidths, no_row, row, row_address, row_low, column_low, address_width, far_width}
@@ -51,10 +52,6 @@ out_of_reverse : (xs : List ℕ) (x : ℕ) → Contains (reverse xs) x → Conta
 out_of_reverse xs x h = rw (reverse-reverse xs) at (in_reverse (reverse xs) x h)
 
 -- ---- a plan's rows at slots that follow each other
-
-zip-nil : (places : List Slot) → zip {K = Slot} {X = List ℕ} places [] ≡ []
-zip-nil [] = refl
-zip-nil (p ∷ places) = refl
 
 rows_paired : (rows : List PlanRow) (more : List Slot) → filter_map pair_of (zip (row_slots rows ++ more) (row_frames rows)) ≡ rows
 rows_paired [] more = ap (filter_map pair_of) (zip-nil more)
@@ -173,11 +170,6 @@ whole_over part plan memory is p e within outside far =
           let unplanned : planned plan.rows far ≡ None = unnamed_none plan.rows far (λ h. n (within far h)) in
           ap (λ t. or_else t (memory far)) none ∙ outside far n ∙ sym (among_none far fars (zero_frames part) n) ∙ ap (λ t. or_else t (zeros part far)) (sym unplanned))
     ]
-
-pub whole_write : (part : PartData) (plan : PlanData) (frames : List (List ℕ)) → IsPart part → IsPlan plan → plan.width ≡ frame_words part
-    → ((far : ℕ) → Contains (planned_addresses plan.rows) far → Contains (addresses_in part) far)
-    → AreSame (put_over (landed part (get_or (addresses_in part) 0 0) (onto (joined (frames_at part plan (slots_in part))) [])) (frame_at part frames)) (total part plan)
-whole_write part plan frames is p e within = whole_over part plan (frame_at part frames) is p e within (λ far n. among_none far (addresses_in part) frames n)
 
 -- ---- an address has the part's width
 

@@ -8,7 +8,7 @@ use Rattle.x7_startup.specs.Calls.{Call}
 use Rattle.x7_startup.specs.Calls as call
 use Rattle.x7_engine.specs.declared.kept.Kept.{Kept}
 use Rattle.x7_flow.specs.Controls.{ctl0_held, is_matched, mask_held, masked_word}
-use Rattle.x7_engine.specs.Registers.{is_clearance, is_pending, takes_shutdown}
+use Rattle.x7_engine.specs.Registers.{clears_check, is_pending, takes_shutdown}
 use Rattle.x7_engine.specs.Startup.{startup_call}
 use Rattle.x7_flow.specs.Flow.{frame_fault}
 use Rattle.x7_engine.specs.Stops.{access_line, frame_line, has_dec, line_at, or_else}
@@ -62,7 +62,7 @@ and_none true b e = e
 and_none false b e = refl
 
 pub no_taking : (h : History) (access : Access) → is_pending h ≡ false → takes_shutdown h access ≡ false
-no_taking h access e = and_none (is_clearance h access) (is_pending h) e
+no_taking h access e = and_none (clears_check h access) (is_pending h) e
 
 pub quiet_call : (h : History) (access : Access) → is_pending h ≡ false → IsQuiet h access → startup_call h access ≡ []
 quiet_call h access e q = rw (q.start, no_taking h access e, q.desync) refl
@@ -73,7 +73,7 @@ pending_by false true pending e f = absurd (cc)
 pending_by false false pending e f = f
 
 pub still_none_pending : (h : History) (access : Access) (place : ℕ) → is_pending h ≡ false → executes 11 h access ≡ false → is_pending (entry access place ∷ h) ≡ false
-still_none_pending h access place e f = pending_by (is_clearance h access) (executes 11 h access) (is_pending h) f e
+still_none_pending h access place e f = pending_by (clears_check h access) (executes 11 h access) (is_pending h) f e
 
 pub going_access : (part : PartData) (kept : Kept) (phase : ℕ) (h : History) (access : Access) (n place : ℕ) → n ≤ place → IsGoing part kept phase h n
     → IsQuiet h access → line_at part kept h access ≡ None → IsOff kept (entry access place ∷ h) → IsGoing part kept phase (entry access place ∷ h) place
@@ -111,9 +111,6 @@ quiet_far h far held e a b c d = record { start = rw (e, c, d) a; shutdown = rw 
 -- no line of the registers, and no fault of the frames
 pub line_none : (part : PartData) (kept : Kept) (h : History) (access : Access) → access_line part kept h access ≡ None → frame_fault part h access ≡ None → line_at part kept h access ≡ None
 line_none part kept h access e f = ap (λ o. or_else o (frame_line (frame_fault part h access))) e ∙ ap frame_line f
-
-pub rcrc_line : (part : PartData) (kept : Kept) (h : History) → access_line part kept h (access.Write 4 7) ≡ None
-rcrc_line part kept h = refl
 
 pub far_line : (part : PartData) (kept : Kept) (h : History) (far held : ℕ) → command_held h ≡ held → (held == 5) ≡ false → (held == 13) ≡ false → (held == 15) ≡ false → access_line part kept h (access.Write 1 far) ≡ None
 far_line part kept h far held e a b c = rw (e, b, c, a) refl

@@ -8,14 +8,14 @@ use Rattle.x7_words.proofs.ListLemmas.{all-append, all_front, all_back}
 use Rattle.x7_part.specs.Part.{PartData}
 use Rattle.x7_memory.specs.FrameMap.{FrameMap, override, AreSame}
 use Rattle.x7_memory.specs.Planned.{PlanRow, planned, planned_addresses, AreInOrder}
-use Rattle.x7_memory.proofs.PlanLemmas.{planned_here, planned_behind}
+use Rattle.x7_memory.proofs.PlanLemmas.{planned_here, planned_behind, order_tail}
 use Rattle.x7_memory.proofs.MapLemmas.{override_same}
 use Rattle.x7_pipeline.specs.Runs.{put_over}
 use Rattle.x7_pipeline.proofs.LawLemmas.{put_twice}
 use Rattle.x7_planner.specs.Partial.{Stretch, Copies, Rows}
 use Rattle.x7_planner.specs.Partial.{same_words, with_content, is_shared, leads_group, groups_led, others, follows, with_row, runs_of, stretches_of}
 use Rattle.x7_planner.specs.Partial.{joined_runs, IsRun, AreLongest, pairs_of}
-use Rattle.x7_planner.proofs.ContentLemmas.{same_words-true}
+use Rattle.x7_planner.proofs.ContentLemmas.{same_words-true, same_words-own}
 use Rattle.x7_effects.proofs.Groups.{put_stretches}
 
 -- ---- the address is one of these rows'
@@ -92,20 +92,13 @@ later far r rows o n = in_rows rows (λ k d h. o 0 (suc k) d (omega arith) (omeg
     in_rows (q ∷ qs) above (inl e) = let h : r.far < q.far = above 0 q (omega arith) in omega (arith, e)
     in_rows (q ∷ qs) above (inr n) = in_rows qs (λ k d h. above (suc k) d (omega arith)) n
 
-pub order_rest : (r : PlanRow) (rows : List PlanRow) → AreInOrder (r ∷ rows) → AreInOrder rows
-order_rest r rows o i j d low inside = o (suc i) (suc j) d (omega arith) (omega arith)
-
-all_named : (rows pairs : List PlanRow) → ((far : ℕ) → Names far rows → Names far pairs) → Cover rows pairs
-all_named [] pairs f = tt
-all_named (r ∷ rows) pairs f = (f r.far (inl refl), all_named rows pairs (λ far n. f far (inr n)))
-
 own_rest : (r : PlanRow) (rows qs : List PlanRow) → ((far : ℕ) → Names far qs → r.far < far) → Agree rows qs → Agree (r ∷ rows) qs
 own_rest r rows [] f a = tt
 own_rest r rows (q ∷ qs) f a = (planned_behind r rows q.far (λ e. let h : r.far < q.far = f q.far (inl refl) in omega (arith, e)) ∙ a.0, own_rest r rows qs (λ far n. f far (inr n)) a.1)
 
 pub own : (rows : List PlanRow) → AreInOrder rows → Agree rows rows
 own [] o = tt
-own (r ∷ rows) o = (planned_here r rows r.far refl, own_rest r rows rows (λ far n. later far r rows o n) (own rows (order_rest r rows o)))
+own (r ∷ rows) o = (planned_here r rows r.far refl, own_rest r rows rows (λ far n. later far r rows o n) (own rows (order_tail r rows o)))
 
 -- ---- stretches in order
 
@@ -155,10 +148,6 @@ stretches_put rows stretches memory a c far =
     ∙ override_same memory memory (planned (newest stretches)) (planned rows) (λ x. refl) (same_map rows (newest stretches) (newest_agrees rows stretches a) (cover_newest rows stretches c)) far
 
 -- ---- the groups and the runs of a plan
-
-same_words-own : (xs : List ℕ) → same_words xs xs ≡ true
-same_words-own [] = refl
-same_words-own (x ∷ xs) = rw (eq-eqb x x refl) (same_words-own xs)
 
 abbrev pub Pairs : List ℕ → List PlanRow → List PlanRow
 Pairs words rows = map (λ far. record { far = far; words = words }) (planned_addresses rows)

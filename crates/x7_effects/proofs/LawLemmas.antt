@@ -1,6 +1,7 @@
 -- The laws, for the streams as the planner says them.
 use Rattle.std.proofs.Common.{◌≡◌, ℕ, List, [], length, sym, subst}
 use Rattle.std.specs.Prelude.{All, Contains}
+use Rattle.x7_planner.proofs.FewLemmas.{by_rows}
 use Rattle.x7_words.specs.Word.{AreBytes}
 use Rattle.x7_part.specs.AddressOrder.{addresses_in}
 use Rattle.x7_part.specs.Part.{PartData, frame_words}
@@ -17,7 +18,6 @@ use Rattle.x7_engine.specs.Kept.{on_the_bench}
 use Rattle.x7_engine.proofs.RestLemmas.{rest_new}
 use Rattle.x7_effects.proofs.PartialLemmas.{partial_fits_plan, partial_plays}
 use Rattle.x7_effects.proofs.FullLemmas.{full_plays}
-use Rattle.x7_effects.proofs.PlacedLemmas.{by_recursion}
 use Rattle.x7_effects.proofs.PlannerLemmas.{full_same, named, partial_same, read_same}
 use Rattle.x7_effects.proofs.ReadbackLemmas.{read_plays}
 
@@ -25,7 +25,7 @@ pub full_law : (part : PartData) (kept : Kept) (bytes : List ℕ) (plan : PlanDa
     → PlaysFull part kept bytes (full_stream part plan) plan
 full_law part kept bytes plan f r is p e within =
     subst (λ t. PlaysFull part kept bytes t plan) (sym (full_same part plan is p e))
-    (full_plays part kept bytes plan f r is p e (named plan.rows (Contains (addresses_in part)) (by_recursion (λ row. Contains (addresses_in part) row.far) plan.rows within)))
+    (full_plays part kept bytes plan f r is p e (named plan.rows (Contains (addresses_in part)) (by_rows (λ row. Contains (addresses_in part) row.far) plan.rows within)))
 
 pub read_law : (part : PartData) (kept : Kept) (bytes : List ℕ) (address n : ℕ) → AreBytes bytes → AtRest part kept bytes → IsPart part → CanRead part address n → PlaysRead part kept bytes (read_stream part address n) address n
 read_law part kept bytes address n f r is can =
@@ -39,5 +39,5 @@ pub partial_law : (part : PartData) (kept : Kept) (bytes : List ℕ) (plan : Pla
 partial_law part kept bytes plan f r is p e within =
     let wide : All (λ row. length row.words ≡ frame_words part) plan.rows = subst (λ (w : ℕ). All (λ row. length row.words ≡ w) plan.rows) e p.width in
     subst (λ t. PlaysPartial part kept bytes t plan)
-    (sym (partial_same part plan.rows (by_recursion (λ row. length row.words ≡ frame_words part) plan.rows wide) (partial_fits_plan part plan is p e within)))
+    (sym (partial_same part plan.rows (by_rows (λ row. length row.words ≡ frame_words part) plan.rows wide) (partial_fits_plan part plan is p e within)))
     (partial_plays part kept bytes plan f r is p e within)

@@ -3,11 +3,12 @@ use Rattle.std.proofs.Common.{◌≡◌, ℕ, zero, suc, ◌<◌, ◌==◌, ◌&
 use Rattle.std.specs.Prelude.{Contains, nat_le}
 use Rattle.std.specs.List.{AllByRecursion}
 use Rattle.std.proofs.lemmas.Bool.{eqb-true}
+use Rattle.x7_memory.proofs.PlanLemmas.{order_tail}
+use Rattle.x7_planner.proofs.RunLemmas.{all_rows}
 use Rattle.x7_part.specs.Part.{PartData}
 use Rattle.x7_memory.specs.Planned.{AreApart, AreInOrder, PlanRow, planned, planned_addresses}
 use Rattle.x7_planner.specs.Partial.{Copies, WritesOnce, groups_led, is_shared, leads_group, others, pairs_in, same_words, stretches_of, with_content}
-use Rattle.x7_effects.proofs.GroupLemmas.{Agree, Names, Pairs, content_agrees, later, names_either, order_rest, own, stretches_agree, stretches_cover, stretches_pairs}
-use Rattle.x7_effects.proofs.PlacedLemmas.{by_all}
+use Rattle.x7_effects.proofs.GroupLemmas.{Agree, Names, Pairs, content_agrees, later, names_either, own, stretches_agree, stretches_cover, stretches_pairs}
 
 -- no address comes twice
 abbrev Apart : List PlanRow → Type 0
@@ -20,7 +21,7 @@ apart_append (x ∷ xs) ys a b f = ((λ n. elim (names_either x.far xs ys n) [ i
 
 apart_rows : (rows : List PlanRow) → AreInOrder rows → Apart rows
 apart_rows [] o = tt
-apart_rows (r ∷ rows) o = ((λ n. let above : r.far < r.far = later r.far r rows o n in omega (arith, above)), apart_rows rows (order_rest r rows o))
+apart_rows (r ∷ rows) o = ((λ n. let above : r.far < r.far = later r.far r rows o n in omega (arith, above)), apart_rows rows (order_tail r rows o))
 
 -- ---- rows of one content, and the other rows, are some of the rows
 
@@ -176,7 +177,7 @@ covered (q ∷ rows) pairs c far (suc k, low, e) = covered rows pairs c.1 far (k
 
 pub written_once : (part : PartData) (rows : List PlanRow) → AreInOrder rows → WritesOnce rows (pairs_in (stretches_of part rows))
 written_once part rows o = record {
-  frames = by_all (λ pair. planned rows pair.far ≡ Some pair.words) (pairs_in (stretches_of part rows)) (stretches_agree part rows o);
+  frames = all_rows (λ pair. planned rows pair.far ≡ Some pair.words) (pairs_in (stretches_of part rows)) (stretches_agree part rows o);
   each = covered rows (pairs_in (stretches_of part rows)) (stretches_cover part rows);
   once = apart_places (pairs_in (stretches_of part rows)) (stretches_apart part rows o);
 }

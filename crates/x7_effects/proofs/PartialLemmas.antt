@@ -3,6 +3,8 @@ use Rattle.std.proofs.Common.{◌≡◌, ◌+◌, ◌*◌, ◌^◌, ◌≤◌, �
 use Rattle.std.specs.Prelude.{All, Contains}
 use Rattle.std.specs.List.{AllByRecursion}
 use Rattle.std.proofs.Math.Nat.{mul-le-mul_left}
+use Rattle.x7_planner.proofs.RunLemmas.{all_rows}
+use Rattle.x7_planner.proofs.FewLemmas.{by_rows}
 use Rattle.x7_regs.specs.declared.command.Command.TheVariants.{Rcrc}
 use Rattle.x7_regs.specs.declared.register.Reg.TheVariants.{Idcode}
 use Rattle.x7_words.specs.Word.{AreBytes, AreWords}
@@ -30,7 +32,7 @@ use Rattle.x7_effects.proofs.FormLemmas.{partial_clears}
 use Rattle.x7_effects.proofs.FrameLemmas.{address_small}
 use Rattle.x7_effects.proofs.GoingLemmas.{IsGoing, going_bytes, written, written_append}
 use Rattle.x7_effects.proofs.GroupLemmas.{plan_put}
-use Rattle.x7_effects.proofs.PlacedLemmas.{by_all, by_recursion, plan_fits, stretches_land}
+use Rattle.x7_effects.proofs.PlacedLemmas.{plan_fits, stretches_land}
 use Rattle.x7_effects.proofs.PlanLemmas.{stretches_stand}
 use Rattle.x7_effects.proofs.RestingLemmas.{going_at_rest, going_closed}
 use Rattle.x7_effects.proofs.SilentLemmas.{stream_silent, stretches_silent}
@@ -48,14 +50,14 @@ rows_few part rows is o h =
 -- ---- played
 
 small_rows : (part : PartData) (rows : List PlanRow) → IsPart part → All (λ row. Contains (addresses_in part) row.far) rows → All (λ row. row.far < 2 ^ 32) rows
-small_rows part rows is h = by_all (λ row. row.far < 2 ^ 32) rows (each rows (by_recursion (λ row. Contains (addresses_in part) row.far) rows h))
+small_rows part rows is h = all_rows (λ row. row.far < 2 ^ 32) rows (each rows (by_rows (λ row. Contains (addresses_in part) row.far) rows h))
   where
     each : (rows : List PlanRow) → AllByRecursion (λ row. Contains (addresses_in part) row.far) rows → AllByRecursion (λ row. row.far < 2 ^ 32) rows
     each [] a = tt
     each (r ∷ rows) a = (address_small part r.far is a.0, each rows a.1)
 
 pub have_words : (rows : List PlanRow) → All IsPlanRow rows → HaveWords rows
-have_words rows a = by_all (λ row. AreWords row.words) rows (each rows (by_recursion IsPlanRow rows a))
+have_words rows a = all_rows (λ row. AreWords row.words) rows (each rows (by_rows IsPlanRow rows a))
   where
     each : (rows : List PlanRow) → AllByRecursion IsPlanRow rows → AllByRecursion (λ row. AreWords row.words) rows
     each [] a = tt

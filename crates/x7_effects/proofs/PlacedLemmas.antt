@@ -6,6 +6,7 @@ use Rattle.std.proofs.Math.Nat.{mul-le-mul_left}
 use Rattle.std.proofs.lemmas.Bool.{cases_eq, eqb-true}
 use Rattle.std.proofs.lemmas.List.Elements.{All-head, All-tail, All-nil, All-cons}
 use Rattle.std.proofs.lemmas.List.{length-replicate}
+use Rattle.x7_planner.proofs.RunLemmas.{all_rows, others_all, others_fewer}
 use Rattle.x7_words.specs.Word.{AreWords}
 use Rattle.x7_words.proofs.ListLemmas.{all-append, all_front, all_back}
 use Rattle.x7_part.specs.AddressOrder.{addresses_in, Rises, risen, rise}
@@ -19,7 +20,7 @@ use Rattle.x7_memory.specs.Planned.{PlanRow, planned_addresses}
 use Rattle.x7_pipeline.specs.Runs.{frames_of, slots_from, in_slots, landed, onto, but_newest}
 use Rattle.x7_pipeline.specs.Copies.{newest_of}
 use Rattle.x7_pipeline.proofs.SlotLemmas.{addresses_among-slots, slot_among}
-use Rattle.x7_planner.proofs.FewLemmas.{rises_in, rises_rest}
+use Rattle.x7_planner.proofs.FewLemmas.{rises_in, rises_rest, by_rows}
 use Rattle.x7_effects.proofs.Frames.{joined, AreWide, zero_frame, row_frames}
 use Rattle.x7_planner.specs.Partial.{Copies, Rows}
 use Rattle.x7_effects.proofs.Streams.{HaveWords, IsStretch, AreStretches}
@@ -112,14 +113,6 @@ each_run : (P : PlanRow → Type 0) (runs : List (List PlanRow)) → AllByRecurs
 each_run P [] a = tt
 each_run P (run ∷ runs) a = (all_front P run (run_rows runs) a, each_run P runs (all_back P run (run_rows runs) a))
 
-of_others : (P : PlanRow → Type 0) (all qs : List PlanRow) → AllByRecursion P qs → AllByRecursion P (others all qs)
-of_others P all [] a = tt
-of_others P all (r ∷ qs) a = by_test (is_shared all r) (of_others P all qs a.1)
-  where
-    by_test : (b : Bool) → AllByRecursion P (others all qs) → AllByRecursion P (if b then others all qs else r ∷ others all qs)
-    by_test true ih = ih
-    by_test false ih = (a.0, ih)
-
 pub of_content : (P : PlanRow → Type 0) (words : List ℕ) (qs : List PlanRow) → AllByRecursion P qs → AllByRecursion P (with_content words qs)
 of_content P words [] a = tt
 of_content P words (r ∷ qs) a = by_test (same_words r.words words) (of_content P words qs a.1)
@@ -129,15 +122,7 @@ of_content P words (r ∷ qs) a = by_test (same_words r.words words) (of_content
     by_test false ih = ih
 
 pub of_runs : (P : PlanRow → Type 0) (part : PartData) (rows : List PlanRow) → AllByRecursion P rows → AllByRecursion (AllByRecursion P) (runs_of part (others rows rows))
-of_runs P part rows a = each_run P (runs_of part (others rows rows)) (rw (runs_joined part (others rows rows)) (of_others P rows rows a))
-
-pub by_recursion : (P : PlanRow → Type 0) (rows : List PlanRow) → All P rows → AllByRecursion P rows
-by_recursion P [] a = tt
-by_recursion P (r ∷ rows) a = (All-head P r rows a, by_recursion P rows (All-tail P r rows a))
-
-pub by_all : (P : PlanRow → Type 0) (rows : List PlanRow) → AllByRecursion P rows → All P rows
-by_all P [] a = All-nil P
-by_all P (r ∷ rows) a = All-cons P r rows a.0 (by_all P rows a.1)
+of_runs P part rows a = each_run P (runs_of part (others rows rows)) (rw (runs_joined part (others rows rows)) (others_all P rows rows a))
 
 -- ---- how stretches land
 
@@ -168,17 +153,17 @@ groups_land part all (r ∷ qs) some w = by_test (leads_group all r) (groups_lan
     by_test false ih = ih
 
 here_of : (part : PartData) (rows : List PlanRow) → All (λ row. Contains (addresses_in part) row.far) rows → AreHere part rows
-here_of part rows a = rw (addresses_among-slots part.far part.rows) (by_recursion (λ row. Contains (addresses_in part) row.far) rows a)
+here_of part rows a = rw (addresses_among-slots part.far part.rows) (by_rows (λ row. Contains (addresses_in part) row.far) rows a)
 
 -- the runs of a plan's other rows stand at slots that follow one another
 pub plan_placed : (part : PartData) (rows : List PlanRow) → IsPart part → All (λ row. Contains (addresses_in part) row.far) rows → AllByRecursion (IsPlaced part) (runs_of part (others rows rows))
 plan_placed part rows is h =
     let rises : Rises 0 (addresses_among (slots_in part)) = rw (addresses_among-slots part.far part.rows) (part_rises part.far part.rows is.far is.rows) in
-    runs_placed part (others rows rows) rises (of_others (λ row. Contains (addresses_among (slots_in part)) row.far) rows rows (here_of part rows h))
+    runs_placed part (others rows rows) rises (others_all (λ row. Contains (addresses_among (slots_in part)) row.far) rows rows (here_of part rows h))
 
 pub stretches_land : (part : PartData) (rows : List PlanRow) → IsPart part → All (λ row. length row.words ≡ frame_words part) rows → All (λ row. Contains (addresses_in part) row.far) rows → AllByRecursion (LandsAs part) (stretches_of part rows)
 stretches_land part rows is w h =
-    let wide : AllByRecursion (λ row. length row.words ≡ frame_words part) rows = by_recursion (λ row. length row.words ≡ frame_words part) rows w in
+    let wide : AllByRecursion (λ row. length row.words ≡ frame_words part) rows = by_rows (λ row. length row.words ≡ frame_words part) rows w in
     all-append (LandsAs part) (groups_led rows rows) (map Rows (runs_of part (others rows rows)))
     (groups_land part rows rows (omega (arith, is.words)) wide)
     (runs_land part (runs_of part (others rows rows)) (omega (arith, is.words))
@@ -204,7 +189,7 @@ run_fits part k run l n f a w =
     let count : length (row_frames run ++ zero_frame part ∷ []) ≡ length run + 1 = length-append (row_frames run) (zero_frame part ∷ []) ∙ ap (λ x. x + 1) (length_map run) in
     let long : length (joined (row_frames run ++ zero_frame part ∷ [])) ≡ frame_words part * (length run + 1) = joined_length (frame_words part) (row_frames run ++ zero_frame part ∷ []) (rows_wide (frame_words part) run (zero_frame part) w (length-replicate (frame_words part) 0)) ∙ ap (λ x. frame_words part * x) count in
     let most : frame_words part * (length run + 1) ≤ frame_words part * (k + 1) = mul-le-mul_left (frame_words part) (omega (arith, l)) in
-    (omega (arith, long, most, n), by_all (λ row. AreWords row.words) run a, addresses_words run f)
+    (omega (arith, long, most, n), all_rows (λ row. AreWords row.words) run a, addresses_words run f)
   where
     length_map : (rows : List PlanRow) → length (row_frames rows) ≡ length rows
     length_map [] = refl
@@ -216,20 +201,12 @@ runs_fit part k (run ∷ runs) l n f a w =
     let both : length (run ++ run_rows runs) ≡ length run + length (run_rows runs) = length-append run (run_rows runs) in
     (run_fits part k run (omega arith) n f.0 a.0 w.0, runs_fit part k runs (omega arith) n f.1 a.1 w.1)
 
-fewer_others : (all qs : List PlanRow) → length (others all qs) ≤ length qs
-fewer_others all [] = omega arith
-fewer_others all (r ∷ qs) = by_test (is_shared all r) (fewer_others all qs)
-  where
-    by_test : (b : Bool) → length (others all qs) ≤ length qs → length (if b then others all qs else r ∷ others all qs) ≤ length (r ∷ qs)
-    by_test true ih = omega arith
-    by_test false ih = omega arith
-
 pub stretches_are : (part : PartData) (rows : List PlanRow) → frame_words part * (length rows + 1) < 2 ^ 27 → All (λ row. row.far < 2 ^ 32) rows → HaveWords rows → All (λ row. length row.words ≡ frame_words part) rows → AreStretches part (stretches_of part rows)
 stretches_are part rows n f a w =
-    let ff : AllByRecursion (λ row. row.far < 2 ^ 32) rows = by_recursion (λ row. row.far < 2 ^ 32) rows f in
-    let aa : AllByRecursion (λ row. AreWords row.words) rows = by_recursion (λ row. AreWords row.words) rows a in
-    let ww : AllByRecursion (λ row. length row.words ≡ frame_words part) rows = by_recursion (λ row. length row.words ≡ frame_words part) rows w in
-    let few : length (run_rows (runs_of part (others rows rows))) ≤ length rows = rw (runs_joined part (others rows rows)) (fewer_others rows rows) in
+    let ff : AllByRecursion (λ row. row.far < 2 ^ 32) rows = by_rows (λ row. row.far < 2 ^ 32) rows f in
+    let aa : AllByRecursion (λ row. AreWords row.words) rows = by_rows (λ row. AreWords row.words) rows a in
+    let ww : AllByRecursion (λ row. length row.words ≡ frame_words part) rows = by_rows (λ row. length row.words ≡ frame_words part) rows w in
+    let few : length (run_rows (runs_of part (others rows rows))) ≤ length rows = rw (runs_joined part (others rows rows)) (others_fewer rows rows) in
     all-append (IsStretch part) (groups_led rows rows) (map Rows (runs_of part (others rows rows)))
     (groups_fit part rows rows (omega arith) ff aa ww)
     (runs_fit part (length rows) (runs_of part (others rows rows)) few n (of_runs (λ row. row.far < 2 ^ 32) part rows ff) (of_runs (λ row. AreWords row.words) part rows aa) (of_runs (λ row. length row.words ≡ frame_words part) part rows ww))

@@ -6,6 +6,7 @@ use Rattle.std.proofs.lemmas.Bool.{cases_eq}
 use Rattle.std.proofs.lemmas.Bool.Decides.{nat_tests}
 use Rattle.std.proofs.Math.Nat.{mod-eq_of_lt, mul-le-mul_left}
 use Rattle.std.proofs.lemmas.List.{length-replicate}
+use Rattle.x7_planner.proofs.FewLemmas.{by_rows}
 use Rattle.x7_words.proofs.ListLemmas.{all-append}
 use Rattle.x7_part.specs.AddressOrder.{addresses_in}
 use Rattle.x7_part.specs.Part.{PartData, frame_words}
@@ -24,7 +25,7 @@ use Rattle.x7_planner.specs.Partial.{groups_led, is_shared, leads_group, others,
 use Rattle.x7_effects.proofs.Groups.{IsPlaced}
 use Rattle.x7_effects.proofs.FormLemmas.{joined_length}
 use Rattle.x7_effects.proofs.FrameLemmas.{EndsInPad, address_low, slots_end}
-use Rattle.x7_effects.proofs.PlacedLemmas.{by_recursion, of_content, of_runs, plan_placed, rows_wide}
+use Rattle.x7_effects.proofs.PlacedLemmas.{of_content, of_runs, plan_placed, rows_wide}
 use Rattle.x7_effects.proofs.StretchLemmas.{IsTarget, Stands}
 
 -- ---- an address of the part is a target
@@ -121,8 +122,8 @@ groups_stand part all (r ∷ qs) is h w = by (leads_group all r) refl (groups_st
 
 pub stretches_stand : (part : PartData) (rows : List PlanRow) → IsPart part → All (λ row. length row.words ≡ frame_words part) rows → All (λ row. Contains (addresses_in part) row.far) rows → AllByRecursion (Stands part) (stretches_of part rows)
 stretches_stand part rows is w h =
-    let wide : AllByRecursion (λ row. length row.words ≡ frame_words part) rows = by_recursion (λ row. length row.words ≡ frame_words part) rows w in
-    let here : AllByRecursion (λ row. Contains (addresses_in part) row.far) rows = by_recursion (λ row. Contains (addresses_in part) row.far) rows h in
+    let wide : AllByRecursion (λ row. length row.words ≡ frame_words part) rows = by_rows (λ row. length row.words ≡ frame_words part) rows w in
+    let here : AllByRecursion (λ row. Contains (addresses_in part) row.far) rows = by_rows (λ row. Contains (addresses_in part) row.far) rows h in
     all-append (Stands part) (groups_led rows rows) (map Rows (runs_of part (others rows rows)))
     (groups_stand part rows rows is here wide)
     (runs_stand part (runs_of part (others rows rows)) is (plan_placed part rows is h)

@@ -26,6 +26,7 @@ use Rattle.x7_flow.specs.FrameAccess.{reads_frame_data}
 use Rattle.x7_flow.specs.FrameMemory.{memory_of}
 use Rattle.x7_flow.specs.Standing.{frames_read, words_from}
 use Rattle.x7_flow.proofs.FlowLemmas.{flow_more}
+use Rattle.x7_engine.specs.Course.{course_at}
 use Rattle.x7_engine.specs.declared.kept.Kept.{Kept}
 use Rattle.x7_engine.specs.Rest.{AtRest}
 use Rattle.x7_engine.specs.Startup.{phase_of}
@@ -79,8 +80,8 @@ read_none part h count t a = ap (λ (b : Bool). fault_by part (if b then Reads c
 
 read_answer : (part : PartData) (kept : Kept) (h : History) (count place : ℕ) → reads_frame_data h (access.Read 3 count) ≡ true → line_at part kept h (access.Read 3 count) ≡ None → answer_of part kept h (access.Read 3 count) place ≡ frames_read part h count
 read_answer part kept h count place t e =
-    ap (λ o. if is_some o then [] else words_read part kept h place 3 count) e
-    ∙ ap (λ (b : Bool). if b then frames_read part h count else replicate count (read_value part kept h place 3)) t
+    ap (λ o. if is_some o then [] else words_read (course_at part kept h place) 3 count) e
+    ∙ ap (λ (b : Bool). if b then frames_read part h count else replicate count (read_value (course_at part kept h place) 3)) t
 
 -- ---- how much can be read
 

@@ -117,9 +117,6 @@ closed_place leading items k m f =
     reading_is (bytes_of_words (closed leading items k)) (session_of leading items ∷ []) (Searching (bytes_of_words (replicate k 0x20000000))) (closed_reading leading items k m f) in
     sym is.1
 
-pub closed_dummy : (leading : List ℕ) (items : List Item) (k : ℕ) → BeginsWithDummy (bytes_of_words (closed (0xFFFFFFFF ∷ leading) items k))
-closed_dummy leading items k = (bytes_of_words (closed leading items k), refl)
-
 -- items after other bytes
 writes_moved : (n place k r : ℕ) (ws : List ℕ) (h g : History) → k ≡ n + place → writes_entered k r ws (moved n h ++ g) ≡ moved n (writes_entered place r ws h) ++ g
 writes_moved n place k r [] h g e = refl
@@ -155,59 +152,7 @@ appended_ends bytes leading items k b e m f =
     ends_after bytes (bytes_of_words (closed leading items k)) (all-append (λ x. x < 256) bytes (bytes_of_words (closed leading items k)) b (bytes_fit (closed leading items k))) e
     ∙ ap is_synced (closed_place leading items k m f)
 
--- any bytes follow the word that ends the session
-pub followed_parted : (leading : List ℕ) (items : List Item) (more : List ℕ) → MayLead leading → AreItems items → MayFollow (reading_of (bytes_of_words (closed leading items 0))).place more
-followed_parted leading items more m f =
-    let e : (reading_of (bytes_of_words (closed leading items 0))).place ≡ Searching [] = closed_place leading items 0 m f in
-    record { searching = ap is_synced e; apart = inl (ap gap_of e) }
-
-pub followed_history : (leading : List ℕ) (items : List Item) (more : List ℕ) → MayLead leading → AreItems items → AreBytes more
-    → (let first : List ℕ = bytes_of_words (closed leading items 0) in
-    history_of (first ++ more) ≡ moved (length first) (history_of more) ++ items_entered (4 * length leading + 4) (items ++ desync ∷ []) [])
-followed_history leading items more m f b =
-    let first : List ℕ = bytes_of_words (closed leading items 0) in
-    history_after first more (all-append (λ x. x < 256) first more (bytes_fit (closed leading items 0)) b) (followed_parted leading items more m f)
-    ∙ ap (λ (t : History). moved (length first) (history_of more) ++ t) (closed_history leading items 0 m f)
-
 pub head_leads : MayLead bus_width_head
 head_leads = record { fits = (omega arith, (omega arith, (omega arith, (omega arith, (omega arith, (omega arith, (omega arith, (omega arith, tt)))))))); lacks = (refl, (refl, (refl, (refl, (refl, (refl, (refl, (refl, (refl, (refl, (refl, (refl, (refl, (refl, (refl, (refl, (refl, (refl, (refl, (refl, (refl, (refl, (refl, (refl, (refl, (refl, (refl, (refl, (refl, (refl, (refl, (refl, tt)))))))))))))))))))))))))))))))) }
 
 -- ---- a value with a step on plain values, over items
-
-abbrev pub fold_writes : {A : Type 0} → (A → ℕ → ℕ → ℕ → A) → ℕ → A → ℕ → List ℕ → A
-fold_writes write place a r [] = a
-fold_writes write place a r (w ∷ ws) = fold_writes write (place + 4) (write a r w (place + 4)) r ws
-
-abbrev pub fold_item : {A : Type 0} → (A → ℕ → ℕ → ℕ → A) → (A → ℕ → ℕ → ℕ → A) → ℕ → A → Item → A
-fold_item write read place a Noop = a
-fold_item write read place a Dummy = a
-fold_item write read place a (Write r ws) = fold_writes write (place + 4) a r ws
-fold_item write read place a (WriteLong r ws) = fold_writes write (place + 8) a r ws
-fold_item write read place a (Read r n) = read a r n (place + 4)
-fold_item write read place a (ReadLong r n) = read a r n (place + 8)
-
-abbrev pub fold_items : {A : Type 0} → (A → ℕ → ℕ → ℕ → A) → (A → ℕ → ℕ → ℕ → A) → ℕ → A → List Item → A
-fold_items write read place a [] = a
-fold_items write read place a (i ∷ items) = fold_items write read (place + 4 * length (item_words i)) (fold_item write read place a i) items
-
--- what each write and each read changes by a step, items change by all of them
-pub folded_items : {A : Type 0} (value : History → A) (write read : A → ℕ → ℕ → ℕ → A)
-    → ((h : History) (r w place : ℕ) → value (entry (access.Write r w) place ∷ h) ≡ write (value h) r w place)
-    → ((h : History) (r n place : ℕ) → value (entry (access.Read r n) place ∷ h) ≡ read (value h) r n place)
-    → (place : ℕ) (items : List Item) (h : History) → value (items_entered place items h) ≡ fold_items write read place (value h) items
-folded_items value write read f g place [] h = refl
-folded_items value write read f g place (i ∷ items) h =
-    folded_items value write read f g (place + 4 * length (item_words i)) items (item_entered place i h)
-    ∙ ap (λ a. fold_items write read (place + 4 * length (item_words i)) a items) (item_folds i)
-  where
-    writes_fold : (n r : ℕ) (ws : List ℕ) (k : History) → value (writes_entered n r ws k) ≡ fold_writes write n (value k) r ws
-    writes_fold n r [] k = refl
-    writes_fold n r (w ∷ ws) k = writes_fold (n + 4) r ws (entry (access.Write r w) (n + 4) ∷ k) ∙ ap (λ a. fold_writes write (n + 4) a r ws) (f k r w (n + 4))
-
-    item_folds : (j : Item) → value (item_entered place j h) ≡ fold_item write read place (value h) j
-    item_folds Noop = refl
-    item_folds Dummy = refl
-    item_folds (Write r ws) = writes_fold (place + 4) r ws h
-    item_folds (WriteLong r ws) = writes_fold (place + 8) r ws h
-    item_folds (Read r n) = g h r n (place + 4)
-    item_folds (ReadLong r n) = g h r n (place + 8)

@@ -7,11 +7,13 @@ use Rattle.x7_part.specs.PartRange.{IsPart}
 use Rattle.x7_part.specs.declared.slot.Slot.{Slot}
 use Rattle.x7_part.specs.declared.slot.Slot.TheVariants.{Frame, Pad, End}
 use Rattle.x7_memory.specs.FrameMap.{AreSame, FrameMap, override}
-use Rattle.x7_memory.specs.Planned.{PlanData, planned, total}
+use Rattle.x7_memory.specs.Planned.{IsPlanFor, PlanData, planned, total}
 use Rattle.x7_pipeline.specs.Runs.{slots_from}
 use Rattle.x7_engine.specs.declared.kept.Kept.{Kept}
 use Rattle.x7_engine.specs.Rest.{AtRest}
 use Rattle.x7_engine.specs.State.{memory_in, reads_of, state_of}
+use Rattle.x7_planner.specs.Full.{full_stream}
+use Rattle.x7_planner.specs.Partial.{partial_stream}
 use Rattle.x7_planner.specs.Readback.{read_stream}
 
 -- a device of a part is at rest after these bytes
@@ -19,6 +21,29 @@ pub record Rests (part : PartData) (kept : Kept) (bytes : List ℕ) : Type 0 whe
   pub fits : AreBytes bytes
   pub at_rest : AtRest part kept bytes
   pub is_part : IsPart part
+
+-- a device of a part at rest after these bytes, and a plan whose stream is played on it
+pub record Playing : Type 0 where
+  pub part : PartData
+  pub kept : Kept
+  pub bytes : List ℕ
+  pub plan : PlanData
+
+-- it is at rest so, and the plan is one for the part
+pub record CanPlay (p : Playing) : Type 0 where
+  pub rests : Rests p.part p.kept p.bytes
+  pub plan_is : IsPlanFor p.part p.plan
+
+-- the bytes with the full and with the partial stream of the plan behind them
+abbrev pub with_full : Playing → List ℕ
+with_full p = p.bytes ++ full_stream p.part p.plan
+
+abbrev pub with_partial : Playing → List ℕ
+with_partial p = p.bytes ++ partial_stream p.part p.plan.rows
+
+-- the memory before, with the plan over it
+abbrev pub changed_memory : Playing → FrameMap
+changed_memory p = override (memory_in p.part p.kept p.bytes) (planned p.plan.rows)
 
 -- the words of a memory at a slot: its frame at an address, zeros at a pad
 abbrev pub slot_words : PartData → FrameMap → Slot → List ℕ
@@ -59,6 +84,10 @@ pub record ReadsBack (part : PartData) (kept : Kept) (bytes written : List ℕ) 
   pub same : AreSame (memory_in part kept (written ++ read_stream part far n)) memory
   pub phase : (wrapped : Bool) → (state_of part kept wrapped (written ++ read_stream part far n)).phase ≡ (state_of part kept wrapped written).phase
   pub rests : AtRest part kept (written ++ read_stream part far n)
+
+-- the same of bytes that were played
+abbrev pub ReadsBackAfter : Playing → List ℕ → FrameMap → ℕ → ℕ → Type 0
+ReadsBackAfter p written memory far n = ReadsBack p.part p.kept p.bytes written memory far n
 
 -- After a full stream and a partial one the memory is the later plan over the earlier one over zeros, and startup has ended.
 pub record PlaysBoth (part : PartData) (kept : Kept) (bytes : List ℕ) (plan later : PlanData) : Type 0 where

@@ -1,7 +1,7 @@
 //! What planned streams do on a device at rest. The functions do nothing: their contracts are the laws.
 ghost use Rattle.std.specs.Prelude.{◌≡◌, ◌++◌, ℕ, List, []};
 ghost use Rattle.x7_planner.specs.Partial.{AreLongest, WritesOnce, joined_runs, pairs_in, partial_stream, runs_of, stretches_of};
-ghost use Rattle.x7_effects.specs.Played.{PlaysBoth, PlaysFull, PlaysPartial, PlaysRead, ReadsBack, Rests};
+ghost use Rattle.x7_effects.specs.Played.{CanPlay, changed_memory, with_full, with_partial, Playing, PlaysBoth, PlaysFull, PlaysPartial, PlaysRead, ReadsBackAfter, Rests};
 ghost use Rattle.x7_engine.specs.Kept.{on_the_bench};
 ghost use Rattle.x7_engine.specs.Rest.{AtRest};
 ghost use Rattle.x7_engine.specs.State.{memory_in};
@@ -49,10 +49,8 @@ pub fn read_streams_play()
 /// behind a partial one the plan over what was there before; a partial stream behind a full one leaves the later plan over
 /// the earlier one, and startup stays ended.
 pub fn streams_play_in_turn()
-    ensures full { (part : PartData) (kept : Kept) (bytes : List ℕ) (plan : PlanData) (far n : ℕ) → Rests part kept bytes → IsPlanFor part plan → CanRead part far n
-        → ReadsBack part kept bytes (bytes ++ full_stream part plan) (total part plan) far n }
-    ensures partial { (part : PartData) (kept : Kept) (bytes : List ℕ) (plan : PlanData) (far n : ℕ) → Rests part kept bytes → IsPlanFor part plan → CanRead part far n
-        → ReadsBack part kept bytes (bytes ++ partial_stream part plan.rows) (override (memory_in part kept bytes) (planned plan.rows)) far n }
-    ensures both { (part : PartData) (kept : Kept) (bytes : List ℕ) (plan later : PlanData) → Rests part kept bytes → IsPlanFor part plan → IsPlanFor part later
-        → PlaysBoth part kept ((bytes ++ full_stream part plan) ++ partial_stream part later.rows) plan later }
+    ensures full { (p : Playing) (far n : ℕ) → CanPlay p → CanRead p.part far n → ReadsBackAfter p (with_full p) (total p.part p.plan) far n }
+    ensures partial { (p : Playing) (far n : ℕ) → CanPlay p → CanRead p.part far n → ReadsBackAfter p (with_partial p) (changed_memory p) far n }
+    ensures both { (p : Playing) (later : PlanData) → CanPlay p → IsPlanFor p.part later
+        → PlaysBoth p.part p.kept (with_full p ++ partial_stream p.part later.rows) p.plan later }
 {}

@@ -8,7 +8,7 @@ use Rattle.x7_words.specs.Word.{word_of_bytes, words_of_bytes}
 use Rattle.x7_packets.specs.History.{History, Write, entered_all, entry, until}
 use Rattle.x7_packets.specs.Packet.{payload_steps}
 use Rattle.x7_packets.proofs.HistoryLemmas.{entered_all-append}
-use Rattle.x7_crc.proofs.CheckLemmas.{words_by_chunks}
+use Rattle.x7_words.proofs.WordLemmas.{words_by_chunks}
 use Rattle.x7_part.specs.Part.{PartData}
 use Rattle.x7_engine.specs.declared.kept.Kept.{Kept}
 use Rattle.x7_engine.specs.declared.stop.Stop.{Stop}

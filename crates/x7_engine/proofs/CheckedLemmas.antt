@@ -18,7 +18,7 @@ use Rattle.x7_flow.specs.Controls.{is_matched, same_idcode}
 use Rattle.x7_engine.specs.Sequence.{Begins}
 use Rattle.x7_engine.specs.Startup.{phase_by, startup_progress}
 use Rattle.x7_engine.specs.State.{history_by, history_taken, last_counted, state_of, stop_in, taken_by, taken_of}
-use Rattle.x7_engine.specs.Stops.{Stopped, asks_decryption, line_at, needs_match, or_else, stop_of, stopped_at, write_line}
+use Rattle.x7_engine.specs.Stops.{Stopped, asks_decryption, line_at, needs_match, stop_of, stopped_at, write_line}
 use Rattle.x7_engine.proofs.BeginsLemmas.{begins_by}
 use Rattle.x7_engine.proofs.StateLemmas.{counted_least, no_stop_before, stop_place, parts_none}
 use Rattle.x7_engine.proofs.TurnLemmas.{until_until}

@@ -9,8 +9,9 @@ use Rattle.x7_startup.specs.Calls as call
 use Rattle.x7_startup.specs.Count.{Fires, Reload, Watch, WatchCall, Watched, WatchesFor, bytes_alike, count_of, is_on, timer_after, timer_value_of}
 use Rattle.x7_startup.proofs.CallLemmas.{idle_stands, one_phase_after, phase_never_falls}
 use Rattle.x7_startup.proofs.CountLemmas.{idle_fires, idle_watches, timer_load, timer_reload, timer_watched}
+use Rattle.x7_engine.specs.Course.{course_at}
 use Rattle.x7_engine.specs.declared.kept.Kept.{Kept}
-use Rattle.x7_engine.specs.Clock.{ClockState, IsClock, Ticks, newest_place, startup_call_by, watch_call_by}
+use Rattle.x7_engine.specs.Clock.{AreAlike, ClockState, IsClock, Ticks, newest_place, startup_call_by, watch_call_by}
 use Rattle.x7_engine.specs.Kept.{is_fallback}
 use Rattle.x7_engine.specs.Registers.{takes_shutdown}
 use Rattle.x7_engine.specs.Startup.{has_ended, phase_by, phase_of, startup_call, startup_calls, startup_progress}
@@ -339,7 +340,7 @@ idle_quiet part kept w h n k l e s = none_fires part kept h n k (λ i m.
     let no : false ≡ true = (idle_fires (is_fallback kept.kind) kept.timer w (watch_calls part h (n + i)) eos false before (never_counts w eos e) refl).1 f in
     absurd (cc)))
 
-pub idle_ticks : (part : PartData) (kept : Kept) (c : ClockState) (h : History) (n k : ℕ) → newest_place h ≤ n → c.startup.begun ≡ None → c.watchdog.limit ≡ 0 → IsClock part kept c h n → Ticks part kept c h n k None
+pub idle_ticks : (part : PartData) (kept : Kept) (c : ClockState) (h : History) (n k : ℕ) → newest_place h ≤ n → c.startup.begun ≡ None → c.watchdog.limit ≡ 0 → IsClock part kept c h n → Ticks (course_at part kept h n) c k None
 idle_ticks part kept c h n k l b e s = (
   record {
     startup = subst (λ (calls : List Call). StandsFor part.lock part.matched c.startup calls) (sym (startup_more h n k l)) (idle_stands part.lock part.matched c.startup (startup_calls h n) k b s.startup);
@@ -350,7 +351,7 @@ idle_ticks part kept c h n k l b e s = (
 
 -- ---- bytes more, behind some at which nothing fires
 
-pub ended_on : (part : PartData) (h : History) (n i : ℕ) → newest_place h ≤ n → has_ended part h n ≡ true → has_ended part h (n + i + 1) ≡ true
+ended_on : (part : PartData) (h : History) (n i : ℕ) → newest_place h ≤ n → has_ended part h n ≡ true → has_ended part h (n + i + 1) ≡ true
 ended_on part h n i l e =
     let place : n + i + 1 ≡ n + (i + 1) = omega arith in
     let rises : phase_of part h n ≤ phase_of part h (n + (i + 1)) = phase_rises part h n (i + 1) l in
@@ -359,14 +360,19 @@ ended_on part h n i l e =
     by : (a b : ℕ) → a ≤ b → b ≤ 7 → (a == 7) ≡ true → (b == 7) ≡ true
     by a b l m e = let first : a ≡ 7 = grind (arith, nat_tests, e) in let here : b ≡ 7 = omega (arith, l, m, first) in grind (arith, nat_tests, here)
 
-pub ticks_none : (part : PartData) (kept : Kept) (c : ClockState) (h : History) (n a b count : ℕ) → a + b ≡ count → first_firing part kept h n a ≡ None → Ticks part kept c h (n + a) b None → Ticks part kept c h n count None
+pub ended_alike : (part : PartData) (kept : Kept) (c : ClockState) (h : History) (n a count : ℕ) → newest_place h ≤ n → has_ended part h (n + a) ≡ true → IsClock part kept c h (n + a) → AreAlike (course_at part kept h (n + a)) c count true
+ended_alike part kept c h n a count l e s =
+    let newest : newest_place h ≤ n + a = omega (arith, l) in
+    record { newest = newest; each = λ i m. ended_on part h (n + a) i newest e; stands = s }
+
+pub ticks_none : (part : PartData) (kept : Kept) (c : ClockState) (h : History) (n a b count : ℕ) → a + b ≡ count → first_firing part kept h n a ≡ None → Ticks (course_at part kept h (n + a)) c b None → Ticks (course_at part kept h n) c count None
 ticks_none part kept c h n a b count e f t =
     let place : n + a + b ≡ n + count = omega (arith, e) in (
       subst (λ (m : ℕ). IsClock part kept c h m) place t.0,
       ap (first_firing part kept h n) (sym e) ∙ firing_more part kept h n a b ∙ ap (λ (o : Option ℕ). or_else o (first_firing part kept h (n + a) b)) f ∙ t.1,
     )
 
-pub ticks_some : (part : PartData) (kept : Kept) (c : ClockState) (h : History) (n a b count k : ℕ) → a + b ≡ count → first_firing part kept h n a ≡ None → Ticks part kept c h (n + a) b (Some k) → Ticks part kept c h n count (Some (a + k))
+pub ticks_some : (part : PartData) (kept : Kept) (c : ClockState) (h : History) (n a b count k : ℕ) → a + b ≡ count → first_firing part kept h n a ≡ None → Ticks (course_at part kept h (n + a)) c b (Some k) → Ticks (course_at part kept h n) c count (Some (a + k))
 ticks_some part kept c h n a b count k e f t =
     let place : n + a + k ≡ n + (a + k) = omega arith in (
       omega (arith, t.0),

@@ -35,13 +35,13 @@ take_front (x ∷ front) rest = ap (λ t. x ∷ t) (take_front front rest)
 pub given : (part : PartData) (f : FramesState) (n : ℕ) (h : History) (ws : List ℕ) (count : ℕ) (fault : Option RunFault) → WordsTaken part f n h ws count fault
     → (NoneRefused part n (take (words_before count fault) ws) h) × FramesStandFor part f (with_words n (take (words_before count fault) ws) h) 0
 given part f n h ws count fault t =
-    let size : words_before count fault ≡ length t.front = by fault t.end in
-    let front : take (words_before count fault) ws ≡ t.front = ap (λ (k : ℕ). take k ws) size ∙ ap (take (length t.front)) t.words_are ∙ take_front t.front t.rest in (
+    let size : words_before count fault ≡ length t.taken = by fault t.end in
+    let front : take (words_before count fault) ws ≡ t.taken = ap (λ (k : ℕ). take k ws) size ∙ ap (take (length t.taken)) t.words_are ∙ take_front t.taken t.rest in (
       subst (λ (x : List ℕ). NoneRefused part n x h) (sym front) t.none_refused,
       subst (λ (x : List ℕ). FramesStandFor part f (with_words n x h) 0) (sym front) t.stands,
     )
   where
-    by : (f : Option RunFault) → EndsBy part (with_words n t.front h) t.rest (length t.front) count f → words_before count f ≡ length t.front
+    by : (f : Option RunFault) → EndsBy part (with_words n t.taken h) t.rest (length t.taken) count f → words_before count f ≡ length t.taken
     by None e = e.1
     by (Some why) e = omega (arith, e.4)
 

@@ -7,6 +7,7 @@ use Rattle.x7_packets.specs.Cutting.{between}
 use Rattle.x7_packets.specs.History.{History}
 use Rattle.x7_part.specs.Part.{PartData}
 use Rattle.x7_flow.specs.Standing.{FramesStandFor, FramesState, words_due}
+use Rattle.x7_engine.specs.Course.{course_at}
 use Rattle.x7_engine.specs.declared.due.Due.{Due}
 use Rattle.x7_engine.specs.declared.due.Due.TheVariants as due
 use Rattle.x7_engine.specs.declared.kept.Kept.{Kept}
@@ -22,7 +23,7 @@ use Rattle.x7_engine.proofs.FrameLemmas.{all_frames_among, frames_at, frames_of,
 
 -- the device gave words that were due
 pub given : (part : PartData) (kept : Kept) (wrapped : Bool) (d : DeviceState) (r : RegistersState) (bytes : List ℕ) (old new : ReadBufState) → d.registers.stop ≡ None → r.stop ≡ None → DeviceStandsFor part kept wrapped d bytes
-    → Gave part kept d.registers r (history_taken part kept bytes) (length bytes) old new → Gives part kept wrapped d (record d { registers = r }) bytes old new
+    → Gave (course_at part kept (history_taken part kept bytes) (length bytes)) d.registers r old new → Gives (record { part = part; kept = kept; wrapped = wrapped; bytes = bytes }) d (record d { registers = r }) old new
 given part kept wrapped d r bytes old new going on s g =
     let told : List ℕ = s.due_are.told in
     let h : History = history_taken part kept bytes in
@@ -83,7 +84,7 @@ pub told_on : (part : PartData) (kept : Kept) (wrapped : Bool) (d e : DeviceStat
 told_on part kept wrapped d e bytes piece from to l f s = sym (ap (told_of part kept e) (taken_more bytes piece from to l)) ∙ f (bytes ++ take from piece) s
 
 -- the words told so far, and those that were given now
-pub now_told : (part : PartData) (kept : Kept) (wrapped : Bool) (d e : DeviceState) (first read next : ReadBufState) (taken told : List ℕ) → Gives part kept wrapped d e taken read next
+pub now_told : (part : PartData) (kept : Kept) (wrapped : Bool) (d e : DeviceState) (first read next : ReadBufState) (taken told : List ℕ) → Gives (record { part = part; kept = kept; wrapped = wrapped; bytes = taken }) d e read next
     → ((more : List ℕ) × (read ≡ with_words first more) × (told_of part kept d taken ≡ told ++ more))
     → (more : List ℕ) × (next ≡ with_words first more) × (told_of part kept e taken ≡ told ++ more)
 now_told part kept wrapped d e first read next taken told g m = (
@@ -93,7 +94,7 @@ now_told part kept wrapped d e first read next taken told g m = (
 )
 
 -- and then a run more is taken
-pub read_here : (part : PartData) (kept : Kept) (wrapped : Bool) (old new next : DeviceState) (first read last : ReadBufState) (bytes piece told : List ℕ) (from to : ℕ) → Gives part kept wrapped old new (bytes ++ take from piece) read last → from ≤ to
+pub read_here : (part : PartData) (kept : Kept) (wrapped : Bool) (old new next : DeviceState) (first read last : ReadBufState) (bytes piece told : List ℕ) (from to : ℕ) → Gives (record { part = part; kept = kept; wrapped = wrapped; bytes = bytes ++ take from piece }) old new read last → from ≤ to
     → ((b : List ℕ) → DeviceStandsFor part kept wrapped new b → told_of part kept next (b ++ between piece from to) ≡ told_of part kept new b)
     → ((more : List ℕ) × (read ≡ with_words first more) × (told_of part kept old (bytes ++ take from piece) ≡ told ++ more))
     → (more : List ℕ) × (last ≡ with_words first more) × (told_of part kept next (bytes ++ take to piece) ≡ told ++ more)
@@ -184,11 +185,11 @@ redue : (part : PartData) (kept : Kept) (d : RegistersState) (h : History) (n : 
     → RegistersStandFor part kept (record d { due = now; frames = f }) h n
 redue part kept d h n f now s are k = record { places = s.places; words = s.words; controls = s.controls; progress = s.progress; kind = s.kind; before = s.before; clock = s.clock; stop = s.stop; frames = are; due_kind = k }
 
-pub gave_nothing : (part : PartData) (kept : Kept) (d : RegistersState) (h : History) (n : ℕ) (read : ReadBufState) → RegistersStandFor part kept d h n → Gave part kept d d h n read read
+pub gave_nothing : (part : PartData) (kept : Kept) (d : RegistersState) (h : History) (n : ℕ) (read : ReadBufState) → RegistersStandFor part kept d h n → Gave (course_at part kept h n) d d read read
 gave_nothing part kept d h n read s = record { more = []; read_is = words_none read; words_are = refl; stands = s }
 
 pub gave_same : (part : PartData) (kept : Kept) (d : RegistersState) (h : History) (n word count left : ℕ) (read new : ReadBufState) → d.due ≡ due.Same word count → left ≤ count → new ≡ with_words read (replicate (count - left) word) → RegistersStandFor part kept d h n
-    → Gave part kept d (record d { due = due.Same word left }) h n read new
+    → Gave (course_at part kept h n) d (record d { due = due.Same word left }) read new
 gave_same part kept d h n word count left read new e l w s = record {
   more = replicate (count - left) word;
   read_is = w;
@@ -199,7 +200,7 @@ gave_same part kept d h n word count left read new e l w s = record {
 
 pub gave_frames : (part : PartData) (kept : Kept) (d : RegistersState) (f : FramesState) (h : History) (n count left : ℕ) (read new : ReadBufState) → d.stop ≡ None → d.due ≡ due.Frames count → left ≤ count
     → (FramesStandFor part d.frames h count → GaveFrames part f h count left read new) → RegistersStandFor part kept d h n
-    → Gave part kept d (record d { due = due.Frames left; frames = f }) h n read new
+    → Gave (course_at part kept h n) d (record d { due = due.Frames left; frames = f }) read new
 gave_frames part kept d f h n count left read new going e l gave s =
     let before : FramesStandFor part d.frames h count = frames_of part d.frames d.stop h count (goes_on d.stop going) (subst (λ (k : ℕ). FramesAre part d.frames d.stop h k) (ap frames_due e) s.frames) in
     let g = gave before in

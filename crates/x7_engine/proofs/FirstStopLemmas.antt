@@ -12,7 +12,6 @@ use Rattle.x7_engine.specs.declared.fault.Fault.TheVariants as fault
 use Rattle.x7_engine.specs.declared.kept.Kept.{Kept}
 use Rattle.x7_engine.specs.declared.stop.Stop.{Stop}
 use Rattle.x7_engine.specs.declared.stop.Stop.TheVariants as stop
-use Rattle.x7_engine.specs.Clock.{newest_place}
 use Rattle.x7_engine.specs.FirstStop.{IsFirstStop, line_at_byte, newest_line}
 use Rattle.x7_engine.specs.State.{stop_in}
 use Rattle.x7_engine.specs.Stops.{Stopped, line_at, or_else, stop_of, stopped_at, stopped_by_watchdog}

@@ -23,6 +23,7 @@ use Rattle.x7_flow.specs.Standing.{AfterAccess, FramesStandFor, FramesState, les
 use Rattle.x7_flow.proofs.FaultLemmas.{refused_far_read, refused_memory}
 use Rattle.x7_flow.proofs.StandingLemmas.{no_less}
 use Rattle.x7_flow.proofs.TakenLemmas.{other_access}
+use Rattle.x7_engine.specs.Course.{course_at}
 use Rattle.x7_engine.specs.declared.due.Due.{Due}
 use Rattle.x7_engine.specs.declared.due.Due.TheVariants as due
 use Rattle.x7_engine.specs.declared.fault.Fault.{Fault}
@@ -61,10 +62,6 @@ goes_on line e = ap is_refusal e
 pub ticks_on : (line : Option Stop) (P : Type 0) → ((l : Stop) → line ≡ Some l → (l ≡ stop.Fault fault.Watchdog) × P) → is_refusal line ≡ false
 ticks_on None P f = refl
 ticks_on (Some l) P f = ap (λ (x : Stop). is_refusal (Some x)) (f l refl).0
-
--- frames of another stop
-pub frames_still : (part : PartData) (f : FramesState) (old new : Option Stop) (h : History) (due : ℕ) → is_refusal old ≡ false → is_refusal new ≡ false → FramesAre part f old h due → FramesAre part f new h due
-frames_still part f old new h due a b s = frames_at part f new h due b (frames_of part f old h due a s)
 
 -- ---- what is due
 
@@ -121,7 +118,7 @@ length_left part h (due.Same word count) = length-replicate count word
 length_left part h (due.Frames count) = length_from part _ _ _ count
 
 -- where none is due, a value is that of the history
-pub value_now : (part : PartData) (kept : Kept) (f : Option Fault) (h : History) (n : ℕ) (r : Reg) → value_owing part kept f h n 0 r ≡ value_of part kept false f h n r
+pub value_now : (part : PartData) (kept : Kept) (f : Option Fault) (h : History) (n : ℕ) (r : Reg) → value_owing (course_at part kept h n) f 0 r ≡ value_of (course_at part kept h n) false f r
 value_now part kept f h n reg.Far = ap (far_in part) (sym (no_less (flow_of part h)))
 value_now part kept f h n r = refl
 

@@ -1,12 +1,11 @@
 -- Lemmas on specs/FirstGap: bytes that ask nothing stop no fallback, and where they end searching CMD doesn't hold DESYNC.
-use Rattle.std.proofs.Common.{◌≡◌, ◌==◌, ◌&&◌, ◌+◌, ◌-◌, ◌≤◌, ◌⊎◌, inl, inr, ℕ, Bool, true, false, not, Option, None, Some, List, [], ◌∷◌, ◌++◌, length, take, drop, refl, ap, sym, subst, ◌∙◌, arith}
+use Rattle.std.proofs.Common.{◌≡◌, ◌==◌, ◌&&◌, ◌+◌, ◌-◌, inl, inr, ℕ, Bool, true, false, not, Option, None, List, [], ◌∷◌, ◌++◌, length, take, drop, refl, ap, sym, subst, ◌∙◌, arith}
 use Rattle.std.proofs.lemmas.List.{take-append-drop}
 use Rattle.x7_words.specs.Word.{AreBytes}
 use Rattle.x7_packets.specs.ByHand.{reading_of}
-use Rattle.x7_packets.specs.Ended.{HasEnded, newest_ends, writes_desync}
-use Rattle.x7_packets.specs.History.{Access, Bad, Entry, History, Read, Write, command_held, history_of}
+use Rattle.x7_packets.specs.Ended.{HasEnded, writes_desync}
+use Rattle.x7_packets.specs.History.{Access, Bad, History, Read, Write, command_held, history_of}
 use Rattle.x7_packets.specs.Cutting.{CutterStandsFor, CutterState}
-use Rattle.x7_packets.specs.Packet.{ends_session}
 use Rattle.x7_packets.specs.Reading.{Place, Session, is_synced}
 use Rattle.x7_packets.specs.SyncWord.{HasNoSync}
 use Rattle.x7_packets.proofs.AppendedLemmas.{nothing_read}
@@ -14,12 +13,10 @@ use Rattle.x7_packets.proofs.ByHandLemmas.{reading_is}
 use Rattle.x7_packets.proofs.EndedLemmas.{has_ended}
 use Rattle.x7_packets.proofs.GrowthLemmas.{newer_of}
 use Rattle.x7_part.specs.Part.{PartData}
-use Rattle.x7_startup.specs.Calls.{NotBegun, Progress}
+use Rattle.x7_startup.specs.Calls.{NotBegun}
 use Rattle.x7_startup.proofs.CallLemmas.{progress_bytes}
-use Rattle.x7_engine.specs.declared.due.Due.{Due}
 use Rattle.x7_engine.specs.declared.due.Due.TheVariants as due
 use Rattle.x7_engine.specs.declared.kept.Kept.{Kept}
-use Rattle.x7_engine.specs.declared.stop.Stop.{Stop}
 use Rattle.x7_engine.specs.FirstGap.{IsFirstGap}
 use Rattle.x7_engine.specs.Kept.{is_fallback}
 use Rattle.x7_engine.specs.Standing.{DeviceStandsFor, DeviceState, IsCutterOf, RegistersStandFor, due_count, words_left}

@@ -1,4 +1,3 @@
-pub mod DigitLemmas
 pub mod BeginsLemmas
 pub mod BodyLemmas
 pub mod BootLemmas
@@ -28,3 +27,4 @@ pub mod UndoLemmas
 pub mod UntilLemmas
 pub mod UntilReadLemmas
 pub mod WrapLemmas
+pub mod WriteLemmas

@@ -24,7 +24,7 @@ use Rattle.x7_engine.specs.declared.stop.Stop.TheVariants as stop
 use Rattle.x7_engine.specs.Clock.{ClockState, IsClock, newest_place}
 use Rattle.x7_engine.specs.Kept.{is_fallback}
 use Rattle.x7_flow.specs.Controls.{is_matched, same_idcode}
-use Rattle.x7_engine.specs.Registers.{ghigh_after, has_effect, has_ghigh, is_clearance, is_controlling, is_pending, pending_after, takes_shutdown, word_held, wrote_iprog}
+use Rattle.x7_engine.specs.Registers.{ghigh_after, has_effect, has_ghigh, clears_check, is_controlling, is_pending, pending_after, takes_shutdown, word_held, wrote_iprog}
 use Rattle.x7_engine.specs.Standing.{AreControls, ControlsState, counted_in}
 use Rattle.x7_engine.specs.Startup.{has_ended, phase_by, startup_call, startup_calls}
 use Rattle.x7_engine.specs.State.{last_counted}
@@ -32,10 +32,6 @@ use Rattle.x7_engine.specs.Stops.{access_line, frame_line, line_at, or_else, sto
 use Rattle.x7_engine.specs.Watching.{fired_or, fires, first_firing, timer_held, watch_call, watch_calls, watched_bytes}
 use Rattle.x7_engine.proofs.ClockLemmas.{startup_entered, startup_more, stop_more_bytes, watch_entered, watch_more}
 use Rattle.x7_engine.proofs.TurnLemmas.{front_until, newest_within}
-
-either_false : (a b : Bool) → (a || b) ≡ false → (a ≡ false) × (b ≡ false)
-either_false true b e = absurd cc
-either_false false b e = (refl, e)
 
 -- words of the register move no flag, no register under MASK and no clock
 pub record IsQuiet (register : ℕ) : Type 0 where
@@ -92,10 +88,6 @@ quiet_is register e =
     let a = eight_false (register == 0) (register == 1) (register == 4) (register == 5) (register == 8) (register == 12) (register == 17) (register == 24) e in
     record { crc = a.0; far = a.1; cmd = a.2; ctl0 = a.3; lout = a.4; idcode = a.5; timer = a.6; ctl1 = a.7 }
 
--- a register without an effect is one of them
-pub not_controlling : (register : ℕ) → IsPlain register → false ≡ is_controlling register
-not_controlling register p = let q = p.quiet in rw (q.crc, q.far, q.cmd, q.ctl0, q.lout, q.idcode, q.timer, q.ctl1) refl
-
 pub fdri_quiet : IsQuiet 2
 fdri_quiet = record { crc = refl; far = refl; cmd = refl; ctl0 = refl; lout = refl; idcode = refl; timer = refl; ctl1 = refl }
 
@@ -129,10 +121,10 @@ pub record AreFlags (idcode : ℕ) (matched pending ghigh iprog : Bool) (h : His
 pub flags_more : (idcode : ℕ) (matched pending ghigh iprog : Bool) (h : History) (register w place : ℕ) → IsQuiet register → AreFlags idcode matched pending ghigh iprog h → AreFlags idcode matched pending ghigh iprog (entry (Write register w) place ∷ h)
 flags_more idcode matched pending ghigh iprog h register w place p s =
     let none : executed_by (command_held h) (Write register w) ≡ None = executes_none (command_held h) register w p in
-    let cleared : is_clearance h (Write register w) ≡ false = rw (none, p.crc) refl in
+    let cleared : clears_check h (Write register w) ≡ false = rw (none, p.crc) refl in
     record {
       matched_is = s.matched_is ∙ sym (ap (λ b. b && same_idcode idcode w || is_matched idcode h) p.idcode);
-      pending_is = s.pending_is ∙ sym (ap (λ o. pending_after o (is_clearance h (Write register w)) (is_pending h)) none ∙ ap (λ b. pending_after None b (is_pending h)) cleared);
+      pending_is = s.pending_is ∙ sym (ap (λ o. pending_after o (clears_check h (Write register w)) (is_pending h)) none ∙ ap (λ b. pending_after None b (is_pending h)) cleared);
       ghigh_is = s.ghigh_is ∙ sym (ap (λ o. ghigh_after o (takes_shutdown h (Write register w)) (has_ghigh h)) none ∙ ap (λ b. ghigh_after None (b && is_pending h) (has_ghigh h)) cleared);
       iprog_is = s.iprog_is ∙ sym (ap (λ b. b && w % 2 ^ 5 == 15 || wrote_iprog h) p.cmd);
     }

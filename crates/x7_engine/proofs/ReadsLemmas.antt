@@ -7,10 +7,8 @@ use Rattle.x7_words.proofs.ListLemmas.{all_front}
 use Rattle.x7_packets.specs.History.{AllBehind, History, Placed, history_of, until}
 use Rattle.x7_packets.proofs.GrowthLemmas.{newer_of, placed_of}
 use Rattle.x7_part.specs.Part.{PartData}
-use Rattle.x7_engine.specs.declared.fault.Fault.TheVariants as fault
 use Rattle.x7_engine.specs.declared.kept.Kept.{Kept}
 use Rattle.x7_engine.specs.declared.stop.Stop.{Stop}
-use Rattle.x7_engine.specs.declared.stop.Stop.TheVariants as stop
 use Rattle.x7_engine.specs.State.{history_by, history_taken, last_counted, reads_of, stop_in}
 use Rattle.x7_engine.specs.Stops.{Stopped, line_at, or_else, stop_of, stopped_at, stopped_by_watchdog}
 use Rattle.x7_engine.specs.Values.{answer_of, read_out}

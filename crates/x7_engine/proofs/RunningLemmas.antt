@@ -1,11 +1,11 @@
 -- Lemmas on the running check of a history that grows.
-use Rattle.std.proofs.Common.{◌≡◌, ◌==◌, ◌<◌, ◌+◌, ◌^◌, ℕ, true, false, [], ◌∷◌, List, refl, sym, ap, ◌∙◌, lit<}
+use Rattle.std.proofs.Common.{◌≡◌, ◌==◌, ◌<◌, ◌+◌, ◌^◌, ℕ, false, [], ◌∷◌, List, sym, ap, ◌∙◌}
 use Rattle.x7_packets.specs.History.{entered_all, entry, History, Write}
 use Rattle.x7_packets.specs.Packet.{payload_steps}
 use Rattle.x7_packets.specs.RunningCheck.{clears, open_writes}
 use Rattle.x7_crc.specs.OpenWrites.{in_order, running_check}
 use Rattle.x7_crc.specs.RunningCheck.{check_after, writes_to}
-use Rattle.x7_crc.proofs.CheckLemmas.{check_after-append, check_after-none, check_after_fits, check_of-more}
+use Rattle.x7_crc.proofs.CheckLemmas.{check_after-append, check_after-none, check_after_fits}
 use Rattle.x7_crc.proofs.CheckerLemmas.{check-folded}
 
 -- the running check is one of 32 bits

@@ -3,7 +3,7 @@ use Rattle.std.proofs.Common.{◌≡◌, ◌==◌, ◌&&◌, ◌||◌, inl, inr,
 use Rattle.std.proofs.lemmas.Bool.Decides.{nat_tests}
 use Rattle.x7_packets.specs.History.{Access, Bad, History, Read, Write, command_held, executed_by, executes, is_command}
 use Rattle.x7_crc.specs.OpenWrites.{running_check}
-use Rattle.x7_engine.specs.Registers.{has_ghigh, is_clearance, is_pending, takes_shutdown}
+use Rattle.x7_engine.specs.Registers.{has_ghigh, clears_check, is_pending, takes_shutdown}
 use Rattle.x7_engine.specs.Sequence.{Executes, HasGhigh, IsPending, lowers_ghigh}
 use Rattle.x7_engine.proofs.SinceLemmas.{since_here, since_more, since_none, since_parts}
 
@@ -21,12 +21,12 @@ pub other_command : (o : Option ℕ) (c d : ℕ) → (c == d) ≡ false → is_c
 other_command None c d n e = absurd (cc)
 other_command (Some k) c d n e = let same : k ≡ c = grind (arith, nat_tests, e) in grind (arith, nat_tests, n, same)
 
-pub no_clearance : (h : History) (access : Access) (c : ℕ) → (c == 7) ≡ false → executes c h access ≡ true → is_clearance h access ≡ false
+pub no_clearance : (h : History) (access : Access) (c : ℕ) → (c == 7) ≡ false → executes c h access ≡ true → clears_check h access ≡ false
 no_clearance h (Read register n) c d e = absurd (cc)
 no_clearance h (Bad w) c d e = absurd (cc)
 no_clearance h (Write register w) c d e = by (register == 0) refl
   where
-    by : (b : Bool) → (register == 0) ≡ b → is_clearance h (Write register w) ≡ false
+    by : (b : Bool) → (register == 0) ≡ b → clears_check h (Write register w) ≡ false
     by false z = or_false (executes 7 h (Write register w)) (register == 0 && w == running_check h) (other_command (executed_by (command_held h) (Write register w)) c 7 d e) (and_false (register == 0) (w == running_check h) z)
     by true z =
         let cmd : (register == 4) ≡ false = grind (arith, nat_tests, z) in
@@ -35,29 +35,29 @@ no_clearance h (Write register w) c d e = by (register == 0) refl
         absurd (cc)
 
 pub no_taking : (h : History) (access : Access) (c : ℕ) → (c == 7) ≡ false → executes c h access ≡ true → takes_shutdown h access ≡ false
-no_taking h access c d e = and_false (is_clearance h access) (is_pending h) (no_clearance h access c d e)
+no_taking h access c d e = and_false (clears_check h access) (is_pending h) (no_clearance h access c d e)
 
 -- ---- a pending shutdown
 
 pub pending_is : (h : History) → IsTrue (is_pending h) ↔ IsPending h
-pending_is [] = (λ e. absurd (cc), λ s. absurd (since_none (Executes 11) is_clearance s))
-pending_is (e ∷ h) = by (is_clearance h e.access) (executes 11 h e.access) (is_pending h) refl refl (pending_is h)
+pending_is [] = (λ e. absurd (cc), λ s. absurd (since_none (Executes 11) clears_check s))
+pending_is (e ∷ h) = by (clears_check h e.access) (executes 11 h e.access) (is_pending h) refl refl (pending_is h)
   where
-    by : (c x p : Bool) → is_clearance h e.access ≡ c → executes 11 h e.access ≡ x → (IsTrue p ↔ IsPending h) → IsTrue (if c then false else x || p) ↔ IsPending (e ∷ h)
+    by : (c x p : Bool) → clears_check h e.access ≡ c → executes 11 h e.access ≡ x → (IsTrue p ↔ IsPending h) → IsTrue (if c then false else x || p) ↔ IsPending (e ∷ h)
     by true x p c d i = (
       λ q. absurd (cc),
-      λ s. elim (since_parts (Executes 11) is_clearance e h s) [ inl k ↦ absurd (let no : is_clearance h e.access ≡ false = no_clearance h e.access 11 refl k in cc) | inr k ↦ absurd (let no : is_clearance h e.access ≡ false = k.0 in cc) ],
+      λ s. elim (since_parts (Executes 11) clears_check e h s) [ inl k ↦ absurd (let no : clears_check h e.access ≡ false = no_clearance h e.access 11 refl k in cc) | inr k ↦ absurd (let no : clears_check h e.access ≡ false = k.0 in cc) ],
     )
-    by false true p c d i = (λ q. since_here (Executes 11) is_clearance e h d, λ s. refl)
+    by false true p c d i = (λ q. since_here (Executes 11) clears_check e h d, λ s. refl)
     by false false p c d i = (
-      λ q. since_more (Executes 11) is_clearance e h c (i.0 q),
-      λ s. elim (since_parts (Executes 11) is_clearance e h s) [ inl k ↦ absurd (let yes : executes 11 h e.access ≡ true = k in cc) | inr k ↦ i.1 k.1 ],
+      λ q. since_more (Executes 11) clears_check e h c (i.0 q),
+      λ s. elim (since_parts (Executes 11) clears_check e h s) [ inl k ↦ absurd (let yes : executes 11 h e.access ≡ true = k in cc) | inr k ↦ i.1 k.1 ],
     )
 
-pub taking_is : (h : History) (access : Access) → IsTrue (takes_shutdown h access) ↔ (IsTrue (is_clearance h access) × IsPending h)
-taking_is h access = by (is_clearance h access) (is_pending h) refl (pending_is h)
+pub taking_is : (h : History) (access : Access) → IsTrue (takes_shutdown h access) ↔ (IsTrue (clears_check h access) × IsPending h)
+taking_is h access = by (clears_check h access) (is_pending h) refl (pending_is h)
   where
-    by : (c p : Bool) → is_clearance h access ≡ c → (IsTrue p ↔ IsPending h) → IsTrue (c && p) ↔ (IsTrue c × IsPending h)
+    by : (c p : Bool) → clears_check h access ≡ c → (IsTrue p ↔ IsPending h) → IsTrue (c && p) ↔ (IsTrue c × IsPending h)
     by true p c i = (λ q. (refl, i.0 q), λ s. i.1 s.1)
     by false p c i = (λ q. absurd (cc), λ s. absurd (let no : false ≡ true = s.0 in cc))
 

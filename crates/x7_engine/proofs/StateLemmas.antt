@@ -5,9 +5,10 @@ use Rattle.x7_words.specs.Word.{AreBytes}
 use Rattle.x7_words.proofs.ListLemmas.{all_front}
 use Rattle.x7_packets.specs.ByHand.{reading_of}
 use Rattle.x7_packets.specs.History.{AllBehind, History, Placed, history_of, until}
-use Rattle.x7_packets.specs.Reading.{Place, is_synced}
+use Rattle.x7_packets.specs.Reading.{is_synced}
 use Rattle.x7_packets.proofs.GrowthLemmas.{IsLater, newer_of, placed_of, placed_within}
 use Rattle.x7_part.specs.Part.{PartData}
+use Rattle.x7_engine.specs.Course.{course_at}
 use Rattle.x7_engine.specs.declared.kept.Kept.{Kept}
 use Rattle.x7_engine.specs.declared.fault.Fault.TheVariants as fault
 use Rattle.x7_engine.specs.declared.stop.Stop.{Stop}
@@ -36,10 +37,6 @@ line_is part kept wrapped d bytes s = ap line_by s.stop_is ∙ line_at_end (leng
 -- all bytes are taken
 pub taken_is : (part : PartData) (kept : Kept) (wrapped : Bool) (d : DeviceState) (bytes : List ℕ) → DeviceStandsFor part kept wrapped d bytes → taken_of part kept bytes ≡ length bytes
 taken_is part kept wrapped d bytes s = ap (λ (o : Option Stopped). taken_by o (length bytes)) s.stop_is ∙ taken_at_end (length bytes) d.registers.stop
-
--- a device that goes on is in a session where its bytes end in one
-pub synced_is : (c : Bool) (place : Place) (bytes : List ℕ) → c ≡ is_synced place → place ≡ (reading_of bytes).place → c ≡ is_synced (reading_of bytes).place
-synced_is c place bytes e f = e ∙ ap is_synced f
 
 -- where no word of frame data is due, FAR is that of all words
 pub state_now : (part : PartData) (kept : Kept) (wrapped : Bool) (bytes : List ℕ) → state_owing part kept wrapped bytes 0 ≡ state_of part kept wrapped bytes
@@ -169,7 +166,7 @@ pub stop_is_final-memory : (part : PartData) (kept : Kept) (bytes more : List �
 stop_is_final-memory part kept bytes more s f e = ap (memory_of part) (history_final part kept bytes more s f e)
 
 -- behind a stop it doesn't matter whether the bytes end in a session
-stopped_state : (part : PartData) (kept : Kept) (wrapped : Bool) (line : Stop) (h : History) (n : ℕ) (a b : Bool) → state_by part kept wrapped (Some line) h n a ≡ state_by part kept wrapped (Some line) h n b
+stopped_state : (part : PartData) (kept : Kept) (wrapped : Bool) (line : Stop) (h : History) (n : ℕ) (a b : Bool) → state_by (course_at part kept h n) wrapped (Some line) a ≡ state_by (course_at part kept h n) wrapped (Some line) b
 stopped_state part kept wrapped (stop.Fault f) h n a b = refl
 stopped_state part kept wrapped stop.Iprog h n a b = refl
 
@@ -177,10 +174,10 @@ pub stop_is_final-state : (part : PartData) (kept : Kept) (wrapped : Bool) (byte
 stop_is_final-state part kept wrapped bytes more s f e =
     let later : stop_in part kept (bytes ++ more) ≡ Some s = stop_is_final-stop part kept bytes more s f e in
     let session : Bool = is_synced (reading_of (bytes ++ more)).place in
-    ap (λ (o : Option Stopped). state_by part kept wrapped (line_by o) (history_taken part kept (bytes ++ more)) (taken_by o (length (bytes ++ more))) session) later
-    ∙ ap (λ (h : History). state_by part kept wrapped (Some s.line) h s.place session) (history_final part kept bytes more s f e)
+    ap (λ (o : Option Stopped). state_by (course_at part kept (history_taken part kept (bytes ++ more)) (taken_by o (length (bytes ++ more)))) wrapped (line_by o) session) later
+    ∙ ap (λ (h : History). state_by (course_at part kept h s.place) wrapped (Some s.line) session) (history_final part kept bytes more s f e)
     ∙ stopped_state part kept wrapped s.line (history_taken part kept bytes) s.place session (is_synced (reading_of bytes).place)
-    ∙ sym (ap (λ (o : Option Stopped). state_by part kept wrapped (line_by o) (history_taken part kept bytes) (taken_by o (length bytes)) (is_synced (reading_of bytes).place)) e)
+    ∙ sym (ap (λ (o : Option Stopped). state_by (course_at part kept (history_taken part kept bytes) (taken_by o (length bytes))) wrapped (line_by o) (is_synced (reading_of bytes).place)) e)
 
 -- no bytes before the place of a stop have one
 pub no_stop_before : (part : PartData) (kept : Kept) (bytes more : List ℕ) (s : Stopped) → AreBytes (bytes ++ more) → stop_in part kept (bytes ++ more) ≡ Some s → length bytes < s.place → stop_in part kept bytes ≡ None

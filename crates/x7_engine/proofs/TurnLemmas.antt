@@ -12,6 +12,7 @@ use Rattle.x7_packets.specs.Packet.{payload_steps}
 use Rattle.x7_packets.proofs.GrowthLemmas.{placed_within, until_placed}
 use Rattle.x7_packets.proofs.HistoryLemmas.{entered_all-append}
 use Rattle.x7_part.specs.Part.{PartData}
+use Rattle.x7_engine.specs.Course.{course_at}
 use Rattle.x7_engine.specs.declared.fault.Fault.TheVariants as fault
 use Rattle.x7_engine.specs.declared.kept.Kept.{Kept}
 use Rattle.x7_engine.specs.declared.stop.Stop.{Stop}
@@ -109,7 +110,7 @@ newest_within n [] p = omega arith
 newest_within n (e ∷ h) p = p.1
 
 -- bytes that fire no watchdog
-pub ticked : (part : PartData) (kept : Kept) (d : RegistersState) (clock : ClockState) (h : History) (n count m : ℕ) → m ≡ n + count → d.stop ≡ None → RegistersStandFor part kept d h n → Ticks part kept clock h n count None
+pub ticked : (part : PartData) (kept : Kept) (d : RegistersState) (clock : ClockState) (h : History) (n count m : ℕ) → m ≡ n + count → d.stop ≡ None → RegistersStandFor part kept d h n → Ticks (course_at part kept h n) clock count None
     → RegistersStandFor part kept (record d { clock = clock }) h m
 ticked part kept d clock h n count m i e s t = subst (λ (x : ℕ). RegistersStandFor part kept (record d { clock = clock }) h x) (sym i) record {
   places = placed_within n (n + count) h (omega arith) s.places;
@@ -148,7 +149,7 @@ frames_fired part d h due e s =
     record { stands = now.stands; memory_same = now.memory_same; far_same = now.far_same }
 
 -- bytes up to the one at which it fires
-pub fired : (part : PartData) (kept : Kept) (d : RegistersState) (clock : ClockState) (h : History) (n count k m : ℕ) → m ≡ n + k → d.stop ≡ None → RegistersStandFor part kept d h n → Ticks part kept clock h n count (Some k)
+pub fired : (part : PartData) (kept : Kept) (d : RegistersState) (clock : ClockState) (h : History) (n count k m : ℕ) → m ≡ n + k → d.stop ≡ None → RegistersStandFor part kept d h n → Ticks (course_at part kept h n) clock count (Some k)
     → RegistersStandFor part kept (record d { clock = clock; stop = Some (stop.Fault fault.Watchdog) }) h m
 fired part kept d clock h n count k m i e s t =
     let rest : n + count ≡ n + k + (count - k) = omega (arith, t.1) in

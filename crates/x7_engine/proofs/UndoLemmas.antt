@@ -14,16 +14,12 @@ use Rattle.x7_flow.specs.FrameMemory.{memory_of}
 use Rattle.x7_flow.specs.Saving.{FramesBack, KeepsFrames}
 use Rattle.x7_flow.specs.Standing.{FramesFit, FramesStandFor, FramesState}
 use Rattle.x7_flow.proofs.SavingLemmas.{back_one, back_same}
-use Rattle.x7_engine.specs.declared.due.Due.{Due}
-use Rattle.x7_engine.specs.declared.due.Due.TheVariants as due
-use Rattle.x7_engine.specs.declared.fault.Fault.TheVariants as fault
 use Rattle.x7_engine.specs.declared.fed.Fed.{Fed}
 use Rattle.x7_engine.specs.declared.fed.Fed.TheVariants as fed
 use Rattle.x7_engine.specs.declared.kept.Kept.{Kept}
 use Rattle.x7_engine.specs.declared.stop.Stop.{Stop}
-use Rattle.x7_engine.specs.declared.stop.Stop.TheVariants as stop
 use Rattle.x7_engine.specs.ReadBuffer.{IsFullBy, ReadBufState, with_words}
-use Rattle.x7_engine.specs.Standing.{Answers, DeviceState, DeviceStandsFor, NoWordDue, RegistersState, due_count, frames_due}
+use Rattle.x7_engine.specs.Standing.{Answers, DeviceState, DeviceStandsFor, NoWordDue, RegistersState, frames_due}
 use Rattle.x7_engine.specs.State.{history_by, history_taken, last_counted, memory_in, stop_in}
 use Rattle.x7_engine.specs.Stops.{Stopped, stopped_at}
 use Rattle.x7_engine.specs.Undo.{AreEqual, Back, Keeps, KeepsValues, UndoState, ValuesState, dropping, registers_with, values_of}

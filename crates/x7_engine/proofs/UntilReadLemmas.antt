@@ -1,15 +1,16 @@
 -- Lemmas on specs/UntilRead: in a turn a word is read out at the last byte at the soonest.
-use Rattle.std.proofs.Common.{◌≡◌, ◌+◌, ◌-◌, ◌<◌, ◌≤◌, inl, inr, ℕ, Bool, true, false, Option, None, Some, List, [], ◌∷◌, ◌++◌, length, take, drop, refl, ap, sym, subst, ◌∙◌, append_assoc, append-nil, arith}
+use Rattle.std.proofs.Common.{◌≡◌, ◌+◌, ◌-◌, ◌<◌, ◌≤◌, inl, inr, ℕ, Bool, Option, None, Some, List, [], ◌∷◌, ◌++◌, length, take, drop, refl, ap, sym, subst, ◌∙◌, append_assoc, append-nil, arith}
 use Rattle.std.proofs.lemmas.Bool.{cases_lt}
-use Rattle.std.proofs.lemmas.List.{length-drop, take-append-drop, take-take}
+use Rattle.std.proofs.lemmas.List.{length-append, length-drop, take-append-drop, take-take}
 use Rattle.x7_packets.specs.Cutting.{between}
 use Rattle.x7_packets.specs.History.{Access, Bad, History, Read, Write, history_of}
 use Rattle.x7_part.specs.Part.{PartData}
+use Rattle.x7_engine.specs.ReadBuffer.{HasRoomBy, HasRoomFor, HoldsFew, ReadBufState, gathered, with_words}
 use Rattle.x7_engine.specs.declared.kept.Kept.{Kept}
 use Rattle.x7_engine.specs.Standing.{DeviceStandsFor, DeviceState, NoWordDue, told_of}
 use Rattle.x7_engine.specs.State.{history_by, reads_of, stop_in}
 use Rattle.x7_engine.specs.Stops.{Stopped, stopped_at}
-use Rattle.x7_engine.specs.UntilRead.{ReadBefore}
+use Rattle.x7_engine.specs.UntilRead.{ReadBefore, RoomBefore}
 use Rattle.x7_engine.specs.UntilStarted.{AreOtherWrites, CommandsLast, IsOtherWrite}
 use Rattle.x7_engine.specs.Values.{answer_of, read_out}
 use Rattle.x7_engine.proofs.DeviceLemmas.{length_between}
@@ -42,17 +43,47 @@ turn_reads_none part kept wrapped d e bytes more going s after f k l =
     let q = f k l in
     reads_going part kept (bytes ++ front) none ∙ ap (read_out part kept) q.1 ∙ writes_read_none part kept q.0 (history_of bytes) q.2 ∙ sym (reads_going part kept bytes before)
 
+-- in a turn of a piece, at each byte but its last, the words read out are those told
+turn_piece : (part : PartData) (kept : Kept) (wrapped : Bool) (d e : DeviceState) (bytes piece : List ℕ) (from to k : ℕ) → from ≤ to → to ≤ length piece → d.registers.stop ≡ None → NoWordDue d
+    → DeviceStandsFor part kept wrapped d (bytes ++ take from piece) → DeviceStandsFor part kept wrapped e ((bytes ++ take from piece) ++ between piece from to) → CommandsLast (bytes ++ take from piece) (between piece from to)
+    → from ≤ k → k < to → reads_of part kept (bytes ++ take k piece) ≡ told_of part kept d (bytes ++ take from piece)
+turn_piece part kept wrapped d e bytes piece from to k l m going due s after f more n =
+    let taken : List ℕ = bytes ++ take from piece in
+    let j : ℕ = k - from in
+    let here : take j (between piece from to) ≡ between piece from k = take-take j (to - from) (drop from piece) (omega (arith, n, more)) in
+    let all : taken ++ take j (between piece from to) ≡ bytes ++ take k piece = ap (λ (t : List ℕ). taken ++ t) here ∙ taken_more bytes piece from k more in
+    let inside : j < length (between piece from to) = omega (arith, length_between piece from to l m, n, more) in
+    ap (reads_of part kept) (sym all) ∙ turn_reads_none part kept wrapped d e taken (between piece from to) going s after f j inside ∙ sym (told_all part kept d taken due)
+
 -- nothing before, and nothing in a turn more but at its last byte
 pub none_read_on : (part : PartData) (kept : Kept) (wrapped : Bool) (d e : DeviceState) (bytes piece words : List ℕ) (from to : ℕ) → from ≤ to → to ≤ length piece → d.registers.stop ≡ None → NoWordDue d
     → DeviceStandsFor part kept wrapped d (bytes ++ take from piece) → DeviceStandsFor part kept wrapped e ((bytes ++ take from piece) ++ between piece from to) → CommandsLast (bytes ++ take from piece) (between piece from to)
-    → told_of part kept d (bytes ++ take from piece) ≡ words → ReadBefore part kept bytes piece from words → ReadBefore part kept bytes piece to words
+    → told_of part kept d (bytes ++ take from piece) ≡ words → ReadBefore (record { part = part; kept = kept; wrapped = wrapped; bytes = bytes }) piece from words → ReadBefore (record { part = part; kept = kept; wrapped = wrapped; bytes = bytes }) piece to words
 none_read_on part kept wrapped d e bytes piece words from to l m going due s after f told before = λ k n. elim (cases_lt k from) [
   | inl less ↦ before k less
-  | inr more ↦
-      let taken : List ℕ = bytes ++ take from piece in
-      let j : ℕ = k - from in
-      let here : take j (between piece from to) ≡ between piece from k = take-take j (to - from) (drop from piece) (omega (arith, n, more)) in
-      let all : taken ++ take j (between piece from to) ≡ bytes ++ take k piece = ap (λ (t : List ℕ). taken ++ t) here ∙ taken_more bytes piece from k more in
-      let inside : j < length (between piece from to) = omega (arith, length_between piece from to l m, n, more) in
-      ap (reads_of part kept) (sym all) ∙ turn_reads_none part kept wrapped d e taken (between piece from to) going s after f j inside ∙ sym (told_all part kept d taken due) ∙ told
+  | inr more ↦ turn_piece part kept wrapped d e bytes piece from to k l m going due s after f more n ∙ told
+]
+
+-- ---- and with a buffer
+
+-- the words that a buffer got had room in it
+room_for : (b : ReadBufState) (more : List ℕ) → HoldsFew b.most (with_words b more).words → HasRoomFor b more
+room_for b more f = by b.most b.words more f
+  where
+    by : (most : Option ℕ) (words more : List ℕ) → HoldsFew most (gathered most words more) → HasRoomBy most (length words + length more)
+    by None words more f = tt
+    by (Some most) words more f = omega (arith, f, length-append words more)
+
+-- the words told before and those that the buffer has got, at each byte of a turn but its last
+pub room_read_on : (part : PartData) (kept : Kept) (wrapped : Bool) (d e : DeviceState) (first read : ReadBufState) (bytes piece told : List ℕ) (from to : ℕ) → from ≤ to → to ≤ length piece → d.registers.stop ≡ None → NoWordDue d
+    → DeviceStandsFor part kept wrapped d (bytes ++ take from piece) → DeviceStandsFor part kept wrapped e ((bytes ++ take from piece) ++ between piece from to) → CommandsLast (bytes ++ take from piece) (between piece from to)
+    → HoldsFew read.most read.words → ((more : List ℕ) × (read ≡ with_words first more) × (told_of part kept d (bytes ++ take from piece) ≡ told ++ more))
+    → RoomBefore (record { part = part; kept = kept; wrapped = wrapped; bytes = bytes }) piece from told first → RoomBefore (record { part = part; kept = kept; wrapped = wrapped; bytes = bytes }) piece to told first
+room_read_on part kept wrapped d e first read bytes piece told from to l m going due s after f few now before = λ k n. elim (cases_lt k from) [
+  | inl less ↦ before k less
+  | inr more ↦ (
+    now.0,
+    turn_piece part kept wrapped d e bytes piece from to k l m going due s after f more n ∙ now.2,
+    room_for first now.0 (subst (λ (b : ReadBufState). HoldsFew b.most b.words) now.1 few),
+  )
 ]

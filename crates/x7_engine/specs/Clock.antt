@@ -1,6 +1,6 @@
 -- What the clock of a device stands for: startup and the watchdog after a history with so many bytes taken.
-use Rattle.std.specs.Prelude.{◌≡◌, ℕ, ◌+◌, ◌<◌, ◌≤◌, Bool, if◌then◌else◌, List, [], ◌∷◌, Option, None, Some}
-use Rattle.x7_packets.specs.History.{Access, History, is_command}
+use Rattle.std.specs.Prelude.{◌≡◌, ℕ, ◌+◌, ◌<◌, ◌≤◌, Bool, true, if◌then◌else◌, List, [], ◌∷◌, Option, None, Some}
+use Rattle.x7_packets.specs.History.{Access, Entry, History, is_command}
 use Rattle.x7_part.specs.Part.{PartData}
 use Rattle.x7_regs.specs.declared.command.Command.TheVariants.{Desync, Ltimer, Start}
 use Rattle.x7_regs.specs.Command.{code_of}
@@ -10,7 +10,8 @@ use Rattle.x7_startup.specs.Count.{Reload, Watch, WatchCall, WatchesFor}
 use Rattle.x7_engine.specs.declared.clock.Clock.{Clock}
 use Rattle.x7_engine.specs.declared.kept.Kept.{Kept}
 use Rattle.x7_engine.specs.Kept.{is_fallback}
-use Rattle.x7_engine.specs.Startup.{startup_calls}
+use Rattle.x7_engine.specs.Course.{Course, course_at}
+use Rattle.x7_engine.specs.Startup.{has_ended, startup_calls}
 use Rattle.x7_engine.specs.Watching.{first_firing, load_call, watch_calls}
 
 -- the stored values of a clock
@@ -32,9 +33,30 @@ newest_place [] = 0
 newest_place (e ∷ h) = e.place
 
 -- So many bytes more: none of them fires, or the first that does is this one, and the bytes up to it are taken.
-abbrev pub Ticks : PartData → Kept → ClockState → History → ℕ → ℕ → Option ℕ → Type 0
-Ticks part kept c h n count None = IsClock part kept c h (n + count) × (first_firing part kept h n count ≡ None)
-Ticks part kept c h n count (Some k) = (0 < k) × (k ≤ count) × IsClock part kept c h (n + k) × (first_firing part kept h n count ≡ Some (n + k))
+abbrev pub Ticks : Course → ClockState → ℕ → Option ℕ → Type 0
+Ticks c clock count None = IsClock c.part c.kept clock c.history (c.taken + count) × (first_firing c.part c.kept c.history c.taken count ≡ None)
+Ticks c clock count (Some k) = (0 < k) × (k ≤ count) × IsClock c.part c.kept clock c.history (c.taken + k) × (first_firing c.part c.kept c.history c.taken count ≡ Some (c.taken + k))
+
+-- a part's clock takes so many bytes more, whatever it is the clock of
+abbrev pub TicksOn : PartData → ClockState → ClockState → ℕ → Option ℕ → Type 0
+TicksOn part old new count result = (kept : Kept) (h : History) (n : ℕ) → newest_place h ≤ n → IsClock part kept old h n → Ticks (course_at part kept h n) new count result
+
+-- at each of so many bytes more startup has ended, or at none, and this is the clock before them
+pub record AreAlike (c : Course) (clock : ClockState) (count : ℕ) (ended : Bool) : Type 0 where
+  pub newest : newest_place c.history ≤ c.taken
+  pub each : (i : ℕ) → i < count → has_ended c.part c.history (c.taken + i + 1) ≡ ended
+  pub stands : IsClock c.part c.kept clock c.history c.taken
+
+-- startup has ended so many bytes further, none of which fires, and this is the clock there
+pub record HasEndedBy (c : Course) (clock : ClockState) (count : ℕ) : Type 0 where
+  pub newest : newest_place c.history ≤ c.taken
+  pub quiet : first_firing c.part c.kept c.history c.taken count ≡ None
+  pub ended : has_ended c.part c.history (c.taken + count) ≡ true
+  pub stands : IsClock c.part c.kept clock c.history (c.taken + count)
+
+-- a clock takes an access behind any history of which this holds
+abbrev pub TakesEntry : ClockState → ClockState → Entry → (History → Type 0) → Type 0
+TakesEntry old new e Fact = (part : PartData) (kept : Kept) (h : History) → Fact h → IsClock part kept old h e.place → IsClock part kept new (e ∷ h) e.place
 
 -- what an access asks of startup, by the command that it executes, whether it takes a shutdown, and COR0
 abbrev pub startup_call_by : Option ℕ → Bool → ℕ → List Call

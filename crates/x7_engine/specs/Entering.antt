@@ -3,14 +3,15 @@ use Rattle.std.specs.Prelude.{◌≡◌, ℕ, ◌+◌, ◌∷◌, ◌++◌, List
 use Rattle.x7_words.specs.Word.{words_of_bytes}
 use Rattle.x7_packets.specs.Cutting.{run_steps}
 use Rattle.x7_packets.specs.declared.cutter.Cut.{Cut}
-use Rattle.x7_packets.specs.History.{History, Read, Write, entered, entered_all, entry, until}
+use Rattle.x7_packets.specs.History.{Entry, History, Read, Write, entered, entered_all, entry, until}
 use Rattle.x7_packets.specs.Packet.{payload_steps}
 use Rattle.x7_packets.specs.declared.header.Step.{Step}
 use Rattle.x7_part.specs.Part.{PartData}
 use Rattle.x7_engine.specs.declared.due.Due.{Due}
 use Rattle.x7_engine.specs.declared.kept.Kept.{Kept}
-use Rattle.x7_engine.specs.Standing.{EndsWords, IsNext, RegistersStandFor, RegistersState, counted_in, words_left}
-use Rattle.x7_engine.specs.Values.{read_out}
+use Rattle.x7_engine.specs.declared.registers.Registers.{Registers}
+use Rattle.x7_engine.specs.Standing.{EndsWords, IsNext, RegistersStandFor, RegistersState, counted_in, registers_in, words_left}
+use Rattle.x7_engine.specs.Values.{answer_of, read_out}
 
 -- what holds of what the registers stand for: what the reset kept, the history, and the number of bytes
 abbrev pub OfHistory : PartData → RegistersState → (Kept → History → ℕ → Type 0) → Type 0
@@ -20,28 +21,41 @@ OfHistory part d Fact = (kept : Kept) (h : History) (n : ℕ) → RegistersStand
 abbrev pub Longer : Type 0
 Longer = ℕ → History → History
 
+-- the registers of a part's device before and after a call
+pub record Change : Type 0 where
+  pub part : PartData
+  pub old : RegistersState
+  pub new : RegistersState
+
+abbrev pub change_of : PartData → Registers → Registers → Change
+change_of part old new = record { part = part; old = registers_in old; new = registers_in new }
+
 -- so many bytes were taken, and these accesses entered
-abbrev pub Enters : PartData → RegistersState → RegistersState → Longer → ℕ → Type 0
-Enters part old new longer taken = OfHistory part old (λ kept h n. RegistersStandFor part kept new (longer n h) (n + taken))
+abbrev pub Enters : Change → Longer → ℕ → Type 0
+Enters x longer taken = OfHistory x.part x.old (λ kept h n. RegistersStandFor x.part kept x.new (longer n h) (n + taken))
 
 -- the same up to the stop, where it came
 abbrev pub up_to_stop : RegistersState → Longer → ℕ → Longer
 up_to_stop new longer taken n h = until (counted_in new.stop (n + taken)) (longer n h)
 
 -- the same where a condition holds
-abbrev pub EntersIf : Type 0 → PartData → RegistersState → RegistersState → Longer → ℕ → Type 0
-EntersIf Condition part old new longer taken = (kept : Kept) (h : History) (n : ℕ) → Condition → RegistersStandFor part kept old h n → RegistersStandFor part kept new (longer n h) (n + taken)
+abbrev pub EntersIf : Type 0 → Change → Longer → ℕ → Type 0
+EntersIf Condition x longer taken = (kept : Kept) (h : History) (n : ℕ) → Condition → RegistersStandFor x.part kept x.old h n → RegistersStandFor x.part kept x.new (longer n h) (n + taken)
 
 -- an access entered at the next place
-abbrev pub EntersAt : PartData → RegistersState → RegistersState → Longer → Type 0
-EntersAt part old new longer = (kept : Kept) (h : History) (place : ℕ) → IsNext place h → RegistersStandFor part kept old h place → RegistersStandFor part kept new (longer place h) place
+abbrev pub EntersAt : Change → Longer → Type 0
+EntersAt x longer = (kept : Kept) (h : History) (place : ℕ) → IsNext place h → RegistersStandFor x.part kept x.old h place → RegistersStandFor x.part kept x.new (longer place h) place
 
 -- the longer history reads out the words that are due, and no others
 abbrev pub AreRead : PartData → Kept → History → History → Due → Type 0
 AreRead part kept h longer due = read_out part kept longer ≡ read_out part kept h ++ words_left part longer due
 
-abbrev pub ReadsIf : Type 0 → PartData → RegistersState → RegistersState → Longer → Type 0
-ReadsIf Condition part old new longer = (kept : Kept) (h : History) (n : ℕ) → Condition → RegistersStandFor part kept old h n → AreRead part kept h (longer n h) new.due
+abbrev pub ReadsIf : Type 0 → Change → Longer → Type 0
+ReadsIf Condition x longer = (kept : Kept) (h : History) (n : ℕ) → Condition → RegistersStandFor x.part kept x.old h n → AreRead x.part kept h (longer n h) x.new.due
+
+-- the words that an access reads out are those due
+abbrev pub AreAnswer : PartData → Kept → History → Entry → Due → Type 0
+AreAnswer part kept h e due = answer_of part kept h e.access e.place ≡ words_left part (e ∷ h) due
 
 -- ---- words and runs
 
@@ -65,10 +79,10 @@ abbrev pub run_entered : Cut → ℕ → History → History
 run_entered run from h = entered_all from (run_steps run) h
 
 -- a run was taken, so many bytes of which were new, and its words entered up to the stop
-abbrev pub RunEnters : Cut → ℕ → PartData → RegistersState → RegistersState → ℕ → Type 0
-RunEnters run count part old new taken = (kept : Kept) (h : History) (from n : ℕ) → EndsWords run from n count → RegistersStandFor part kept old h n
-    → RegistersStandFor part kept new (until (counted_in new.stop (n + taken)) (run_entered run from h)) (n + taken)
+abbrev pub RunEnters : Cut → ℕ → Change → ℕ → Type 0
+RunEnters run count x taken = (kept : Kept) (h : History) (from n : ℕ) → EndsWords run from n count → RegistersStandFor x.part kept x.old h n
+    → RegistersStandFor x.part kept x.new (until (counted_in x.new.stop (n + taken)) (run_entered run from h)) (n + taken)
 
-abbrev pub RunReads : Cut → ℕ → PartData → RegistersState → RegistersState → ℕ → Type 0
-RunReads run count part old new taken = (kept : Kept) (h : History) (from n : ℕ) → EndsWords run from n count → RegistersStandFor part kept old h n
-    → AreRead part kept h (until (counted_in new.stop (n + taken)) (run_entered run from h)) new.due
+abbrev pub RunReads : Cut → ℕ → Change → ℕ → Type 0
+RunReads run count x taken = (kept : Kept) (h : History) (from n : ℕ) → EndsWords run from n count → RegistersStandFor x.part kept x.old h n
+    → AreRead x.part kept h (until (counted_in x.new.stop (n + taken)) (run_entered run from h)) x.new.due

@@ -1,5 +1,6 @@
 pub mod Checked
 pub mod Clock
+pub mod Course
 pub mod Entering
 pub mod FirstGap
 pub mod FirstStop
@@ -16,7 +17,6 @@ pub mod Standing
 pub mod Startup
 pub mod State
 pub mod Stops
-pub mod Text
 pub mod Timeout
 pub mod Values
 pub mod Watching

@@ -1,5 +1,5 @@
 -- Words read out of a device: gathered up to a number, or dropped (this project's choice).
-use Rattle.std.specs.Prelude.{◌≡◌, ◌≤◌, ℕ, List, [], ◌++◌, length, Option, None, Some, vec_len, vec_capacity}
+use Rattle.std.specs.Prelude.{◌≡◌, ◌≤◌, ◌+◌, ℕ, List, [], ◌++◌, length, Option, None, Some, vec_len, vec_capacity}
 use Rattle.x7_engine.specs.declared.read_buffer.Room.{Room}
 use Rattle.x7_engine.specs.declared.read_buffer.Room.TheVariants as room
 
@@ -15,6 +15,14 @@ gathered (Some most) words more = words ++ more
 
 abbrev pub with_words : ReadBufState → List ℕ → ReadBufState
 with_words b more = record { most = b.most; words = gathered b.most b.words more }
+
+-- there is room for words more: with them a gathering buffer has its most at most
+abbrev pub HasRoomBy : Option ℕ → ℕ → Type 0
+HasRoomBy None count = Unit {0}
+HasRoomBy (Some most) count = count ≤ most
+
+abbrev pub HasRoomFor : ReadBufState → List ℕ → Type 0
+HasRoomFor b more = HasRoomBy b.most (length b.words + length more)
 
 -- no word more has room
 abbrev pub IsFullBy : Option ℕ → ℕ → Type 0

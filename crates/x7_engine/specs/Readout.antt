@@ -1,11 +1,12 @@
 -- Words that are due, given to a buffer.
-use Rattle.std.specs.Prelude.{◌≡◌, ℕ, ◌++◌, Bool, List}
+use Rattle.std.specs.Prelude.{◌≡◌, ℕ, ◌++◌, List}
 use Rattle.x7_packets.specs.History.{History}
 use Rattle.x7_part.specs.Part.{PartData}
 use Rattle.x7_flow.specs.Standing.{FramesStandFor, FramesState, words_due}
-use Rattle.x7_engine.specs.declared.kept.Kept.{Kept}
+use Rattle.x7_engine.specs.Course.{Course}
+use Rattle.x7_engine.specs.Past.{HasPast, Past, told_at}
 use Rattle.x7_engine.specs.ReadBuffer.{ReadBufState, with_words}
-use Rattle.x7_engine.specs.Standing.{DeviceStandsFor, DeviceState, RegistersStandFor, RegistersState, told_of, words_left}
+use Rattle.x7_engine.specs.Standing.{DeviceState, RegistersStandFor, RegistersState, words_left}
 
 -- of so many words of frame data that are due, the buffer got the first, and these are left
 pub record GaveFrames (part : PartData) (f : FramesState) (h : History) (count left : ℕ) (old new : ReadBufState) : Type 0 where
@@ -15,15 +16,15 @@ pub record GaveFrames (part : PartData) (f : FramesState) (h : History) (count l
   pub stands : FramesStandFor part f h left
 
 -- of the words due the buffer got the first, and the registers stand for the same history
-pub record Gave (part : PartData) (kept : Kept) (d e : RegistersState) (h : History) (n : ℕ) (old new : ReadBufState) : Type 0 where
+pub record Gave (c : Course) (d e : RegistersState) (old new : ReadBufState) : Type 0 where
   pub more : List ℕ
   pub read_is : new ≡ with_words old more
-  pub words_are : words_left part h d.due ≡ more ++ words_left part h e.due
-  pub stands : RegistersStandFor part kept e h n
+  pub words_are : words_left c.part c.history d.due ≡ more ++ words_left c.part c.history e.due
+  pub stands : RegistersStandFor c.part c.kept e c.history c.taken
 
 -- of the words due the buffer got the first, and the device stands for the same bytes
-pub record Gives (part : PartData) (kept : Kept) (wrapped : Bool) (d e : DeviceState) (bytes : List ℕ) (old new : ReadBufState) : Type 0 where
+pub record Gives (p : Past) (d e : DeviceState) (old new : ReadBufState) : Type 0 where
   pub more : List ℕ
   pub read_is : new ≡ with_words old more
-  pub told_are : told_of part kept e bytes ≡ told_of part kept d bytes ++ more
-  pub stands : DeviceStandsFor part kept wrapped e bytes
+  pub told_are : told_at e p ≡ told_at d p ++ more
+  pub stands : HasPast e p

@@ -50,20 +50,20 @@ writes_check check _ = false
 abbrev pub clears_by : Option ℕ → ℕ → Access → Bool
 clears_by command check access = is_command (code_of Rcrc) command || writes_check check access
 
-abbrev pub is_clearance : History → Access → Bool
-is_clearance h access = clears_by (executed_by (command_held h) access) (running_check h) access
+abbrev pub clears_check : History → Access → Bool
+clears_check h access = clears_by (executed_by (command_held h) access) (running_check h) access
 
 abbrev pub pending_after : Option ℕ → Bool → Bool → Bool
 pending_after command cleared pending = if cleared then false else is_command (code_of Shutdown) command || pending
 
--- a shutdown is pending: SHUTDOWN was executed since the last clearance (this project's choice)
+-- a shutdown is pending: SHUTDOWN was executed since the check was last cleared (this project's choice)
 abbrev pub is_pending : History → Bool
 is_pending [] = false
-is_pending (e ∷ h) = pending_after (executed_by (command_held h) e.access) (is_clearance h e.access) (is_pending h)
+is_pending (e ∷ h) = pending_after (executed_by (command_held h) e.access) (clears_check h e.access) (is_pending h)
 
 -- the access takes a pending shutdown (this project's choice)
 abbrev pub takes_shutdown : History → Access → Bool
-takes_shutdown h access = is_clearance h access && is_pending h
+takes_shutdown h access = clears_check h access && is_pending h
 
 abbrev pub ghigh_after : Option ℕ → Bool → Bool → Bool
 ghigh_after command taken ghigh = if is_command (code_of Lfrm) command then true else if is_command (code_of Aghigh) command || taken then false else ghigh

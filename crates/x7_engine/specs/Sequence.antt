@@ -3,15 +3,15 @@ use Rattle.std.specs.Prelude.{◌≡◌, ◌||◌, ℕ, Bool, ◌∷◌, ◌++�
 use Rattle.x7_packets.specs.History.{Access, Entry, History, executes}
 use Rattle.x7_regs.specs.declared.command.Command.TheVariants.{Aghigh, Desync, Lfrm, Shutdown, Start}
 use Rattle.x7_regs.specs.Command.{code_of}
-use Rattle.x7_engine.specs.Registers.{is_clearance, takes_shutdown}
+use Rattle.x7_engine.specs.Registers.{clears_check, takes_shutdown}
 use Rattle.x7_engine.specs.Since.{NoneSince, Since}
 
 abbrev pub Executes : ℕ → History → Access → Type 0
 Executes command h access = IsTrue (executes command h access)
 
--- a shutdown is pending: SHUTDOWN was executed since the last clearance, or since the reset (this project's choice)
+-- a shutdown is pending: SHUTDOWN was executed since the check was last cleared, or since the reset (this project's choice)
 abbrev pub IsPending : History → Type 0
-IsPending h = Since (Executes (code_of Shutdown)) is_clearance h
+IsPending h = Since (Executes (code_of Shutdown)) clears_check h
 
 -- AGHIGH, or a shutdown taken
 abbrev pub lowers_ghigh : History → Access → Bool

@@ -12,6 +12,7 @@ use Rattle.x7_memory.specs.FrameMap.{FrameMap}
 use Rattle.x7_flow.specs.Flow.{far_in, flow_of}
 use Rattle.x7_flow.specs.FrameMemory.{memory_of}
 use Rattle.x7_flow.specs.Standing.{less}
+use Rattle.x7_engine.specs.Course.{Course, course_at}
 use Rattle.x7_engine.specs.declared.fault.Fault.TheVariants as fault
 use Rattle.x7_engine.specs.declared.kept.Kept.{Kept}
 use Rattle.x7_engine.specs.declared.regs.End.{End}
@@ -53,28 +54,28 @@ end_by None synced wbstar = if synced then at_end.Synced else at_end.Searching
 end_by (Some (stop.Fault f)) synced wbstar = at_end.Fault f
 end_by (Some stop.Iprog) synced wbstar = at_end.Iprog wbstar
 
--- the state after n bytes taken with this history and this stop
-abbrev pub state_by : PartData → Kept → Bool → Option Stop → History → ℕ → Bool → Regs
-state_by part kept wrapped line h n synced = record {
-  taken = n;
-  end = end_by line synced (word_held kept (number_of Wbstar) h);
-  phase = phase_by part (startup_progress h n);
-  lines = lines_by part (startup_progress h n);
-  crc = value_of part kept wrapped (fault_of line) h n Crc;
-  far = value_of part kept wrapped (fault_of line) h n Far;
-  cmd = value_of part kept wrapped (fault_of line) h n Cmd;
-  ctl0 = value_of part kept wrapped (fault_of line) h n Ctl0;
-  mask = value_of part kept wrapped (fault_of line) h n Mask;
-  stat = value_of part kept wrapped (fault_of line) h n Stat;
-  cor0 = value_of part kept wrapped (fault_of line) h n Cor0;
-  idcode = value_of part kept wrapped (fault_of line) h n Idcode;
-  axss = value_of part kept wrapped (fault_of line) h n Axss;
-  cor1 = value_of part kept wrapped (fault_of line) h n Cor1;
-  wbstar = value_of part kept wrapped (fault_of line) h n Wbstar;
-  timer = value_of part kept wrapped (fault_of line) h n Timer;
-  bootsts = value_of part kept wrapped (fault_of line) h n Bootsts;
-  ctl1 = value_of part kept wrapped (fault_of line) h n Ctl1;
-  bspi = value_of part kept wrapped (fault_of line) h n Bspi;
+-- the state in the course of a device, with this stop
+abbrev pub state_by : Course → Bool → Option Stop → Bool → Regs
+state_by c wrapped line synced = record {
+  taken = c.taken;
+  end = end_by line synced (word_held c.kept (number_of Wbstar) c.history);
+  phase = phase_by c.part (startup_progress c.history c.taken);
+  lines = lines_by c.part (startup_progress c.history c.taken);
+  crc = value_of c wrapped (fault_of line) Crc;
+  far = value_of c wrapped (fault_of line) Far;
+  cmd = value_of c wrapped (fault_of line) Cmd;
+  ctl0 = value_of c wrapped (fault_of line) Ctl0;
+  mask = value_of c wrapped (fault_of line) Mask;
+  stat = value_of c wrapped (fault_of line) Stat;
+  cor0 = value_of c wrapped (fault_of line) Cor0;
+  idcode = value_of c wrapped (fault_of line) Idcode;
+  axss = value_of c wrapped (fault_of line) Axss;
+  cor1 = value_of c wrapped (fault_of line) Cor1;
+  wbstar = value_of c wrapped (fault_of line) Wbstar;
+  timer = value_of c wrapped (fault_of line) Timer;
+  bootsts = value_of c wrapped (fault_of line) Bootsts;
+  ctl1 = value_of c wrapped (fault_of line) Ctl1;
+  bspi = value_of c wrapped (fault_of line) Bspi;
 }
 
 -- how many of the bytes are taken, and the history of those
@@ -84,10 +85,18 @@ taken_of part kept bytes = taken_by (stop_in part kept bytes) (length bytes)
 abbrev pub history_taken : PartData → Kept → List ℕ → History
 history_taken part kept bytes = history_by (stop_in part kept bytes) (history_of bytes)
 
+-- the course of a device after these bytes
+abbrev pub course_in : PartData → Kept → List ℕ → Course
+course_in part kept bytes = course_at part kept (history_taken part kept bytes) (taken_of part kept bytes)
+
 -- the state of a device after these bytes, whose attempt the end of the flash has wrapped or not
 abbrev pub state_of : PartData → Kept → Bool → List ℕ → Regs
 state_of part kept wrapped bytes =
-    state_by part kept wrapped (line_by (stop_in part kept bytes)) (history_taken part kept bytes) (taken_of part kept bytes) (is_synced (reading_of bytes).place)
+    state_by (course_in part kept bytes) wrapped (line_by (stop_in part kept bytes)) (is_synced (reading_of bytes).place)
+
+-- what BOOTSTS shows
+abbrev pub bootsts_in : PartData → Kept → Bool → List ℕ → ℕ
+bootsts_in part kept wrapped bytes = (state_of part kept wrapped bytes).bootsts
 
 -- the present boot attempt, with what it failed by
 abbrev pub attempt_in : PartData → Kept → Bool → List ℕ → Attempt

@@ -1,14 +1,16 @@
--- Feeding up to the byte with which a word is read out (this project's choice).
+-- Feeding up to the byte with which a word is read out for which there is no room (this project's choice).
 use Rattle.std.specs.Prelude.{◌≡◌, ℕ, ◌<◌, ◌++◌, List, [], take, Some}
-use Rattle.x7_part.specs.Part.{PartData}
-use Rattle.x7_engine.specs.declared.kept.Kept.{Kept}
-use Rattle.x7_engine.specs.ReadBuffer.{ReadBufState}
-use Rattle.x7_engine.specs.State.{reads_of}
+use Rattle.x7_engine.specs.Past.{Past, later, reads_at}
+use Rattle.x7_engine.specs.ReadBuffer.{HasRoomFor, ReadBufState}
 
 -- a buffer that has no room for a word
 abbrev pub no_room : ReadBufState
 no_room = record { most = Some 0; words = [] }
 
 -- these are the words read out at any fewer than so many bytes of a piece
-abbrev pub ReadBefore : PartData → Kept → List ℕ → List ℕ → ℕ → List ℕ → Type 0
-ReadBefore part kept bytes piece count words = (k : ℕ) → k < count → reads_of part kept (bytes ++ take k piece) ≡ words
+abbrev pub ReadBefore : Past → List ℕ → ℕ → List ℕ → Type 0
+ReadBefore p piece count words = (k : ℕ) → k < count → reads_at (later p (take k piece)) ≡ words
+
+-- the words read out at any fewer than so many bytes of a piece are those told before, and words for which the buffer had room
+abbrev pub RoomBefore : Past → List ℕ → ℕ → List ℕ → ReadBufState → Type 0
+RoomBefore p piece count told read = (k : ℕ) → k < count → (words : List ℕ) × (reads_at (later p (take k piece)) ≡ told ++ words) × HasRoomFor read words

@@ -18,6 +18,7 @@ use Rattle.x7_startup.specs.declared.lines.Lines.{Lines}
 use Rattle.x7_flow.specs.FrameAccess.{reads_frame_data}
 use Rattle.x7_flow.specs.Flow.{far_in, far_read, flow_of}
 use Rattle.x7_flow.specs.Standing.{frames_read, less}
+use Rattle.x7_engine.specs.Course.{Course, course_at}
 use Rattle.x7_engine.specs.declared.fault.Fault.{Fault}
 use Rattle.x7_engine.specs.declared.fault.Fault.TheVariants as fault
 use Rattle.x7_engine.specs.declared.kept.Kept.{Kept}
@@ -81,51 +82,51 @@ cause_of _ wrapped = wrap_cause wrapped
 abbrev pub attempt_of : Kept → Bool → Option Fault → History → Attempt
 attempt_of kept wrapped fault h = record { kind = kept.kind; cause = cause_of fault wrapped; ignored = is_fallback kept.kind && wrote_iprog h }
 
--- the value of a register after a history with n bytes taken, and 0 for one that is only written
-abbrev pub value_of : PartData → Kept → Bool → Option Fault → History → ℕ → Reg → ℕ
-value_of part kept wrapped fault h n Crc = check_shown fault h
-value_of part kept wrapped fault h n Far = far_read part h
-value_of part kept wrapped fault h n Fdri = 0
-value_of part kept wrapped fault h n Fdro = 0
-value_of part kept wrapped fault h n Cmd = command_held h
-value_of part kept wrapped fault h n Ctl0 = ctl0_held h
-value_of part kept wrapped fault h n Mask = mask_held h
-value_of part kept wrapped fault h n Stat = status_of (stat_parts part fault (startup_progress h n) (has_ghigh h))
-value_of part kept wrapped fault h n Lout = 0
-value_of part kept wrapped fault h n Cor0 = word_held kept (number_of Cor0) h
-value_of part kept wrapped fault h n Mfwr = 0
-value_of part kept wrapped fault h n Cbc = 0
-value_of part kept wrapped fault h n Idcode = part.idcode
-value_of part kept wrapped fault h n Axss = word_held kept (number_of Axss) h
-value_of part kept wrapped fault h n Cor1 = word_held kept (number_of Cor1) h
-value_of part kept wrapped fault h n Wbstar = word_held kept (number_of Wbstar) h
-value_of part kept wrapped fault h n Timer = word_held kept (number_of Timer) h
-value_of part kept wrapped fault h n Bootsts = boot_status_of (attempt_of kept wrapped fault h) kept.before
-value_of part kept wrapped fault h n Ctl1 = masked (number_of Ctl1) h
-value_of part kept wrapped fault h n Bspi = word_held kept (number_of Bspi) h
+-- the value of a register in the course of a device, and 0 for one that is only written
+abbrev pub value_of : Course → Bool → Option Fault → Reg → ℕ
+value_of c wrapped fault Crc = check_shown fault c.history
+value_of c wrapped fault Far = far_read c.part c.history
+value_of c wrapped fault Fdri = 0
+value_of c wrapped fault Fdro = 0
+value_of c wrapped fault Cmd = command_held c.history
+value_of c wrapped fault Ctl0 = ctl0_held c.history
+value_of c wrapped fault Mask = mask_held c.history
+value_of c wrapped fault Stat = status_of (stat_parts c.part fault (startup_progress c.history c.taken) (has_ghigh c.history))
+value_of c wrapped fault Lout = 0
+value_of c wrapped fault Cor0 = word_held c.kept (number_of Cor0) c.history
+value_of c wrapped fault Mfwr = 0
+value_of c wrapped fault Cbc = 0
+value_of c wrapped fault Idcode = c.part.idcode
+value_of c wrapped fault Axss = word_held c.kept (number_of Axss) c.history
+value_of c wrapped fault Cor1 = word_held c.kept (number_of Cor1) c.history
+value_of c wrapped fault Wbstar = word_held c.kept (number_of Wbstar) c.history
+value_of c wrapped fault Timer = word_held c.kept (number_of Timer) c.history
+value_of c wrapped fault Bootsts = boot_status_of (attempt_of c.kept wrapped fault c.history) c.kept.before
+value_of c wrapped fault Ctl1 = masked (number_of Ctl1) c.history
+value_of c wrapped fault Bspi = word_held c.kept (number_of Bspi) c.history
 
 -- the same by the register's number, and 0 for a number without a register
-abbrev pub value_or_zero : PartData → Kept → History → ℕ → Option Reg → ℕ
-value_or_zero part kept h n None = 0
-value_or_zero part kept h n (Some reg) = value_of part kept false None h n reg
+abbrev pub value_or_zero : Course → Option Reg → ℕ
+value_or_zero c None = 0
+value_or_zero c (Some reg) = value_of c false None reg
 
-abbrev pub read_value : PartData → Kept → History → ℕ → ℕ → ℕ
-read_value part kept h n register = value_or_zero part kept h n (reg_with register)
+abbrev pub read_value : Course → ℕ → ℕ
+read_value c register = value_or_zero c (reg_with register)
 
 -- the value of a register while so many words of frame data of the last read are still to be given: FAR is that of the words given so far
-abbrev pub value_owing : PartData → Kept → Option Fault → History → ℕ → ℕ → Reg → ℕ
-value_owing part kept fault h n due Far = far_in part (less due (flow_of part h))
-value_owing part kept fault h n due reg = value_of part kept false fault h n reg
+abbrev pub value_owing : Course → Option Fault → ℕ → Reg → ℕ
+value_owing c fault due Far = far_in c.part (less due (flow_of c.part c.history))
+value_owing c fault due reg = value_of c false fault reg
 
 -- the words of a read that isn't refused: words of frame data, or the register's value as often as it asks, taken where its header ends
-abbrev pub words_read : PartData → Kept → History → ℕ → ℕ → ℕ → List ℕ
-words_read part kept h n register count =
-    if reads_frame_data h (Read register count) then frames_read part h count else replicate count (read_value part kept h n register)
+abbrev pub words_read : Course → ℕ → ℕ → List ℕ
+words_read c register count =
+    if reads_frame_data c.history (Read register count) then frames_read c.part c.history count else replicate count (read_value c register)
 
 -- the words that an access after this history reads out
 abbrev pub answer_of : PartData → Kept → History → Access → ℕ → List ℕ
 answer_of part kept h (Write register w) n = []
-answer_of part kept h (Read register count) n = if is_some (line_at part kept h (Read register count)) then [] else words_read part kept h n register count
+answer_of part kept h (Read register count) n = if is_some (line_at part kept h (Read register count)) then [] else words_read (course_at part kept h n) register count
 answer_of part kept h (Bad w) n = []
 
 -- all words that a history reads out, in order

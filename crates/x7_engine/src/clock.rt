@@ -5,7 +5,8 @@ ghost use Rattle.x7_part.specs.Part.{PartData};
 ghost use Rattle.x7_flow.specs.Standing.{word_to, written_to};
 ghost use Rattle.x7_startup.specs.Calls.{Call, StandsFor, ticks_of};
 ghost use Rattle.x7_startup.specs.Count.{WatchCall, WatchesFor};
-ghost use Rattle.x7_engine.specs.Clock.{newest_place, startup_call_by, watch_call_by, Ticks};
+ghost use Rattle.x7_engine.specs.Clock.{AreAlike, HasEndedBy, TakesEntry, Ticks, TicksOn, newest_place, startup_call_by, watch_call_by};
+ghost use Rattle.x7_engine.specs.Course.{course_at};
 ghost use Rattle.x7_engine.specs.Kept.{is_fallback};
 ghost use Rattle.x7_engine.specs.Registers.{IsWrite};
 ghost use Rattle.x7_engine.specs.Startup.{has_ended, phase_of, startup_calls, startup_progress};
@@ -85,8 +86,7 @@ impl Clock {
         reg: Reg,
         word: u32,
     )
-        ensures { (part : PartData) (kept : Kept) (h : History) (place : ℕ) → IsWrite executed taken cor0 h (word_to reg word)
-            → IsClock part kept (clock_in self.old) h place → IsClock part kept (clock_in self.new) (written_to reg word place ∷ h) place }
+        ensures { (place : ℕ) → TakesEntry (clock_in self.old) (clock_in self.new) (written_to reg word place) (λ h. IsWrite executed taken cor0 h (word_to reg word)) }
     {
         move_startup(&mut self.startup, executed, taken, cor0);
         move_watchdog(&mut self.watchdog, executed, reg, word);
@@ -136,7 +136,7 @@ impl Clock {
     /// Takes bytes one by one, up to the end of startup or the one at which the watchdog fires: the number of that byte, from 1.
     fn each(&mut self, part: &Part, count: usize) -> Option<usize>
         ensures within { IfSome result (λ k. (0 < k) × (k ≤ count)) }
-        ensures ticks { (kept : Kept) (h : History) (n : ℕ) → newest_place h ≤ n → IsClock part.now kept (clock_in self.old) h n → Ticks part.now kept (clock_in self.new) h n count result }
+        ensures ticks { TicksOn part.now (clock_in self.old) (clock_in self.new) count result }
     {
         for i in 0..count {
             if self.byte(part) {
@@ -153,8 +153,7 @@ impl Clock {
     fn go_on(&mut self, part: &Part, taken: usize, count: usize) -> Option<usize>
         requires within { taken ≤ count }
         ensures within { IfSome result (λ k. (0 < k) × (k ≤ count)) }
-        ensures ticks { (kept : Kept) (h : History) (n : ℕ) → newest_place h ≤ n → first_firing part.now kept h n taken ≡ None → has_ended part.now h (n + taken) ≡ true
-            → IsClock part.now kept (clock_in self.old) h (n + taken) → Ticks part.now kept (clock_in self.new) h n count result }
+        ensures ticks { (kept : Kept) (h : History) (n : ℕ) → HasEndedBy (course_at part.now kept h n) (clock_in self.old) taken → Ticks (course_at part.now kept h n) (clock_in self.new) count result }
     {
         match self.alike(part, count - taken, true) {
             Some(k) => Some(taken + k),
@@ -165,8 +164,8 @@ impl Clock {
     /// Takes bytes, in each of which startup has ended or in none, up to the one at which the watchdog fires.
     fn alike(&mut self, part: &Part, count: usize, eos: bool) -> Option<usize>
         ensures within { IfSome result (λ k. (0 < k) × (k ≤ count)) }
-        ensures ticks { (kept : Kept) (h : History) (n : ℕ) → newest_place h ≤ n → ((i : ℕ) → i < count → has_ended part.now h (n + i + 1) ≡ eos)
-            → IsClock part.now kept (clock_in self.old) h n → Ticks part.now kept (clock_in self.new) h n count result }
+        ensures ticks { (kept : Kept) (h : History) (n : ℕ) → AreAlike (course_at part.now kept h n) (clock_in self.old) count eos
+            → Ticks (course_at part.now kept h n) (clock_in self.new) count result }
     {
         let Some(k) = self.watchdog.bytes(count as u64, eos) else {
             self.startup
@@ -203,7 +202,7 @@ impl Clock {
     #[inline(always)]
     pub(crate) fn bytes(&mut self, part: &Part, count: usize) -> Option<usize>
         ensures within { IfSome result (λ k. (0 < k) × (k ≤ count)) }
-        ensures ticks { (kept : Kept) (h : History) (n : ℕ) → newest_place h ≤ n → IsClock part.now kept (clock_in self.old) h n → Ticks part.now kept (clock_in self.new) h n count result }
+        ensures ticks { TicksOn part.now (clock_in self.old) (clock_in self.new) count result }
     {
         if self.is_idle() {
             return None;
@@ -228,7 +227,7 @@ impl Clock {
     #[inline(never)]
     fn move_on(&mut self, part: &Part, count: usize) -> Option<usize>
         ensures within { IfSome result (λ k. (0 < k) × (k ≤ count)) }
-        ensures ticks { (kept : Kept) (h : History) (n : ℕ) → newest_place h ≤ n → IsClock part.now kept (clock_in self.old) h n → Ticks part.now kept (clock_in self.new) h n count result }
+        ensures ticks { TicksOn part.now (clock_in self.old) (clock_in self.new) count result }
     {
         let eos = self.has_ended();
         if are_same(eos, self.ends_within(part, count)) {

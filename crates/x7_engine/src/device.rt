@@ -5,6 +5,7 @@ ghost use Rattle.x7_packets.specs.History.{history_of};
 ghost use Rattle.x7_part.specs.Part.{PartData};
 ghost use Rattle.x7_memory.specs.FrameMap.{AreSame};
 ghost use Rattle.x7_memory.specs.Frames.{AreFramesOf, frame_at};
+ghost use Rattle.x7_engine.specs.UntilRead.{RoomBefore};
 ghost use Rattle.x7_engine.specs.Kept.{on_the_bench};
 ghost use Rattle.x7_engine.specs.Readout.{Gives};
 ghost use Rattle.x7_engine.specs.ReadBuffer.{IsFull, with_words};
@@ -15,7 +16,7 @@ ghost use Rattle.x7_engine.specs.UntilStarted.{CommandsLast};
 ghost use Rattle.x7_engine.specs.Values.{cause_of};
 ghost use Rattle.x7_engine.specs.declared.fault.Fault.{Fault as FaultData};
 ghost use Rattle.x7_engine.specs.declared.kept.Kept.{Kept as KeptData};
-ghost use Rattle.x7_engine.specs.Past.{AnswersFor, OfPast, Takes, TellsNext, TellsNone, part_taken, state_at, stop_at};
+ghost use Rattle.x7_engine.specs.Past.{AnswersFor, OfPast, Takes, TellsNext, TellsNone, part_taken, state_at, stop_at, told_at};
 
 mod boot;
 mod gap;
@@ -220,7 +221,7 @@ impl Device {
         ensures part { self.new.part ≡ self.old.part }
         ensures fed { self.new.fed ≡ self.old.fed }
         ensures cutter { self.new.cutter ≡ self.old.cutter }
-        ensures given { OfPast self.old (λ p. Gives p.part p.kept p.wrapped self.old self.new p.bytes read.old read.new) }
+        ensures given { OfPast self.old (λ p. Gives p self.old self.new read.old read.new) }
     {
         self.registers.give(&self.part, read)
     }
@@ -278,9 +279,66 @@ impl Device {
         is_done(used_up, self.registers.stop())
     }
 
+    /// Takes the write of one word that comes next, where it lies whole in the piece and no byte moves the clock. It moves
+    /// `at` behind it, and says whether there is one.
+    #[inline(always)]
+    fn take_write(&mut self, piece: &[u8], at: &mut usize) -> bool
+        requires within { at.old ≤ length piece.now }
+        requires going { self.old.registers.stop ≡ None }
+        requires none_due { NoWordDue self.old }
+        requires fits { self.old.taken + (length piece.now - at.old) ≤ 2 ^ 63 }
+        ensures none { result ≡ false → (self.new ≡ self.old) × (at.new ≡ at.old) }
+        ensures one { IsTrue result → (at.new ≡ at.old + 8) × (at.new ≤ length piece.now) }
+        ensures taken { self.new.taken ≡ self.old.taken + (at.new - at.old) }
+        ensures part { self.new.part ≡ self.old.part }
+        ensures fed { fed_of self.new ≡ fed_more self.old (at.new - at.old) }
+        ensures due { NoWordDue self.new }
+        ensures stands { IsTrue result → Takes self.old self.new (between piece.now at.old at.new) }
+        ensures told { IsTrue result → TellsNone self.old self.new (between piece.now at.old at.new) }
+        ensures commands { IsTrue result → OfPast self.old (λ p. CommandsLast p.bytes (between piece.now at.old at.new)) }
+    {
+        if !self.registers.clock.is_idle() {
+            return false;
+        }
+        let Some((register, word)) = self.cutter.take_write(&piece[*at..]) else {
+            return false;
+        };
+        self.registers.write_to(&self.part, register, word);
+        *at += 8;
+        self.taken += 8;
+        self.fed = self.fed.saturating_add(8);
+        true
+    }
+
+    /// Takes a write of one word at once, where one comes next that lies whole in the piece, or else as `take_next` does.
+    #[inline(always)]
+    fn turn(&mut self, piece: &[u8], at: &mut usize) -> bool
+        requires within { at.old ≤ length piece.now }
+        requires going { self.old.registers.stop ≡ None }
+        requires none_due { NoWordDue self.old }
+        requires fits { self.old.taken + (length piece.now - at.old) ≤ 2 ^ 63 }
+        ensures forward { at.old ≤ at.new }
+        ensures within { at.new ≤ length piece.now }
+        ensures taken { self.new.taken ≡ self.old.taken + (at.new - at.old) }
+        ensures part { self.new.part ≡ self.old.part }
+        ensures fed { fed_of self.new ≡ fed_more self.old (at.new - at.old) }
+        ensures stands { Takes self.old self.new (between piece.now at.old at.new) }
+        ensures told { TellsNone self.old self.new (between piece.now at.old at.new) }
+        ensures commands { OfPast self.old (λ p. CommandsLast p.bytes (between piece.now at.old at.new)) }
+        ensures used_up { IsTrue result → (at.new ≡ length piece.now) × (self.new.registers.stop ≡ None) × NoWordDue self.new }
+        ensures goes { result ≡ false → self.new.registers.stop ≡ None
+            → calls_left self.new.cutter (length piece.now - at.new) < calls_left self.old.cutter (length piece.now - at.old) }
+    {
+        if self.take_write(piece, at) {
+            return false;
+        }
+        self.take_next(piece, at)
+    }
+
     /// Takes the no-ops that come next, and then the next run. It moves `at` behind the bytes taken, and says whether the
     /// piece is used up.
-    fn turn(&mut self, piece: &[u8], at: &mut usize) -> bool
+    #[inline(never)]
+    fn take_next(&mut self, piece: &[u8], at: &mut usize) -> bool
         requires within { at.old ≤ length piece.now }
         requires going { self.old.registers.stop ≡ None }
         requires none_due { NoWordDue self.old }
@@ -304,8 +362,8 @@ impl Device {
         self.take_run(piece, at)
     }
 
-    /// Takes the bytes of a piece, up to one that stops the device or to a read whose words have no room. A device that
-    /// has stopped takes nothing.
+    /// Takes the bytes of a piece, up to one that stops the device or to the first read whose words have no room. A device
+    /// that has stopped takes nothing.
     pub fn feed(&mut self, piece: &[u8], read: &mut ReadBuf) -> Fed
         requires { self.old.taken + length piece.now ≤ 2 ^ 63 }
         ensures within { taken_in (length piece.now) result ≤ length piece.now }
@@ -315,6 +373,7 @@ impl Device {
         ensures stands { Takes self.old self.new (part_taken piece.now result) }
         ensures answer { AnswersFor self.old self.new (part_taken piece.now result) read.new result }
         ensures reads { TellsNext self.old self.new (part_taken piece.now result) read.old read.new }
+        ensures first { OfPast self.old (λ p. RoomBefore p piece.now (taken_in (length piece.now) result) (told_at self.old p) read.old) }
         ensures stopped { OfPast self.old (λ p. IsSome (stop_at p) → (self.new ≡ self.old) × (read.new ≡ read.old) × (taken_in (length piece.now) result ≡ 0)) }
         ensures stays { (line : Stop) → self.old.registers.stop ≡ Some line → (self.new ≡ self.old) × (read.new ≡ read.old) × (result ≡ fed_by line 0) }
     {
@@ -326,6 +385,7 @@ impl Device {
             if !self.give(read) {
                 return Fed::ReadFull(at);
             }
+            read.holds_few();
             if self.turn(piece, &mut at) {
                 return Fed::All;
             }

@@ -12,13 +12,13 @@ ghost use Rattle.x7_engine.specs.Kept.{is_fallback, on_the_bench};
 ghost use Rattle.x7_engine.specs.FirstStop.{IsFirstStop, line_at_byte};
 ghost use Rattle.x7_flow.specs.Controls.{masked, same_idcode};
 ghost use Rattle.x7_flow.specs.Standing.{word_to};
-ghost use Rattle.x7_engine.specs.Registers.{HasMaskedBits, cor0_held, has_ghigh, is_clearance, is_pending, takes_shutdown};
+ghost use Rattle.x7_engine.specs.Registers.{HasMaskedBits, cor0_held, has_ghigh, clears_check, is_pending, takes_shutdown};
 ghost use Rattle.x7_engine.specs.Past.{HasStoppedBefore, IsBoot, OfPast, Past, StandsBefore, cause_in, due_at, history_at, later, memory_at, reads_at, state_at, stop_at, taken_at, told_at};
 ghost use Rattle.x7_engine.specs.Rest.{AtRest, GoesOn};
 ghost use Rattle.x7_engine.specs.Sequence.{Begins, HasGhigh, IsPending};
 ghost use Rattle.x7_engine.specs.Standing.{DeviceState, NoWordDue};
 ghost use Rattle.x7_engine.specs.Startup.{phase_of, startup_progress};
-ghost use Rattle.x7_engine.specs.State.{reads_of, state_of, stop_in};
+ghost use Rattle.x7_engine.specs.State.{reads_of, state_of, stop_in, bootsts_in};
 ghost use Rattle.x7_engine.specs.Stops.{Stopped, line_at};
 ghost use Rattle.x7_engine.specs.Timeout.{before_byte, fires_at};
 ghost use Rattle.x7_engine.specs.Watching.{fires};
@@ -45,11 +45,11 @@ pub fn phases_are_the_greatest_begun()
     ensures { (part : PartData) (h : History) (n : ℕ) → IsPhaseOf part.lock part.matched (startup_progress h n) (phase_of part h n) }
 {}
 
-/// A shutdown is pending where SHUTDOWN was executed since the last clearance, which takes it; and GHIGH_B is 1 where the
+/// A shutdown is pending where SHUTDOWN was executed since the check was last cleared, which takes it; and GHIGH_B is 1 where the
 /// latest of LFRM, AGHIGH and a taken shutdown is LFRM.
 pub fn shutdowns_and_ghigh()
     ensures pending { (h : History) → IsTrue (is_pending h) ↔ IsPending h }
-    ensures taken { (h : History) (access : Access) → IsTrue (takes_shutdown h access) ↔ (IsTrue (is_clearance h access) × IsPending h) }
+    ensures taken { (h : History) (access : Access) → IsTrue (takes_shutdown h access) ↔ (IsTrue (clears_check h access) × IsPending h) }
     ensures ghigh { (h : History) → IsTrue (has_ghigh h) ↔ HasGhigh h }
 {}
 
@@ -105,7 +105,7 @@ pub fn reads_grow()
 pub fn wraps_show_in_bootsts()
     ensures alone { (part : PartData) (kept : Kept) (bytes : List ℕ) → state_of part kept true bytes ≡ record (state_of part kept false bytes) { bootsts = (state_of part kept true bytes).bootsts } }
     ensures bit { (part : PartData) (kept : Kept) (bytes : List ℕ) → IsBoot kept → cause_in part kept bytes ≡ None
-        → (state_of part kept true bytes).bootsts ≡ (state_of part kept false bytes).bootsts + 2 ^ 6 }
+        → bootsts_in part kept true bytes ≡ bootsts_in part kept false bytes + 2 ^ 6 }
 {}
 
 /// A fallback waits for the sync word without end: bytes without it, however many, stop nothing, and startup doesn't begin.

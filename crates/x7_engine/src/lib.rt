@@ -16,7 +16,6 @@ mod registers;
 mod regs;
 mod saved;
 mod stop;
-mod text;
 mod until_started;
 mod value;
 mod words;
@@ -35,5 +34,4 @@ pub use law::{
 pub use read_buffer::ReadBuf;
 pub use regs::{End, Regs};
 pub use stop::Stop;
-pub use text::{end_words, frame_line, phase_line, put_frame, reg_lines};
 pub use until_started::UntilStarted;

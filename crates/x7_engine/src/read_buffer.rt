@@ -142,6 +142,14 @@ impl ReadBuf {
         }
     }
 
+    /// It never holds more words than its most.
+    pub(crate) fn holds_few(&self)
+        ensures { HoldsFew self.now.most self.now.words }
+    {
+        // the words are what it rests on
+        let _words = self.words();
+    }
+
     /// Takes a word as often as there is room, and at most so many times. Says how often not.
     pub(crate) fn take(&mut self, word: u32, count: u32) -> u32
         ensures rest { result ≤ count }

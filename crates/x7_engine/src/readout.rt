@@ -1,13 +1,13 @@
 //! The words that a device reads out: a read makes them due, and a buffer takes them.
 ghost use Rattle.std.specs.Prelude.{◌≡◌, ◌≤◌, ◌<◌, ℕ, nat_lt, IsTrue, ◌↔◌, None, Some};
 ghost use Rattle.x7_packets.specs.History.{History, Read};
-ghost use Rattle.x7_flow.specs.Standing.{FramesFit, FramesStandFor};
+ghost use Rattle.x7_flow.specs.Standing.{FramesFit, FramesStandFor, read_of};
 ghost use Rattle.x7_engine.specs.Readout.{GaveFrames};
 ghost use Rattle.x7_engine.specs.ReadBuffer.{IsFull};
 ghost use Rattle.x7_engine.specs.Standing.{due_count};
 ghost use Rattle.x7_engine.specs.Values.{answer_of};
 ghost use Rattle.x7_engine.specs.declared.stop.Stop.{Stop};
-ghost use Rattle.x7_engine.specs.Entering.{EntersAt, OfHistory, read_entered};
+ghost use Rattle.x7_engine.specs.Entering.{AreAnswer, EntersAt, OfHistory, change_of, read_entered};
 
 use crate::due::Due;
 use crate::read_buffer::ReadBuf;
@@ -49,6 +49,7 @@ fn give_frames(frames: &mut Frames, part: &Part, count: u32, read: &mut ReadBuf)
 
 impl Registers {
     ghost use Rattle.x7_engine.specs.Standing.{counted_in, registers_in, words_left};
+    ghost use Rattle.x7_engine.specs.Course.{course_at};
     ghost use Rattle.x7_engine.specs.Readout.{Gave};
 
     /// A read of some words: they are due from now on.
@@ -60,9 +61,8 @@ impl Registers {
         ensures at_rest { (line : Stop) → self.new.stop ≡ Some line → due_count self.new.due ≡ 0 }
         ensures counts { (n : ℕ) → counted_in self.new.stop n ≡ n }
         ensures frames { self.new.frames ≡ self.old.frames }
-        ensures stands { EntersAt part.now (registers_in self.old) (registers_in self.new) (read_entered register count) }
-        ensures reads { OfHistory part.now (registers_in self.old) (λ kept h place.
-            answer_of part.now kept h (Read register count) place ≡ words_left part.now (read_entered register count place h) self.new.due) }
+        ensures stands { EntersAt (change_of part.now self.old self.new) (read_entered register count) }
+        ensures reads { OfHistory part.now (registers_in self.old) (λ kept h place. AreAnswer part.now kept h (read_of register count place) self.new.due) }
     {
         if !reads_frames(self.settings(), register, count) {
             self.due = Due::Same(self.read_value(part, register), count);
@@ -88,7 +88,7 @@ impl Registers {
         ensures full { 0 < due_count self.new.due → IsFull read.new }
         ensures going { self.new.stop ≡ None }
         ensures frames { FramesFit part.now self.new.frames }
-        ensures given { OfHistory part.now (registers_in self.old) (λ kept h n. Gave part.now kept (registers_in self.old) (registers_in self.new) h n read.old read.new) }
+        ensures given { OfHistory part.now (registers_in self.old) (λ kept h n. Gave (course_at part.now kept h n) (registers_in self.old) (registers_in self.new) read.old read.new) }
     {
         match self.due {
             Due::Nothing => (),
@@ -111,7 +111,7 @@ impl Registers {
         ensures full { 0 < due_count self.new.due → IsFull read.new }
         ensures going { self.new.stop ≡ None }
         ensures frames { FramesFit part.now self.new.frames }
-        ensures given { OfHistory part.now (registers_in self.old) (λ kept h n. Gave part.now kept (registers_in self.old) (registers_in self.new) h n read.old read.new) }
+        ensures given { OfHistory part.now (registers_in self.old) (λ kept h n. Gave (course_at part.now kept h n) (registers_in self.old) (registers_in self.new) read.old read.new) }
     {
         self.give_due(part, read);
         count_of(self.due) == 0

@@ -13,7 +13,7 @@ ghost use Rattle.x7_engine.specs.Standing.{counted_in, due_count};
 ghost use Rattle.x7_engine.specs.State.{last_counted};
 ghost use Rattle.x7_engine.specs.Stops.{access_line, frame_line, or_else, stop_by};
 ghost use Rattle.x7_engine.specs.declared.kept.Kept.{Kept as KeptData};
-ghost use Rattle.x7_engine.specs.Entering.{AreRead, Enters, EntersAt, EntersIf, OfHistory, ReadsIf, RunEnters, RunReads, step_entered, up_to_stop, word_entered, words_entered};
+ghost use Rattle.x7_engine.specs.Entering.{AreRead, change_of, Enters, EntersAt, EntersIf, OfHistory, ReadsIf, RunEnters, RunReads, step_entered, up_to_stop, word_entered, words_entered};
 
 use crate::clock::Clock;
 use crate::controls::{Controls, is_dec, masked};
@@ -203,8 +203,7 @@ impl Registers {
 
     /// The line that a written word comes to by its register alone, which executes a command or none.
     fn line_of(&self, idcode: u32, reg: Reg, word: u32, executed: Option<u8>) -> Option<Stop>
-        ensures value { (part : PartData) (kept : KeptData) (h : History) (n : ℕ) → idcode ≡ part.idcode → RegistersStandFor part kept (registers_in self.now) h n → executed ≡ executed_after h reg word
-            → result ≡ access_line part kept h (word_to reg word) }
+        ensures value { (part : PartData) → idcode ≡ part.idcode → OfHistory part (registers_in self.now) (λ kept h n. executed ≡ executed_after h reg word → result ≡ access_line part kept h (word_to reg word)) }
         ensures counts { (n : ℕ) → counted_in result n ≡ n }
     {
         let Progress { check, matched, .. } = self.progress;
@@ -239,7 +238,7 @@ impl Registers {
         requires going { self.old.stop ≡ None }
         requires none_due { due_count self.old.due ≡ 0 }
         requires frames { FramesFit part.now self.old.frames }
-        ensures stands { EntersAt part.now (registers_in self.old) (registers_in self.new) (λ place h. entry (Write (number_of reg) word) place ∷ h) }
+        ensures stands { EntersAt (change_of part.now self.old self.new) (λ place h. entry (Write (number_of reg) word) place ∷ h) }
         ensures counts { (n : ℕ) → counted_in self.new.stop n ≡ n }
         ensures due { self.new.due ≡ self.old.due }
         ensures frames { FramesFit part.now self.new.frames }
@@ -265,7 +264,7 @@ impl Registers {
         requires plain { has_effect register ≡ false }
         requires going { self.old.stop ≡ None }
         requires none_due { due_count self.old.due ≡ 0 }
-        ensures stands { (part : PartData) → EntersAt part (registers_in self.old) (registers_in self.new) (λ place h. entry (Write register word) place ∷ h) }
+        ensures stands { (part : PartData) → EntersAt (change_of part self.old self.new) (λ place h. entry (Write register word) place ∷ h) }
         ensures stop { self.new.stop ≡ self.old.stop }
         ensures due { self.new.due ≡ self.old.due }
         ensures frames { self.new.frames ≡ self.old.frames }
@@ -275,12 +274,12 @@ impl Registers {
     }
 
     /// Takes a word written to a register by its number.
-    fn write_to(&mut self, part: &Part, register: u8, word: u32)
+    pub(crate) fn write_to(&mut self, part: &Part, register: u8, word: u32)
         requires register { register < 32 }
         requires going { self.old.stop ≡ None }
         requires none_due { due_count self.old.due ≡ 0 }
         requires frames { FramesFit part.now self.old.frames }
-        ensures stands { EntersAt part.now (registers_in self.old) (registers_in self.new) (λ place h. entry (Write register word) place ∷ h) }
+        ensures stands { EntersAt (change_of part.now self.old self.new) (λ place h. entry (Write register word) place ∷ h) }
         ensures counts { (n : ℕ) → counted_in self.new.stop n ≡ n }
         ensures due { self.new.due ≡ self.old.due }
         ensures frames { FramesFit part.now self.new.frames }
@@ -302,7 +301,7 @@ impl Registers {
         ensures fired { (line : Stop) → self.new.stop ≡ Some line → (line ≡ Stop.Fault Fault.Watchdog) × (result < count) }
         ensures due { self.new.due ≡ self.old.due }
         ensures frames { self.new.frames ≡ self.old.frames }
-        ensures stands { Enters part.now (registers_in self.old) (registers_in self.new) (λ n h. h) (count - result) }
+        ensures stands { Enters (change_of part.now self.old self.new) (λ n h. h) (count - result) }
     {
         let Some(taken) = self.clock.bytes(part, count) else {
             return 0;
@@ -322,7 +321,7 @@ impl Registers {
         ensures goes_on { self.new.stop ≡ None → result ≡ 0 }
         ensures due { self.new.due ≡ self.old.due }
         ensures frames { FramesFit part.now self.new.frames }
-        ensures stands { EntersIf (0 < count) part.now (registers_in self.old) (registers_in self.new)
+        ensures stands { EntersIf (0 < count) (change_of part.now self.old self.new)
             (up_to_stop (registers_in self.new) (word_entered register word count) (count - result)) (count - result) }
     {
         let left = self.tick(part, count);
@@ -345,7 +344,7 @@ impl Registers {
         ensures goes_on { self.new.stop ≡ None → result ≡ length bytes.now }
         ensures due { self.new.due ≡ self.old.due }
         ensures frames { self.new.frames ≡ self.old.frames }
-        ensures stands { EntersIf (length bytes.now % 4 ≡ 0) part.now (registers_in self.old) (registers_in self.new)
+        ensures stands { EntersIf (length bytes.now % 4 ≡ 0) (change_of part.now self.old self.new)
             (up_to_stop (registers_in self.new) (words_entered register bytes.now) result) result }
     {
         let left = self.tick(part, bytes.len());
@@ -369,7 +368,7 @@ impl Registers {
         ensures going { self.new.stop ≡ None }
         ensures due { self.new.due ≡ self.old.due }
         ensures frames { FramesFit part.now self.new.frames }
-        ensures stands { Enters part.now (registers_in self.old) (registers_in self.new) (words_entered 2 (take result bytes.now)) result }
+        ensures stands { Enters (change_of part.now self.old self.new) (words_entered 2 (take result bytes.now)) result }
     {
         let settings = self.settings();
         let before = self.clock.before_firing(part, bytes.len()) / 4 * 4;
@@ -392,7 +391,7 @@ impl Registers {
         ensures going { self.new.stop ≡ None }
         ensures due { self.new.due ≡ self.old.due }
         ensures frames { FramesFit part.now self.new.frames }
-        ensures stands { Enters part.now (registers_in self.old) (registers_in self.new) (words_entered (number_of reg) (take result bytes.now)) result }
+        ensures stands { Enters (change_of part.now self.old self.new) (words_entered (number_of reg) (take result bytes.now)) result }
     {
         match reg {
             Reg::Fdri if self.progress.matched => self.frame_data(part, bytes),
@@ -412,7 +411,7 @@ impl Registers {
         ensures goes_on { self.new.stop ≡ None → result ≡ length bytes.now }
         ensures due { self.new.due ≡ self.old.due }
         ensures frames { FramesFit part.now self.new.frames }
-        ensures stands { Enters part.now (registers_in self.old) (registers_in self.new) (up_to_stop (registers_in self.new) (words_entered register bytes.now) result) result }
+        ensures stands { Enters (change_of part.now self.old self.new) (up_to_stop (registers_in self.new) (words_entered register bytes.now) result) result }
     {
         let (words, _) = bytes.as_chunks::<4>();
         let mut taken = 0;
@@ -439,7 +438,7 @@ impl Registers {
         ensures goes_on { self.new.stop ≡ None → result ≡ length bytes.now }
         ensures due { self.new.due ≡ self.old.due }
         ensures frames { FramesFit part.now self.new.frames }
-        ensures stands { Enters part.now (registers_in self.old) (registers_in self.new) (up_to_stop (registers_in self.new) (words_entered register bytes.now) result) result }
+        ensures stands { Enters (change_of part.now self.old self.new) (up_to_stop (registers_in self.new) (words_entered register bytes.now) result) result }
     {
         let Some(reg) = effective(register) else {
             return self.pass_all(part, register, bytes);
@@ -457,7 +456,7 @@ impl Registers {
         ensures at_rest { (line : Stop) → self.new.stop ≡ Some line → due_count self.new.due ≡ 0 }
         ensures counts { (n : ℕ) → counted_in self.new.stop n ≡ n }
         ensures frames { FramesFit part.now self.new.frames }
-        ensures stands { EntersAt part.now (registers_in self.old) (registers_in self.new) (λ place h. entered place step h) }
+        ensures stands { EntersAt (change_of part.now self.old self.new) (λ place h. entered place step h) }
         ensures reads { OfHistory part.now (registers_in self.old) (λ kept h place. AreRead part.now kept h (entered place step h) self.new.due) }
     {
         match step {
@@ -478,9 +477,9 @@ impl Registers {
         ensures goes_on { self.new.stop ≡ None → result ≡ 0 }
         ensures at_rest { (line : Stop) → self.new.stop ≡ Some line → due_count self.new.due ≡ 0 }
         ensures frames { FramesFit part.now self.new.frames }
-        ensures stands { EntersIf (0 < count) part.now (registers_in self.old) (registers_in self.new)
+        ensures stands { EntersIf (0 < count) (change_of part.now self.old self.new)
             (up_to_stop (registers_in self.new) (step_entered step count) (count - result)) (count - result) }
-        ensures reads { ReadsIf (0 < count) part.now (registers_in self.old) (registers_in self.new) (up_to_stop (registers_in self.new) (step_entered step count) (count - result)) }
+        ensures reads { ReadsIf (0 < count) (change_of part.now self.old self.new) (up_to_stop (registers_in self.new) (step_entered step count) (count - result)) }
     {
         let left = self.tick(part, count);
         if self.stop.is_some() {
@@ -504,8 +503,8 @@ impl Registers {
         ensures quiet { TellsNothing run.entry → due_count self.new.due ≡ 0 }
         ensures at_rest { (line : Stop) → self.new.stop ≡ Some line → due_count self.new.due ≡ 0 }
         ensures frames { FramesFit part.now self.new.frames }
-        ensures stands { RunEnters run.entry count part.now (registers_in self.old) (registers_in self.new) (count - result) }
-        ensures reads { RunReads run.entry count part.now (registers_in self.old) (registers_in self.new) (count - result) }
+        ensures stands { RunEnters run.entry count (change_of part.now self.old self.new) (count - result) }
+        ensures reads { RunReads run.entry count (change_of part.now self.old self.new) (count - result) }
     {
         match run {
             Cut::Need => self.tick(part, count),

@@ -5,6 +5,7 @@ ghost use Rattle.x7_part.specs.Part.{PartData};
 ghost use Rattle.x7_regs.specs.Status.{status_of};
 ghost use Rattle.x7_flow.specs.Flow.{far_in, flow_of};
 ghost use Rattle.x7_flow.specs.Standing.{less};
+ghost use Rattle.x7_engine.specs.Course.{course_at};
 ghost use Rattle.x7_engine.specs.Kept.{is_fallback};
 ghost use Rattle.x7_engine.specs.Registers.{has_ghigh};
 ghost use Rattle.x7_engine.specs.Standing.{due_count, frames_due};
@@ -119,7 +120,7 @@ impl Registers {
     /// The value of a register as it is read, and 0 for one that is only written and for frame data.
     #[rattlefmt::skip]
     pub(crate) fn value(&self, part: &Part, reg: Reg) -> u32
-        ensures { OfHistory part.now (registers_in self.now) (λ kept h n. result ≡ value_owing part.now kept (fault_of self.now.stop) h n (frames_due self.now.due) reg) }
+        ensures { OfHistory part.now (registers_in self.now) (λ kept h n. result ≡ value_owing (course_at part.now kept h n) (fault_of self.now.stop) (frames_due self.now.due) reg) }
     {
         match reg {
             Reg::Crc     => self.check(),
@@ -147,7 +148,7 @@ impl Registers {
 
     /// What a read of a register number gives: its value, and 0 for a number without a register.
     pub(crate) fn read_value(&self, part: &Part, register: u8) -> u32
-        ensures { self.now.stop ≡ None → due_count self.now.due ≡ 0 → OfHistory part.now (registers_in self.now) (λ kept h n. result ≡ read_value part.now kept h n register) }
+        ensures { self.now.stop ≡ None → due_count self.now.due ≡ 0 → OfHistory part.now (registers_in self.now) (λ kept h n. result ≡ read_value (course_at part.now kept h n) register) }
     {
         match reg_of(register) {
             Some(reg) => self.value(part, reg),

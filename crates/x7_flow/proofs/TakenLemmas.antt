@@ -99,7 +99,7 @@ words_taken part p q old new words count n fault h stands lands counted faulty t
     let grown : Lands part f.base f.run (onto parts.front f.run) (frame_at part old) (frame_at part new) =
     subst (λ (run : List ℕ). Lands part f.base f.run run (frame_at part old) (frame_at part new)) parts.run_is (lands f.command f.base f.run f.source f.given has.stands) in
     record {
-      front = parts.front;
+      taken = parts.front;
       rest = parts.rest;
       words_are = parts.words_are;
       none_refused = parts.none_refused;
@@ -131,7 +131,7 @@ still_stand part f n (w ∷ ws) h t s = still_stand part f (n + 4) ws (entry (Wr
 pub words_folded : (part : PartData) (f : FramesState) (n count : ℕ) (ws : List ℕ) (h : History) → takes_frames (settings_of part.idcode h) ≡ false → count ≡ length ws → FramesStandFor part f h 0
     → WordsTaken part f n h ws count None
 words_folded part f n count ws h t c s = record {
-  front = ws;
+  taken = ws;
   rest = [];
   words_are = sym (append-nil ws);
   none_refused = none_refused part n ws h t;

@@ -1,16 +1,19 @@
 -- Writes of whole frames, and copies, behind a FAR load (UG470, frame data input and multi-frame write registers).
-use Rattle.std.specs.Prelude.{◌≡◌, ℕ, ◌<◌, true, List, [], ◌∷◌, ◌++◌, length, Some}
+use Rattle.std.specs.Prelude.{◌≡◌, ℕ, ◌<◌, ◌%◌, ◌^◌, true, List, [], ◌∷◌, ◌++◌, length, Some}
 use Rattle.std.specs.List.{AllByRecursion, flat_map}
-use Rattle.x7_packets.specs.History.{History}
+use Rattle.x7_packets.specs.History.{History, command_held}
+use Rattle.x7_regs.specs.declared.command.Command.TheVariants as command
+use Rattle.x7_regs.specs.Command.{code_of}
 use Rattle.x7_part.specs.Part.{PartData, frame_words}
 use Rattle.x7_memory.specs.Planned.{PlanRow}
+use Rattle.x7_pipeline.specs.Copies.{copied}
 use Rattle.x7_pipeline.specs.FarAsRead.{has_frame_at, loaded_base}
 use Rattle.x7_pipeline.specs.InWords.{placed_from}
 use Rattle.x7_pipeline.specs.Runs.{onto}
 use Rattle.x7_flow.specs.Settings.{settings_of, takes_copies, takes_frames}
 use Rattle.x7_flow.specs.Flow.{run_of, source_of}
 use Rattle.x7_flow.specs.Later.{after_load, has_mfw}
-use Rattle.x7_flow.specs.Words.{with_words}
+use Rattle.x7_flow.specs.Words.{with_copies, with_words}
 
 -- the word of FAR and its place, the place where the words of FDRI begin, and their frames: some, and the last one, which stays in the buffer
 pub record FrameWrite : Type 0 where
@@ -51,9 +54,32 @@ pub record RunHolds (part : PartData) (h : History) (frames : List (List ℕ)) :
   pub run : run_of part h ≡ onto (words_of_frames frames) []
   pub whole : AreWhole part frames
 
--- words of MFWR after a history put this frame, behind a FAR load of this word
-pub record CopiesTo (part : PartData) (h : History) (far : ℕ) (frame : List ℕ) : Type 0 where
+-- MFW is written right behind a run under WCFG, whose last frame is this one
+pub record MfwAfter (part : PartData) (h : History) (word : ℕ) (frames : List (List ℕ)) (last : List ℕ) : Type 0 where
+  pub run : RunHolds part h (frames ++ last ∷ [])
+  pub wcfg : command_held h ≡ code_of command.Wcfg
+  pub mfw : word % 2 ^ 5 ≡ code_of command.Mfw
+
+-- words of MFWR behind a FAR load: the word of FAR and its place, the place where the words of MFWR begin, the first of them and the others, and the frame that they put
+pub record FrameCopies : Type 0 where
+  pub far : ℕ
+  pub far_place : ℕ
+  pub place : ℕ
+  pub first : ℕ
+  pub words : List ℕ
+  pub frame : List ℕ
+
+-- a history with them behind it
+abbrev pub with_frame_copies : FrameCopies → History → History
+with_frame_copies x h = with_copies x.place (x.first ∷ x.words) (after_load x.far x.far_place h)
+
+-- the pair that they put
+abbrev pub copied_by : PartData → FrameCopies → List PlanRow
+copied_by part x = copied (loaded_base part x.far) (Some x.frame)
+
+-- a device takes them after a history: it copies, the frame is the source, and the word of FAR an address
+pub record TakesCopies (part : PartData) (h : History) (x : FrameCopies) : Type 0 where
   pub takes : takes_copies (settings_of part.idcode h) ≡ true
   pub mfw : has_mfw h ≡ true
-  pub source : source_of part h ≡ Some frame
-  pub address : has_frame_at part (loaded_base part far) ≡ true
+  pub source : source_of part h ≡ Some x.frame
+  pub address : has_frame_at part (loaded_base part x.far) ≡ true

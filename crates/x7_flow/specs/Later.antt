@@ -49,10 +49,26 @@ pairs_alone part earlier w later = pairs_loaded part (settings_of part.idcode ea
 abbrev pub has_mfw : History → Bool
 has_mfw h = is_mfw (command_with (command_held h))
 
+-- what a history goes on from: a part, settings and a flow
+pub record Start : Type 0 where
+  pub part : PartData
+  pub settings : Settings
+  pub flow : Flow
+
+-- the flow, and the pairs put, of a history that goes on; and what a later one goes on from behind it
+abbrev pub flow_on : Start → History → Flow
+flow_on x later = flow_from x.part x.settings x.flow later
+
+abbrev pub pairs_on : Start → History → List PlanRow
+pairs_on x later = pairs_from x.part x.settings x.flow later
+
+abbrev pub start_on : Start → History → Start
+start_on x later = record { part = x.part; settings = settings_from x.part.idcode x.settings later; flow = flow_on x later }
+
 -- a history that goes on is where words of FDRI begin a run
-pub record BeginsRun (part : PartData) (s : Settings) (f : Flow) (later : History) : Type 0 where
-  pub takes : takes_frames (settings_from part.idcode s later) ≡ true
-  pub empty : (flow_from part s f later).run ≡ []
+pub record BeginsRun (x : Start) (later : History) : Type 0 where
+  pub takes : takes_frames (settings_from x.part.idcode x.settings later) ≡ true
+  pub empty : (flow_on x later).run ≡ []
 
 -- a history's memory is that of another with these pairs put over it
 abbrev pub MemoryGets : PartData → History → History → List PlanRow → Type 0

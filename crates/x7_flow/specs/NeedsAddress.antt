@@ -4,6 +4,7 @@ use Rattle.x7_packets.specs.History.{Access, History}
 use Rattle.x7_part.specs.Part.{PartData}
 use Rattle.x7_pipeline.specs.Copies.{is_mfw}
 use Rattle.x7_pipeline.specs.FarAsRead.{has_frame_at}
+use Rattle.x7_pipeline.specs.InWords.{Overruns}
 use Rattle.x7_flow.specs.declared.asked.Asked.{Asked}
 use Rattle.x7_flow.specs.declared.asked.Asked.TheVariants.{Load, Order, Word, Copies, Reads, Other}
 use Rattle.x7_flow.specs.Flow.{Flow, asks, base_of, flow_of, is_copy, run_of}
@@ -28,6 +29,15 @@ LacksAddress part h access far = (needs_address (asks part.idcode h access) (flo
 -- an access after a history is a copy, and there is none to make: the command isn't MFW, or it took no frame
 abbrev pub LacksSource : PartData → History → Access → Type 0
 LacksSource part h access = (is_copy (asks part.idcode h access) ≡ true) × ((is_mfw (flow_of part h).command && is_some (flow_of part h).source) ≡ false)
+
+-- an access after a history writes this word of frame data, and the base is an address
+pub record WritesWord (part : PartData) (h : History) (access : Access) (w : ℕ) : Type 0 where
+  pub word : asks part.idcode h access ≡ Word w
+  pub address : has_frame_at part (base_of part h) ≡ true
+
+-- the slots from the base are used up by the frames of the run, and this word completes one more
+abbrev pub LacksSlot : PartData → History → ℕ → Type 0
+LacksSlot part h w = Overruns part (base_of part h) (w ∷ run_of part h)
 
 -- only at an address has a history a run
 abbrev pub RunsAtAddress : PartData → History → Type 0

@@ -1,11 +1,13 @@
 -- Frames that are kept, and what leads back to them (this project's choice).
-use Rattle.std.specs.Prelude.{◌≡◌}
+use Rattle.std.specs.Prelude.{◌≡◌, ◌∷◌}
+use Rattle.x7_packets.specs.History.{Entry, History}
 use Rattle.x7_part.specs.Part.{PartData}
 use Rattle.x7_memory.specs.FrameMap.{AreSame}
 use Rattle.x7_memory.specs.Frames.{AreFramesOf, frame_at}
 use Rattle.x7_pipeline.specs.Runs.{put_over}
 use Rattle.x7_pipeline.specs.Saving.{SavedState, next_put, pair_at}
-use Rattle.x7_flow.specs.Standing.{FramesFit, FramesState}
+use Rattle.x7_flow.specs.FrameMemory.{memory_of}
+use Rattle.x7_flow.specs.Standing.{FramesFit, FramesStandFor, FramesState, frames_map}
 
 -- the pipeline of these frames, and the frame that stands where its next word or copy would put one
 pub record KeepsFrames (part : PartData) (s : SavedState) (f : FramesState) : Type 0 where
@@ -17,6 +19,11 @@ pub record AreKept (part : PartData) (s : SavedState) (old new : FramesState) : 
   pub keeps : KeepsFrames part s old
   pub old_fit : FramesFit part old
   pub new_fit : FramesFit part new
+
+-- the old frames stand for a history, and the new memory is that of one access more
+pub record GetAccess (part : PartData) (old new : FramesState) (h : History) (e : Entry) : Type 0 where
+  pub stands : FramesStandFor part old h 0
+  pub memory : AreSame (frames_map part new) (memory_of part (e ∷ h))
 
 -- the kept pipeline is that of the old frames, and the new memory with the kept pair is the old one
 pub record FramesBack (part : PartData) (s : SavedState) (new old : FramesState) : Type 0 where

@@ -1,5 +1,5 @@
 -- A pipeline and a memory that stand for a history, and the words of frame data that are read out.
-use Rattle.std.specs.Prelude.{◌≡◌, ℕ, zero, suc, ◌+◌, ◌-◌, ◌≤◌, false, true, List, [], ◌∷◌, Option, None, Some}
+use Rattle.std.specs.Prelude.{◌≡◌, ℕ, zero, suc, ◌+◌, ◌-◌, ◌<◌, ◌≤◌, false, true, List, [], ◌∷◌, Option, None, Some}
 use Rattle.x7_packets.specs.History.{Access, Entry, History, Read, Write, entry}
 use Rattle.x7_regs.specs.declared.register.Reg.{Reg}
 use Rattle.x7_regs.specs.Register.{number_of}
@@ -103,9 +103,18 @@ written_to register word place = entry (word_to register word) place
 abbrev pub read_of : ℕ → ℕ → ℕ → Entry
 read_of register count place = entry (Read register count) place
 
+-- the flow behind a read
+abbrev pub flow_read : PartData → History → ℕ → ℕ → ℕ → Flow
+flow_read part h register count place = flow_of part (read_of register count place ∷ h)
+
 -- an access after a history: a read of frame data
 abbrev pub ReadsData : History → ℕ → ℕ → Type 0
 ReadsData h register count = reads_frame_data h (Read register count) ≡ true
+
+-- one of which fewer words are due than it asks for
+pub record ReadsMore (h : History) (register count due : ℕ) : Type 0 where
+  pub reads : ReadsData h register count
+  pub fewer : due < count
 
 -- after an access: the longer history, or where it is refused the old one
 abbrev pub AfterAccess : PartData → FramesState → History → Entry → Option RunFault → Type 0

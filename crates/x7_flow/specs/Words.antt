@@ -7,8 +7,10 @@ use Rattle.x7_regs.specs.declared.register.Reg.TheVariants as reg
 use Rattle.x7_regs.specs.Register.{number_of}
 use Rattle.x7_pipeline.specs.Runs.{slots_from}
 use Rattle.x7_pipeline.specs.declared.fault.RunFault.{RunFault}
+use Rattle.x7_pipeline.specs.Pipeline.{PipelineData}
 use Rattle.x7_flow.specs.Flow.{base_of, frame_fault, run_of}
-use Rattle.x7_flow.specs.Standing.{FramesStandFor, FramesState}
+use Rattle.x7_flow.specs.Settings.{TakesFrames}
+use Rattle.x7_flow.specs.Standing.{AreFramesAfter, FramesStandFor, FramesState}
 
 -- the history with words written to FDRI, the first of which begins at byte n
 abbrev pub with_words : ℕ → List ℕ → History → History
@@ -23,7 +25,7 @@ unfoldable pub NoneRefused : PartData → ℕ → List ℕ → History → Type 
 NoneRefused part n [] h = Unit {0}
 NoneRefused part n (w ∷ ws) h = (frame_fault part h (Write (number_of reg.Fdri) w) ≡ None) × NoneRefused part (n + 4) ws (entry (Write (number_of reg.Fdri) w) (n + 4) ∷ h)
 
--- behind so many words, with this history: no word is left, or the next is refused
+-- after so many words, with this history: no word is left, or the next is refused
 abbrev pub EndsBy : PartData → History → List ℕ → ℕ → ℕ → Option RunFault → Type 0
 EndsBy part h rest taken count None = (rest ≡ []) × (count ≡ taken)
 EndsBy part h rest taken count (Some fault) = (w : ℕ) × (back : List ℕ) × (rest ≡ w ∷ back) × (frame_fault part h (Write (number_of reg.Fdri) w) ≡ Some fault) × (count ≡ taken + 1)
@@ -35,12 +37,16 @@ words_before count (Some fault) = count - 1
 
 -- the words up to the first refused one were taken; the count has the refused one too
 pub record WordsTaken (part : PartData) (f : FramesState) (n : ℕ) (h : History) (words : List ℕ) (count : ℕ) (fault : Option RunFault) : Type 0 where
-  pub front : List ℕ
+  pub taken : List ℕ
   pub rest : List ℕ
-  pub words_are : words ≡ front ++ rest
-  pub none_refused : NoneRefused part n front h
-  pub end : EndsBy part (with_words n front h) rest (length front) count fault
-  pub stands : FramesStandFor part f (with_words n front h) 0
+  pub words_are : words ≡ taken ++ rest
+  pub none_refused : NoneRefused part n taken h
+  pub end : EndsBy part (with_words n taken h) rest (length taken) count fault
+  pub stands : FramesStandFor part f (with_words n taken h) 0
+
+-- what holds of a history after which words of FDRI go to the memory, and that a pipeline and frames stand for with no word due
+abbrev pub OfTaking : PartData → PipelineData → List (List ℕ) → (History → Type 0) → Type 0
+OfTaking part p frames Fact = (h : History) → TakesFrames part h → AreFramesAfter part p frames h 0 → Fact h
 
 -- the run of a history, with words more, has slots for all its frames
 abbrev pub HasRoomFor : PartData → History → List ℕ → Type 0

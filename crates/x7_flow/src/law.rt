@@ -4,32 +4,29 @@ ghost use Rattle.x7_memory.specs.FrameMap.{AreSame};
 ghost use Rattle.x7_memory.specs.Planned.{planned};
 ghost use Rattle.x7_part.specs.AddressOrder.{Rises, addresses_in};
 ghost use Rattle.x7_part.specs.Part.{PartData, frame_words};
-ghost use Rattle.x7_packets.specs.History.{Access, Entry, History, command_held};
+ghost use Rattle.x7_packets.specs.History.{Access, Entry, History};
 ghost use Rattle.x7_regs.specs.declared.command.Command.TheVariants as command;
 ghost use Rattle.x7_regs.specs.declared.register.Reg.TheVariants as reg;
 ghost use Rattle.x7_regs.specs.Command.{code_of};
-ghost use Rattle.x7_pipeline.specs.Copies.{copied};
-ghost use Rattle.x7_pipeline.specs.FarAsRead.{loaded_base};
 ghost use Rattle.x7_pipeline.specs.Flow.{LandsAt, after_words};
 ghost use Rattle.x7_pipeline.specs.InWords.{Overruns};
 ghost use Rattle.x7_pipeline.specs.Runs.{landed, onto};
 ghost use Rattle.x7_pipeline.specs.Saving.{SavedState};
 ghost use Rattle.x7_pipeline.specs.declared.fault.RunFault.{RunFault};
-ghost use Rattle.x7_flow.specs.declared.asked.Asked.{Asked};
 ghost use Rattle.x7_flow.specs.Alike.{AreAlike, MasksFirst};
 ghost use Rattle.x7_flow.specs.Flow.{Flow, HasAddress, asks, base_of, begins, far_read, flow_of, frame_fault, given_of, is_copy, is_read, is_word, run_of, source_of};
 ghost use Rattle.x7_flow.specs.FrameAccess.{copies_frame, reads_frame_data, writes_frame_data};
 ghost use Rattle.x7_flow.specs.FrameMemory.{landed_more, memory_of};
-ghost use Rattle.x7_flow.specs.FrameWrites.{CopiesTo, FrameWrite, RunHolds, TakesWrite, placed, with_frames};
+ghost use Rattle.x7_flow.specs.FrameWrites.{FrameCopies, FrameWrite, MfwAfter, TakesCopies, TakesWrite, copied_by, placed, with_frame_copies, with_frames};
 ghost use Rattle.x7_flow.specs.InWords.{base_after, frame_taken, words_given, words_written};
 ghost use Rattle.x7_flow.specs.Inside.{HasFrames};
-ghost use Rattle.x7_flow.specs.Later.{BeginsRun, MemoryGets, after_load, flow_from, has_mfw, pairs_after, pairs_alone, pairs_after_load, pairs_from, pairs_loaded};
-ghost use Rattle.x7_flow.specs.NeedsAddress.{LacksAddress, LacksSource, RunsAtAddress};
+ghost use Rattle.x7_flow.specs.Later.{BeginsRun, MemoryGets, Start, after_load, flow_from, flow_on, has_mfw, pairs_after, pairs_alone, pairs_after_load, pairs_from, pairs_loaded, pairs_on, start_on};
+ghost use Rattle.x7_flow.specs.NeedsAddress.{LacksAddress, LacksSlot, LacksSource, RunsAtAddress, WritesWord};
 ghost use Rattle.x7_flow.specs.Quiet.{AreQuiet};
-ghost use Rattle.x7_flow.specs.Saving.{AreKept, FramesBack};
+ghost use Rattle.x7_flow.specs.Saving.{AreKept, FramesBack, GetAccess};
 ghost use Rattle.x7_flow.specs.Settings.{Settings, TakesFrames, settings_after, settings_from, settings_of};
 ghost use Rattle.x7_flow.specs.Sound.{IsSound};
-ghost use Rattle.x7_flow.specs.Standing.{FramesDid, FramesFit, FramesStandFor, FramesState, ReadsData, ReadsFrames, frames_map, frames_read, less, read_of, words_due, written_to};
+ghost use Rattle.x7_flow.specs.Standing.{FramesDid, FramesFit, FramesStandFor, FramesState, ReadsData, ReadsFrames, ReadsMore, flow_read, frames_map, frames_read, less, read_of, words_due, written_to};
 ghost use Rattle.x7_flow.specs.Stretches.{ends_of, is_boundary, overridden};
 ghost use Rattle.x7_flow.specs.Words.{HasRoomFor, NoneRefused, with_copies, with_words};
 
@@ -87,8 +84,8 @@ pub fn standing_laws()
 pub fn fault_laws()
     ensures address { (part : PartData) (h : History) (access : Access) (far : ℕ) → (frame_fault part h access ≡ Some (RunFault.Address far)) ↔ LacksAddress part h access far }
     ensures multi { (part : PartData) (h : History) (access : Access) → (frame_fault part h access ≡ Some RunFault.Multi) ↔ LacksSource part h access }
-    ensures overrun { (part : PartData) (h : History) (access : Access) (w : ℕ) → asks part.idcode h access ≡ Asked.Word w → HasAddress part h →
-        (frame_fault part h access ≡ Some RunFault.Overrun) ↔ Overruns part (base_of part h) (w ∷ run_of part h) }
+    ensures overrun { (part : PartData) (h : History) (access : Access) (w : ℕ) → WritesWord part h access w →
+        (frame_fault part h access ≡ Some RunFault.Overrun) ↔ LacksSlot part h w }
     ensures word { (part : PartData) (h : History) (access : Access) → frame_fault part h access ≡ Some RunFault.Overrun → is_word (asks part.idcode h access) ≡ true }
     ensures runs { (part : PartData) (e : Entry) (h : History) → RunsAtAddress part h → frame_fault part h e.access ≡ None → RunsAtAddress part (e ∷ h) }
     ensures memory { (part : PartData) (e : Entry) (h : History) (fault : RunFault) → frame_fault part h e.access ≡ Some fault → AreSame (memory_of part (e ∷ h)) (memory_of part h) }
@@ -101,19 +98,17 @@ pub fn many_laws()
     ensures flow { (part : PartData) (n : ℕ) (ws : List ℕ) (h : History) → TakesFrames part h → flow_of part (with_words n ws h) ≡ after_words ws (flow_of part h) }
     ensures lands { (part : PartData) (n : ℕ) (ws : List ℕ) (h : History) → TakesFrames part h →
         LandsAt part (flow_of part h) ws (memory_of part h) (memory_of part (with_words n ws h)) }
-    ensures pairs { (part : PartData) (s : Settings) (f : Flow) (n : ℕ) (ws : List ℕ) (later : History) → BeginsRun part s f later →
-        pairs_from part s f (with_words n ws later) ≡ landed part (flow_from part s f later).base (onto ws []) ++ pairs_from part s f later }
+    ensures pairs { (x : Start) (n : ℕ) (ws : List ℕ) (later : History) → BeginsRun x later →
+        pairs_on x (with_words n ws later) ≡ landed x.part (flow_on x later).base (onto ws []) ++ pairs_on x later }
 {}
 
 /// A history that goes on in two parts, and behind a load under another command than MFW.
 pub fn later_laws()
     ensures settings { (idcode : ℕ) (s : Settings) (later middle : History) → settings_from idcode s (later ++ middle) ≡ settings_from idcode (settings_from idcode s middle) later }
-    ensures flow { (part : PartData) (s : Settings) (f : Flow) (later middle : History) →
-        flow_from part s f (later ++ middle) ≡ flow_from part (settings_from part.idcode s middle) (flow_from part s f middle) later }
-    ensures pairs { (part : PartData) (s : Settings) (f : Flow) (later middle : History) →
-        pairs_from part s f (later ++ middle) ≡ pairs_from part (settings_from part.idcode s middle) (flow_from part s f middle) later ++ pairs_from part s f middle }
-    ensures alike { (part : PartData) (s t : Settings) (source : Option (List ℕ)) (w : ℕ) (later : History) → AreAlike s t → MasksFirst later →
-        pairs_loaded part s source w later ≡ pairs_loaded part t source w later }
+    ensures flow { (x : Start) (later middle : History) → flow_on x (later ++ middle) ≡ flow_on (start_on x middle) later }
+    ensures pairs { (x : Start) (later middle : History) → pairs_on x (later ++ middle) ≡ pairs_on (start_on x middle) later ++ pairs_on x middle }
+    ensures alike { (part : PartData) (s t : Settings) (source : Option (List ℕ)) (w : ℕ) (h : History) → AreAlike s t → MasksFirst h →
+        pairs_loaded part s source w h ≡ pairs_loaded part t source w h }
     ensures alone { (part : PartData) (later earlier : History) (w place : ℕ) → has_mfw earlier ≡ false →
         MemoryGets part (later ++ after_load w place earlier) earlier (pairs_alone part earlier w later) }
 {}
@@ -122,18 +117,16 @@ pub fn later_laws()
 /// words of MFWR put the source there.
 pub fn stream_laws()
     ensures write { (part : PartData) (earlier : History) (x : FrameWrite) → TakesWrite part earlier x → MemoryGets part (with_frames x earlier) earlier (reverse (placed part x)) }
-    ensures copies { (part : PartData) (earlier : History) (w place n word : ℕ) (ws frame : List ℕ) → CopiesTo part earlier w frame →
-        MemoryGets part (with_copies n (word ∷ ws) (after_load w place earlier)) earlier (copied (loaded_base part w) (Some frame)) }
+    ensures copies { (part : PartData) (earlier : History) (x : FrameCopies) → TakesCopies part earlier x → MemoryGets part (with_frame_copies x earlier) earlier (copied_by part x) }
 {}
 
 /// Accesses that move no frame, and a read of frame data of which words are due: it has the flow of a read without them.
 pub fn quiet_laws()
     ensures pairs { (part : PartData) (s : Settings) (f : Flow) (later : History) → AreQuiet later → pairs_from part s f later ≡ [] }
     ensures memory { (part : PartData) (later earlier : History) → AreQuiet later → AreSame (memory_of part (later ++ earlier)) (memory_of part earlier) }
-    ensures due { (part : PartData) (h : History) (register count due place : ℕ) → ReadsData h register count → due < count →
-        less due (flow_of part (read_of register count place ∷ h)) ≡ flow_of part (read_of register (count - due) place ∷ h) }
-    ensures all_due { (part : PartData) (h : History) (register count place : ℕ) → ReadsData h register count →
-        less count (flow_of part (read_of register count place ∷ h)) ≡ flow_of part h }
+    ensures due { (part : PartData) (h : History) (register count due n : ℕ) → ReadsMore h register count due →
+        less due (flow_read part h register count n) ≡ flow_read part h register (count - due) n }
+    ensures all_due { (part : PartData) (h : History) (register count n : ℕ) → ReadsData h register count → less count (flow_read part h register count n) ≡ flow_of part h }
 {}
 
 /// A write of whole frames behind a FAR load leaves the memory overridden by a plan of these frames at the slots in order.
@@ -141,8 +134,8 @@ pub fn quiet_laws()
 pub fn plan_laws()
     ensures write { (part : PartData) (earlier : History) (x : FrameWrite) → TakesWrite part earlier x → Rises 0 (addresses_in part) →
         MemoryGets part (with_frames x earlier) earlier (placed part x) }
-    ensures source { (part : PartData) (h : History) (c place : ℕ) (frames : List (List ℕ)) (last : List ℕ) → RunHolds part h (frames ++ last ∷ []) →
-        command_held h ≡ code_of command.Wcfg → c % 2 ^ 5 ≡ code_of command.Mfw → source_of part (written_to reg.Cmd c place ∷ h) ≡ Some last }
+    ensures source { (part : PartData) (h : History) (c place : ℕ) (frames : List (List ℕ)) (last : List ℕ) → MfwAfter part h c frames last →
+        source_of part (written_to reg.Cmd c place ∷ h) ≡ Some last }
     ensures keep { (part : PartData) (earlier : History) (w place n : ℕ) (ws : List ℕ) →
         source_of part (with_copies n ws (after_load w place earlier)) ≡ source_of part earlier }
     ensures settings { (part : PartData) (earlier : History) (w place n : ℕ) (ws : List ℕ) →
@@ -166,5 +159,5 @@ pub fn saving_laws()
     ensures same { (part : PartData) (s : SavedState) (old new : FramesState) → AreKept part s old new →
         AreSame (frames_map part new) (frames_map part old) → FramesBack part s new old }
     ensures one { (part : PartData) (s : SavedState) (old new : FramesState) (h : History) (e : Entry) → AreKept part s old new →
-        FramesStandFor part old h 0 → AreSame (frames_map part new) (memory_of part (e ∷ h)) → FramesBack part s new old }
+        GetAccess part old new h e → FramesBack part s new old }
 {}

@@ -1,8 +1,7 @@
 //! A pipeline and a memory do what an access asks.
 ghost use Rattle.std.specs.Prelude.{◌≡◌, ◌+◌, ◌/◌, ◌%◌, ◌≤◌, ◌∷◌, suc, ℕ, List, length, IfNone, OnSome};
 ghost use Rattle.x7_words.specs.Word.{words_of_bytes};
-ghost use Rattle.x7_flow.specs.Settings.{TakesFrames};
-ghost use Rattle.x7_flow.specs.Words.{WordsTaken};
+ghost use Rattle.x7_flow.specs.Words.{OfTaking, WordsTaken};
 ghost use Rattle.x7_packets.specs.History.{History};
 ghost use Rattle.x7_memory.specs.Frames.{AreFramesOf};
 ghost use Rattle.x7_pipeline.specs.Pipeline.{IsPipelineOf};
@@ -95,8 +94,7 @@ pub fn take_words(
     requires whole { length bytes.now % 4 ≡ 0 }
     requires pipeline { IsPipelineOf part.now pipeline.old }
     requires memory { AreFramesOf part.now memory.old }
-    ensures taken { (n : ℕ) (h : History) → TakesFrames part.now h → AreFramesAfter part.now pipeline.old memory.old h 0 →
-        WordsTaken part.now (record { pipeline = pipeline.new; memory = memory.new }) n h (words_of_bytes bytes.now) result.0 result.1 }
+    ensures taken { (n : ℕ) → OfTaking part.now pipeline.old memory.old (λ h. WordsTaken part.now (record { pipeline = pipeline.new; memory = memory.new }) n h (words_of_bytes bytes.now) result.0 result.1) }
     ensures within { result.0 ≤ length bytes.now / 4 }
     ensures pipeline { IsPipelineOf part.now pipeline.new }
     ensures memory { AreFramesOf part.now memory.new }

@@ -1,9 +1,7 @@
+pub mod BeginningLemmas
 pub mod FormLemmas
-pub mod FrontLemmas
 pub mod HeadLemmas
-pub mod LinesLemmas
 pub mod PlayLemmas
 pub mod PlayerLemmas
 pub mod ReadLemmas
-pub mod ReportLemmas
 pub mod ResultLemmas

@@ -18,7 +18,7 @@ use Rattle.x7_engine.proofs.FrameLemmas.{length_left}
 use Rattle.x7_engine.proofs.ReadsLemmas.{reads_grow}
 use Rattle.x7_engine.proofs.StateLemmas.{stop_is_final-stop}
 use Rattle.x7_forms.specs.Known.{reads_limit}
-use Rattle.x7_forms.specs.Play.{HasPlayed, HasPlayedBy, IsPlayed, MayPlay, Plays, PlaysOn, ReadsOver}
+use Rattle.x7_forms.specs.Play.{HasPlayed, HasPlayedBy, IsPlayed, MayPlay, PlayState, Plays, PlaysOn, ReadsOver}
 use Rattle.x7_forms.specs.declared.player.Player.{Player}
 use Rattle.x7_forms.proofs.PlayLemmas.{IsEnd, over_limit, stopped_end}
 
@@ -80,7 +80,7 @@ fed_full part bytes piece d e reads now s fits stands none told few =
       ends = inl refl;
       fits = subst (λ x. AreBytes x) (sym all) fit;
       stands = stands;
-      told = told;
+      reads_are = told;
       few = few;
     }
 
@@ -95,7 +95,7 @@ fed_stopped part bytes piece n d e reads now s still fits stands st stop told fe
       ends = inr (some_is (stop_in part on_the_bench (s.taken ++ take n piece)) st stop);
       fits = fits;
       stands = stands;
-      told = told;
+      reads_are = told;
       few = few;
     }
 
@@ -131,12 +131,12 @@ played_all part bytes d reads s due = by s.ends
           state = rw all refl;
           memory = rw all refl;
           none_due = due;
-          reads_are = s.told ∙ told_all part on_the_bench d s.taken due ∙ ap (reads_of part on_the_bench) (sym all);
+          reads_are = s.reads_are ∙ told_all part on_the_bench d s.taken due ∙ ap (reads_of part on_the_bench) (sym all);
           few = s.few;
         }
     by (inr i) =
         let st = the_some (stop_in part on_the_bench s.taken) i in
-        stopped_end part bytes s.taken s.left d reads st.0 s.fits s.parts s.stands s.told s.few st.1 due
+        stopped_end part bytes s.taken s.left d reads st.0 s.fits s.parts s.stands s.reads_are s.few st.1 due
 
 -- ---- a player
 
@@ -153,7 +153,7 @@ new_plays part d reads s e =
         ends = inl refl;
         fits = tt;
         stands = s;
-        told = e ∙ sym (told_all part on_the_bench d [] due);
+        reads_are = e ∙ sym (told_all part on_the_bench d [] due);
         few = omega (arith, ap length e);
       },
       due,
@@ -176,13 +176,13 @@ pub on_on : (p q r : Player) (first second : List ℕ) → PlaysOn p q first →
 on_on p q r first second a b = λ part bytes h. subst (λ x. HasPlayed part x r) (append_assoc bytes first second) (b part (bytes ++ first) (a part bytes h))
 
 -- which of both a player is
-pub is_over : (over : Bool) (part : PartData) (bytes : List ℕ) (d : DeviceState) (b : ReadBufState) (reads : List ℕ) → over ≡ true → HasPlayedBy over part bytes d b reads → ReadsOver part bytes
-is_over true part bytes d b reads e h = h
-is_over false part bytes d b reads e h = absurd (cc)
+pub is_over : (over : Bool) (part : PartData) (bytes : List ℕ) (s : PlayState) → over ≡ true → HasPlayedBy over part bytes s → ReadsOver part bytes
+is_over true part bytes s e h = h
+is_over false part bytes s e h = absurd (cc)
 
-pub not_over : (over : Bool) (part : PartData) (bytes : List ℕ) (d : DeviceState) (b : ReadBufState) (reads : List ℕ) → over ≡ false → HasPlayedBy over part bytes d b reads → HasPlayedBy false part bytes d b reads
-not_over false part bytes d b reads e h = h
-not_over true part bytes d b reads e h = absurd (cc)
+pub not_over : (over : Bool) (part : PartData) (bytes : List ℕ) (s : PlayState) → over ≡ false → HasPlayedBy over part bytes s → HasPlayedBy false part bytes s
+not_over false part bytes s e h = h
+not_over true part bytes s e h = absurd (cc)
 
 -- ---- the turns of a feed
 
@@ -206,14 +206,14 @@ turn_over part bytes piece at n d e reads more fb fp s still told many =
     let rest = behind part (bytes ++ take at piece) (drop at piece) n d reads s still in
     record {
       fits = fits;
-      many = over_limit part e (bytes ++ piece) reads more (s.taken ++ take n (drop at piece)) rest.0 fits (sym (whole_piece bytes piece at) ∙ rest.1) (told ∙ ap (λ x. x ++ more) (sym s.told)) many;
+      many = over_limit part e (bytes ++ piece) reads more (s.taken ++ take n (drop at piece)) rest.0 fits (sym (whole_piece bytes piece at) ∙ rest.1) (told ∙ ap (λ x. x ++ more) (sym s.reads_are)) many;
     }
 
 pub turn_full : (part : PartData) (bytes piece : List ℕ) (at n : ℕ) (d e : DeviceState) (reads now more : List ℕ) → AreBytes piece → (s : Plays part (bytes ++ take at piece) d reads) → DeviceStandsFor part on_the_bench false e (s.taken ++ take n (drop at piece))
     → stop_in part on_the_bench (s.taken ++ take n (drop at piece)) ≡ None → told_of part on_the_bench e (s.taken ++ take n (drop at piece)) ≡ told_of part on_the_bench d s.taken ++ more → now ≡ reads ++ more → length now ≤ reads_limit
     → Plays part (bytes ++ take (at + n) piece) e now
 turn_full part bytes piece at n d e reads now more fp s stands none told is few =
-    let words : now ≡ told_of part on_the_bench e (s.taken ++ take n (drop at piece)) = is ∙ ap (λ x. x ++ more) s.told ∙ sym told in
+    let words : now ≡ told_of part on_the_bench e (s.taken ++ take n (drop at piece)) = is ∙ ap (λ x. x ++ more) s.reads_are ∙ sym told in
     subst (λ b. Plays part b e now) (more_piece bytes piece at n)
     (fed_full part (bytes ++ take at piece) (take n (drop at piece)) d e reads now s (some_fits (drop at piece) n (rest_fits piece at fp)) stands none words few)
 
@@ -223,11 +223,11 @@ pub turn_end : (part : PartData) (bytes piece : List ℕ) (at : ℕ) (d e : Devi
     → told_of part on_the_bench e (s.taken ++ take (taken_in (length (drop at piece)) f) (drop at piece)) ≡ told_of part on_the_bench d s.taken ++ more → now ≡ reads ++ more → length now ≤ reads_limit
     → Plays part (bytes ++ piece) e now × NoWordDue e
 turn_end part bytes piece at d e read reads now more f fp s end still stands answer told is few =
-    let words : now ≡ told_of part on_the_bench e (s.taken ++ take (taken_in (length (drop at piece)) f) (drop at piece)) = is ∙ ap (λ x. x ++ more) s.told ∙ sym told in
+    let words : now ≡ told_of part on_the_bench e (s.taken ++ take (taken_in (length (drop at piece)) f) (drop at piece)) = is ∙ ap (λ x. x ++ more) s.reads_are ∙ sym told in
     subst (λ b. Plays part b e now × NoWordDue e) (whole_piece bytes piece at)
     (fed_end part (bytes ++ take at piece) (drop at piece) d e read reads now f s end (rest_fits piece at fp) still stands answer words few)
 
 -- a player that is over stays so
-pub over_stays : (over : Bool) (part : PartData) (bytes piece : List ℕ) (d : DeviceState) (b : ReadBufState) (reads : List ℕ) → over ≡ true → AreBytes piece → HasPlayedBy over part bytes d b reads → HasPlayedBy over part (bytes ++ piece) d b reads
-over_stays true part bytes piece d b reads e fits h = over_grows part bytes piece (all-append (λ b. b < 256) bytes piece h.fits fits) h
-over_stays false part bytes piece d b reads e fits h = absurd (cc)
+pub over_stays : (over : Bool) (part : PartData) (bytes piece : List ℕ) (s : PlayState) → over ≡ true → AreBytes piece → HasPlayedBy over part bytes s → HasPlayedBy over part (bytes ++ piece) s
+over_stays true part bytes piece s e fits h = over_grows part bytes piece (all-append (λ b. b < 256) bytes piece h.fits fits) h
+over_stays false part bytes piece s e fits h = absurd (cc)

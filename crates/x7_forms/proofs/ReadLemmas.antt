@@ -18,13 +18,11 @@ use Rattle.x7_header.specs.declared.fault.HeaderFault.TheVariants as header
 use Rattle.x7_part.specs.Part.{PartData}
 use Rattle.x7_part.specs.PartFile.{part_in}
 use Rattle.x7_forms.specs.declared.bad_input.InputFault.TheVariants as input
-use Rattle.x7_forms.specs.declared.refusal.Why.{Why}
-use Rattle.x7_forms.specs.declared.refusal.Why.TheVariants as why
-use Rattle.x7_forms.specs.Event.{Event, Cause, Want, Fault, Absence, bad_input, cause_of, missing, no_memory, read_fault, row_of, too_large}
+use Rattle.x7_forms.specs.Event.{Event, bad_input, missing, no_memory, read_fault, too_large}
 use Rattle.x7_forms.specs.Known.{Absent, Broken, Failing, Found, Held, Known, Lacking, Mishap, StreamRead, and_so, broken_at, data_by, data_in, data_of, found, known_of, mishap_event, part_by, part_limit, part_of, put_before, read_of, spoiled, spoiled_name, taken_whole, whole_in, with_inputs, with_mishap}
 use Rattle.x7_forms.specs.Turn.{Breaks, IsAt, Reads, Unopened, Unread, UnreadRest}
 use Rattle.x7_forms.proofs.HeadLemmas.{data_more}
-use Rattle.x7_forms.specs.Step.{Among, AnswersAs, AnswersBy, DueBy, FailsAmong, FreeBy, IsCaused, IsCausedBy, IsDecided, IsDue, IsFree, IsOpen, IsOver, LacksAmong}
+use Rattle.x7_forms.specs.Step.{Among, AnswersAs, AnswersBy, CameIn, DueBy, FailsAmong, IsCaused, IsCausedBy, IsDecided, IsDue, IsFromOutside, IsPossible, LacksAmong, step_over}
 use Rattle.std.proofs.Math.Seq.{take-append-add}
 
 -- ---- what was taken
@@ -107,32 +105,21 @@ read_steady limit name =
 
 -- ---- causes of steps one after the other
 
--- an event by its cause
-pub fault_by : (reason : Why) (name : List ℕ) → (row_of reason).cause ≡ Fault → read_fault name ≡ record { reason = reason; concerned = name }
-fault_by why.ReadFault name e = refl
-fault_by reason name e = absurd (cc)
-
-pub absence_by : (reason : Why) (name : List ℕ) → (row_of reason).cause ≡ Absence → missing name ≡ record { reason = reason; concerned = name }
-absence_by why.Missing name e = refl
-absence_by reason name e = absurd (cc)
-
-free_by_on : (A : Type 0) (cause : Cause) (known : Option Known) (given : ℕ) (F L G M : List ℕ → Type 0) (Due : Known → Result A Event → Type 0) (event : Event) → ((n : List ℕ) → F n → G n) → ((n : List ℕ) → L n → M n)
-    → FreeBy {A = A} cause known given F L Due event → FreeBy {A = A} cause known given G M Due event
-free_by_on A Absence known given F L G M Due event f l h = (l event.concerned h.0, h.1)
-free_by_on A Fault known given F L G M Due event f l h = (f event.concerned h.0, h.1)
-free_by_on A Want known given F L G M Due event f l h = h
-free_by_on A cause known given F L G M Due event f l h = absurd h
+-- a step's event from outside is another's: its mishaps are, and what is due with one of them
+pub outside_goes : (A B : Type 0) (known : Option Known) (C D : Mishap → Type 0) (Due : Known → Result A Event → Type 0) (Next : Known → Result B Event → Type 0) (event : Event) → ((m : Mishap) → C m → D m)
+    → ((m : Mishap) → mishap_event m ≡ event → DueBy {A = A} known m Due event → DueBy {A = B} known m Next event) → IsFromOutside {A = A} known C Due (Err event) → IsFromOutside {A = B} known D Next (Err event)
+outside_goes A B known C D Due Next event f g (inl h) = inl h
+outside_goes A B known C D Due Next event f g (inr h) = inr (record { mishap = h.mishap; came = f h.mishap h.came; is = h.is; due = g h.mishap h.is h.due })
 
 -- the same of other names, and of counts of more calls
-pub caused_on_by : (A : Type 0) (known : Option Known) (given : ℕ) (F L G M : List ℕ → Type 0) (Due : Known → Result A Event → Type 0) (got : Result A Event) → ((n : List ℕ) → F n → G n) → ((n : List ℕ) → L n → M n)
-    → IsCausedBy known given F L Due got → IsCausedBy known given G M Due got
-caused_on_by A known given F L G M Due (Ok a) f l (inl h) = absurd h
-caused_on_by A known given F L G M Due (Err event) f l (inl h) = inl (free_by_on A (cause_of event) known given F L G M Due event f l h)
-caused_on_by A known given F L G M Due got f l (inr h) = inr h
+pub caused_on_by : (A : Type 0) (known : Option Known) (C D : Mishap → Type 0) (Due : Known → Result A Event → Type 0) (got : Result A Event) → ((m : Mishap) → C m → D m) → IsCausedBy known C Due got → IsCausedBy known D Due got
+caused_on_by A known C D Due (Ok a) f (inl h) = absurd h
+caused_on_by A known C D Due (Err event) f (inl h) = inl (outside_goes A A known C D Due Due event f (λ m e q. q) h)
+caused_on_by A known C D Due got f (inr h) = inr h
 
 -- the same event
-pub caused_event : {A : Type 0} (known : Option Known) (given : ℕ) (F L : List ℕ → Type 0) (due : Known → Result A Event) (x y : Event) → x ≡ y → IsCaused known given F L due (Err y) → IsCaused known given F L due (Err x)
-caused_event known given F L due x y e h = subst (λ (event : Event). IsCaused known given F L due (Err event)) (sym e) h
+pub caused_event : {A : Type 0} (known : Option Known) (C : Mishap → Type 0) (due : Known → Result A Event) (x y : Event) → x ≡ y → IsCaused known C due (Err y) → IsCaused known C due (Err x)
+caused_event known C due x y e h = subst (λ (event : Event). IsCaused known C due (Err event)) (sym e) h
 
 -- a mishap of a step that follows one which gave a value
 due_follows : (A B : Type 0) (known : Option Known) (m : Mishap) (due : Known → Result A Event) (next : Known → A → Result B Event) (a : A) (event : Event) → Steady A due → IsDue {A = A} known (λ t r. due t ≡ r) (Ok a) → mishap_event m ≡ event
@@ -143,44 +130,31 @@ due_follows A B (Some t) m due next a event s h e q = elim (s.steady m t a h.1) 
   | inr ends ↦ rw ends (ap (λ (x : Event). Err x) e)
 ]
 
-follow_free : (A B : Type 0) (cause : Cause) (known : Option Known) (given : ℕ) (G M : List ℕ → Type 0) (due : Known → Result A Event) (next : Known → A → Result B Event) (a : A) (event : Event) → cause_of event ≡ cause → Steady A due
-    → IsDue {A = A} known (λ t r. due t ≡ r) (Ok a) → FreeBy {A = B} cause known given G M (λ t r. next t a ≡ r) event → FreeBy {A = B} cause known given G M (λ t r. and_so (due t) (next t) ≡ r) event
-follow_free A B Want known given G M due next a event c s h q = q
-follow_free A B Fault known given G M due next a event c s h q = (q.0, due_follows A B known (Failing event.concerned given) due next a event s h (fault_by event.reason event.concerned c) q.1)
-follow_free A B Absence known given G M due next a event c s h q = (q.0, due_follows A B known (Lacking event.concerned) due next a event s h (absence_by event.reason event.concerned c) q.1)
-follow_free A B cause known given G M due next a event c s h q = absurd q
-
 -- a step that went on
-pub follows : {A B : Type 0} (known : Option Known) (given before : ℕ) (F L G M : List ℕ → Type 0) (due : Known → Result A Event) (next : Known → A → Result B Event) (a : A) (got : Result B Event) → Steady A due → IsCaused known before F L due (Ok a)
-    → IsCaused known given G M (λ t. next t a) got → IsCaused known given G M (λ t. and_so (due t) (next t)) got
-follows known given before F L G M due next a got s (inl h) q = absurd h
-follows {A} {B} known given before F L G M due next a (Ok b) s (inr h) (inl q) = absurd q
-follows {A} {B} known given before F L G M due next a (Err event) s (inr h) (inl q) = inl (follow_free A B (cause_of event) known given G M due next a event refl s h q)
-follows None given before F L G M due next a got s (inr h) (inr q) = inr q
-follows (Some t) given before F L G M due next a got s (inr h) (inr q) = inr (q.0, rw h.1 q.1)
+pub follows : {A B : Type 0} (known : Option Known) (C D : Mishap → Type 0) (due : Known → Result A Event) (next : Known → A → Result B Event) (a : A) (got : Result B Event) → Steady A due → IsCaused known C due (Ok a)
+    → IsCaused known D (λ t. next t a) got → IsCaused known D (λ t. and_so (due t) (next t)) got
+follows known C D due next a got s (inl h) q = absurd h
+follows {A} {B} known C D due next a (Ok b) s (inr h) (inl q) = absurd q
+follows {A} {B} known C D due next a (Err event) s (inr h) (inl q) =
+    inl (outside_goes B B known D D (λ t r. next t a ≡ r) (λ t r. and_so (due t) (next t) ≡ r) event (λ m x. x) (λ m e x. due_follows A B known m due next a event s h e x) q)
+follows None C D due next a got s (inr h) (inr q) = inr q
+follows (Some t) C D due next a got s (inr h) (inr q) = inr (q.0, rw h.1 q.1)
 
 -- a step that ended the command
 due_stops : (A B : Type 0) (known : Option Known) (m : Mishap) (due : Known → Result A Event) (next : Known → A → Result B Event) (event : Event) → DueBy {A = A} known m (λ t r. due t ≡ r) event → DueBy {A = B} known m (λ t r. and_so (due t) (next t) ≡ r) event
 due_stops A B None m due next event q = tt
 due_stops A B (Some t) m due next event q = rw q refl
 
-stop_free : (A B : Type 0) (cause : Cause) (known : Option Known) (given : ℕ) (F L : List ℕ → Type 0) (due : Known → Result A Event) (next : Known → A → Result B Event) (event : Event)
-    → FreeBy {A = A} cause known given F L (λ t r. due t ≡ r) event → FreeBy {A = B} cause known given F L (λ t r. and_so (due t) (next t) ≡ r) event
-stop_free A B Want known given F L due next event q = q
-stop_free A B Fault known given F L due next event q = (q.0, due_stops A B known (Failing event.concerned given) due next event q.1)
-stop_free A B Absence known given F L due next event q = (q.0, due_stops A B known (Lacking event.concerned) due next event q.1)
-stop_free A B cause known given F L due next event q = absurd q
-
-pub stops : {A B : Type 0} (known : Option Known) (given : ℕ) (F L : List ℕ → Type 0) (due : Known → Result A Event) (next : Known → A → Result B Event) (event : Event) → IsCaused known given F L due (Err event)
-    → IsCaused known given F L (λ t. and_so (due t) (next t)) (Err event)
-stops {A} {B} known given F L due next event (inl q) = inl (stop_free A B (cause_of event) known given F L due next event q)
-stops None given F L due next event (inr q) = inr q
-stops (Some t) given F L due next event (inr q) = inr (q.0, rw q.1 refl)
+pub stops : {A B : Type 0} (known : Option Known) (C : Mishap → Type 0) (due : Known → Result A Event) (next : Known → A → Result B Event) (event : Event) → IsCaused known C due (Err event)
+    → IsCaused known C (λ t. and_so (due t) (next t)) (Err event)
+stops {A} {B} known C due next event (inl q) = inl (outside_goes A B known C C (λ t r. due t ≡ r) (λ t r. and_so (due t) (next t) ≡ r) event (λ m x. x) (λ m e x. due_stops A B known m due next event x) q)
+stops None C due next event (inr q) = inr q
+stops (Some t) C due next event (inr q) = inr (q.0, rw q.1 refl)
 
 -- a step that reads nothing
-pub works : {A : Type 0} (known : Option Known) (given : ℕ) (F L : List ℕ → Type 0) (due got : Result A Event) → IsOpen got → IsDecided got → due ≡ got → IsCaused known given F L (λ t. due) got
-works None given F L due got o d e = inr o
-works (Some t) given F L due got o d e = inr (d, e)
+pub works : {A : Type 0} (known : Option Known) (C : Mishap → Type 0) (due got : Result A Event) → IsPossible got → IsDecided got → due ≡ got → IsCaused known C (λ t. due) got
+works None C due got o d e = inr o
+works (Some t) C due got o d e = inr (d, e)
 
 -- ---- streams one after the other
 
@@ -223,12 +197,12 @@ rests_more t names limit name left room whole s r e = record {
       ];
 }
 
-rests_next : (contents : Option (List ℕ → Option (List ℕ))) (given : ℕ) (F L : List ℕ → Type 0) (names : List (List ℕ)) (limit : ℕ) (name : List ℕ) (left : List (List ℕ)) (room : ℕ) (whole : List ℕ) (s : StreamRead) → Rests contents names limit (name ∷ left) room whole
-    → ((flash : Option (List ℕ)) → IsCaused (with_inputs contents flash) given F L (λ t. read_of t room name) (Ok s)) → Rests contents names limit left s.room (whole ++ s.bytes)
-rests_next None given F L names limit name left room whole s r h = tt
-rests_next (Some inputs) given F L names limit name left room whole s r h = λ flash. at flash (h flash)
+rests_next : (contents : Option (List ℕ → Option (List ℕ))) (C : Mishap → Type 0) (names : List (List ℕ)) (limit : ℕ) (name : List ℕ) (left : List (List ℕ)) (room : ℕ) (whole : List ℕ) (s : StreamRead) → Rests contents names limit (name ∷ left) room whole
+    → ((flash : Option (List ℕ)) → IsCaused (with_inputs contents flash) C (λ t. read_of t room name) (Ok s)) → Rests contents names limit left s.room (whole ++ s.bytes)
+rests_next None C names limit name left room whole s r h = tt
+rests_next (Some inputs) C names limit name left room whole s r h = λ flash. at flash (h flash)
   where
-    at : (flash : Option (List ℕ)) → IsCaused (Some (known_of inputs flash)) given F L (λ t. read_of t room name) (Ok s) → RestsIn (known_of inputs flash) names limit left s.room (whole ++ s.bytes)
+    at : (flash : Option (List ℕ)) → IsCaused (Some (known_of inputs flash)) C (λ t. read_of t room name) (Ok s) → RestsIn (known_of inputs flash) names limit left s.room (whole ++ s.bytes)
     at flash (inl q) = absurd q
     at flash (inr q) = rests_more (known_of inputs flash) names limit name left room whole s (r flash) q.1
 
@@ -241,21 +215,12 @@ rests_due (Some inputs) flash names limit name left room whole m event r e q = e
   | inr ends ↦ ends ∙ ap (λ (x : Event). Err x) e
 ]
 
-rests_free : (cause : Cause) (contents : Option (List ℕ → Option (List ℕ))) (flash : Option (List ℕ)) (given : ℕ) (F L : List ℕ → Type 0) (names : List (List ℕ)) (limit : ℕ) (name : List ℕ) (left : List (List ℕ)) (room : ℕ) (whole : List ℕ) (event : Event)
-    → cause_of event ≡ cause → Rests contents names limit (name ∷ left) room whole → FreeBy {A = StreamRead} cause (with_inputs contents flash) given F L (λ t r. read_of t room name ≡ r) event
-    → FreeBy {A = List ℕ} cause (with_inputs contents flash) given F L (λ t r. data_of t limit names ≡ r) event
-rests_free Want contents flash given F L names limit name left room whole event c r q = q
-rests_free Fault contents flash given F L names limit name left room whole event c r q =
-    (q.0, rests_due contents flash names limit name left room whole (Failing event.concerned given) event r (fault_by event.reason event.concerned c) q.1)
-rests_free Absence contents flash given F L names limit name left room whole event c r q =
-    (q.0, rests_due contents flash names limit name left room whole (Lacking event.concerned) event r (absence_by event.reason event.concerned c) q.1)
-rests_free cause contents flash given F L names limit name left room whole event c r q = absurd q
-
-rests_stop : (contents : Option (List ℕ → Option (List ℕ))) (flash : Option (List ℕ)) (given : ℕ) (F L : List ℕ → Type 0) (names : List (List ℕ)) (limit : ℕ) (name : List ℕ) (left : List (List ℕ)) (room : ℕ) (whole : List ℕ) (event : Event) → Rests contents names limit (name ∷ left) room whole
-    → IsCaused (with_inputs contents flash) given F L (λ t. read_of t room name) (Err event) → IsCaused (with_inputs contents flash) given F L (λ t. data_of t limit names) (Err event)
-rests_stop contents flash given F L names limit name left room whole event r (inl q) = inl (rests_free (cause_of event) contents flash given F L names limit name left room whole event refl r q)
-rests_stop None flash given F L names limit name left room whole event r (inr q) = inr q
-rests_stop (Some inputs) flash given F L names limit name left room whole event r (inr q) =
+rests_stop : (contents : Option (List ℕ → Option (List ℕ))) (flash : Option (List ℕ)) (C : Mishap → Type 0) (names : List (List ℕ)) (limit : ℕ) (name : List ℕ) (left : List (List ℕ)) (room : ℕ) (whole : List ℕ) (event : Event) → Rests contents names limit (name ∷ left) room whole
+    → IsCaused (with_inputs contents flash) C (λ t. read_of t room name) (Err event) → IsCaused (with_inputs contents flash) C (λ t. data_of t limit names) (Err event)
+rests_stop contents flash C names limit name left room whole event r (inl q) =
+    inl (outside_goes StreamRead (List ℕ) (with_inputs contents flash) C C (λ t r. read_of t room name ≡ r) (λ t r. data_of t limit names ≡ r) event (λ m x. x) (λ m e x. rests_due contents flash names limit name left room whole m event r e x) q)
+rests_stop None flash C names limit name left room whole event r (inr q) = inr q
+rests_stop (Some inputs) flash C names limit name left room whole event r (inr q) =
     inr (q.0, (r flash).is ∙ one_less (read_of (known_of inputs flash) room name) (λ room. data_of (known_of inputs flash) room left) whole event q.1)
 
 among_at : {X : Type 0} (f : X → List ℕ) (ss : List X) (k : ℕ) (s : X) → k < length ss → s ≡ get_or ss k s → Among (map f ss) (f s)
@@ -268,11 +233,15 @@ among_one names name h n (inl e) = rw e h
 among_one names name h n (inr e) = absurd e
 
 -- a name that failed is one of more names, and its count rose over more calls
-pub fails_in : (some all : List (List ℕ)) (old mid new : InputsState) → ((n : List ℕ) → Among some n → Among all n) → Stays old mid → (n : List ℕ) → FailsAmong some mid new n → FailsAmong all old new n
+fails_in : (some all : List (List ℕ)) (old mid new : InputsState) → ((n : List ℕ) → Among some n → Among all n) → Stays old mid → (n : List ℕ) → FailsAmong some mid new n → FailsAmong all old new n
 fails_in some all old mid new a s n f = record { among = a n f.among; over = f.over; risen = risen_from old.faults mid.faults new.faults s.faults f.risen }
 
-pub lacks_in : (some all : List (List ℕ)) (old mid new : InputsState) → ((n : List ℕ) → Among some n → Among all n) → Stays old mid → (n : List ℕ) → LacksAmong some mid new n → LacksAmong all old new n
+lacks_in : (some all : List (List ℕ)) (old mid new : InputsState) → ((n : List ℕ) → Among some n → Among all n) → Stays old mid → (n : List ℕ) → LacksAmong some mid new n → LacksAmong all old new n
 lacks_in some all old mid new a s n f = record { among = a n f.among; over = f.over; risen = risen_from old.absences mid.absences new.absences s.absences f.risen }
+
+pub came_in : (some all : List (List ℕ)) (old mid new : InputsState) → ((n : List ℕ) → Among some n → Among all n) → Stays old mid → (m : Mishap) → CameIn (step_over some mid new) m → CameIn (step_over all old new) m
+came_in some all old mid new a s (Failing name given) h = (h.0, fails_in some all old mid new a s name h.1)
+came_in some all old mid new a s (Lacking name) h = lacks_in some all old mid new a s name h
 
 left_at : {X : Type 0} (f : X → List ℕ) (ss : List X) (k : ℕ) (s : X) → k < length ss → s ≡ get_or ss k s → map f (drop k ss) ≡ f s ∷ map f (drop (suc k) ss)
 left_at f ss k s h e =
@@ -282,27 +251,27 @@ left_at f ss k s h e =
 -- a stream that ended the command
 pub stream_err : {X : Type 0} (f : X → List ℕ) (old mid new : InputsState) (flash : Option (List ℕ)) (ss : List X) (k limit room : ℕ) (s : X) (name whole : List ℕ) (event : Event)
     → Stays old mid → k < length ss → s ≡ get_or ss k s → name ≡ f s → Rests old.contents (map f ss) limit (map f (drop k ss)) room whole
-    → IsCaused (with_inputs mid.contents flash) new.given (FailsAmong (name ∷ []) mid new) (LacksAmong (name ∷ []) mid new) (λ t. read_of t room name) (Err event)
-    → IsCaused (with_inputs old.contents flash) new.given (FailsAmong (map f ss) old new) (LacksAmong (map f ss) old new) (λ t. data_of t limit (map f ss)) (Err event)
+    → IsCaused (with_inputs mid.contents flash) (CameIn (step_over (name ∷ []) mid new)) (λ t. read_of t room name) (Err event)
+    → IsCaused (with_inputs old.contents flash) (CameIn (step_over (map f ss) old new)) (λ t. data_of t limit (map f ss)) (Err event)
 stream_err f old mid new flash ss k limit room s name whole event stays h e nm due got =
-    let got1 = subst (λ (c : Option (List ℕ → Option (List ℕ))). IsCaused (with_inputs c flash) new.given (FailsAmong (name ∷ []) mid new) (LacksAmong (name ∷ []) mid new) (λ t. read_of t room name) (Err event)) stays.map got in
+    let got1 = subst (λ (c : Option (List ℕ → Option (List ℕ))). IsCaused (with_inputs c flash) (CameIn (step_over (name ∷ []) mid new)) (λ t. read_of t room name) (Err event)) stays.map got in
     let eq : map f (drop k ss) ≡ name ∷ map f (drop (suc k) ss) = rw nm (left_at f ss k s h e) in
     let due1 = rw eq at due in
     let among : Among (map f ss) name = rw nm (among_at f ss k s h e) in
-    caused_on_by (List ℕ) (with_inputs old.contents flash) new.given (FailsAmong (name ∷ []) mid new) (LacksAmong (name ∷ []) mid new) (FailsAmong (map f ss) old new) (LacksAmong (map f ss) old new) (λ t r. data_of t limit (map f ss) ≡ r) (Err event)
-    (fails_in (name ∷ []) (map f ss) old mid new (among_one (map f ss) name among) stays) (lacks_in (name ∷ []) (map f ss) old mid new (among_one (map f ss) name among) stays)
-    (rests_stop old.contents flash new.given (FailsAmong (name ∷ []) mid new) (LacksAmong (name ∷ []) mid new) (map f ss) limit name (map f (drop (suc k) ss)) room whole event due1 got1)
+    caused_on_by (List ℕ) (with_inputs old.contents flash) (CameIn (step_over (name ∷ []) mid new)) (CameIn (step_over (map f ss) old new)) (λ t r. data_of t limit (map f ss) ≡ r) (Err event)
+    (came_in (name ∷ []) (map f ss) old mid new (among_one (map f ss) name among) stays)
+    (rests_stop old.contents flash (CameIn (step_over (name ∷ []) mid new)) (map f ss) limit name (map f (drop (suc k) ss)) room whole event due1 got1)
 
 -- a stream whose data were read
-pub stream_next : {X : Type 0} (f : X → List ℕ) (contents now : Option (List ℕ → Option (List ℕ))) (given : ℕ) (F L : List ℕ → Type 0) (ss : List X) (k limit room : ℕ) (s : X) (name whole : List ℕ) (read : StreamRead)
+pub stream_next : {X : Type 0} (f : X → List ℕ) (contents now : Option (List ℕ → Option (List ℕ))) (C : Mishap → Type 0) (ss : List X) (k limit room : ℕ) (s : X) (name whole : List ℕ) (read : StreamRead)
     → now ≡ contents → k < length ss → s ≡ get_or ss k s → name ≡ f s → Rests contents (map f ss) limit (map f (drop k ss)) room whole
-    → ((flash : Option (List ℕ)) → IsCaused (with_inputs now flash) given F L (λ t. read_of t room name) (Ok read))
+    → ((flash : Option (List ℕ)) → IsCaused (with_inputs now flash) C (λ t. read_of t room name) (Ok read))
     → Rests contents (map f ss) limit (map f (drop (k + 1) ss)) read.room (whole ++ read.bytes)
-stream_next f contents now given F L ss k limit room s name whole read same h e nm due got =
+stream_next f contents now C ss k limit room s name whole read same h e nm due got =
     let got1 = rw same at got in
     let eq : map f (drop k ss) ≡ name ∷ map f (drop (suc k) ss) = rw nm (left_at f ss k s h e) in
     let due1 = rw eq at due in
-    rw add-one (rests_next contents given F L (map f ss) limit name (map f (drop (suc k) ss)) room whole read due1 got1)
+    rw add-one (rests_next contents C (map f ss) limit name (map f (drop (suc k) ss)) room whole read due1 got1)
 
 -- nothing was read
 rests_start : (t : Known) (names : List (List ℕ)) (limit : ℕ) → RestsIn t names limit names limit []
@@ -319,10 +288,10 @@ none_left (suc k) [] h = refl
 none_left (suc k) (x ∷ xs) h = none_left k xs (omega (arith, h))
 
 -- all streams were read
-pub rests_all : {X : Type 0} (f : X → List ℕ) (contents : Option (List ℕ → Option (List ℕ))) (flash : Option (List ℕ)) (given : ℕ) (F L : List ℕ → Type 0) (ss : List X) (k limit room : ℕ) (whole : List ℕ) → length ss ≤ k → Rests contents (map f ss) limit (map f (drop k ss)) room whole
-    → IsCaused (with_inputs contents flash) given F L (λ t. data_of t limit (map f ss)) (Ok whole)
-rests_all f None flash given F L ss k limit room whole h due = inr tt
-rests_all f (Some inputs) flash given F L ss k limit room whole h due =
+pub rests_all : {X : Type 0} (f : X → List ℕ) (contents : Option (List ℕ → Option (List ℕ))) (flash : Option (List ℕ)) (C : Mishap → Type 0) (ss : List X) (k limit room : ℕ) (whole : List ℕ) → length ss ≤ k → Rests contents (map f ss) limit (map f (drop k ss)) room whole
+    → IsCaused (with_inputs contents flash) C (λ t. data_of t limit (map f ss)) (Ok whole)
+rests_all f None flash C ss k limit room whole h due = inr tt
+rests_all f (Some inputs) flash C ss k limit room whole h due =
     let left : map f (drop k ss) ≡ [] = ap (map f) (none_left k ss h) in
     let is = (due flash).is ∙ ap (λ names. put_before whole (data_of (known_of inputs flash) room names)) left ∙ ap Ok (append-nil whole) in
     inr (tt, is)
@@ -335,53 +304,46 @@ data_steady (name ∷ names) limit =
     (λ stream. so_steady (List ℕ) (List ℕ) (λ t. data_of t stream.room names) (λ t bytes. Ok (stream.bytes ++ bytes)) (data_steady names stream.room) (λ bytes. work_steady (List ℕ) (Ok (stream.bytes ++ bytes))))
 
 -- what a text comes to that was read whole
-pub after_text : {A : Type 0} (known : Option Known) (given : ℕ) (F L : List ℕ → Type 0) (limit : ℕ) (name text : List ℕ) (next : List ℕ → Result A Event) (got : Result A Event) → IsCaused known given F L (λ t. whole_in t limit name) (Ok text)
-    → IsCaused known given F L (λ t. next text) got → IsCaused known given F L (λ t. and_so (whole_in t limit name) next) got
-after_text known given F L limit name text next got whole next_due = follows known given given F L F L (λ t. whole_in t limit name) (λ t bytes. next bytes) text got (whole_steady limit name) whole next_due
+pub after_text : {A : Type 0} (known : Option Known) (C : Mishap → Type 0) (limit : ℕ) (name text : List ℕ) (next : List ℕ → Result A Event) (got : Result A Event) → IsCaused known C (λ t. whole_in t limit name) (Ok text)
+    → IsCaused known C (λ t. next text) got → IsCaused known C (λ t. and_so (whole_in t limit name) next) got
+after_text known C limit name text next got whole next_due = follows known C C (λ t. whole_in t limit name) (λ t bytes. next bytes) text got (whole_steady limit name) whole next_due
 
 -- an event of a step, under a relation that keeps it
 due_kept : (A B : Type 0) (known : Option Known) (m : Mishap) (due : Known → Result A Event) (event : Event) (Next : Result A Event → Result B Event → Type 0) → ((x : Event) → Next (Err x) (Err x)) → DueBy {A = A} known m (λ t r. due t ≡ r) event → DueBy {A = B} known m (λ t end. Next (due t) end) event
 due_kept A B None m due event Next keeps h = tt
 due_kept A B (Some t) m due event Next keeps h = subst (λ (r : Result A Event). Next r (Err event)) (sym h) (keeps event)
 
-free_kept : (A B : Type 0) (cause : Cause) (known : Option Known) (given : ℕ) (F L : List ℕ → Type 0) (due : Known → Result A Event) (event : Event) (Next : Result A Event → Result B Event → Type 0) → ((x : Event) → Next (Err x) (Err x))
-    → FreeBy {A = A} cause known given F L (λ t r. due t ≡ r) event → FreeBy {A = B} cause known given F L (λ t end. Next (due t) end) event
-free_kept A B Want known given F L due event Next keeps h = h
-free_kept A B Fault known given F L due event Next keeps h = (h.0, due_kept A B known (Failing event.concerned given) due event Next keeps h.1)
-free_kept A B Absence known given F L due event Next keeps h = (h.0, due_kept A B known (Lacking event.concerned) due event Next keeps h.1)
-free_kept A B cause known given F L due event Next keeps h = absurd h
-
-pub unread_by : {A B : Type 0} (known : Option Known) (given : ℕ) (F L : List ℕ → Type 0) (due : Known → Result B Event) (event : Event) (Next : Result B Event → Result A Event → Type 0) → ((x : Event) → Next (Err x) (Err x)) → IsCaused known given F L due (Err event)
-    → IsCausedBy known given F L (λ t end. Next (due t) end) (Err event)
-unread_by {A} {B} known given F L due event Next keeps (inl h) = inl (free_kept B A (cause_of event) known given F L due event Next keeps h)
-unread_by None given F L due event Next keeps (inr h) = inr h
-unread_by {A} {B} (Some t) given F L due event Next keeps (inr h) = inr (h.0, subst (λ (r : Result B Event). Next r (Err event)) (sym h.1) (keeps event))
+pub unread_by : {A B : Type 0} (known : Option Known) (C : Mishap → Type 0) (due : Known → Result B Event) (event : Event) (Next : Result B Event → Result A Event → Type 0) → ((x : Event) → Next (Err x) (Err x)) → IsCaused known C due (Err event)
+    → IsCausedBy known C (λ t end. Next (due t) end) (Err event)
+unread_by {A} {B} known C due event Next keeps (inl h) = inl (outside_goes B A known C C (λ t r. due t ≡ r) (λ t end. Next (due t) end) event (λ m x. x) (λ m e x. due_kept B A known m due event Next keeps x) h)
+unread_by None C due event Next keeps (inr h) = inr h
+unread_by {A} {B} (Some t) C due event Next keeps (inr h) = inr (h.0, subst (λ (r : Result B Event). Next r (Err event)) (sym h.1) (keeps event))
 
 -- ---- the header of a stream
 
 -- a header that is refused is a matter of the contents
-head_by : (A : Type 0) (name bytes : List ℕ) (read : Result (Contents × ℕ) HeaderFault) (event : Event) → data_by name bytes read ≡ Err event → IsOpen {A = A} (Err event) × IsDecided {A = A} (Err event)
+head_by : (A : Type 0) (name bytes : List ℕ) (read : Result (Contents × ℕ) HeaderFault) (event : Event) → data_by name bytes read ≡ Err event → IsPossible {A = A} (Err event) × IsDecided {A = A} (Err event)
 head_by A name bytes (Ok head) event e = absurd (cc)
 head_by A name bytes (Err header.Raw) event e = absurd (cc)
 head_by A name bytes (Err (header.Cut place)) event e =
     let same : bad_input name (input.Byte place) ≡ event = cc in
-    subst (λ (x : Event). IsOpen {A = A} (Err x) × IsDecided {A = A} (Err x)) same (tt, tt)
+    subst (λ (x : Event). IsPossible {A = A} (Err x) × IsDecided {A = A} (Err x)) same (tt, tt)
 head_by A name bytes (Err (header.Field place)) event e =
     let same : bad_input name (input.Byte place) ≡ event = cc in
-    subst (λ (x : Event). IsOpen {A = A} (Err x) × IsDecided {A = A} (Err x)) same (tt, tt)
+    subst (λ (x : Event). IsPossible {A = A} (Err x) × IsDecided {A = A} (Err x)) same (tt, tt)
 
-judged_by : (name bytes : List ℕ) (got : Result (List ℕ) Event) (made : List ℕ → StreamRead) → got ≡ data_in name bytes → let end : Result StreamRead Event = and_so got (λ x. Ok (made x)) in IsOpen end × IsDecided end
+judged_by : (name bytes : List ℕ) (got : Result (List ℕ) Event) (made : List ℕ → StreamRead) → got ≡ data_in name bytes → let end : Result StreamRead Event = and_so got (λ x. Ok (made x)) in IsPossible end × IsDecided end
 judged_by name bytes (Ok after) made e = (tt, tt)
 judged_by name bytes (Err event) made e = head_by StreamRead name bytes (header_at bytes) event (sym e)
 
 -- a stream that was read whole, and its header judged
-pub stream_judged : (known : Option Known) (given : ℕ) (F L : List ℕ → Type 0) (limit : ℕ) (name whole : List ℕ) (got : Result (List ℕ) Event) → IsCaused known given F L (λ t. whole_in t limit name) (Ok whole) → got ≡ data_in name whole
-    → IsCaused known given F L (λ t. read_of t limit name) (and_so got (λ bytes. Ok (record { bytes = bytes; room = limit - length whole })))
-stream_judged known given F L limit name whole got read e =
+pub stream_judged : (known : Option Known) (C : Mishap → Type 0) (limit : ℕ) (name whole : List ℕ) (got : Result (List ℕ) Event) → IsCaused known C (λ t. whole_in t limit name) (Ok whole) → got ≡ data_in name whole
+    → IsCaused known C (λ t. read_of t limit name) (and_so got (λ bytes. Ok (record { bytes = bytes; room = limit - length whole })))
+stream_judged known C limit name whole got read e =
     let made : List ℕ → StreamRead = λ bytes. record { bytes = bytes; room = limit - length whole } in
     let judged = judged_by name whole got made e in
-    after_text known given F L limit name whole (λ text. and_so (data_in name text) (λ bytes. Ok (record { bytes = bytes; room = limit - length text }))) (and_so got (λ bytes. Ok (made bytes))) read
-    (works known given F L (and_so (data_in name whole) (λ bytes. Ok (made bytes))) (and_so got (λ bytes. Ok (made bytes))) judged.0 judged.1 (ap (λ d. and_so d (λ bytes. Ok (made bytes))) (sym e)))
+    after_text known C limit name whole (λ text. and_so (data_in name text) (λ bytes. Ok (record { bytes = bytes; room = limit - length text }))) (and_so got (λ bytes. Ok (made bytes))) read
+    (works known C (and_so (data_in name whole) (λ bytes. Ok (made bytes))) (and_so got (λ bytes. Ok (made bytes))) judged.0 judged.1 (ap (λ d. and_so d (λ bytes. Ok (made bytes))) (sym e)))
 
 -- ---- an input that is read turn by turn
 
@@ -420,10 +382,10 @@ want_or_rest old mid new name taken limit left event r n (inl e) = inl e
 want_or_rest old mid new name taken limit left event r n (inr h) = inr (rest_unread old mid new name taken limit left event r n h.0 h.1)
 
 -- an input that was read to its end
-pub whole_read : (contents : Option (List ℕ → Option (List ℕ))) (flash : Option (List ℕ)) (given : ℕ) (F L : List ℕ → Type 0) (name whole : List ℕ) (rest : Option (List ℕ)) (limit : ℕ) → Selects contents name (preceded whole rest) → AtEnd rest → length whole ≤ limit
-    → IsCaused (with_inputs contents flash) given F L (λ t. whole_in t limit name) (Ok whole)
-whole_read None flash given F L name whole rest limit s e h = inr tt
-whole_read (Some inputs) flash given F L name whole rest limit s e h =
+pub whole_read : (contents : Option (List ℕ → Option (List ℕ))) (flash : Option (List ℕ)) (C : Mishap → Type 0) (name whole : List ℕ) (rest : Option (List ℕ)) (limit : ℕ) → Selects contents name (preceded whole rest) → AtEnd rest → length whole ≤ limit
+    → IsCaused (with_inputs contents flash) C (λ t. whole_in t limit name) (Ok whole)
+whole_read None flash C name whole rest limit s e h = inr tt
+whole_read (Some inputs) flash C name whole rest limit s e h =
     let all = known_all inputs name whole rest s in
     let none : all.0 ≡ [] = let end = rw all.1.0 at e in end in
     let is : inputs name ≡ Some whole = all.1.1 ∙ ap (λ t. Some (whole ++ t)) none ∙ ap Some (append-nil whole) in
@@ -446,17 +408,17 @@ sum_more : (first more : List ℕ) (left limit : ℕ) → length more + left ≡
 sum_more first more left limit n l = (omega (arith, n, l, length-append first more), omega (arith, n, l, length-append first more))
 
 -- a stream whose data were read turn by turn
-pub stream_read : (contents : Option (List ℕ → Option (List ℕ))) (flash : Option (List ℕ)) (given : ℕ) (F L : List ℕ → Type 0) (name first more after : List ℕ) (mid rest : Option (List ℕ)) (limit left : ℕ) (last : Bool) → Selects contents name (preceded first mid) → mid ≡ preceded more rest → AtEnd rest
+pub stream_read : (contents : Option (List ℕ → Option (List ℕ))) (flash : Option (List ℕ)) (C : Mishap → Type 0) (name first more after : List ℕ) (mid rest : Option (List ℕ)) (limit left : ℕ) (last : Bool) → Selects contents name (preceded first mid) → mid ≡ preceded more rest → AtEnd rest
     → (last ≡ true → AtEnd mid) → (last ≡ false → 262170 ≤ length first) → AreBytes first → length more + left ≡ limit - length first → length first ≤ limit → Ok after ≡ data_in name first
-    → IsCaused (with_inputs contents flash) given F L (λ t. read_of t limit name) (Ok (record { bytes = after ++ more; room = left }))
-stream_read None flash given F L name first more after mid rest limit left last s e end ends long fits n l head = inr tt
-stream_read (Some inputs) flash given F L name first more after mid rest limit left last s e end ends long fits n l head =
+    → IsCaused (with_inputs contents flash) C (λ t. read_of t limit name) (Ok (record { bytes = after ++ more; room = left }))
+stream_read None flash C name first more after mid rest limit left last s e end ends long fits n l head = inr tt
+stream_read (Some inputs) flash C name first more after mid rest limit left last s e end ends long fits n l head =
     let whole = first ++ more in
     let sizes = sum_more first more left limit n l in
     let taken : Selects (Some inputs) name (preceded whole rest) = subst (λ (r : Option (List ℕ)). Selects (Some inputs) name r) (ap (preceded first) e ∙ preceded-preceded first more rest) s in
     let judged : data_in name whole ≡ Ok (after ++ more) = data_more name first more fits (enough inputs name first more mid rest last s e ends long) ∙ ap (λ d. and_so d (λ bytes. Ok (bytes ++ more))) (sym head) in
-    let read = stream_judged (with_inputs (Some inputs) flash) given F L limit name whole (Ok (after ++ more)) (whole_read (Some inputs) flash given F L name whole rest limit taken end sizes.1) (sym judged) in
-    subst (λ (room : ℕ). IsCaused (with_inputs (Some inputs) flash) given F L (λ t. read_of t limit name) (Ok (record { bytes = after ++ more; room = room }))) (sym sizes.0) read
+    let read = stream_judged (with_inputs (Some inputs) flash) C limit name whole (Ok (after ++ more)) (whole_read (Some inputs) flash C name whole rest limit taken end sizes.1) (sym judged) in
+    subst (λ (room : ℕ). IsCaused (with_inputs (Some inputs) flash) C (λ t. read_of t limit name) (Ok (record { bytes = after ++ more; room = room }))) (sym sizes.0) read
 
 -- ---- what ended the reading of an input
 
@@ -478,50 +440,58 @@ absent_due (Some inputs) flash name limit = let here = name_is name in rw here r
 pub asked_on : (name : List ℕ) (opened now : InputsState) → Asks name opened → now.asked ≡ opened.asked → IfSome now.asked (λ kept. kept ≡ name)
 asked_on name opened now a e = subst (λ (k : Option (List ℕ)). IfSome k (λ kept. kept ≡ name)) (sym e) a.asked
 
+-- a fault of an input, or its absence, by its count
+pub fault_from : (A : Type 0) (known : Option Known) (old new : InputsState) (name : List ℕ) (Due : Known → Result A Event → Type 0) → FailsAmong (name ∷ []) old new name → DueBy {A = A} known (Failing name new.given) Due (read_fault name)
+    → IsFromOutside {A = A} known (CameIn (step_over (name ∷ []) old new)) Due (Err (read_fault name))
+fault_from A known old new name Due f d = inr (record { mishap = Failing name new.given; came = (refl, f); is = refl; due = d })
+
+pub absence_from : (A : Type 0) (known : Option Known) (old new : InputsState) (name : List ℕ) (Due : Known → Result A Event → Type 0) → LacksAmong (name ∷ []) old new name → DueBy {A = A} known (Lacking name) Due (missing name)
+    → IsFromOutside {A = A} known (CameIn (step_over (name ∷ []) old new)) Due (Err (missing name))
+absence_from A known old new name Due l d = inr (record { mishap = Lacking name; came = l; is = refl; due = d })
+
 -- an input that was not opened
 unopened_free : (old new : InputsState) (flash : Option (List ℕ)) (name : List ℕ) (limit : ℕ) → Asks name new → new.selected ≡ false → Misses old name new
-    → IsCaused (with_inputs old.contents flash) new.given (FailsAmong (name ∷ []) old new) (LacksAmong (name ∷ []) old new) (λ t. whole_in t limit name) (Err (missing name))
+    → IsCaused (with_inputs old.contents flash) (CameIn (step_over (name ∷ []) old new)) (λ t. whole_in t limit name) (Err (missing name))
 unopened_free old new flash name limit a s m = by old.contents refl m
   where
     by : (contents : Option (List ℕ → Option (List ℕ))) → old.contents ≡ contents → MapLacks contents name ⊎ HasRisen old.absences new.absences
-        → IsCaused (with_inputs contents flash) new.given (FailsAmong (name ∷ []) old new) (LacksAmong (name ∷ []) old new) (λ t. whole_in t limit name) (Err (missing name))
+        → IsCaused (with_inputs contents flash) (CameIn (step_over (name ∷ []) old new)) (λ t. whole_in t limit name) (Err (missing name))
     by None e (inl h) = absurd h
     by (Some inputs) e (inl h) = inr (tt, rw h refl)
-    by contents e (inr h) = inl (record { among = inl refl; over = record { asked = a.asked; selected = s }; risen = h }, absent_due contents flash name limit)
+    by contents e (inr h) = inl (absence_from (List ℕ) (with_inputs contents flash) old new name (λ t r. whole_in t limit name ≡ r) (record { among = inl refl; over = record { asked = a.asked; selected = s }; risen = h }) (absent_due contents flash name limit))
 
 pub open_refused : (old new : InputsState) (flash : Option (List ℕ)) (name : List ℕ) (limit : ℕ) (event : Event) → Unopened old name new event → Asks name new
-    → IsCaused (with_inputs old.contents flash) new.given (FailsAmong (name ∷ []) old new) (LacksAmong (name ∷ []) old new) (λ t. whole_in t limit name) (Err event)
+    → IsCaused (with_inputs old.contents flash) (CameIn (step_over (name ∷ []) old new)) (λ t. whole_in t limit name) (Err event)
 open_refused old new flash name limit event (inl h, s) a =
-    caused_event (with_inputs old.contents flash) new.given (FailsAmong (name ∷ []) old new) (LacksAmong (name ∷ []) old new) (λ t. whole_in t limit name) event (missing name) h.0 (unopened_free old new flash name limit a s h.1)
+    caused_event (with_inputs old.contents flash) (CameIn (step_over (name ∷ []) old new)) (λ t. whole_in t limit name) event (missing name) h.0 (unopened_free old new flash name limit a s h.1)
 open_refused old new flash name limit event (inr h, s) a =
-    caused_event (with_inputs old.contents flash) new.given (FailsAmong (name ∷ []) old new) (LacksAmong (name ∷ []) old new) (λ t. whole_in t limit name) event (read_fault name) h.0
-    (inl (record { among = inl refl; over = record { asked = a.asked; selected = s }; risen = h.1 }, broken_due old.contents flash name limit new.given (omega (arith, a.given))))
+    caused_event (with_inputs old.contents flash) (CameIn (step_over (name ∷ []) old new)) (λ t. whole_in t limit name) event (read_fault name) h.0
+    (inl (fault_from (List ℕ) (with_inputs old.contents flash) old new name (λ t r. whole_in t limit name ≡ r) (record { among = inl refl; over = record { asked = a.asked; selected = s }; risen = h.1 }) (broken_due old.contents flash name limit new.given (omega (arith, a.given)))))
 
 -- an input of which more was taken than its limit
-over_whole : (contents : Option (List ℕ → Option (List ℕ))) (flash : Option (List ℕ)) (given : ℕ) (F L : List ℕ → Type 0) (name whole : List ℕ) (rest : Option (List ℕ)) (limit : ℕ) → Selects contents name (preceded whole rest) → limit < length whole
-    → IsCaused (with_inputs contents flash) given F L (λ t. whole_in t limit name) (Err (too_large name))
-over_whole None flash given F L name whole rest limit s h = inr tt
-over_whole (Some inputs) flash given F L name whole rest limit s h =
+over_whole : (contents : Option (List ℕ → Option (List ℕ))) (flash : Option (List ℕ)) (C : Mishap → Type 0) (name whole : List ℕ) (rest : Option (List ℕ)) (limit : ℕ) → Selects contents name (preceded whole rest) → limit < length whole
+    → IsCaused (with_inputs contents flash) C (λ t. whole_in t limit name) (Err (too_large name))
+over_whole None flash C name whole rest limit s h = inr tt
+over_whole (Some inputs) flash C name whole rest limit s h =
     let all = known_all inputs name whole rest s in
     let long : nat_lt limit (length (whole ++ all.0)) ≡ true = grind (arith, h, length-append whole all.0, nat_tests) in
     inr (tt, rw (all.1.1, long) refl)
 
 -- an input that was opened and then not read to its end
 pub whole_refused : (old opened new : InputsState) (flash : Option (List ℕ)) (name : List ℕ) (limit : ℕ) (event : Event) → Stays old opened → Selects old.contents name opened.rest → Asks name opened → (event ≡ no_memory) ⊎ UnreadRest opened name new limit event
-    → IsCaused (with_inputs old.contents flash) new.given (FailsAmong (name ∷ []) old new) (LacksAmong (name ∷ []) old new) (λ t. whole_in t limit name) (Err event)
+    → IsCaused (with_inputs old.contents flash) (CameIn (step_over (name ∷ []) old new)) (λ t. whole_in t limit name) (Err event)
 whole_refused old opened new flash name limit event k s a (inl e) =
-    caused_event (with_inputs old.contents flash) new.given (FailsAmong (name ∷ []) old new) (LacksAmong (name ∷ []) old new) (λ t. whole_in t limit name) event no_memory e (inl refl)
+    caused_event (with_inputs old.contents flash) (CameIn (step_over (name ∷ []) old new)) (λ t. whole_in t limit name) event no_memory e (inl (inl refl))
 whole_refused old opened new flash name limit event k s a (inr (inl h, q)) =
-    caused_event (with_inputs old.contents flash) new.given (FailsAmong (name ∷ []) old new) (LacksAmong (name ∷ []) old new) (λ t. whole_in t limit name) event (read_fault name) h.0
-    (inl (
-      record { among = inl refl; over = record { asked = asked_on name opened new a q; selected = h.1.selected }; risen = risen_from old.faults opened.faults new.faults k.faults h.1.risen },
-      broken_due old.contents flash name limit new.given (omega (arith, a.given, h.1.given)),
-    ))
+    caused_event (with_inputs old.contents flash) (CameIn (step_over (name ∷ []) old new)) (λ t. whole_in t limit name) event (read_fault name) h.0
+    (inl (fault_from (List ℕ) (with_inputs old.contents flash) old new name (λ t r. whole_in t limit name ≡ r)
+    (record { among = inl refl; over = record { asked = asked_on name opened new a q; selected = h.1.selected }; risen = risen_from old.faults opened.faults new.faults k.faults h.1.risen })
+    (broken_due old.contents flash name limit new.given (omega (arith, a.given, h.1.given)))))
 whole_refused old opened new flash name limit event k s a (inr (inr h, q)) =
     let more = h.1.0 in
     let taken : Selects old.contents name (preceded more new.rest) = subst (λ (r : Option (List ℕ)). Selects old.contents name r) h.1.1.0 s in
-    caused_event (with_inputs old.contents flash) new.given (FailsAmong (name ∷ []) old new) (LacksAmong (name ∷ []) old new) (λ t. whole_in t limit name) event (too_large name) h.0
-    (over_whole old.contents flash new.given (FailsAmong (name ∷ []) old new) (LacksAmong (name ∷ []) old new) name more new.rest limit taken (omega (arith, h.1.1.1)))
+    caused_event (with_inputs old.contents flash) (CameIn (step_over (name ∷ []) old new)) (λ t. whole_in t limit name) event (too_large name) h.0
+    (over_whole old.contents flash (CameIn (step_over (name ∷ []) old new)) name more new.rest limit taken (omega (arith, h.1.1.1)))
 
 -- where an input is at, turn by turn
 pub at_open : (name : List ℕ) (s : InputsState) → Asks name s → IsAt name [] s
@@ -540,41 +510,41 @@ at_fault old mid new name taken left k a b q =
 
 -- a turn of an input that was not read
 pub turn_refused : (old mid new : InputsState) (flash : Option (List ℕ)) (name taken : List ℕ) (limit left : ℕ) (event : Event) → Stays old mid → Selects old.contents name (preceded taken mid.rest) → IsAt name taken mid → length taken + left ≡ limit → Unread mid name new left event → new.asked ≡ mid.asked
-    → IsCaused (with_inputs old.contents flash) new.given (FailsAmong (name ∷ []) old new) (LacksAmong (name ∷ []) old new) (λ t. whole_in t limit name) (Err event)
+    → IsCaused (with_inputs old.contents flash) (CameIn (step_over (name ∷ []) old new)) (λ t. whole_in t limit name) (Err event)
 turn_refused old mid new flash name taken limit left event k s a n (inl h) q =
     let f = at_fault old mid new name taken left k a h.1 q in
-    caused_event (with_inputs old.contents flash) new.given (FailsAmong (name ∷ []) old new) (LacksAmong (name ∷ []) old new) (λ t. whole_in t limit name) event (read_fault name) h.0
-    (inl (f.0, broken_due old.contents flash name limit new.given (omega (arith, f.1, n))))
+    caused_event (with_inputs old.contents flash) (CameIn (step_over (name ∷ []) old new)) (λ t. whole_in t limit name) event (read_fault name) h.0
+    (inl (fault_from (List ℕ) (with_inputs old.contents flash) old new name (λ t r. whole_in t limit name ≡ r) f.0 (broken_due old.contents flash name limit new.given (omega (arith, f.1, n)))))
 turn_refused old mid new flash name taken limit left event k s a n (inr h) q =
     let piece = h.1.0 in
     let all : Selects old.contents name (preceded (taken ++ piece) new.rest) = subst (λ (r : Option (List ℕ)). Selects old.contents name r) (ap (preceded taken) h.1.1.0 ∙ preceded-preceded taken piece new.rest) s in
-    caused_event (with_inputs old.contents flash) new.given (FailsAmong (name ∷ []) old new) (LacksAmong (name ∷ []) old new) (λ t. whole_in t limit name) event (too_large name) h.0
-    (over_whole old.contents flash new.given (FailsAmong (name ∷ []) old new) (LacksAmong (name ∷ []) old new) name (taken ++ piece) new.rest limit all (omega (arith, n, h.1.1.1, length-append taken piece)))
+    caused_event (with_inputs old.contents flash) (CameIn (step_over (name ∷ []) old new)) (λ t. whole_in t limit name) event (too_large name) h.0
+    (over_whole old.contents flash (CameIn (step_over (name ∷ []) old new)) name (taken ++ piece) new.rest limit all (omega (arith, n, h.1.1.1, length-append taken piece)))
 
 -- the same of a stream whose data are read
 pub stream_unread : (old opened new : InputsState) (flash : Option (List ℕ)) (name : List ℕ) (limit : ℕ) (event : Event) → Stays old opened → Selects old.contents name opened.rest → Asks name opened → (event ≡ no_memory) ⊎ UnreadRest opened name new limit event
-    → IsCaused (with_inputs old.contents flash) new.given (FailsAmong (name ∷ []) old new) (LacksAmong (name ∷ []) old new) (λ t. read_of t limit name) (Err event)
+    → IsCaused (with_inputs old.contents flash) (CameIn (step_over (name ∷ []) old new)) (λ t. read_of t limit name) (Err event)
 stream_unread old opened new flash name limit event k s a h =
-    stops (with_inputs old.contents flash) new.given (FailsAmong (name ∷ []) old new) (LacksAmong (name ∷ []) old new) (λ t. whole_in t limit name) (λ t whole. and_so (data_in name whole) (λ bytes. Ok (record { bytes = bytes; room = limit - length whole }))) event
+    stops (with_inputs old.contents flash) (CameIn (step_over (name ∷ []) old new)) (λ t. whole_in t limit name) (λ t whole. and_so (data_in name whole) (λ bytes. Ok (record { bytes = bytes; room = limit - length whole }))) event
     (whole_refused old opened new flash name limit event k s a h)
 
 pub stream_unopened : (old new : InputsState) (flash : Option (List ℕ)) (name : List ℕ) (limit : ℕ) (event : Event) → Unopened old name new event → Asks name new
-    → IsCaused (with_inputs old.contents flash) new.given (FailsAmong (name ∷ []) old new) (LacksAmong (name ∷ []) old new) (λ t. read_of t limit name) (Err event)
+    → IsCaused (with_inputs old.contents flash) (CameIn (step_over (name ∷ []) old new)) (λ t. read_of t limit name) (Err event)
 stream_unopened old new flash name limit event u a =
-    stops (with_inputs old.contents flash) new.given (FailsAmong (name ∷ []) old new) (LacksAmong (name ∷ []) old new) (λ t. whole_in t limit name) (λ t whole. and_so (data_in name whole) (λ bytes. Ok (record { bytes = bytes; room = limit - length whole }))) event
+    stops (with_inputs old.contents flash) (CameIn (step_over (name ∷ []) old new)) (λ t. whole_in t limit name) (λ t whole. and_so (data_in name whole) (λ bytes. Ok (record { bytes = bytes; room = limit - length whole }))) event
     (open_refused old new flash name limit event u a)
 
 -- a stream whose header is refused, after it was read to its end
-pub stream_refused : (contents : Option (List ℕ → Option (List ℕ))) (flash : Option (List ℕ)) (given : ℕ) (F L : List ℕ → Type 0) (name first more : List ℕ) (mid rest : Option (List ℕ)) (limit : ℕ) (last : Bool) (event : Event) → Selects contents name (preceded first mid) → mid ≡ preceded more rest → AtEnd rest
+pub stream_refused : (contents : Option (List ℕ → Option (List ℕ))) (flash : Option (List ℕ)) (C : Mishap → Type 0) (name first more : List ℕ) (mid rest : Option (List ℕ)) (limit : ℕ) (last : Bool) (event : Event) → Selects contents name (preceded first mid) → mid ≡ preceded more rest → AtEnd rest
     → (last ≡ true → AtEnd mid) → (last ≡ false → 262170 ≤ length first) → AreBytes first → length more ≤ limit - length first → length first ≤ limit → Err event ≡ data_in name first
-    → IsCaused (with_inputs contents flash) given F L (λ t. read_of t limit name) (Err event)
-stream_refused None flash given F L name first more mid rest limit last event s e end ends long fits n l head = inr (head_by StreamRead name first (header_at first) event (sym head)).0
-stream_refused (Some inputs) flash given F L name first more mid rest limit last event s e end ends long fits n l head =
+    → IsCaused (with_inputs contents flash) C (λ t. read_of t limit name) (Err event)
+stream_refused None flash C name first more mid rest limit last event s e end ends long fits n l head = inr (head_by StreamRead name first (header_at first) event (sym head)).0
+stream_refused (Some inputs) flash C name first more mid rest limit last event s e end ends long fits n l head =
     let whole = first ++ more in
     let size : length whole ≤ limit = omega (arith, n, l, length-append first more) in
     let taken : Selects (Some inputs) name (preceded whole rest) = subst (λ (r : Option (List ℕ)). Selects (Some inputs) name r) (ap (preceded first) e ∙ preceded-preceded first more rest) s in
     let judged : data_in name whole ≡ Err event = data_more name first more fits (enough inputs name first more mid rest last s e ends long) ∙ ap (λ d. and_so d (λ bytes. Ok (bytes ++ more))) (sym head) in
-    stream_judged (with_inputs (Some inputs) flash) given F L limit name whole (Err event) (whole_read (Some inputs) flash given F L name whole rest limit taken end size) (sym judged)
+    stream_judged (with_inputs (Some inputs) flash) C limit name whole (Err event) (whole_read (Some inputs) flash C name whole rest limit taken end size) (sym judged)
 
 -- a slice of a buffer's first bytes
 pub slice_of : (start count : ℕ) (buf : List ℕ) → start ≤ count → drop start (take count buf) ≡ take (count - start) (drop start buf)
@@ -591,41 +561,41 @@ first_of name names n (inr e) = absurd e
 
 -- a step that ended the command, among more names
 pub answers_stop : (A B : Type 0) (some all : List (List ℕ)) (old new : InputsState) (due : Known → Result A Event) (next : Known → A → Result B Event) (event : Event) → ((n : List ℕ) → Among some n → Among all n)
-    → AnswersAs {A = A} some old new due (Err event) → AnswersAs {A = B} all old new (λ t. and_so (due t) (next t)) (Err event)
+    → AnswersAs {A = A} (step_over some old new) due (Err event) → AnswersAs {A = B} (step_over all old new) (λ t. and_so (due t) (next t)) (Err event)
 answers_stop A B some all old new due next event a h flash =
-    caused_on_by B (with_inputs old.contents flash) new.given (FailsAmong some old new) (LacksAmong some old new) (FailsAmong all old new) (LacksAmong all old new) (λ t r. and_so (due t) (next t) ≡ r) (Err event)
-    (fails_in some all old old new a (stays_at old)) (lacks_in some all old old new a (stays_at old))
-    (stops (with_inputs old.contents flash) new.given (FailsAmong some old new) (LacksAmong some old new) due next event (h flash))
+    caused_on_by B (with_inputs old.contents flash) (CameIn (step_over some old new)) (CameIn (step_over all old new)) (λ t r. and_so (due t) (next t) ≡ r) (Err event)
+    (came_in some all old old new a (stays_at old))
+    (stops (with_inputs old.contents flash) (CameIn (step_over some old new)) due next event (h flash))
 
 -- a step that went on, and the next
 pub answers_go : (A B : Type 0) (some more all : List (List ℕ)) (old mid new : InputsState) (due : Known → Result A Event) (next : Known → A → Result B Event) (a : A) (got : Result B Event) → Steady A due → Stays old mid → ((n : List ℕ) → Among more n → Among all n)
-    → AnswersAs {A = A} some old mid due (Ok a) → AnswersAs {A = B} more mid new (λ t. next t a) got → AnswersAs {A = B} all old new (λ t. and_so (due t) (next t)) got
+    → AnswersAs {A = A} (step_over some old mid) due (Ok a) → AnswersAs {A = B} (step_over more mid new) (λ t. next t a) got → AnswersAs {A = B} (step_over all old new) (λ t. and_so (due t) (next t)) got
 answers_go A B some more all old mid new due next a got steady stays names h q flash =
-    let q1 = subst (λ (c : Option (List ℕ → Option (List ℕ))). IsCaused (with_inputs c flash) new.given (FailsAmong more mid new) (LacksAmong more mid new) (λ t. next t a) got) stays.map (q flash) in
-    let q2 = caused_on_by B (with_inputs old.contents flash) new.given (FailsAmong more mid new) (LacksAmong more mid new) (FailsAmong all old new) (LacksAmong all old new) (λ t r. next t a ≡ r) got
-    (fails_in more all old mid new names stays) (lacks_in more all old mid new names stays) q1 in
-    follows (with_inputs old.contents flash) new.given mid.given (FailsAmong some old mid) (LacksAmong some old mid) (FailsAmong all old new) (LacksAmong all old new) due next a got steady (h flash) q2
+    let q1 = subst (λ (c : Option (List ℕ → Option (List ℕ))). IsCaused (with_inputs c flash) (CameIn (step_over more mid new)) (λ t. next t a) got) stays.map (q flash) in
+    let q2 = caused_on_by B (with_inputs old.contents flash) (CameIn (step_over more mid new)) (CameIn (step_over all old new)) (λ t r. next t a ≡ r) got
+    (came_in more all old mid new names stays) q1 in
+    follows (with_inputs old.contents flash) (CameIn (step_over some old mid)) (CameIn (step_over all old new)) due next a got steady (h flash) q2
 
 -- a step that went on to one that reads nothing: want of memory, or what it says
-pub answers_end : (A B : Type 0) (names : List (List ℕ)) (old new : InputsState) (due : Known → Result A Event) (next : A → Result B Event) (a : A) (got : Result B Event) → Steady A due → AnswersAs {A = A} names old new due (Ok a)
-    → (got ≡ Err no_memory) ⊎ (IsOpen got × IsDecided got × (next a ≡ got)) → AnswersAs {A = B} names old new (λ t. and_so (due t) next) got
-answers_end A B names old new due next a got steady h (inl e) flash = subst (λ (r : Result B Event). IsCaused (with_inputs old.contents flash) new.given (FailsAmong names old new) (LacksAmong names old new) (λ t. and_so (due t) next) r) (sym e) (inl refl)
+pub answers_end : (A B : Type 0) (names : List (List ℕ)) (old new : InputsState) (due : Known → Result A Event) (next : A → Result B Event) (a : A) (got : Result B Event) → Steady A due → AnswersAs {A = A} (step_over names old new) due (Ok a)
+    → (got ≡ Err no_memory) ⊎ (IsPossible got × IsDecided got × (next a ≡ got)) → AnswersAs {A = B} (step_over names old new) (λ t. and_so (due t) next) got
+answers_end A B names old new due next a got steady h (inl e) flash = subst (λ (r : Result B Event). IsCaused (with_inputs old.contents flash) (CameIn (step_over names old new)) (λ t. and_so (due t) next) r) (sym e) (inl (inl refl))
 answers_end A B names old new due next a got steady h (inr q) flash =
-    follows (with_inputs old.contents flash) new.given new.given (FailsAmong names old new) (LacksAmong names old new) (FailsAmong names old new) (LacksAmong names old new) due (λ t x. next x) a got steady (h flash)
-    (works (with_inputs old.contents flash) new.given (FailsAmong names old new) (LacksAmong names old new) (next a) got q.0 q.1 q.2)
+    follows (with_inputs old.contents flash) (CameIn (step_over names old new)) (CameIn (step_over names old new)) due (λ t x. next x) a got steady (h flash)
+    (works (with_inputs old.contents flash) (CameIn (step_over names old new)) (next a) got q.0 q.1 q.2)
 
 -- the same where a relation says what the next step comes to
 pub answers_kept : (A B : Type 0) (names : List (List ℕ)) (old new : InputsState) (due : Known → Result A Event) (Next : Result A Event → Result B Event → Type 0) (event : Event) → ((x : Event) → Next (Err x) (Err x))
-    → AnswersAs {A = A} names old new due (Err event) → AnswersBy {A = B} names old new (λ t end. Next (due t) end) (Err event)
-answers_kept A B names old new due Next event keeps h flash = unread_by (with_inputs old.contents flash) new.given (FailsAmong names old new) (LacksAmong names old new) due event Next keeps (h flash)
+    → AnswersAs {A = A} (step_over names old new) due (Err event) → AnswersBy {A = B} (step_over names old new) (λ t end. Next (due t) end) (Err event)
+answers_kept A B names old new due Next event keeps h flash = unread_by (with_inputs old.contents flash) (CameIn (step_over names old new)) due event Next keeps (h flash)
 
-after_by : (A B : Type 0) (known : Option Known) (given : ℕ) (F L : List ℕ → Type 0) (due : Known → Result A Event) (a : A) (Next : Result A Event → Result B Event → Type 0) (got : Result B Event) → IsCaused {A = A} known given F L due (Ok a)
-    → (got ≡ Err no_memory) ⊎ (IsOpen got × IsDecided got × Next (Ok a) got) → IsCausedBy {A = B} known given F L (λ t end. Next (due t) end) got
-after_by A B known given F L due a Next got (inl h) then_so = absurd h
-after_by A B known given F L due a Next got (inr h) (inl q) = subst (λ (r : Result B Event). IsCausedBy known given F L (λ t end. Next (due t) end) r) (sym q) (inl refl)
-after_by A B None given F L due a Next got (inr h) (inr q) = inr q.0
-after_by A B (Some t) given F L due a Next got (inr h) (inr q) = inr (q.1, subst (λ (r : Result A Event). Next r got) (sym h.1) q.2)
+after_by : (A B : Type 0) (known : Option Known) (C : Mishap → Type 0) (due : Known → Result A Event) (a : A) (Next : Result A Event → Result B Event → Type 0) (got : Result B Event) → IsCaused {A = A} known C due (Ok a)
+    → (got ≡ Err no_memory) ⊎ (IsPossible got × IsDecided got × Next (Ok a) got) → IsCausedBy {A = B} known C (λ t end. Next (due t) end) got
+after_by A B known C due a Next got (inl h) then_so = absurd h
+after_by A B known C due a Next got (inr h) (inl q) = subst (λ (r : Result B Event). IsCausedBy known C (λ t end. Next (due t) end) r) (sym q) (inl (inl refl))
+after_by A B None C due a Next got (inr h) (inr q) = inr q.0
+after_by A B (Some t) C due a Next got (inr h) (inr q) = inr (q.1, subst (λ (r : Result A Event). Next r got) (sym h.1) q.2)
 
-pub answers_by : (A B : Type 0) (names : List (List ℕ)) (old new : InputsState) (due : Known → Result A Event) (a : A) (Next : Result A Event → Result B Event → Type 0) (got : Result B Event) → AnswersAs {A = A} names old new due (Ok a)
-    → (got ≡ Err no_memory) ⊎ (IsOpen got × IsDecided got × Next (Ok a) got) → AnswersBy {A = B} names old new (λ t end. Next (due t) end) got
-answers_by A B names old new due a Next got h q flash = after_by A B (with_inputs old.contents flash) new.given (FailsAmong names old new) (LacksAmong names old new) due a Next got (h flash) q
+pub answers_by : (A B : Type 0) (names : List (List ℕ)) (old new : InputsState) (due : Known → Result A Event) (a : A) (Next : Result A Event → Result B Event → Type 0) (got : Result B Event) → AnswersAs {A = A} (step_over names old new) due (Ok a)
+    → (got ≡ Err no_memory) ⊎ (IsPossible got × IsDecided got × Next (Ok a) got) → AnswersBy {A = B} (step_over names old new) (λ t end. Next (due t) end) got
+answers_by A B names old new due a Next got h q flash = after_by A B (with_inputs old.contents flash) (CameIn (step_over names old new)) due a Next got (h flash) q

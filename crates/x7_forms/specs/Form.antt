@@ -1,5 +1,5 @@
 -- The forms of the command line (this project's choice).
-use Rattle.std.specs.Prelude.{ℕ, map, string_bytes, List, [], ◌∷◌, Option, None, Some, ◌&&◌, if◌then◌else◌, codes, length, nat_le, nat_lt, decimal}
+use Rattle.std.specs.Prelude.{ℕ, map, String, string_bytes, List, [], ◌∷◌, Option, None, Some, ◌&&◌, if◌then◌else◌, codes, length, nat_le, nat_lt, decimal}
 use Rattle.std.specs.Str.Parse.{digits_value}
 use Rattle.x7_text.specs.Digits.{hex_word}
 use Rattle.x7_text.specs.DigitValue.{word_value}
@@ -23,7 +23,7 @@ pub data Asked : Type 0 where
   Debugging : (part stream script : List ℕ) → Asked
   PlayingSvf : (part text : List ℕ) → Asked
   Booting : (part flash : List ℕ) → Asked
-  Updating : (flash stream : List ℕ) → Asked
+  UpdatingFlash : (flash stream : List ℕ) → Asked
 
 -- a form of one name
 abbrev pub one_name : (List ℕ → Asked) → List (List ℕ) → Option Asked
@@ -109,8 +109,12 @@ form_of (command ∷ names) =
     else if bytes_eq command (codes "debug") then debug_form names
     else if bytes_eq command (codes "svf") then two_names PlayingSvf names
     else if bytes_eq command (codes "boot") then two_names Booting names
-    else if bytes_eq command (codes "update") then two_names Updating names
+    else if bytes_eq command (codes "update") then two_names UpdatingFlash names
     else None
+
+-- the same of words as a program gets them
+abbrev pub form_in : {Z : Type 0} → List (String Z) → Option Asked
+form_in words = form_of (map string_bytes words)
 
 -- what a form of the code asks for
 abbrev pub asked_by : Form → Asked
@@ -128,7 +132,7 @@ asked_by (form.ImageFor part golden update) = ImagingFor part.now golden.now upd
 asked_by (form.Debug part stream script) = Debugging part.now stream.now script.now
 asked_by (form.Svf part text) = PlayingSvf part.now text.now
 asked_by (form.Boot part flash) = Booting part.now flash.now
-asked_by (form.Update flash stream) = Updating flash.now stream.now
+asked_by (form.Update flash stream) = UpdatingFlash flash.now stream.now
 
 abbrev pub asked : Option Form → Option Asked
 asked None = None
@@ -151,7 +155,7 @@ names_of (Some (Generating part seed)) = part ∷ []
 names_of (Some (Debugging part stream script)) = part ∷ stream ∷ script ∷ []
 names_of (Some (PlayingSvf part text)) = part ∷ text ∷ []
 names_of (Some (Booting part flash)) = part ∷ []
-names_of (Some (Updating flash stream)) = stream ∷ []
+names_of (Some (UpdatingFlash flash stream)) = stream ∷ []
 
 -- what a form does with a flash: nothing, or it reads or updates the one of a name
 pub data FlashUse : Type 0 where
@@ -161,7 +165,7 @@ pub data FlashUse : Type 0 where
 
 abbrev pub flash_use : Option Asked → FlashUse
 flash_use (Some (Booting part flash)) = Read flash
-flash_use (Some (Updating flash stream)) = Updated flash
+flash_use (Some (UpdatingFlash flash stream)) = Updated flash
 flash_use form = Unused
 
 abbrev pub names_used : FlashUse → List (List ℕ)
@@ -180,5 +184,5 @@ listed_by form = None
 
 -- the stream with which a form updates its flash; no other form writes a flash
 abbrev pub updated_by : Option Asked → Option (List ℕ)
-updated_by (Some (Updating flash stream)) = Some stream
+updated_by (Some (UpdatingFlash flash stream)) = Some stream
 updated_by form = None

@@ -1,5 +1,5 @@
 -- What is known of the inputs and of a flash, and what steps over it come to: reading an input, a part file or a stream, and playing streams (this project's choice).
-use Rattle.std.specs.Prelude.{ℕ, List, [], ◌∷◌, ◌++◌, ◌-◌, Option, None, Some, is_some, Result, Ok, Err, Bool, false, if◌then◌else◌, drop, length, nat_lt, take}
+use Rattle.std.specs.Prelude.{ℕ, List, [], ◌∷◌, ◌++◌, ◌-◌, Option, None, Some, Result, Ok, Err, Bool, if◌then◌else◌, drop, length, nat_lt, take}
 use Rattle.std.specs.Str.{bytes_eq}
 use Rattle.x7_header.specs.Header.{Contents}
 use Rattle.x7_header.specs.Reading.{header_at}
@@ -7,13 +7,9 @@ use Rattle.x7_header.specs.declared.fault.HeaderFault.{HeaderFault}
 use Rattle.x7_header.specs.declared.fault.HeaderFault.TheVariants as header
 use Rattle.x7_part.specs.declared.fault.PartFault.{PartFault}
 use Rattle.x7_part.specs.Part.{PartData}
-use Rattle.x7_engine.specs.Kept.{on_the_bench}
-use Rattle.x7_engine.specs.State.{line_by, memory_in, reads_of, state_of, stop_in}
-use Rattle.x7_engine.specs.Stops.{fault_of}
 use Rattle.x7_forms.specs.declared.bad_input.InputFault.TheVariants as input
-use Rattle.x7_forms.specs.Event.{Event, bad_input, bad_part, missing, read_fault, too_large, too_many_reads}
+use Rattle.x7_forms.specs.Event.{Event, bad_input, bad_part, missing, read_fault, too_large}
 use Rattle.x7_part.specs.PartFile.{part_in}
-use Rattle.x7_forms.specs.Report.{report_text}
 
 -- what is found under a name: bytes, nothing, or the first bytes and then a fault
 pub data Found : Type 0 where
@@ -105,20 +101,6 @@ data_of known limit (name ∷ names) = and_so (read_of known limit name) (λ str
 -- the most words that a play reads out
 abbrev pub reads_limit : ℕ
 reads_limit = 16777216
-
--- the report of a new device of the part that took the data, and whether a fault stopped it
-abbrev pub report_of : PartData → List ℕ → Answer
-report_of part bytes = record {
-  stopped = is_some (fault_of (line_by (stop_in part on_the_bench bytes)));
-  text = report_text part (state_of part on_the_bench false bytes) (reads_of part on_the_bench bytes) (memory_in part on_the_bench bytes);
-}
-
-unfoldable pub reported : PartData → List ℕ → Result Answer Event
-reported part bytes = if nat_lt reads_limit (length (reads_of part on_the_bench bytes)) then Err too_many_reads else Ok (report_of part bytes)
-
--- `play PART STREAM..`: the report of the streams' data, one after the other
-abbrev pub played : Known → List ℕ → List (List ℕ) → Result Answer Event
-played known part streams = and_so (part_of known part) (λ p. and_so (data_of known stream_limit streams) (reported p))
 
 -- ---- what is known of the outside
 

@@ -3,6 +3,5 @@ pub mod Form
 pub mod Known
 pub mod Message
 pub mod Play
-pub mod Report
 pub mod Step
 pub mod Turn

@@ -3,8 +3,8 @@ use Rattle.std.specs.Prelude.{◌≡◌, ℕ, Bool, false, List, [], ◌∷◌, 
 use Rattle.x7_words.specs.Count.{HasRisen}
 use Rattle.x7_words.specs.Input.{InputsState}
 use Rattle.x7_forms.specs.declared.refusal.Refusal.{Refusal}
-use Rattle.x7_forms.specs.Event.{Event, Cause, Want, Fault, Absence, Contents, cause_of, no_memory}
-use Rattle.x7_forms.specs.Known.{Failing, Known, Lacking, Mishap, with_inputs, with_mishap}
+use Rattle.x7_forms.specs.Event.{Event, Cause, Absence, Contents, cause_of, no_memory}
+use Rattle.x7_forms.specs.Known.{Failing, Known, Lacking, Mishap, StreamRead, data_of, mishap_event, read_of, stream_limit, whole_in, with_inputs, with_mishap}
 use Rattle.x7_forms.specs.Message.{event_of}
 
 -- the name is one of these
@@ -29,6 +29,20 @@ pub record LacksAmong (names : List (List ℕ)) (old new : InputsState) (name : 
   pub over : IsOver name new
   pub risen : HasRisen old.absences new.absences
 
+-- a step over inputs: the names that it may ask for, and what the inputs had come to before and after it
+pub record InputStep : Type 0 where
+  pub names : List (List ℕ)
+  pub before : InputsState
+  pub after : InputsState
+
+abbrev pub step_over : List (List ℕ) → InputsState → InputsState → InputStep
+step_over names before after = record { names = names; before = before; after = after }
+
+-- this mishap came in a step: an input of one of its names failed behind the bytes that were given of it, or was missing
+abbrev pub CameIn : InputStep → Mishap → Type 0
+CameIn step (Failing name given) = (given ≡ step.after.given) × FailsAmong step.names step.before step.after name
+CameIn step (Lacking name) = LacksAmong step.names step.before step.after name
+
 -- what a call's result says: a value, or the event of a refusal
 abbrev pub seen : {A B : Type 0} → (A → B) → Result A Refusal → Result B Event
 seen value (Ok a) = Ok (value a)
@@ -39,16 +53,17 @@ abbrev pub DueBy : {A : Type 0} → Option Known → Mishap → (Known → Resul
 DueBy None mishap Due event = Unit {0}
 DueBy (Some known) mishap Due event = Due (with_mishap mishap known) (Err event)
 
--- What may come whatever the contents are: want of memory; a fault behind the bytes that were given, or an absence by its count, of a name of which this holds, where that is the first event.
-abbrev pub FreeBy : {A : Type 0} → Cause → Option Known → ℕ → (List ℕ → Type 0) → (List ℕ → Type 0) → (Known → Result A Event → Type 0) → Event → Type 0
-FreeBy Want known given F L Due event = event ≡ no_memory
-FreeBy Fault known given F L Due event = F event.concerned × DueBy known (Failing event.concerned given) Due event
-FreeBy Absence known given F L Due event = L event.concerned × DueBy known (Lacking event.concerned) Due event
-FreeBy _ known given F L Due event = ⊥
+-- The event tells a mishap that came, and where the contents are known it is due over them with that mishap: it is the first event then.
+pub record IsOfMishap (A : Type 0) (known : Option Known) (Came : Mishap → Type 0) (Due : Known → Result A Event → Type 0) (event : Event) : Type 0 where
+  pub mishap : Mishap
+  pub came : Came mishap
+  pub is : mishap_event mishap ≡ event
+  pub due : DueBy known mishap Due event
 
-abbrev pub IsFree : {A : Type 0} → Option Known → ℕ → (List ℕ → Type 0) → (List ℕ → Type 0) → (Known → Result A Event → Type 0) → Result A Event → Type 0
-IsFree known given F L Due (Ok a) = ⊥
-IsFree known given F L Due (Err event) = FreeBy (cause_of event) known given F L Due event
+-- an event that may come whatever the contents are: want of memory, or that of a mishap
+abbrev pub IsFromOutside : {A : Type 0} → Option Known → (Mishap → Type 0) → (Known → Result A Event → Type 0) → Result A Event → Type 0
+IsFromOutside known Came Due (Ok a) = ⊥
+IsFromOutside {A} known Came Due (Err event) = (event ≡ no_memory) ⊎ IsOfMishap A known Came Due event
 
 -- what known contents may decide
 abbrev pub DecidedBy : Cause → Type 0
@@ -61,31 +76,45 @@ IsDecided (Ok a) = Unit {0}
 IsDecided (Err event) = DecidedBy (cause_of event)
 
 -- what contents that are not known may come to
-abbrev pub OpenBy : Cause → Type 0
-OpenBy Contents = Unit {0}
-OpenBy _ = ⊥
+abbrev pub PossibleBy : Cause → Type 0
+PossibleBy Contents = Unit {0}
+PossibleBy _ = ⊥
 
-abbrev pub IsOpen : {A : Type 0} → Result A Event → Type 0
-IsOpen (Ok a) = Unit {0}
-IsOpen (Err event) = OpenBy (cause_of event)
+abbrev pub IsPossible : {A : Type 0} → Result A Event → Type 0
+IsPossible (Ok a) = Unit {0}
+IsPossible (Err event) = PossibleBy (cause_of event)
 
 -- the result is one that is due where the contents are known
 abbrev pub IsDue : {A : Type 0} → Option Known → (Known → Result A Event → Type 0) → Result A Event → Type 0
-IsDue None Due got = IsOpen got
+IsDue None Due got = IsPossible got
 IsDue (Some known) Due got = IsDecided got × Due known got
 
--- the result has a cause: it is free, or it is due
-abbrev pub IsCausedBy : {A : Type 0} → Option Known → ℕ → (List ℕ → Type 0) → (List ℕ → Type 0) → (Known → Result A Event → Type 0) → Result A Event → Type 0
-IsCausedBy known given F L Due got = IsFree known given F L Due got ⊎ IsDue known Due got
+-- the result has a cause: it comes from outside, or it is due
+abbrev pub IsCausedBy : {A : Type 0} → Option Known → (Mishap → Type 0) → (Known → Result A Event → Type 0) → Result A Event → Type 0
+IsCausedBy known Came Due got = IsFromOutside known Came Due got ⊎ IsDue known Due got
 
 -- the same where a function of the known contents says what is due
-abbrev pub IsCaused : {A : Type 0} → Option Known → ℕ → (List ℕ → Type 0) → (List ℕ → Type 0) → (Known → Result A Event) → Result A Event → Type 0
-IsCaused known given F L due got = IsCausedBy known given F L (λ t result. due t ≡ result) got
+abbrev pub IsCaused : {A : Type 0} → Option Known → (Mishap → Type 0) → (Known → Result A Event) → Result A Event → Type 0
+IsCaused known Came due got = IsCausedBy known Came (λ t result. due t ≡ result) got
 
--- whatever the flash holds, the result has a cause: it is due by what the inputs hold, or by that with a mishap of one of these names
-abbrev pub AnswersBy : {A : Type 0} → List (List ℕ) → InputsState → InputsState → (Known → Result A Event → Type 0) → Result A Event → Type 0
-AnswersBy names old new Due got = (flash : Option (List ℕ)) → IsCausedBy (with_inputs old.contents flash) new.given (FailsAmong names old new) (LacksAmong names old new) Due got
+-- whatever the flash holds, the result of a step has a cause: it is due by what the inputs held before, or by that with a mishap that came
+abbrev pub AnswersBy : {A : Type 0} → InputStep → (Known → Result A Event → Type 0) → Result A Event → Type 0
+AnswersBy step Due got = (flash : Option (List ℕ)) → IsCausedBy (with_inputs step.before.contents flash) (CameIn step) Due got
 
 -- the same where a function of what is known says what is due
-abbrev pub AnswersAs : {A : Type 0} → List (List ℕ) → InputsState → InputsState → (Known → Result A Event) → Result A Event → Type 0
-AnswersAs names old new due got = AnswersBy names old new (λ known end. due known ≡ end) got
+abbrev pub AnswersAs : {A : Type 0} → InputStep → (Known → Result A Event) → Result A Event → Type 0
+AnswersAs step due got = AnswersBy step (λ known end. due known ≡ end) got
+
+-- ---- steps that read
+
+-- an input that is read whole, within so many bytes
+abbrev pub ReadsWhole : InputsState → InputsState → ℕ → List ℕ → Result (List ℕ) Event → Type 0
+ReadsWhole old new limit name got = AnswersAs (step_over (name ∷ []) old new) (λ known. whole_in known limit name) got
+
+-- a stream of which so many bytes are within the limit
+abbrev pub ReadsStream : InputsState → InputsState → ℕ → List ℕ → Result StreamRead Event → Type 0
+ReadsStream old new limit name got = AnswersAs (step_over (name ∷ []) old new) (λ known. read_of known limit name) got
+
+-- the data of streams, one after the other
+abbrev pub ReadsStreams : InputsState → InputsState → List (List ℕ) → Result (List ℕ) Event → Type 0
+ReadsStreams old new names got = AnswersAs (step_over names old new) (λ known. data_of known stream_limit names) got

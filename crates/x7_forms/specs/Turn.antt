@@ -1,7 +1,7 @@
 -- Inputs that are read turn by turn.
 use Rattle.std.specs.Prelude.{◌≡◌, ◌≢◌, ◌<◌, ◌≤◌, ◌⊎◌, ◌++◌, ℕ, Bool, true, false, List, [], Some, Ok, Err, IfSome, drop, length, ◌+◌}
 use Rattle.x7_words.specs.Input.{InputsState, AtEnd, Fails, Misses, Stays, Takes, preceded}
-use Rattle.x7_header.specs.Header.{Contents, HasOtherLetterAt, HaveHeader, fixed_bytes, header_bytes}
+use Rattle.x7_header.specs.Header.{Contents, EndsInHeader, HasOtherLetterAt, HaveHeader, fixed_bytes, header_bytes}
 use Rattle.x7_forms.specs.Event.{Event, bad_input, missing, no_memory, read_fault, too_large}
 use Rattle.x7_forms.specs.declared.bad_input.InputFault.TheVariants as input
 use Rattle.x7_forms.specs.Known.{stream_limit}
@@ -62,24 +62,28 @@ abbrev pub RefusedAt : List ℕ → ℕ → Type 0
 RefusedAt bytes place = (place ≡ length bytes) ⊎ HasOtherLetterAt bytes place
 
 -- the first bytes of a stream, where its header is judged: its line or nothing, and where the data begin
-abbrev pub IsFront : List ℕ → Bool → List ℕ → ℕ → Type 0
-IsFront bytes last line start = (rest : List ℕ) → MayFollow last rest → stream_listing (bytes ++ rest) ≡ Ok (line ++ listing_of (drop start bytes ++ rest))
+abbrev pub IsBeginning : List ℕ → Bool → List ℕ → ℕ → Type 0
+IsBeginning bytes last line start = (rest : List ℕ) → MayFollow last rest → stream_listing (bytes ++ rest) ≡ Ok (line ++ listing_of (drop start bytes ++ rest))
+
+-- bytes that end inside a header, of a stream that may have more
+abbrev pub HeaderGoesOn : List ℕ → Bool → Type 0
+HeaderGoesOn bytes last = (last ≡ false) × (length bytes ≤ 262170) × EndsInHeader bytes
 
 -- what was read of a stream when its header is judged
-pub record FrontRead (bytes line : List ℕ) (start : ℕ) (last : Bool) (old new : InputsState) : Type 0 where
+pub record ReadsBeginning (bytes line : List ℕ) (start : ℕ) (last : Bool) (old new : InputsState) : Type 0 where
   pub reads : Reads old bytes new
   pub end : last ≡ true → AtEnd new.rest
   pub within : start ≤ length bytes
   pub few : length bytes ≤ 327706
   pub holds_few : HoldsFew bytes start
-  pub front : IsFront bytes last line start
+  pub begins : IsBeginning bytes last line start
 
 -- the first bytes of a stream whose header is refused at this byte
 abbrev pub IsRefused : List ℕ → Bool → ℕ → Type 0
 IsRefused bytes last place = (rest : List ℕ) → MayFollow last rest → stream_listing (bytes ++ rest) ≡ Err place
 
 -- bytes of a header that were not judged well
-pub record IsBadFront (old new : InputsState) (name : List ℕ) (event : Event) : Type 0 where
+pub record IsBadBeginning (old new : InputsState) (name : List ℕ) (event : Event) : Type 0 where
   pub place : ℕ
   pub bytes : List ℕ
   pub last : Bool
@@ -94,10 +98,10 @@ pub record IsBadFront (old new : InputsState) (name : List ℕ) (event : Event) 
 abbrev pub NoLetterGiven : InputsState → InputsState → Type 0
 NoLetterGiven old new = (bytes : List ℕ) (place : ℕ) → old.rest ≡ Some bytes → HasOtherLetterAt bytes place → new.given ≤ old.given + place
 
--- a stream's front was not read, since the inputs failed before its header was judged
-abbrev pub BreaksFront : InputsState → List ℕ → InputsState → Event → Type 0
-BreaksFront old name new event = (event ≡ read_fault name) × Breaks old (stream_limit + 1) new × (new.asked ≡ old.asked) × NoLetterGiven old new
+-- a stream's beginning was not read, since the inputs failed before its header was judged
+abbrev pub BreaksBeginning : InputsState → List ℕ → InputsState → Event → Type 0
+BreaksBeginning old name new event = (event ≡ read_fault name) × Breaks old (stream_limit + 1) new × (new.asked ≡ old.asked) × NoLetterGiven old new
 
--- a stream's front was not read: want of memory, the inputs failed, or the header is refused
-abbrev pub Unfronted : InputsState → List ℕ → InputsState → Event → Type 0
-Unfronted old name new event = (event ≡ no_memory) ⊎ (BreaksFront old name new event ⊎ IsBadFront old new name event)
+-- a stream's beginning was not read: want of memory, the inputs failed, or the header is refused
+abbrev pub UnreadBeginning : InputsState → List ℕ → InputsState → Event → Type 0
+UnreadBeginning old name new event = (event ≡ no_memory) ⊎ (BreaksBeginning old name new event ⊎ IsBadBeginning old new name event)

@@ -1,8 +1,8 @@
 //! The line that says why an input has no reading. No memory is taken.
 ghost use Rattle.std.specs.Prelude.{◌≡◌, ◌++◌, codes, decimal};
 ghost use Rattle.x7_words.specs.Sink.{Tells};
-ghost use Rattle.x7_text.specs.Digits.{hex_byte};
 ghost use Rattle.x7_forms.specs.Event.{bad_input, line_of};
+ghost use Rattle.x7_forms.specs.declared.bad_input.InputFault.TheVariants as input;
 
 use itoa::Buffer;
 use x7_text::{hex_of_byte, hex_of_word};
@@ -74,15 +74,11 @@ fn say_number<E: Sink>(err: &mut E, name: &str, kind: &[u8], number: u64) -> Res
 }
 
 /// Writes the line of a sum byte that is another.
-fn say_sum<'x, E: Sink>(
-    err: &mut E,
-    name: &'x str,
-    line: &'x [u8],
-    want: &'x [u8],
-    got: &'x [u8],
-) -> Result<(), Failed>
-    ensures { Tells (E.state err.old) (codes "x7: bad input " ++ (name.now ++ (codes ": sum line " ++ (line.now ++ (codes " want " ++ (want.now ++ (codes " got " ++ (got.now ++ codes "\n")))))))) (E.state err.new) }
+fn say_sum<E: Sink>(err: &mut E, name: &str, line: u64, want: u8, got: u8) -> Result<(), Failed>
+    ensures { Tells (E.state err.old) (line_of (bad_input name.now (input.Sum line want got))) (E.state err.new) }
 {
+    let mut buffer = Buffer::new();
+    let line = buffer.format(line).as_bytes();
     write_pieces(
         err,
         &[
@@ -91,9 +87,9 @@ fn say_sum<'x, E: Sink>(
             b": sum line ",
             line,
             b" want ",
-            want,
+            &hex_of_byte(want),
             b" got ",
-            got,
+            &hex_of_byte(got),
             b"\n",
         ],
     )
@@ -122,15 +118,6 @@ pub(crate) fn say_bad_input<E: Sink>(
         InputFault::Image => say_at(err, name, b": image", b""),
         InputFault::Long => say_at(err, name, b": long", b""),
         InputFault::Layout(place) => say_number(err, name, b": layout byte ", place),
-        InputFault::Sum { line, want, got } => {
-            let mut buffer = Buffer::new();
-            say_sum(
-                err,
-                name,
-                buffer.format(line).as_bytes(),
-                &hex_of_byte(want),
-                &hex_of_byte(got),
-            )
-        }
+        InputFault::Sum { line, want, got } => say_sum(err, name, line, want, got),
     }
 }

@@ -1,6 +1,6 @@
 //! The forms of the command line.
 ghost use Rattle.std.specs.Prelude.{◌≡◌, map, string_bytes};
-ghost use Rattle.x7_forms.specs.Form.{Assembling, Booting, FromMcs, Listing, PlayingSvf, PlanningFull, ToMcs, debug_form, form_of, gen_form, image_form, number_in, one_name, plan_form, plan_read_form, play_form, two_names, word_in, PlanningPartial, Updating, asked};
+ghost use Rattle.x7_forms.specs.Form.{Assembling, Booting, FromMcs, Listing, PlayingSvf, PlanningFull, ToMcs, debug_form, form_in, gen_form, image_form, number_in, one_name, plan_form, plan_read_form, play_form, two_names, word_in, PlanningPartial, UpdatingFlash, asked};
 
 use x7_text::{decimal_below, word_of_hex};
 
@@ -309,7 +309,7 @@ fn boot_form(names: &[String]) -> Option<Form<'_>>
 
 /// `update FLASH STREAM`.
 fn update_form(names: &[String]) -> Option<Form<'_>>
-    ensures { asked result ≡ two_names Updating (map string_bytes names.now) }
+    ensures { asked result ≡ two_names UpdatingFlash (map string_bytes names.now) }
 {
     match names {
         [flash, stream] => Some(Form::Update {
@@ -340,7 +340,7 @@ fn image_form(names: &[String]) -> Option<Form<'_>>
 
 /// The form of the words, where they have one.
 pub fn words_of(words: &Vec<String>) -> Option<Form<'_>>
-    ensures { asked result ≡ form_of (map string_bytes words.now.items) }
+    ensures { asked result ≡ form_in words.now.items }
 {
     let Some((command, names)) = words.split_first() else {
         return None;

@@ -1,17 +1,12 @@
 //! A device that plays bytes piece by piece, and the words that it reads out.
-ghost use Rattle.std.specs.Prelude.{◌≡◌, ◌++◌, ◌+◌, ◌<◌, ◌≤◌, ◌⊎◌, ℕ, List, [], true, false, Ok, Err, length, vec_capacity, vec_len, IfErr, IfOk, OnErr, OnOk};
+ghost use Rattle.std.specs.Prelude.{◌≡◌, ◌++◌, ◌+◌, ◌<◌, ◌≤◌, ℕ, List, [], true, false, Ok, Err, length, vec_capacity, vec_len, IfOk, OnErr, OnOk};
 ghost use Rattle.x7_part.specs.Part.{PartData};
-ghost use Rattle.x7_forms.specs.Event.{no_memory, too_many_reads};
-ghost use Rattle.x7_forms.specs.Message.{event_of};
-ghost use Rattle.x7_forms.specs.Known.{reported};
-ghost use Rattle.x7_forms.specs.Play.{HasPlayed, HasPlayedBy, MayPlay, MayPlayBy, OfFront, Plays, PlaysFront, PlaysOn, emptied, text_of_play};
+ghost use Rattle.x7_forms.specs.Play.{HasPlayed, MayPlay, MayPlayBy, PlaysOn, emptied, FeedsOn, FeedsPrefix, OfPrefix, PlaysPrefix, play_state};
 
-use crate::play_text::PlayText;
-use crate::refusal::{Refusal, Why};
 use std::alloc::Global;
-use x7_engine::{Device, Fed, ReadBuf};
 use x7_part::Part;
 use x7_words::NoMemory;
+use x7_engine::{Device, Fed, ReadBuf};
 
 /// The most words that a play reads out.
 const READS_LIMIT: usize = 16_777_216;
@@ -48,11 +43,9 @@ fn feed(
     reads: &mut Vec<u32>,
     piece: &[u8],
 ) -> Result<bool, NoMemory>
-    requires { MayPlayBy false device.old buffer.old reads.old.items (length piece.now) }
-    ensures ok { IfOk result (λ over. (part : PartData) (bytes : List ℕ) → HasPlayedBy false part bytes device.old buffer.old reads.old.items
-        → HasPlayedBy over part (bytes ++ piece.now) device.new buffer.new reads.new.items) }
-    ensures front { OnErr result (OfFront piece.now (λ front. (part : PartData) (bytes : List ℕ) → HasPlayedBy false part bytes device.old buffer.old reads.old.items
-        → Plays part (bytes ++ front) device.new reads.new.items)) }
+    requires { MayPlayBy false (play_state device.old buffer.old reads.old.items) (length piece.now) }
+    ensures ok { IfOk result (λ over. FeedsOn over (play_state device.old buffer.old reads.old.items) (play_state device.new buffer.new reads.new.items) piece.now) }
+    ensures prefix { OnErr result (OfPrefix piece.now (FeedsPrefix (play_state device.old buffer.old reads.old.items) (play_state device.new buffer.new reads.new.items))) }
     ensures buffer { OnErr result (buffer.new ≡ emptied) }
 {
     let mut at = 0;
@@ -103,7 +96,7 @@ impl Player {
     pub fn play(&mut self, piece: &[u8]) -> Result<(), NoMemory>
         requires { MayPlay self.old (length piece.now) }
         ensures ok { OnOk result (PlaysOn self.old self.new piece.now) }
-        ensures front { OnErr result (OfFront piece.now (PlaysFront self.old self.new)) }
+        ensures prefix { OnErr result (OfPrefix piece.now (PlaysPrefix self.old self.new)) }
         ensures not_over { OnErr result (self.new.over ≡ false) }
         ensures buffer { OnErr result (self.new.buffer ≡ emptied) }
     {
@@ -124,23 +117,5 @@ impl Player {
         ensures { result.now ≡ self.now.device }
     {
         &self.device
-    }
-
-    /// The text of the play, ready to be written, or that too many words were read out.
-    pub(crate) fn text<'w>(self, alloc: Global) -> Result<PlayText, Refusal<'w>>
-        ensures ok { IfOk result (λ text. (part : PartData) (bytes : List ℕ) → HasPlayed part bytes self → reported part bytes ≡ Ok (text_of_play text)) }
-        ensures err { IfErr result (λ r. (event_of r ≡ no_memory) ⊎ ((event_of r ≡ too_many_reads) × ((part : PartData) (bytes : List ℕ) → HasPlayed part bytes self → reported part bytes ≡ Err too_many_reads))) }
-    {
-        if self.over {
-            return Err(Refusal {
-                reason: Why::TooLarge,
-                name: "reads",
-            });
-        }
-        let stopped = self.device.fault().is_some();
-        match PlayText::new(alloc, self.device, &self.reads, stopped) {
-            Ok(text) => Ok(text),
-            Err(_) => Err(Refusal::unnamed(Why::NoMemory)),
-        }
     }
 }

@@ -3,18 +3,17 @@ ghost use Rattle.std.specs.Prelude.{◌≡◌, ℕ, List, [], ◌∷◌, ◌++�
 ghost use Rattle.x7_words.specs.Input.{AtEnd, Stays};
 ghost use Rattle.x7_forms.specs.Message.{event_of};
 ghost use Rattle.x7_forms.specs.Event.{no_memory};
-ghost use Rattle.x7_forms.specs.Known.{data_of, part_of as part_due, played, read_of, stream_limit};
-ghost use Rattle.x7_forms.specs.Play.{HasPlayed, MayPlay, PlaysOn, part_event, text_of_play};
+ghost use Rattle.x7_forms.specs.Known.{part_of as part_due};
+ghost use Rattle.x7_forms.specs.Play.{HasPlayed, MayPlay, PlaysOn, part_event, PlaysStream};
 ghost use Rattle.x7_forms.specs.Turn.{ReadsRest, UnreadRest};
-ghost use Rattle.x7_forms.specs.Step.{AnswersAs, seen};
+ghost use Rattle.x7_forms.specs.Step.{AnswersAs, seen, ReadsStream, ReadsStreams, step_over};
 
-use crate::play_text::PlayText;
 use crate::player::Player;
+use std::alloc::Global;
+use x7_words::Inputs;
 use crate::read::{STREAM_LIMIT, data_start, next_turn, open, read_whole, skip_rest};
 use crate::refusal::{Refusal, Why};
-use std::alloc::Global;
 use x7_part::{Part, PartFault, part_of};
-use x7_words::Inputs;
 
 /// The most bytes of a part file.
 const PART_LIMIT: usize = 1_048_576;
@@ -41,7 +40,7 @@ pub fn read_part<'w, I: Inputs>(
     inputs: &mut I,
     name: &'w str,
 ) -> Result<Part, Refusal<'w>>
-    ensures due { AnswersAs (name.now ∷ []) (I.state inputs.old) (I.state inputs.new)
+    ensures due { AnswersAs (step_over (name.now ∷ []) (I.state inputs.old) (I.state inputs.new))
         (λ known. part_due known name.now) (seen (λ part. part) result) }
     ensures inputs { Stays (I.state inputs.old) (I.state inputs.new) }
 {
@@ -104,11 +103,8 @@ fn play_stream<'w, I: Inputs>(
 ) -> Result<usize, Refusal<'w>>
     requires buffer { length piece.old ≡ 266240 }
     requires may { MayPlay player.old limit }
-    ensures ok { IfOk result (λ left. (bytes : List ℕ) × (length bytes + left ≤ limit) × PlaysOn player.old player.new bytes
-        × (AnswersAs (name.now ∷ []) (I.state inputs.old) (I.state inputs.new)
-        (λ known. read_of known limit name.now) (Ok (record { bytes = bytes; room = left })))) }
-    ensures err { IfErr result (λ r. AnswersAs (name.now ∷ []) (I.state inputs.old) (I.state inputs.new)
-        (λ known. read_of known limit name.now) (Err (event_of r))) }
+    ensures ok { IfOk result (λ left. PlaysStream limit left (PlaysOn player.old player.new) (ReadsStream (I.state inputs.old) (I.state inputs.new) limit name.now)) }
+    ensures err { IfErr result (λ r. ReadsStream (I.state inputs.old) (I.state inputs.new) limit name.now (Err (event_of r))) }
     ensures length { length piece.new ≡ length piece.old }
     ensures inputs { Stays (I.state inputs.old) (I.state inputs.new) }
 {
@@ -137,17 +133,14 @@ fn play_stream<'w, I: Inputs>(
 
 /// Plays the data of streams on a new device of the part, one after the other. The streams are within the limit together,
 /// headers included.
-fn play_streams<'w, I: Inputs>(
+pub fn play_streams<'w, I: Inputs>(
     alloc: Global,
     part: &Part,
     inputs: &mut I,
     streams: &'w [String],
 ) -> Result<Player, Refusal<'w>>
-    ensures ok { IfOk result (λ player. (bytes : List ℕ) × HasPlayed part.now bytes player
-        × (AnswersAs (map string_bytes streams.now) (I.state inputs.old) (I.state inputs.new)
-        (λ known. data_of known stream_limit (map string_bytes streams.now)) (Ok bytes))) }
-    ensures err { IfErr result (λ r. AnswersAs (map string_bytes streams.now) (I.state inputs.old) (I.state inputs.new)
-        (λ known. data_of known stream_limit (map string_bytes streams.now)) (Err (event_of r))) }
+    ensures ok { IfOk result (λ player. (bytes : List ℕ) × HasPlayed part.now bytes player × ReadsStreams (I.state inputs.old) (I.state inputs.new) (map string_bytes streams.now) (Ok bytes)) }
+    ensures err { IfErr result (λ r. ReadsStreams (I.state inputs.old) (I.state inputs.new) (map string_bytes streams.now) (Err (event_of r))) }
     ensures inputs { Stays (I.state inputs.old) (I.state inputs.new) }
 {
     let Ok(mut player) = Player::new(alloc, part) else {
@@ -164,25 +157,4 @@ fn play_streams<'w, I: Inputs>(
         };
     }
     Ok(player)
-}
-
-/// The text of `play PART STREAM..`: the inputs are read in the order of the words, and the streams' data are played as
-/// one stream while they are read.
-pub fn play<'w, I: Inputs>(
-    alloc: Global,
-    inputs: &mut I,
-    part: &'w str,
-    streams: &'w [String],
-) -> Result<PlayText, Refusal<'w>>
-    ensures { AnswersAs (part.now ∷ map string_bytes streams.now) (I.state inputs.old) (I.state inputs.new)
-        (λ known. played known part.now (map string_bytes streams.now)) (seen text_of_play result) }
-{
-    let part = match read_part(alloc, inputs, part) {
-        Ok(part) => part,
-        Err(refusal) => return Err(refusal),
-    };
-    match play_streams(alloc, &part, inputs, streams) {
-        Ok(player) => player.text(alloc),
-        Err(refusal) => Err(refusal),
-    }
 }

@@ -4,9 +4,9 @@ ghost use Rattle.x7_words.specs.Input.{Asks, AtEnd, Opens, Stays, Takes};
 ghost use Rattle.x7_words.specs.Word.{AreBytes};
 ghost use Rattle.x7_forms.specs.Message.{event_of};
 ghost use Rattle.x7_forms.specs.Event.{no_memory, read_fault, too_large};
-ghost use Rattle.x7_forms.specs.Known.{data_in, whole_in};
+ghost use Rattle.x7_forms.specs.Known.{data_in};
 ghost use Rattle.x7_forms.specs.Turn.{Breaks, ReadsRest, Unopened, Unread, UnreadRest};
-ghost use Rattle.x7_forms.specs.Step.{AnswersAs, seen};
+ghost use Rattle.x7_forms.specs.Step.{ReadsWhole, seen};
 
 use crate::bad_input::InputFault;
 use crate::refusal::{Refusal, Why};
@@ -168,8 +168,7 @@ pub fn read_whole<'w, I: Inputs>(
     name: &'w str,
     limit: usize,
 ) -> Result<Vec<u8>, Refusal<'w>>
-    ensures due { AnswersAs (name.now ∷ []) (I.state inputs.old) (I.state inputs.new)
-        (λ known. whole_in known limit name.now) (seen (λ whole. whole.items) result) }
+    ensures due { ReadsWhole (I.state inputs.old) (I.state inputs.new) limit name.now (seen (λ whole. whole.items) result) }
     ensures within { IfOk result (λ whole. vec_len whole ≤ limit) }
     ensures inputs { Stays (I.state inputs.old) (I.state inputs.new) }
 {

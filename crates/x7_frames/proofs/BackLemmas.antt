@@ -1,5 +1,5 @@
 -- The text of a plan is read back as the plan.
-use Rattle.std.proofs.Common.{◌≡◌, ◌⊎◌, inl, inr, ℕ, ◌*◌, ◌/◌, ◌%◌, ◌^◌, ◌<◌, Bool, true, false, List, [], ◌∷◌, ◌++◌, length, map, refl, sym, subst, ap, ap₂, ◌∙◌, arith, append_assoc, codes}
+use Rattle.std.proofs.Common.{◌≡◌, ◌⊎◌, inl, inr, ℕ, ◌*◌, ◌/◌, ◌%◌, ◌^◌, ◌<◌, Bool, true, false, List, [], ◌∷◌, ◌++◌, length, map, refl, sym, subst, ap, ap₂, ◌∙◌, arith, append_assoc, append-nil, codes}
 use Rattle.std.specs.Prelude.{All, Result, Ok, Err, MatchResult, if◌then◌else◌, ◌==◌}
 use Rattle.std.specs.List.{flat_map, AllByRecursion}
 use Rattle.std.proofs.lemmas.Grind.{common_steps}
@@ -9,7 +9,9 @@ use Rattle.x7_words.specs.Word.{AreBytes, AreWords, bytes_of_word, word_of_bytes
 use Rattle.x7_text.specs.Digits.{hex_byte, hex_digit, hex_word}
 use Rattle.x7_text.specs.EitherCase.{pairs}
 use Rattle.x7_text.specs.Lines.{has_no_end, split}
+use Rattle.x7_words.proofs.WordLemmas.{bytes-fit, length-bytes, words-back}
 use Rattle.x7_text.proofs.CaseLemmas.{pairs-back}
+use Rattle.x7_text.proofs.ReadRowLemmas.{hex-words}
 use Rattle.x7_text.proofs.SplitLemmas.{split-ended}
 use Rattle.x7_text.proofs.ValueLemmas.{word-digits, word-bytes}
 use Rattle.x7_part.specs.Part.{PartData, frame_words}
@@ -51,25 +53,6 @@ head-free far = free-both (codes "frame ") (hex_word far ++ 32 ∷ []) refl (fre
 
 -- ---- the digits of words
 
-hexes : (ws : List ℕ) → AreWords ws → flat_map hex_word ws ≡ flat_map hex_byte (flat_map bytes_of_word ws)
-hexes [] h = refl
-hexes (w ∷ ws) h = ap₂ (λ (x t : List ℕ). x ++ t) (word-digits w h.0) (hexes ws h.1)
-
-are-bytes : (ws : List ℕ) → AreBytes (flat_map bytes_of_word ws)
-are-bytes [] = tt
-are-bytes (w ∷ ws) = let b = word-bytes w in (b.0, (b.1.0, (b.1.1.0, (b.1.1.1.0, are-bytes ws))))
-
-whole : (w : ℕ) → w < 2 ^ 32 → word_of_bytes (bytes_of_word w) ≡ w
-whole w h = omega arith
-
-words-back : (ws : List ℕ) → AreWords ws → words_of_bytes (flat_map bytes_of_word ws) ≡ ws
-words-back [] h = refl
-words-back (w ∷ ws) h = ap₂ (λ (x : ℕ) (t : List ℕ). x ∷ t) (whole w h.0) (words-back ws h.1)
-
-bytes-long : (ws : List ℕ) → length (flat_map bytes_of_word ws) ≡ 4 * length ws
-bytes-long [] = refl
-bytes-long (w ∷ ws) = omega (arith, bytes-long ws)
-
 -- ---- lines
 
 -- a line without its end
@@ -87,9 +70,9 @@ bare-line width row fits long = record {
   digits = flat_map hex_word row.words;
   is = refl;
   bytes = flat_map bytes_of_word row.words;
-  read = ap pairs (hexes row.words fits.words) ∙ pairs-back (flat_map bytes_of_word row.words) (are-bytes row.words);
-  long = bytes-long row.words ∙ ap (λ (n : ℕ). 4 * n) long;
-  words = sym (words-back row.words fits.words);
+  read = ap pairs (hex-words row.words fits.words) ∙ pairs-back (flat_map bytes_of_word row.words) (bytes-fit row.words);
+  long = length-bytes row.words ∙ ap (λ (n : ℕ). 4 * n) long;
+  words = sym (ap words_of_bytes (sym (append-nil (flat_map bytes_of_word row.words))) ∙ words-back row.words [] fits.words ∙ append-nil row.words);
 }
 
 all-free : (rows : List PlanRow) → AllByRecursion (λ line. has_no_end line ≡ true) (map bare rows)

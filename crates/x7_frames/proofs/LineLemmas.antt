@@ -1,6 +1,6 @@
 -- The line of a frame, and what is none.
 use Rattle.std.proofs.Common.{◌≡◌, ℕ, ◌*◌, ◌^◌, ◌<◌, List, ◌++◌, length, sym, ap, ◌∙◌}
-use Rattle.x7_words.proofs.WordLemmas.{length-words_of_bytes}
+use Rattle.x7_words.proofs.WordLemmas.{length-words}
 use Rattle.x7_memory.specs.Planned.{PlanRow}
 use Rattle.x7_frames.specs.FramesText.{frame_head, IsFrameLine}
 use Rattle.x7_frames.proofs.DigitLemmas.{pairs-long}
@@ -14,4 +14,4 @@ pub no-parts : (width count : ℕ) (line : List ℕ) → count ≡ 2 * (4 * widt
 no-parts width count line e none row is = none row.far is.digits is.far (digits-long width line row is ∙ sym e) is.is
 
 pub frame-long : (width : ℕ) (line : List ℕ) (row : PlanRow) → IsFrameLine width line row → length row.words ≡ width
-frame-long width line row is = ap length is.words ∙ length-words_of_bytes width is.bytes is.long
+frame-long width line row is = ap length is.words ∙ length-words is.bytes width is.long

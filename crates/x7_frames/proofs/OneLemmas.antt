@@ -6,6 +6,7 @@ use Rattle.std.proofs.lemmas.Option.{same_Some}
 use Rattle.std.proofs.lemmas.List.{get_or-map, length-map, get_or_at, get_or_append_left}
 use Rattle.std.proofs.lemmas.List.Elements.{All-contains, All-contains_itself, Contains-append_right}
 use Rattle.std.proofs.lemmas.List.Sorted.{All-permutation, IsPermutation-sym, IsPermutation-trans}
+use Rattle.x7_memory.proofs.PlanLemmas.{order_tail}
 use Rattle.x7_words.proofs.ListLemmas.{same_front}
 use Rattle.x7_words.specs.Word.{words_of_bytes}
 use Rattle.x7_text.specs.DigitValue.{word_value}
@@ -140,9 +141,6 @@ module _ (part : PartData) (before after : List (List ℕ)) (line : List ℕ) (r
 head-low : (x : PlanRow) (xs : List PlanRow) (k : ℕ) (d : PlanRow) → AreInOrder (x ∷ xs) → k < length xs → x.far < (get_or xs k d).far
 head-low x xs k d order h = order 0 (suc k) d (omega arith) (omega arith)
 
-order-tail : (x : PlanRow) (xs : List PlanRow) → AreInOrder (x ∷ xs) → AreInOrder xs
-order-tail x xs order i j d lt h = order (suc i) (suc j) d (omega arith) (omega arith)
-
 -- an element of one that is no head is behind the other's head
 behind : (x y : PlanRow) (ys : List PlanRow) → Contains (y ∷ ys) x → (x.far ≡ y.far → ⊥) → Contains ys x
 behind x y ys (zero, h, e) n = absurd (n (ap (λ r. r.far) (sym e)))
@@ -166,7 +164,7 @@ same-order (x ∷ xs) (y ∷ ys) a b f g =
     let down = not-below y x xs a (g 0 y (omega arith)) in
     let far : x.far ≡ y.far = omega arith in
     let head : x ≡ y = is-head x y ys b (f 0 x (omega arith)) far in
-    let tails : xs ≡ ys = same-order xs ys (order-tail x xs a) (order-tail y ys b)
+    let tails : xs ≡ ys = same-order xs ys (order_tail x xs a) (order_tail y ys b)
     (λ k d h. behind (get_or xs k d) y ys (f (suc k) d (omega arith)) (λ e. let low = head-low x xs k d a h in absurd (omega arith)))
     (λ k d h. behind (get_or ys k d) x xs (g (suc k) d (omega arith)) (λ e. let low = head-low y ys k d b h in absurd (omega arith))) in
     ap₂ (λ (r : PlanRow) (rs : List PlanRow). r ∷ rs) head tails

@@ -20,6 +20,10 @@ means_nothing (c ∷ cs) = c == 35
 abbrev pub frame_head : ℕ → List ℕ
 frame_head far = codes "frame " ++ (hex_word far ++ 32 ∷ [])
 
+-- a line is none of a frame with so many digits, whatever its address
+abbrev pub HasNoHead : ℕ → List ℕ → Type 0
+HasNoHead digit_count line = (far : ℕ) (digits : List ℕ) → far < 2 ^ 32 → length digits ≡ digit_count → line ≡ frame_head far ++ digits → ⊥
+
 -- the line of a frame: behind its head the bytes of its words, the highest first, in digits of either case
 pub record IsFrameLine (width : ℕ) (line : List ℕ) (row : PlanRow) : Type 0 where
   pub far : row.far < 2 ^ 32

@@ -9,6 +9,7 @@ use Rattle.std.specs.List.{AllByRecursion, starts_with}
 use Rattle.x7_words.specs.Word.{AreBytes, bytes_of_word, word_of_bytes}
 use Rattle.x7_words.proofs.ListLemmas.{all_front, all_back}
 use Rattle.x7_words.proofs.WordLemmas.{bytes-words, words-fit}
+use Rattle.x7_words.proofs.WordLemmas.{word-whole}
 use Rattle.x7_header.specs.Header.{fixed_bytes, Kind, Field, layout, Holds, Hold, HasOtherLetter, HasOtherLetterAt, count_bytes, field_bytes, fields_bytes, Contents, listed, HaveHeader, header_bytes}
 use Rattle.x7_header.specs.Reading.{◌>>=◌, letter_at, bytes_at, content_at, field_at, fields_at, contents_from, fixed_at, layout_at, header_at, Gives}
 use Rattle.x7_header.specs.declared.fault.HeaderFault.{HeaderFault}
@@ -54,15 +55,12 @@ fields_again total (field ∷ fields) [] rest h = absurd h
 fields_again total (field ∷ fields) (content ∷ contents) rest h =
     rw (append_assoc (field_bytes field content) (fields_bytes fields contents) rest, field_again total field content (fields_bytes fields contents ++ rest) h.0, fields_again total fields contents rest h.1) refl
 
-word-bytes : (w : ℕ) → w < 2 ^ 32 → word_of_bytes (bytes_of_word w) ≡ w
-word-bytes w h = omega arith
-
 -- a header that stands at the beginning is read, with its size
 pub header_again : (x : Contents) (rest : List ℕ) → HaveHeader x → header_at (header_bytes x ++ rest) ≡ Ok (x, length (header_bytes x))
 unfolding header_at layout_at
 header_again x rest h =
     let size : length (header_bytes x ++ rest) - length rest ≡ length (header_bytes x) = omega (arith, length-append (header_bytes x) rest) in
-    rw (fields_again (length (header_bytes x ++ rest)) layout (listed x) rest (h.a, (h.b, (h.c, (h.d, (refl, tt))))), size, word-bytes x.data_length h.data_length) refl
+    rw (fields_again (length (header_bytes x ++ rest)) layout (listed x) rest (h.a, (h.b, (h.c, (h.d, (refl, tt))))), size, word-whole x.data_length h.data_length) refl
 
 abbrev pub done : {A : Type 0} → A → Result A HeaderFault
 done x = Ok x

@@ -1,5 +1,5 @@
 -- The header in front of a stream, as a list of fields (not in UG470: the layout that the vendor's tool writes).
-use Rattle.std.specs.Prelude.{◌≡◌, ◌≢◌, ◌≤◌, ◌-◌, ℕ, ◌/◌, ◌%◌, ◌<◌, ◌^◌, List, [], ◌∷◌, ◌++◌, length}
+use Rattle.std.specs.Prelude.{◌≡◌, ◌≢◌, ◌≤◌, ◌-◌, ℕ, ◌/◌, ◌%◌, ◌<◌, ◌^◌, List, [], ◌∷◌, ◌++◌, length, drop}
 use Rattle.x7_words.specs.Word.{AreBytes, bytes_of_word}
 use Rattle.x7_header.specs.declared.header.Head.{Head}
 
@@ -96,6 +96,10 @@ pub record HaveHeader (x : Contents) : Type 0 where
 
 abbrev pub header_bytes : Contents → List ℕ
 header_bytes x = fixed_bytes ++ fields_bytes layout (listed x)
+
+-- the header with these contents and of this size stands at the beginning of the bytes
+abbrev pub BeginsWith : Contents → ℕ → List ℕ → Type 0
+BeginsWith x size bytes = HaveHeader x × (bytes ≡ header_bytes x ++ drop size bytes) × (size ≡ length (header_bytes x))
 
 -- the input ends inside a header: its fixed bytes are there, and some header begins with the whole input and goes on
 pub record EndsInHeader (bytes : List ℕ) : Type 0 where

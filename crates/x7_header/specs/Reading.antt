@@ -124,10 +124,10 @@ abbrev pub fields_lack : List Field → List ℕ → ℕ
 fields_lack [] bytes = 0
 fields_lack (field ∷ fields) bytes = lacks_by (lacks_of field.kind bytes) (field_at (length bytes) field bytes) (fields_lack fields)
 
-abbrev pub lacks_behind : Result (List ℕ) HeaderFault → ℕ
-lacks_behind (Ok after) = fields_lack layout after
-lacks_behind (Err f) = 0
+abbrev pub lacks_after : Result (List ℕ) HeaderFault → ℕ
+lacks_after (Ok after) = fields_lack layout after
+lacks_after (Err f) = 0
 
 -- what the bytes of a header lack: of the fixed bytes, or of its fields; one byte where that is none
 abbrev pub header_lacks : List ℕ → ℕ
-header_lacks bytes = if nat_lt (length bytes) 13 then 13 - length bytes else max 1 (lacks_behind (fixed_at bytes))
+header_lacks bytes = if nat_lt (length bytes) 13 then 13 - length bytes else max 1 (lacks_after (fixed_at bytes))

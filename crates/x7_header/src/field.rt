@@ -11,7 +11,7 @@ use crate::header::FIXED_BYTES;
 use x7_words::word_of;
 
 /// What follows the fixed bytes.
-pub fn behind_fixed_bytes(bytes: &[u8]) -> Result<&[u8], HeaderFault>
+pub fn after_fixed_bytes(bytes: &[u8]) -> Result<&[u8], HeaderFault>
     ensures value { Gives (λ rest. rest.now) result (fixed_at bytes.now) }
     // Thirteen bytes are judged alike whatever follows.
     ensures more { IfOk result (λ x. (rest : List ℕ) → fixed_at (bytes.now ++ rest) ≡ Ok (x.now ++ rest)) }
@@ -60,8 +60,7 @@ pub fn text_field(bytes: &[u8], letter: u8, total: usize) -> Result<(&[u8], &[u8
         ≡ Ok (x.0.now, x.1.now ++ rest)) }
     // So is a wrong letter.
     ensures other { (place : ℕ) (rest : List ℕ) → IsErrOf result (HeaderFault.Field place) →
-        field_at (total + length rest) (text_of_letter letter) (bytes.now ++ rest)
-        ≡ Err (HeaderFault.Field place) }
+        field_at (total + length rest) (text_of_letter letter) (bytes.now ++ rest) ≡ Err (HeaderFault.Field place) }
 {
     match after_letter(bytes, letter, total)? {
         [high, low, rest @ ..] => {
@@ -87,8 +86,7 @@ pub fn number_field(bytes: &[u8], letter: u8, total: usize) -> Result<(u32, &[u8
         ≡ Ok (bytes_of_word x.0, x.1.now ++ rest)) }
     // So is a wrong letter.
     ensures other { (place : ℕ) (rest : List ℕ) → IsErrOf result (HeaderFault.Field place) →
-        field_at (total + length rest) (number_of_letter letter) (bytes.now ++ rest)
-        ≡ Err (HeaderFault.Field place) }
+        field_at (total + length rest) (number_of_letter letter) (bytes.now ++ rest) ≡ Err (HeaderFault.Field place) }
 {
     let (number, rest) = first_bytes(after_letter(bytes, letter, total)?, 4, total)?;
     Ok((word_of([number[0], number[1], number[2], number[3]]), rest))

@@ -9,7 +9,7 @@ mod reading;
 mod writing;
 
 pub use fault::HeaderFault;
-pub use field::{behind_fixed_bytes, number_field, text_field};
+pub use field::{after_fixed_bytes, number_field, text_field};
 pub use header::Head;
 pub use progress::wanted;
 pub use reading::header_of;

@@ -4,7 +4,7 @@ ghost use Rattle.x7_header.specs.Header.{EndsInHeader, layout};
 ghost use Rattle.x7_header.specs.Reading.{FieldWaits, HeaderWaits, LayoutWaits, field_at, fields_lack, header_lacks, number_lacks, number_of_letter, number_wants, text_lacks, text_of_letter, text_wants};
 
 use crate::fault::HeaderFault;
-use crate::field::{behind_fixed_bytes, number_field, text_field};
+use crate::field::{after_fixed_bytes, number_field, text_field};
 use crate::header::FIXED_BYTES;
 
 /// How many bytes a field of text lacks of its letter, its count or its text, whichever it is in.
@@ -32,12 +32,11 @@ fn number_lack(prefix: &[u8]) -> usize
 }
 
 /// What follows the field of text of this letter, or how many bytes it waits for: none where its letter is wrong.
-fn behind_text(bytes: &[u8], letter: u8) -> Result<&[u8], usize>
+fn after_text(bytes: &[u8], letter: u8) -> Result<&[u8], usize>
     ensures whole { IfOk result (λ rest. (text : List ℕ) × ((total : ℕ) (more : List ℕ) →
         field_at total (text_of_letter letter) (bytes.now ++ more) ≡ Ok (text, rest.now ++ more))) }
     ensures waits { IfErr result (λ lack. FieldWaits (text_of_letter letter) bytes.now lack) }
-    ensures lacks { MatchResult result
-        (λ rest. (later : List ℕ → ℕ) → text_wants letter bytes.now later ≡ later rest.now)
+    ensures lacks { MatchResult result (λ rest. (later : List ℕ → ℕ) → text_wants letter bytes.now later ≡ later rest.now)
         (λ lack. (later : List ℕ → ℕ) → text_wants letter bytes.now later ≡ lack) }
 {
     match text_field(bytes, letter, bytes.len()) {
@@ -48,7 +47,7 @@ fn behind_text(bytes: &[u8], letter: u8) -> Result<&[u8], usize>
 }
 
 /// Nothing where the field of a number of this letter is whole, or how many bytes it waits for: none where its letter is wrong.
-fn behind_number(bytes: &[u8], letter: u8) -> Result<(), usize>
+fn after_number(bytes: &[u8], letter: u8) -> Result<(), usize>
     ensures waits { IfErr result (λ lack. FieldWaits (number_of_letter letter) bytes.now lack) }
     ensures lacks { MatchResult result
         (λ _. number_wants letter bytes.now (λ _. 0) ≡ 0)
@@ -62,16 +61,16 @@ fn behind_number(bytes: &[u8], letter: u8) -> Result<(), usize>
 }
 
 /// Nothing where the fields after the fixed bytes are whole, or how many bytes they wait for: none where a letter is wrong.
-fn behind_fields(bytes: &[u8]) -> Result<(), usize>
+fn after_fields(bytes: &[u8]) -> Result<(), usize>
     ensures waits { IfErr result (λ lack. LayoutWaits bytes.now lack) }
     ensures whole { IfOk result (λ _. fields_lack layout bytes.now ≡ 0) }
     ensures lacks { IfErr result (λ lack. fields_lack layout bytes.now ≡ lack) }
 {
-    let rest = behind_text(bytes, b'a')?;
-    let rest = behind_text(rest, b'b')?;
-    let rest = behind_text(rest, b'c')?;
-    let rest = behind_text(rest, b'd')?;
-    behind_number(rest, b'e')
+    let rest = after_text(bytes, b'a')?;
+    let rest = after_text(rest, b'b')?;
+    let rest = after_text(rest, b'c')?;
+    let rest = after_text(rest, b'd')?;
+    after_number(rest, b'e')
 }
 
 /// How many bytes to read next of an input that begins with these, where they are the first bytes of a header: up to the
@@ -88,10 +87,10 @@ pub fn wanted(bytes: &[u8]) -> usize
     if bytes.len() < FIXED_BYTES.len() {
         return FIXED_BYTES.len() - bytes.len();
     }
-    let Ok(fields) = behind_fixed_bytes(bytes) else {
+    let Ok(fields) = after_fixed_bytes(bytes) else {
         return 1;
     };
-    match behind_fields(fields) {
+    match after_fields(fields) {
         Err(lack) if lack > 0 => lack,
         _ => 1,
     }

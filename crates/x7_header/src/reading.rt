@@ -1,11 +1,11 @@
 //! Reading a header, field by field.
 ghost use Rattle.std.specs.Prelude.{◌≡◌, ◌≢◌, ◌↔◌, IsOkAnd, IsErrOf, ◌≤◌, ◌++◌, ℕ, List, length, take, drop, IfOk, Ok};
 ghost use Rattle.x7_words.specs.Word.{bytes_of_word, word_of_bytes};
-ghost use Rattle.x7_header.specs.Header.{Kind, Contents, HaveHeader, EndsInHeader, HasOtherLetterAt, contents_of, fixed_bytes, header_bytes};
+ghost use Rattle.x7_header.specs.Header.{BeginsWith, Kind, Contents, HaveHeader, EndsInHeader, HasOtherLetterAt, contents_of, fixed_bytes, header_bytes};
 ghost use Rattle.x7_header.specs.Reading.{Gives, letter_at, bytes_at, field_at, fixed_at, layout_at, header_at};
 
 use crate::fault::HeaderFault;
-use crate::field::{behind_fixed_bytes, number_field, text_field};
+use crate::field::{after_fixed_bytes, number_field, text_field};
 use crate::header::Head;
 
 /// The fields after the fixed bytes, of an input of so many bytes.
@@ -32,9 +32,7 @@ fn fields(bytes: &[u8], total: usize) -> Result<Head<'_>, HeaderFault>
 /// The header at the beginning of the bytes. What follows it is not looked at.
 pub fn header_of(bytes: &[u8]) -> Result<Head<'_>, HeaderFault>
     // What is read is the header that stands at the beginning, with its size.
-    ensures found { IfOk result (λ head. HaveHeader (contents_of head)
-        × (bytes.now ≡ header_bytes (contents_of head) ++ drop head.size bytes.now)
-        × (head.size ≡ length (header_bytes (contents_of head)))) }
+    ensures found { IfOk result (λ head. BeginsWith (contents_of head) head.size bytes.now) }
     // Four texts of at most 65,535 bytes each, with the fixed bytes, five letters and the counts.
     ensures limit { IfOk result (λ head. head.size ≤ 262170) }
     // Each header that stands at the beginning is read, whatever follows it.
@@ -48,5 +46,5 @@ pub fn header_of(bytes: &[u8]) -> Result<Head<'_>, HeaderFault>
     // Which fault it is, field by field.
     ensures exact { Gives (λ head. (contents_of head, head.size)) result (header_at bytes.now) }
 {
-    fields(behind_fixed_bytes(bytes)?, bytes.len())
+    fields(after_fixed_bytes(bytes)?, bytes.len())
 }

@@ -87,7 +87,7 @@ quiet-whole part e given bytes piece words took due is k =
     omega (arith, ap length grown.1, length-append (reads_of part on_the_bench (given ++ take k piece)) grown.0, ap (λ (b : List ℕ). length (reads_of part on_the_bench b)) joined, ap length all)
 
 -- and where one is due it comes with the last byte
-quiet-before : (part : PartData) (given bytes piece words : List ℕ) (n : ℕ) → n ≤ length piece → given ≡ bytes → ReadBefore part on_the_bench bytes piece n words → (k : ℕ) → k < n → length (words_read part (given ++ take k (take n piece))) ≤ length words
+quiet-before : (part : PartData) (given bytes piece words : List ℕ) (n : ℕ) → n ≤ length piece → given ≡ bytes → ReadBefore (record { part = part; kept = on_the_bench; wrapped = false; bytes = bytes }) piece n words → (k : ℕ) → k < n → length (words_read part (given ++ take k (take n piece))) ≤ length words
 quiet-before part given bytes piece words n m is before k l =
     let same : given ++ take k (take n piece) ≡ bytes ++ take k piece = ap (λ (x : List ℕ). given ++ x) (take-take k n piece (omega (arith, l))) ∙ ap (λ (g : List ℕ). g ++ take k piece) is in
     omega (arith, ap (λ (b : List ℕ). length (reads_of part on_the_bench b)) same, ap length (before k l))
@@ -122,7 +122,7 @@ module _ (part : PartData) (k : QueueState) (d e : DeviceState) (q : Queue) (pie
 
   given-front : (n : ℕ) → (s : QueueStandsFor part k d q) → k.left ≡ 0 → AreBytes piece → n ≤ length piece → DeviceStandsFor part on_the_bench false e (s.holds.bytes ++ take n piece)
       → words_taken part e (s.holds.bytes ++ take n piece) ≡ words_taken part d s.holds.bytes → (IsSome (stop_in part on_the_bench s.holds.bytes) → n ≡ 0)
-      → ReadBefore part on_the_bench s.holds.bytes piece n (words_taken part d s.holds.bytes) → Given part k d e q piece n
+      → ReadBefore (record { part = part; kept = on_the_bench; wrapped = false; bytes = s.holds.bytes }) piece n (words_taken part d s.holds.bytes) → Given part k d e q piece n
   given-front n s z f l stands same stopped before =
       let h : Holds part k d q.given q.held q.out = s.holds in
       let took : Took part (q.given ++ take n piece) (h.bytes ++ take n piece) = took-piece part q.given h.bytes piece n n f (omega arith) l h.took stopped (inr refl) in
@@ -139,7 +139,7 @@ module _ (part : PartData) (k : QueueState) (d e : DeviceState) (q : Queue) (pie
       → DeviceStandsFor part on_the_bench false e (s.holds.bytes ++ take (taken_in (length piece) f) piece)
       → Answers part on_the_bench e (s.holds.bytes ++ take (taken_in (length piece) f) piece) no_room f
       → words_taken part e (s.holds.bytes ++ take (taken_in (length piece) f) piece) ≡ words_taken part d s.holds.bytes
-      → ReadBefore part on_the_bench s.holds.bytes piece (taken_in (length piece) f) (words_taken part d s.holds.bytes)
+      → ReadBefore (record { part = part; kept = on_the_bench; wrapped = false; bytes = s.holds.bytes }) piece (taken_in (length piece) f) (words_taken part d s.holds.bytes)
       → (IsSome (stop_in part on_the_bench s.holds.bytes) → taken_in (length piece) f ≡ 0) → Given part k d e q piece (given_by f (length piece))
   given-by fed.All s z b l stands a same before stopped = given-whole (length piece) s z b l stands a.1 (inr refl) same stopped
   given-by (fed.Stopped n) s z b l stands a same before stopped = given-whole n s z b l stands a.2 (inl (ap is_some a.1)) same stopped
@@ -151,7 +151,7 @@ pub gives : (part : PartData) (k n : QueueState) (d e g : DeviceState) (q : Queu
     → DeviceStandsFor part on_the_bench false e (s.holds.bytes ++ take (taken_in (length piece) f) piece)
     → Answers part on_the_bench e (s.holds.bytes ++ take (taken_in (length piece) f) piece) no_room f
     → words_taken part e (s.holds.bytes ++ take (taken_in (length piece) f) piece) ≡ words_taken part d s.holds.bytes
-    → ReadBefore part on_the_bench s.holds.bytes piece (taken_in (length piece) f) (words_taken part d s.holds.bytes)
+    → ReadBefore (record { part = part; kept = on_the_bench; wrapped = false; bytes = s.holds.bytes }) piece (taken_in (length piece) f) (words_taken part d s.holds.bytes)
     → (IsSome (stop_in part on_the_bench s.holds.bytes) → (e ≡ d) × (taken_in (length piece) f ≡ 0)) → count ≡ given_by f (length piece)
     → ((given held : List ℕ) (out : ℕ) → Holds part k e given held out → Stands part n g (given ++ []) held out)
     → QueueStandsFor part n g (fold (offered (words_read part)) q (take count piece))

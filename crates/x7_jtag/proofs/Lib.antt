@@ -15,3 +15,7 @@ pub mod ValueLemmas
 pub mod ByteLemmas
 pub mod GiveLemmas
 pub mod DigitLemmas
+pub mod SourceLemmas
+pub mod SpanLemmas
+pub mod NextLemmas
+pub mod WordsLemmas

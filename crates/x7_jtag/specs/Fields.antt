@@ -60,12 +60,16 @@ abbrev pub closed_by : Option Fields → Option Scanning
 closed_by None = None
 closed_by (Some f) = Some (record { at = Between; fields = f })
 
+-- a field more, which has a digit
+abbrev pub closed_field : Fields → Field → List ℕ → Option Fields
+closed_field f k ds = if nat_lt 0 (length ds) then put_field f k ds else None
+
 -- one mark more
 abbrev pub scan_step : At → Fields → Mark → Option Scanning
 scan_step Between f (Word w) = named_by f (field_of w)
 scan_step (Named k) f Open = Some (record { at = Inside k []; fields = f })
 scan_step (Inside k ds) f (Word w) = if are_hex w then Some (record { at = Inside k (ds ++ w); fields = f }) else None
-scan_step (Inside k ds) f Close = if nat_lt 0 (length ds) then closed_by (put_field f k ds) else None
+scan_step (Inside k ds) f Close = closed_by (closed_field f k ds)
 scan_step _ f _ = None
 
 -- the fields of marks
@@ -120,18 +124,23 @@ abbrev pub scan_by : Bool → ℕ → Option Fields → Option Statement
 scan_by ir n None = None
 scan_by ir n (Some f) = if all_fit n f then with_tdi ir n f f.tdi else None
 
-abbrev pub scan_long : Bool → Option ℕ → List Mark → Option Statement
-scan_long ir None ms = None
-scan_long ir (Some n) ms = if n == 0 then None else scan_by ir n (scan_from Between no_fields ms)
-
 -- the most bits of a scan
 abbrev pub most_bits : ℕ
 most_bits = 536870912
 
+-- how many bits a scan has
+abbrev pub some_bits : Option ℕ → Option ℕ
+some_bits None = None
+some_bits (Some n) = if n == 0 then None else Some n
+
+abbrev pub scan_if : Bool → Option ℕ → List Mark → Option Statement
+scan_if ir None ms = None
+scan_if ir (Some n) ms = scan_by ir n (scan_from Between no_fields ms)
+
 -- after SIR or SDR
 abbrev pub scan_of : Bool → List Mark → Option Statement
 scan_of ir [] = None
-scan_of ir (Word n ∷ ms) = scan_long ir (number_of most_bits n) ms
+scan_of ir (Word n ∷ ms) = scan_if ir (some_bits (number_of most_bits n)) ms
 scan_of ir (Open ∷ ms) = None
 scan_of ir (Close ∷ ms) = None
 scan_of ir (End ∷ ms) = None

@@ -1,5 +1,5 @@
 -- The words, brackets and ends of a text without comments, each with the line on which it begins (this project's profile of SVF).
-use Rattle.std.specs.Prelude.{ℕ, ◌+◌, ◌==◌, ◌||◌, not, Bool, if◌then◌else◌, List, [], ◌∷◌}
+use Rattle.std.specs.Prelude.{ℕ, ◌+◌, ◌==◌, ◌||◌, not, Bool, if◌then◌else◌, List, [], ◌∷◌, take}
 use Rattle.x7_jtag.specs.declared.token.Token.{Token}
 use Rattle.x7_jtag.specs.declared.token.Token.TheVariants as token
 
@@ -57,9 +57,14 @@ abbrev pub pieces : ℕ → List ℕ → List Piece
 pieces line [] = []
 pieces line (c ∷ cs) = if is_word_byte c then joined line c cs (pieces (line_after c line) cs) else marked line c (pieces (line_after c line) cs)
 
--- a token as a mark
-abbrev pub mark_of : Token → Mark
-mark_of (token.Word bytes) = Word bytes.now
-mark_of token.Open = Open
-mark_of token.Close = Close
-mark_of token.End = End
+-- a token at the front of a text as a mark
+abbrev pub mark_of : Token → List ℕ → Mark
+mark_of (token.Word n) text = Word (take n text)
+mark_of token.Open text = Open
+mark_of token.Close text = Close
+mark_of token.End text = End
+
+-- how many bytes it has
+abbrev pub size_of : Token → ℕ
+size_of (token.Word n) = n
+size_of _ = 1

@@ -6,20 +6,20 @@ ghost use Rattle.x7_jtag.specs.Bits.{bit_of, bits_from, bits_of, byte_bits, byte
 use crate::piece::Piece;
 use std::marker::Model;
 
-/// A number of bits, lowest first. It keeps only the hexadecimal digits that were given.
+/// A number of bits, lowest first. They are lent as the hexadecimal digits that were given.
 #[derive(Debug, Drop)]
-pub struct Bits {
+pub struct Bits<'t> {
     count: u32,
-    digits: Vec<u8>,
+    digits: &'t [u8],
 }
 
-impl Model for Bits {
+impl<'t> Model for Bits<'t> {
     ghost use Rattle.std.specs.Prelude.{List, Bool};
     ghost use Rattle.x7_jtag.specs.Bits.{bits_of};
 
     ghost Value = { List Bool };
 
-    ghost view = { λ b. bits_of b.count b.digits.items };
+    ghost view = { λ b. bits_of b.count b.digits.now };
 }
 
 /// The number of a hexadecimal digit.
@@ -98,10 +98,10 @@ fn bytes_of(digits: &[u8], count: u32, from: u32) -> Piece
     piece
 }
 
-impl Bits {
+impl<'t> Bits<'t> {
     /// So many bits of digits.
-    pub(crate) fn new(count: u32, digits: Vec<u8>) -> Bits
-        ensures { result ≡ bits_of count digits.items }
+    pub(crate) fn new(count: u32, digits: &'t [u8]) -> Bits<'t>
+        ensures { result ≡ bits_of count digits.now }
     {
         Bits { count, digits }
     }
@@ -120,7 +120,7 @@ impl Bits {
         if i >= self.count {
             return None;
         }
-        Some(bit_in(&self.digits, i))
+        Some(bit_in(self.digits, i))
     }
 
     /// The bytes of the bits from this one on, a multiple of eight: those that end before the last bit, and at most a piece.
@@ -131,6 +131,6 @@ impl Bits {
         ensures inside { from + 8 * length result < length self.now }
         ensures bits { bytes_bits result ≡ take (8 * length result) (drop from self.now) }
     {
-        bytes_of(&self.digits, self.count, from)
+        bytes_of(self.digits, self.count, from)
     }
 }

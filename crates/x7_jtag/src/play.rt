@@ -73,7 +73,7 @@ fn to_shift(tap: &mut Tap, device: &mut Device, ir: bool)
 }
 
 /// Bit i, and 0 past the last.
-fn bit_of(bits: &Bits, i: u32) -> bool
+fn bit_of(bits: &Bits<'_>, i: u32) -> bool
     ensures { result ≡ bit_at bits.now i }
 {
     match bits.bit(i) {
@@ -83,7 +83,7 @@ fn bit_of(bits: &Bits, i: u32) -> bool
 }
 
 /// Whether bit i counts.
-fn counts(mask: &Option<Bits>, i: u32) -> bool
+fn counts(mask: &Option<Bits<'_>>, i: u32) -> bool
     ensures { result ≡ counts_at mask.now i }
 {
     match mask {
@@ -99,7 +99,7 @@ fn are_apart(wanted: bool, shown: bool) -> bool
 }
 
 /// Whether TDO differs at bit i from what is wanted.
-fn differs(tdo: &Option<Bits>, mask: &Option<Bits>, i: u32, shown: bool) -> bool
+fn differs(tdo: &Option<Bits<'_>>, mask: &Option<Bits<'_>>, i: u32, shown: bool) -> bool
     ensures { result ≡ is_apart tdo.now mask.now i shown }
 {
     match tdo {
@@ -121,7 +121,7 @@ fn first_of(found: Option<u32>, differs: bool, i: u32) -> Option<u32>
 
 /// The clocks of the first bits of a scan, byte by byte, as many whole bytes as come before the last bit, where the device
 /// takes them and no bit is wanted. Says how many bits.
-fn shift_bytes(tap: &mut Tap, device: &mut Device, tdi: &Bits, tdo: &Option<Bits>) -> u32
+fn shift_bytes(tap: &mut Tap, device: &mut Device, tdi: &Bits<'_>, tdo: &Option<Bits<'_>>) -> u32
     requires { Ready tap.old device.old (2 ^ 32) }
     ensures within { result ≤ length tdi.now }
     ensures stands { (part : PartData) (cs : List Clock) → TapStandsFor part tap.old device.old cs → TapStandsFor part tap.new device.new (cs ++ take result (shift_clocks tdi.now)) }
@@ -149,9 +149,9 @@ fn shift_bytes(tap: &mut Tap, device: &mut Device, tdi: &Bits, tdo: &Option<Bits
 fn shift_from(
     tap: &mut Tap,
     device: &mut Device,
-    tdi: &Bits,
-    tdo: &Option<Bits>,
-    mask: &Option<Bits>,
+    tdi: &Bits<'_>,
+    tdo: &Option<Bits<'_>>,
+    mask: &Option<Bits<'_>>,
     first: u32,
 ) -> Option<u32>
     requires ready { Ready tap.old device.old (2 ^ 32 - first) }
@@ -174,9 +174,9 @@ fn shift_from(
 fn shift(
     tap: &mut Tap,
     device: &mut Device,
-    tdi: &Bits,
-    tdo: &Option<Bits>,
-    mask: &Option<Bits>,
+    tdi: &Bits<'_>,
+    tdo: &Option<Bits<'_>>,
+    mask: &Option<Bits<'_>>,
 ) -> Option<u32>
     requires { Ready tap.old device.old (2 ^ 32) }
     ensures stands { (part : PartData) (cs : List Clock) → TapStandsFor part tap.old device.old cs → TapStandsFor part tap.new device.new (cs ++ shift_clocks tdi.now) }
@@ -192,9 +192,9 @@ fn scan(
     tap: &mut Tap,
     device: &mut Device,
     ir: bool,
-    tdi: &Bits,
-    tdo: &Option<Bits>,
-    mask: &Option<Bits>,
+    tdi: &Bits<'_>,
+    tdo: &Option<Bits<'_>>,
+    mask: &Option<Bits<'_>>,
 ) -> Option<u32>
     requires { Ready tap.old device.old (2 ^ 33) }
     ensures stands { (part : PartData) (cs : List Clock) → TapStandsFor part tap.old device.old cs
@@ -211,7 +211,7 @@ fn scan(
 }
 
 /// The clocks of a statement, and the least bit at which TDO differs from what is wanted.
-fn play_statement(statement: &Statement, tap: &mut Tap, device: &mut Device) -> Option<u32>
+fn play_statement(statement: &Statement<'_>, tap: &mut Tap, device: &mut Device) -> Option<u32>
     requires { Ready tap.old device.old (2 ^ 33) }
     ensures stands { (part : PartData) (cs : List Clock) → TapStandsFor part tap.old device.old cs
         → TapStandsFor part tap.new device.new (cs ++ clocks_of (port_after part cs).state statement.now) }
@@ -247,7 +247,7 @@ fn play_at(svf: &Svf, i: usize, tap: &mut Tap, device: &mut Device) -> Option<u3
         → result ≡ difference part (port_after part cs) x }
 {
     match svf.statement(i) {
-        Some(statement) => play_statement(statement, tap, device),
+        Some(statement) => play_statement(&statement, tap, device),
         None => None,
     }
 }

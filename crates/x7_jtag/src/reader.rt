@@ -1,62 +1,30 @@
 //! One statement of a text.
-ghost use Rattle.std.specs.Prelude.{◌≡◌, ◌<◌, ◌≤◌, ◌+◌, ◌*◌, ◌^◌, ◌∷◌, [], ℕ, List, true, false, length, IfOk, MatchOption, Option, Some, None};
+ghost use Rattle.std.specs.Prelude.{◌≡◌, ◌<◌, ◌≤◌, ◌+◌, ◌*◌, ◌^◌, ◌∷◌, [], ℕ, Bool, List, true, false, length, drop, take, IfSome, Option, Some, None};
 ghost use Rattle.std.specs.List.{list_all};
-ghost use Rattle.x7_jtag.specs.Fields.{all_fit, bits_option as bits_if, digit_width, fits, scan_by, scan_of, width};
-ghost use Rattle.x7_jtag.specs.Pieces.{mark_of, pieces};
-ghost use Rattle.x7_jtag.specs.Scanned.{fields_of, items_of};
-ghost use Rattle.x7_jtag.specs.Statements.{statement_by};
+ghost use Rattle.x7_jtag.specs.Fields.{all_fit, digit_width, fits, scan_by, scan_if, scan_of, width};
+ghost use Rattle.x7_jtag.specs.Pieces.{mark_of, pieces, size_of};
+ghost use Rattle.x7_jtag.specs.Source.{pieces_left};
+ghost use Rattle.x7_jtag.specs.Spans.{AreWithin, IsFront, digits_if, end_if, fields_of};
+ghost use Rattle.x7_jtag.specs.Statements.{other_statement, statement_by};
+ghost use Rattle.x7_jtag.specs.Stored.{IsStoredWithin, asked_if, stored_if};
 ghost use Rattle.x7_jtag.specs.Svf.{pieces_after, statement_marks};
-ghost use Rattle.x7_jtag.specs.Took.{words_as};
 ghost use Rattle.x7_jtag.specs.Words.{is_free_mark, statement_if_words as if_words, word_list, words_of};
 
-use crate::bits::{Bits, value_of};
+use crate::bits::value_of;
 use crate::fields::{Given, fields};
-use crate::statement::Statement;
-use crate::token::{Token, next, next_in};
+use crate::source::Source;
+use crate::span::Span;
+use crate::stored::{Action, Stored, StoredScan};
+use crate::token::{Token, next_in, next_within};
 use crate::words::{is_any_word, is_keyword, number, statement_of_words};
-use std::alloc::{AllocError, Global};
 
-/// The text behind the first `;`, and the line there.
-pub(crate) fn behind_end(text: &[u8], line: u64) -> Option<(&[u8], u64)>
-    requires { line + length text.now < 2 ^ 63 }
-    ensures { MatchOption result (pieces_after (pieces line text.now) ≡ None)
-        (λ p. (pieces_after (pieces line text.now) ≡ Some (pieces p.1 p.0.now)) × (length p.0.now < length text.now) × (p.1 + length p.0.now ≤ line + length text.now)) }
-{
-    let mut rest = text;
-    let mut here = line;
-    while let Some((token, at, after)) = next(rest, here) {
-        here = at;
-        rest = after;
-        match token {
-            Token::End => return Some((rest, here)),
-            _ => (),
-        }
-    }
-    None
-}
-
-/// The words of a statement from here on, where it has words alone.
-fn words<'t>(alloc: Global, text: &'t [u8]) -> Result<Option<Vec<&'t [u8]>>, AllocError>
-    ensures { IfOk result (λ r. words_as r ≡ words_of (statement_marks text.now)) }
-{
-    let mut out = Vec::new(alloc);
-    let mut rest = text;
-    while let Some((token, after)) = next_in(rest) {
-        match token {
-            Token::Word(word) => out.push(word)?,
-            _ => return Ok(None),
-        }
-        rest = after;
-    }
-    Ok(Some(out))
-}
-
-/// Whether a token may stand among any words.
-fn is_free_token(token: &Token<'_>) -> bool
-    ensures { result ≡ is_free_mark (mark_of token.now) }
+/// Whether a token at the front of a text may stand among any words.
+fn is_free_token(token: Token, text: &[u8]) -> bool
+    requires { size_of token ≤ length text.now }
+    ensures { result ≡ is_free_mark (mark_of token text.now) }
 {
     match token {
-        Token::Word(word) => is_any_word(word),
+        Token::Word(length) => is_any_word(&text[..length]),
         _ => true,
     }
 }
@@ -65,22 +33,47 @@ fn are_free(text: &[u8]) -> bool
     ensures { result ≡ list_all is_free_mark (statement_marks text.now) }
 {
     let mut rest = text;
-    while let Some((token, after)) = next_in(rest) {
-        if !is_free_token(&token) {
+    while let Some((token, here)) = next_in(rest) {
+        if !is_free_token(token, here) {
             return false;
         }
-        rest = after;
+        rest = &here[token.size()..];
     }
     true
 }
 
-/// The statement of a keyword and the words after it.
-fn word_statement(alloc: Global, key: &[u8], text: &[u8]) -> Result<Option<Statement>, AllocError>
-    ensures { IfOk result (λ r. r ≡ if_words key.now (words_of (statement_marks text.now))) }
+/// What a keyword and the words after it ask, of which no statement has more than four.
+fn words_action(key: &[u8], text: &[u8]) -> Option<Action>
+    ensures { asked_if result ≡ if_words key.now (words_of (statement_marks text.now)) }
 {
-    match words(alloc, text)? {
-        Some(words) => Ok(statement_of_words(key, &words)),
-        None => Ok(None),
+    let mut words: [&[u8]; 4] = [&[]; 4];
+    let mut count = 0;
+    let mut rest = text;
+    while let Some((token, here)) = next_in(rest) {
+        let Token::Word(length) = token else {
+            return None;
+        };
+        if count == 4 {
+            return None;
+        }
+        words[count] = &here[..length];
+        count += 1;
+        rest = &here[length..];
+    }
+    statement_of_words(key, &words[..count])
+}
+
+/// What a statement asks that is no scan, by its keyword and the text after it.
+fn action_of(key: &[u8], text: &[u8]) -> Option<Action>
+    ensures { asked_if result ≡ other_statement key.now (statement_marks text.now) }
+{
+    if !is_keyword(key, b"FREQUENCY") {
+        return words_action(key, text);
+    }
+    if are_free(text) {
+        Some(Action::Nothing)
+    } else {
+        None
     }
 }
 
@@ -123,101 +116,95 @@ fn width_of(digits: &[u8]) -> u128
     0
 }
 
-fn does_fit(count: u32, digits: &Option<Vec<u8>>) -> bool
-    ensures { result ≡ fits count (items_of digits.now) }
+fn does_fit(kept: &[u8], count: u32, digits: Option<Span>) -> bool
+    requires { end_if digits ≤ length kept.now }
+    ensures { result ≡ fits count (digits_if kept.now digits) }
 {
     match digits {
-        Some(digits) => width_of(digits) <= u128::from(count),
+        Some(digits) => width_of(digits.of(kept)) <= u128::from(count),
         None => true,
     }
 }
 
-fn do_all_fit(count: u32, given: &Given) -> bool
-    ensures { result ≡ all_fit count (fields_of given.now) }
+fn do_all_fit(kept: &[u8], count: u32, given: Given) -> bool
+    requires { AreWithin (length kept.now) given }
+    ensures { result ≡ all_fit count (fields_of kept.now given) }
 {
-    does_fit(count, &given.tdi)
-        && does_fit(count, &given.tdo)
-        && does_fit(count, &given.mask)
-        && does_fit(count, &given.smask)
+    does_fit(kept, count, given.tdi)
+        && does_fit(kept, count, given.tdo)
+        && does_fit(kept, count, given.mask)
+        && does_fit(kept, count, given.smask)
 }
 
-/// The bits of a field that may be left out.
-fn bits_option(count: u32, digits: Option<Vec<u8>>) -> Option<Bits>
-    ensures { result ≡ bits_if count (items_of digits) }
+/// The scan of so many bits with these fields, whose digits are kept.
+fn scan_of_fields(kept: &[u8], ir: bool, count: u32, given: Given) -> Option<Stored>
+    requires { AreWithin (length kept.now) given }
+    ensures is { stored_if kept.now result ≡ scan_by ir count (Some (fields_of kept.now given)) }
+    ensures within { IfSome result (IsStoredWithin (length kept.now)) }
 {
-    match digits {
-        Some(digits) => Some(Bits::new(count, digits)),
-        None => None,
-    }
-}
-
-/// The scan of so many bits with these fields.
-fn scan_of_fields(ir: bool, count: u32, given: Given) -> Option<Statement>
-    ensures { result ≡ scan_by ir count (Some (fields_of given)) }
-{
-    if !do_all_fit(count, &given) {
+    if !do_all_fit(kept, count, given) {
         return None;
     }
-    let Given {
+    let tdi = given.tdi?;
+    Some(Stored::Scan(StoredScan {
+        ir,
+        count,
         tdi,
-        tdo,
-        mask,
-        smask: _,
-    } = given;
-    let tdo = bits_option(count, tdo);
-    let mask = bits_option(count, mask);
-    match tdi {
-        Some(digits) => Some(Statement::Scan {
-            ir,
-            tdi: Bits::new(count, digits),
-            tdo,
-            mask,
-        }),
-        None => None,
-    }
+        tdo: given.tdo,
+        mask: given.mask,
+    }))
 }
 
-/// The scan of what stands after its keyword.
-fn scan(alloc: Global, ir: bool, text: &[u8]) -> Result<Option<Statement>, AllocError>
-    ensures { IfOk result (λ r. r ≡ scan_of ir (statement_marks text.now)) }
+/// How many bits the scan has whose keyword was passed.
+fn scan_count(source: &mut Source) -> Option<u32>
+    ensures is { (ir : Bool) → scan_of ir (statement_marks source.old.rest) ≡ scan_if ir result (statement_marks source.new.rest) }
+    ensures after { IfSome result (λ n. pieces_after (pieces_left source.old) ≡ pieces_after (pieces_left source.new)) }
+    ensures kept { source.new.kept ≡ source.old.kept }
+    ensures passed { length source.new.rest ≤ length source.old.rest }
 {
-    let Some((first, after)) = next_in(text) else {
-        return Ok(None);
+    let Token::Word(length) = next_within(source)? else {
+        return None;
     };
-    let Token::Word(digits) = first else {
-        return Ok(None);
-    };
-    let Some(count) = number(digits, 536_870_912) else {
-        return Ok(None);
-    };
+    let count = number(&source.rest()[..length], 536_870_912)?;
+    source.skip(length);
     if count == 0 {
-        return Ok(None);
+        return None;
     }
-    match fields(alloc, after)? {
-        Some(given) => Ok(scan_of_fields(ir, count, given)),
-        None => Ok(None),
-    }
+    Some(count)
 }
 
-/// The statement of a keyword and of what stands after it.
-pub(crate) fn statement_of_key(
-    alloc: Global,
-    key: &[u8],
-    text: &[u8],
-) -> Result<Option<Statement>, AllocError>
-    ensures { IfOk result (λ r. r ≡ statement_by key.now (statement_marks text.now)) }
+/// The scan whose keyword was passed. Its digits are kept.
+fn scan(source: &mut Source, ir: bool) -> Option<Stored>
+    ensures is { stored_if source.new.kept result ≡ scan_of ir (statement_marks source.old.rest) }
+    ensures within { IfSome result (IsStoredWithin (length source.new.kept)) }
+    ensures front { IsFront source.old.kept source.new.kept }
+    ensures after { IfSome result (λ s. pieces_after (pieces_left source.old) ≡ pieces_after (pieces_left source.new)) }
+    ensures passed { IfSome result (λ s. length source.new.rest ≤ length source.old.rest) }
 {
+    let count = scan_count(source)?;
+    let given = fields(source)?;
+    scan_of_fields(source.kept(), ir, count, given)
+}
+
+/// The statement whose keyword, of so many bytes, comes next. The digits of a scan are kept.
+pub(crate) fn statement(source: &mut Source, size: usize) -> Option<Stored>
+    requires { size ≤ length source.old.rest }
+    ensures is { stored_if source.new.kept result ≡ statement_by (take size source.old.rest) (statement_marks (drop size source.old.rest)) }
+    ensures within { IfSome result (IsStoredWithin (length source.new.kept)) }
+    ensures front { IsFront source.old.kept source.new.kept }
+    ensures after { IfSome result (λ s. pieces_after (pieces source.old.line (drop size source.old.rest)) ≡ pieces_after (pieces_left source.new)) }
+    ensures passed { IfSome result (λ s. length source.new.rest + size ≤ length source.old.rest) }
+{
+    let (key, after) = source.rest().split_at(size);
     if is_keyword(key, b"SIR") {
-        return scan(alloc, true, text);
+        source.skip(size);
+        return scan(source, true);
     }
     if is_keyword(key, b"SDR") {
-        return scan(alloc, false, text);
+        source.skip(size);
+        return scan(source, false);
     }
-    if is_keyword(key, b"FREQUENCY") {
-        if are_free(text) {
-            return Ok(Some(Statement::Nothing));
-        }
-        return Ok(None);
-    }
-    word_statement(alloc, key, text)
+    let action = action_of(key, after)?;
+    source.skip(size);
+    Some(Stored::Words(action))
 }

@@ -1,33 +1,39 @@
 //! The statements of a text.
-ghost use Rattle.std.specs.Prelude.{◌≡◌, ◌<◌, ◌≤◌, ◌+◌, ◌*◌, ◌^◌, ◌∷◌, [], ℕ, List, length, MatchResult, MatchOption, Some, None, IfOk, IfErr, Ok, Err, ◌⊎◌, vec_len};
+ghost use Rattle.std.specs.Prelude.{◌≡◌, ◌<◌, ◌≤◌, ◌+◌, ◌*◌, ◌^◌, ◌∷◌, [], ℕ, List, length, MatchResult, Some, None, IfOk, IfErr, Ok, Err, ◌⊎◌, vec_len};
 ghost use Rattle.std.specs.List.{slice_get};
-ghost use Rattle.x7_jtag.specs.Pieces.{pieces};
+ghost use Rattle.x7_jtag.specs.Source.{pieces_left};
+ghost use Rattle.x7_jtag.specs.Stored.{AreStoredWithin, statements_in};
 ghost use Rattle.x7_jtag.specs.Svf.{BeginWith, IsFault, IsSvfOf};
 ghost use Rattle.x7_jtag.specs.declared.fault.SvfFault.{SvfFault as FaultData};
 
 use crate::comment::clean;
 use crate::fault::SvfFault;
-use crate::reader::{behind_end, statement_of_key};
+use crate::reader::statement;
+use crate::source::Source;
 use crate::statement::Statement;
-use crate::token::{Token, next};
+use crate::stored::{Stored, statement_of};
+use crate::token::{Token, next, pass_end};
 use std::alloc::Global;
 use std::marker::Model;
 
 /// The statements of a text, fewer than 2^29.
 #[derive(Debug, Drop)]
 pub struct Svf {
-    statements: Vec<Statement>,
+    statements: Vec<Stored>,
+    // the digits of their scans
+    digits: Vec<u8>,
 }
 
 impl Model for Svf {
     ghost use Rattle.std.specs.Prelude.{◌<◌, ◌^◌, List, length};
+    ghost use Rattle.x7_jtag.specs.Stored.{AreStoredWithin, statements_in};
     ghost use Rattle.x7_jtag.specs.declared.statement.Statement.{Statement};
 
     ghost Value = { List Statement };
 
-    ghost view = { λ s. s.statements.items };
+    ghost view = { λ s. statements_in s.digits.items s.statements.items };
 
-    ghost invariant = { λ s. length s.statements.items < 2 ^ 29 };
+    ghost invariant = { λ s. (length s.statements.items < 2 ^ 29) × AreStoredWithin (length s.digits.items) s.statements.items };
 }
 
 impl Svf {
@@ -40,46 +46,44 @@ impl Svf {
     }
 
     /// Statement i, from 0, and none exactly past the last.
-    pub fn statement(&self, i: usize) -> Option<&Statement>
-        ensures { MatchOption result (slice_get self.now i ≡ None) (λ s. slice_get self.now i ≡ Some s.now) }
+    pub fn statement(&self, i: usize) -> Option<Statement<'_>>
+        ensures { result ≡ slice_get self.now i }
     {
-        self.statements.get(i)
+        match self.statements.get(i) {
+            Some(stored) => Some(statement_of(stored, &self.digits)),
+            None => None,
+        }
     }
 }
 
-/// The statements of a text without comments.
-fn statements(alloc: Global, text: &[u8]) -> Result<Vec<Statement>, SvfFault>
-    requires { length text.now ≤ 2 ^ 29 }
-    ensures says { MatchResult result (λ s. BeginWith (pieces 1 text.now) s.items []) (λ fault. IsFault (pieces 1 text.now) fault) }
-    ensures few { MatchResult result (λ s. 2 * length s.items ≤ length text.now) (λ fault. Unit {0}) }
+/// The statements of a text without comments. The digits of their scans are kept.
+fn statements(alloc: Global, source: &mut Source) -> Result<Vec<Stored>, SvfFault>
+    requires none_kept { source.old.kept ≡ [] }
+    requires few { length source.old.rest ≤ 2 ^ 29 }
+    ensures says { MatchResult result (λ s. BeginWith (pieces_left source.old) (statements_in source.new.kept s.items) []) (λ fault. IsFault (pieces_left source.old) fault) }
+    ensures few { IfOk result (λ s. 2 * length s.items ≤ length source.old.rest) }
+    ensures within { IfOk result (λ s. AreStoredWithin (length source.new.kept) s.items) }
 {
     let mut out = Vec::new(alloc);
-    let mut rest = text;
-    let mut line: u64 = 1;
-    while let Some((first, here, after)) = next(rest, line) {
-        let Token::Word(key) = first else {
-            return Err(SvfFault::Line(here));
+    while let Some(token) = next(source) {
+        let line = source.line();
+        let Token::Word(size) = token else {
+            return Err(SvfFault::Line(line));
         };
-        let Some((behind, line_behind)) = behind_end(after, here) else {
-            return Err(SvfFault::Line(here));
+        let Some(one) = statement(source, size) else {
+            return Err(SvfFault::Line(line));
         };
-        let Ok(read) = statement_of_key(alloc, key, after) else {
-            return Err(SvfFault::NoMemory);
-        };
-        let Some(one) = read else {
-            return Err(SvfFault::Line(here));
-        };
+        if !pass_end(source) {
+            return Err(SvfFault::Line(line));
+        }
         if out.push(one).is_err() {
             return Err(SvfFault::NoMemory);
         }
-        line = line_behind;
-        rest = behind;
     }
     Ok(out)
 }
 
-/// The same of a text that is given up for them: beside it they take the digits of its scans alone. A text has at most 2^29
-/// bytes.
+/// The same of a text that is given up for them: the digits of its scans stay in its own bytes. A text has at most 2^29 bytes.
 pub fn svf_from(alloc: Global, text: Vec<u8>) -> Result<Svf, SvfFault>
     requires { vec_len text ≤ 2 ^ 29 }
     ensures statements { IfOk result (λ svf. IsSvfOf text.items (Ok svf)) }
@@ -87,8 +91,12 @@ pub fn svf_from(alloc: Global, text: Vec<u8>) -> Result<Svf, SvfFault>
 {
     let mut text = text;
     clean(&mut text);
-    match statements(alloc, &text) {
-        Ok(statements) => Ok(Svf { statements }),
+    let mut source = Source::new(text);
+    match statements(alloc, &mut source) {
+        Ok(statements) => Ok(Svf {
+            statements,
+            digits: source.into_kept(),
+        }),
         Err(fault) => Err(fault),
     }
 }

@@ -1,15 +1,30 @@
 //! The next word, bracket or end of a text without comments.
-ghost use Rattle.std.specs.Prelude.{◌≡◌, ◌+◌, ◌<◌, ◌≤◌, ◌^◌, ◌∷◌, [], ℕ, List, true, false, length, MatchOption, slice_index, drop, take};
-ghost use Rattle.x7_jtag.specs.Pieces.{byte_mark, is_blank, is_word_byte, line_after, mark_of, Piece, pieces, Word};
-ghost use Rattle.x7_jtag.specs.Svf.{statement_marks};
+ghost use Rattle.std.specs.Prelude.{◌≡◌, ◌+◌, ◌<◌, ◌≤◌, ◌∷◌, [], ℕ, List, true, false, length, MatchOption, IfSome, IfNone, Some, None, slice_index, drop, take};
+ghost use Rattle.x7_jtag.specs.Pieces.{byte_mark, is_blank, is_word_byte, mark_of, Piece, pieces, size_of, Word};
+ghost use Rattle.x7_jtag.specs.Source.{pieces_left};
+ghost use Rattle.x7_jtag.specs.Svf.{pieces_after, statement_marks};
 
-/// A word, a bracket or the end of a statement.
+use crate::source::Source;
+
+/// A word, of so many bytes, a bracket or the end of a statement.
 #[derive(Clone, Copy, Debug)]
-pub(crate) enum Token<'t> {
-    Word(&'t [u8]),
+pub(crate) enum Token {
+    Word(usize),
     Open,
     Close,
     End,
+}
+
+impl Token {
+    /// How many bytes it has.
+    pub(crate) fn size(self) -> usize
+        ensures { result ≡ size_of self }
+    {
+        match self {
+            Token::Word(length) => length,
+            _ => 1,
+        }
+    }
 }
 
 fn is_in_word(byte: u8) -> bool
@@ -39,47 +54,9 @@ fn is_between(byte: u8) -> bool
     byte == b' ' || byte == b'\t' || byte == b'\n'
 }
 
-fn next_line(byte: u8, line: u64) -> u64
-    requires { line < 2 ^ 63 }
-    ensures { result ≡ line_after byte line }
-{
-    if byte == b'\n' { line + 1 } else { line }
-}
-
-/// The text after the blanks that it begins with, and the line there.
-fn skipped(text: &[u8], line: u64) -> (&[u8], u64)
-    requires { line + length text.now < 2 ^ 63 }
-    ensures same { pieces line text.now ≡ pieces result.1 result.0.now }
-    ensures within { length result.0.now ≤ length text.now }
-    ensures lines { result.1 + length result.0.now ≤ line + length text.now }
-    ensures stop { 0 < length result.0.now → is_blank (slice_index result.0.now 0) ≡ false }
-{
-    let mut rest = text;
-    let mut here = line;
-    while !rest.is_empty() && is_between(rest[0]) {
-        here = next_line(rest[0], here);
-        rest = &rest[1..];
-    }
-    (rest, here)
-}
-
-/// The first piece of a text that begins with no blank, and the text after it.
-fn first(text: &[u8]) -> (Token<'_>, &[u8])
-    requires some { 0 < length text.now }
-    requires begins { is_blank (slice_index text.now 0) ≡ false }
-    ensures is { (line : ℕ) → pieces line text.now ≡ record { line = line; mark = mark_of result.0 } ∷ pieces line result.1.now }
-    ensures within { length result.1.now < length text.now }
-{
-    let end = word_length(text);
-    if end > 0 {
-        return (Token::Word(&text[..end]), &text[end..]);
-    }
-    let token = token_of(text[0]);
-    (token, &text[1..])
-}
-
-fn token_of(byte: u8) -> Token<'static>
-    ensures { mark_of result ≡ byte_mark byte }
+fn token_of(byte: u8) -> Token
+    ensures mark { (text : List ℕ) → mark_of result text ≡ byte_mark byte }
+    ensures size { size_of result ≡ 1 }
 {
     if byte == b'(' {
         Token::Open
@@ -90,18 +67,85 @@ fn token_of(byte: u8) -> Token<'static>
     }
 }
 
-/// The next piece, with its line and the text after it.
-pub(crate) fn next(text: &[u8], line: u64) -> Option<(Token<'_>, u64, &[u8])>
-    requires { line + length text.now < 2 ^ 63 }
-    ensures { MatchOption result (pieces line text.now ≡ [])
-        (λ p. (pieces line text.now ≡ record { line = p.1; mark = mark_of p.0 } ∷ pieces p.1 p.2.now) × (length p.2.now < length text.now) × (p.1 + length p.2.now ≤ line + length text.now)) }
+/// The first piece of a text that begins with no blank.
+fn first(text: &[u8]) -> Token
+    requires some { 0 < length text.now }
+    requires begins { is_blank (slice_index text.now 0) ≡ false }
+    ensures is { (line : ℕ) → pieces line text.now ≡ record { line = line; mark = mark_of result text.now } ∷ pieces line (drop (size_of result) text.now) }
+    ensures some { 0 < size_of result }
+    ensures within { size_of result ≤ length text.now }
 {
-    let (rest, here) = skipped(text, line);
+    let end = word_length(text);
+    if end > 0 {
+        return Token::Word(end);
+    }
+    token_of(text[0])
+}
+
+/// Passes the blanks that come next.
+fn skip_blanks(source: &mut Source)
+    ensures same { pieces_left source.old ≡ pieces_left source.new }
+    ensures kept { source.new.kept ≡ source.old.kept }
+    ensures within { length source.new.rest ≤ length source.old.rest }
+    ensures stop { 0 < length source.new.rest → is_blank (slice_index source.new.rest 0) ≡ false }
+{
+    while !source.rest().is_empty() && is_between(source.rest()[0]) {
+        source.pass();
+    }
+}
+
+/// The piece that comes next, behind blanks, which are passed; none where the text ends.
+pub(crate) fn next(source: &mut Source) -> Option<Token>
+    ensures is { MatchOption result (pieces_left source.old ≡ [])
+        (λ t. pieces_left source.old ≡ record { line = source.new.line; mark = mark_of t source.new.rest } ∷ pieces source.new.line (drop (size_of t) source.new.rest)) }
+    ensures same { pieces_left source.old ≡ pieces_left source.new }
+    ensures some { IfSome result (λ t. 0 < size_of t) }
+    ensures within { IfSome result (λ t. size_of t ≤ length source.new.rest) }
+    ensures kept { source.new.kept ≡ source.old.kept }
+    ensures passed { length source.new.rest ≤ length source.old.rest }
+{
+    skip_blanks(source);
+    let rest = source.rest();
     if rest.is_empty() {
         return None;
     }
-    let (token, after) = first(rest);
-    Some((token, here, after))
+    Some(first(rest))
+}
+
+/// The word or bracket of a statement that comes next, behind blanks, which are passed; none where the statement, or the text,
+/// ends.
+pub(crate) fn next_within(source: &mut Source) -> Option<Token>
+    ensures is { MatchOption result (statement_marks source.old.rest ≡ [])
+        (λ t. statement_marks source.old.rest ≡ mark_of t source.new.rest ∷ statement_marks (drop (size_of t) source.new.rest)) }
+    ensures ends { IfNone result (pieces_after (pieces_left source.old) ≡ pieces_after (pieces_left source.new)) }
+    ensures goes_on { IfSome result (λ t. pieces_after (pieces_left source.old) ≡ pieces_after (pieces source.new.line (drop (size_of t) source.new.rest))) }
+    ensures some { IfSome result (λ t. 0 < size_of t) }
+    ensures within { IfSome result (λ t. size_of t ≤ length source.new.rest) }
+    ensures kept { source.new.kept ≡ source.old.kept }
+    ensures passed { length source.new.rest ≤ length source.old.rest }
+{
+    let token = next(source)?;
+    match token {
+        Token::End => None,
+        _ => Some(token),
+    }
+}
+
+/// Passes the rest of a statement with its `;`; false where there is none.
+pub(crate) fn pass_end(source: &mut Source) -> bool
+    ensures found { result ≡ true → pieces_after (pieces_left source.old) ≡ Some (pieces_left source.new) }
+    ensures none { result ≡ false → pieces_after (pieces_left source.old) ≡ None }
+    ensures kept { source.new.kept ≡ source.old.kept }
+    ensures passed { result ≡ true → length source.new.rest + 1 ≤ length source.old.rest }
+{
+    while let Some(token) = next(source) {
+        source.skip(token.size());
+        match token {
+            Token::End => return true,
+            _ => (),
+        }
+    }
+    false
 }
 
 /// The text after the blanks that it begins with.
@@ -117,18 +161,20 @@ fn after_blanks(text: &[u8]) -> &[u8]
     rest
 }
 
-/// The next word or bracket of a statement, and the text after it; none where the statement, or the text, ends.
-pub(crate) fn next_in(text: &[u8]) -> Option<(Token<'_>, &[u8])>
-    ensures { MatchOption result (statement_marks text.now ≡ [])
-        (λ p. (statement_marks text.now ≡ mark_of p.0 ∷ statement_marks p.1.now) × (length p.1.now < length text.now)) }
+/// The next word or bracket of a statement, and the text from there on; none where the statement, or the text, ends.
+pub(crate) fn next_in(text: &[u8]) -> Option<(Token, &[u8])>
+    ensures is { MatchOption result (statement_marks text.now ≡ [])
+        (λ p. statement_marks text.now ≡ mark_of p.0 p.1.now ∷ statement_marks (drop (size_of p.0) p.1.now)) }
+    ensures some { IfSome result (λ p. 0 < size_of p.0) }
+    ensures within { IfSome result (λ p. size_of p.0 ≤ length p.1.now) }
+    ensures passed { IfSome result (λ p. length p.1.now ≤ length text.now) }
 {
     let rest = after_blanks(text);
     if rest.is_empty() {
         return None;
     }
-    let (token, after) = first(rest);
-    match token {
+    match first(rest) {
         Token::End => None,
-        _ => Some((token, after)),
+        token => Some((token, rest)),
     }
 }

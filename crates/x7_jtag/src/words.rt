@@ -1,10 +1,11 @@
 //! Statements of words alone.
 ghost use Rattle.std.specs.Prelude.{◌≡◌, ◌≤◌, ◌<◌, ◌&&◌, ◌+◌, ◌^◌, ◌∷◌, [], ℕ, List, true, false, length, map, codes, Option, Some, None, MatchOption};
 ghost use Rattle.x7_jtag.specs.Words.{end_words, is_digit, is_free, is_free_byte, is_key, is_time, is_time_byte, most_clocks, number_from, number_of, reset_words, run_by, run_if as run_clocks, run_words, some_if, state_words, statement_of_words as of_words, word_list, zero_words};
+ghost use Rattle.x7_jtag.specs.Stored.{asked_if};
 ghost use Rattle.x7_jtag.specs.declared.statement.Statement.{Statement as StatementData};
 ghost use Rattle.std.specs.List.{list_all};
 
-use crate::statement::Statement;
+use crate::stored::Action;
 
 pub(crate) fn is_keyword(word: &[u8], key: &[u8]) -> bool
     ensures { result ≡ is_key word.now key.now }
@@ -74,36 +75,36 @@ pub(crate) fn is_any_word(word: &[u8]) -> bool
     )
 }
 
-fn run(digits: &[u8]) -> Option<Statement>
-    ensures { result ≡ run_by (number_of most_clocks digits.now) }
+fn run(digits: &[u8]) -> Option<Action>
+    ensures { asked_if result ≡ run_by (number_of most_clocks digits.now) }
 {
     match number(digits, 16_777_216) {
-        Some(count) => Some(Statement::Run(count)),
+        Some(count) => Some(Action::Run(count)),
         None => None,
     }
 }
 
-fn run_if(test: bool, digits: &[u8]) -> Option<Statement>
-    ensures { result ≡ run_clocks test digits.now }
+fn run_if(test: bool, digits: &[u8]) -> Option<Action>
+    ensures { asked_if result ≡ run_clocks test digits.now }
 {
     if test { run(digits) } else { None }
 }
 
-fn nothing_if(test: bool) -> Option<Statement>
-    ensures { result ≡ some_if test StatementData.Nothing }
+fn nothing_if(test: bool) -> Option<Action>
+    ensures { asked_if result ≡ some_if test StatementData.Nothing }
 {
-    if test { Some(Statement::Nothing) } else { None }
+    if test { Some(Action::Nothing) } else { None }
 }
 
-fn state(words: &[&[u8]]) -> Option<Statement>
-    ensures { result ≡ state_words (word_list words.now) }
+fn state(words: &[&[u8]]) -> Option<Action>
+    ensures { asked_if result ≡ state_words (word_list words.now) }
 {
     match words {
         [word] => {
             if is_keyword(word, b"RESET") {
-                Some(Statement::Reset)
+                Some(Action::Reset)
             } else if is_keyword(word, b"IDLE") {
-                Some(Statement::Idle)
+                Some(Action::Idle)
             } else {
                 None
             }
@@ -124,8 +125,8 @@ fn are_timed_clocks(unit: &[u8], time: &[u8], second: &[u8]) -> bool
     is_keyword(unit, b"TCK") && is_any_time(time) && is_keyword(second, b"SEC")
 }
 
-fn run_of(words: &[&[u8]]) -> Option<Statement>
-    ensures { result ≡ run_words (word_list words.now) }
+fn run_of(words: &[&[u8]]) -> Option<Action>
+    ensures { asked_if result ≡ run_words (word_list words.now) }
 {
     match words {
         [count, unit] => {
@@ -141,8 +142,8 @@ fn run_of(words: &[&[u8]]) -> Option<Statement>
     }
 }
 
-fn end(words: &[&[u8]]) -> Option<Statement>
-    ensures { result ≡ end_words (word_list words.now) }
+fn end(words: &[&[u8]]) -> Option<Action>
+    ensures { asked_if result ≡ end_words (word_list words.now) }
 {
     match words {
         [word] => nothing_if(is_keyword(word, b"IDLE")),
@@ -150,8 +151,8 @@ fn end(words: &[&[u8]]) -> Option<Statement>
     }
 }
 
-fn no_others(words: &[&[u8]]) -> Option<Statement>
-    ensures { result ≡ zero_words (word_list words.now) }
+fn no_others(words: &[&[u8]]) -> Option<Action>
+    ensures { asked_if result ≡ zero_words (word_list words.now) }
 {
     match words {
         [word] => nothing_if(is_keyword(word, b"0")),
@@ -159,8 +160,8 @@ fn no_others(words: &[&[u8]]) -> Option<Statement>
     }
 }
 
-fn reset_line(words: &[&[u8]]) -> Option<Statement>
-    ensures { result ≡ reset_words (word_list words.now) }
+fn reset_line(words: &[&[u8]]) -> Option<Action>
+    ensures { asked_if result ≡ reset_words (word_list words.now) }
 {
     match words {
         [word] => nothing_if(is_any_word(word)),
@@ -169,8 +170,8 @@ fn reset_line(words: &[&[u8]]) -> Option<Statement>
 }
 
 /// The statement of a keyword and the words after it.
-pub(crate) fn statement_of_words(key: &[u8], words: &[&[u8]]) -> Option<Statement>
-    ensures { result ≡ of_words key.now (word_list words.now) }
+pub(crate) fn statement_of_words(key: &[u8], words: &[&[u8]]) -> Option<Action>
+    ensures { asked_if result ≡ of_words key.now (word_list words.now) }
 {
     if is_keyword(key, b"STATE") {
         return state(words);

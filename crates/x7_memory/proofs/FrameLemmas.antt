@@ -2,6 +2,7 @@
 use Rattle.std.proofs.Common.{◌≡◌, ℕ, zero, suc, ◌+◌, ◌-◌, ◌<◌, ◌≤◌, inl, inr, List, [], ◌∷◌, length, get_or, set, eq-eqb, ne_eqb, Some, None, refl, sym, ◌∙◌, ◌==◌, if◌then◌else◌, arith}
 use Rattle.std.specs.Prelude.{Contains}
 use Rattle.std.proofs.lemmas.Bool.Decides.{eqb_tells}
+use Rattle.x7_part.proofs.RowLemmas.{later_larger}
 use Rattle.x7_part.specs.AddressOrder.{Rises, rise}
 use Rattle.x7_memory.specs.Frames.{frame_among}
 
@@ -15,12 +16,6 @@ pub among_behind : (a : ℕ) (rest : List ℕ) (words : List ℕ) (frames : List
 unfolding frame_among
 among_behind a rest words frames far n = rw (ne_eqb far a n) refl
 
--- each address is at least the first
-pub least : (l k : ℕ) (xs : List ℕ) → Rises l xs → k < length xs → l ≤ get_or xs k 0
-least l k [] rises h = absurd (omega arith)
-least l zero (x ∷ xs) (rise _ _ _ le more) h = le
-least l (suc k) (x ∷ xs) (rise _ _ _ le more) h = let ih = least (x + 1) k xs more (omega arith) in omega arith
-
 -- ---- the frame at an address
 
 pub among_found : (l r far : ℕ) (d : List ℕ) (fars : List ℕ) (frames : List (List ℕ)) → Rises l fars → length frames ≡ length fars → r < length fars → get_or fars r 0 ≡ far →
@@ -29,7 +24,7 @@ among_found l r far d [] frames rises same h e = absurd (omega arith)
 among_found l r far d (a ∷ fars) [] rises same h e = absurd (omega arith)
 among_found l zero far d (a ∷ fars) (words ∷ frames) rises same h e = among_here a fars words frames far (sym e)
 among_found l (suc r) far d (a ∷ fars) (words ∷ frames) (rise _ _ _ le more) same h e =
-    let low = least (a + 1) r fars more (omega arith) in
+    let low = later_larger (a + 1) r fars more (omega arith) in
     among_behind a fars words frames far (λ there. absurd (omega arith))
     ∙ among_found (a + 1) r far d fars frames more (omega arith) (omega arith) e
 
@@ -54,7 +49,7 @@ among_set l zero far new a (b ∷ fars) (words ∷ frames) rises same h e =
     ]
 among_set l (suc r) far new a (b ∷ fars) (words ∷ frames) (rise _ _ _ le more) same h e =
     let ih = among_set (b + 1) r far new a fars frames more (omega arith) (omega arith) e in
-    let low = least (b + 1) r fars more (omega arith) in
+    let low = later_larger (b + 1) r fars more (omega arith) in
     elim (eqb_tells a b) [
       | inl y ↦ let n : a ≡ far → ⊥ = λ x. (let y1 = y.1 in absurd (omega arith)) in
           rw (ne_eqb a far n) (among_here b fars words (set frames r new) a y.1 ∙ sym (among_here b fars words frames a y.1))

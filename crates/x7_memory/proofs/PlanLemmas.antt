@@ -27,7 +27,7 @@ pub planned_behind : (row : PlanRow) (rows : List PlanRow) (far : ℕ) → (far 
 unfolding planned
 planned_behind row rows far n = rw (ne_eqb far row.far n) refl
 
-order_tail : (row : PlanRow) (rows : List PlanRow) → AreInOrder (row ∷ rows) → AreInOrder rows
+pub order_tail : (row : PlanRow) (rows : List PlanRow) → AreInOrder (row ∷ rows) → AreInOrder rows
 order_tail row rows order i j d h k = order (suc i) (suc j) d (omega arith) (omega arith)
 
 -- ---- the frame of an address

@@ -39,7 +39,7 @@ more_zeros words i any h before e =
 alike : {X : Type 0} (P : X → Type 0) (n : ℕ) (x : X) → P x → All P (replicate n x)
 alike P n x p k d h = let long : length (replicate n x) ≡ n = length-replicate n x in rw (get_or-replicate n k x d (omega arith)) p
 
-zero_words : (n : ℕ) → AreWords (replicate n 0)
+pub zero_words : (n : ℕ) → AreWords (replicate n 0)
 zero_words zero = tt
 zero_words (suc n) = (omega arith, zero_words n)
 

@@ -53,6 +53,10 @@ pub record IsPlan (plan : PlanData) : Type 0 where
 abbrev pub AreAddressed : PartData → List PlanRow → Type 0
 AreAddressed part rows = All (λ row. Contains (addresses_in part) row.far) rows
 
+-- each address of the part is named
+abbrev pub PlansEach : PartData → PlanData → Type 0
+PlansEach part plan = (far : ℕ) → Contains (addresses_in part) far → Contains (planned_addresses plan.rows) far
+
 -- a plan for a part: its frames have the part's width, and stand at addresses of the part
 pub record IsPlanFor (part : PartData) (plan : PlanData) : Type 0 where
   pub is_plan : IsPlan plan

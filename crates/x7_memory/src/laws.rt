@@ -4,7 +4,7 @@ ghost use Rattle.x7_part.specs.AddressOrder.{addresses_in};
 ghost use Rattle.x7_part.specs.Part.{PartData, frame_words};
 ghost use Rattle.x7_memory.specs.FrameMap.{FrameMap, override, nothing, only, AreDisjoint, AreSame};
 ghost use Rattle.x7_memory.specs.Frames.{frame_at, zeros, AreFramesOf};
-ghost use Rattle.x7_memory.specs.Planned.{PlanRow, PlanData, IsPlan, AreInOrder, AreApart, planned, planned_addresses, total};
+ghost use Rattle.x7_memory.specs.Planned.{PlanRow, PlanData, PlansEach, IsPlan, AreInOrder, AreApart, planned, planned_addresses, total};
 
 /// One map over another: twice, in any order where no address is in both, and by one frame.
 pub fn override_laws()
@@ -33,5 +33,5 @@ pub fn plan_laws()
     ensures total { (part : PartData) (plan : PlanData) → AreSame (total part plan) (override (zeros part) (planned plan.rows)) }
     ensures unplanned { (part : PartData) (plan : PlanData) (far : ℕ) → (¬ Contains (planned_addresses plan.rows) far) → total part plan far ≡ zeros part far }
     ensures planned { (part : PartData) (plan : PlanData) (far : ℕ) → Contains (planned_addresses plan.rows) far → total part plan far ≡ planned plan.rows far }
-    ensures whole { (part : PartData) (plan : PlanData) (frames : List (List ℕ)) → ((far : ℕ) → Contains (addresses_in part) far → Contains (planned_addresses plan.rows) far) → AreSame (override (frame_at part frames) (planned plan.rows)) (total part plan) }
+    ensures whole { (part : PartData) (plan : PlanData) (frames : List (List ℕ)) → PlansEach part plan → AreSame (override (frame_at part frames) (planned plan.rows)) (total part plan) }
 {}

@@ -3,7 +3,7 @@ use Rattle.std.proofs.Common.{◌≡◌, ℕ, ◌+◌, ◌*◌, ◌==◌, inl, i
 use Rattle.std.proofs.lemmas.Grind.{flat_map-append}
 use Rattle.std.proofs.lemmas.List.{length-map}
 use Rattle.std.specs.List.{flat_map}
-use Rattle.x7_words.specs.Word.{bytes_of_word}
+use Rattle.x7_words.proofs.WordLemmas.{length-bytes}
 use Rattle.x7_packets.specs.SyncWord.{sync_bytes}
 use Rattle.x7_packets.specs.declared.header.Step.{Step}
 use Rattle.x7_packets.specs.declared.header.Step.TheVariants as step
@@ -100,13 +100,9 @@ run_enters (Word register w) sessions new_sessions (Synced gap packets tail) new
 run_enters (Body register bytes) sessions new_sessions (Searching gap) new a = absurd a
 run_enters (Body register bytes) sessions new_sessions (Synced gap packets tail) new a = words_enter gap tail packets (run_steps (Body register bytes)) sessions new_sessions new a
 
-length_of_bytes : (ws : List ℕ) → length (flat_map bytes_of_word ws) ≡ 4 * length ws
-length_of_bytes [] = refl
-length_of_bytes (w ∷ ws) = omega (arith, length_of_bytes ws)
-
 length_of_packets : (packets : List Packet) → length (packet_bytes packets) ≡ 4 * length (flat_map stepped packets)
 length_of_packets packets =
-    length_of_bytes (flat_map words packets)
+    length-bytes (flat_map words packets)
     ∙ ap (λ t. 4 * length t) (sym (words_stepped packets))
     ∙ ap (λ k. 4 * k) (length-map (flat_map stepped packets) (λ (s : ℕ × Step). s.0))
 

@@ -2,10 +2,10 @@
 use Rattle.std.proofs.Common.{◌≡◌, ℕ, zero, suc, ◌+◌, ◌*◌, ◌/◌, ◌<◌, ◌≤◌, List, [], ◌∷◌, ◌++◌, inl, inr, length, map, take, replicate, get_or, refl, ap, sym, subst, ◌∙◌, append_assoc, append-nil, arith}
 use Rattle.std.specs.List.{flat_map}
 use Rattle.std.specs.Simd.{first_chunks}
-use Rattle.std.proofs.lemmas.List.{get_or-map, length-map, length-take-le, replicate-append-replicate, take_more}
+use Rattle.std.proofs.lemmas.List.{get_or-map, length-take-le, replicate-append-replicate, take_more}
 use Rattle.x7_words.specs.Word.{AreBytes, bytes_of_word, word_of_bytes, words_of_bytes}
 use Rattle.x7_words.proofs.ListLemmas.{all-append, all_take}
-use Rattle.x7_words.proofs.WordLemmas.{bytes-words}
+use Rattle.x7_words.proofs.WordLemmas.{bytes-words, chunk_count, words_by_chunks, words_taken}
 use Rattle.x7_packets.specs.SyncWord.{sync_bytes}
 use Rattle.x7_packets.specs.declared.header.Step.TheVariants.{Filler, Nop}
 use Rattle.x7_packets.specs.Mode.{Mode}
@@ -19,24 +19,6 @@ use Rattle.x7_packets.proofs.CutLemmas.{joined_more, packet_bytes-grown}
 use Rattle.x7_packets.proofs.HistoryLemmas.{grown_goes_on}
 use Rattle.x7_packets.proofs.TakeLemmas.{header_whole}
 
--- ---- the words of a slice, by its chunks
-
-words_by_chunks : (n : ℕ) (bs : List ℕ) → length bs / 4 ≡ n → words_of_bytes bs ≡ map word_of_bytes (first_chunks 4 n bs)
-words_by_chunks zero [] h = refl
-words_by_chunks zero (a ∷ []) h = refl
-words_by_chunks zero (a ∷ b ∷ []) h = refl
-words_by_chunks zero (a ∷ b ∷ c ∷ []) h = refl
-words_by_chunks zero (a ∷ b ∷ c ∷ d ∷ bs) h = absurd (omega arith)
-words_by_chunks (suc n) [] h = absurd (omega arith)
-words_by_chunks (suc n) (a ∷ []) h = absurd (omega arith)
-words_by_chunks (suc n) (a ∷ b ∷ []) h = absurd (omega arith)
-words_by_chunks (suc n) (a ∷ b ∷ c ∷ []) h = absurd (omega arith)
-words_by_chunks (suc n) (a ∷ b ∷ c ∷ d ∷ bs) h = ap (λ x. word_of_bytes (a ∷ b ∷ c ∷ d ∷ []) ∷ x) (words_by_chunks n bs (omega arith))
-
--- there are as many chunks as words
-pub chunk_count : (bytes : List ℕ) (chunks : List (List ℕ)) → chunks ≡ first_chunks 4 (length bytes / 4) bytes → length chunks ≡ length (words_of_bytes bytes)
-chunk_count bytes chunks e = sym (ap length (words_by_chunks (length bytes / 4) bytes refl ∙ ap (map word_of_bytes) (sym e)) ∙ length-map chunks word_of_bytes)
-
 pub chunk_more : (bytes : List ℕ) (chunks : List (List ℕ)) (i w x : ℕ) → chunks ≡ first_chunks 4 (length bytes / 4) bytes → i < length chunks → w ≡ word_of_bytes (get_or chunks i []) → w ≡ x
     → take i (words_of_bytes bytes) ≡ replicate i x → take (i + 1) (words_of_bytes bytes) ≡ replicate (i + 1) x
 chunk_more bytes chunks i w x e l f n s =
@@ -48,24 +30,6 @@ chunk_more bytes chunks i w x e l f n s =
     ∙ replicate-append-replicate i 1 x
 
 -- ---- the first words of bytes, and their bytes
-
-words_taken : (k : ℕ) (bytes : List ℕ) → 4 * k ≤ length bytes → words_of_bytes (take (4 * k) bytes) ≡ take k (words_of_bytes bytes)
-words_taken zero bytes l = refl
-words_taken (suc k) [] l = absurd (omega (arith, l))
-words_taken (suc k) (a ∷ []) l = absurd (omega (arith, l))
-words_taken (suc k) (a ∷ b ∷ []) l = absurd (omega (arith, l))
-words_taken (suc k) (a ∷ b ∷ c ∷ []) l = absurd (omega (arith, l))
-words_taken (suc k) (a ∷ b ∷ c ∷ d ∷ bs) l =
-    let four : 4 * suc k ≡ suc (suc (suc (suc (4 * k)))) = omega arith in
-    ap (λ (m : ℕ). words_of_bytes (take m (a ∷ b ∷ c ∷ d ∷ bs))) four
-    ∙ ap (λ t. word_of_bytes (a ∷ b ∷ c ∷ d ∷ []) ∷ t) (words_taken k bs (omega (arith, l)))
-
-pub words_count : (bytes : List ℕ) → 4 * length (words_of_bytes bytes) ≤ length bytes
-words_count [] = omega arith
-words_count (a ∷ []) = omega arith
-words_count (a ∷ b ∷ []) = omega arith
-words_count (a ∷ b ∷ c ∷ []) = omega arith
-words_count (a ∷ b ∷ c ∷ d ∷ bs) = let rest : 4 * length (words_of_bytes bs) ≤ length bs = words_count bs in omega (arith, rest)
 
 pub equal_taken : (k w : ℕ) (bytes : List ℕ) → AreBytes bytes → 4 * k ≤ length bytes → take k (words_of_bytes bytes) ≡ replicate k w → take (4 * k) bytes ≡ equal_bytes w k
 equal_taken k w bytes fits l e =

@@ -10,6 +10,7 @@ use Rattle.x7_packets.specs.Reading.{Place, Session}
 use Rattle.x7_packets.specs.declared.cutter.Cut.{Cut}
 use Rattle.x7_packets.specs.SyncWord.{sync_bytes}
 use Rattle.x7_packets.specs.declared.cutter.Cut.TheVariants.{Body, Head, Skip, Sync, Word}
+use Rattle.x7_packets.specs.declared.header.Step.{Step}
 use Rattle.x7_packets.specs.declared.header.Step.TheVariants.{Open}
 
 -- these bytes, taken as this run, turn the one cutter into the other, whatever bytes came before
@@ -37,6 +38,10 @@ pub record WritesOne (old new : CutterState) (rest : List ℕ) (register w : ℕ
 -- the type 1 header that writes so many words to a register, its reserved bits 0
 abbrev pub short_head : ℕ → ℕ → ℕ
 short_head register count = 0x30000000 + 8192 * register + count
+
+-- that header and its step
+abbrev pub short_step : ℕ → ℕ → ℕ × Step
+short_step register count = (short_head register count, Open register count)
 
 -- a machine between that header and its words
 abbrev pub in_short : ℕ → ℕ → MachineState

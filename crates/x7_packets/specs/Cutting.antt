@@ -168,6 +168,13 @@ pub record Went (old new : CutterState) (bytes : List ℕ) (sessions : List Sess
 abbrev pub WentFrom : CutterState → CutterState → List ℕ → Reading → Cut → Type 0
 WentFrom old new bytes r run = Went old new bytes r.sessions r.place run
 
+-- some cutter that stood for bytes with this reading took more in a call, as this run
+pub record HasCut (bytes more : List ℕ) (r : Reading) (run : Cut) : Type 0 where
+  pub old : CutterState
+  pub new : CutterState
+  pub reads : CutterReads old bytes r
+  pub went : WentFrom old new (bytes ++ more) r run
+
 -- one call of a cutter on the bytes that are left of a piece, of which it took a number
 pub record Cuts (old new : CutterState) (rest : List ℕ) (taken : ℕ) (cut : Cut) : Type 0 where
   pub goes : Goes cut (length rest - taken) (calls_left old (length rest)) (calls_left new (length rest - taken))

@@ -1,11 +1,13 @@
 -- Short forms for worked examples.
-use Rattle.std.specs.Prelude.{ℕ, List, [], ◌∷◌}
+use Rattle.std.specs.Prelude.{ℕ, List, [], ◌∷◌, ◌++◌}
 use Rattle.std.specs.List.{flat_map}
 use Rattle.x7_words.specs.Word.{bytes_of_word}
 use Rattle.x7_packets.specs.declared.header.Step.{Step}
 use Rattle.x7_packets.specs.declared.header.Step.TheVariants.{Bad, Filler, Nop, Open, Read}
 use Rattle.x7_packets.specs.Packet.{Packet}
-use Rattle.x7_packets.specs.Reading.{Place, Session}
+use Rattle.x7_packets.specs.History.{Entry, Write, entry}
+use Rattle.x7_packets.specs.History as access
+use Rattle.x7_packets.specs.Reading.{Place, Searching, Session, Synced}
 use Rattle.x7_packets.specs.ByHand.{Reading}
 use Rattle.x7_packets.specs.RunningCheck.{RegisterWrite}
 
@@ -30,8 +32,8 @@ nop head = packet_with head Nop []
 abbrev pub bad : ℕ → Packet
 bad head = packet_with head (Bad head) []
 
-abbrev pub reading : ℕ → ℕ → ℕ → Packet
-reading head register count = packet_with head (Read register count) []
+abbrev pub read : ℕ → ℕ → ℕ → Packet
+read head register count = packet_with head (Read register count) []
 
 abbrev pub opening : ℕ → ℕ → ℕ → List ℕ → Packet
 opening head register count payload = packet_with head (Open register count) payload
@@ -39,19 +41,26 @@ opening head register count payload = packet_with head (Open register count) pay
 abbrev pub opened : ℕ → ℕ → Packet
 opened head register = opening head register 0 []
 
+abbrev pub write_one : ℕ → ℕ → ℕ → Packet
+write_one head register word = opening head register 1 (word ∷ [])
+
 -- a word written to a register
 abbrev pub write_of : ℕ → ℕ → RegisterWrite
 write_of register word = record { register = register; word = word }
 
 -- DESYNC written to CMD: its words, and its packet
-abbrev pub desync_words : List ℕ
-desync_words = 0x30008001 ∷ 13 ∷ []
+abbrev pub desync : List ℕ
+desync = 0x30008001 ∷ 13 ∷ []
 
 abbrev pub desync_packet : Packet
-desync_packet = opening 0x30008001 4 1 (13 ∷ [])
+desync_packet = write_one 0x30008001 4 13
 
+-- a session behind this gap, and one that DESYNC ended
 abbrev pub session_with : List ℕ → List Packet → Session
 session_with gap packets = record { gap = gap; packets = packets }
+
+abbrev pub desynced : List ℕ → List Packet → Session
+desynced gap packets = session_with gap (packets ++ desync_packet ∷ [])
 
 abbrev pub reading_with : List Session → Place → Reading
 reading_with sessions place = record { sessions = sessions; place = place }
@@ -59,3 +68,25 @@ reading_with sessions place = record { sessions = sessions; place = place }
 -- a place behind no ended session
 abbrev pub reading_at : Place → Reading
 reading_at place = reading_with [] place
+
+-- a session behind no gap, with these packets and no tail
+abbrev pub in_session : List Packet → Reading
+in_session packets = reading_at (Synced [] packets [])
+
+-- the same with this tail
+abbrev pub with_tail : List Packet → List ℕ → Reading
+with_tail packets tail = reading_at (Synced [] packets tail)
+
+-- ended sessions, and the gap behind them
+abbrev pub then_gap : List Session → List ℕ → Reading
+then_gap sessions gap = reading_with sessions (Searching gap)
+
+-- accesses, with the place behind their last byte
+abbrev pub write_at : ℕ → ℕ → ℕ → Entry
+write_at register word place = entry (Write register word) place
+
+abbrev pub read_at : ℕ → ℕ → ℕ → Entry
+read_at register count place = entry (access.Read register count) place
+
+abbrev pub bad_at : ℕ → ℕ → Entry
+bad_at word place = entry (access.Bad word) place

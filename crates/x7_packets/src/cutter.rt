@@ -314,8 +314,7 @@ impl Cutter {
         ensures joined { self.old.kept ++ between piece.now at.old at.new ≡ run_bytes result ++ self.new.kept }
         ensures run { IsRun result }
         ensures lent { IsLent self.old (length piece.now - at.old) result }
-        ensures adds { (bytes : List ℕ) (sessions : List Session) (place : Place) → CutterStandsFor self.old bytes sessions place
-            → Went self.old self.new (bytes ++ between piece.now at.old at.new) sessions place result }
+        ensures adds { Takes self.old self.new (between piece.now at.old at.new) result }
     {
         let rest = &piece[*at..];
         match self.stage {

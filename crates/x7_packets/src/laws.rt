@@ -2,7 +2,7 @@
 ghost use Rattle.std.specs.Prelude.{◌≡◌, ℕ, ◌+◌, ◌*◌, ◌≤◌, ◌⊎◌, List, [], ◌∷◌, ◌++◌, false, length};
 ghost use Rattle.x7_words.specs.Word.{AreBytes, AreWords};
 ghost use Rattle.x7_packets.specs.ByHand.{AreOfOneSession, Reading, packets_of, reading_of};
-ghost use Rattle.x7_packets.specs.Cutting.{Adds, CutterReads, CutterState, GoesOnBy, WentFrom, run_steps};
+ghost use Rattle.x7_packets.specs.Cutting.{Adds, GoesOnBy, HasCut, run_steps};
 ghost use Rattle.x7_packets.specs.Ended.{HasEnded};
 ghost use Rattle.x7_packets.specs.History.{Access, AllFit, EntersNewer, EntersNone, EntersOne, Entry, entered_all, entry, History, history, history_in, history_of, next_in, next_word, Placed, until};
 ghost use Rattle.x7_packets.specs.Packet.{Packet, Packets};
@@ -42,9 +42,8 @@ pub fn words_enter()
         → history_in new ≡ entered_all (next_in old) (run_steps run) (history_in old) }
     ensures place { (bytes : List ℕ) (sessions : List Session) (place : Place) → IsReading bytes sessions place
         → next_word sessions place + length (tail_of place) ≡ length bytes }
-    ensures cut { (old new : CutterState) (bytes more : List ℕ) (r : Reading) (run : Cut) (n : ℕ) → CutterReads old bytes r
-        → WentFrom old new (bytes ++ more) r run → n + length (tail_of r.place) ≡ length bytes
-        → history_of (bytes ++ more) ≡ entered_all n (run_steps run) (history_of bytes) }
+    ensures cut { (bytes more : List ℕ) (r : Reading) (run : Cut) → HasCut bytes more r run
+        → history_of (bytes ++ more) ≡ entered_all (next_in r) (run_steps run) (history_of bytes) }
     ensures one { (bytes : List ℕ) (sessions : List Session) (place : Place) → IsReading bytes sessions place → history sessions place ≡ history_of bytes }
 {}
 

@@ -3,7 +3,7 @@ ghost use Rattle.std.specs.Prelude.{◌≡◌, ℕ, List, [], ◌∷◌, ◌++�
 ghost use Rattle.x7_words.specs.Word.{AreWords, words_of_bytes};
 ghost use Rattle.x7_regs.specs.Register.{number_of};
 ghost use Rattle.x7_regs.specs.declared.register.Reg.TheVariants.{Cmd};
-ghost use Rattle.x7_packets.specs.AtOnce.{in_short, in_write, short_head, write_head};
+ghost use Rattle.x7_packets.specs.AtOnce.{in_short, in_write, short_step, write_head};
 ghost use Rattle.x7_packets.specs.Packet.{Packet, ends_session, payload_steps};
 ghost use Rattle.x7_packets.specs.Taking.{ends_by, Grows, MachineStandsFor};
 
@@ -140,7 +140,7 @@ impl Machine {
         requires range { register < 32 }
         requires other { register ≡ number_of Cmd → ⊥ }
         ensures head { (ps : List Packet) (count : ℕ) → 0 < count → count < 2 ^ 11 → MachineStandsFor self.old ps
-            → Grows ps ((short_head register count, Step.Open register count) ∷ []) (in_short register count) }
+            → Grows ps (short_step register count ∷ []) (in_short register count) }
         ensures words { (ps : List Packet) (ws : List ℕ) → AreWords ws → 0 < length ws → MachineStandsFor (in_short register (length ws)) ps
             → Grows ps (payload_steps register ws) self.new }
     {

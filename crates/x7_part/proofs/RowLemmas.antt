@@ -131,7 +131,7 @@ table_slots far rank slot _ _ (row f least r rows le is rest) =
 
 -- ---- number order
 
-rises_lower : (a b : ℕ) (ys : List ℕ) → a ≤ b → Rises b ys → Rises a ys
+pub rises_lower : (a b : ℕ) (ys : List ℕ) → a ≤ b → Rises b ys → Rises a ys
 rises_lower a _ _ h (risen b) = risen a
 rises_lower a _ _ h (rise b y ys k rest) = rise a y ys (omega arith) rest
 
@@ -161,7 +161,7 @@ none_smaller _ x _ (rise l y ys k rest) h =
     let ih : count_by (λ z. nat_lt z x) ys ≡ 0 = none_smaller (y + 1) x ys rest (omega arith) in
     count_cons x y ys ∙ rw (f, ih) refl
 
-later_larger : (l i : ℕ) (xs : List ℕ) → Rises l xs → i < length xs → l ≤ get_or xs i 0
+pub later_larger : (l i : ℕ) (xs : List ℕ) → Rises l xs → i < length xs → l ≤ get_or xs i 0
 later_larger _ i _ (risen l) h = absurd (omega arith)
 later_larger _ zero _ (rise l y ys k rest) h = k
 later_larger _ (suc i) _ (rise l y ys k rest) h = let m : y + 1 ≤ get_or ys i 0 = later_larger (y + 1) i ys rest (omega arith) in omega arith

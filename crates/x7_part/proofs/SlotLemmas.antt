@@ -12,7 +12,7 @@ use Rattle.x7_part.specs.AddressOrder.{addresses_of, addresses, addresses_in, Ri
 use Rattle.x7_part.specs.Slots.{slots, slots_in, from, addresses_among, AreInOneRow}
 use Rattle.x7_part.specs.declared.slot.Slot.{Slot}
 use Rattle.x7_part.specs.declared.slot.Slot.TheVariants.{Frame, Pad, End}
-use Rattle.x7_part.proofs.RowLemmas.{part_rises}
+use Rattle.x7_part.proofs.RowLemmas.{part_rises, later_larger}
 use Rattle.x7_part.proofs.PartLemmas.{slots_count, first_minors}
 use Rattle.x7_part.proofs.TableLemmas.{row_length}
 use Rattle.x7_part.proofs.FieldLemmas.{row_in}
@@ -112,17 +112,12 @@ slots_all part is =
 
 -- ---- the slot behind an address
 
-at_least : (l k : ℕ) (xs : List ℕ) → Rises l xs → k < length xs → l ≤ get_or xs k 0
-at_least l k [] rises h = absurd (omega arith)
-at_least l zero (x ∷ xs) (rise _ _ _ le more) h = le
-at_least l (suc k) (x ∷ xs) (rise _ _ _ le more) h = let ih = at_least (x + 1) k xs more (omega arith) in omega arith
-
 -- a number stands at one place alone
 same_place : (l : ℕ) (xs : List ℕ) (i j : ℕ) → Rises l xs → i < length xs → j < length xs → get_or xs i 0 ≡ get_or xs j 0 → i ≡ j
 same_place l [] i j rises h k e = absurd (omega arith)
 same_place l (x ∷ xs) zero zero (rise _ _ _ le more) h k e = refl
-same_place l (x ∷ xs) zero (suc j) (rise _ _ _ le more) h k e = let low = at_least (x + 1) j xs more (omega arith) in absurd (omega arith)
-same_place l (x ∷ xs) (suc i) zero (rise _ _ _ le more) h k e = let low = at_least (x + 1) i xs more (omega arith) in absurd (omega arith)
+same_place l (x ∷ xs) zero (suc j) (rise _ _ _ le more) h k e = let low = later_larger (x + 1) j xs more (omega arith) in absurd (omega arith)
+same_place l (x ∷ xs) (suc i) zero (rise _ _ _ le more) h k e = let low = later_larger (x + 1) i xs more (omega arith) in absurd (omega arith)
 same_place l (x ∷ xs) (suc i) (suc j) (rise _ _ _ le more) h k e = ap suc (same_place (x + 1) xs i j more (omega arith) (omega arith) e)
 
 rises_behind : (l : ℕ) (xs ys : List ℕ) → Rises l (xs ++ ys) → (m : ℕ) × Rises m ys
@@ -139,7 +134,7 @@ inside l x k [] rest rises h e = absurd (omega arith)
 inside l x zero (a ∷ []) rest rises h e = absurd (omega arith)
 inside l x zero (a ∷ b ∷ xs) rest rises h e = rw (eq-eqb a x e) refl
 inside l x (suc k) (a ∷ xs) rest (rise _ _ _ le more) h e =
-    let low = at_least (a + 1) k xs more (omega arith) in
+    let low = later_larger (a + 1) k xs more (omega arith) in
     let next : suc k + 1 ≡ suc (k + 1) = omega arith in
     rw (ne_eqb a x (λ same. omega arith), next) (inside (a + 1) x k xs rest more (omega arith) e)
 
@@ -149,7 +144,7 @@ at_end l x k [] rest rises h e = absurd (omega arith)
 at_end l x zero (a ∷ []) rest rises h e = rw (eq-eqb a x e) refl
 at_end l x zero (a ∷ b ∷ xs) rest rises h e = absurd (omega arith)
 at_end l x (suc k) (a ∷ xs) rest (rise _ _ _ le more) h e =
-    let low = at_least (a + 1) k xs more (omega arith) in
+    let low = later_larger (a + 1) k xs more (omega arith) in
     rw (ne_eqb a x (λ same. omega arith)) (at_end (a + 1) x k xs rest more (omega arith) e)
 
 skips : (x : ℕ) (xs : List ℕ) (rest : List Slot) → (Contains xs x → ⊥) → from x (map Frame xs ++ rest) ≡ from x rest

@@ -1,5 +1,5 @@
 -- Slots: the places of frames and of pad frames in write order (UG470, frame data; two pads after each row's last frame are this project's choice).
-use Rattle.std.specs.Prelude.{ℕ, Contains, List, [], ◌∷◌, ◌++◌, map, ◌==◌, if◌then◌else◌}
+use Rattle.std.specs.Prelude.{ℕ, Contains, List, [], ◌∷◌, ◌++◌, map, slice_index_or, ◌==◌, if◌then◌else◌}
 use Rattle.std.specs.List.{flat_map}
 use Rattle.x7_part.specs.Part.{FieldWidths, RowData, PartData}
 use Rattle.x7_part.specs.AddressOrder.{addresses_of}
@@ -9,6 +9,10 @@ use Rattle.x7_part.specs.declared.slot.Slot.TheVariants.{Frame, Pad, End}
 -- the addresses of the rows in number order, and two pads after each row's last
 unfoldable pub slots : FieldWidths → List RowData → List Slot
 slots far rows = flat_map (λ r. map Frame (addresses_of far r) ++ Pad ∷ Pad ∷ []) rows
+
+-- the slots of a row, and those that follow
+abbrev pub row_slots : FieldWidths → RowData → List Slot → List Slot
+row_slots far r rest = map Frame (addresses_of far r) ++ (Pad ∷ Pad ∷ rest)
 
 -- the slots of a part
 abbrev pub slots_in : PartData → List Slot
@@ -20,6 +24,10 @@ from address [] = []
 from address (Frame a ∷ rest) = if a == address then Frame a ∷ rest else from address rest
 from address (Pad ∷ rest) = from address rest
 from address (End ∷ rest) = from address rest
+
+-- the slot so many after that of an address
+abbrev pub slot_after : PartData → ℕ → ℕ → Slot
+slot_after part address n = slice_index_or (from address (slots_in part)) n End
 
 -- the addresses of the slots that are frames
 abbrev pub addresses_among : List Slot → List ℕ

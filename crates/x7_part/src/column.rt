@@ -1,7 +1,7 @@
 //! The table of a part's columns, in which addresses and slots are searched by halves.
 ghost use Rattle.std.specs.Prelude.{◌≡◌, ◌<◌, ◌≤◌, ◌+◌, ◌-◌, ◌^◌, ◌⊎◌, ℕ, length, slice_index, slice_index_or, Contains, IfSome, IfNone, IsTrue};
 ghost use Rattle.x7_part.specs.AddressOrder.{Follows, IsLast};
-ghost use Rattle.x7_part.specs.Columns.{column_addresses, column_slots, IsTable};
+ghost use Rattle.x7_part.specs.Columns.{IsIn, column_addresses, column_slots, IsTable};
 ghost use Rattle.x7_part.specs.Slots.{from};
 ghost use Rattle.x7_part.specs.declared.column.Column.{Column};
 ghost use Rattle.x7_part.specs.declared.slot.Slot.{Slot};
@@ -89,7 +89,7 @@ fn begun_near(columns: &[Column], place: u64, near: usize) -> usize
 /// The place of the column that has the address.
 pub fn column_of(columns: &[Column], far: u32) -> Option<usize>
     requires { IsTable 0 0 0 columns.now }
-    ensures found { IfSome result (λ i. (i < length columns.now) × ((d : Column) → ((slice_index_or columns.now i d).first ≤ far) × (far < (slice_index_or columns.now i d).first + (slice_index_or columns.now i d).count))) }
+    ensures found { IfSome result (λ i. (i < length columns.now) × ((d : Column) → IsIn (slice_index_or columns.now i d) far)) }
     ensures address { IfSome result (λ i. Contains (column_addresses columns.now) far) }
     ensures none { IfNone result (¬ Contains (column_addresses columns.now) far) }
 {

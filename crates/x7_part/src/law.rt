@@ -10,7 +10,7 @@ ghost use Rattle.x7_part.specs.PartRange.{IsPart};
 ghost use Rattle.x7_part.specs.PartRows.{in_order, RowsRise};
 ghost use Rattle.x7_part.specs.PartValues.{rows_of};
 ghost use Rattle.x7_part.specs.AddressOrder.{addresses_in, addresses_of, Follows};
-ghost use Rattle.x7_part.specs.Slots.{slots, slots_in, from, addresses_among, AreInOneRow};
+ghost use Rattle.x7_part.specs.Slots.{slots, slots_in, from, row_slots, slot_after, addresses_among, AreInOneRow};
 ghost use Rattle.x7_part.specs.declared.slot.Slot.{Slot};
 ghost use Rattle.x7_part.specs.declared.slot.Slot.TheVariants.{Frame, Pad, End};
 
@@ -18,14 +18,14 @@ ghost use Rattle.x7_part.specs.declared.slot.Slot.TheVariants.{Frame, Pad, End};
 /// the slots of frames are the addresses in order, and a frame stands right behind another in one row alone.
 pub fn slot_laws()
     ensures split { (part : PartData) (far : ℕ) → Contains (addresses_in part) far → (before : List Slot) × (slots_in part ≡ before ++ from far (slots_in part)) }
-    ensures first { (part : PartData) (far : ℕ) → Contains (addresses_in part) far → slice_index_or (from far (slots_in part)) 0 End ≡ Frame far }
+    ensures first { (part : PartData) (far : ℕ) → Contains (addresses_in part) far → slot_after part far 0 ≡ Frame far }
     ensures count { (part : PartData) → length (slots_in part) ≡ length (addresses_in part) + 2 * length part.rows }
     ensures all { (part : PartData) → IsPart part → from (slice_index (addresses_in part) 0) (slots_in part) ≡ slots_in part }
     ensures rows { (part : PartData) (before after : List RowData) (r : RowData) → part.rows ≡ before ++ r ∷ after →
-        slots_in part ≡ slots part.far before ++ (map Frame (addresses_of part.far r) ++ (Pad ∷ Pad ∷ slots part.far after)) }
+        slots_in part ≡ slots part.far before ++ row_slots part.far r (slots part.far after) }
     ensures frames { (part : PartData) → addresses_among (slots_in part) ≡ addresses_in part }
     ensures next { (part : PartData) (far next : ℕ) → IsPart part → Contains (addresses_in part) far →
-        (slice_index_or (from far (slots_in part)) 1 End ≡ Frame next) ↔ (Follows (addresses_in part) far next × AreInOneRow part far next) }
+        (slot_after part far 1 ≡ Frame next) ↔ (Follows (addresses_in part) far next × AreInOneRow part far next) }
 {}
 
 /// The rows of a part in words: they are the rows of its file, put in rising order of block type, half and row, no two the same.

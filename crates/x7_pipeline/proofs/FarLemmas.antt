@@ -31,15 +31,6 @@ found_here part base slot place far t h same e =
     let there : first_address (drop place (slots_from part base)) ≡ Some far = first_more (slots_from part base) place h ∙ rw (← e) refl in
     sym (far_at-some part base slot t ∙ ap (λ o. unwrap_or o (last_address part)) (sym same ∙ there))
 
--- a slot of no frame is passed over
-pub passed_over : (places : List Slot) (i : ℕ) → i < length places → ((far : ℕ) → get_or places i End ≡ Frame far → ⊥) → first_address (drop i places) ≡ first_address (drop (i + 1) places)
-passed_over places i h none = first_more places i h ∙ no_frame (get_or places i End) none
-  where
-    no_frame : (slot : Slot) → ((far : ℕ) → slot ≡ Frame far → ⊥) → first_address (slot ∷ drop (i + 1) places) ≡ first_address (drop (i + 1) places)
-    no_frame (Frame far) none = absurd (none far refl)
-    no_frame Pad none = refl
-    no_frame End none = refl
-
 -- past the last slot it is the last address
 pub far_past : (part : PartData) (base slot place : ℕ) → has_frame_at part base ≡ true → length (slots_from part base) ≤ place →
     first_address (drop place (slots_from part base)) ≡ first_address (drop slot (slots_from part base)) → last_address part ≡ far_at part base slot

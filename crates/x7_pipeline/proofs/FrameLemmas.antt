@@ -1,10 +1,9 @@
 -- A whole frame that is written at once: the same as its words one by one.
-use Rattle.std.proofs.Common.{◌≡◌, ℕ, zero, suc, ◌+◌, ◌-◌, ◌*◌, ◌/◌, ◌%◌, ◌<◌, ◌≤◌, List, [], ◌∷◌, ◌++◌, length, get_or, set, take, drop, map, Option, Some, None, refl, sym, ap, ◌∙◌, arith, append_assoc, append-nil, length-append, true, lt-ltb}
+use Rattle.std.proofs.Common.{◌≡◌, ℕ, zero, suc, ◌+◌, ◌-◌, ◌*◌, ◌/◌, ◌%◌, ◌<◌, ◌≤◌, List, [], ◌∷◌, ◌++◌, length, get_or, set, take, drop, map, Option, Some, None, refl, sym, ap, ◌∙◌, arith, append_assoc, append-nil, length-append, take-add, true, lt-ltb}
 use Rattle.std.proofs.lemmas.List.{length-take-le, drop-drop, drop_all, take_all}
 use Rattle.std.proofs.lemmas.Option.{none-some}
-use Rattle.std.proofs.Math.Nat.{zero-add}
 use Rattle.x7_words.specs.Word.{word_of_bytes, words_of_bytes}
-use Rattle.x7_words.proofs.WordLemmas.{words_of_bytes-append}
+use Rattle.x7_words.proofs.WordLemmas.{words_apart, words_count, words_of_bytes-append}
 use Rattle.x7_part.specs.Part.{PartData}
 use Rattle.x7_part.specs.declared.slot.Slot.TheVariants.{End}
 use Rattle.x7_memory.specs.FrameMap.{FrameMap, AreSame}
@@ -165,23 +164,6 @@ passes_one part base w run e = passes_next part base w run [] e (ap (λ (x : Wri
 
 -- ---- words of a slice
 
-pub words_apart : (k : ℕ) (bs : List ℕ) → k * 4 ≤ length bs → words_of_bytes bs ≡ words_of_bytes (take (k * 4) bs) ++ words_of_bytes (drop (k * 4) bs)
-words_apart zero bs h = refl
-words_apart (suc k) [] h = absurd (omega arith)
-words_apart (suc k) (a ∷ []) h = absurd (omega arith)
-words_apart (suc k) (a ∷ b ∷ []) h = absurd (omega arith)
-words_apart (suc k) (a ∷ b ∷ c ∷ []) h = absurd (omega arith)
-words_apart (suc k) (a ∷ b ∷ c ∷ d ∷ bs) h =
-    let e : suc k * 4 ≡ suc (suc (suc (suc (k * 4)))) = omega arith in
-    rw e (ap (λ x. word_of_bytes (a ∷ b ∷ c ∷ d ∷ []) ∷ x) (words_apart k bs (omega arith)))
-
-pub words_count : (bs : List ℕ) → length (words_of_bytes bs) ≡ length bs / 4
-words_count [] = refl
-words_count (a ∷ []) = refl
-words_count (a ∷ b ∷ []) = refl
-words_count (a ∷ b ∷ c ∷ []) = refl
-words_count (a ∷ b ∷ c ∷ d ∷ bs) = let ih = words_count bs in omega arith
-
 pub words_from : (at n : ℕ) (bs : List ℕ) → n % 4 ≡ 0 → n ≤ length (drop at bs) → words_of_bytes (drop at bs) ≡ words_of_bytes (take n (drop at bs)) ++ words_of_bytes (drop (at + n) bs)
 words_from at n bs e h =
     let k : n / 4 * 4 ≡ n = omega arith in
@@ -189,15 +171,10 @@ words_from at n bs e h =
     split ∙ ap (λ m. words_of_bytes (take m (drop at bs)) ++ words_of_bytes (drop m (drop at bs))) k
     ∙ ap (λ t. words_of_bytes (take n (drop at bs)) ++ words_of_bytes t) (drop-drop n at bs)
 
-take_sum : (at n : ℕ) (bs : List ℕ) → at + n ≤ length bs → take (at + n) bs ≡ take at bs ++ take n (drop at bs)
-take_sum zero n bs h = rw (zero-add n) refl
-take_sum (suc at) n [] h = absurd (omega arith)
-take_sum (suc at) n (b ∷ bs) h = let e : suc at + n ≡ suc (at + n) = omega arith in rw e (ap (λ t. b ∷ t) (take_sum at n bs (omega arith)))
-
 pub words_taken : (at n : ℕ) (bs : List ℕ) → at % 4 ≡ 0 → at + n ≤ length bs → words_of_bytes (take (at + n) bs) ≡ words_of_bytes (take at bs) ++ words_of_bytes (take n (drop at bs))
 words_taken at n bs e h =
     let long : length (take at bs) ≡ at = length-take-le at bs (omega arith) in
-    ap words_of_bytes (take_sum at n bs h) ∙ words_of_bytes-append (at / 4) (take at bs) (take n (drop at bs)) (omega arith)
+    ap words_of_bytes (take-add at n bs) ∙ words_of_bytes-append (at / 4) (take at bs) (take n (drop at bs)) (omega arith)
 
 -- ---- words written over words
 

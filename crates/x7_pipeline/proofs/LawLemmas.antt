@@ -59,7 +59,7 @@ cut width (w ∷ run) some =
 
 -- ---- the landed pairs are frames with slots, those at pads left out
 
-zip-nil : (places : List Slot) → zip {K = Slot} {X = List ℕ} places [] ≡ []
+pub zip-nil : (places : List Slot) → zip {K = Slot} {X = List ℕ} places [] ≡ []
 zip-nil [] = refl
 zip-nil (p ∷ places) = refl
 

@@ -25,18 +25,6 @@ frames-completes width w run e = rw (eq-eqb (length (rest_of width run) + 1) wid
 
 -- ---- sizes
 
--- a rest is shorter than a frame
-pub rest_short : (width : ℕ) (run : List ℕ) → 0 < width → length (rest_of width run) < width
-unfolding rest_of
-rest_short width [] some = some
-rest_short width (w ∷ run) some =
-    let ih : length (rest_of width run) < width = rest_short width run some in
-    elim (cases_eq (length (rest_of width run) + 1) width) [
-      | inl e ↦ rw (eq-eqb (length (rest_of width run) + 1) width e) some
-      | inr n ↦ rw (ne_eqb (length (rest_of width run) + 1) width n)
-          (let long = length-append (rest_of width run) (w ∷ []) in omega arith)
-    ]
-
 -- a run of some words has a rest or a frame
 pub some_words : (width w : ℕ) (run : List ℕ) → length (rest_of width (w ∷ run)) ≡ 0 → length (frames_of width (w ∷ run)) ≡ 0 → ⊥
 some_words width w run no_rest no_frame =

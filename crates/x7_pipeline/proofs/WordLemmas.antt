@@ -1,9 +1,8 @@
 -- Words written in order.
-use Rattle.std.proofs.Common.{◌≡◌, ℕ, zero, suc, ◌+◌, ◌/◌, ◌<◌, ◌≤◌, List, [], ◌∷◌, length, get_or, drop, map, Option, Some, None, refl, sym, ap, ◌∙◌, arith}
+use Rattle.std.proofs.Common.{◌≡◌, ℕ, ◌+◌, ◌<◌, ◌≤◌, List, [], ◌∷◌, length, get_or, drop, map, Option, Some, None, refl, sym, ap, ◌∙◌, arith}
 use Rattle.std.proofs.lemmas.List.{drop_all, drop_more}
 use Rattle.std.proofs.lemmas.Option.{none-some}
-use Rattle.x7_words.specs.Word.{word_of_bytes, words_of_bytes}
-use Rattle.std.specs.Simd.{first_chunks}
+use Rattle.x7_words.specs.Word.{word_of_bytes}
 use Rattle.x7_part.specs.Part.{PartData}
 use Rattle.x7_memory.specs.FrameMap.{FrameMap}
 use Rattle.x7_regs.specs.declared.command.Command.{Command}
@@ -55,22 +54,6 @@ goes_first part start memory all rest e command base run source given s = record
   later = rw e (ap (λ n. record (written part base run rest) { count = n }) (omega arith));
 }
 
--- a word that is taken
-pub goes_next : (part : PartData) (start now next : PipelineData) (old middle new : FrameMap) (all rest : List ℕ) (count w : ℕ) → Goes part start now old middle all (w ∷ rest) count →
-    ((command : Command) (base : ℕ) (run : List ℕ) (source : Option (List ℕ)) (given : ℕ) → StandsFor part now command base run source given → StandsFor part next command base (w ∷ run) source given) →
-    ((command : Command) (base : ℕ) (run : List ℕ) (source : Option (List ℕ)) (given : ℕ) → StandsFor part now command base run source given → Lands part base run (w ∷ run) middle new) →
-    ((command : Command) (base : ℕ) (run : List ℕ) (source : Option (List ℕ)) (given : ℕ) → StandsFor part now command base run source given → None ≡ write_fault part base run) →
-    Goes part start next old new all rest (count + 1)
-goes_next part start now next old middle new all rest count w before stands lands fault command base run source given s =
-    let r : Reached part now old middle command base run source given all (w ∷ rest) count = before command base run source given s in
-    record {
-      longer = w ∷ r.longer;
-      stands = stands command base r.longer source given r.stands;
-      lands = lands_more part base run r.longer (w ∷ r.longer) old middle new r.lands (lands command base r.longer source given r.stands);
-      later = r.later ∙ ap (after count) (written_next part base w r.longer rest (fault command base r.longer source given r.stands))
-          ∙ ap (λ n. record (written part base (w ∷ r.longer) rest) { count = n }) (omega arith);
-    }
-
 -- ---- at the end
 
 -- no word is left, or the next is refused
@@ -82,36 +65,6 @@ pub ends_refused : (part : PartData) (base w : ℕ) (run longer all rest : List 
 ends_refused part base w run longer all rest count fault e f = e ∙ ap (after count) (written_refused part base w longer rest fault f)
 
 -- ---- the words of a slice, by its chunks
-
-pub chunks_left : (i : ℕ) (chunks : List (List ℕ)) → i < length chunks → map word_of_bytes (drop i chunks) ≡ word_of_bytes (get_or chunks i []) ∷ map word_of_bytes (drop (i + 1) chunks)
-chunks_left i chunks h = ap (map word_of_bytes) (drop_more chunks i [] h)
-
-pub no_chunk_left : (i : ℕ) (chunks : List (List ℕ)) → length chunks ≤ i → map word_of_bytes (drop i chunks) ≡ []
-no_chunk_left i chunks h = ap (map word_of_bytes) (drop_all i chunks h)
-
-pub words_by_chunks : (n : ℕ) (bs : List ℕ) → length bs / 4 ≡ n → words_of_bytes bs ≡ map word_of_bytes (first_chunks 4 n bs)
-words_by_chunks zero [] h = refl
-words_by_chunks zero (a ∷ []) h = refl
-words_by_chunks zero (a ∷ b ∷ []) h = refl
-words_by_chunks zero (a ∷ b ∷ c ∷ []) h = refl
-words_by_chunks zero (a ∷ b ∷ c ∷ d ∷ bs) h = absurd (omega arith)
-words_by_chunks (suc n) [] h = absurd (omega arith)
-words_by_chunks (suc n) (a ∷ []) h = absurd (omega arith)
-words_by_chunks (suc n) (a ∷ b ∷ []) h = absurd (omega arith)
-words_by_chunks (suc n) (a ∷ b ∷ c ∷ []) h = absurd (omega arith)
-words_by_chunks (suc n) (a ∷ b ∷ c ∷ d ∷ bs) h = ap (λ x. word_of_bytes (a ∷ b ∷ c ∷ d ∷ []) ∷ x) (words_by_chunks n bs (omega arith))
-
--- the words left begin with the next chunk's
-pub goes_here : (part : PartData) (start now : PipelineData) (old new : FrameMap) (all : List ℕ) (count i w : ℕ) (chunks : List (List ℕ)) → Goes part start now old new all (map word_of_bytes (drop i chunks)) count →
-    i < length chunks → w ≡ word_of_bytes (get_or chunks i []) → Goes part start now old new all (w ∷ map word_of_bytes (drop (i + 1) chunks)) count
-goes_here part start now old new all count i w chunks goes h e =
-    let same : w ∷ map word_of_bytes (drop (i + 1) chunks) ≡ map word_of_bytes (drop i chunks) = ap (λ x. x ∷ map word_of_bytes (drop (i + 1) chunks)) e ∙ sym (chunks_left i chunks h) in
-    rw same goes
-
--- no word is left
-pub goes_whole : (part : PartData) (start now : PipelineData) (old new : FrameMap) (all : List ℕ) (count i : ℕ) (chunks : List (List ℕ)) → Goes part start now old new all (map word_of_bytes (drop i chunks)) count →
-    length chunks ≤ i → Goes part start now old new all [] count
-goes_whole part start now old new all count i chunks goes h = rw (sym (no_chunk_left i chunks h)) goes
 
 -- ---- in plain words
 

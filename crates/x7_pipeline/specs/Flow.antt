@@ -5,7 +5,10 @@ use Rattle.x7_part.specs.declared.slot.Slot.TheVariants.{End}
 use Rattle.x7_memory.specs.FrameMap.{FrameMap, AreSame}
 use Rattle.x7_regs.specs.declared.command.Command.{Command}
 use Rattle.x7_pipeline.specs.FarAsRead.{far_of}
-use Rattle.x7_pipeline.specs.Copies.{source_after}
+use Rattle.x7_memory.specs.Planned.{PlanRow}
+use Rattle.x7_pipeline.specs.declared.fault.RunFault.{RunFault}
+use Rattle.x7_pipeline.specs.Copies.{copied, source_after}
+use Rattle.x7_pipeline.specs.Faults.{copy_fault}
 use Rattle.x7_pipeline.specs.Pipeline.{PipelineData, StandsFor}
 use Rattle.x7_pipeline.specs.Runs.{Lands, at_slot, onto, put_over, slots_from}
 use Rattle.x7_pipeline.specs.Words.{Written, written}
@@ -52,6 +55,15 @@ begun_at base f = record f { base = base; run = []; given = 0 }
 -- after a command: a run begins at FAR as read
 abbrev pub begun_by : PartData → Command → Flow → Flow
 begun_by part command f = record { command = command; base = far_of part f.base f.run f.given; run = []; source = source_after part f.command command f.run; given = 0 }
+
+-- ---- a copy
+
+-- what it puts, and why it is refused
+abbrev pub copied_by : Flow → List PlanRow
+copied_by f = copied f.base f.source
+
+abbrev pub fault_of_copy : PartData → Flow → Option RunFault
+fault_of_copy part f = copy_fault part f.command f.base f.source
 
 -- ---- words written in order
 

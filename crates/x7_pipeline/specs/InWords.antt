@@ -37,10 +37,6 @@ all_written words run = record { run = onto words run; count = length words; fau
 abbrev pub place_in : PartData → ℕ → ℕ → ℕ
 place_in part n i = frame_words part * (1 + n) + i
 
--- the slot so many after the first from a base on
-abbrev pub slot_after : PartData → ℕ → ℕ → Slot
-slot_after part base n = slice_index_or (slots_from part base) n End
-
 -- the newest word completes a frame past the last slot
 abbrev pub Overruns : PartData → ℕ → List ℕ → Type 0
 Overruns part base run = (rest_of (frame_words part) run ≡ []) × (length (slots_from part base) < length (frames_of (frame_words part) run))

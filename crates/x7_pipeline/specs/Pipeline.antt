@@ -1,8 +1,9 @@
 -- A frame pipeline, and what it stands for.
-use Rattle.std.specs.Prelude.{◌≡◌, ℕ, ◌≤◌, ◌<◌, List, length, Option}
+use Rattle.std.specs.Prelude.{◌≡◌, ℕ, ◌+◌, ◌*◌, ◌/◌, ◌≤◌, ◌<◌, min, List, ◌∷◌, length, slice_index_or, Option}
 use Rattle.x7_part.specs.Part.{PartData, frame_words}
 use Rattle.x7_part.specs.FrameAddress.{far_width}
 use Rattle.x7_part.specs.declared.slot.Slot.{Slot}
+use Rattle.x7_part.specs.declared.slot.Slot.TheVariants.{End, Pad}
 use Rattle.x7_regs.specs.declared.command.Command.{Command}
 use Rattle.x7_pipeline.specs.Runs.{rest_of, frames_of, slots_from}
 use Rattle.x7_pipeline.specs.Copies.{newest_of}
@@ -25,6 +26,18 @@ pub record PipelineData : Type 0 where
 -- it is one of the part
 abbrev pub IsPipelineOf : PartData → PipelineData → Type 0
 IsPipelineOf part pipeline = (pipeline.width ≡ frame_words part) × (pipeline.far_width ≡ far_width part)
+
+-- the count after so many words of a readback were given more, up to the limit
+abbrev pub given_after : PartData → PipelineData → ℕ → ℕ
+given_after part p n = min (p.given + n) (p.width * (1 + length (slots_from part p.base)))
+
+-- the slot of that count: one pad frame, then the slots from the base on
+abbrev pub slot_given : PartData → PipelineData → ℕ → Slot
+slot_given part p given = slice_index_or (Pad ∷ slots_from part p.base) (given / p.width) End
+
+-- so many words were given more
+abbrev pub passed : PartData → PipelineData → ℕ → PipelineData
+passed part p n = record p { given = given_after part p n; slot = slot_given part p (given_after part p n) }
 
 -- it stands for a command, a base, a run of frame data, a source of copies, and a count of words given
 pub record StandsFor (part : PartData) (pipeline : PipelineData) (command : Command) (base : ℕ) (run : List ℕ) (source : Option (List ℕ)) (given : ℕ) : Type 0 where

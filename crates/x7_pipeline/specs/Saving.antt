@@ -6,6 +6,7 @@ use Rattle.x7_part.specs.Part.{PartData, frame_words}
 use Rattle.x7_part.specs.declared.slot.Slot.{Slot}
 use Rattle.x7_part.specs.declared.slot.Slot.TheVariants.{Frame, Pad, End}
 use Rattle.x7_memory.specs.FrameMap.{FrameMap}
+use Rattle.x7_memory.specs.Frames.{AreFramesOf, frame_at}
 use Rattle.x7_memory.specs.Planned.{PlanRow}
 use Rattle.x7_pipeline.specs.Runs.{slots_from}
 use Rattle.x7_pipeline.specs.FarAsRead.{has_frame_at}
@@ -74,6 +75,12 @@ pub record IsSavedOf (part : PartData) (s : SavedState) : Type 0 where
 -- the new map has the frames of the old one at each address but this one, where there is one
 abbrev pub ChangesAt : Option ℕ → FrameMap → FrameMap → Type 0
 ChangesAt at old new = (far : ℕ) → (at ≡ Some far → ⊥) → new far ≡ old far
+
+-- the frames of a part before and after such a change
+pub record HaveChangedAt (part : PartData) (at : Option ℕ) (old new : List (List ℕ)) : Type 0 where
+  pub old_are : AreFramesOf part old
+  pub new_are : AreFramesOf part new
+  pub changes : ChangesAt at (frame_at part old) (frame_at part new)
 
 -- it changes just where the next word or copy would put a frame
 abbrev pub ChangesNext : PartData → PipelineData → FrameMap → FrameMap → Type 0

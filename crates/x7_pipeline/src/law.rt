@@ -2,21 +2,22 @@
 ghost use Rattle.std.specs.Prelude.{◌≡◌, ◌≢◌, ◌+◌, ◌<◌, ◌≤◌, ◌↔◌, ℕ, true, false, reverse, min, List, [], ◌∷◌, ◌++◌, Contains, Option, Some, None};
 ghost use Rattle.x7_part.specs.Part.{PartData, frame_words};
 ghost use Rattle.x7_part.specs.AddressOrder.{addresses_in};
+ghost use Rattle.x7_part.specs.Slots.{slot_after};
 ghost use Rattle.x7_memory.specs.FrameMap.{FrameMap, AreSame};
-ghost use Rattle.x7_memory.specs.Frames.{AreFramesOf, frame_at};
+ghost use Rattle.x7_memory.specs.Frames.{frame_at};
 ghost use Rattle.x7_memory.specs.Planned.{PlanRow};
 ghost use Rattle.x7_regs.specs.declared.command.Command.{Command};
 ghost use Rattle.x7_pipeline.specs.declared.fault.RunFault.{RunFault};
 ghost use Rattle.x7_pipeline.specs.Runs.{rest_of, frames_of, but_newest, landed, put_over, Lands};
-ghost use Rattle.x7_pipeline.specs.InWords.{AreCutFrom, HasRun, Overruns, all_written, place_in, placed_from, slot_after};
+ghost use Rattle.x7_pipeline.specs.InWords.{AreCutFrom, HasRun, Overruns, all_written, place_in, placed_from};
 ghost use Rattle.x7_pipeline.specs.FarAsRead.{IsBase, has_frame_at, far_of, last_address};
-ghost use Rattle.x7_pipeline.specs.Copies.{copied, is_wcfg, is_mfw, newest_of, source_after};
+ghost use Rattle.x7_pipeline.specs.Copies.{is_wcfg, is_mfw, newest_of, source_after};
 ghost use Rattle.x7_pipeline.specs.Readback.{word_at, read_at, read_limit, given_stored};
 ghost use Rattle.x7_pipeline.specs.Faults.{write_fault, copy_fault, read_fault};
 ghost use Rattle.x7_pipeline.specs.Words.{written, Refused};
 ghost use Rattle.x7_pipeline.specs.Pipeline.{PipelineData};
-ghost use Rattle.x7_pipeline.specs.Saving.{ChangesAt, ChangesNext, pair_at};
-ghost use Rattle.x7_pipeline.specs.Flow.{HoldsFlow, LandsAt, OfFlow};
+ghost use Rattle.x7_pipeline.specs.Saving.{ChangesNext, HaveChangedAt, pair_at};
+ghost use Rattle.x7_pipeline.specs.Flow.{HoldsFlow, LandsAt, OfFlow, copied_by, fault_of_copy};
 
 /// A run is its whole frames and a rest. Its frames but the newest land with the slots in order, those at pads nowhere;
 /// and what a memory gets by one word after the other is what it gets by all.
@@ -29,10 +30,10 @@ pub fn run_laws()
     ensures none { (part : PartData) (base : ℕ) (run : List ℕ) (old new : FrameMap) → AreSame new old → Lands part base run run old new }
     ensures twice { (first second : List PlanRow) (old middle new : FrameMap) → AreSame middle (put_over first old) → AreSame new (put_over second middle) →
         AreSame new (put_over (second ++ first) old) }
-    ensures more { (part : PartData) (base : ℕ) (run longer longest : List ℕ) (old middle new : FrameMap) →
-        Lands part base run longer old middle → Lands part base longer longest middle new → Lands part base run longest old new }
-    ensures memory { (part : PartData) (base : ℕ) (run longer : List ℕ) (under old new : FrameMap) →
-        Lands part base run longer old new → HasRun part base run under old → HasRun part base longer under new }
+    ensures more { (part : PartData) (base : ℕ) (run longer longest : List ℕ) (m n o : FrameMap) →
+        Lands part base run longer m n → Lands part base longer longest n o → Lands part base run longest m o }
+    ensures memory { (part : PartData) (base : ℕ) (run longer : List ℕ) (under m n : FrameMap) →
+        Lands part base run longer m n → HasRun part base run under m → HasRun part base longer under n }
 {}
 
 /// Words in order are all written, or they are written up to the first that is refused.
@@ -74,7 +75,7 @@ pub fn fault_laws()
     ensures overrun { (part : PartData) (base word newest : ℕ) (run : List ℕ) → (write_fault part base (newest ∷ run) ≡ Some RunFault.Overrun) ↔ Overruns part base (word ∷ newest ∷ run) }
     ensures landed { (part : PartData) (base : ℕ) (run : List ℕ) (word : ℕ) (fault : RunFault) → write_fault part base run ≡ Some fault →
         landed part base (word ∷ run) ≡ landed part base run }
-    ensures far { (part : PartData) (base : ℕ) (run : List ℕ) (word given : ℕ) (fault : RunFault) → write_fault part base run ≡ Some fault →
+    ensures far { (part : PartData) (base : ℕ) (run : List ℕ) (word given : ℕ) (why : RunFault) → write_fault part base run ≡ Some why →
         far_of part base (word ∷ run) given ≡ far_of part base run given }
     ensures written { (part : PartData) (base : ℕ) (run : List ℕ) → write_fault part base run ≢ Some RunFault.Multi }
     ensures copied { (part : PartData) (command : Command) (base : ℕ) (source : Option (List ℕ)) → copy_fault part command base source ≢ Some RunFault.Overrun }
@@ -89,10 +90,10 @@ pub fn pipeline_laws()
 /// A kept frame leads back where the memory changed at its address alone. A copy changes just the address where it puts one,
 /// and so does a word under another command than MFW.
 pub fn saving_laws()
-    ensures back { (part : PartData) (at : Option ℕ) (old new : List (List ℕ)) → AreFramesOf part old → AreFramesOf part new → ChangesAt at (frame_at part old) (frame_at part new) →
+    ensures back { (part : PartData) (at : Option ℕ) (old new : List (List ℕ)) → HaveChangedAt part at old new →
         AreSame (put_over (pair_at (frame_at part old) at) (frame_at part new)) (frame_at part old) }
-    ensures copy { (part : PartData) (p : PipelineData) → OfFlow part p (λ f. (old new : FrameMap) → copy_fault part f.command f.base f.source ≡ None
-        → AreSame new (put_over (copied f.base f.source) old) → ChangesNext part p old new) }
+    ensures copy { (part : PartData) (p : PipelineData) → OfFlow part p (λ f. (old new : FrameMap) → fault_of_copy part f ≡ None
+        → AreSame new (put_over (copied_by f) old) → ChangesNext part p old new) }
     ensures word { (part : PartData) (p : PipelineData) → OfFlow part p (λ f. (w : ℕ) (old new : FrameMap) → is_mfw f.command ≡ false
         → LandsAt part f (w ∷ []) old new → ChangesNext part p old new) }
 {}

@@ -9,12 +9,12 @@ ghost use Rattle.x7_part.specs.declared.slot.Slot.{Slot};
 ghost use Rattle.x7_regs.specs.declared.command.Command.{Command};
 ghost use Rattle.x7_pipeline.specs.Runs.{Lands, put_over, slots_from};
 ghost use Rattle.x7_pipeline.specs.FarAsRead.{far_of, loaded_base, has_frame_at};
-ghost use Rattle.x7_pipeline.specs.Copies.{is_wcfg, is_mfw, source_with, copied};
+ghost use Rattle.x7_pipeline.specs.Copies.{is_wcfg, is_mfw, source_with};
 ghost use Rattle.x7_pipeline.specs.Readback.{read_at, word_at};
-ghost use Rattle.x7_pipeline.specs.Faults.{write_fault, copy_fault, read_fault, drop_fault};
+ghost use Rattle.x7_pipeline.specs.Faults.{write_fault, read_fault, drop_fault};
 ghost use Rattle.x7_pipeline.specs.Places.{StartsAt};
-ghost use Rattle.x7_pipeline.specs.Pipeline.{PipelineData, StandsFor, IsPipelineOf};
-ghost use Rattle.x7_pipeline.specs.Flow.{GoesOn, HoldsFlow, LandsAt, OfFlow, PutsNewest, after_reads, after_words, begun_at, begun_by, with_run, written_by};
+ghost use Rattle.x7_pipeline.specs.Pipeline.{PipelineData, StandsFor, IsPipelineOf, passed};
+ghost use Rattle.x7_pipeline.specs.Flow.{copied_by, fault_of_copy, GoesOn, HoldsFlow, LandsAt, OfFlow, PutsNewest, after_reads, after_words, begun_at, begun_by, with_run, written_by};
 
 mod saved;
 
@@ -370,8 +370,8 @@ impl Pipeline {
     pub fn copy(&mut self, part: &Part, memory: &mut Memory) -> Result<(), RunFault>
         requires part { IsPipelineOf part.now self.old }
         requires memory { AreFramesOf part.now memory.old }
-        ensures put { OnOk result (OfFlow part.now self.old (λ f. AreSame (frame_at part.now memory.new) (put_over (copied f.base f.source) (frame_at part.now memory.old)))) }
-        ensures fault { OfFlow part.now self.old (λ f. result_err result ≡ copy_fault part.now f.command f.base f.source) }
+        ensures put { OnOk result (OfFlow part.now self.old (λ f. AreSame (frame_at part.now memory.new) (put_over (copied_by f) (frame_at part.now memory.old)))) }
+        ensures fault { OfFlow part.now self.old (λ f. result_err result ≡ fault_of_copy part.now f) }
 
         // Whatever the answer.
         ensures same { self.new ≡ self.old }
@@ -494,8 +494,7 @@ impl Pipeline {
 
     /// Counts words that were given.
     fn pass(&mut self, n: u32, part: &Part)
-        ensures { let given = min (self.old.given + n) (self.old.width * (1 + length (slots_from part.now self.old.base)))
-            in self.new ≡ record self.old { given = given; slot = slice_index_or (Slot.Pad ∷ slots_from part.now self.old.base) (given / self.old.width) Slot.End } }
+        ensures { self.new ≡ passed part.now self.old n }
     {
         let limit = u64::from(self.width) * (1 + slot_count(part, self.base));
         self.given = self.given.saturating_add(u64::from(n)).min(limit);

@@ -143,7 +143,7 @@ runs_stepped part frames all mid new at count i l e h =
 
 -- ---- the other rows are some of the rows
 
-others_all : (P : PlanRow → Type 0) (all rows : List PlanRow) → AllByRecursion P rows → AllByRecursion P (others all rows)
+pub others_all : (P : PlanRow → Type 0) (all rows : List PlanRow) → AllByRecursion P rows → AllByRecursion P (others all rows)
 others_all P all [] h = tt
 others_all P all (r ∷ rows) h = by (is_shared all r) (others_all P all rows h.1)
   where
@@ -151,7 +151,7 @@ others_all P all (r ∷ rows) h = by (is_shared all r) (others_all P all rows h.
     by true ih = ih
     by false ih = (h.0, ih)
 
-others_fewer : (all rows : List PlanRow) → length (others all rows) ≤ length rows
+pub others_fewer : (all rows : List PlanRow) → length (others all rows) ≤ length rows
 others_fewer all [] = omega arith
 others_fewer all (r ∷ rows) = by (is_shared all r) (others_fewer all rows)
   where
@@ -159,7 +159,7 @@ others_fewer all (r ∷ rows) = by (is_shared all r) (others_fewer all rows)
     by true ih = omega (arith, ih)
     by false ih = omega (arith, ih)
 
-all_rows : (P : PlanRow → Type 0) (rows : List PlanRow) → AllByRecursion P rows → All P rows
+pub all_rows : (P : PlanRow → Type 0) (rows : List PlanRow) → AllByRecursion P rows → All P rows
 all_rows P [] a = All-nil P
 all_rows P (r ∷ rows) a = All-cons P r rows a.0 (all_rows P rows a.1)
 

@@ -19,7 +19,7 @@ use Rattle.x7_boot.specs.Attempt.{EndsFirst, IsTrial, Trial, ending_at}
 use Rattle.x7_boot.specs.Boot.{BootedState, IsBoot, LeadsToEnd, at_power, end_state, next_by, tried}
 use Rattle.x7_boot.specs.declared.attempt.Ending.{Ending}
 use Rattle.x7_boot.specs.declared.boots.BootEnd.TheVariants as boot_end
-use Rattle.x7_boot.proofs.FullTrialLemmas.{StartsWith, full_starts}
+use Rattle.x7_recovery.proofs.FullTrialLemmas.{StartsWith, full_starts}
 use Rattle.x7_boot.proofs.OneBootLemmas.{one_chain}
 use Rattle.x7_boot.proofs.StartLemmas.{NeverStarts}
 use Rattle.x7_update.specs.Layout.{HasLayout, four_at, open_word}

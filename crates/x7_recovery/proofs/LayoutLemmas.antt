@@ -2,12 +2,13 @@
 use Rattle.std.proofs.Common.{◌≡◌, ℕ, zero, suc, ◌+◌, ◌-◌, ◌*◌, ◌/◌, ◌%◌, ◌^◌, ◌<◌, ◌≤◌, List, ◌++◌, length, get_or, replicate, refl, drop, ap, sym, subst, ◌∙◌, arith, length-append, append_assoc}
 use Rattle.std.specs.List.{repeat}
 use Rattle.std.proofs.lemmas.List.{length-replicate, get_or-drop, get_or_append_left, get_or-append_right}
+use Rattle.x7_words.proofs.WordLemmas.{word-whole}
 use Rattle.x7_words.specs.Word.{bytes_of_word, word_of_bytes}
 use Rattle.std.proofs.Math.Seq.{drop-append_seam}
 use Rattle.x7_boot.specs.Image as image
 use Rattle.x7_boot.specs.Image.{closed_slot, closed_slots, filled_to, first_sector, image_of, image_size, open_slot, sector_from, slot}
-use Rattle.x7_boot.proofs.SlotLemmas.{image_begins, place_whole, sector_long, size_behind, slot_long, update_behind}
-use Rattle.x7_boot.specs.ImageBoot.{HasImage, golden_image}
+use Rattle.x7_recovery.proofs.SlotLemmas.{image_begins, place_whole, sector_long, size_behind, slot_long, update_behind}
+use Rattle.x7_recovery.specs.ImageBoot.{HasImage, golden_image}
 use Rattle.x7_part.specs.Part.{PartData}
 use Rattle.x7_memory.specs.Planned.{PlanData}
 use Rattle.x7_planner.specs.Full.{full_stream}
@@ -51,9 +52,6 @@ start_at : (start : ℕ) → four_at (open_slot start) 12 ≡ bytes_of_word star
 unfolding slot
 start_at start = refl
 
-word_back : (start : ℕ) → start < 2 ^ 32 → word_of_bytes (bytes_of_word start) ≡ start
-word_back start h = omega arith
-
 closed_repeat : (start : ℕ) → closed_slots start ≡ repeat 2047 (closed_slot start)
 unfolding closed_slots
 closed_repeat start = refl
@@ -81,7 +79,7 @@ module _ (start : ℕ) (all rest : List ℕ) (begins : all ≡ first_sector star
   first_is = ap (slot_with open_word) start_is ∙ open_is start
 
   pub place_is : start < 2 ^ 32 → update_place all ≡ start
-  place_is h = ap word_of_bytes start_is ∙ word_back start h
+  place_is h = ap word_of_bytes start_is ∙ word-whole start h
 
   pub leads : (k : ℕ) → k < 2048 → Leads all k
   leads zero h = λ i j l.

@@ -10,6 +10,7 @@ use Rattle.x7_planner.specs.Full.{full_stream}
 use Rattle.x7_engine.specs.State.{memory_in}
 use Rattle.x7_boot.specs.Attempt.{Trial}
 use Rattle.x7_boot.specs.Boot.{BootedState, IsBoot, end_state}
+use Rattle.x7_recovery.specs.ImageBoot.{golden_image}
 use Rattle.x7_boot.specs.declared.attempt.Ending.TheVariants as ending
 use Rattle.x7_boot.specs.declared.boots.BootEnd.{BootEnd}
 use Rattle.x7_boot.specs.declared.boots.BootEnd.TheVariants as boot_end
@@ -23,6 +24,14 @@ pub record Updating : Type 0 where
   pub golden : PlanData
   pub flash : List ℕ
   pub stream : List ℕ
+
+-- the image of a golden plan and an update, which is being updated with a stream
+abbrev pub updating_image : PartData → PlanData → List ℕ → List ℕ → Updating
+updating_image part golden update stream = record { part = part; golden = golden; flash = golden_image part golden update; stream = stream }
+
+-- the place of the flash behind the last byte that an attempt took
+abbrev pub end_of : Trial → ℕ
+end_of t = t.address + length t.bytes
 
 -- behind the first sector stands the full stream of the plan, which ends at U or before it
 pub record HasGolden (part : PartData) (golden : PlanData) (flash : List ℕ) : Type 0 where

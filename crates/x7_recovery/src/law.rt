@@ -7,10 +7,10 @@ ghost use Rattle.x7_memory.specs.Planned.{PlanData};
 ghost use Rattle.x7_boot.specs.Attempt.{IsTrial, Trial};
 ghost use Rattle.x7_boot.specs.Boot.{BootedState, IsBoot};
 ghost use Rattle.x7_boot.specs.Image.{image_of, image_size};
-ghost use Rattle.x7_boot.specs.ImageBoot.{HasImage, golden_image};
+ghost use Rattle.x7_recovery.specs.ImageBoot.{HasImage};
 ghost use Rattle.x7_update.specs.After.{MayBeLeft};
 ghost use Rattle.x7_update.specs.Layout.{HasLayout};
-ghost use Rattle.x7_recovery.specs.Recovery.{BootsAs, IsPrepared, Updating};
+ghost use Rattle.x7_recovery.specs.Recovery.{BootsAs, end_of, IsPrepared, Updating, updating_image};
 
 /// Of a flash whose golden stream is the full stream of a plan, whatever a power loss left in an update boots as the flash did
 /// before, or starts with the golden stream, or boots as the updated flash.
@@ -27,11 +27,11 @@ pub fn images_have_a_layout()
 /// Such an image of the full stream of a plan and of any update is prepared for an update with any stream.
 pub fn images_are_prepared()
     ensures { (part : PartData) (golden : PlanData) (update stream : List ℕ) → HasImage part golden update → part.start_unit ≡ 1
-        → IsPrepared (record { part = part; golden = golden; flash = golden_image part golden update; stream = stream }) }
+        → IsPrepared (updating_image part golden update stream) }
 {}
 
 /// An attempt that ended in the flash is one over each flash with the same bytes up to there.
 pub fn only_taken_bytes_count()
     ensures { (part : PartData) (flash other : List ℕ) (t : Trial) → IsTrial part flash t → t.wrapped ≡ false
-        → take (t.address + length t.bytes) other ≡ take (t.address + length t.bytes) flash → IsTrial part other t }
+        → take (end_of t) other ≡ take (end_of t) flash → IsTrial part other t }
 {}

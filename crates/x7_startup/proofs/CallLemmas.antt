@@ -3,7 +3,7 @@ use Rattle.std.proofs.Common.{◌≡◌, ℕ, zero, suc, ◌+◌, ◌/◌, ◌%�
 use Rattle.std.proofs.Math.Nat.{zero-add}
 use Rattle.x7_startup.specs.Arrivals.{wait_of, IsPhase}
 use Rattle.x7_startup.specs.Calls.{IsPhaseOf, Call, Arm, Desync, Byte, DropBack, Progress, NotBegun, Begun, has_taking, since_taking, count_bytes, is_armed, start_of, progress_of, Stored, StoresAt, StandsFor}
-use Rattle.x7_startup.specs.Runs.{Runs, first_some}
+use Rattle.x7_startup.specs.Runs.{Runs, first_some, place}
 use Rattle.x7_startup.proofs.PhaseLemmas.{phase_first, phase_rises, one_phase}
 
 has_taking_push : (calls t : List Call) → has_taking t ≡ false → has_taking (calls ++ t) ≡ has_taking calls
@@ -211,7 +211,7 @@ idle_stands lock matched s calls n none h =
 
 goes_on : (lock matched : ℕ) (begun : Option ℕ) (tick_bytes ticks phase : ℕ) (progress : Progress) (n cor0 more tick_bytes' ticks' phase' : ℕ) →
     begun ≡ Some cor0 → more ≡ (tick_bytes + n) / 4 → tick_bytes' ≡ (tick_bytes + n) % 4 →
-    Runs (wait_of lock matched cor0) ticks phase more ticks' phase' →
+    Runs (wait_of lock matched cor0) (place ticks phase) more (place ticks' phase') →
     StoresAt lock matched begun tick_bytes ticks phase progress →
     StoresAt lock matched begun tick_bytes' ticks' phase' (further n progress)
 goes_on lock matched begun tick_bytes ticks phase NotBegun n cor0 more tick_bytes' ticks' phase' some m q runs h =
@@ -230,7 +230,7 @@ goes_on lock matched begun tick_bytes ticks phase (Begun c b) n cor0 more tick_b
 -- bytes at a startup that has begun
 pub running_stands : (lock matched : ℕ) (s : Stored) (calls : List Call) (n cor0 more tick_bytes ticks phase : ℕ) → s.begun ≡ Some cor0 →
     more ≡ (s.tick_bytes + n) / 4 → tick_bytes ≡ (s.tick_bytes + n) % 4 →
-    Runs (wait_of lock matched cor0) s.ticks s.phase more ticks phase → StandsFor lock matched s calls →
+    Runs (wait_of lock matched cor0) (place s.ticks s.phase) more (place ticks phase) → StandsFor lock matched s calls →
     StandsFor lock matched (record s { tick_bytes = tick_bytes; ticks = ticks; phase = phase }) (calls ++ replicate n Byte)
 running_stands lock matched s calls n cor0 more tick_bytes ticks phase begun m q runs h =
     let e = since_push calls (replicate n Byte) (no_taking n) in

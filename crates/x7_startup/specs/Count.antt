@@ -1,5 +1,5 @@
 -- The bytes that the configuration watchdog counts, and the byte at which it fires (UG470, watchdog; the count is this project's choice).
-use Rattle.std.specs.Prelude.{◌≡◌, ◌==◌, ℕ, ◌+◌, ◌-◌, ◌*◌, ◌^◌, ◌<◌, min, Bool, true, false, not, ◌&&◌, List, [], ◌∷◌, ◌++◌, if◌then◌else◌, IsTrue, replicate}
+use Rattle.std.specs.Prelude.{◌≡◌, ◌==◌, ℕ, ◌+◌, ◌-◌, ◌*◌, ◌^◌, ◌<◌, ◌≤◌, min, Bool, true, false, not, ◌&&◌, List, [], ◌∷◌, ◌++◌, if◌then◌else◌, IsTrue, replicate}
 use Rattle.x7_words.specs.Word.{field_of}
 
 -- a call: a word written to TIMER, LTIMER, a byte taken in phase 7 or in another
@@ -78,3 +78,17 @@ pub record WatchesFor (off : Bool) (first : ℕ) (w : Watch) (calls : List Watch
   pub off_is : w.off ≡ off
   pub limit_is : w.limit ≡ full_count off (timer_after first calls)
   pub count_is : w.count ≡ min (count_of off first calls) (2 ^ 32 - 1)
+
+-- what holds of the calls for which the watchdog keeps what it does, however it was made
+abbrev pub OfCalls : Watch → (Bool → ℕ → List WatchCall → Type 0) → Type 0
+OfCalls w Fact = (off : Bool) (first : ℕ) (calls : List WatchCall) → WatchesFor off first w calls → Fact off first calls
+
+-- what the calls after a making come to, and how the bytes behind them are
+module _ (off : Bool) (first : ℕ) (calls : List WatchCall) (eos : Bool) where
+  -- of so many bytes that of this number, from 1, fires, none before it does, and the watchdog counted all up to it
+  abbrev pub FiredAt : ℕ → ℕ → Watch → Type 0
+  FiredAt count n new = (0 < n) × (n ≤ count) × FiresAfter off first calls (n - 1) eos × WatchesFor off first new (calls ++ bytes_alike n eos) × NoneFires off first calls (n - 1) eos
+
+  -- none of so many fires, and the watchdog counted them
+  abbrev pub NoneFired : ℕ → Watch → Type 0
+  NoneFired count new = WatchesFor off first new (calls ++ bytes_alike count eos) × NoneFires off first calls count eos

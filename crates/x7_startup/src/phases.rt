@@ -31,7 +31,7 @@ fn wait_in(cor0: u32, phase: u8, lock: u16, matched: u16) -> u16
 pub fn tick(cor0: u32, start: Place, lock: u16, matched: u16) -> Place
     requires phase { start.phase ≤ 7 }
     ensures last { result.phase ≤ 7 }
-    ensures runs { Runs (wait_of lock matched cor0) start.ticks start.phase 1 result.ticks result.phase }
+    ensures runs { Runs (wait_of lock matched cor0) start 1 result }
 {
     let ticks = start.ticks.saturating_add(1);
     let phase = start.phase;
@@ -52,7 +52,7 @@ pub fn tick(cor0: u32, start: Place, lock: u16, matched: u16) -> Place
 pub fn run(cor0: u32, start: Place, count: u64, lock: u16, matched: u16) -> Place
     requires phase { start.phase ≤ 7 }
     ensures last { result.phase ≤ 7 }
-    ensures runs { Runs (wait_of lock matched cor0) start.ticks start.phase count result.ticks result.phase }
+    ensures runs { Runs (wait_of lock matched cor0) start count result }
 {
     let mut ticks = start.ticks;
     let mut phase = start.phase;

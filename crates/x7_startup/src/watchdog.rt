@@ -1,6 +1,6 @@
 //! The configuration watchdog (UG470, watchdog): it counts the bytes that have it on.
 ghost use Rattle.std.specs.Prelude.{◌≡◌, ◌<◌, ◌≤◌, ◌^◌, ◌+◌, ◌-◌, ◌*◌, ◌==◌, ◌&&◌, ◌↔◌, ◌∷◌, ◌++◌, not, min, ℕ, Bool, IsTrue, List, [], IfSome, IfNone, if◌then◌else◌};
-ghost use Rattle.x7_startup.specs.Count.{WatchCall, Load, Reload, Watched, Watch, WatchesFor, Fires, FiresAfter, NoneFires, bytes_alike, full_count};
+ghost use Rattle.x7_startup.specs.Count.{FiredAt, NoneFired, OfCalls, Load, Reload, Watched, Watch, WatchesFor, Fires, FiresAfter, NoneFires, bytes_alike, full_count};
 
 use std::marker::Model;
 
@@ -36,7 +36,7 @@ impl Watchdog {
 
     /// A word was written to TIMER.
     pub fn load(&mut self, timer: u32)
-        ensures stands { (off : Bool) (first : ℕ) (calls : List WatchCall) → WatchesFor off first self.old calls → WatchesFor off first self.new (calls ++ Load timer ∷ []) }
+        ensures stands { OfCalls self.old (λ off first calls. WatchesFor off first self.new (calls ++ Load timer ∷ [])) }
     {
         *self = Watchdog {
             off: self.off,
@@ -47,7 +47,7 @@ impl Watchdog {
 
     /// LTIMER: the count begins anew.
     pub fn reload(&mut self)
-        ensures stands { (off : Bool) (first : ℕ) (calls : List WatchCall) → WatchesFor off first self.old calls → WatchesFor off first self.new (calls ++ Reload ∷ []) }
+        ensures stands { OfCalls self.old (λ off first calls. WatchesFor off first self.new (calls ++ Reload ∷ [])) }
     {
         self.count = 0;
     }
@@ -61,8 +61,8 @@ impl Watchdog {
 
     /// One byte more was taken, in phase 7 or not: whether the watchdog fires at it.
     pub fn byte(&mut self, eos: bool) -> bool
-        ensures stands { (off : Bool) (first : ℕ) (calls : List WatchCall) → WatchesFor off first self.old calls → WatchesFor off first self.new (calls ++ Watched eos ∷ []) }
-        ensures fires { (off : Bool) (first : ℕ) (calls : List WatchCall) → WatchesFor off first self.old calls → (IsTrue result ↔ Fires off first calls eos) }
+        ensures stands { OfCalls self.old (λ off first calls. WatchesFor off first self.new (calls ++ Watched eos ∷ [])) }
+        ensures fires { OfCalls self.old (λ off first calls. (IsTrue result ↔ Fires off first calls eos)) }
     {
         if !counts(self.limit, eos) {
             return false;
@@ -74,11 +74,10 @@ impl Watchdog {
     /// So many bytes more were taken, up to the one at which it fires: the number of that byte, from 1.
     pub fn bytes(&mut self, count: u64, eos: bool) -> Option<u64>
         ensures within { IfSome result (λ n. (0 < n) × (n ≤ count)) }
-        ensures fires { (off : Bool) (first : ℕ) (calls : List WatchCall) → WatchesFor off first self.old calls →
-            IfSome result (λ n. (0 < n) × (n ≤ count) × FiresAfter off first calls (n - 1) eos × WatchesFor off first self.new (calls ++ bytes_alike n eos)
-            × NoneFires off first calls (n - 1) eos) }
-        ensures quiet { (off : Bool) (first : ℕ) (calls : List WatchCall) → WatchesFor off first self.old calls →
-            IfNone result (WatchesFor off first self.new (calls ++ bytes_alike count eos) × NoneFires off first calls count eos) }
+        ensures fires { OfCalls self.old (λ off first calls.
+            IfSome result (λ n. FiredAt off first calls eos count n self.new)) }
+        ensures quiet { OfCalls self.old (λ off first calls.
+            IfNone result (NoneFired off first calls eos count self.new)) }
     {
         let on = counts(self.limit, eos);
         let Some(n) = due_within(on, self.count, self.limit, count) else {

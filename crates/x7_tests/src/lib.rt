@@ -2,11 +2,7 @@
 #![tactic(auto)]
 
 #[cfg(test)]
-mod failing;
-#[cfg(test)]
 mod faults;
-#[cfg(test)]
-mod files;
 #[cfg(test)]
 mod forgetful;
 #[cfg(test)]

@@ -84,111 +84,44 @@ fn played(alloc: Global, text: &[u8], line: &[u8]) -> Option<(bool, u64, u8, u32
     Some((out.as_slice() == line, state.taken, state.phase, state.stat))
 }
 
+/// The line of a text that reads what it wants.
+const DONE: &[u8] = b"svf done\n";
+
+/// STAT of a new device.
+const NEW: u32 = 0x190C;
+
+/// Texts, and what each comes to: its line, the bytes taken, the phase and STAT.
+#[rattlefmt::skip]
+const PLAYED: [(&[u8], &[u8], u64, u8, u32); 16] = [
+    // IDCODE, its version masked out; a wrong bit; and TDI behind the bits that were captured
+    (b"STATE RESET; SIR 6 TDI (09); SDR 32 TDI (00000000) TDO (0362D093) MASK (0FFFFFFF);", DONE, 0, 0, NEW),
+    (b"STATE RESET; SIR 6 TDI (09); SDR 32 TDI (00000000) TDO (0362D092) MASK (0FFFFFFF);", b"svf differs 3 0\n", 0, 0, NEW),
+    (b"SDR 64 TDI (0000000012345678) TDO (123456780362D093);", DONE, 0, 0, NEW),
+    // digits in pieces, the fields in another order; and a wrong bit behind them
+    (b"SIR 6 TDI ( 0 9); SDR 32 MASK (0F!f)\n FFF\tFFF) TDO(03\r\n62 D093)TDI (0\n0);", DONE, 0, 0, NEW),
+    (b"SIR 6 TDI (0 9); SDR 32 TDO (0362 D0 93) TDI (0); SDR 32 TDI (0) TDO (\n03 62D0 91);", b"svf differs 3 1\n", 0, 0, NEW),
+    // a read of STAT, and a no-op that waits until the word is out
+    (b"SIR 6 TDI (05); SDR 96 TDI (000000048007001466AA9955); SIR 6 TDI (04); SDR 32 TDI (00000000) TDO (30980000);", DONE, 12, 0, NEW),
+    (b"SIR 6 TDI (05); SDR 96 TDI (000000048007001466AA9955); SIR 6 TDI (04); SDR 31 TDI (00000000) TDO (30980000);", DONE, 8, 0, NEW),
+    // a word over two scans, and 0 where none waits
+    (b"SIR 6 TDI (05); SDR 64 TDI (8007001466AA9955); SIR 6 TDI (04); SDR 40 TDI (0) TDO (0030980000); SDR 8 TDI (0) TDO (00);", DONE, 8, 0, NEW),
+    // 64 bytes are held; the next one drops the word
+    (b"SIR 6 TDI (05); SDR 608 TDI (00000004000000040000000400000004000000040000000400000004000000040000000400000004000000040000000400000004000000040000000400000004000000048007001466AA9955); SIR 6 TDI (04); SDR 32 TDI (0) TDO (0);", DONE, 76, 0, NEW),
+    // USERCODE, BYPASS and a code without a name
+    (b"SIR 6 TDI (08); SDR 32 TDI (0) TDO (FFFFFFFF);", DONE, 0, 0, NEW),
+    (b"SIR 6 TDI (3F); SDR 9 TDI (155) TDO (0AA);", DONE, 0, 0, NEW),
+    (b"SIR 6 TDI (00); SDR 9 TDI (155) TDO (0AA);", DONE, 0, 0, NEW),
+    // Capture-IR shows INIT_B, and DONE where startup by JSTART has ended: eight clocks a byte
+    (b"SIR 6 TDI (09) TDO (11);", DONE, 0, 0, NEW),
+    (b"SIR 6 TDI (05); SDR 288 TDI (B00000008001000C00007DC08004000CA00000008001000CC90B46C08001800C66AA9955); SIR 6 TDI (0C); RUNTEST 223 TCK;", DONE, 63, 6, 0x14796C),
+    (b"SIR 6 TDI (05); SDR 288 TDI (B00000008001000C00007DC08004000CA00000008001000CC90B46C08001800C66AA9955); SIR 6 TDI (0C); RUNTEST 224 TCK; SIR 6 TDI (09) TDO (31);", DONE, 64, 7, 0x10797C),
+    // JPROGRAM
+    (b"SIR 6 TDI (05); SDR 96 TDI (000000048007001466AA9955); SIR 6 TDI (0B);", DONE, 0, 0, NEW),
+];
+
 #[test]
 fn texts_are_played_on_a_new_device(rt: HostRuntime) {
-    let done: &[u8] = b"svf done\n";
-    let cases: [(&[u8], &[u8], u64, u8, u32); 14] = [
-        // IDCODE, its version masked out; a wrong bit; and TDI behind the bits that were captured
-        (
-            b"STATE RESET; SIR 6 TDI (09); SDR 32 TDI (00000000) TDO (0362D093) MASK (0FFFFFFF);",
-            done,
-            0,
-            0,
-            0x190C,
-        ),
-        (
-            b"STATE RESET; SIR 6 TDI (09); SDR 32 TDI (00000000) TDO (0362D092) MASK (0FFFFFFF);",
-            b"svf differs 3 0\n",
-            0,
-            0,
-            0x190C,
-        ),
-        (
-            b"SDR 64 TDI (0000000012345678) TDO (123456780362D093);",
-            done,
-            0,
-            0,
-            0x190C,
-        ),
-        // a read of STAT, and a no-op that waits until the word is out
-        (
-            b"SIR 6 TDI (05); SDR 96 TDI (000000048007001466AA9955); SIR 6 TDI (04); SDR 32 TDI (00000000) TDO (30980000);",
-            done,
-            12,
-            0,
-            0x190C,
-        ),
-        (
-            b"SIR 6 TDI (05); SDR 96 TDI (000000048007001466AA9955); SIR 6 TDI (04); SDR 31 TDI (00000000) TDO (30980000);",
-            done,
-            8,
-            0,
-            0x190C,
-        ),
-        // a word over two scans, and 0 where none waits
-        (
-            b"SIR 6 TDI (05); SDR 64 TDI (8007001466AA9955); SIR 6 TDI (04); SDR 40 TDI (0) TDO (0030980000); SDR 8 TDI (0) TDO (00);",
-            done,
-            8,
-            0,
-            0x190C,
-        ),
-        // 64 bytes are held; the next one drops the word
-        (
-            b"SIR 6 TDI (05); SDR 608 TDI (00000004000000040000000400000004000000040000000400000004000000040000000400000004000000040000000400000004000000040000000400000004000000048007001466AA9955); SIR 6 TDI (04); SDR 32 TDI (0) TDO (0);",
-            done,
-            76,
-            0,
-            0x190C,
-        ),
-        // USERCODE, BYPASS and a code without a name
-        (
-            b"SIR 6 TDI (08); SDR 32 TDI (0) TDO (FFFFFFFF);",
-            done,
-            0,
-            0,
-            0x190C,
-        ),
-        (
-            b"SIR 6 TDI (3F); SDR 9 TDI (155) TDO (0AA);",
-            done,
-            0,
-            0,
-            0x190C,
-        ),
-        (
-            b"SIR 6 TDI (00); SDR 9 TDI (155) TDO (0AA);",
-            done,
-            0,
-            0,
-            0x190C,
-        ),
-        // Capture-IR shows INIT_B, and DONE where startup by JSTART has ended: eight clocks a byte
-        (b"SIR 6 TDI (09) TDO (11);", done, 0, 0, 0x190C),
-        (
-            b"SIR 6 TDI (05); SDR 288 TDI (B00000008001000C00007DC08004000CA00000008001000CC90B46C08001800C66AA9955); SIR 6 TDI (0C); RUNTEST 223 TCK;",
-            done,
-            63,
-            6,
-            0x14796C,
-        ),
-        (
-            b"SIR 6 TDI (05); SDR 288 TDI (B00000008001000C00007DC08004000CA00000008001000CC90B46C08001800C66AA9955); SIR 6 TDI (0C); RUNTEST 224 TCK; SIR 6 TDI (09) TDO (31);",
-            done,
-            64,
-            7,
-            0x10797C,
-        ),
-        // JPROGRAM
-        (
-            b"SIR 6 TDI (05); SDR 96 TDI (000000048007001466AA9955); SIR 6 TDI (0B);",
-            done,
-            0,
-            0,
-            0x190C,
-        ),
-    ];
-    for (text, line, taken, phase, stat) in cases {
+    for (text, line, taken, phase, stat) in PLAYED {
         assert!(rt; played(rt.alloc(), text, line) == Some((true, taken, phase, stat)));
     }
 }

@@ -1,12 +1,13 @@
 -- Digits in vector registers.
-use Rattle.std.proofs.Common.{◌≡◌, ◌==◌, ℕ, zero, suc, ◌+◌, ◌*◌, ◌/◌, ◌%◌, ◌^◌, ◌<◌, Bool, true, false, if◌then◌else◌, cond, codes, ltb, List, [], ◌∷◌, ◌++◌, length, map, replicate, drop, append_assoc, append-nil, bit_and, refl, ap, ap₂, sym, subst, ◌∙◌, arith, get_or, inl, inr, w8}
+use Rattle.std.proofs.Common.{◌≡◌, ◌==◌, ℕ, take, zero, suc, ◌+◌, ◌*◌, ◌/◌, ◌%◌, ◌^◌, ◌<◌, Bool, true, false, if◌then◌else◌, cond, codes, ltb, List, [], ◌∷◌, ◌++◌, length, map, replicate, drop, append_assoc, append-nil, bit_and, refl, ap, ap₂, sym, subst, ◌∙◌, arith, get_or, inl, inr, w8}
 use Rattle.std.proofs.lemmas.Grind.{common_steps}
 use Rattle.std.proofs.lemmas.Nat.Bits.{and_high}
 use Rattle.std.proofs.lemmas.Bool.{cases_lt, eqb-true}
 use Rattle.std.proofs.lemmas.List.{ext_get_or, get_or-map, length-map}
 use Rattle.std.proofs.lemmas.Simd.{Each1-from_get_or, Each1-get_or, get_or-swz_l_below, length-swz_l, pick_l_whole, put_chunk_is, swz_l, SwzOk, SwzOk-from_below}
 use Rattle.std.specs.List.{flat_map, range_with_len}
-use lib.Lanes.{Each1, pick_l, put_chunk, sel_l, top, zip2}
+use lib.Lanes.{Each1, chunk, pick_l, put_chunk, sel_l, top, zip2}
+use Rattle.std.specs.Simd.{first_chunks}
 use Rattle.x7_text.specs.Digits.{hex_byte, hex_digit}
 use Rattle.x7_text.specs.Row.{line}
 
@@ -124,3 +125,26 @@ bytes-line bs digits e long =
     length-hex : (xs : List ℕ) → length (flat_map hex_byte xs) ≡ 2 * length xs
     length-hex [] = refl
     length-hex (x ∷ xs) = omega (arith, length-hex xs)
+
+-- ---- a `data` line by sixteen bytes: its digits, of which five parts are made with the bytes of what stands beside them
+
+abbrev pub beside : List ℕ
+beside = codes "data \n          "
+
+abbrev pub parts_with : (a b c d : List ℕ) → List (List ℕ)
+parts_with a b c d =
+    pick_l 0 (a ++ beside) (16 ∷ 17 ∷ 18 ∷ 19 ∷ 20 ∷ 0 ∷ 1 ∷ 2 ∷ 3 ∷ 4 ∷ 5 ∷ 6 ∷ 7 ∷ 20 ∷ 8 ∷ 9 ∷ [])
+    ∷ pick_l 0 (pick_l 0 (a ++ b) (10 ∷ 11 ∷ 12 ∷ 13 ∷ 14 ∷ 15 ∷ 0 ∷ 16 ∷ 17 ∷ 18 ∷ 19 ∷ 20 ∷ 21 ∷ 22 ∷ 23 ∷ 0 ∷ []) ++ beside) (0 ∷ 1 ∷ 2 ∷ 3 ∷ 4 ∷ 5 ∷ 20 ∷ 7 ∷ 8 ∷ 9 ∷ 10 ∷ 11 ∷ 12 ∷ 13 ∷ 14 ∷ 20 ∷ [])
+    ∷ pick_l 0 (pick_l 0 (b ++ c) (8 ∷ 9 ∷ 10 ∷ 11 ∷ 12 ∷ 13 ∷ 14 ∷ 15 ∷ 0 ∷ 16 ∷ 17 ∷ 18 ∷ 19 ∷ 20 ∷ 21 ∷ 22 ∷ []) ++ beside) (0 ∷ 1 ∷ 2 ∷ 3 ∷ 4 ∷ 5 ∷ 6 ∷ 7 ∷ 20 ∷ 9 ∷ 10 ∷ 11 ∷ 12 ∷ 13 ∷ 14 ∷ 15 ∷ [])
+    ∷ pick_l 0 (pick_l 0 (c ++ d) (7 ∷ 0 ∷ 8 ∷ 9 ∷ 10 ∷ 11 ∷ 12 ∷ 13 ∷ 14 ∷ 15 ∷ 0 ∷ 16 ∷ 17 ∷ 18 ∷ 19 ∷ 20 ∷ []) ++ beside) (0 ∷ 20 ∷ 2 ∷ 3 ∷ 4 ∷ 5 ∷ 6 ∷ 7 ∷ 8 ∷ 9 ∷ 20 ∷ 11 ∷ 12 ∷ 13 ∷ 14 ∷ 15 ∷ [])
+    ∷ pick_l 0 (d ++ beside) (5 ∷ 6 ∷ 7 ∷ 20 ∷ 8 ∷ 9 ∷ 10 ∷ 11 ∷ 12 ∷ 13 ∷ 14 ∷ 15 ∷ 21 ∷ 21 ∷ 21 ∷ 21 ∷ [])
+    ∷ []
+
+abbrev pub parts_of : List ℕ → List (List ℕ)
+parts_of digits = parts_with (chunk 0 16 digits) (chunk 16 16 digits) (chunk 32 16 digits) (chunk 48 16 digits)
+
+abbrev InParts : List ℕ → Type 0
+InParts digits = take 77 (flat_map (λ (part : List ℕ). part) (parts_of digits)) ≡ codes "data" ++ (flat_map (λ (w : List ℕ). 32 ∷ w) (first_chunks 8 8 digits) ++ 10 ∷ [])
+
+pub in_parts : (digits : List ℕ) → length digits ≡ 64 → InParts digits
+in_parts digits e = let h : InParts (pick_l 0 digits (range_with_len 0 64)) = refl in subst InParts (pick_l_whole 0 digits 64 e) h

@@ -7,7 +7,7 @@ use Rattle.std.specs.List.{flat_map}
 use Rattle.std.specs.Simd.{first_chunks}
 use Rattle.x7_words.specs.Word.{AreBytes, AreWords, bytes_of_word, word_of_bytes, words_of_bytes}
 use Rattle.x7_words.proofs.ListLemmas.{all_from_places, all_take}
-use Rattle.x7_words.proofs.WordLemmas.{bytes-words, length-words, words-fit}
+use Rattle.x7_words.proofs.WordLemmas.{bytes-fit, bytes-words, length-words, words-back, words-fit, words_taken}
 use Rattle.x7_text.specs.Digits.{hex_byte, hex_word}
 use Rattle.x7_text.specs.Row.{spaced}
 use Rattle.x7_text.proofs.WholeLineLemmas.{length-hex_bytes}
@@ -33,33 +33,13 @@ take-spaced (suc n) [] z h = absurd (omega arith)
 take-spaced (suc n) (w ∷ ws) z h = let e : 9 * suc n ≡ suc (suc (suc (suc (suc (suc (suc (suc (suc (9 * n))))))))) = omega arith in
     ap (λ (j : ℕ). take j (flat_map spaced (w ∷ ws) ++ z)) e ∙ ap (λ t. spaced w ++ t) (take-spaced n ws z (omega arith))
 
-pub take-words : (n : ℕ) (bs : List ℕ) → 4 * n ≤ length bs → take n (words_of_bytes bs) ≡ words_of_bytes (take (4 * n) bs)
-take-words zero bs h = refl
-take-words (suc n) [] h = absurd (omega arith)
-take-words (suc n) (a ∷ []) h = absurd (omega arith)
-take-words (suc n) (a ∷ b ∷ []) h = absurd (omega arith)
-take-words (suc n) (a ∷ b ∷ c ∷ []) h = absurd (omega arith)
-take-words (suc n) (a ∷ b ∷ c ∷ d ∷ bs) h = let e : 4 * suc n ≡ suc (suc (suc (suc (4 * n)))) = omega arith in
-    ap (λ t. word_of_bytes (a ∷ b ∷ c ∷ d ∷ []) ∷ t) (take-words n bs (omega arith)) ∙ ap (λ (j : ℕ). words_of_bytes (take j (a ∷ b ∷ c ∷ d ∷ bs))) (sym e)
-
 bytes-front : (bs zs : List ℕ) → AreBytes bs → bytes_value (flat_map hex_byte bs ++ zs) ≡ bs ++ bytes_value zs
 bytes-front [] zs h = refl
 bytes-front (b ∷ bs) zs h = ap₂ (λ (x : ℕ) (t : List ℕ). x ∷ t) (byte-back b h.0) (bytes-front bs zs h.1)
 
-word-whole : (w : ℕ) → w < 2 ^ 32 → word_of_bytes (bytes_of_word w) ≡ w
-word-whole w h = omega arith
-
-words-front : (ws zs : List ℕ) → AreWords ws → words_of_bytes (flat_map bytes_of_word ws ++ zs) ≡ ws ++ words_of_bytes zs
-words-front [] zs h = refl
-words-front (w ∷ ws) zs h = ap₂ (λ (x : ℕ) (t : List ℕ). x ∷ t) (word-whole w h.0) (words-front ws zs h.1)
-
-hex-words : (ws : List ℕ) → AreWords ws → flat_map hex_word ws ≡ flat_map hex_byte (flat_map bytes_of_word ws)
+pub hex-words : (ws : List ℕ) → AreWords ws → flat_map hex_word ws ≡ flat_map hex_byte (flat_map bytes_of_word ws)
 hex-words [] h = refl
 hex-words (w ∷ ws) h = ap₂ (λ (x t : List ℕ). x ++ t) (word-digits w h.0) (hex-words ws h.1)
-
-are-bytes : (ws : List ℕ) → AreBytes (flat_map bytes_of_word ws)
-are-bytes [] = tt
-are-bytes (w ∷ ws) = (omega arith, (omega arith, (omega arith, (omega arith, are-bytes ws))))
 
 digits-of-spaced : (ws : List ℕ) → flat_map (λ (word : List ℕ). drop 1 word) (first_chunks 9 (length ws) (flat_map spaced ws)) ≡ flat_map hex_word ws
 digits-of-spaced [] = refl
@@ -104,7 +84,7 @@ no-word-row ds p r told m b same front long value text off is ws row e =
     let ds_of : flat_map (λ (word : List ℕ). drop 1 word) (first_chunks 9 (length ds / 9) ds) ≡ flat_map hex_byte (flat_map bytes_of_word ws) =
     ap₂ (λ (k : ℕ) (t : List ℕ). flat_map (λ (word : List ℕ). drop 1 word) (first_chunks 9 k t)) count e ∙ digits-of-spaced ws ∙ hex-words ws row.0 in
     let whole : p ≡ flat_map hex_byte (flat_map bytes_of_word ws) ++ T = sym (take-append-drop (8 * (length ds / 9)) p) ∙ ap (λ t. t ++ T) (front ∙ ds_of) in
-    let read : words_of_bytes r ≡ ws ++ words_of_bytes (bytes_value T) = ap words_of_bytes (value ∙ ap bytes_value whole ∙ bytes-front (flat_map bytes_of_word ws) T (are-bytes ws)) ∙ words-front ws (bytes_value T) row.0 in
+    let read : words_of_bytes r ≡ ws ++ words_of_bytes (bytes_value T) = ap words_of_bytes (value ∙ ap bytes_value whole ∙ bytes-front (flat_map bytes_of_word ws) T (bytes-fit ws)) ∙ words-back ws (bytes_value T) row.0 in
     let again : told ≡ ds ++ (flat_map spaced (words_of_bytes (bytes_value T)) ++ 10 ∷ []) =
     text ∙ ap (λ t. flat_map spaced t ++ 10 ∷ []) read ∙ ap (λ t. t ++ 10 ∷ []) (flat_map-append spaced ws (words_of_bytes (bytes_value T)) ∙ ap (λ t. t ++ flat_map spaced (words_of_bytes (bytes_value T))) (sym e)) ∙ append_assoc ds (flat_map spaced (words_of_bytes (bytes_value T))) (10 ∷ []) in
     refuted b off (is (ap (λ (j : ℕ). take j told) same ∙ ap (take (length ds)) again ∙ take-append_seam ds (flat_map spaced (words_of_bytes (bytes_value T)) ++ 10 ∷ [])))
@@ -117,7 +97,7 @@ yes-word-row ds r told old new m n eq long fit text same some nine few appended 
     let all : AreBytes (take (4 * n) r) = all_take (λ b. b < 256) (4 * n) r (all_from_places (λ b. b < 256) r (λ k l. fit k)) in
     let words : length (words_of_bytes (take (4 * n) r)) ≡ n = length-words (take (4 * n) r) n count in
     let eight : length (words_of_bytes r) ≡ 8 = length-words r 8 long in
-    let is : ds ≡ flat_map spaced (words_of_bytes (take (4 * n) r)) = sym same ∙ ap (λ (j : ℕ). take j told) eq ∙ ap (take (length ds)) text ∙ ap (λ (j : ℕ). take j (flat_map spaced (words_of_bytes r) ++ 10 ∷ [])) nine ∙ take-spaced n (words_of_bytes r) (10 ∷ []) (omega arith) ∙ ap (flat_map spaced) (take-words n r (omega arith)) in
+    let is : ds ≡ flat_map spaced (words_of_bytes (take (4 * n) r)) = sym same ∙ ap (λ (j : ℕ). take j told) eq ∙ ap (take (length ds)) text ∙ ap (λ (j : ℕ). take j (flat_map spaced (words_of_bytes r) ++ 10 ∷ [])) nine ∙ take-spaced n (words_of_bytes r) (10 ∷ []) (omega arith) ∙ ap (flat_map spaced) (sym (words_taken n r (omega arith))) in
     (words_of_bytes (take (4 * n) r), (words-fit (take (4 * n) r) all, omega (arith, words), omega (arith, words)), is, appended ∙ ap (λ t. old ++ t) (sym (bytes-words (take (4 * n) r) n all count)))
 
 -- a row of one word

@@ -3,6 +3,7 @@ use Rattle.std.proofs.Common.{◌≡◌, ℕ, ◌+◌, ◌*◌, ◌/◌, ◌%◌
 use Rattle.std.proofs.lemmas.Grind.{common_steps}
 use Rattle.std.specs.List.{flat_map}
 use Rattle.x7_words.specs.Word.{AreBytes, bytes_of_word, word_of_bytes}
+use Rattle.x7_words.proofs.WordLemmas.{word-whole}
 use Rattle.x7_text.specs.Digits.{hex_byte, hex_digit, hex_word}
 use Rattle.x7_text.specs.DigitValue.{byte_value, bytes_value, digit_value, word_value}
 
@@ -32,9 +33,6 @@ word-digits w h =
 
 pub word-bytes : (w : ℕ) → AreBytes (bytes_of_word w)
 word-bytes w = (omega arith, (omega arith, (omega arith, (omega arith, tt))))
-
-word-whole : (w : ℕ) → w < 2 ^ 32 → word_of_bytes (bytes_of_word w) ≡ w
-word-whole w h = omega arith
 
 pub word-back : (w : ℕ) → w < 2 ^ 32 → word_value (hex_word w) ≡ w
 word-back w h = ap word_value (word-digits w h) ∙ ap word_of_bytes (bytes-back (bytes_of_word w) (word-bytes w)) ∙ word-whole w h

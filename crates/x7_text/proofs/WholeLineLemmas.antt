@@ -1,6 +1,6 @@
 -- Whole lines at once, and the parts of a text that is told in three parts.
-use Rattle.std.proofs.Common.{◌≡◌, ℕ, zero, suc, ◌+◌, ◌*◌, ◌<◌, ◌≤◌, List, [], ◌∷◌, ◌++◌, length, take, drop, get_or, set, codes, refl, ap, sym, ◌∙◌, append_assoc, arith, length-append, length-drop}
-use Rattle.std.proofs.lemmas.List.{drop-drop, flat_map_more, length-set, length-take-le, take-append-drop, take_all, take_at, take_more, take_more_set}
+use Rattle.std.proofs.Common.{◌≡◌, ℕ, zero, suc, ◌+◌, ◌*◌, ◌<◌, ◌≤◌, List, [], ◌∷◌, ◌++◌, length, take, drop, codes, refl, ap, sym, ◌∙◌, append_assoc, arith, length-drop}
+use Rattle.std.proofs.lemmas.List.{drop-drop, length-take-le, take-append-drop}
 use Rattle.std.proofs.lemmas.List.Folds.{flat_map-map}
 use Rattle.std.specs.List.{flat_map}
 use Rattle.std.specs.Simd.{first_chunks}
@@ -9,35 +9,15 @@ use Rattle.x7_text.specs.Digits.{hex_byte, hex_word}
 use Rattle.x7_text.specs.Row.{in_line_after, line, open_text, spaced}
 use Rattle.x7_words.specs.Word.{words_of_bytes}
 use Rattle.x7_text.proofs.LineLemmas.{in_line_after-append, in_line_after-filled, in_line_after-row, open_text-append, open_text-row}
-use Rattle.x7_text.proofs.WordLemmas.{hex_words, length-words_of_bytes, words_of_bytes-append}
+use Rattle.x7_words.proofs.WordLemmas.{length-words, words_of_bytes-append}
+use Rattle.x7_text.proofs.WordLemmas.{hex_words}
 
--- a line of words is written word by word: a space, and the word's digits
-pub line_step : (text text' : List ℕ) (words : List (List ℕ)) (k : ℕ) → k < length words
-    → take (4 + 9 * k) text ≡ codes "data" ++ flat_map (λ (w : List ℕ). 32 ∷ w) (take k words)
-    → take (4 + 9 * k + 9) text' ≡ take (4 + 9 * k) text ++ 32 ∷ get_or words k []
-    → take (4 + 9 * (k + 1)) text' ≡ codes "data" ++ flat_map (λ (w : List ℕ). 32 ∷ w) (take (k + 1) words)
-line_step text text' words k below told more =
-    let e : 4 + 9 * (k + 1) ≡ 4 + 9 * k + 9 = omega arith in
-    ap (λ (j : ℕ). take j text') e ∙ more ∙ ap (λ t. t ++ 32 ∷ get_or words k []) told
-    ∙ flat_map_more (λ (w : List ℕ). 32 ∷ w) (codes "data") (take k words) (get_or words k [])
-    ∙ ap (λ ws. codes "data" ++ flat_map (λ (w : List ℕ). 32 ∷ w) ws) (sym (take_more words k [] below))
-
-pub spaced_step : (text word rest : List ℕ) (at : ℕ) → length word ≡ 8 → at < length text
-    → take (at + 9) (take (at + 1) (set text at 32) ++ (word ++ rest)) ≡ take at text ++ 32 ∷ word
-spaced_step text word rest at eight room =
-    let front : take (at + 1) (set text at 32) ≡ take at text ++ 32 ∷ [] = take_more_set text at 32 room in
-    ap (take (at + 9)) (sym (append_assoc (take (at + 1) (set text at 32)) word rest))
-    ∙ take_at (take (at + 1) (set text at 32) ++ word) rest (at + 9) (omega (arith, length-append (take (at + 1) (set text at 32)) word, length-take-le (at + 1) (set text at 32) (omega (arith, length-set text at 32))))
-    ∙ ap (λ t. t ++ word) front ∙ append_assoc (take at text) (32 ∷ []) word
-
-pub line_done : (text bs digits : List ℕ) (words : List (List ℕ)) (k n : ℕ) → length text ≡ 77 → length bs ≡ 32 → Each1 (λ b. b < 256) bs → digits ≡ flat_map hex_byte bs → words ≡ first_chunks 8 n digits
-    → n ≡ 8 → k ≡ 8 → length words ≡ 8 → take (4 + 9 * k) text ≡ codes "data" ++ flat_map (λ (w : List ℕ). 32 ∷ w) (take k words) → set text 76 10 ≡ line (codes "data") spaced (words_of_bytes bs)
-line_done text bs digits words k n long full fit same split of_eight at_end eight told =
-    sym (take_all 77 (set text 76 10) (omega (arith, length-set text 76 10)))
-    ∙ take_more_set text 76 10 (omega arith)
-    ∙ ap (λ t. t ++ 10 ∷ []) (ap (λ (j : ℕ). take (4 + 9 * j) text) (sym at_end) ∙ told ∙ ap (λ ws. codes "data" ++ flat_map (λ (w : List ℕ). 32 ∷ w) ws)
-    (take_all k words (omega arith) ∙ split ∙ ap (λ (j : ℕ). first_chunks 8 j digits) of_eight ∙ ap (first_chunks 8 8) same ∙ hex_words 8 bs full fit)
-    ∙ ap (λ t. codes "data" ++ t) (flat_map-map (λ (w : List ℕ). 32 ∷ w) hex_word (words_of_bytes bs)))
+-- the words of a whole line, each behind a space
+pub whole_line : (bs digits : List ℕ) → length bs ≡ 32 → Each1 (λ b. b < 256) bs → digits ≡ flat_map hex_byte bs
+    → codes "data" ++ (flat_map (λ (w : List ℕ). 32 ∷ w) (first_chunks 8 8 digits) ++ 10 ∷ []) ≡ line (codes "data") spaced (words_of_bytes bs)
+whole_line bs digits full fit same =
+    ap (λ t. codes "data" ++ (t ++ 10 ∷ []))
+    (ap (λ t. flat_map (λ (w : List ℕ). 32 ∷ w) (first_chunks 8 8 t)) same ∙ ap (flat_map (λ (w : List ℕ). 32 ∷ w)) (hex_words 8 bs full fit) ∙ flat_map-map (λ (w : List ℕ). 32 ∷ w) hex_word (words_of_bytes bs))
 
 -- elements that fill an open line
 pub in_line_after-full : (n i : ℕ) (xs : List ℕ) → i < n → i + length xs ≡ n → in_line_after n i xs ≡ 0
@@ -53,7 +33,7 @@ pub record InRows (n : ℕ) (elements : List ℕ → List ℕ) : Type 0 where
 pub words_in_rows : InRows 8 words_of_bytes
 words_in_rows = record {
   divides = λ bs h. ap words_of_bytes (sym (take-append-drop 32 bs)) ∙ words_of_bytes-append 8 (take 32 bs) (drop 32 bs) (length-take-le 32 bs h);
-  is_full = λ bs h. length-words_of_bytes 8 (take 32 bs) (length-take-le 32 bs h);
+  is_full = λ bs h. length-words (take 32 bs) 8 (length-take-le 32 bs h);
   positive = omega arith;
 }
 

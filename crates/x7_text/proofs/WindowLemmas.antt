@@ -6,12 +6,12 @@ use Rattle.std.proofs.lemmas.List.{take-append-le, take-take}
 use Rattle.std.specs.List.{flat_map}
 use Rattle.std.specs.Simd.{first_chunks}
 use Rattle.x7_words.specs.Word.{words_of_bytes}
-use Rattle.x7_words.proofs.WordLemmas.{length-words, words_of_bytes-append}
+use Rattle.x7_words.proofs.WordLemmas.{length-words, words_of_bytes-append, words_taken}
 use Rattle.x7_text.specs.Digits.{hex_byte}
 use Rattle.x7_text.specs.Row.{bytes_text, close, in_line_after, line, open_text, spaced}
 use Rattle.x7_text.proofs.FewLemmas.{few_count, few_text, hex_front}
 use Rattle.x7_text.proofs.LineLemmas.{bytes_closed, in_line_after-row, in_line_after-whole, open_text-row, open_text-whole}
-use Rattle.x7_text.proofs.ReadRowLemmas.{take-spaced, take-words}
+use Rattle.x7_text.proofs.ReadRowLemmas.{take-spaced}
 use Rattle.x7_text.proofs.WholeLineLemmas.{length-hex_bytes}
 
 -- how many words the first bytes are
@@ -46,7 +46,7 @@ first_words old all told new bytes n count some few long is e f g =
     let number : length (words_of_bytes (take (4 * count) bytes)) ≡ count = first_count bytes count (omega (arith, long, few)) in
     let four : 4 + 9 * count ≡ suc (suc (suc (suc (9 * count)))) = omega arith in
     let digits : take (9 * count) (flat_map spaced (words_of_bytes bytes) ++ 10 ∷ []) ≡ flat_map spaced (words_of_bytes (take (4 * count) bytes)) =
-    take-spaced count (words_of_bytes bytes) (10 ∷ []) (omega (arith, eight, few)) ∙ ap (flat_map spaced) (take-words count bytes (omega (arith, long, few))) in
+    take-spaced count (words_of_bytes bytes) (10 ∷ []) (omega (arith, eight, few)) ∙ ap (flat_map spaced) (sym (words_taken count bytes (omega (arith, long, few)))) in
     let shown : take (4 + 9 * count) told ≡ codes "data" ++ flat_map spaced (words_of_bytes (take (4 * count) bytes)) =
     ap (take (4 + 9 * count)) is ∙ ap (λ (m : ℕ). take m (line (codes "data") spaced (words_of_bytes bytes))) four ∙ ap (λ t. codes "data" ++ t) digits in
     kept_front old all told new n (4 + 9 * count) e f g ∙ ap (λ t. old ++ t) (shown ∙ sym (few_text 8 (codes "data") spaced 0 (words_of_bytes (take (4 * count) bytes)) (omega (arith, number, some)) (omega (arith, number, few))))
@@ -126,9 +126,3 @@ first_of_line old all cut new bytes n count some few long e at f g =
     let within : n ≤ length ((old ++ codes "bytes ") ++ flat_map hex_byte bytes) = omega (arith, at, few, long, length-append (old ++ codes "bytes ") hex, length-append old (codes "bytes "), length-hex_bytes bytes) in
     first_bytes old (old ++ codes "bytes ") ((old ++ codes "bytes ") ++ flat_map hex_byte bytes) (flat_map hex_byte bytes) cut new bytes n count some few long refl refl at refl
     (f ∙ ap (take n) whole ∙ take-append-le n ((old ++ codes "bytes ") ++ flat_map hex_byte bytes) (10 ∷ []) within) g
-
-pub first_line-length : (bytes : List ℕ) → length bytes ≡ 32 → length (line (codes "bytes ") hex_byte bytes) ≡ 71
-first_line-length bytes long = omega (arith, long, length-append (codes "bytes " ++ flat_map hex_byte bytes) (10 ∷ []), length-append (codes "bytes ") (flat_map hex_byte bytes), length-hex_bytes bytes)
-
-pub first_bytes-length : (bytes told : List ℕ) → length bytes ≡ 32 → told ≡ flat_map hex_byte bytes → length told ≡ 64
-first_bytes-length bytes told long is = ap length is ∙ length-hex_bytes bytes ∙ omega (arith, long)

@@ -1,5 +1,4 @@
 -- The digits of words and of their bytes.
-pub use Rattle.x7_words.proofs.WordLemmas.{length-words_of_bytes, map-take_more, words_of_bytes-all, words_of_bytes-append, words_of_bytes-chunks}
 use Rattle.std.proofs.Common.{◌≡◌, ℕ, zero, suc, ◌+◌, ◌*◌, ◌/◌, ◌%◌, ◌^◌, ◌<◌, List, [], ◌∷◌, ◌++◌, length, map, refl, ap₂, arith}
 use Rattle.std.specs.List.{flat_map}
 use Rattle.std.specs.Simd.{first_chunks}

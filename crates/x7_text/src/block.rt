@@ -1,7 +1,7 @@
 //! Lines of 32 bytes at once: their digits in vector registers, and the line in an array.
 ghost use Rattle.std.specs.Prelude.{◌≡◌, ◌<◌, ◌≤◌, ◌+◌, ◌*◌, ◌/◌, ◌%◌, ◌^◌, [], ◌∷◌, ◌++◌, length, take, map, codes};
 ghost use Rattle.std.specs.List.{flat_map};
-ghost use Rattle.std.specs.Simd.Lanes.{Each1};
+ghost use Rattle.std.specs.Simd.Lanes.{Each1, chunk};
 ghost use Rattle.x7_text.specs.Digits.{hex_byte, hex_digit};
 ghost use Rattle.x7_text.specs.Row.{line, spaced};
 ghost use Rattle.x7_words.specs.Word.{words_of_bytes};
@@ -86,14 +86,71 @@ pub(crate) fn hex_of_four(bytes: &[u8; 4]) -> [u8; 8]
     eight_hex_digits(halves_of_four(u8x4::from_array(*bytes))).to_array()
 }
 
-/// Writes a space and the eight digits of a word from `at` on.
+/// What a `data` line has beside digits: its word, a space and the line end.
+const BESIDE: [u8; 16] = *b"data \n          ";
+
+/// Sixteen of the digits of a block, from `at` on.
 #[inline(always)]
-fn write_spaced(text: &mut [u8; 77], at: usize, digits: &[u8; 8])
-    requires { at + 9 ≤ 77 }
-    ensures { take (at + 9) text.new ≡ take at text.old ++ 32 ∷ digits.now }
+fn sixteen_of(digits: &[u8; 64], at: usize) -> u8x16
+    requires { at + 16 ≤ 64 }
+    ensures { result ≡ chunk at 16 digits.now }
 {
-    text[at] = b' ';
-    u8x8::from_array(*digits).copy_to_slice(&mut text[at + 1..]);
+    u8x16::from_slice(&digits[at..])
+}
+
+/// The `data` line of eight words, with its line end, and three bytes behind it. It is stored by sixteen bytes: digits of one
+/// vector, or of two that follow each other, and then what stands between them.
+#[inline(always)]
+fn wide_line(bytes: &[u8; 32]) -> [u8; 80]
+    ensures long { length result ≡ 80 }
+    ensures line { take 77 result ≡ line (codes "data") spaced (words_of_bytes bytes.now) }
+{
+    let digits = hex_of_block(bytes);
+    let (a, b) = (sixteen_of(&digits, 0), sixteen_of(&digits, 16));
+    let (c, d) = (sixteen_of(&digits, 32), sixteen_of(&digits, 48));
+    let beside = u8x16::from_array(BESIDE);
+    let first = a.shuffle(
+        beside,
+        [16, 17, 18, 19, 20, 0, 1, 2, 3, 4, 5, 6, 7, 20, 8, 9],
+    );
+    let second = a
+        .shuffle(
+            b,
+            [10, 11, 12, 13, 14, 15, 0, 16, 17, 18, 19, 20, 21, 22, 23, 0],
+        )
+        .shuffle(
+            beside,
+            [0, 1, 2, 3, 4, 5, 20, 7, 8, 9, 10, 11, 12, 13, 14, 20],
+        );
+    let third = b
+        .shuffle(
+            c,
+            [8, 9, 10, 11, 12, 13, 14, 15, 0, 16, 17, 18, 19, 20, 21, 22],
+        )
+        .shuffle(
+            beside,
+            [0, 1, 2, 3, 4, 5, 6, 7, 20, 9, 10, 11, 12, 13, 14, 15],
+        );
+    let fourth = c
+        .shuffle(
+            d,
+            [7, 0, 8, 9, 10, 11, 12, 13, 14, 15, 0, 16, 17, 18, 19, 20],
+        )
+        .shuffle(
+            beside,
+            [0, 20, 2, 3, 4, 5, 6, 7, 8, 9, 20, 11, 12, 13, 14, 15],
+        );
+    let last = d.shuffle(
+        beside,
+        [5, 6, 7, 20, 8, 9, 10, 11, 12, 13, 14, 15, 21, 21, 21, 21],
+    );
+    let mut text = [b'\n'; 80];
+    first.copy_to_slice(&mut text);
+    second.copy_to_slice(&mut text[16..]);
+    third.copy_to_slice(&mut text[32..]);
+    fourth.copy_to_slice(&mut text[48..]);
+    last.copy_to_slice(&mut text[64..]);
+    text
 }
 
 /// The `data` line of eight words, with its line end.
@@ -101,20 +158,14 @@ fn write_spaced(text: &mut [u8; 77], at: usize, digits: &[u8; 8])
 pub fn data_line(bytes: &[u8; 32]) -> [u8; 77]
     ensures { result ≡ line (codes "data") spaced (words_of_bytes bytes.now) }
 {
-    let digits = hex_of_block(bytes);
-    let (words, _) = digits.as_chunks::<8>();
-    let mut text = [b'\n'; 77];
-    u8x4::from_array(*b"data").copy_to_slice(&mut text);
-    for (k, word) in words.iter().enumerate() {
-        write_spaced(&mut text, 4 + 9 * k, word);
-    }
-    text[76] = b'\n';
+    let mut text = [0; 77];
+    text.copy_from_slice(&wide_line(bytes)[..77]);
     text
 }
 
 /// The `bytes` line of 32 bytes, with its line end.
 #[inline(always)]
-pub(crate) fn bytes_line(bytes: &[u8; 32]) -> [u8; 71]
+pub fn bytes_line(bytes: &[u8; 32]) -> [u8; 71]
     ensures { result ≡ line (codes "bytes ") hex_byte bytes.now }
 {
     let mut text = [b'\n'; 71];

@@ -16,8 +16,8 @@ pub fn told_one_by_one()
 
 /// Elements told in two parts are told at once.
 pub fn told_in_parts()
-    ensures text { (n : ℕ) (word : List ℕ) (text : ℕ → List ℕ) (i : ℕ) (xs ys : List ℕ)
-        → open_text n word text i (xs ++ ys) ≡ open_text n word text i xs ++ open_text n word text (in_line_after n i xs) ys }
+    ensures text { (n : ℕ) (word : List ℕ) (text : ℕ → List ℕ) (i : ℕ) (xs ys : List ℕ) → let lines = open_text n word text in
+        lines i (xs ++ ys) ≡ lines i xs ++ lines (in_line_after n i xs) ys }
     ensures count { (n i : ℕ) (xs ys : List ℕ) → in_line_after n i (xs ++ ys) ≡ in_line_after n (in_line_after n i xs) ys }
 {}
 

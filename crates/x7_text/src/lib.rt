@@ -4,6 +4,7 @@
 mod block;
 mod digits;
 mod either_case;
+mod growing;
 mod law;
 mod lines;
 mod read_row;
@@ -12,9 +13,10 @@ mod room;
 mod row;
 mod window;
 
-pub use block::{data_line, hex_of_block};
+pub use block::{bytes_line, data_line, hex_of_block};
 pub use digits::{hex_of_byte, hex_of_word, put_decimal};
 pub use either_case::byte_of_pair;
+pub use growing::{put_number, put_text};
 pub use law::{
     digits_lead_back, either_case_leads_back, lines_lead_back, rows_are_the_elements,
     told_in_parts, told_one_by_one, whole_rows,

@@ -14,9 +14,9 @@ use Rattle.x7_forms.specs.declared.status.Status.{Status}
 use Rattle.x7_forms.specs.declared.status.Status.TheVariants as status
 use Rattle.x7_forms.specs.Event.{Event, status_of, bad_input, missing, no_memory, read_fault, too_large, write_fault}
 use Rattle.x7_forms.specs.Form.{Listing}
-use Rattle.x7_forms.specs.Turn.{IsBadFront, NoLetterGiven, Unfronted, Unopened, Unread}
+use Rattle.x7_forms.specs.Turn.{IsBadBeginning, NoLetterGiven, UnreadBeginning, Unopened, Unread}
 use Rattle.x7_tool.specs.Turns.{Lists}
-use Rattle.x7_forms.proofs.FrontLemmas.{letter_there}
+use Rattle.x7_forms.proofs.BeginningLemmas.{letter_there}
 use Rattle.x7_forms.proofs.ReadLemmas.{known_all}
 use Rattle.x7_tool.proofs.Causes.{may_follow, nothing_taken}
 
@@ -110,7 +110,7 @@ turn_near contents stream taken piece line sent l rest old mid new s close few t
 same_place : (m n : ℕ) (r : Result (List ℕ) ℕ) → r ≡ Err m → r ≡ Err n → m ≡ n
 same_place m n r a b = let e : Err m ≡ r = sym a in cc
 
-pub bad_soon : (contents : Option (List ℕ → Option (List ℕ))) (stream name : List ℕ) (m n : InputsState) (event : Event) → Selects contents stream m.rest → IsBadFront m n name event → SoonBy contents stream n.rest
+pub bad_soon : (contents : Option (List ℕ → Option (List ℕ))) (stream name : List ℕ) (m n : InputsState) (event : Event) → Selects contents stream m.rest → IsBadBeginning m n name event → SoonBy contents stream n.rest
 bad_soon contents stream name m n event s b inputs bytes left place c i r l =
     let sel : Selects contents stream (preceded b.bytes n.rest) = subst (λ (k : Option (List ℕ)). Selects contents stream k) b.taken s in
     let t = known_all inputs stream b.bytes n.rest (subst (λ (k : Option (List ℕ → Option (List ℕ))). Selects k stream (preceded b.bytes n.rest)) c sel) in
@@ -150,7 +150,7 @@ module _ (contents : Option (List ℕ → Option (List ℕ))) (stream : List ℕ
   unopened_near s n name event a (inl h, none) = as_event n.given event (missing name) h.0 tt
   unopened_near s n name event a (inr h, none) = as_event n.given event (read_fault name) h.0 (λ inputs bytes place c i fits e l. omega (arith, a.given))
 
-  pub unfronted_near : (m n : InputsState) (name : List ℕ) (event : Event) → n.rest ≡ rest → Selects contents stream m.rest → Asks name m → Unfronted m name n event → StaysBy (status_of event) contents stream n.given rest old new
+  pub unfronted_near : (m n : InputsState) (name : List ℕ) (event : Event) → n.rest ≡ rest → Selects contents stream m.rest → Asks name m → UnreadBeginning m name n event → StaysBy (status_of event) contents stream n.given rest old new
   unfronted_near m n name event e s a (inl h) = as_event n.given event no_memory h tt
   unfronted_near m n name event e s a (inr (inl h)) = as_event n.given event (read_fault name) h.0 (front_unjudged contents stream name m n s a h.3)
   unfronted_near m n name event e s a (inr (inr h)) = as_event n.given event (bad_input name (input.Byte h.place)) h.is (subst (λ (r : Option (List ℕ)). SoonBy contents stream r) e (bad_soon contents stream name m n event s h))

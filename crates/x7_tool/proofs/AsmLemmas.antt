@@ -9,22 +9,24 @@ use Rattle.x7_words.specs.Input.{InputsState}
 use Rattle.x7_forms.specs.Event.{Event, no_memory}
 use Rattle.x7_forms.specs.Known.{Answer, whole_in}
 use Rattle.x7_tool.specs.Outcome.{AssembledAs, asm_event, text_limit}
-use Rattle.x7_forms.specs.Step.{AnswersAs, AnswersBy, IsDecided, IsOpen}
+use Rattle.x7_forms.specs.Step.{IsDecided, IsPossible, ReadsWhole}
+use Rattle.x7_forms.specs.Form.{Assembling}
+use Rattle.x7_tool.specs.Run.{AnswersForm}
 use Rattle.x7_forms.proofs.ReadLemmas.{answers_by}
 
 -- want of memory is free, and any other fault is the text's
 faulted_by : (name text : List ℕ) (f : AsmFault) → (f ≡ fault.NoMemory) ⊎ IsAsm text (Err f)
-    → let got : Result Answer Event = Err (asm_event name f) in (got ≡ Err no_memory) ⊎ (IsOpen got × IsDecided got × AssembledAs name (Ok text) got)
+    → let got : Result Answer Event = Err (asm_event name f) in (got ≡ Err no_memory) ⊎ (IsPossible got × IsDecided got × AssembledAs name (Ok text) got)
 faulted_by name text fault.NoMemory h = inl refl
 faulted_by name text (fault.Line n) (inl e) = absurd (cc)
 faulted_by name text (fault.Line n) (inr h) = inr (tt, tt, (fault.Line n, (h, refl)))
 faulted_by name text (fault.TooLong n) (inl e) = absurd (cc)
 faulted_by name text (fault.TooLong n) (inr h) = inr (tt, tt, (fault.TooLong n, (h, refl)))
 
-pub asm_faulted : (old new : InputsState) (name text : List ℕ) (f : AsmFault) (event : Event) → asm_event name f ≡ event → AnswersAs {A = List ℕ} (name ∷ []) old new (λ t. whole_in t text_limit name) (Ok text) → (f ≡ fault.NoMemory) ⊎ IsAsm text (Err f)
-    → AnswersBy {A = Answer} (name ∷ []) old new (λ t end. AssembledAs name (whole_in t text_limit name) end) (Err event)
+pub asm_faulted : (old new : InputsState) (name text : List ℕ) (f : AsmFault) (event : Event) → asm_event name f ≡ event → ReadsWhole old new text_limit name (Ok text) → (f ≡ fault.NoMemory) ⊎ IsAsm text (Err f)
+    → AnswersForm (Assembling name) old new (Err event)
 asm_faulted old new name text f event e whole why =
-    subst (λ (x : Event). AnswersBy {A = Answer} (name ∷ []) old new (λ t end. AssembledAs name (whole_in t text_limit name) end) (Err x)) e
+    subst (λ (x : Event). AnswersForm (Assembling name) old new (Err x)) e
     (answers_by (List ℕ) Answer (name ∷ []) old new (λ t. whole_in t text_limit name) text (AssembledAs name) (Err (asm_event name f)) whole (faulted_by name text f why))
 
 -- ---- an assembler that is fed

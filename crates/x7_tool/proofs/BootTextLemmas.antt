@@ -14,21 +14,22 @@ use Rattle.x7_boot.specs.declared.boots.BootEnd.{BootEnd}
 use Rattle.x7_boot.specs.declared.boots.Tried.{Tried}
 use Rattle.x7_boot.specs.declared.fault.BootFault.{BootFault}
 use Rattle.x7_boot.specs.declared.fault.BootFault.TheVariants as boot_fault
-use Rattle.x7_tool.specs.BootText.{boot_head, boot_text}
+use Rattle.x7_boot.specs.BootLines.{boot_head}
+use Rattle.x7_tool.specs.BootText.{boot_text}
 use Rattle.x7_forms.specs.Event.{Event, no_memory, too_large}
 use Rattle.x7_forms.specs.Message.{event_of}
 use Rattle.x7_boot.specs.Image.{flash_limit}
 use Rattle.x7_forms.specs.Known.{Answer, flash_found}
-use Rattle.x7_tool.specs.Outcome.{BootsAs, FlashBoots, boot_event, has_failed}
+use Rattle.x7_tool.specs.Outcome.{IsBootText, FlashBoots, boot_event, has_failed}
 use Rattle.x7_tool.specs.Outside.{ReadsFlash}
 use Rattle.x7_tool.specs.Run.{FlashComes}
-use Rattle.x7_forms.specs.Play.{text_of_play}
-use Rattle.x7_forms.specs.Report.{report_text}
+use Rattle.x7_tool.specs.Play.{text_of_play}
+use Rattle.x7_report.specs.Report.{PlayTextState, report_text}
 use Rattle.x7_forms.specs.Step.{seen}
 use Rattle.x7_forms.specs.declared.refusal.Refusal.{Refusal}
 
 -- the answer of a boot
-pub boots_as : (part : PartData) (flash : List ℕ) (b : BootedState) (answer : Answer) (is : IsBoot part flash b) → answer.stopped ≡ has_failed b.end → answer.text ≡ boot_text part b.attempts b.end is.last → BootsAs part flash answer
+pub boots_as : (part : PartData) (flash : List ℕ) (b : BootedState) (answer : Answer) (is : IsBoot part flash b) → answer.stopped ≡ has_failed b.end → answer.text ≡ boot_text part b.attempts b.end is.last → IsBootText part flash answer
 boots_as part flash b answer is stopped text = record {
   last = is.last;
   older = is.older;
@@ -39,7 +40,7 @@ boots_as part flash b answer is stopped text = record {
 }
 
 -- the text of a boot by its head and the report of its device
-pub ready_is : (part : PartData) (last : Trial) (attempts a : List Tried) (end e f : BootEnd) (name head start : List ℕ) (stopped : Bool) (report text : Answer)
+pub ready_is : (part : PartData) (last : Trial) (attempts a : List Tried) (end e f : BootEnd) (name head start : List ℕ) (stopped : Bool) (report text : PlayTextState)
     → start ≡ [] → head ≡ start ++ boot_head name a e → name ≡ part.name → a ≡ attempts → e ≡ end → stopped ≡ has_failed f → f ≡ end
     → report ≡ record { stopped = stopped; text = report_text part (state_of part last.kept last.wrapped last.bytes) [] (memory_in part last.kept last.bytes) }
     → text ≡ record { stopped = report.stopped; text = head ++ report.text } → text ≡ record { stopped = has_failed end; text = boot_text part attempts end last }
@@ -47,7 +48,7 @@ unfolding boot_text
 ready_is part last attempts a end e f name head start stopped report text none begun named tried ends failed fs reports is =
     let shown = report_text part (state_of part last.kept last.wrapped last.bytes) [] (memory_in part last.kept last.bytes) in
     is
-    ∙ ap (λ (r : Answer). record { stopped = r.stopped; text = head ++ r.text }) reports
+    ∙ ap (λ (r : PlayTextState). record { stopped = r.stopped; text = head ++ r.text }) reports
     ∙ ap (λ (s : Bool). record { stopped = s; text = head ++ shown }) (failed ∙ ap has_failed fs)
     ∙ ap (λ (t : List ℕ). record { stopped = has_failed end; text = t ++ shown })
     (begun ∙ ap (λ (t : List ℕ). t ++ boot_head name a e) none ∙ ap (λ (n : List ℕ). boot_head n a e) named ∙ ap (λ (x : List Tried). boot_head part.name x e) tried ∙ ap (λ (x : BootEnd). boot_head part.name attempts x) ends)
@@ -56,7 +57,7 @@ ready_is part last attempts a end e f name head start stopped report text none b
 
 -- the answer of a boot, whatever the flash holds
 abbrev pub AnswersBoot : BootedState → Answer → Type 0
-AnswersBoot b answer = (part : PartData) (flash : List ℕ) → IsBoot part flash b → NoWordDue b.device → BootsAs part flash answer
+AnswersBoot b answer = (part : PartData) (flash : List ℕ) → IsBoot part flash b → NoWordDue b.device → IsBootText part flash answer
 
 flash_boots : (name : List ℕ) (part : PartData) (flash : Option (List ℕ)) (b : BootedState) (answer : Answer) → WhereTold flash (λ all. length all ≤ flash_limit) → WhereTold flash (λ all. AreBytes all → IsBoot part all b) → NoWordDue b.device
     → AnswersBoot b answer → FlashBoots name part (flash_found flash) (Ok answer)
@@ -64,7 +65,7 @@ flash_boots name part None b answer short boots due answers = tt
 flash_boots name part (Some all) b answer short boots due answers = (short, λ fits. answers part all (boots fits) due)
 
 -- the text of a boot was made, or there was no memory for it
-pub text_boots : (name : List ℕ) (part : PartData) (old mid new : FlashState) (b : BootedState) (got : Result Answer Refusal) → ReadsFlash name old mid → WhereTold mid.bytes (λ all. length all ≤ flash_limit)
+pub text_boots : (name : List ℕ) (part : PartData) (old mid new : FlashState) (b : BootedState) (got : Result PlayTextState Refusal) → ReadsFlash name old mid → WhereTold mid.bytes (λ all. length all ≤ flash_limit)
     → WhereTold mid.bytes (λ all. AreBytes all → IsBoot part all b) → NoWordDue b.device → IfOk got (λ text. AnswersBoot b (text_of_play text)) → IfErr got (λ r. event_of r ≡ no_memory)
     → FlashComes name part old new (seen text_of_play got)
 text_boots name part old mid new b (Ok text) r short boots due ok err =

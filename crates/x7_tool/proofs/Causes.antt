@@ -21,15 +21,15 @@ use Rattle.x7_forms.specs.Message.{event_of, final_status}
 use Rattle.x7_forms.specs.declared.refusal.Refusal.{Refusal}
 use Rattle.x7_forms.specs.declared.refusal.Why.{Why}
 use Rattle.x7_forms.specs.declared.refusal.Why.TheVariants as why
-use Rattle.x7_forms.specs.Known.{Absent, Answer, Broken, Failing, Found, Held, Known, Lacking, broken_at, bytes_found, found, known_of, stream_limit, with_inputs}
+use Rattle.x7_forms.specs.Known.{Absent, Answer, Broken, Failing, Found, Held, Known, Lacking, Mishap, broken_at, bytes_found, found, known_of, stream_limit, with_inputs}
 use Rattle.x7_tool.specs.Outcome.{listed, listed_bytes, listed_found}
-use Rattle.x7_forms.specs.Turn.{IsRefused, MayFollow, Unfronted, Unopened}
+use Rattle.x7_forms.specs.Turn.{IsRefused, MayFollow, UnreadBeginning, Unopened}
 use Rattle.x7_tool.specs.Outside.{Outside, known_in}
 use Rattle.x7_tool.specs.Ahead.{StaysNear}
-use Rattle.x7_tool.specs.Run.{Ends, EndsAs, GetsPrefix, HasCause, IsPrefixOf, LeftBy, ListLeaves}
-use Rattle.x7_forms.specs.Step.{DueBy, FailsAmong, IsCaused, LacksAmong, seen}
-use Rattle.x7_forms.proofs.FrontLemmas.{raw_listed}
-use Rattle.x7_forms.proofs.ReadLemmas.{at_fault, at_open, known_all, name_is}
+use Rattle.x7_tool.specs.Run.{EndIsCaused, Ends, EndsAs, GetsPrefix, IsPrefixOf, LeftBy, ListLeaves}
+use Rattle.x7_forms.specs.Step.{CameIn, DueBy, FailsAmong, IsCaused, seen, step_over}
+use Rattle.x7_forms.proofs.BeginningLemmas.{raw_listed}
+use Rattle.x7_forms.proofs.ReadLemmas.{absence_from, at_fault, at_open, fault_from, known_all, name_is}
 use Rattle.x7_tool.proofs.FlashLemmas.{answers_over}
 use Rattle.x7_tool.proofs.RunLemmas.{has_cause}
 
@@ -55,22 +55,22 @@ abbrev pub PutsSomeOf : Option Known → List ℕ → Option (List ℕ) → Opti
 PutsSomeOf None stream old new = (text : List ℕ) × PutsFront old text new
 PutsSomeOf (Some known) stream old new = (bytes : List ℕ) × ((known.inputs stream ≡ Held bytes) × (AreBytes bytes → PutsListed bytes old new))
 
-abbrev pub EndedBy : Cause → Option Known → ℕ → (List ℕ → Type 0) → (List ℕ → Type 0) → List ℕ → Type 0 → Option (List ℕ) → Option (List ℕ) → Event → Type 0
-EndedBy Break known given F L stream Full old new event = (event ≡ write_fault) × Full × PutsSomeOf known stream old new
-EndedBy _ known given F L stream Full old new event = IsCaused {A = Answer} known given F L (λ t. listed t stream) (Err event) × LeftAs event.reason known stream old new
+abbrev pub EndedBy : Cause → Option Known → (Mishap → Type 0) → List ℕ → Type 0 → Option (List ℕ) → Option (List ℕ) → Event → Type 0
+EndedBy Break known C stream Full old new event = (event ≡ write_fault) × Full × PutsSomeOf known stream old new
+EndedBy _ known C stream Full old new event = IsCaused {A = Answer} known C (λ t. listed t stream) (Err event) × LeftAs event.reason known stream old new
 
-abbrev pub Ended : Option Known → ℕ → (List ℕ → Type 0) → (List ℕ → Type 0) → List ℕ → Type 0 → Option (List ℕ) → Option (List ℕ) → Result Answer Event → Type 0
-Ended known given F L stream Full old new (Ok answer) = IsCaused known given F L (λ t. listed t stream) (Ok answer) × (new ≡ appended old answer.text)
-Ended known given F L stream Full old new (Err event) = EndedBy (cause_of event) known given F L stream Full old new event
+abbrev pub Ended : Option Known → (Mishap → Type 0) → List ℕ → Type 0 → Option (List ℕ) → Option (List ℕ) → Result Answer Event → Type 0
+Ended known C stream Full old new (Ok answer) = IsCaused known C (λ t. listed t stream) (Ok answer) × (new ≡ appended old answer.text)
+Ended known C stream Full old new (Err event) = EndedBy (cause_of event) known C stream Full old new event
 
 -- what a listing ended with, over the outside before and after
 abbrev pub EndedIn : List ℕ → Outside → Outside → Result Answer Event → Type 0
 EndedIn stream old new end =
-    Ended (known_in old) new.inputs.given (FailsAmong (stream ∷ []) old.inputs new.inputs) (LacksAmong (stream ∷ []) old.inputs new.inputs) stream (SinkFails old.out new.out) old.out.written new.out.written end
+    Ended (known_in old) (CameIn (step_over (stream ∷ []) old.inputs new.inputs)) stream (SinkFails old.out new.out) old.out.written new.out.written end
 
 ended_cause : (cause : Cause) (stream : List ℕ) (old new : Outside) (event : Event) → cause_of event ≡ cause
-    → EndedBy cause (known_in old) new.inputs.given (FailsAmong (stream ∷ []) old.inputs new.inputs) (LacksAmong (stream ∷ []) old.inputs new.inputs) stream (SinkFails old.out new.out) old.out.written new.out.written event
-    → HasCause (Some (Listing stream)) old new (Err event)
+    → EndedBy cause (known_in old) (CameIn (step_over (stream ∷ []) old.inputs new.inputs)) stream (SinkFails old.out new.out) old.out.written new.out.written event
+    → EndIsCaused (Some (Listing stream)) old new (Err event)
 ended_cause Break stream old new event e h = rw e (h.0, inl h.1)
 ended_cause cause stream old new event e h = has_cause (Listing stream) old new (Err event) (answers_over (Listing stream) old new (Err event) h.0)
 
@@ -85,7 +85,7 @@ some_of None stream old new h = h
 some_of (Some known) stream old new h = h
 
 ended_left : (cause : Cause) (stream : List ℕ) (old new : Outside) (event : Event)
-    → EndedBy cause (known_in old) new.inputs.given (FailsAmong (stream ∷ []) old.inputs new.inputs) (LacksAmong (stream ∷ []) old.inputs new.inputs) stream (SinkFails old.out new.out) old.out.written new.out.written event
+    → EndedBy cause (known_in old) (CameIn (step_over (stream ∷ []) old.inputs new.inputs)) stream (SinkFails old.out new.out) old.out.written new.out.written event
     → LeftBy cause (Some (Listing stream)) old new event
 ended_left Break stream old new event h = some_of (known_in old) stream old.out new.out h.2
 ended_left cause stream old new event h = left_as event.reason stream old new h.1
@@ -116,19 +116,19 @@ absent_due (Some inputs) flash stream = let here = name_is stream in rw here ref
 
 -- a name that isn't there
 pub absent : (old new : InputsState) (flash : Option (List ℕ)) (name : List ℕ) → Asks name new → new.selected ≡ false → Misses old name new
-    → IsCaused {A = Answer} (with_inputs old.contents flash) new.given (FailsAmong (name ∷ []) old new) (LacksAmong (name ∷ []) old new) (λ known. listed known name) (Err (missing name))
+    → IsCaused {A = Answer} (with_inputs old.contents flash) (CameIn (step_over (name ∷ []) old new)) (λ known. listed known name) (Err (missing name))
 absent old new flash name a s m = by old.contents refl m
   where
     by : (contents : Option (List ℕ → Option (List ℕ))) → old.contents ≡ contents → MapLacks contents name ⊎ HasRisen old.absences new.absences
-        → IsCaused {A = Answer} (with_inputs contents flash) new.given (FailsAmong (name ∷ []) old new) (LacksAmong (name ∷ []) old new) (λ known. listed known name) (Err (missing name))
+        → IsCaused {A = Answer} (with_inputs contents flash) (CameIn (step_over (name ∷ []) old new)) (λ known. listed known name) (Err (missing name))
     by None e (inl h) = absurd h
     by (Some inputs) e (inl h) = inr (tt, rw h refl)
-    by contents e (inr h) = inl (record { among = inl refl; over = record { asked = a.asked; selected = s }; risen = h }, absent_due contents flash name)
+    by contents e (inr h) = inl (absence_from Answer (with_inputs contents flash) old new name (λ t r. listed t name ≡ r) (record { among = inl refl; over = record { asked = a.asked; selected = s }; risen = h }) (absent_due contents flash name))
 
 -- a fault of the stream
 pub faulted : (old new : InputsState) (flash : Option (List ℕ)) (stream : List ℕ) → FailsAmong (stream ∷ []) old new stream → new.given ≤ stream_limit
-    → IsCaused {A = Answer} (with_inputs old.contents flash) new.given (FailsAmong (stream ∷ []) old new) (LacksAmong (stream ∷ []) old new) (λ known. listed known stream) (Err (read_fault stream))
-faulted old new flash stream f g = inl (f, broken_due old.contents flash stream new.given g)
+    → IsCaused {A = Answer} (with_inputs old.contents flash) (CameIn (step_over (stream ∷ []) old new)) (λ known. listed known stream) (Err (read_fault stream))
+faulted old new flash stream f g = inl (fault_from Answer (with_inputs old.contents flash) old new stream (λ t r. listed t stream ≡ r) f (broken_due old.contents flash stream new.given g))
 
 front_none : (contents : Option (List ℕ → Option (List ℕ))) (flash : Option (List ℕ)) (name : List ℕ) → IsPrefixOf (with_inputs contents flash) name []
 front_none None flash name = tt
@@ -150,25 +150,25 @@ front_taken (Some inputs) flash name taken (Some rest) s =
     (rest, ap (λ (t : Option (List ℕ)). bytes_found (found t)) s.1 ∙ sym same)
 
 -- a stream whose reading failed after these bytes
-pub broken : (contents : Option (List ℕ → Option (List ℕ))) (flash : Option (List ℕ)) (given : ℕ) (F L : List ℕ → Type 0) (stream taken : List ℕ) (rest : Option (List ℕ)) (Full : Type 0) (old now : Option (List ℕ))
-    → Selects contents stream (preceded taken rest) → IsCaused {A = Answer} (with_inputs contents flash) given F L (λ known. listed known stream) (Err (read_fault stream)) → PutsListed taken old now → Ended (with_inputs contents flash) given F L stream Full old now (Err (read_fault stream))
-broken contents flash given F L stream taken rest Full old now s c p = (c, (taken, (front_taken contents flash stream taken rest s, p)))
+pub broken : (contents : Option (List ℕ → Option (List ℕ))) (flash : Option (List ℕ)) (C : Mishap → Type 0) (stream taken : List ℕ) (rest : Option (List ℕ)) (Full : Type 0) (old now : Option (List ℕ))
+    → Selects contents stream (preceded taken rest) → IsCaused {A = Answer} (with_inputs contents flash) C (λ known. listed known stream) (Err (read_fault stream)) → PutsListed taken old now → Ended (with_inputs contents flash) C stream Full old now (Err (read_fault stream))
+broken contents flash C stream taken rest Full old now s c p = (c, (taken, (front_taken contents flash stream taken rest s, p)))
 
 -- memory that ended after these bytes
-pub out_of_memory : (contents : Option (List ℕ → Option (List ℕ))) (flash : Option (List ℕ)) (given : ℕ) (F L : List ℕ → Type 0) (stream taken : List ℕ) (rest : Option (List ℕ)) (Full : Type 0) (old now : Option (List ℕ))
-    → Selects contents stream (preceded taken rest) → PutsListed taken old now → Ended (with_inputs contents flash) given F L stream Full old now (Err no_memory)
-out_of_memory contents flash given F L stream taken rest Full old now s p = (inl refl, (taken, (front_taken contents flash stream taken rest s, p)))
+pub out_of_memory : (contents : Option (List ℕ → Option (List ℕ))) (flash : Option (List ℕ)) (C : Mishap → Type 0) (stream taken : List ℕ) (rest : Option (List ℕ)) (Full : Type 0) (old now : Option (List ℕ))
+    → Selects contents stream (preceded taken rest) → PutsListed taken old now → Ended (with_inputs contents flash) C stream Full old now (Err no_memory)
+out_of_memory contents flash C stream taken rest Full old now s p = (inl (inl refl), (taken, (front_taken contents flash stream taken rest s, p)))
 
 -- what may follow the bytes that were taken
 pub may_follow : (last : Bool) (rest : Option (List ℕ)) (left : List ℕ) → rest ≡ Some left → (last ≡ true → AtEnd rest) → MayFollow last left
 may_follow last rest left e end = λ l. let none = rw e at (end l) in none
 
 -- a sink that failed after a front of the listing of these bytes and any that may follow
-pub unwritten : (contents : Option (List ℕ → Option (List ℕ))) (flash : Option (List ℕ)) (given : ℕ) (F L : List ℕ → Type 0) (stream taken : List ℕ) (rest : Option (List ℕ)) (last : Bool) (Full : Type 0) (old now : Option (List ℕ))
+pub unwritten : (contents : Option (List ℕ → Option (List ℕ))) (flash : Option (List ℕ)) (C : Mishap → Type 0) (stream taken : List ℕ) (rest : Option (List ℕ)) (last : Bool) (Full : Type 0) (old now : Option (List ℕ))
     → Selects contents stream (preceded taken rest) → (last ≡ true → AtEnd rest) → Full → PutsListed taken old now → ((left : List ℕ) → MayFollow last left → AreBytes (taken ++ left) → PutsListed (taken ++ left) old now)
-    → Ended (with_inputs contents flash) given F L stream Full old now (Err write_fault)
-unwritten None flash given F L stream taken rest last Full old now s e f here p = (refl, f, (here.0, here.1.1))
-unwritten (Some inputs) flash given F L stream taken rest last Full old now s e f here p =
+    → Ended (with_inputs contents flash) C stream Full old now (Err write_fault)
+unwritten None flash C stream taken rest last Full old now s e f here p = (refl, f, (here.0, here.1.1))
+unwritten (Some inputs) flash C stream taken rest last Full old now s e f here p =
     let all = known_all inputs stream taken rest s in
     (refl, f, (taken ++ all.0, (ap found all.1.1, λ fits. p all.0 (may_follow last rest all.0 all.1.0 e) fits)))
 
@@ -184,30 +184,30 @@ listed_is : (inputs : List ℕ → Option (List ℕ)) (flash : Option (List ℕ)
 listed_is inputs flash stream bytes e = rw e refl
 
 -- a stream of which more than the limit was taken
-pub oversized : (contents : Option (List ℕ → Option (List ℕ))) (flash : Option (List ℕ)) (given : ℕ) (F L : List ℕ → Type 0) (stream taken listed_front : List ℕ) (rest more : Option (List ℕ)) (Full : Type 0) (old now : Option (List ℕ))
+pub oversized : (contents : Option (List ℕ → Option (List ℕ))) (flash : Option (List ℕ)) (C : Mishap → Type 0) (stream taken listed_front : List ℕ) (rest more : Option (List ℕ)) (Full : Type 0) (old now : Option (List ℕ))
     → Selects contents stream (preceded taken rest) → Selects contents stream (preceded listed_front more) → ((left : List ℕ) → (text : List ℕ) × (stream_listing (taken ++ left) ≡ Ok text)) → stream_limit < length taken → PutsListed listed_front old now
-    → Ended (with_inputs contents flash) given F L stream Full old now (Err (too_large stream))
-oversized None flash given F L stream taken listed_front rest more Full old now s t h l p = (inr tt, (listed_front, (tt, p)))
-oversized (Some inputs) flash given F L stream taken listed_front rest more Full old now s t h l p =
+    → Ended (with_inputs contents flash) C stream Full old now (Err (too_large stream))
+oversized None flash C stream taken listed_front rest more Full old now s t h l p = (inr tt, (listed_front, (tt, p)))
+oversized (Some inputs) flash C stream taken listed_front rest more Full old now s t h l p =
     let all = known_all inputs stream taken rest s in
     let text = h all.0 in
     let long : nat_lt stream_limit (length (taken ++ all.0)) ≡ true = grind (arith, length-append taken all.0, l, nat_tests) in
     (inr (tt, listed_is inputs flash stream (taken ++ all.0) all.1.1 ∙ due_over stream (taken ++ all.0) text.0 true text.1 long), (listed_front, (front_taken (Some inputs) flash stream listed_front more t, p)))
 
 -- a stream whose header is refused
-pub refused : (contents : Option (List ℕ → Option (List ℕ))) (flash : Option (List ℕ)) (given : ℕ) (F L : List ℕ → Type 0) (stream taken : List ℕ) (rest : Option (List ℕ)) (last : Bool) (place : ℕ) (Full : Type 0) (old : Option (List ℕ))
-    → Selects contents stream (preceded taken rest) → (last ≡ true → AtEnd rest) → IsRefused taken last place → Ended (with_inputs contents flash) given F L stream Full old old (Err (bad_input stream (input.Byte place)))
-refused None flash given F L stream taken rest last place Full old s e r = (inr tt, refl)
-refused (Some inputs) flash given F L stream taken rest last place Full old s e r =
+pub refused : (contents : Option (List ℕ → Option (List ℕ))) (flash : Option (List ℕ)) (C : Mishap → Type 0) (stream taken : List ℕ) (rest : Option (List ℕ)) (last : Bool) (place : ℕ) (Full : Type 0) (old : Option (List ℕ))
+    → Selects contents stream (preceded taken rest) → (last ≡ true → AtEnd rest) → IsRefused taken last place → Ended (with_inputs contents flash) C stream Full old old (Err (bad_input stream (input.Byte place)))
+refused None flash C stream taken rest last place Full old s e r = (inr tt, refl)
+refused (Some inputs) flash C stream taken rest last place Full old s e r =
     let all = known_all inputs stream taken rest s in
     (inr (tt, listed_is inputs flash stream (taken ++ all.0) all.1.1 ∙ due_refused stream (taken ++ all.0) place (r all.0 (may_follow last rest all.0 all.1.0 e))), refl)
 
 -- a stream whose listing was written
-pub listed_whole : (contents : Option (List ℕ → Option (List ℕ))) (flash : Option (List ℕ)) (given : ℕ) (F L : List ℕ → Type 0) (stream taken text : List ℕ) (rest : Option (List ℕ)) (Full : Type 0) (old now : Option (List ℕ))
+pub listed_whole : (contents : Option (List ℕ → Option (List ℕ))) (flash : Option (List ℕ)) (C : Mishap → Type 0) (stream taken text : List ℕ) (rest : Option (List ℕ)) (Full : Type 0) (old now : Option (List ℕ))
     → Selects contents stream (preceded taken rest) → AtEnd rest → stream_listing taken ≡ Ok text → length taken ≤ stream_limit → now ≡ appended old text
-    → Ended (with_inputs contents flash) given F L stream Full old now (Ok (record { stopped = false; text = text }))
-listed_whole None flash given F L stream taken text rest Full old now s e h l p = (inr tt, p)
-listed_whole (Some inputs) flash given F L stream taken text rest Full old now s e h l p =
+    → Ended (with_inputs contents flash) C stream Full old now (Ok (record { stopped = false; text = text }))
+listed_whole None flash C stream taken text rest Full old now s e h l p = (inr tt, p)
+listed_whole (Some inputs) flash C stream taken text rest Full old now s e h l p =
     let all = known_all inputs stream taken rest s in
     let none : all.0 ≡ [] = let end = rw all.1.0 at e in end in
     let whole : inputs stream ≡ Some taken = all.1.1 ∙ ap (λ t. Some (taken ++ t)) none ∙ ap Some (append-nil taken) in
@@ -215,16 +215,16 @@ listed_whole (Some inputs) flash given F L stream taken text rest Full old now s
     (inr (tt, listed_is inputs flash stream taken whole ∙ due_over stream taken text false h short), p)
 
 -- the same event
-pub ends_same : (known : Option Known) (given : ℕ) (F L : List ℕ → Type 0) (stream : List ℕ) (Full : Type 0) (old now : Option (List ℕ)) (x y : Event) → x ≡ y → Ended known given F L stream Full old now (Err y) → Ended known given F L stream Full old now (Err x)
-ends_same known given F L stream Full old now x y e h = subst (λ (event : Event). Ended known given F L stream Full old now (Err event)) (sym e) h
+pub ends_same : (known : Option Known) (C : Mishap → Type 0) (stream : List ℕ) (Full : Type 0) (old now : Option (List ℕ)) (x y : Event) → x ≡ y → Ended known C stream Full old now (Err y) → Ended known C stream Full old now (Err x)
+ends_same known C stream Full old now x y e h = subst (λ (event : Event). Ended known C stream Full old now (Err event)) (sym e) h
 
 -- a stream that could not be opened
 pub unopened : (s n : InputsState) (flash : Option (List ℕ)) (stream : List ℕ) (Full : Type 0) (old : Option (List ℕ)) (event : Event) → Unopened s stream n event → Asks stream n
-    → Ended (with_inputs s.contents flash) n.given (FailsAmong (stream ∷ []) s n) (LacksAmong (stream ∷ []) s n) stream Full old old (Err event)
+    → Ended (with_inputs s.contents flash) (CameIn (step_over (stream ∷ []) s n)) stream Full old old (Err event)
 unopened s n flash stream Full old event (inl h, none) a =
-    ends_same (with_inputs s.contents flash) n.given (FailsAmong (stream ∷ []) s n) (LacksAmong (stream ∷ []) s n) stream Full old old event (missing stream) h.0 (absent s n flash stream a none h.1, refl)
+    ends_same (with_inputs s.contents flash) (CameIn (step_over (stream ∷ []) s n)) stream Full old old event (missing stream) h.0 (absent s n flash stream a none h.1, refl)
 unopened s n flash stream Full old event (inr h, none) a =
-    ends_same (with_inputs s.contents flash) n.given (FailsAmong (stream ∷ []) s n) (LacksAmong (stream ∷ []) s n) stream Full old old event (read_fault stream) h.0
+    ends_same (with_inputs s.contents flash) (CameIn (step_over (stream ∷ []) s n)) stream Full old old event (read_fault stream) h.0
     (faulted s n flash stream (record { among = inl refl; over = record { asked = a.asked; selected = none }; risen = h.1 }) (omega (arith, a.given)), ([], (front_none s.contents flash stream, (listing_of [], (nothing_listed, none_put old (listing_of []))))))
 
 -- an error by two of its clauses
@@ -239,15 +239,15 @@ nothing_taken contents stream (Some rest) s = s
 
 -- a stream whose front was not read
 pub unfronted : (s m n : InputsState) (flash : Option (List ℕ)) (stream : List ℕ) (Full : Type 0) (old : Option (List ℕ)) (event : Event)
-    → Stays s m → Selects s.contents stream m.rest → Asks stream m → Unfronted m stream n event
-    → Ended (with_inputs s.contents flash) n.given (FailsAmong (stream ∷ []) s n) (LacksAmong (stream ∷ []) s n) stream Full old old (Err event)
+    → Stays s m → Selects s.contents stream m.rest → Asks stream m → UnreadBeginning m stream n event
+    → Ended (with_inputs s.contents flash) (CameIn (step_over (stream ∷ []) s n)) stream Full old old (Err event)
 unfronted s m n flash stream Full old event f sel a (inl h) =
-    ends_same (with_inputs s.contents flash) n.given (FailsAmong (stream ∷ []) s n) (LacksAmong (stream ∷ []) s n) stream Full old old event no_memory h
-    (out_of_memory s.contents flash n.given (FailsAmong (stream ∷ []) s n) (LacksAmong (stream ∷ []) s n) stream [] m.rest Full old old (nothing_taken s.contents stream m.rest sel) (listing_of [], (nothing_listed, none_put old (listing_of []))))
+    ends_same (with_inputs s.contents flash) (CameIn (step_over (stream ∷ []) s n)) stream Full old old event no_memory h
+    (out_of_memory s.contents flash (CameIn (step_over (stream ∷ []) s n)) stream [] m.rest Full old old (nothing_taken s.contents stream m.rest sel) (listing_of [], (nothing_listed, none_put old (listing_of []))))
 unfronted s m n flash stream Full old event f sel a (inr (inl h)) =
     let fault = at_fault s m n stream [] stream_limit f (at_open stream m a) h.1 h.2 in
-    ends_same (with_inputs s.contents flash) n.given (FailsAmong (stream ∷ []) s n) (LacksAmong (stream ∷ []) s n) stream Full old old event (read_fault stream) h.0
-    (broken s.contents flash n.given (FailsAmong (stream ∷ []) s n) (LacksAmong (stream ∷ []) s n) stream [] m.rest Full old old (nothing_taken s.contents stream m.rest sel) (faulted s n flash stream fault.0 (omega (arith, fault.1))) (listing_of [], (nothing_listed, none_put old (listing_of []))))
+    ends_same (with_inputs s.contents flash) (CameIn (step_over (stream ∷ []) s n)) stream Full old old event (read_fault stream) h.0
+    (broken s.contents flash (CameIn (step_over (stream ∷ []) s n)) stream [] m.rest Full old old (nothing_taken s.contents stream m.rest sel) (faulted s n flash stream fault.0 (omega (arith, fault.1))) (listing_of [], (nothing_listed, none_put old (listing_of []))))
 unfronted s m n flash stream Full old event f sel a (inr (inr h)) =
-    ends_same (with_inputs s.contents flash) n.given (FailsAmong (stream ∷ []) s n) (LacksAmong (stream ∷ []) s n) stream Full old old event (bad_input stream (input.Byte h.place)) h.is
-    (refused s.contents flash n.given (FailsAmong (stream ∷ []) s n) (LacksAmong (stream ∷ []) s n) stream h.bytes n.rest h.last h.place Full old (subst (λ r. Selects s.contents stream r) h.taken sel) h.end h.refused)
+    ends_same (with_inputs s.contents flash) (CameIn (step_over (stream ∷ []) s n)) stream Full old old event (bad_input stream (input.Byte h.place)) h.is
+    (refused s.contents flash (CameIn (step_over (stream ∷ []) s n)) stream h.bytes n.rest h.last h.place Full old (subst (λ r. Selects s.contents stream r) h.taken sel) h.end h.refused)

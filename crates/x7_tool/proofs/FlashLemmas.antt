@@ -8,25 +8,27 @@ use Rattle.x7_update.proofs.ToldLemmas.{moments_none, only_read}
 use Rattle.x7_words.specs.declared.input.SelectFault.{SelectFault}
 use Rattle.x7_words.specs.declared.input.SelectFault.TheVariants.{Missing, Failed}
 use Rattle.x7_part.specs.Part.{PartData}
-use Rattle.x7_forms.specs.Event.{Event, Cause, Want, Fault, Absence, cause_of, missing, read_fault, too_large}
+use Rattle.x7_forms.specs.Event.{Event, missing, read_fault, too_large}
 use Rattle.x7_forms.specs.Form.{Asked, Booting, FlashUse, Read, Unused, Updated, flash_names, flash_use, names_of, updated_by}
 use Rattle.x7_forms.specs.Known.{Absent, Answer, Broken, Failing, Found, Held, Known, Lacking, Mishap, flash_found, known_of, mishap_event, part_of, spoiled, spoiled_name, with_inputs, with_mishap}
 use Rattle.x7_tool.specs.Leaving.{MayBeFound, UsesFlash}
 use Rattle.x7_tool.specs.Outcome.{BootedAs, FlashBoots, Gives}
-use Rattle.x7_tool.specs.Outside.{Fails, FlashFailsAmong, FlashLacksAmong, KeepsFlash, Lacks, Outside, ReadsFlash, known_in}
+use Rattle.x7_tool.specs.Outside.{Came, KeepsFlash, Outside, ReadsFlash, known_from, known_in, sources}
 use Rattle.x7_tool.specs.Run.{AnswersOver, FlashComes, IsUnattached}
-use Rattle.x7_forms.specs.Step.{DueBy, FailsAmong, FreeBy, IsCaused, IsCausedBy, IsDecided, IsDue, IsOpen, LacksAmong}
-use Rattle.x7_forms.proofs.ReadLemmas.{caused_on_by, name_is, part_steady}
+use Rattle.x7_forms.specs.Step.{CameIn, DueBy, IsCaused, IsCausedBy, IsDecided, IsDue, IsPossible, step_over}
+use Rattle.x7_forms.proofs.ReadLemmas.{caused_on_by, name_is, outside_goes, part_steady}
 
 -- ---- what more may fail
 
+-- a mishap of an input that a form names, where it may have a flash too
+pub came_wider : (form : Asked) (old new : Outside) (m : Mishap) → CameIn (step_over (names_of (Some form)) old.inputs new.inputs) m → Came (Some form) old new m
+came_wider form old new (Failing name given) h = (h.0, inl h.1)
+came_wider form old new (Lacking name) h = inl h
+
 -- the same by names of inputs, where a form may have a flash too
-pub answers_over : (form : Asked) (old new : Outside) (whole : Result Answer Event)
-    → IsCausedBy (known_in old) new.inputs.given (FailsAmong (names_of (Some form)) old.inputs new.inputs) (LacksAmong (names_of (Some form)) old.inputs new.inputs) (λ t end. Gives t form end) whole
-    → AnswersOver form old new whole
+pub answers_over : (form : Asked) (old new : Outside) (whole : Result Answer Event) → IsCausedBy (known_in old) (CameIn (step_over (names_of (Some form)) old.inputs new.inputs)) (λ t end. Gives t form end) whole → AnswersOver form old new whole
 answers_over form old new whole c =
-    caused_on_by Answer (known_in old) new.inputs.given (FailsAmong (names_of (Some form)) old.inputs new.inputs) (LacksAmong (names_of (Some form)) old.inputs new.inputs)
-    (Fails (Some form) old new) (Lacks (Some form) old new) (λ t end. Gives t form end) whole (λ n p. inl p) (λ n p. inl p) c
+    caused_on_by Answer (known_in old) (CameIn (step_over (names_of (Some form)) old.inputs new.inputs)) (Came (Some form) old new) (λ t end. Gives t form end) whole (came_wider form old new) c
 
 -- ---- a boot
 
@@ -52,10 +54,10 @@ flash_open : (name : List ℕ) (part : PartData) (flash : Option (List ℕ)) (ev
 flash_open name part None event h = h
 flash_open name part (Some all) event h = h.1
 
-booted_due : (known : Option Known) (flash : Option (List ℕ)) (given : ℕ) (F L : List ℕ → Type 0) (name part_name : List ℕ) (part : PartData) (end : Result Answer Event) → ((t : Known) → known ≡ Some t → t.flash name ≡ flash_found flash)
-    → IsOpen end × IsDecided end → IsDue {A = PartData} known (λ t r. part_of t part_name ≡ r) (Ok part) → FlashBoots name part (flash_found flash) end → IsCausedBy known given F L (λ t end. Gives t (Booting part_name name) end) end
-booted_due None flash given F L name part_name part end same o read h = inr o.0
-booted_due (Some t) flash given F L name part_name part end same o read h =
+booted_due : (known : Option Known) (flash : Option (List ℕ)) (C : Mishap → Type 0) (name part_name : List ℕ) (part : PartData) (end : Result Answer Event) → ((t : Known) → known ≡ Some t → t.flash name ≡ flash_found flash)
+    → IsPossible end × IsDecided end → IsDue {A = PartData} known (λ t r. part_of t part_name ≡ r) (Ok part) → FlashBoots name part (flash_found flash) end → IsCausedBy known C (λ t end. Gives t (Booting part_name name) end) end
+booted_due None flash C name part_name part end same o read h = inr o.0
+booted_due (Some t) flash C name part_name part end same o read h =
     inr (o.1, subst (λ (r : Result PartData Event). BootedAs name r (t.flash name) end) (sym read.1) (subst (λ (f : Option Found). FlashBoots name part f end) (sym (same t refl)) h))
 
 -- what is known of the flash
@@ -63,53 +65,53 @@ pub told_flash : (contents : Option (List ℕ → Option (List ℕ))) (flash : O
 told_flash None flash name t e = absurd (cc)
 told_flash (Some inputs) flash name t e = let same : known_of inputs flash ≡ t = cc in ap (λ (k : Known). k.flash name) (sym same)
 
-read_due : {A : Type 0} (known : Option Known) (given : ℕ) (F L : List ℕ → Type 0) (due : Known → Result A Event) (a : A) → IsCaused known given F L due (Ok a) → IsDue {A = A} known (λ t r. due t ≡ r) (Ok a)
-read_due known given F L due a (inl h) = absurd h
-read_due known given F L due a (inr h) = h
+read_due : {A : Type 0} (known : Option Known) (C : Mishap → Type 0) (due : Known → Result A Event) (a : A) → IsCaused known C due (Ok a) → IsDue {A = A} known (λ t r. due t ≡ r) (Ok a)
+read_due known C due a (inl h) = absurd h
+read_due known C due a (inr h) = h
 
-both : (name : List ℕ) (part : PartData) (flash : Option (List ℕ)) (end : Result Answer Event) → FlashBoots name part (flash_found flash) end → IsOpen end × IsDecided end
+both : (name : List ℕ) (part : PartData) (flash : Option (List ℕ)) (end : Result Answer Event) → FlashBoots name part (flash_found flash) end → IsPossible end × IsDecided end
 both name part flash (Ok answer) h = (tt, tt)
-both name part flash (Err event) h = large_is name (λ e. IsOpen {A = Answer} (Err e) × IsDecided {A = Answer} (Err e)) event (tt, tt) (flash_open name part flash event h)
+both name part flash (Err event) h = large_is name (λ e. IsPossible {A = Answer} (Err e) × IsDecided {A = Answer} (Err e)) event (tt, tt) (flash_open name part flash event h)
 
 -- a boot of a part that was read, from a flash
-pub booted_ends : (old new : Outside) (name part_name : List ℕ) (part : PartData) (given : ℕ) (F L : List ℕ → Type 0) (end : Result Answer Event) → IsCaused (known_in old) given F L (λ known. part_of known part_name) (Ok part)
+pub booted_ends : (old new : Outside) (name part_name : List ℕ) (part : PartData) (C : Mishap → Type 0) (end : Result Answer Event) → IsCaused (known_in old) C (λ known. part_of known part_name) (Ok part)
     → FlashComes name part old.flash new.flash end → AnswersOver (Booting part_name name) old new end
-booted_ends old new name part_name part given F L (Ok answer) read h =
-    booted_due (known_in old) old.flash.bytes new.inputs.given (Fails (Some (Booting part_name name)) old new) (Lacks (Some (Booting part_name name)) old new) name part_name part (Ok answer) (told_flash old.inputs.contents old.flash.bytes name) (tt, tt)
-    (read_due (known_in old) given F L (λ t. part_of t part_name) part read) h
-booted_ends old new name part_name part given F L (Err event) read (inl h) = subst (λ (e : Event). AnswersOver (Booting part_name name) old new (Err e)) (sym h) (inl refl)
-booted_ends old new name part_name part given F L (Err event) read (inr (inl (inl h))) =
+booted_ends old new name part_name part C (Ok answer) read h =
+    booted_due (known_in old) old.flash.bytes (Came (Some (Booting part_name name)) old new) name part_name part (Ok answer) (told_flash old.inputs.contents old.flash.bytes name) (tt, tt)
+    (read_due (known_in old) C (λ t. part_of t part_name) part read) h
+booted_ends old new name part_name part C (Err event) read (inl h) = subst (λ (e : Event). AnswersOver (Booting part_name name) old new (Err e)) (sym h) (inl (inl refl))
+booted_ends old new name part_name part C (Err event) read (inr (inl (inl h))) =
     subst (λ (e : Event). AnswersOver (Booting part_name name) old new (Err e)) (sym h.0)
-    (inl (inr h.1, boot_mishap (known_in old) (Lacking name) name part_name part (missing name) refl refl refl (read_due (known_in old) given F L (λ t. part_of t part_name) part read)))
-booted_ends old new name part_name part given F L (Err event) read (inr (inl (inr h))) =
+    (inl (inr (record { mishap = Lacking name; came = inr h.1; is = refl; due = boot_mishap (known_in old) (Lacking name) name part_name part (missing name) refl refl refl (read_due (known_in old) C (λ t. part_of t part_name) part read) })))
+booted_ends old new name part_name part C (Err event) read (inr (inl (inr h))) =
     subst (λ (e : Event). AnswersOver (Booting part_name name) old new (Err e)) (sym h.0)
-    (inl (inr h.1, boot_mishap (known_in old) (Failing name new.inputs.given) name part_name part (read_fault name) refl refl refl (read_due (known_in old) given F L (λ t. part_of t part_name) part read)))
-booted_ends old new name part_name part given F L (Err event) read (inr (inr h)) =
-    booted_due (known_in old) old.flash.bytes new.inputs.given (Fails (Some (Booting part_name name)) old new) (Lacks (Some (Booting part_name name)) old new) name part_name part (Err event) (told_flash old.inputs.contents old.flash.bytes name) (both name part old.flash.bytes (Err event) h)
-    (read_due (known_in old) given F L (λ t. part_of t part_name) part read) h
+    (inl (inr (record {
+      mishap = Failing name new.inputs.given;
+      came = (refl, inr h.1);
+      is = refl;
+      due = boot_mishap (known_in old) (Failing name new.inputs.given) name part_name part (read_fault name) refl refl refl (read_due (known_in old) C (λ t. part_of t part_name) part read);
+    })))
+booted_ends old new name part_name part C (Err event) read (inr (inr h)) =
+    booted_due (known_in old) old.flash.bytes (Came (Some (Booting part_name name)) old new) name part_name part (Err event) (told_flash old.inputs.contents old.flash.bytes name) (both name part old.flash.bytes (Err event) h)
+    (read_due (known_in old) C (λ t. part_of t part_name) part read) h
 
 -- a part that was not read: by its cause, the boot ends with the same event, whatever its flash is
 boot_due_kept : (known : Option Known) (m : Mishap) (name part_name : List ℕ) (event : Event) → DueBy {A = PartData} known m (λ t r. part_of t part_name ≡ r) event → DueBy {A = Answer} known m (λ t end. Gives t (Booting part_name name) end) event
 boot_due_kept None m name part_name event h = tt
 boot_due_kept (Some t) m name part_name event h = subst (λ (r : Result PartData Event). BootedAs name r ((with_mishap m t).flash name) (Err event)) (sym h) refl
 
-boot_free : (cause : Cause) (known : Option Known) (given : ℕ) (F L : List ℕ → Type 0) (name part_name : List ℕ) (event : Event) → FreeBy {A = PartData} cause known given F L (λ t r. part_of t part_name ≡ r) event → FreeBy {A = Answer} cause known given F L (λ t end. Gives t (Booting part_name name) end) event
-boot_free Want known given F L name part_name event h = h
-boot_free Fault known given F L name part_name event h = (h.0, boot_due_kept known (Failing event.concerned given) name part_name event h.1)
-boot_free Absence known given F L name part_name event h = (h.0, boot_due_kept known (Lacking event.concerned) name part_name event h.1)
-boot_free cause known given F L name part_name event h = absurd h
-
-boot_kept : (known : Option Known) (given : ℕ) (F L : List ℕ → Type 0) (name part_name : List ℕ) (event : Event) → IsCaused {A = PartData} known given F L (λ t. part_of t part_name) (Err event) → IsCausedBy {A = Answer} known given F L (λ t end. Gives t (Booting part_name name) end) (Err event)
-boot_kept known given F L name part_name event (inl h) = inl (boot_free (cause_of event) known given F L name part_name event h)
-boot_kept None given F L name part_name event (inr h) = inr h
-boot_kept (Some t) given F L name part_name event (inr h) = inr (h.0, subst (λ (r : Result PartData Event). BootedAs name r (t.flash name) (Err event)) (sym h.1) refl)
+boot_kept : (known : Option Known) (C : Mishap → Type 0) (name part_name : List ℕ) (event : Event) → IsCaused {A = PartData} known C (λ t. part_of t part_name) (Err event) → IsCausedBy {A = Answer} known C (λ t end. Gives t (Booting part_name name) end) (Err event)
+boot_kept known C name part_name event (inl h) =
+    inl (outside_goes PartData Answer known C C (λ t r. part_of t part_name ≡ r) (λ t end. Gives t (Booting part_name name) end) event (λ m x. x) (λ m e x. boot_due_kept known m name part_name event x) h)
+boot_kept None C name part_name event (inr h) = inr h
+boot_kept (Some t) C name part_name event (inr h) = inr (h.0, subst (λ (r : Result PartData Event). BootedAs name r (t.flash name) (Err event)) (sym h.1) refl)
 
 pub part_refused : (old new : Outside) (name part_name : List ℕ) (event : Event)
-    → IsCaused {A = PartData} (known_in old) new.inputs.given (FailsAmong (part_name ∷ []) old.inputs new.inputs) (LacksAmong (part_name ∷ []) old.inputs new.inputs) (λ known. part_of known part_name) (Err event)
+    → IsCaused {A = PartData} (known_in old) (CameIn (step_over (part_name ∷ []) old.inputs new.inputs)) (λ known. part_of known part_name) (Err event)
     → AnswersOver (Booting part_name name) old new (Err event)
 part_refused old new name part_name event read =
     answers_over (Booting part_name name) old new (Err event)
-    (boot_kept (known_in old) new.inputs.given (FailsAmong (part_name ∷ []) old.inputs new.inputs) (LacksAmong (part_name ∷ []) old.inputs new.inputs) name part_name event read)
+    (boot_kept (known_in old) (CameIn (step_over (part_name ∷ []) old.inputs new.inputs)) name part_name event read)
 
 -- ---- a flash that is read at most
 
@@ -134,9 +136,9 @@ pub found_same : (known : Option Known) (stream : Option (List ℕ)) (all : List
 found_same known None all = refl
 found_same known (Some stream) all = inl refl
 
-pub uses_same : (form : Option Asked) (inputs : InputsState) (s : FlashState) (since : ℕ → List ℕ → Type 0) → UsesFlash form inputs s s since since
+pub uses_same : (form : Option Asked) (inputs : InputsState) (s : FlashState) (since : ℕ → List ℕ → Type 0) → UsesFlash form (sources inputs s) s since since
 uses_same form inputs s since =
-    let known = with_inputs inputs.contents s.bytes in
+    let known = known_from (sources inputs s) in
     record { keeps = kept_same (flash_use form) s; moments = moments_none s since (MayBeFound known (updated_by form)) (λ all e. found_same known (updated_by form) all) }
 
 -- an attach that asks for this name
@@ -156,9 +158,9 @@ reads_on name old mid new past since r o = record {
 
 -- a form that reads its flash
 pub uses_read : (form : Option Asked) (asks : Asked) (name : List ℕ) (inputs : InputsState) (old new : FlashState) (past since : ℕ → List ℕ → Type 0) → form ≡ Some asks → flash_use (Some asks) ≡ Read name
-    → ReadsFlash name old new → Unwritten old new past since → UsesFlash form inputs old new past since
+    → ReadsFlash name old new → Unwritten old new past since → UsesFlash form (sources inputs old) new past since
 uses_read form asks name inputs old new past since e n r u =
-    let known = with_inputs inputs.contents old.bytes in
+    let known = known_from (sources inputs old) in
     record {
       keeps = subst (λ (u : FlashUse). KeepsFlash u old new) (sym (ap flash_use e ∙ n)) r;
       moments = only_read old new past since (MayBeFound known (updated_by form)) (λ all e. found_same known (updated_by form) all) r.bytes u;

@@ -10,16 +10,17 @@ use Rattle.x7_recovery.specs.Recovery.{BootsAs, Updating}
 use Rattle.x7_recovery.proofs.FoundLemmas.{found_boots}
 use Rattle.x7_forms.specs.Event.{Event}
 use Rattle.x7_forms.specs.Form.{Asked, updated_by}
-use Rattle.x7_forms.specs.Known.{Known, with_inputs}
-use Rattle.x7_tool.specs.Leaving.{FoundSince, IsUpdateOf, MayBeFound, UsesFlash}
+use Rattle.x7_forms.specs.Known.{Known}
+use Rattle.x7_tool.specs.Leaving.{IsUpdateOf, MayBeFound, PowerLossMayLeave, UsesFlash}
 use Rattle.x7_tool.specs.Outcome.{stream_data}
+use Rattle.x7_tool.specs.Outside.{known_from, sources}
 use Rattle.x7_tool.proofs.FlashLemmas.{found_same}
 
 -- what may be found since a run began is what the flash held then, or was found within the run
-pub found_since_run : (form : Option Asked) (inputs : InputsState) (old new : FlashState) (past since : ℕ → List ℕ → Type 0) → ((found : List ℕ) → past old.moments found → WhereTold old.bytes (λ all. found ≡ all)) → UsesFlash form inputs old new past since
-    → (found : List ℕ) → since old.moments found → FoundSince form inputs old found
+pub found_since_run : (form : Option Asked) (inputs : InputsState) (old new : FlashState) (past since : ℕ → List ℕ → Type 0) → ((found : List ℕ) → past old.moments found → WhereTold old.bytes (λ all. found ≡ all)) → UsesFlash form (sources inputs old) new past since
+    → (found : List ℕ) → since old.moments found → PowerLossMayLeave form (sources inputs old) found
 found_since_run form inputs old new past since only u found had =
-    let known = with_inputs inputs.contents old.bytes in
+    let known = known_from (sources inputs old) in
     let P : List ℕ → Type 0 = λ all. MayBeFound known (updated_by form) all found in
     ⊎_elim (λ before. told_map old.bytes (λ all. found ≡ all) P (λ all e same. subst (λ (x : List ℕ). MayBeFound known (updated_by form) all x) (sym same) (found_same known (updated_by form) all)) (only found before)) (λ within. within)
     (u.moments.elapses.nothing_else old.moments found (omega arith) had)
@@ -33,10 +34,11 @@ left_by r stream flash found e (inl same) = untouched same
 left_by r stream flash found e (inr h) = subst (λ (x : List ℕ). MayBeLeft x flash found) (ok_is h.0 stream r h.1 e) h.2
 
 -- whatever is found of a flash that a run updates boots as one of the three
-pub found_run_boots : (form : Option Asked) (inputs : InputsState) (flash : FlashState) (u : Updating) (found : List ℕ) (b : BootedState) → IsUpdateOf form inputs flash u → FoundSince form inputs flash found → AreBytes found → IsBoot u.part found b → BootsAs u found b
+pub found_run_boots : (form : Option Asked) (inputs : InputsState) (flash : FlashState) (u : Updating) (found : List ℕ) (b : BootedState) → IsUpdateOf form (sources inputs flash) u → PowerLossMayLeave form (sources inputs flash) found → AreBytes found → IsBoot u.part found b
+    → BootsAs u found b
 found_run_boots form inputs flash u found b w f fits boot =
-    let known = with_inputs inputs.contents flash.bytes in
+    let known = known_from (sources inputs flash) in
     let here : MayBeFound known (updated_by form) u.flash found = told_at flash.bytes (λ all. MayBeFound known (updated_by form) all found) f u.flash w.bytes in
     let named : MayBeFound known (Some w.name) u.flash found = subst (λ (s : Option (List ℕ)). MayBeFound known s u.flash found) w.updates here in
-    let told : MayBeFound (Some w.known) (Some w.name) u.flash found = subst (λ (k : Option Known). MayBeFound k (Some w.name) u.flash found) w.told named in
+    let told : MayBeFound (Some w.known) (Some w.name) u.flash found = subst (λ (k : Option Known). MayBeFound k (Some w.name) u.flash found) w.is_known named in
     found_boots u found b w.prepared fits (left_by (stream_data w.known w.name) u.stream u.flash found w.stream told) boot

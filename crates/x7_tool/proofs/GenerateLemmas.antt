@@ -36,7 +36,7 @@ use Rattle.x7_effects.specs.Played.{PlaysFull}
 use Rattle.x7_effects.proofs.LawLemmas.{new_law}
 use Rattle.x7_tool.specs.Generated.{count_line, counted, gen_text, generated, head_line, next_number, planned_summary, played_summary, row_by, rows_after, sum_line, summary_text, words_sum}
 use Rattle.x7_forms.specs.Known.{reads_limit}
-use Rattle.x7_forms.specs.Play.{HasPlayed, HasPlayedBy, Plays, PlaysOn}
+use Rattle.x7_forms.specs.Play.{HasPlayed, HasPlayedBy, PlayState, Plays, PlaysOn}
 use Rattle.x7_forms.specs.declared.player.Player.{Player}
 
 -- ---- frames that count up
@@ -136,9 +136,9 @@ row_some width far n h = let t : nat_lt n (2 ^ 31) ≡ false = grind (arith, nat
 -- ---- a stream that was played
 
 -- where few words are read out, a player that was given the bytes isn't over
-pub sure : (over : Bool) (part : PartData) (bytes : List ℕ) (d : DeviceState) (b : ReadBufState) (reads : List ℕ) → length (reads_of part on_the_bench bytes) ≤ reads_limit → HasPlayedBy over part bytes d b reads → Plays part bytes d reads × NoWordDue d
-sure true part bytes d b reads few h = let many = h.many in absurd (omega (arith, few, many))
-sure false part bytes d b reads few h = (h.0, h.1)
+pub sure : (over : Bool) (part : PartData) (bytes : List ℕ) (s : PlayState) → length (reads_of part on_the_bench bytes) ≤ reads_limit → HasPlayedBy over part bytes s → Plays part bytes s.device s.reads × NoWordDue s.device
+sure true part bytes s few h = let many = h.many in absurd (omega (arith, few, many))
+sure false part bytes s few h = (h.0, h.1)
 
 -- a full stream reads nothing out
 pub few_reads : (part : PartData) (plan : PlanData) (stream : List ℕ) → IsPart part → IsPlan plan → plan.width ≡ frame_words part → AreAddressed part plan.rows → stream ≡ full_stream part plan → length (reads_of part on_the_bench stream) ≤ reads_limit

@@ -7,6 +7,7 @@ pub mod FlashLemmas
 pub mod FoundLemmas
 pub mod GenerateLemmas
 pub mod PlanLemmas
+pub mod PlayLemmas
 pub mod PromiseLemmas
 pub mod RunLemmas
 pub mod SvfLemmas

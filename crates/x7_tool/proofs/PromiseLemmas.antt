@@ -19,11 +19,11 @@ use Rattle.x7_boot.specs.declared.boots.BootEnd.TheVariants as boot_end
 use Rattle.x7_boot.specs.Attempt.{Trial}
 use Rattle.x7_boot.specs.Boot.{LeadsToEnd, tried}
 use Rattle.x7_boot.specs.Image.{flash_limit, image_of, image_size}
-use Rattle.x7_boot.specs.ImageBoot.{FallsBack, HasImage, StartsUpdate, UpdateFails, golden_image}
+use Rattle.x7_recovery.specs.ImageBoot.{FallsBack, HasImage, StartsUpdate, UpdateFails, golden_image}
 use Rattle.x7_boot.proofs.CheckedLemmas.{attempt_checked, checked, last_checked}
-use Rattle.x7_boot.proofs.FullTrialLemmas.{full_stream_fits}
-use Rattle.x7_boot.proofs.ImageBootLemmas.{boot_falls_back, full_update_starts, update_falls_back}
-use Rattle.x7_boot.proofs.SlotLemmas.{image_fits}
+use Rattle.x7_recovery.proofs.FullTrialLemmas.{full_stream_fits}
+use Rattle.x7_recovery.proofs.ImageBootLemmas.{boot_falls_back, full_update_starts, update_falls_back}
+use Rattle.x7_recovery.proofs.SlotLemmas.{image_fits}
 use Rattle.x7_memory.specs.Planned.{IsPlanFor, PlanData}
 use Rattle.x7_planner.specs.Full.{full_stream}
 use Rattle.x7_regs.specs.declared.boot_status.Cause.{Cause}
@@ -38,9 +38,10 @@ use Rattle.x7_effects.proofs.LawLemmas.{full_law, partial_law, read_law}
 use Rattle.x7_forms.specs.declared.bad_input.InputFault.TheVariants as input
 use Rattle.x7_forms.specs.Event.{Event, bad_input, too_many_reads}
 use Rattle.x7_forms.specs.Form.{Asked, Booting, Generating, Imaging, ImagingFor, PlanningFull, PlanningPartial, PlanningRead, Playing, PlayingSvf}
-use Rattle.x7_forms.specs.Known.{Answer, Found, Held, Known, and_so, data_of, part_by, part_limit, part_of, reads_limit, report_of, reported, stream_limit, whole_in}
-use Rattle.x7_tool.specs.Outcome.{BootedAs, BootsAs, FlashBoots, Gives, ImageStreams, PlanTexts, PlannedFull, PlannedPartial, PlannedRead, PlayedSvf, gen_answer, has_failed, image_by, image_streams, plan_texts, text_limit}
-use Rattle.x7_tool.specs.Promise.{FallsBackAs, FallsBackFrom, HoldsImage, PromiseOf, PromisesFull, PromisesImage, PromisesImageFor, PromisesPartial, PromisesPlayed, PromisesPort, PromisesRead, PromisesStart, PromisesSummary, StartsChecked, StartsUpdateAs}
+use Rattle.x7_forms.specs.Known.{Answer, Found, Held, Known, and_so, data_of, part_by, part_limit, part_of, reads_limit, stream_limit, whole_in}
+use Rattle.x7_tool.specs.Play.{report_of, reported}
+use Rattle.x7_tool.specs.Outcome.{BootedAs, IsBootText, FlashBoots, Gives, ImageStreams, PlanTexts, PlannedFull, PlannedPartial, PlannedRead, PlayedSvf, gen_answer, has_failed, image_by, image_streams, plan_texts, text_limit}
+use Rattle.x7_tool.specs.Promise.{FallsBackAs, FailedUpdateFallsBack, HoldsImage, PromiseOf, PromisesFull, PromisesImage, PromisesImageFor, PromisesPartial, PromisesPlayed, PromisesPort, PromisesRead, PromisesStart, PromisesSummary, StartsChecked, StartsUpdateAs}
 use Rattle.x7_tool.proofs.GenerateLemmas.{generated_plays, planned_is}
 
 -- ---- the part that was read is a part
@@ -122,37 +123,37 @@ has_started boot_end.Started e = refl
 has_started boot_end.Stopped e = absurd (cc)
 has_started boot_end.Loop e = absurd (cc)
 
-starts_checked : (part : PartData) (flash : List ℕ) (answer : Answer) → AreBytes flash → BootsAs part flash answer → StartsChecked part flash answer
+starts_checked : (part : PartData) (flash : List ℕ) (answer : Answer) → AreBytes flash → IsBootText part flash answer → StartsChecked part flash answer
 starts_checked part flash answer fits b = record {
   boot = b;
   checked = λ late. attempt_checked part flash b.last fits b.leads.1 late;
   started = λ ok. last_checked part flash b.last b.older b.end fits b.leads (has_started b.end (sym b.stopped ∙ ok));
 }
 
-boots_told : (name : List ℕ) (part : PartData) (told : Option Found) (flash : List ℕ) (answer : Answer) → told ≡ Some (Held flash) → FlashBoots name part told (Ok answer) → AreBytes flash → BootsAs part flash answer
+boots_told : (name : List ℕ) (part : PartData) (told : Option Found) (flash : List ℕ) (answer : Answer) → told ≡ Some (Held flash) → FlashBoots name part told (Ok answer) → AreBytes flash → IsBootText part flash answer
 boots_told name part told flash answer e h fits =
     let here : FlashBoots name part (Some (Held flash)) (Ok answer) = subst (λ (f : Option Found). FlashBoots name part f (Ok answer)) e h in
     here.1 fits
 
 -- ---- from the image of a golden plan and an update
 
-falls_back_as : (part : PartData) (golden : PlanData) (update : List ℕ) (t : Trial) (cause : Cause) (answer : Answer) → HasImage part golden update → UpdateFails part golden update t cause false → BootsAs part (golden_image part golden update) answer
+falls_back_as : (part : PartData) (golden : PlanData) (update : List ℕ) (t : Trial) (cause : Cause) (answer : Answer) → HasImage part golden update → UpdateFails part golden update t cause false → IsBootText part (golden_image part golden update) answer
     → FallsBackAs part golden update cause answer
 falls_back_as part golden update t cause answer image fails b =
     let back : FallsBack part golden cause (reverse (map tried (b.last ∷ b.older))) b.end b.last = update_falls_back part golden update t cause b.last b.older b.end image fails b.leads in
     record { boot = b; falls_back = back; started = b.stopped ∙ ap has_failed back.started }
 
-starts_update_as : (part : PartData) (golden update : PlanData) (answer : Answer) → HasImage part golden (full_stream part update) → IsPlanFor part update → BootsAs part (golden_image part golden (full_stream part update)) answer
+starts_update_as : (part : PartData) (golden update : PlanData) (answer : Answer) → HasImage part golden (full_stream part update) → IsPlanFor part update → IsBootText part (golden_image part golden (full_stream part update)) answer
     → StartsUpdateAs part golden update answer
 starts_update_as part golden update answer image for b =
     let starts : StartsUpdate part golden update (reverse (map tried (b.last ∷ b.older))) b.end b.last = full_update_starts part golden update b.last b.older b.end image for b.leads in
     record { boot = b; starts = starts; started = b.stopped ∙ ap has_failed starts.started }
 
-image_told : (known : Known) (name : List ℕ) (part : PartData) (golden : PlanData) (update : List ℕ) (answer : Answer) → FlashBoots name part (known.flash name) (Ok answer) → HoldsImage known name part golden update → BootsAs part (golden_image part golden update) answer
+image_told : (known : Known) (name : List ℕ) (part : PartData) (golden : PlanData) (update : List ℕ) (answer : Answer) → FlashBoots name part (known.flash name) (Ok answer) → HoldsImage known name part golden update → IsBootText part (golden_image part golden update) answer
 image_told known name part golden update answer h holds =
     let stream : List ℕ = full_stream part golden in
     let fits : AreBytes (golden_image part golden update) = image_fits part.start_unit stream update (full_stream_fits part golden holds.image.is_part holds.image.plan) holds.bytes in
-    boots_told name part (known.flash name) (golden_image part golden update) answer holds.told h fits
+    boots_told name part (known.flash name) (golden_image part golden update) answer holds.held h fits
 
 start_promised : (known : Known) (part flash : List ℕ) (read : Result PartData Event) (answer : Answer) → part_of known part ≡ read → BootedAs flash read (known.flash flash) (Ok answer) → PromisesStart known part flash answer
 start_promised known part flash (Err event) answer e p = absurd (cc)
@@ -210,7 +211,7 @@ unfolding value_or
 image_fits_by true n l e text answer t h = absurd (cc)
 image_fits_by false n l e text answer t h = (grind (arith, nat_tests, t), sym (ap (λ (r : Result Answer Event). let a : Answer = value_or answer r in a.text) h))
 
-image_falls : (name : List ℕ) (unit : ℕ) (s : ImageStreams) (device : PartData) (answer : Answer) → IsPart device → device.start_unit ≡ unit → image_by name unit s ≡ Ok answer → FallsBackFrom device s answer.text
+image_falls : (name : List ℕ) (unit : ℕ) (s : ImageStreams) (device : PartData) (answer : Answer) → IsPart device → device.start_unit ≡ unit → image_by name unit s ≡ Ok answer → FailedUpdateFallsBack device s answer.text
 image_falls name unit s device answer part same h = λ plan b t cause is for boot fails.
     let size = image_size (length s.golden) (length s.update) in
     let fits : (size ≤ flash_limit) × (answer.text ≡ image_of unit s.golden s.update) = image_fits_by (nat_lt flash_limit size) size flash_limit (bad_input name input.Image) (image_of unit s.golden s.update) answer refl h in

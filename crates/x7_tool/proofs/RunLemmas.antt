@@ -16,16 +16,16 @@ use Rattle.x7_forms.specs.declared.refusal.Why.TheVariants as why
 use Rattle.x7_forms.specs.declared.status.Status.{Status}
 use Rattle.x7_forms.specs.declared.status.Status.TheVariants as status
 use Rattle.x7_forms.specs.Event.{Event, Cause, Wording, Want, Fault, Absence, Break, Contents, Difference, cause_of, no_memory, row_of, status_of, usage, write_fault}
-use Rattle.x7_forms.specs.Form.{Asked, Assembling, FromMcs, flash_use, listed_by, names_of, updated_by}
+use Rattle.x7_forms.specs.Form.{Asked, Assembling, FromMcs, flash_use, listed_by, updated_by}
 use Rattle.x7_forms.specs.Message.{final_status, text_status}
-use Rattle.x7_forms.specs.Known.{Answer, Failing, Known, Lacking, Mishap, and_so, found, known_of, taken_whole, whole_in, with_inputs, within}
-use Rattle.x7_forms.specs.Step.{AnswersBy, DecidedBy, DueBy, FreeBy, IsCausedBy, IsDue, OpenBy}
+use Rattle.x7_forms.specs.Known.{Answer, Failing, Known, Lacking, Mishap, mishap_event, and_so, found, known_of, taken_whole, whole_in, with_inputs, within}
+use Rattle.x7_forms.specs.Step.{DecidedBy, IsCausedBy, IsDue, IsFromOutside, PossibleBy}
 use Rattle.x7_tool.specs.Ahead.{StaysNear, StaysNearIn}
 use Rattle.x7_tool.specs.Leaving.{Updates}
 use Rattle.x7_tool.specs.Outcome.{AssembledAs, Gives, IsOutcome, mcs_image, text_limit}
-use Rattle.x7_tool.specs.Outside.{Fails, IsQuiet, KeepsFlash, Lacks, Outside, known_in}
+use Rattle.x7_tool.specs.Outside.{Came, IsQuiet, KeepsFlash, Outside, known_in}
 use Rattle.x7_tool.specs.Promise.{Promise}
-use Rattle.x7_tool.specs.Run.{Agrees, AnswersOver, CausedBy, Ends, EndsAs, GetsBy, GetsPrefix, Happens, HasCause, LeavesBy, LeftAtBreak, LeftBy, Puts, Says, Wrote}
+use Rattle.x7_tool.specs.Run.{Agrees, AnswersForm, AnswersOver, CausedBy, EndIsCaused, Ends, EndsAs, GetsBy, GetsPrefix, Happens, LeavesBy, LeftAtBreak, LeftBy, Puts, Says, Wrote}
 use Rattle.x7_tool.specs.Runs.{Back, Runs}
 use Rattle.x7_tool.proofs.FlashLemmas.{answers_over}
 use Rattle.x7_tool.proofs.PromiseLemmas.{promised}
@@ -38,20 +38,25 @@ want_is event e = ap status_of e
 
 -- ---- where contents are known and nothing failed
 
+-- no mishap came
+never_came : (form : Asked) (old new : Outside) (m : Mishap) → IsQuiet (Some form) old new → Came (Some form) old new m → ⊥
+never_came form old new (Failing name given) q h = q.0 name h.1
+never_came form old new (Lacking name) q h = q.1 name h
+
 -- an event of a form is want of memory or the outcome
 event_by : (known : Known) (form : Asked) (old new : Outside) (event : Event) (cause : Cause) → known_in old ≡ Some known → IsQuiet (Some form) old new
     → CausedBy cause form old new event → (event ≡ no_memory) ⊎ Gives known form (Err event)
 event_by known form old new event Wording k q h = absurd h
 event_by known form old new event Want k q h = inl h
-event_by known form old new event Fault k q h = absurd (q.0 event.concerned h.0)
-event_by known form old new event Absence k q (inl h) = absurd (q.1 event.concerned h.0)
+event_by known form old new event Fault k q h = absurd (never_came form old new h.mishap q h.came)
+event_by known form old new event Absence k q (inl h) = absurd (never_came form old new h.mishap q h.came)
 event_by known form old new event Absence k q (inr h) = inr (rw k at h)
 event_by known form old new event Break k q h = elim h.1 [ inl fails ↦ absurd (q.2 fails) | inr fails ↦ absurd (q.3 fails) ]
 event_by known form old new event Difference k q h = let agrees : Agrees (known_in old) form (Err event) = h.1 in inr (rw k at agrees)
 event_by known form old new event Contents k q h = inr (rw k at h)
 
 -- the end is the outcome or want of memory
-outcome_is : (form : Option Asked) (old new : Outside) (s : Status) (end : Result Answer Event) → s ≡ final_status end → HasCause form old new end
+outcome_is : (form : Option Asked) (old new : Outside) (s : Status) (end : Result Answer Event) → s ≡ final_status end → EndIsCaused form old new end
     → (known : Known) → known_in old ≡ Some known → IsQuiet form old new → (s ≡ status.NoMemory) ⊎ IsOutcome known form end
 outcome_is None old new s end e h known k q = inr (sym h)
 outcome_is (Some form) old new s (Ok answer) e h known k q = inr (rw k at h)
@@ -62,7 +67,7 @@ outcome_is (Some form) old new s (Err event) e h known k q = by (event_by known 
     by (inr g) = inr g
 
 -- words without a form end as a wrong usage
-no_form_is : (form : Option Asked) (old new : Outside) (s : Status) (end : Result Answer Event) → s ≡ final_status end → HasCause form old new end → form ≡ None → s ≡ status.Usage
+no_form_is : (form : Option Asked) (old new : Outside) (s : Status) (end : Result Answer Event) → s ≡ final_status end → EndIsCaused form old new end → form ≡ None → s ≡ status.Usage
 no_form_is None old new s end e h n = e ∙ ap final_status h
 no_form_is (Some form) old new s end e h n = absurd (cc)
 
@@ -77,35 +82,34 @@ abbrev is_ok : {A : Type 0} → Result A Event → Bool
 is_ok (Ok a) = true
 is_ok (Err event) = false
 
-happens_in : (known : Option Known) (m : Mishap) (form : Asked) (event : Event) → DueBy {A = Answer} known m (λ t end. Gives t form end) event → Happens known m form event
-happens_in None m form event h = tt
-happens_in (Some t) m form event h = h
+-- an event of a mishap, by that
+mishap_cause : (m : Mishap) (form : Asked) (old new : Outside) (event : Event) → mishap_event m ≡ event → Happens form old new event → CausedBy (cause_of event) form old new event
+mishap_cause (Failing name given) form old new event e h = subst (λ (c : Cause). CausedBy c form old new event) (ap cause_of e) h
+mishap_cause (Lacking name) form old new event e h = subst (λ (c : Cause). CausedBy c form old new event) (ap cause_of e) (inl h)
 
-free_cause : (cause : Cause) (form : Asked) (old new : Outside) (event : Event) → FreeBy {A = Answer} cause (known_in old) new.inputs.given (Fails (Some form) old new) (Lacks (Some form) old new) (λ t end. Gives t form end) event → CausedBy cause form old new event
-free_cause Want form old new event h = h
-free_cause Fault form old new event h = (h.0, happens_in (known_in old) (Failing event.concerned new.inputs.given) form event h.1)
-free_cause Absence form old new event h = inl (h.0, happens_in (known_in old) (Lacking event.concerned) form event h.1)
-free_cause cause form old new event h = absurd h
+outside_cause : (form : Asked) (old new : Outside) (event : Event) → IsFromOutside {A = Answer} (known_in old) (Came (Some form) old new) (λ t end. Gives t form end) (Err event) → CausedBy (cause_of event) form old new event
+outside_cause form old new event (inl e) = subst (λ (x : Event). CausedBy (cause_of x) form old new x) (sym e) refl
+outside_cause form old new event (inr h) = mishap_cause h.mishap form old new event h.is h
 
 known_cause : (cause : Cause) (known : Known) (form : Asked) (old new : Outside) (event : Event) → known_in old ≡ Some known → DecidedBy cause → Gives known form (Err event) → CausedBy cause form old new event
 known_cause Absence known form old new event k d h = inr (rw k h)
 known_cause Contents known form old new event k d h = rw k h
 known_cause cause known form old new event k d h = absurd d
 
-open_cause : (cause : Cause) (form : Asked) (old new : Outside) (event : Event) → known_in old ≡ None → OpenBy cause → CausedBy cause form old new event
+open_cause : (cause : Cause) (form : Asked) (old new : Outside) (event : Event) → known_in old ≡ None → PossibleBy cause → CausedBy cause form old new event
 open_cause Contents form old new event k o = rw k tt
 open_cause cause form old new event k o = absurd o
 
-due_cause : (known : Option Known) (form : Asked) (old new : Outside) (got : Result Answer Event) → known_in old ≡ known → IsDue known (λ t end. Gives t form end) got → HasCause (Some form) old new got
+due_cause : (known : Option Known) (form : Asked) (old new : Outside) (got : Result Answer Event) → known_in old ≡ known → IsDue known (λ t end. Gives t form end) got → EndIsCaused (Some form) old new got
 due_cause None form old new (Ok answer) k h = rw k tt
 due_cause (Some known) form old new (Ok answer) k h = rw k h.1
 due_cause None form old new (Err event) k h = open_cause (cause_of event) form old new event k h
 due_cause (Some known) form old new (Err event) k h = known_cause (cause_of event) known form old new event k h.0 h.1
 
 -- a text that is ready, or none, has its cause
-pub has_cause : (form : Asked) (old new : Outside) (got : Result Answer Event) → AnswersOver form old new got → HasCause (Some form) old new got
+pub has_cause : (form : Asked) (old new : Outside) (got : Result Answer Event) → AnswersOver form old new got → EndIsCaused (Some form) old new got
 has_cause form old new (Ok answer) (inl h) = absurd h
-has_cause form old new (Err event) (inl h) = free_cause (cause_of event) form old new event h
+has_cause form old new (Err event) (inl h) = outside_cause form old new event h
 has_cause form old new got (inr h) = due_cause (known_in old) form old new got refl h
 
 -- ---- texts that lead back
@@ -164,7 +168,7 @@ no_form_promise : (known : Option Known) (end : Result Answer Event) → Promise
 no_form_promise None end = tt
 no_form_promise (Some known) end = tt
 
-promise_is : (form : Option Asked) (old new : Outside) (end : Result Answer Event) → HasCause form old new end → Promise (known_in old) form end
+promise_is : (form : Option Asked) (old new : Outside) (end : Result Answer Event) → EndIsCaused form old new end → Promise (known_in old) form end
 promise_is None old new end h = no_form_promise (known_in old) end
 promise_is (Some form) old new (Ok answer) h = promise_by (known_in old) form answer h
 promise_is (Some form) old new (Err event) h = no_promise (known_in old) (Some form) event
@@ -197,23 +201,27 @@ pub leaves_all : (form : Asked) (cause : Cause) (old new : Outside) (event : Eve
 leaves_all form Break old new event l n e = absurd (n refl)
 leaves_all form cause old new event l n e = subst (λ (s : Option (List ℕ)). LeavesBy s event old new) (sym l) e
 
-free_by : (cause : Cause) (known : Option Known) (given : ℕ) (F L : List ℕ → Type 0) (Due : Known → Result Answer Event → Type 0) (event : Event) → FreeBy {A = Answer} cause known given F L Due event → cause ≡ Break → ⊥
-free_by Break known given F L Due event h e = h
-free_by cause known given F L Due event h e = absurd (cc)
+outside_by : (known : Option Known) (C : Mishap → Type 0) (Due : Known → Result Answer Event → Type 0) (event : Event) → IsFromOutside {A = Answer} known C Due (Err event) → cause_of event ≡ Break → ⊥
+outside_by known C Due event (inl e) b = let c : Want ≡ Break = sym (ap cause_of e) ∙ b in absurd (cc)
+outside_by known C Due event (inr h) b = by h.mishap h.is
+  where
+    by : (m : Mishap) → mishap_event m ≡ event → ⊥
+    by (Failing name given) e = let c : Fault ≡ Break = ap cause_of e ∙ b in absurd (cc)
+    by (Lacking name) e = let c : Absence ≡ Break = ap cause_of e ∙ b in absurd (cc)
 
 decided_by : (cause : Cause) → DecidedBy cause → cause ≡ Break → ⊥
 decided_by Break h e = h
 decided_by cause h e = absurd (cc)
 
-open_by : (cause : Cause) → OpenBy cause → cause ≡ Break → ⊥
+open_by : (cause : Cause) → PossibleBy cause → cause ≡ Break → ⊥
 open_by Break h e = h
 open_by cause h e = absurd (cc)
 
 -- a text that isn't ready was not refused by the output
-pub no_break : (known : Option Known) (given : ℕ) (F L : List ℕ → Type 0) (Due : Known → Result Answer Event → Type 0) (event : Event) → IsCausedBy known given F L Due (Err event) → cause_of event ≡ Break → ⊥
-no_break known given F L Due event (inl h) = free_by (cause_of event) known given F L Due event h
-no_break None given F L Due event (inr h) = open_by (cause_of event) h
-no_break (Some t) given F L Due event (inr h) = decided_by (cause_of event) h.0
+pub no_break : (known : Option Known) (C : Mishap → Type 0) (Due : Known → Result Answer Event → Type 0) (event : Event) → IsCausedBy known C Due (Err event) → cause_of event ≡ Break → ⊥
+no_break known C Due event (inl h) = outside_by known C Due event h
+no_break None C Due event (inr h) = open_by (cause_of event) h
+no_break (Some t) C Due event (inr h) = decided_by (cause_of event) h.0
 
 gets_by : (known : Option Known) (form : Asked) (answer : Answer) (old new : SinkState) → listed_by (Some form) ≡ None → Agrees known form (Ok answer) → PutsSome old answer.text new → GetsPrefix known form old new
 gets_by None form answer old new l h p = (answer.text, p)
@@ -245,7 +253,7 @@ puts_end : (form : Asked) (old new : Outside) (whole : Result Answer Event) (got
 puts_end form old new (Ok answer) (Ok stopped) l u c p = (
   answer.text,
   record {
-    cause = subst (λ (s : Bool). HasCause (Some form) old new (Ok (record { stopped = s; text = answer.text }))) (sym p.0) (has_cause form old new (Ok answer) c);
+    cause = subst (λ (s : Bool). EndIsCaused (Some form) old new (Ok (record { stopped = s; text = answer.text }))) (sym p.0) (has_cause form old new (Ok answer) c);
     wrote = p.1;
     near = near_all form (text_status stopped) old new l;
     updates = updates_none form old new (Ok (record { stopped = stopped; text = answer.text })) u;
@@ -264,7 +272,7 @@ puts_end form old new (Err event) (Err other) l u c p =
     subst (λ (e : Event). Ends (Some form) old new (Err e)) (sym (ap event_in p.0))
     (record {
       cause = has_cause form old new (Err event) c;
-      wrote = leaves_all form (cause_of event) old new event l (no_break (known_in old) new.inputs.given (Fails (Some form) old new) (Lacks (Some form) old new) (λ t end. Gives t form end) event c) p.1;
+      wrote = leaves_all form (cause_of event) old new event l (no_break (known_in old) (Came (Some form) old new) (λ t end. Gives t form end) event c) p.1;
       near = near_all form (status_of event) old new l;
       updates = updates_none form old new (Err event) u;
     })
@@ -277,5 +285,5 @@ text_ends form asks old new whole got e n c p =
 
 -- the same of a form that reads inputs alone
 pub ready_ends : (form : Option Asked) (asks : Asked) (old new : Outside) (whole : Result Answer Event) (got : Result Bool Event)
-    → form ≡ Some asks → streamed (listed_by (Some asks)) (updated_by (Some asks)) ≡ None → AnswersBy (names_of (Some asks)) old.inputs new.inputs (λ t end. Gives t asks end) whole → Puts whole old.out new.out got → EndsAs form old new got
+    → form ≡ Some asks → streamed (listed_by (Some asks)) (updated_by (Some asks)) ≡ None → AnswersForm asks old.inputs new.inputs whole → Puts whole old.out new.out got → EndsAs form old new got
 ready_ends form asks old new whole got e l c p = text_ends form asks old new whole got e l (answers_over asks old new whole (c old.flash.bytes)) p

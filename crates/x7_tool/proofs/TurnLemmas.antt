@@ -11,10 +11,10 @@ use Rattle.x7_listing.specs.Telling.{Finished, ListerStandsFor, ListerState}
 use Rattle.x7_listing.proofs.FrontLemmas.{told_front}
 use Rattle.x7_words.specs.Input.{InputsState, AtEnd, Selects, Stays, preceded}
 use Rattle.x7_words.proofs.ListLemmas.{all-append, all_back}
-use Rattle.x7_forms.specs.Step.{FailsAmong, LacksAmong}
+use Rattle.x7_forms.specs.Step.{CameIn, step_over}
 use Rattle.x7_words.proofs.InputLemmas.{preceded-preceded}
 use Rattle.x7_forms.specs.Event.{Event, read_fault, too_large, write_fault}
-use Rattle.x7_forms.specs.Known.{found, stream_limit, with_inputs}
+use Rattle.x7_forms.specs.Known.{Mishap, found, stream_limit, with_inputs}
 use Rattle.x7_tool.specs.Turns.{Lists, ListsStream}
 use Rattle.x7_forms.specs.Turn.{IsAt, MayFollow, Unread}
 use Rattle.x7_tool.proofs.Causes.{Ended, PutsListed, broken, ends_same, faulted, oversized, unwritten}
@@ -118,17 +118,17 @@ pub goes_on : (bytes piece line sent : List ℕ) → ((rest : List ℕ) → stre
 goes_on bytes piece line sent g rest = ap stream_listing (append_assoc bytes piece rest) ∙ g (piece ++ rest) ∙ ap (λ s. Ok (line ++ listing_of s)) (sym (append_assoc sent piece rest))
 
 -- a sink that failed in a turn
-pub write_failed : (contents : Option (List ℕ → Option (List ℕ))) (flash : Option (List ℕ)) (given : ℕ) (F L : List ℕ → Type 0) (stream taken piece same : List ℕ) (l : ListerState) (rest : Option (List ℕ)) (Full : Type 0) (old mid now : Option (List ℕ))
+pub write_failed : (contents : Option (List ℕ → Option (List ℕ))) (flash : Option (List ℕ)) (C : Mishap → Type 0) (stream taken piece same : List ℕ) (l : ListerState) (rest : Option (List ℕ)) (Full : Type 0) (old mid now : Option (List ℕ))
     → same ≡ piece → Selects contents stream (preceded (taken ++ piece) rest) → Full → (t : ListsStream l old mid taken) → AreBytes same → ((left : List ℕ) → AreBytes (t.sent ++ (same ++ left)) → PutsFront (appended old t.line) (listing_of (t.sent ++ (same ++ left))) now)
-    → Ended (with_inputs contents flash) given F L stream Full old now (Err write_fault)
-write_failed contents flash given F L stream taken piece same l rest Full old mid now e s f t fits p =
+    → Ended (with_inputs contents flash) C stream Full old now (Err write_fault)
+write_failed contents flash C stream taken piece same l rest Full old mid now e s f t fits p =
     let sent : AreBytes t.sent = stands_fit l t.lists.given t.sent t.lists.stands in
     let q : (left : List ℕ) → AreBytes left → PutsListed ((taken ++ piece) ++ left) old now
     = λ left fit.
     let front : PutsFront (appended old t.line) (listing_of (t.sent ++ (piece ++ left))) now = subst (λ x. PutsFront (appended old t.line) (listing_of (t.sent ++ (x ++ left))) now) e (p left (all-append (λ b. b < 256) t.sent (same ++ left) sent (all-append (λ b. b < 256) same left fits fit))) in
     (t.line ++ listing_of (t.sent ++ (piece ++ left)), (ap stream_listing (append_assoc taken piece left) ∙ t.goes (piece ++ left), line_front old now t.line (listing_of (t.sent ++ (piece ++ left))) front)) in
     let here : PutsListed (taken ++ piece) old now = subst (λ x. PutsListed x old now) (append-nil (taken ++ piece)) (q [] tt) in
-    unwritten contents flash given F L stream (taken ++ piece) rest false Full old now s (λ l. absurd cc) f here (λ left m fit. q left (all_back (λ b. b < 256) (taken ++ piece) left fit))
+    unwritten contents flash C stream (taken ++ piece) rest false Full old now s (λ l. absurd cc) f here (λ left m fit. q left (all_back (λ b. b < 256) (taken ++ piece) left fit))
 
 -- what was put at the front of a stream
 pub front_here : (taken line sent : List ℕ) (last : Bool) (old now : Option (List ℕ)) → AreBytes sent → ((left : List ℕ) → MayFollow last left → stream_listing (taken ++ left) ≡ Ok (line ++ listing_of (sent ++ left)))
@@ -138,20 +138,20 @@ front_here taken line sent last old now fits g p =
     (line ++ listing_of sent, (stream_whole taken line sent (g [] (λ l. refl)), put))
 
 -- a sink that failed at the front of a stream
-pub front_failed : (contents : Option (List ℕ → Option (List ℕ))) (flash : Option (List ℕ)) (given : ℕ) (F L : List ℕ → Type 0) (stream taken line sent : List ℕ) (rest : Option (List ℕ)) (last : Bool) (Full : Type 0) (old now : Option (List ℕ))
+pub front_failed : (contents : Option (List ℕ → Option (List ℕ))) (flash : Option (List ℕ)) (C : Mishap → Type 0) (stream taken line sent : List ℕ) (rest : Option (List ℕ)) (last : Bool) (Full : Type 0) (old now : Option (List ℕ))
     → Selects contents stream (preceded taken rest) → (last ≡ true → AtEnd rest) → Full → AreBytes sent → ((left : List ℕ) → MayFollow last left → stream_listing (taken ++ left) ≡ Ok (line ++ listing_of (sent ++ left)))
-    → ((left : List ℕ) → AreBytes (sent ++ left) → PutsFront old (line ++ listing_of (sent ++ left)) now) → Ended (with_inputs contents flash) given F L stream Full old now (Err write_fault)
-front_failed contents flash given F L stream taken line sent rest last Full old now s e f fits g p =
+    → ((left : List ℕ) → AreBytes (sent ++ left) → PutsFront old (line ++ listing_of (sent ++ left)) now) → Ended (with_inputs contents flash) C stream Full old now (Err write_fault)
+front_failed contents flash C stream taken line sent rest last Full old now s e f fits g p =
     let q : (left : List ℕ) → MayFollow last left → AreBytes left → PutsListed (taken ++ left) old now
     = λ left m fit. (line ++ listing_of (sent ++ left), (g left m, p left (all-append (λ b. b < 256) sent left fits fit))) in
     let here : PutsListed taken old now = front_here taken line sent last old now fits g p in
-    unwritten contents flash given F L stream taken rest last Full old now s e f here (λ left m fit. q left m (all_back (λ b. b < 256) taken left fit))
+    unwritten contents flash C stream taken rest last Full old now s e f here (λ left m fit. q left m (all_back (λ b. b < 256) taken left fit))
 
 -- a sink that failed at the end
-pub end_failed : (contents : Option (List ℕ → Option (List ℕ))) (flash : Option (List ℕ)) (given : ℕ) (F L : List ℕ → Type 0) (stream taken : List ℕ) (rest : Option (List ℕ)) (Full : Type 0) (old now : Option (List ℕ))
-    → Selects contents stream (preceded taken rest) → AtEnd rest → Full → PutsListed taken old now → Ended (with_inputs contents flash) given F L stream Full old now (Err write_fault)
-end_failed None flash given F L stream taken rest Full old now s e f p = (refl, f, (p.0, p.1.1))
-end_failed (Some inputs) flash given F L stream taken rest Full old now s e f p =
+pub end_failed : (contents : Option (List ℕ → Option (List ℕ))) (flash : Option (List ℕ)) (C : Mishap → Type 0) (stream taken : List ℕ) (rest : Option (List ℕ)) (Full : Type 0) (old now : Option (List ℕ))
+    → Selects contents stream (preceded taken rest) → AtEnd rest → Full → PutsListed taken old now → Ended (with_inputs contents flash) C stream Full old now (Err write_fault)
+end_failed None flash C stream taken rest Full old now s e f p = (refl, f, (p.0, p.1.1))
+end_failed (Some inputs) flash C stream taken rest Full old now s e f p =
     let all = known_all inputs stream taken rest s in
     let none : all.0 ≡ [] = let end = rw all.1.0 at e in end in
     (refl, f, (taken, (ap found (all.1.1 ∙ ap (λ t. Some (taken ++ t)) none ∙ ap Some (append-nil taken)), λ fits. p)))
@@ -159,14 +159,14 @@ end_failed (Some inputs) flash given F L stream taken rest Full old now s e f p 
 -- a turn that could not be read
 pub unread_end : (s m n : InputsState) (flash : Option (List ℕ)) (stream taken : List ℕ) (l : ListerState) (left : ℕ) (Full : Type 0) (old now : Option (List ℕ)) (event : Event)
     → Stays s m → Selects s.contents stream (preceded taken m.rest) → IsAt stream taken m → ListsStream l old now taken → length taken + left ≡ stream_limit → Unread m stream n left event → n.asked ≡ m.asked
-    → Ended (with_inputs s.contents flash) n.given (FailsAmong (stream ∷ []) s n) (LacksAmong (stream ∷ []) s n) stream Full old now (Err event)
+    → Ended (with_inputs s.contents flash) (CameIn (step_over (stream ∷ []) s n)) stream Full old now (Err event)
 unread_end s m n flash stream taken l left Full old now event f sel a t k (inl h) q =
     let fault = at_fault s m n stream taken left f a h.1 q in
-    ends_same (with_inputs s.contents flash) n.given (FailsAmong (stream ∷ []) s n) (LacksAmong (stream ∷ []) s n) stream Full old now event (read_fault stream) h.0
-    (broken s.contents flash n.given (FailsAmong (stream ∷ []) s n) (LacksAmong (stream ∷ []) s n) stream taken m.rest Full old now sel (faulted s n flash stream fault.0 (omega (arith, fault.1, k))) (stream_here l old now taken t))
+    ends_same (with_inputs s.contents flash) (CameIn (step_over (stream ∷ []) s n)) stream Full old now event (read_fault stream) h.0
+    (broken s.contents flash (CameIn (step_over (stream ∷ []) s n)) stream taken m.rest Full old now sel (faulted s n flash stream fault.0 (omega (arith, fault.1, k))) (stream_here l old now taken t))
 unread_end s m n flash stream taken l left Full old now event f sel a t k (inr h) q =
     let piece = h.1.0 in
     let over : stream_limit < length (taken ++ piece) = omega (arith, length-append taken piece, h.1.1.1, k) in
-    ends_same (with_inputs s.contents flash) n.given (FailsAmong (stream ∷ []) s n) (LacksAmong (stream ∷ []) s n) stream Full old now event (too_large stream) h.0
-    (oversized s.contents flash n.given (FailsAmong (stream ∷ []) s n) (LacksAmong (stream ∷ []) s n) stream (taken ++ piece) taken n.rest m.rest Full old now (taken_more s.contents stream taken piece m.rest n.rest sel h.1.1.0) sel
+    ends_same (with_inputs s.contents flash) (CameIn (step_over (stream ∷ []) s n)) stream Full old now event (too_large stream) h.0
+    (oversized s.contents flash (CameIn (step_over (stream ∷ []) s n)) stream (taken ++ piece) taken n.rest m.rest Full old now (taken_more s.contents stream taken piece m.rest n.rest sel h.1.1.0) sel
     (λ more. (t.line ++ listing_of ((t.sent ++ piece) ++ more), goes_on taken piece t.line t.sent t.goes more)) over (stream_here l old now taken t))

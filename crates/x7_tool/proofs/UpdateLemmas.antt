@@ -20,17 +20,17 @@ use Rattle.x7_update.proofs.ToldLemmas.{moments_weaker, only_read, read_moments}
 use Rattle.x7_forms.specs.declared.bad_input.InputFault.TheVariants as input
 use Rattle.x7_forms.specs.declared.refusal.Why.{Why}
 use Rattle.x7_forms.specs.declared.refusal.Why.TheVariants as why
-use Rattle.x7_forms.specs.Event.{Event, Cause, Want, Fault, Absence, bad_input, cause_of, differs, no_memory, read_fault, status_of, too_large, write_fault}
-use Rattle.x7_forms.specs.Form.{Asked, Updating}
+use Rattle.x7_forms.specs.Event.{Event, bad_input, cause_of, differs, no_memory, read_fault, status_of, too_large, write_fault}
+use Rattle.x7_forms.specs.Form.{Asked, UpdatingFlash}
 use Rattle.x7_forms.specs.Message.{text_status}
 use Rattle.x7_forms.specs.Known.{Absent, Answer, Failing, Found, Known, Lacking, Mishap, flash_found, mishap_event, spoiled, spoiled_name, with_inputs, with_mishap}
-use Rattle.x7_forms.specs.Step.{DueBy, FailsAmong, FreeBy, IsCaused, IsDecided, IsDue, IsOpen, LacksAmong}
-use Rattle.x7_forms.proofs.ReadLemmas.{absence_by, fault_by, name_is}
+use Rattle.x7_forms.specs.Step.{CameIn, DueBy, IsCaused, IsDecided, IsDue, IsPossible, step_over}
+use Rattle.x7_forms.proofs.ReadLemmas.{name_is, outside_goes}
 use Rattle.x7_tool.specs.Leaving.{HasData, KeepsBytes, MayBeFound, UsesFlash}
-use Rattle.x7_tool.specs.Outcome.{CanTake, FlashUpdates, Gives, IsUpdateFault, UpdateNames, UpdatesTold, UpdatesWith, no_text, stream_data, update_event}
-use Rattle.x7_tool.specs.Outside.{Fails, Lacks, Outside, known_in}
+use Rattle.x7_tool.specs.Outcome.{CanTake, FlashUpdates, Gives, IsUpdateFault, UpdateNames, UpdatesBytes, UpdatesWith, no_text, stream_data, update_event}
+use Rattle.x7_tool.specs.Outside.{Came, Outside, known_in, sources}
 use Rattle.x7_tool.specs.Run.{Agrees, AnswersOver, EndsAs, IsUnopened}
-use Rattle.x7_tool.proofs.FlashLemmas.{told_flash}
+use Rattle.x7_tool.proofs.FlashLemmas.{came_wider, told_flash}
 use Rattle.x7_tool.proofs.RunLemmas.{has_cause, leaves_all, near_all, no_break}
 
 -- the names of an update
@@ -47,26 +47,26 @@ IsTold known flash bytes = (t : Known) → known ≡ Some t → t.flash flash �
 
 -- ---- what is due
 
-found_updates : (n : UpdateNames) (bytes : Option (List ℕ)) (read : Result (List ℕ) Event) (end : Result Answer Event) → UpdatesTold n bytes read end → FlashUpdates n (flash_found bytes) read end
+found_updates : (n : UpdateNames) (bytes : Option (List ℕ)) (read : Result (List ℕ) Event) (end : Result Answer Event) → UpdatesBytes n bytes read end → FlashUpdates n (flash_found bytes) read end
 found_updates n None read end h = h
 found_updates n (Some all) read end h = h
 
 -- what is due of a flash that is told
-update_given : (t : Known) (bytes : Option (List ℕ)) (flash stream : List ℕ) (end : Result Answer Event) → t.flash flash ≡ flash_found bytes → UpdatesTold (names flash stream) bytes (stream_data t stream) end → Gives t (Updating flash stream) end
+update_given : (t : Known) (bytes : Option (List ℕ)) (flash stream : List ℕ) (end : Result Answer Event) → t.flash flash ≡ flash_found bytes → UpdatesBytes (names flash stream) bytes (stream_data t stream) end → Gives t (UpdatingFlash flash stream) end
 update_given t bytes flash stream end same h =
     subst (λ (f : Option Found). FlashUpdates (names flash stream) f (stream_data t stream) end) (sym same) (found_updates (names flash stream) bytes (stream_data t stream) end h)
 
-update_due : (known : Option Known) (bytes : Option (List ℕ)) (flash stream : List ℕ) (end : Result Answer Event) → IsTold known flash bytes → IsOpen end × IsDecided end
-    → ((t : Known) → known ≡ Some t → UpdatesTold (names flash stream) bytes (stream_data t stream) end) → IsDue {A = Answer} known (λ t end. Gives t (Updating flash stream) end) end
+update_due : (known : Option Known) (bytes : Option (List ℕ)) (flash stream : List ℕ) (end : Result Answer Event) → IsTold known flash bytes → IsPossible end × IsDecided end
+    → ((t : Known) → known ≡ Some t → UpdatesBytes (names flash stream) bytes (stream_data t stream) end) → IsDue {A = Answer} known (λ t end. Gives t (UpdatingFlash flash stream) end) end
 update_due None bytes flash stream end same o h = o.0
 update_due (Some t) bytes flash stream end same o h = (o.1, update_given t bytes flash stream end (same t refl) (h t refl))
 
-update_over : (flash stream : List ℕ) (old new : Outside) (end : Result Answer Event) → IsOpen end × IsDecided end
-    → ((t : Known) → known_in old ≡ Some t → UpdatesTold (names flash stream) old.flash.bytes (stream_data t stream) end) → AnswersOver (Updating flash stream) old new end
+update_over : (flash stream : List ℕ) (old new : Outside) (end : Result Answer Event) → IsPossible end × IsDecided end
+    → ((t : Known) → known_in old ≡ Some t → UpdatesBytes (names flash stream) old.flash.bytes (stream_data t stream) end) → AnswersOver (UpdatingFlash flash stream) old new end
 update_over flash stream old new end o h = inr (update_due (known_in old) old.flash.bytes flash stream end (told_flash old.inputs.contents old.flash.bytes flash) o h)
 
 agreed : (known : Option Known) (bytes : Option (List ℕ)) (flash stream : List ℕ) (end : Result Answer Event) → IsTold known flash bytes
-    → ((t : Known) → known ≡ Some t → UpdatesTold (names flash stream) bytes (stream_data t stream) end) → Agrees known (Updating flash stream) end
+    → ((t : Known) → known ≡ Some t → UpdatesBytes (names flash stream) bytes (stream_data t stream) end) → Agrees known (UpdatingFlash flash stream) end
 agreed None bytes flash stream end same h = tt
 agreed (Some t) bytes flash stream end same h = update_given t bytes flash stream end (same t refl) (h t refl)
 
@@ -77,12 +77,12 @@ flash_mishap : (m : Mishap) (t : Known) (flash stream : List ℕ) (read : Result
 flash_mishap (Failing other given) t flash stream read e = let here = name_is flash in rw (e, here) refl
 flash_mishap (Lacking other) t flash stream read e = let here = name_is flash in rw (e, here) refl
 
-flash_due : (known : Option Known) (m : Mishap) (flash stream : List ℕ) → spoiled_name m ≡ flash → DueBy {A = Answer} known m (λ t end. Gives t (Updating flash stream) end) (mishap_event m)
+flash_due : (known : Option Known) (m : Mishap) (flash stream : List ℕ) → spoiled_name m ≡ flash → DueBy {A = Answer} known m (λ t end. Gives t (UpdatingFlash flash stream) end) (mishap_event m)
 flash_due None m flash stream e = tt
 flash_due (Some t) m flash stream e = flash_mishap m t flash stream (stream_data (with_mishap m t) stream) e
 
 -- the event of a stream that was not read
-unread_told : (n : UpdateNames) (bytes : Option (List ℕ)) (read : Result (List ℕ) Event) (event : Event) → IsWithin bytes → read ≡ Err event → UpdatesTold n bytes read (Err event)
+unread_told : (n : UpdateNames) (bytes : Option (List ℕ)) (read : Result (List ℕ) Event) (event : Event) → IsWithin bytes → read ≡ Err event → UpdatesBytes n bytes read (Err event)
 unread_told n bytes read event within e = inr (within, subst (λ (r : Result (List ℕ) Event). UpdatesWith n bytes r (Err event)) (sym e) refl)
 
 spared : (b : Bool) (x y : Option Found) → b ≡ false → (if b then x else y) ≡ y
@@ -94,7 +94,7 @@ is_name a b e = grind (arith, bytes_eq-Decides a b, e)
 
 -- a mishap of the stream, or of a flash of the same name
 stream_mishap : (b : Bool) (m : Mishap) (t : Known) (bytes : Option (List ℕ)) (flash stream : List ℕ) (event : Event) → bytes_eq flash (spoiled_name m) ≡ b → mishap_event m ≡ event → t.flash flash ≡ flash_found bytes → IsWithin bytes
-    → stream_data (with_mishap m t) stream ≡ Err event → Gives (with_mishap m t) (Updating flash stream) (Err event)
+    → stream_data (with_mishap m t) stream ≡ Err event → Gives (with_mishap m t) (UpdatingFlash flash stream) (Err event)
 stream_mishap true m t bytes flash stream event b e same within h =
     let read = stream_data (with_mishap m t) stream in
     subst (λ (x : Event). FlashUpdates (names flash stream) ((with_mishap m t).flash flash) read (Err x)) e (flash_mishap m t flash stream read (sym (is_name flash (spoiled_name m) b)))
@@ -103,41 +103,32 @@ stream_mishap false m t bytes flash stream event b e same within h =
     (unread_told (names flash stream) bytes (stream_data (with_mishap m t) stream) event within h)
 
 stream_due : (known : Option Known) (m : Mishap) (bytes : Option (List ℕ)) (flash stream : List ℕ) (event : Event) → mishap_event m ≡ event → IsTold known flash bytes → IsWithin bytes → DueBy {A = List ℕ} known m (λ t r. stream_data t stream ≡ r) event
-    → DueBy {A = Answer} known m (λ t end. Gives t (Updating flash stream) end) event
+    → DueBy {A = Answer} known m (λ t end. Gives t (UpdatingFlash flash stream) end) event
 stream_due None m bytes flash stream event e same within h = tt
 stream_due (Some t) m bytes flash stream event e same within h = stream_mishap (bytes_eq flash (spoiled_name m)) m t bytes flash stream event refl e (same t refl) within h
 
-stream_free : (cause : Cause) (known : Option Known) (bytes : Option (List ℕ)) (given : ℕ) (F L G M : List ℕ → Type 0) (flash stream : List ℕ) (event : Event) → cause_of event ≡ cause → IsTold known flash bytes → IsWithin bytes
-    → ((n : List ℕ) → F n → G n) → ((n : List ℕ) → L n → M n) → FreeBy {A = List ℕ} cause known given F L (λ t r. stream_data t stream ≡ r) event → FreeBy {A = Answer} cause known given G M (λ t end. Gives t (Updating flash stream) end) event
-stream_free Want known bytes given F L G M flash stream event c same within f l h = h
-stream_free Fault known bytes given F L G M flash stream event c same within f l h =
-    (f event.concerned h.0, stream_due known (Failing event.concerned given) bytes flash stream event (fault_by event.reason event.concerned c) same within h.1)
-stream_free Absence known bytes given F L G M flash stream event c same within f l h =
-    (l event.concerned h.0, stream_due known (Lacking event.concerned) bytes flash stream event (absence_by event.reason event.concerned c) same within h.1)
-stream_free cause known bytes given F L G M flash stream event c same within f l h = absurd h
-
 unread_due : (known : Option Known) (bytes : Option (List ℕ)) (flash stream : List ℕ) (event : Event) → IsTold known flash bytes → IsWithin bytes → IsDue {A = List ℕ} known (λ t r. stream_data t stream ≡ r) (Err event)
-    → IsDue {A = Answer} known (λ t end. Gives t (Updating flash stream) end) (Err event)
+    → IsDue {A = Answer} known (λ t end. Gives t (UpdatingFlash flash stream) end) (Err event)
 unread_due None bytes flash stream event same within h = h
 unread_due (Some t) bytes flash stream event same within h = (h.0, update_given t bytes flash stream (Err event) (same t refl) (unread_told (names flash stream) bytes (stream_data t stream) event within h.1))
 
 -- ---- how an update ends
 
 -- a flash that can't be used
-pub unopened_over : (flash stream : List ℕ) (old new : Outside) (event : Event) → IsUnopened flash old.flash new.flash event → AnswersOver (Updating flash stream) old new (Err event)
+pub unopened_over : (flash stream : List ℕ) (old new : Outside) (event : Event) → IsUnopened flash old.flash new.flash event → AnswersOver (UpdatingFlash flash stream) old new (Err event)
 unopened_over flash stream old new event (inl (inl h)) =
-    subst (λ (e : Event). AnswersOver (Updating flash stream) old new (Err e)) (sym h.0) (inl (inr h.1, flash_due (known_in old) (Lacking flash) flash stream refl))
+    subst (λ (e : Event). AnswersOver (UpdatingFlash flash stream) old new (Err e)) (sym h.0) (inl (inr (record { mishap = Lacking flash; came = inr h.1; is = refl; due = flash_due (known_in old) (Lacking flash) flash stream refl })))
 unopened_over flash stream old new event (inl (inr h)) =
-    subst (λ (e : Event). AnswersOver (Updating flash stream) old new (Err e)) (sym h.0) (inl (inr h.1, flash_due (known_in old) (Failing flash new.inputs.given) flash stream refl))
+    subst (λ (e : Event). AnswersOver (UpdatingFlash flash stream) old new (Err e)) (sym h.0) (inl (inr (record { mishap = Failing flash new.inputs.given; came = (refl, inr h.1); is = refl; due = flash_due (known_in old) (Failing flash new.inputs.given) flash stream refl })))
 unopened_over flash stream old new event (inr h) =
-    subst (λ (e : Event). AnswersOver (Updating flash stream) old new (Err e)) (sym h.0) (update_over flash stream old new (Err (too_large flash)) (tt, tt) (λ t e. inl (h.1, refl)))
+    subst (λ (e : Event). AnswersOver (UpdatingFlash flash stream) old new (Err e)) (sym h.0) (update_over flash stream old new (Err (too_large flash)) (tt, tt) (λ t e. inl (h.1, refl)))
 
 -- a stream that was not read
 pub unread_over : (flash stream : List ℕ) (old new : Outside) (event : Event) → IsWithin old.flash.bytes
-    → IsCaused {A = List ℕ} (known_in old) new.inputs.given (FailsAmong (stream ∷ []) old.inputs new.inputs) (LacksAmong (stream ∷ []) old.inputs new.inputs) (λ t. stream_data t stream) (Err event) → AnswersOver (Updating flash stream) old new (Err event)
+    → IsCaused {A = List ℕ} (known_in old) (CameIn (step_over (stream ∷ []) old.inputs new.inputs)) (λ t. stream_data t stream) (Err event) → AnswersOver (UpdatingFlash flash stream) old new (Err event)
 unread_over flash stream old new event within (inl h) =
-    inl (stream_free (cause_of event) (known_in old) old.flash.bytes new.inputs.given (FailsAmong (stream ∷ []) old.inputs new.inputs) (LacksAmong (stream ∷ []) old.inputs new.inputs)
-    (Fails (Some (Updating flash stream)) old new) (Lacks (Some (Updating flash stream)) old new) flash stream event refl (told_flash old.inputs.contents old.flash.bytes flash) within (λ n p. inl p) (λ n p. inl p) h)
+    inl (outside_goes (List ℕ) Answer (known_in old) (CameIn (step_over (stream ∷ []) old.inputs new.inputs)) (Came (Some (UpdatingFlash flash stream)) old new) (λ t r. stream_data t stream ≡ r) (λ t end. Gives t (UpdatingFlash flash stream) end) event
+    (came_wider (UpdatingFlash flash stream) old new) (λ m e x. stream_due (known_in old) m old.flash.bytes flash stream event e (told_flash old.inputs.contents old.flash.bytes flash) within x) h)
 unread_over flash stream old new event within (inr h) = inr (unread_due (known_in old) old.flash.bytes flash stream event (told_flash old.inputs.contents old.flash.bytes flash) within h)
 
 -- what was written to the output is what it had
@@ -152,26 +143,26 @@ keeps_all (why.Differs place) old new e = tt
 keeps_all reason old new e = e
 
 -- an update that was refused
-pub refused_ends : (flash stream : List ℕ) (old new : Outside) (event : Event) → new.out ≡ old.out → AnswersOver (Updating flash stream) old new (Err event) → KeepsBytes event.reason old.flash new.flash
-    → EndsAs (Some (Updating flash stream)) old new (Err event)
+pub refused_ends : (flash stream : List ℕ) (old new : Outside) (event : Event) → new.out ≡ old.out → AnswersOver (UpdatingFlash flash stream) old new (Err event) → KeepsBytes event.reason old.flash new.flash
+    → EndsAs (Some (UpdatingFlash flash stream)) old new (Err event)
 refused_ends flash stream old new event out a kept =
-    let form = Updating flash stream in
+    let form = UpdatingFlash flash stream in
     record {
       cause = has_cause form old new (Err event) a;
-      wrote = leaves_all form (cause_of event) old new event refl (no_break (known_in old) new.inputs.given (Fails (Some form) old new) (Lacks (Some form) old new) (λ t end. Gives t form end) event a) (out_same old new out);
+      wrote = leaves_all form (cause_of event) old new event refl (no_break (known_in old) (Came (Some form) old new) (λ t end. Gives t form end) event a) (out_same old new out);
       near = near_all form (status_of event) old new refl;
       updates = kept;
     }
 
 -- the data of a stream that was read
-data_read : (known : Option Known) (given : ℕ) (F L : List ℕ → Type 0) (stream bytes : List ℕ) → IsCaused {A = List ℕ} known given F L (λ t. stream_data t stream) (Ok bytes) → HasData known stream bytes
-data_read None given F L stream bytes h = tt
-data_read (Some t) given F L stream bytes (inl h) = absurd h
-data_read (Some t) given F L stream bytes (inr h) = h.1
+data_read : (known : Option Known) (C : Mishap → Type 0) (stream bytes : List ℕ) → IsCaused {A = List ℕ} known C (λ t. stream_data t stream) (Ok bytes) → HasData known stream bytes
+data_read None C stream bytes h = tt
+data_read (Some t) C stream bytes (inl h) = absurd h
+data_read (Some t) C stream bytes (inr h) = h.1
 
 -- the same of the data that an update was given
-pub data_given : (known : Option Known) (given : ℕ) (F L : List ℕ → Type 0) (stream bytes given_bytes : List ℕ) → IsCaused {A = List ℕ} known given F L (λ t. stream_data t stream) (Ok bytes) → given_bytes ≡ bytes → HasData known stream given_bytes
-data_given known given F L stream bytes given_bytes h e = subst (λ (b : List ℕ). HasData known stream b) (sym e) (data_read known given F L stream bytes h)
+pub data_given : (known : Option Known) (C : Mishap → Type 0) (stream bytes given_bytes : List ℕ) → IsCaused {A = List ℕ} known C (λ t. stream_data t stream) (Ok bytes) → given_bytes ≡ bytes → HasData known stream given_bytes
+data_given known C stream bytes given_bytes h e = subst (λ (b : List ℕ). HasData known stream b) (sym e) (data_read known C stream bytes h)
 
 -- the bytes from a place on, as a slice
 pub rest_of : (xs ys : List ℕ) (start : ℕ) → xs ≡ ys → take (length xs - start) (drop start xs) ≡ drop start ys
@@ -181,7 +172,7 @@ data_at : (known : Option Known) (stream bytes : List ℕ) → HasData known str
 data_at known stream bytes h t e = let at : HasData (Some t) stream bytes = subst (λ (k : Option Known). HasData k stream bytes) e h in at
 
 -- a refusal by what the flash holds
-fault_told : (n : UpdateNames) (told : Option (List ℕ)) (read : Result (List ℕ) Event) (bytes : List ℕ) (fault : UpdateFault) → IsWithin told → read ≡ Ok bytes → IsUpdateFault told bytes fault → UpdatesTold n told read (Err (update_event n fault))
+fault_told : (n : UpdateNames) (told : Option (List ℕ)) (read : Result (List ℕ) Event) (bytes : List ℕ) (fault : UpdateFault) → IsWithin told → read ≡ Ok bytes → IsUpdateFault told bytes fault → UpdatesBytes n told read (Err (update_event n fault))
 fault_told n told read bytes fault within e h = inr (within, subst (λ (r : Result (List ℕ) Event). UpdatesWith n told r (Err (update_event n fault))) (sym e) (fault, h, refl))
 
 -- a refusal's cause since before the attach
@@ -195,11 +186,12 @@ cause_from bytes a b c NoMemory e w f h = tt
 
 -- an update that came to no end
 pub fault_ends : (flash stream bytes : List ℕ) (old new : Outside) (fault : UpdateFault) → new.out ≡ old.out → IsTrue (new.flash.names flash) → IsWithin old.flash.bytes → HasData (known_in old) stream bytes
-    → HasCause bytes old.flash new.flash fault → (IsEarly fault → new.flash.bytes ≡ old.flash.bytes) → EndsAs (Some (Updating flash stream)) old new (Err (update_event (names flash stream) fault))
+    → HasCause bytes old.flash new.flash fault → (IsEarly fault → new.flash.bytes ≡ old.flash.bytes) → EndsAs (Some (UpdatingFlash flash stream)) old new (Err (update_event (names flash stream) fault))
 fault_ends flash stream bytes old new (Failed true) out asked within has h early =
-    record { cause = (refl, inr h); wrote = out_same old new out; near = near_all (Updating flash stream) (status_of write_fault) old new refl; updates = tt }
+    record { cause = (refl, inr h); wrote = out_same old new out; near = near_all (UpdatingFlash flash stream) (status_of write_fault) old new refl; updates = tt }
 fault_ends flash stream bytes old new (Failed false) out asked within has h early =
-    refused_ends flash stream old new (read_fault flash) out (inl (inr (record { among = inl refl; asked = asked; risen = h }), flash_due (known_in old) (Failing flash new.inputs.given) flash stream refl)) (inl h)
+    refused_ends flash stream old new (read_fault flash) out
+    (inl (inr (record { mishap = Failing flash new.inputs.given; came = (refl, inr (record { among = inl refl; asked = asked; risen = h })); is = refl; due = flash_due (known_in old) (Failing flash new.inputs.given) flash stream refl }))) (inl h)
 fault_ends flash stream bytes old new TooLong out asked within has h early =
     refused_ends flash stream old new (bad_input stream input.Long) out
     (update_over flash stream old new (Err (bad_input stream input.Long)) (tt, tt) (λ t e. fault_told (names flash stream) old.flash.bytes (stream_data t stream) bytes TooLong within (data_at (known_in old) stream bytes has t e) h)) (early tt)
@@ -214,10 +206,10 @@ fault_ends flash stream bytes old new (Differs place wrote read) out asked withi
         (λ t e. fault_told (names flash stream) old.flash.bytes (stream_data t stream) bytes (Differs place wrote read) within (data_at (known_in old) stream bytes has t e) h),
   );
   wrote = out_same old new out;
-  near = near_all (Updating flash stream) (status_of (differs flash place)) old new refl;
+  near = near_all (UpdatingFlash flash stream) (status_of (differs flash place)) old new refl;
   updates = tt;
 }
-fault_ends flash stream bytes old new NoMemory out asked within has h early = refused_ends flash stream old new no_memory out (inl refl) (early tt)
+fault_ends flash stream bytes old new NoMemory out asked within has h early = refused_ends flash stream old new no_memory out (inl (inl refl)) (early tt)
 
 can_take : (told now : Option (List ℕ)) (bytes : List ℕ) → WhereTold told HasLayout → BecomesBytes (IsAfter bytes) told now → WhereTold told (CanTake bytes)
 can_take None now bytes l b = tt
@@ -225,7 +217,7 @@ can_take (Some all) now bytes l b = record { layout = l; fits = b.2.fits }
 
 -- an update that is done
 pub done_ends : (flash stream bytes : List ℕ) (old new : Outside) → new.out ≡ old.out → IsWithin old.flash.bytes → HasData (known_in old) stream bytes → WhereTold old.flash.bytes HasLayout → Becomes old.flash new.flash (IsAfter bytes)
-    → EndsAs (Some (Updating flash stream)) old new (Ok false)
+    → EndsAs (Some (UpdatingFlash flash stream)) old new (Ok false)
 done_ends flash stream bytes old new out within has layout becomes =
     let told = old.flash.bytes in
     let n = names flash stream in (
@@ -234,7 +226,7 @@ done_ends flash stream bytes old new out within has layout becomes =
         cause = agreed (known_in old) told flash stream (Ok no_text) (told_flash old.inputs.contents told flash)
             (λ t e. inr (within, subst (λ (r : Result (List ℕ) Event). UpdatesWith n told r (Ok no_text)) (sym (data_at (known_in old) stream bytes has t e)) (refl, can_take told new.flash.bytes bytes layout becomes)));
         wrote = out_same old new out ∙ sym (appended-nil old.out.written);
-        near = near_all (Updating flash stream) (text_status false) old new refl;
+        near = near_all (UpdatingFlash flash stream) (text_status false) old new refl;
         updates = (bytes, has, becomes);
       },
     )
@@ -242,7 +234,7 @@ done_ends flash stream bytes old new out within has layout becomes =
 -- ---- what an update leaves of the flash
 
 -- a flash that was attached, and no more
-pub uses_opened : (flash stream : List ℕ) (inputs : InputsState) (old new : FlashState) (past since : ℕ → List ℕ → Type 0) → FlashStays old new past since → AsksFor old flash new → UsesFlash (Some (Updating flash stream)) inputs old new past since
+pub uses_opened : (flash stream : List ℕ) (inputs : InputsState) (old new : FlashState) (past since : ℕ → List ℕ → Type 0) → FlashStays old new past since → AsksFor old flash new → UsesFlash (Some (UpdatingFlash flash stream)) (sources inputs old) new past since
 uses_opened flash stream inputs old new past since s a =
     let known = with_inputs inputs.contents old.bytes in
     record {
@@ -252,7 +244,7 @@ uses_opened flash stream inputs old new past since s a =
 
 -- a flash that was attached and updated
 pub uses_updated : (flash stream bytes : List ℕ) (inputs : InputsState) (old mid new : FlashState) (past mids since : ℕ → List ℕ → Type 0) → FlashStays old mid past mids → AsksFor old flash mid → HasData (with_inputs inputs.contents old.bytes) stream bytes
-    → OnlyUses mid new → AtAnyMoment mid new mids since (MayBeLeft bytes) → UsesFlash (Some (Updating flash stream)) inputs old new past since
+    → OnlyUses mid new → AtAnyMoment mid new mids since (MayBeLeft bytes) → UsesFlash (Some (UpdatingFlash flash stream)) (sources inputs old) new past since
 uses_updated flash stream bytes inputs old mid new past mids since s a has o m =
     let P = MayBeFound (with_inputs inputs.contents old.bytes) (Some stream) in
     record {
@@ -270,5 +262,5 @@ uses_updated flash stream bytes inputs old mid new past mids since s a has o m =
 pub update_ends : (form : Option Asked) (asks : Asked) (old new : Outside) (got : Result Bool Event) → form ≡ Some asks → EndsAs (Some asks) old new got → EndsAs form old new got
 update_ends form asks old new got e h = subst (λ (f : Option Asked). EndsAs f old new got) (sym e) h
 
-pub update_uses : (form : Option Asked) (asks : Asked) (inputs : InputsState) (old new : FlashState) (past since : ℕ → List ℕ → Type 0) → form ≡ Some asks → UsesFlash (Some asks) inputs old new past since → UsesFlash form inputs old new past since
-update_uses form asks inputs old new past since e h = subst (λ (f : Option Asked). UsesFlash f inputs old new past since) (sym e) h
+pub update_uses : (form : Option Asked) (asks : Asked) (inputs : InputsState) (old new : FlashState) (past since : ℕ → List ℕ → Type 0) → form ≡ Some asks → UsesFlash (Some asks) (sources inputs old) new past since → UsesFlash form (sources inputs old) new past since
+update_uses form asks inputs old new past since e h = subst (λ (f : Option Asked). UsesFlash f (sources inputs old) new past since) (sym e) h

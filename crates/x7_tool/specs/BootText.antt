@@ -1,64 +1,13 @@
--- The text of a boot (this project's choice): `boot NAME`; for each attempt `attempt N KIND ADDRESS ENDING`, N from 1; `end` and
--- how the boot ended; and the report of the device, as the last attempt left it, without words read out.
-use Rattle.std.specs.Prelude.{ℕ, ◌+◌, List, [], ◌∷◌, ◌++◌, codes, decimal}
-use Rattle.x7_text.specs.Digits.{hex_word}
+-- The text of a boot (this project's choice): its lines, and the report of the device, as the last attempt left it, without words
+-- read out.
+use Rattle.std.specs.Prelude.{ℕ, List, [], ◌++◌}
 use Rattle.x7_part.specs.Part.{PartData}
-use Rattle.x7_regs.specs.declared.boot_status.Cause.{Cause}
-use Rattle.x7_regs.specs.declared.boot_status.Cause.TheVariants as cause
-use Rattle.x7_regs.specs.declared.boot_status.Kind.{Kind}
-use Rattle.x7_regs.specs.declared.boot_status.Kind.TheVariants as kind
 use Rattle.x7_engine.specs.State.{memory_in, state_of}
+use Rattle.x7_report.specs.Report.{report_text}
 use Rattle.x7_boot.specs.Attempt.{Trial}
-use Rattle.x7_boot.specs.declared.attempt.Ending.{Ending}
-use Rattle.x7_boot.specs.declared.attempt.Ending.TheVariants as ending
+use Rattle.x7_boot.specs.BootLines.{boot_head}
 use Rattle.x7_boot.specs.declared.boots.BootEnd.{BootEnd}
-use Rattle.x7_boot.specs.declared.boots.BootEnd.TheVariants as boot_end
 use Rattle.x7_boot.specs.declared.boots.Tried.{Tried}
-use Rattle.x7_forms.specs.Report.{report_text}
-
--- what began an attempt
-abbrev pub kind_text : Kind → List ℕ
-kind_text kind.Bench = codes "bench"
-kind_text kind.Power = codes "power"
-kind_text kind.Iprog = codes "iprog"
-kind_text kind.Fallback = codes "fallback"
-
--- what an attempt failed by
-abbrev pub cause_text : Cause → List ℕ
-cause_text cause.Watchdog = codes "watchdog"
-cause_text cause.Id = codes "id"
-cause_text cause.Crc = codes "crc"
-cause_text cause.Wrap = codes "wrap"
-
--- how an attempt ended
-abbrev pub ending_text : Ending → List ℕ
-ending_text ending.Started = codes "started"
-ending_text ending.Iprog = codes "iprog"
-ending_text (ending.Failed cause) = cause_text cause
-
--- the line of the attempt of this number
-unfoldable pub attempt_text : ℕ → Tried → List ℕ
-attempt_text number tried =
-    codes "attempt " ++ decimal number
-    ++ codes " " ++ kind_text tried.kind
-    ++ codes " " ++ hex_word tried.address
-    ++ codes " " ++ ending_text tried.ending
-    ++ codes "\n"
-
--- the lines of attempts behind so many others
-abbrev pub attempts_text : ℕ → List Tried → List ℕ
-attempts_text before [] = []
-attempts_text before (tried ∷ more) = attempt_text (before + 1) tried ++ attempts_text (before + 1) more
-
--- how a boot ended
-abbrev pub boot_end_text : BootEnd → List ℕ
-boot_end_text boot_end.Started = codes "end started\n"
-boot_end_text boot_end.Stopped = codes "end stopped\n"
-boot_end_text boot_end.Loop = codes "end loop\n"
-
--- the lines before the report
-unfoldable pub boot_head : List ℕ → List Tried → BootEnd → List ℕ
-boot_head name attempts end = codes "boot " ++ name ++ codes "\n" ++ attempts_text 0 attempts ++ boot_end_text end
 
 -- all of it, by the last attempt
 unfoldable pub boot_text : PartData → List Tried → BootEnd → Trial → List ℕ

@@ -1,5 +1,5 @@
 -- Plans that are made from a number, and the summary of their streams (this project's choice).
-use Rattle.std.specs.Prelude.{ℕ, ◌+◌, ◌*◌, ◌%◌, ◌^◌, nat_lt, if◌then◌else◌, List, [], ◌∷◌, ◌++◌, false, codes, decimal, length, map, unwrap_or}
+use Rattle.std.specs.Prelude.{ℕ, ◌≡◌, ◌≤◌, ◌+◌, ◌*◌, ◌%◌, ◌^◌, nat_lt, if◌then◌else◌, List, [], ◌∷◌, ◌++◌, false, codes, decimal, length, map, unwrap_or}
 use Rattle.std.specs.List.{range_with_len, sum}
 use Rattle.x7_text.specs.Digits.{hex_word}
 use Rattle.x7_part.specs.AddressOrder.{addresses_in}
@@ -8,7 +8,10 @@ use Rattle.x7_memory.specs.FrameMap.{FrameMap}
 use Rattle.x7_memory.specs.Planned.{PlanData, PlanRow, total}
 use Rattle.x7_planner.specs.Full.{full_stream}
 use Rattle.x7_engine.specs.Kept.{on_the_bench}
-use Rattle.x7_engine.specs.State.{memory_in, state_of}
+use Rattle.x7_engine.specs.State.{memory_in, reads_of, state_of}
+use Rattle.x7_forms.specs.Known.{reads_limit}
+use Rattle.x7_forms.specs.Play.{HasPlayed}
+use Rattle.x7_forms.specs.declared.player.Player.{Player}
 
 -- the number after a number
 abbrev pub next_number : ℕ → ℕ
@@ -45,6 +48,10 @@ count_line key n = key ++ decimal n ++ codes "\n"
 
 abbrev pub sum_line : ℕ → List ℕ
 sum_line n = codes "sum " ++ hex_word n ++ codes "\n"
+
+-- a player was given a stream of so many bytes, which reads out no more words than a play may
+abbrev pub TookStream : PartData → List ℕ → Player → ℕ → Type 0
+TookStream part stream player size = HasPlayed part stream player × (size ≡ length stream) × (length (reads_of part on_the_bench stream) ≤ reads_limit)
 
 -- the part and the seed, the planned frames, the bytes of the stream, and the phase and the sum of all words of a device that took it
 unfoldable pub summary_text : List ℕ → ℕ → ℕ → ℕ → ℕ → ℕ → List ℕ

@@ -1,19 +1,20 @@
 -- What a run leaves of a flash, and what may be found of it after a power loss at any moment (this project's choice).
 use Rattle.std.specs.Prelude.{◌≡◌, ℕ, List, Option, None, Some, Result, Ok, Err, ◌⊎◌}
 use Rattle.x7_words.specs.Flash.{FlashFails, FlashState, WhereTold}
-use Rattle.x7_words.specs.Input.{InputsState}
+use Rattle.x7_words.specs.Word.{AreBytes}
 use Rattle.x7_update.specs.After.{IsAfter, MayBeLeft}
 use Rattle.x7_update.specs.Writing.{AtAnyMoment, Becomes}
-use Rattle.x7_recovery.specs.Recovery.{IsPrepared, Updating}
+use Rattle.x7_boot.specs.Boot.{BootedState, IsBoot}
+use Rattle.x7_recovery.specs.Recovery.{BootsAs, IsPrepared, Updating}
 use Rattle.x7_forms.specs.declared.refusal.Why.{Why}
 use Rattle.x7_forms.specs.declared.refusal.Why.TheVariants as why
 use Rattle.x7_forms.specs.Event.{Event}
 use Rattle.x7_forms.specs.Form.{Asked, flash_use, updated_by}
-use Rattle.x7_forms.specs.Known.{Answer, Known, with_inputs}
+use Rattle.x7_forms.specs.Known.{Answer, Known}
 use Rattle.x7_tool.specs.Outcome.{stream_data}
-use Rattle.x7_tool.specs.Outside.{KeepsFlash, Outside, known_in}
+use Rattle.x7_tool.specs.Outside.{KeepsFlash, Outside, Sources, known_from, known_in}
 
--- where the contents are told, these are the data of the stream of this name
+-- where the contents are known, these are the data of the stream of this name
 abbrev pub HasData : Option Known → List ℕ → List ℕ → Type 0
 HasData None stream bytes = Unit {0}
 HasData (Some known) stream bytes = stream_data known stream ≡ Ok bytes
@@ -24,23 +25,27 @@ MayBeFound known None flash found = found ≡ flash
 MayBeFound known (Some stream) flash found = (found ≡ flash) ⊎ ((bytes : List ℕ) × HasData known stream bytes × MayBeLeft bytes flash found)
 
 -- what a run does to the flash, and what may be found of it at any moment of the run and is left of it
-pub record UsesFlash (form : Option Asked) (inputs : InputsState) (old new : FlashState) (past since : ℕ → List ℕ → Type 0) : Type 0 where
-  pub keeps : KeepsFlash (flash_use form) old new
-  pub moments : AtAnyMoment old new past since (MayBeFound (with_inputs inputs.contents old.bytes) (updated_by form))
+pub record UsesFlash (form : Option Asked) (old : Sources) (new : FlashState) (past since : ℕ → List ℕ → Type 0) : Type 0 where
+  pub keeps : KeepsFlash (flash_use form) old.flash new
+  pub moments : AtAnyMoment old.flash new past since (MayBeFound (known_from old) (updated_by form))
 
--- what may be found of the flash since a run began with it
-abbrev pub FoundSince : Option Asked → InputsState → FlashState → List ℕ → Type 0
-FoundSince form inputs flash found = WhereTold flash.bytes (λ all. MayBeFound (with_inputs inputs.contents flash.bytes) (updated_by form) all found)
+-- what a power loss at any moment of a run may leave of its flash, where the bytes of that are known
+abbrev pub PowerLossMayLeave : Option Asked → Sources → List ℕ → Type 0
+PowerLossMayLeave form old found = WhereTold old.flash.bytes (λ all. MayBeFound (known_from old) (updated_by form) all found)
 
--- A run updates a flash, whose bytes are told, with a stream, whose data are told; a device boots from it, and it is prepared for the update.
-pub record IsUpdateOf (form : Option Asked) (inputs : InputsState) (flash : FlashState) (u : Updating) : Type 0 where
+-- A run updates a flash with a stream, whose bytes and data are known; the flash has a layout, and its golden stream is the full stream of a plan for a part.
+pub record IsUpdateOf (form : Option Asked) (old : Sources) (u : Updating) : Type 0 where
   pub known : Known
-  pub told : with_inputs inputs.contents flash.bytes ≡ Some known
+  pub is_known : known_from old ≡ Some known
   pub name : List ℕ
   pub updates : updated_by form ≡ Some name
   pub stream : stream_data known name ≡ Ok u.stream
-  pub bytes : flash.bytes ≡ Some u.flash
+  pub bytes : old.flash.bytes ≡ Some u.flash
   pub prepared : IsPrepared u
+
+-- each boot of what a run leaves of the flash that it updates is that of the flash before it, or starts with the golden stream, or is that of the updated flash
+abbrev pub EachBoots : Option Asked → Sources → List ℕ → Type 0
+EachBoots form old found = (u : Updating) (b : BootedState) → IsUpdateOf form old u → AreBytes found → IsBoot u.part found b → BootsAs u found b
 
 -- by the reason of an update that wasn't done: the bytes stay, but where a write or a read of the flash failed, or a byte differs
 abbrev pub KeepsBytes : Why → FlashState → FlashState → Type 0

@@ -5,6 +5,7 @@ pub mod Generated
 pub mod Leaving
 pub mod Outcome
 pub mod Outside
+pub mod Play
 pub mod Planned
 pub mod Promise
 pub mod Ready

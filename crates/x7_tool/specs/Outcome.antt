@@ -9,7 +9,7 @@ use Rattle.x7_jtag.specs.PlayText.{play_text}
 use Rattle.x7_jtag.specs.Port.{Port}
 use Rattle.x7_jtag.specs.Shown.{fault_shown, memory_shown, state_shown}
 use Rattle.x7_jtag.specs.Svf.{IsSvfOf}
-use Rattle.x7_forms.specs.Report.{report_text}
+use Rattle.x7_report.specs.Report.{report_text}
 use Rattle.x7_listing.specs.Assembly.{IsAsm}
 use Rattle.x7_listing.specs.StreamListing.{stream_listing}
 use Rattle.x7_listing.specs.declared.assembler.AsmFault.{AsmFault}
@@ -53,9 +53,10 @@ use Rattle.x7_debug.specs.Transcript.{final_position, transcript_of}
 use Rattle.x7_tool.specs.Generated.{gen_text}
 use Rattle.x7_forms.specs.declared.bad_input.InputFault.TheVariants as input
 use Rattle.x7_forms.specs.Event.{Event, bad_input, differs, missing, no_memory, read_fault, too_large, usage, write_fault}
-use Rattle.x7_forms.specs.Form.{Asked, Assembling, Booting, Debugging, FromMcs, Imaging, ImagingFor, Listing, PlanningFull, PlanningRead, Playing, PlayingSvf, ToMcs, PlanningPartial, Generating, Updating}
+use Rattle.x7_forms.specs.Form.{Asked, Assembling, Booting, Debugging, FromMcs, Imaging, ImagingFor, Listing, PlanningFull, PlanningRead, Playing, PlayingSvf, ToMcs, PlanningPartial, Generating, UpdatingFlash}
 use Rattle.x7_tool.specs.BootText.{boot_text}
-use Rattle.x7_forms.specs.Known.{Absent, Answer, Broken, Found, Held, Known, and_so, data_in, part_of, played, stream_limit, whole_in, within}
+use Rattle.x7_forms.specs.Known.{Absent, Answer, Broken, Found, Held, Known, and_so, data_in, part_of, stream_limit, whole_in, within}
+use Rattle.x7_tool.specs.Play.{played}
 
 -- a listing, or the event of a header that is refused
 abbrev pub text_by : List ℕ → Result (List ℕ) ℕ → Result (List ℕ) Event
@@ -269,7 +270,7 @@ has_failed boot_end.Stopped = true
 has_failed boot_end.Loop = true
 
 -- the text is that of the boot of a part from a flash of these bytes
-pub record BootsAs (part : PartData) (flash : List ℕ) (answer : Answer) : Type 0 where
+pub record IsBootText (part : PartData) (flash : List ℕ) (answer : Answer) : Type 0 where
   pub last : Trial
   pub older : List Trial
   pub end : BootEnd
@@ -281,7 +282,7 @@ pub record BootsAs (part : PartData) (flash : List ℕ) (answer : Answer) : Type
 abbrev pub FlashBoots : List ℕ → PartData → Option Found → Result Answer Event → Type 0
 FlashBoots name part None (Ok answer) = Unit {0}
 FlashBoots name part None (Err event) = event ≡ too_large name
-FlashBoots name part (Some (Held flash)) (Ok answer) = (length flash ≤ flash_limit) × (AreBytes flash → BootsAs part flash answer)
+FlashBoots name part (Some (Held flash)) (Ok answer) = (length flash ≤ flash_limit) × (AreBytes flash → IsBootText part flash answer)
 FlashBoots name part (Some (Held flash)) (Err event) = (flash_limit < length flash) × (event ≡ too_large name)
 FlashBoots name part (Some Absent) end = end ≡ Err (missing name)
 FlashBoots name part (Some (Broken bytes)) end = end ≡ Err (read_fault name)
@@ -322,30 +323,30 @@ pub record CanTake (stream flash : List ℕ) : Type 0 where
   pub layout : HasLayout flash
   pub fits : update_place flash + length stream ≤ length flash
 
--- why a flash isn't updated with a stream, by its bytes where they are told; a byte read back may differ only where they aren't
+-- why a flash isn't updated with a stream, by its bytes where they are known; a byte read back may differ only where they aren't
 abbrev pub IsUpdateFault : Option (List ℕ) → List ℕ → UpdateFault → Type 0
-IsUpdateFault told stream (update_fault.NoLayout place) = WhereTold told (λ flash. NoLayoutAt (length flash) flash place)
-IsUpdateFault told stream update_fault.TooLong = WhereTold told (IsTooLong stream)
-IsUpdateFault told stream (update_fault.Differs place wrote read) = (wrote ≢ read) × (told ≡ None)
-IsUpdateFault told stream (update_fault.Failed writing) = ⊥
-IsUpdateFault told stream update_fault.NoMemory = ⊥
+IsUpdateFault bytes stream (update_fault.NoLayout place) = WhereTold bytes (λ flash. NoLayoutAt (length flash) flash place)
+IsUpdateFault bytes stream update_fault.TooLong = WhereTold bytes (IsTooLong stream)
+IsUpdateFault bytes stream (update_fault.Differs place wrote read) = (wrote ≢ read) × (bytes ≡ None)
+IsUpdateFault bytes stream (update_fault.Failed writing) = ⊥
+IsUpdateFault bytes stream update_fault.NoMemory = ⊥
 
--- the update of a flash of these bytes, where they are told, with the data of a stream
+-- the update of a flash of these bytes, where they are known, with the data of a stream
 abbrev pub UpdatesWith : UpdateNames → Option (List ℕ) → Result (List ℕ) Event → Result Answer Event → Type 0
-UpdatesWith names told (Err event) end = Err event ≡ end
-UpdatesWith names told (Ok stream) (Ok answer) = (answer ≡ no_text) × WhereTold told (CanTake stream)
-UpdatesWith names told (Ok stream) (Err event) = (fault : UpdateFault) × IsUpdateFault told stream fault × (update_event names fault ≡ event)
+UpdatesWith names bytes (Err event) end = Err event ≡ end
+UpdatesWith names bytes (Ok stream) (Ok answer) = (answer ≡ no_text) × WhereTold bytes (CanTake stream)
+UpdatesWith names bytes (Ok stream) (Err event) = (fault : UpdateFault) × IsUpdateFault bytes stream fault × (update_event names fault ≡ event)
 
 -- the same of any flash: one that is larger than a flash may be is refused before the stream is read
-abbrev pub UpdatesTold : UpdateNames → Option (List ℕ) → Result (List ℕ) Event → Result Answer Event → Type 0
-UpdatesTold names told stream end =
-    (WhereTold told (λ flash. flash_limit < length flash) × (end ≡ Err (too_large names.flash)))
-    ⊎ (WhereTold told (λ flash. length flash ≤ flash_limit) × UpdatesWith names told stream end)
+abbrev pub UpdatesBytes : UpdateNames → Option (List ℕ) → Result (List ℕ) Event → Result Answer Event → Type 0
+UpdatesBytes names bytes stream end =
+    (WhereTold bytes (λ flash. flash_limit < length flash) × (end ≡ Err (too_large names.flash)))
+    ⊎ (WhereTold bytes (λ flash. length flash ≤ flash_limit) × UpdatesWith names bytes stream end)
 
 -- the update of what is found under the flash's name
 abbrev pub FlashUpdates : UpdateNames → Option Found → Result (List ℕ) Event → Result Answer Event → Type 0
-FlashUpdates names None stream end = UpdatesTold names None stream end
-FlashUpdates names (Some (Held flash)) stream end = UpdatesTold names (Some flash) stream end
+FlashUpdates names None stream end = UpdatesBytes names None stream end
+FlashUpdates names (Some (Held flash)) stream end = UpdatesBytes names (Some flash) stream end
 FlashUpdates names (Some Absent) stream end = end ≡ Err (missing names.flash)
 FlashUpdates names (Some (Broken bytes)) stream end = end ≡ Err (read_fault names.flash)
 
@@ -369,7 +370,7 @@ Gives known (ImagingFor part golden update) end = imaged_for known part golden u
 Gives known (Debugging part stream script) end = DebuggedAs script (debug_inputs known part stream script) end
 Gives known (PlayingSvf part text) end = PlayedSvf text (plan_texts known part text) end
 Gives known (Booting part flash) end = BootedAs flash (part_of known part) (known.flash flash) end
-Gives known (Updating flash stream) end = UpdatedAs known (record { flash = flash; stream = stream }) end
+Gives known (UpdatingFlash flash stream) end = UpdatedAs known (record { flash = flash; stream = stream }) end
 
 -- the words come to this end: words without a form are a wrong usage
 abbrev pub IsOutcome : Known → Option Asked → Result Answer Event → Type 0

@@ -5,7 +5,7 @@ use Rattle.x7_words.specs.Flash.{FlashFails, FlashState, WriteFails}
 use Rattle.x7_words.specs.Input.{InputsState}
 use Rattle.x7_words.specs.Sink.{SinkFails, SinkState}
 use Rattle.x7_forms.specs.Form.{Asked, FlashUse, Read, Unused, Updated, flash_names, names_of, updated_by}
-use Rattle.x7_forms.specs.Known.{Known, with_inputs}
+use Rattle.x7_forms.specs.Known.{Failing, Known, Lacking, Mishap, with_inputs}
 use Rattle.x7_forms.specs.Step.{Among, FailsAmong, LacksAmong}
 
 -- the outside at one moment: what the inputs, the flash and both sinks have come to
@@ -14,6 +14,32 @@ pub record Outside : Type 0 where
   pub flash : FlashState
   pub out : SinkState
   pub err : SinkState
+
+-- what a command reads, at one moment: what the inputs and the flash have come to
+pub record Sources : Type 0 where
+  pub inputs : InputsState
+  pub flash : FlashState
+
+abbrev pub sources : InputsState → FlashState → Sources
+sources inputs flash = record { inputs = inputs; flash = flash }
+
+-- what is known of them
+abbrev pub known_from : Sources → Option Known
+known_from s = with_inputs s.inputs.contents s.flash.bytes
+
+abbrev pub with_sources : Outside → Sources → Outside
+with_sources o s = record o { inputs = s.inputs; flash = s.flash }
+
+-- what a listing reads and writes, at one moment: what the inputs and the output have come to
+pub record Transfer : Type 0 where
+  pub inputs : InputsState
+  pub out : SinkState
+
+abbrev pub transfer : InputsState → SinkState → Transfer
+transfer inputs out = record { inputs = inputs; out = out }
+
+abbrev pub with_transfer : Outside → Transfer → Outside
+with_transfer o t = record o { inputs = t.inputs; out = t.out }
 
 -- the outside of these states
 abbrev pub outside : InputsState → FlashState → SinkState → SinkState → Outside
@@ -42,6 +68,11 @@ Fails form old new name = FailsAmong (names_of form) old.inputs new.inputs name 
 -- the same by the counts of absences
 abbrev pub Lacks : Option Asked → Outside → Outside → List ℕ → Type 0
 Lacks form old new name = LacksAmong (names_of form) old.inputs new.inputs name ⊎ FlashLacksAmong (flash_names form) old.flash new.flash name
+
+-- this mishap came: an input or the flash of a name that the form gives failed, behind the bytes that were given of the last input, or was missing
+abbrev pub Came : Option Asked → Outside → Outside → Mishap → Type 0
+Came form old new (Failing name given) = (given ≡ new.inputs.given) × Fails form old new name
+Came form old new (Lacking name) = Lacks form old new name
 
 -- a write of the flash failed, which only a form with a stream for it writes
 abbrev pub WritesFail : Option (List ℕ) → FlashState → FlashState → Type 0

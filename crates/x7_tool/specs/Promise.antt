@@ -14,7 +14,7 @@ use Rattle.x7_planner.specs.Full.{full_stream}
 use Rattle.x7_boot.specs.Attempt.{Trial}
 use Rattle.x7_boot.specs.Boot.{BootedState, IsBoot, end_state, tried}
 use Rattle.x7_boot.specs.Checked.{HasChecked}
-use Rattle.x7_boot.specs.ImageBoot.{FallsBack, HasImage, StartsUpdate, UpdateFails, golden_image}
+use Rattle.x7_recovery.specs.ImageBoot.{FallsBack, HasImage, StartsUpdate, UpdateFails, golden_image}
 use Rattle.x7_jtag.specs.declared.statement.Statement.{Statement}
 use Rattle.x7_jtag.specs.Play.{port_played}
 use Rattle.x7_jtag.specs.Shown.{bytes_taken, state_shown}
@@ -23,8 +23,9 @@ use Rattle.x7_effects.specs.Played.{PlaysFull, PlaysPartial, PlaysRead}
 use Rattle.x7_forms.specs.Event.{Event}
 use Rattle.x7_tool.specs.Generated.{generated, planned_summary}
 use Rattle.x7_forms.specs.Form.{Asked, Booting, Generating, Imaging, ImagingFor, PlanningFull, PlanningPartial, PlanningRead, Playing, PlayingSvf}
-use Rattle.x7_forms.specs.Known.{Answer, Held, Known, data_of, part_of, report_of, stream_limit}
-use Rattle.x7_tool.specs.Outcome.{BootsAs, ImageStreams, PlanTexts, image_streams, plan_texts, svf_answer}
+use Rattle.x7_forms.specs.Known.{Answer, Held, Known, data_of, part_of, stream_limit}
+use Rattle.x7_tool.specs.Play.{report_of}
+use Rattle.x7_tool.specs.Outcome.{ImageStreams, PlanTexts, image_streams, plan_texts, svf_answer, IsBootText}
 
 -- The stream of `plan full`: after any bytes at rest it leaves the plan of the frames text over zeros and ends startup, and the device is at rest again.
 pub record PromisesFull (known : Known) (part frames stream : List ℕ) : Type 0 where
@@ -74,8 +75,8 @@ pub record PromisesPort (known : Known) (part text : List ℕ) (answer : Answer)
   pub checked : 0 < (state_shown texts.part (port_played texts.part statements)).phase → HasChecked texts.part on_the_bench (bytes_taken texts.part (port_played texts.part statements))
 
 -- a boot from these bytes falls back to the full stream of a plan, which is the golden stream, where the update fails and CTL0 allows it
-abbrev pub FallsBackFrom : PartData → ImageStreams → List ℕ → Type 0
-FallsBackFrom device s image =
+abbrev pub FailedUpdateFallsBack : PartData → ImageStreams → List ℕ → Type 0
+FailedUpdateFallsBack device s image =
     (plan : PlanData) (b : BootedState) (t : Trial) (cause : Cause) → s.golden ≡ full_stream device plan → IsPlanFor device plan → (is : IsBoot device image b)
     → UpdateFails device plan s.update t cause false → FallsBack device plan cause b.attempts b.end is.last
 
@@ -83,7 +84,7 @@ FallsBackFrom device s image =
 pub record PromisesImage (known : Known) (golden update image : List ℕ) : Type 0 where
   pub streams : ImageStreams
   pub read : image_streams known golden update ≡ Ok streams
-  pub falls_back : (device : PartData) → IsPart device → device.start_unit ≡ 1 → FallsBackFrom device streams image
+  pub falls_back : (device : PartData) → IsPart device → device.start_unit ≡ 1 → FailedUpdateFallsBack device streams image
 
 -- The bytes of `image PART GOLDEN UPDATE`: a boot of the part falls back where the update fails.
 pub record PromisesImageFor (known : Known) (part golden update image : List ℕ) : Type 0 where
@@ -91,33 +92,33 @@ pub record PromisesImageFor (known : Known) (part golden update image : List ℕ
   pub streams : ImageStreams
   pub part_read : part_of known part ≡ Ok device
   pub read : image_streams known golden update ≡ Ok streams
-  pub falls_back : FallsBackFrom device streams image
+  pub falls_back : FailedUpdateFallsBack device streams image
 
 -- a boot from a flash of these bytes; startup has begun in its last attempt only where that made its checks, also where it didn't start
 pub record StartsChecked (part : PartData) (flash : List ℕ) (answer : Answer) : Type 0 where
-  pub boot : BootsAs part flash answer
+  pub boot : IsBootText part flash answer
   pub checked : 0 < (end_state part boot.last).phase → HasChecked part boot.last.kept boot.last.bytes
   pub started : answer.stopped ≡ false → HasChecked part boot.last.kept boot.last.bytes
 
 -- the flash of this name is known to be the image of a golden plan's stream and an update
 pub record HoldsImage (known : Known) (flash : List ℕ) (part : PartData) (golden : PlanData) (update : List ℕ) : Type 0 where
-  pub told : known.flash flash ≡ Some (Held (golden_image part golden update))
+  pub held : known.flash flash ≡ Some (Held (golden_image part golden update))
   pub image : HasImage part golden update
   pub bytes : AreBytes update
 
 -- a boot from the image of a golden plan and an update falls back to the golden stream and starts, with the memory of its plan and this cause in BOOTSTS
 pub record FallsBackAs (part : PartData) (golden : PlanData) (update : List ℕ) (cause : Cause) (answer : Answer) : Type 0 where
-  pub boot : BootsAs part (golden_image part golden update) answer
+  pub boot : IsBootText part (golden_image part golden update) answer
   pub falls_back : FallsBack part golden cause (reverse (map tried (boot.last ∷ boot.older))) boot.end boot.last
   pub started : answer.stopped ≡ false
 
 -- a boot from the image of a golden plan and an update that is a full stream starts with the update, with the memory of its plan
 pub record StartsUpdateAs (part : PartData) (golden update : PlanData) (answer : Answer) : Type 0 where
-  pub boot : BootsAs part (golden_image part golden (full_stream part update)) answer
+  pub boot : IsBootText part (golden_image part golden (full_stream part update)) answer
   pub starts : StartsUpdate part golden update (reverse (map tried (boot.last ∷ boot.older))) boot.end boot.last
   pub started : answer.stopped ≡ false
 
--- The text of `boot`: over a flash that tells its bytes startup has begun in the last attempt only where that made its checks. Over an image whose update fails it tells of the fallback and its start, where CTL0 allows that, and of the start of an update that is a full stream.
+-- The text of `boot`: over a flash whose bytes are known startup has begun in the last attempt only where that made its checks. Over an image whose update fails it tells of the fallback and its start, where CTL0 allows that, and of the start of an update that is a full stream.
 pub record PromisesStart (known : Known) (part flash : List ℕ) (answer : Answer) : Type 0 where
   pub device : PartData
   pub read : part_of known part ≡ Ok device

@@ -1,60 +1,61 @@
 -- What may end a command, and what its output holds then (this project's choice).
 use Rattle.std.specs.Prelude.{◌≡◌, ◌<◌, ℕ, List, [], ◌∷◌, ◌++◌, length, Option, None, Some, Result, Ok, Err, Bool, ◌⊎◌}
 use Rattle.x7_words.specs.Flash.{FlashState, WhereTold}
+use Rattle.x7_words.specs.Input.{InputsState}
 use Rattle.x7_boot.specs.Image.{flash_limit}
 use Rattle.x7_words.specs.Sink.{PutsAll, PutsSome, SinkFails, SinkState, Tells}
 use Rattle.x7_words.specs.Word.{AreBytes}
 use Rattle.x7_listing.specs.StreamListing.{stream_listing}
+use Rattle.x7_forms.specs.declared.refusal.Refusal.{Refusal}
 use Rattle.x7_forms.specs.declared.refusal.Why.{Why}
 use Rattle.x7_forms.specs.declared.refusal.Why.TheVariants as why
 use Rattle.x7_forms.specs.Event.{Event, Cause, Wording, Want, Fault, Absence, Break, Contents, Difference, cause_of, differs, line_of, missing, no_memory, read_fault, too_large, usage, write_fault}
-use Rattle.x7_forms.specs.Form.{Asked, FlashUse, Updated, flash_use, listed_by, updated_by}
-use Rattle.x7_forms.specs.Known.{Answer, Failing, Held, Known, Lacking, Mishap, bytes_found, flash_found, with_mishap}
+use Rattle.x7_forms.specs.Form.{Asked, FlashUse, Listing, Updated, flash_use, listed_by, names_of, updated_by}
+use Rattle.x7_forms.specs.Known.{Answer, Held, Known, bytes_found, flash_found}
 use Rattle.x7_part.specs.Part.{PartData}
 use Rattle.x7_forms.specs.Message.{final_status}
-use Rattle.x7_forms.specs.Step.{IsCausedBy}
+use Rattle.x7_forms.specs.Step.{AnswersBy, IsCausedBy, IsOfMishap, seen, step_over}
 use Rattle.x7_tool.specs.Ahead.{StaysNear}
 use Rattle.x7_tool.specs.Outcome.{FlashBoots, Gives}
 use Rattle.x7_tool.specs.Leaving.{Updates}
-use Rattle.x7_tool.specs.Outside.{Fails, FlashFailsAmong, FlashLacksAmong, Lacks, Outside, WritesFail, known_in}
+use Rattle.x7_tool.specs.Outside.{Came, FlashFailsAmong, FlashLacksAmong, Outside, Sources, Transfer, WritesFail, known_in, with_sources, with_transfer}
 
 -- ---- why
 
--- the contents are known, and the form comes to this end
+-- the contents are known, and the form comes to this end; where they aren't, never
 abbrev pub Shows : Option Known → Asked → Result Answer Event → Type 0
 Shows None form end = ⊥
 Shows (Some known) form end = Gives known form end
 
--- where the contents are known, the form comes to this end
+-- where the contents are known, the form comes to this end; where they aren't, always
 abbrev pub Agrees : Option Known → Asked → Result Answer Event → Type 0
 Agrees None form end = Unit {0}
 Agrees (Some known) form end = Gives known form end
 
--- where the contents are known, the form comes to this event over them with this mishap
-abbrev pub Happens : Option Known → Mishap → Asked → Event → Type 0
-Happens None mishap form event = Unit {0}
-Happens (Some known) mishap form event = Gives (with_mishap mishap known) form (Err event)
+-- the event tells a mishap that came, and where the contents are known, the form comes to it over them with that mishap; where they aren't, the mishap alone tells
+abbrev pub Happens : Asked → Outside → Outside → Event → Type 0
+Happens form old new event = IsOfMishap Answer (known_in old) (Came (Some form) old new) (λ known end. Gives known form end) event
 
--- the event is a byte that differs, of a flash that the form updates and whose bytes aren't told
+-- the event is a byte that differs, of a flash that the form updates and whose bytes aren't known
 abbrev pub IsDifference : FlashUse → FlashState → Event → Type 0
 IsDifference (Updated name) old event = (place : ℕ) × (event ≡ differs name place) × (old.bytes ≡ None)
 IsDifference _ old event = ⊥
 
--- what a cause says of an event: a fault, or an absence by its count, comes of a name behind which nothing else came before
+-- what a cause says of an event: a fault, or an absence by its count, is the first event that comes
 abbrev pub CausedBy : Cause → Asked → Outside → Outside → Event → Type 0
 CausedBy Wording form old new event = ⊥
 CausedBy Want form old new event = event ≡ no_memory
-CausedBy Fault form old new event = Fails (Some form) old new event.concerned × Happens (known_in old) (Failing event.concerned new.inputs.given) form event
-CausedBy Absence form old new event = (Lacks (Some form) old new event.concerned × Happens (known_in old) (Lacking event.concerned) form event) ⊎ Shows (known_in old) form (Err event)
+CausedBy Fault form old new event = Happens form old new event
+CausedBy Absence form old new event = Happens form old new event ⊎ Shows (known_in old) form (Err event)
 CausedBy Break form old new event = (event ≡ write_fault) × (SinkFails old.out new.out ⊎ WritesFail (updated_by (Some form)) old.flash new.flash)
 CausedBy Difference form old new event = IsDifference (flash_use (Some form)) old.flash event × Agrees (known_in old) form (Err event)
 CausedBy Contents form old new event = Agrees (known_in old) form (Err event)
 
 -- why a command ended so: words without a form are a wrong usage, a whole text is that of the known contents, and an event has its cause
-abbrev pub HasCause : Option Asked → Outside → Outside → Result Answer Event → Type 0
-HasCause None old new end = end ≡ Err usage
-HasCause (Some form) old new (Ok answer) = Agrees (known_in old) form (Ok answer)
-HasCause (Some form) old new (Err event) = CausedBy (cause_of event) form old new event
+abbrev pub EndIsCaused : Option Asked → Outside → Outside → Result Answer Event → Type 0
+EndIsCaused None old new end = end ≡ Err usage
+EndIsCaused (Some form) old new (Ok answer) = Agrees (known_in old) form (Ok answer)
+EndIsCaused (Some form) old new (Err event) = CausedBy (cause_of event) form old new event
 
 -- ---- what the output got
 
@@ -120,7 +121,7 @@ Wrote form old new (Err event) = LeftBy (cause_of event) form old new event
 
 -- how a command ended: why, what the output got, how far was read, and what an update left
 pub record Ends (form : Option Asked) (old new : Outside) (end : Result Answer Event) : Type 0 where
-  pub cause : HasCause form old new end
+  pub cause : EndIsCaused form old new end
   pub wrote : Wrote form old new end
   pub near : StaysNear (final_status end) form old new
   pub updates : Updates (updated_by form) old new end
@@ -129,6 +130,18 @@ pub record Ends (form : Option Asked) (old new : Outside) (end : Result Answer E
 abbrev pub EndsAs : Option Asked → Outside → Outside → Result Bool Event → Type 0
 EndsAs form old new (Ok stopped) = (text : List ℕ) × Ends form old new (Ok (record { stopped = stopped; text = text }))
 EndsAs form old new (Err event) = Ends form old new (Err event)
+
+-- the same of a form that puts nothing out, whatever the sinks hold
+abbrev pub EndsSilently : Asked → Sources → Sources → Result Bool Event → Type 0
+EndsSilently form old new got = (before after : Outside) → after.out ≡ before.out → EndsAs (Some form) (with_sources before old) (with_sources after new) got
+
+-- the same of a listing, whatever the flash and the sink of messages hold
+abbrev pub EndsListing : List ℕ → Transfer → Transfer → Result Bool Event → Type 0
+EndsListing stream old new got = (before after : Outside) → EndsAs (Some (Listing stream)) (with_transfer before old) (with_transfer after new) got
+
+-- whether what a call wrote reports a fault, or the event of its refusal
+abbrev pub written_by : Result Bool Refusal → Result Bool Event
+written_by result = seen (λ stopped. stopped) result
 
 -- what the sink of messages got: nothing after a whole text, and else the event's line, or a prefix of it where the sink failed
 abbrev pub Says : SinkState → SinkState → Result Answer Event → Type 0
@@ -143,7 +156,15 @@ Puts (Ok answer) old new (Err event) = (event ≡ write_fault) × SinkFails old 
 
 -- a text of the form that is ready has its cause: it is due by what is known, or what the form names failed or was missing
 abbrev pub AnswersOver : Asked → Outside → Outside → Result Answer Event → Type 0
-AnswersOver form old new got = IsCausedBy (known_in old) new.inputs.given (Fails (Some form) old new) (Lacks (Some form) old new) (λ known end. Gives known form end) got
+AnswersOver form old new got = IsCausedBy (known_in old) (Came (Some form) old new) (λ known end. Gives known form end) got
+
+-- the same of its sources alone, whatever the sinks hold
+abbrev pub AnswersFrom : Asked → Sources → Sources → Result Answer Event → Type 0
+AnswersFrom form old new got = (before after : Outside) → AnswersOver form (with_sources before old) (with_sources after new) got
+
+-- the same of a form that reads no flash, whatever that holds
+abbrev pub AnswersForm : Asked → InputsState → InputsState → Result Answer Event → Type 0
+AnswersForm form old new got = AnswersBy (step_over (names_of (Some form)) old new) (λ known end. Gives known form end) got
 
 -- a flash was not attached: its name isn't there, or the flash failed
 abbrev pub IsUnattached : List ℕ → FlashState → FlashState → Event → Type 0

@@ -15,7 +15,7 @@ use Rattle.x7_tool.specs.Leaving.{Updates}
 use Rattle.x7_tool.specs.Outcome.{IsOutcome}
 use Rattle.x7_tool.specs.Outside.{IsQuiet, KeepsFlash, Outside, known_in}
 use Rattle.x7_tool.specs.Promise.{Promise}
-use Rattle.x7_tool.specs.Run.{Ends, HasCause, Says, Wrote}
+use Rattle.x7_tool.specs.Run.{EndIsCaused, Ends, Says, Wrote}
 
 -- an input has this text
 abbrev pub HasText : Outside → List ℕ → List ℕ → Type 0
@@ -50,7 +50,7 @@ pub record Runs (form : Option Asked) (old new : Outside) (s : Status) : Type 0 
   -- the status is that end's
   pub ends_as : s ≡ final_status end
   -- the end has its cause
-  pub cause : HasCause form old new end
+  pub cause : EndIsCaused form old new end
   -- the output got the whole text, or what the event leaves of it
   pub wrote : Wrote form old new end
   -- messages got nothing after a whole text, and else the event's one line, or a prefix of it where they failed

@@ -2,10 +2,11 @@
 ghost use Rattle.std.specs.Prelude.{◌≡◌, ℕ, ◌+◌, ◌^◌, ◌<◌, ◌≤◌, List, [], ◌∷◌, ◌++◌, length, Option, Ok, Err, IfOk, IfErr};
 ghost use Rattle.x7_listing.specs.Assembling.{AssemblerStandsFor};
 ghost use Rattle.x7_forms.specs.Message.{event_of};
-ghost use Rattle.x7_tool.specs.Outcome.{AssembledAs, asm_event, text_limit};
-ghost use Rattle.x7_forms.specs.Known.{whole_in};
+ghost use Rattle.x7_tool.specs.Outcome.{asm_event, text_limit};
+ghost use Rattle.x7_tool.specs.Run.{AnswersForm};
+ghost use Rattle.x7_forms.specs.Form.{Assembling};
 ghost use Rattle.x7_tool.specs.Ready.{whole_of};
-ghost use Rattle.x7_forms.specs.Step.{AnswersAs, AnswersBy, seen};
+ghost use Rattle.x7_forms.specs.Step.{ReadsWhole, seen};
 ghost use Rattle.x7_tool.specs.Turns.{IsFed};
 
 use crate::text::Text;
@@ -49,11 +50,8 @@ fn feed_whole<'w, I: Inputs>(
     assembler: &mut Assembler,
 ) -> Result<Option<AsmFault>, Refusal<'w>>
     requires new { AssemblerStandsFor assembler.old [] }
-    ensures ok { IfOk result (λ found. (text : List ℕ) × (length text ≤ text_limit) × IsFed found assembler.new text
-        × (AnswersAs (name.now ∷ []) (I.state inputs.old) (I.state inputs.new)
-        (λ known. whole_in known text_limit name.now) (Ok text))) }
-    ensures err { IfErr result (λ r. AnswersAs (name.now ∷ []) (I.state inputs.old) (I.state inputs.new)
-        (λ known. whole_in known text_limit name.now) (Err (event_of r))) }
+    ensures ok { IfOk result (λ found. (text : List ℕ) × (length text ≤ text_limit) × IsFed found assembler.new text × ReadsWhole (I.state inputs.old) (I.state inputs.new) text_limit name.now (Ok text)) }
+    ensures err { IfErr result (λ r. ReadsWhole (I.state inputs.old) (I.state inputs.new) text_limit name.now (Err (event_of r))) }
 {
     match open(inputs, name) {
         Ok(()) => (),
@@ -81,8 +79,7 @@ pub(crate) fn asm<'w, I: Inputs>(
     inputs: &mut I,
     name: &'w str,
 ) -> Result<Text, Refusal<'w>>
-    ensures { AnswersBy (name.now ∷ []) (I.state inputs.old) (I.state inputs.new)
-        (λ known end. AssembledAs name.now (whole_in known text_limit name.now) end) (seen whole_of result) }
+    ensures { AnswersForm (Assembling name.now) (I.state inputs.old) (I.state inputs.new) (seen whole_of result) }
 {
     let mut assembler = Assembler::new(alloc);
     let found = match feed_whole(inputs, name, &mut assembler) {

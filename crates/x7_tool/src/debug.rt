@@ -7,7 +7,9 @@ ghost use Rattle.x7_forms.specs.Message.{event_of};
 ghost use Rattle.x7_forms.specs.Event.{no_memory};
 ghost use Rattle.x7_tool.specs.Outcome.{DebuggedAs, debug_inputs, script_event};
 ghost use Rattle.x7_tool.specs.Ready.{whole_of};
-ghost use Rattle.x7_forms.specs.Step.{AnswersAs, AnswersBy, seen};
+ghost use Rattle.x7_forms.specs.Form.{Debugging};
+ghost use Rattle.x7_forms.specs.Step.{AnswersAs, seen, step_over};
+ghost use Rattle.x7_tool.specs.Run.{AnswersForm};
 
 use crate::stream::read_data;
 use crate::text::Text;
@@ -49,7 +51,7 @@ fn read_given<'w, I: Inputs>(
     stream: &'w str,
     script: &'w str,
 ) -> Result<Given, Refusal<'w>>
-    ensures { AnswersAs (part.now ∷ stream.now ∷ script.now ∷ []) (I.state inputs.old) (I.state inputs.new)
+    ensures { AnswersAs (step_over (part.now ∷ stream.now ∷ script.now ∷ []) (I.state inputs.old) (I.state inputs.new))
         (λ known. debug_inputs known part.now stream.now script.now) (seen given_of result) }
 {
     let part = match read_part(alloc, inputs, part) {
@@ -104,8 +106,7 @@ pub(crate) fn debug<'w, I: Inputs>(
     stream: &'w str,
     script: &'w str,
 ) -> Result<Text, Refusal<'w>>
-    ensures { AnswersBy (part.now ∷ stream.now ∷ script.now ∷ []) (I.state inputs.old) (I.state inputs.new)
-        (λ known end. DebuggedAs script.now (debug_inputs known part.now stream.now script.now) end) (seen whole_of result) }
+    ensures { AnswersForm (Debugging part.now stream.now script.now) (I.state inputs.old) (I.state inputs.new) (seen whole_of result) }
 {
     match read_given(alloc, inputs, part, stream, script) {
         Ok(given) => text_of(alloc, given, script),

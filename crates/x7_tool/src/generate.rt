@@ -8,24 +8,23 @@ ghost use Rattle.x7_memory.specs.Frames.{AreFramesOf, frame_at};
 ghost use Rattle.x7_memory.specs.Planned.{AreAddressed, IsPlan};
 ghost use Rattle.x7_planner.specs.Full.{full_stream};
 ghost use Rattle.x7_planner.specs.Telling.{HasTold};
-ghost use Rattle.x7_engine.specs.Kept.{on_the_bench};
-ghost use Rattle.x7_engine.specs.State.{reads_of};
-ghost use Rattle.x7_tool.specs.Generated.{count_line, counted, gen_text, head_line, sum_line, generated, next_number, planned_summary, played_summary, row_by, summary_text, words_sum};
+ghost use Rattle.x7_tool.specs.Generated.{TookStream, count_line, counted, gen_text, head_line, sum_line, generated, next_number, planned_summary, played_summary, row_by, summary_text, words_sum};
 ghost use Rattle.x7_forms.specs.Event.{no_memory};
 ghost use Rattle.x7_forms.specs.Message.{event_of};
-ghost use Rattle.x7_tool.specs.Outcome.{gen_answer, gen_made};
-ghost use Rattle.x7_forms.specs.Known.{reads_limit};
+ghost use Rattle.x7_tool.specs.Outcome.{gen_answer};
+ghost use Rattle.x7_tool.specs.Run.{AnswersForm};
+ghost use Rattle.x7_forms.specs.Form.{Generating};
 ghost use Rattle.x7_forms.specs.Play.{HasPlayed};
 ghost use Rattle.x7_tool.specs.Ready.{whole_of};
-ghost use Rattle.x7_forms.specs.Step.{AnswersAs, seen};
+ghost use Rattle.x7_forms.specs.Step.{seen};
 
 use crate::text::Text;
 use std::alloc::Global;
-use x7_forms::{Player, Refusal, Why, put_number, put_text, read_part};
+use x7_forms::{Player, Refusal, Why, read_part};
 use x7_memory::{Draft, Memory, Plan};
 use x7_part::Part;
 use x7_planner::FullStream;
-use x7_text::hex_of_word;
+use x7_text::{hex_of_word, put_number, put_text};
 use x7_words::{Inputs, NoMemory};
 
 /// The least number that plans a frame.
@@ -229,8 +228,7 @@ fn summarized(
     planned: usize,
     played: &Played,
 ) -> Result<Vec<u8>, NoMemory>
-    ensures { IfOk result (λ text. (part : PartData) (stream : List ℕ) → HasPlayed part stream played.now.player → played.now.size ≡ length stream → length (reads_of part on_the_bench stream) ≤ reads_limit
-        → text.items ≡ played_summary part seed planned stream) }
+    ensures { IfOk result (λ text. (part : PartData) (stream : List ℕ) → TookStream part stream played.now.player played.now.size → text.items ≡ played_summary part seed planned stream) }
 {
     let device = played.player.device();
     let part = device.part();
@@ -280,8 +278,7 @@ pub(crate) fn generate<'w, I: Inputs>(
     name: &'w str,
     seed: u32,
 ) -> Result<Text, Refusal<'w>>
-    ensures { AnswersAs (name.now ∷ []) (I.state inputs.old) (I.state inputs.new)
-        (λ known. gen_made known name.now seed) (seen whole_of result) }
+    ensures { AnswersForm (Generating name.now seed) (I.state inputs.old) (I.state inputs.new) (seen whole_of result) }
 {
     let part = match read_part(alloc, inputs, name) {
         Ok(part) => part,

@@ -3,10 +3,12 @@ ghost use Rattle.std.specs.Prelude.{◌≡◌, ◌⊎◌, ◌≤◌, ℕ, [], �
 ghost use Rattle.x7_forms.specs.Message.{event_of};
 ghost use Rattle.x7_forms.specs.Event.{bad_input, no_memory};
 ghost use Rattle.x7_forms.specs.declared.bad_input.InputFault.TheVariants as input;
-ghost use Rattle.x7_tool.specs.Outcome.{image_by, image_streams, imaged, imaged_for};
+ghost use Rattle.x7_tool.specs.Outcome.{image_by, image_streams};
+ghost use Rattle.x7_tool.specs.Run.{AnswersForm};
+ghost use Rattle.x7_forms.specs.Form.{Imaging, ImagingFor};
 ghost use Rattle.x7_tool.specs.Ready.{whole_of};
 ghost use Rattle.x7_tool.specs.Streamed.{streams_of};
-ghost use Rattle.x7_forms.specs.Step.{AnswersAs, seen};
+ghost use Rattle.x7_forms.specs.Step.{AnswersAs, seen, step_over};
 
 use crate::stream::{Stream, read_stream};
 use crate::text::Text;
@@ -30,7 +32,7 @@ fn read_streams<'w, I: Inputs>(
     golden: &'w str,
     update: &'w str,
 ) -> Result<Streams, Refusal<'w>>
-    ensures due { AnswersAs (golden.now ∷ update.now ∷ []) (I.state inputs.old) (I.state inputs.new)
+    ensures due { AnswersAs (step_over (golden.now ∷ update.now ∷ []) (I.state inputs.old) (I.state inputs.new))
         (λ known. image_streams known golden.now update.now) (seen streams_of result) }
     ensures golden { IfOk result (λ streams. streams.golden.start ≤ length streams.golden.bytes.items) }
     ensures update { IfOk result (λ streams. streams.update.start ≤ length streams.update.bytes.items) }
@@ -105,8 +107,7 @@ pub(crate) fn image<'w, I: Inputs>(
     golden: &'w str,
     update: &'w str,
 ) -> Result<Text, Refusal<'w>>
-    ensures { AnswersAs (golden.now ∷ update.now ∷ []) (I.state inputs.old) (I.state inputs.new)
-        (λ known. imaged known golden.now update.now) (seen whole_of result) }
+    ensures { AnswersForm (Imaging golden.now update.now) (I.state inputs.old) (I.state inputs.new) (seen whole_of result) }
 {
     match read_streams(alloc, inputs, golden, update) {
         Ok(streams) => plain_text(alloc, &streams, update),
@@ -122,8 +123,7 @@ pub(crate) fn image_for<'w, I: Inputs>(
     golden: &'w str,
     update: &'w str,
 ) -> Result<Text, Refusal<'w>>
-    ensures { AnswersAs (part.now ∷ golden.now ∷ update.now ∷ []) (I.state inputs.old) (I.state inputs.new)
-        (λ known. imaged_for known part.now golden.now update.now) (seen whole_of result) }
+    ensures { AnswersForm (ImagingFor part.now golden.now update.now) (I.state inputs.old) (I.state inputs.new) (seen whole_of result) }
 {
     let part = match read_part(alloc, inputs, part) {
         Ok(part) => part,

@@ -1,27 +1,26 @@
 //! The command `list`.
-ghost use Rattle.std.specs.Prelude.{◌≡◌, ℕ, List, [], ◌∷◌, ◌++◌, ◌≤◌, ◌⊎◌, false, drop, length, Option, Some, Ok, Err, OnOk, IfErr};
+ghost use Rattle.std.specs.Prelude.{◌≡◌, ℕ, List, [], ◌∷◌, ◌++◌, ◌≤◌, ◌⊎◌, false, drop, length, Option, Some, Ok, Err, OnErr, OnOk, IfErr};
 ghost use Rattle.x7_words.specs.Sink.{Counts, PutsFront, SinkFails, appended};
 ghost use Rattle.x7_words.specs.Word.{AreBytes};
 ghost use Rattle.x7_listing.specs.Listing.{listing_of};
 ghost use Rattle.x7_tool.specs.Ahead.{IsLonger};
-ghost use Rattle.x7_forms.specs.Form.{Listing};
 ghost use Rattle.x7_forms.specs.Message.{event_of};
 ghost use Rattle.x7_forms.specs.Event.{no_memory, write_fault};
 ghost use Rattle.x7_listing.specs.Telling.{ListerStandsFor};
-ghost use Rattle.x7_tool.specs.Outside.{Outside};
-ghost use Rattle.x7_tool.specs.Run.{EndsAs};
+ghost use Rattle.x7_tool.specs.Outside.{transfer};
+ghost use Rattle.x7_tool.specs.Run.{EndsListing};
 ghost use Rattle.x7_forms.specs.Step.{seen};
-ghost use Rattle.x7_tool.specs.Turns.{Lists};
+ghost use Rattle.x7_tool.specs.Turns.{Lists, StopsIn};
 
 use std::alloc::Global;
-use x7_forms::{Refusal, STREAM_LIMIT, TURN, Why, next_turn, open, read_front};
+use x7_forms::{Refusal, STREAM_LIMIT, TURN, Why, next_turn, open, read_beginning};
 use x7_listing::Lister;
 use x7_words::{Inputs, Sink, write_all};
 
 /// Lists a piece, and writes what that adds to the listing.
 fn put_turn<'w, O: Sink>(lister: &mut Lister, out: &mut O, piece: &[u8]) -> Result<(), Refusal<'w>>
     ensures ok { OnOk result ((first : Option (List ℕ)) (bytes : List ℕ) → Lists lister.old first (O.state out.old).written bytes → Lists lister.new first (O.state out.new).written (bytes ++ piece.now)) }
-    ensures err { IfErr result (λ r. (first : Option (List ℕ)) (bytes rest : List ℕ) → Lists lister.old first (O.state out.old).written bytes → AreBytes (bytes ++ (piece.now ++ rest)) → PutsFront first (listing_of (bytes ++ (piece.now ++ rest))) (O.state out.new).written) }
+    ensures err { OnErr result (StopsIn lister.old (O.state out.old).written piece.now (O.state out.new).written) }
     ensures why { IfErr result (λ r. ((event_of r ≡ no_memory) × ((O.state out.new).written ≡ (O.state out.old).written)) ⊎ ((event_of r ≡ write_fault) × SinkFails (O.state out.old) (O.state out.new))) }
     ensures fits { AreBytes piece.now }
     ensures longer { IsLonger (O.state out.old) (O.state out.new) }
@@ -81,14 +80,13 @@ pub(crate) fn list<'w, I: Inputs, O: Sink>(
     out: &mut O,
     stream: &'w str,
 ) -> Result<(), Refusal<'w>>
-    ensures { (before after : Outside) → EndsAs (Some (Listing stream.now)) (record before { inputs = I.state inputs.old; out = O.state out.old })
-        (record after { inputs = I.state inputs.new; out = O.state out.new }) (seen (λ _. false) result) }
+    ensures { EndsListing stream.now (transfer (I.state inputs.old) (O.state out.old)) (transfer (I.state inputs.new) (O.state out.new)) (seen (λ _. false) result) }
 {
     match open(inputs, stream) {
         Ok(()) => (),
         Err(refusal) => return Err(refusal),
     }
-    let front = match read_front(alloc, inputs, stream) {
+    let front = match read_beginning(alloc, inputs, stream) {
         Ok(front) => front,
         Err(refusal) => return Err(refusal),
     };

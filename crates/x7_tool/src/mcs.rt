@@ -1,9 +1,11 @@
 //! The commands `mcs` and `unmcs`: flash images as Intel HEX texts, and back.
 ghost use Rattle.std.specs.Prelude.{◌≡◌, ℕ, [], ◌∷◌};
 ghost use Rattle.x7_forms.specs.Message.{event_of};
-ghost use Rattle.x7_tool.specs.Outcome.{mcs_event, mcs_read, mcs_written};
+ghost use Rattle.x7_tool.specs.Outcome.{mcs_event};
+ghost use Rattle.x7_tool.specs.Run.{AnswersForm};
+ghost use Rattle.x7_forms.specs.Form.{FromMcs, ToMcs};
 ghost use Rattle.x7_tool.specs.Ready.{text_of_image, whole_of};
-ghost use Rattle.x7_forms.specs.Step.{AnswersAs, seen};
+ghost use Rattle.x7_forms.specs.Step.{seen};
 
 use crate::text::Text;
 use std::alloc::Global;
@@ -35,8 +37,7 @@ pub(crate) fn mcs<'w, I: Inputs>(
     inputs: &mut I,
     image: &'w str,
 ) -> Result<McsText, Refusal<'w>>
-    ensures { AnswersAs (image.now ∷ []) (I.state inputs.old) (I.state inputs.new)
-        (λ known. mcs_written known image.now) (seen text_of_image result) }
+    ensures { AnswersForm (ToMcs image.now) (I.state inputs.old) (I.state inputs.new) (seen text_of_image result) }
 {
     let bytes = match read_whole(alloc, inputs, image, FLASH_LIMIT) {
         Ok(bytes) => bytes,
@@ -54,8 +55,7 @@ pub(crate) fn unmcs<'w, I: Inputs>(
     inputs: &mut I,
     name: &'w str,
 ) -> Result<Text, Refusal<'w>>
-    ensures { AnswersAs (name.now ∷ []) (I.state inputs.old) (I.state inputs.new)
-        (λ known. mcs_read known name.now) (seen whole_of result) }
+    ensures { AnswersForm (FromMcs name.now) (I.state inputs.old) (I.state inputs.new) (seen whole_of result) }
 {
     let text = match read_whole(alloc, inputs, name, TEXT_LIMIT) {
         Ok(text) => text,

@@ -4,10 +4,11 @@ ghost use Rattle.x7_part.specs.Part.{PartData};
 ghost use Rattle.x7_forms.specs.Message.{event_of};
 ghost use Rattle.x7_forms.specs.Event.{no_memory};
 ghost use Rattle.x7_tool.specs.Outcome.{PlannedFull, PlannedPartial, PlannedRead, frames_event, plan_texts, planner_event};
-ghost use Rattle.x7_forms.specs.Known.{part_of};
+ghost use Rattle.x7_forms.specs.Form.{PlanningFull, PlanningPartial, PlanningRead};
 ghost use Rattle.x7_tool.specs.Planned.{texts_of};
 ghost use Rattle.x7_tool.specs.Ready.{whole_of};
-ghost use Rattle.x7_forms.specs.Step.{AnswersAs, AnswersBy, seen};
+ghost use Rattle.x7_forms.specs.Step.{AnswersAs, seen, step_over};
+ghost use Rattle.x7_tool.specs.Run.{AnswersForm};
 
 use crate::text::Text;
 use std::alloc::Global;
@@ -31,7 +32,7 @@ fn read_texts<'w, I: Inputs>(
     part: &'w str,
     frames: &'w str,
 ) -> Result<PlanTexts, Refusal<'w>>
-    ensures { AnswersAs (part.now ∷ frames.now ∷ []) (I.state inputs.old) (I.state inputs.new)
+    ensures { AnswersAs (step_over (part.now ∷ frames.now ∷ []) (I.state inputs.old) (I.state inputs.new))
         (λ known. plan_texts known part.now frames.now) (seen texts_of result) }
 {
     let part = match read_part(alloc, inputs, part) {
@@ -103,8 +104,7 @@ pub(crate) fn plan_full<'w, I: Inputs>(
     part: &'w str,
     frames: &'w str,
 ) -> Result<Text, Refusal<'w>>
-    ensures { AnswersBy (part.now ∷ frames.now ∷ []) (I.state inputs.old) (I.state inputs.new)
-        (λ known end. PlannedFull frames.now (plan_texts known part.now frames.now) end) (seen whole_of result) }
+    ensures { AnswersForm (PlanningFull part.now frames.now) (I.state inputs.old) (I.state inputs.new) (seen whole_of result) }
 {
     let texts = match read_texts(alloc, inputs, part, frames) {
         Ok(texts) => texts,
@@ -138,8 +138,7 @@ pub(crate) fn plan_partial<'w, I: Inputs>(
     part: &'w str,
     frames: &'w str,
 ) -> Result<Text, Refusal<'w>>
-    ensures { AnswersBy (part.now ∷ frames.now ∷ []) (I.state inputs.old) (I.state inputs.new)
-        (λ known end. PlannedPartial frames.now (plan_texts known part.now frames.now) end) (seen whole_of result) }
+    ensures { AnswersForm (PlanningPartial part.now frames.now) (I.state inputs.old) (I.state inputs.new) (seen whole_of result) }
 {
     let texts = match read_texts(alloc, inputs, part, frames) {
         Ok(texts) => texts,
@@ -176,8 +175,7 @@ pub(crate) fn plan_read<'w, I: Inputs>(
     far: u32,
     n: u32,
 ) -> Result<Text, Refusal<'w>>
-    ensures { AnswersBy (name.now ∷ []) (I.state inputs.old) (I.state inputs.new)
-        (λ known end. PlannedRead name.now far n (part_of known name.now) end) (seen whole_of result) }
+    ensures { AnswersForm (PlanningRead name.now far n) (I.state inputs.old) (I.state inputs.new) (seen whole_of result) }
 {
     let part = match read_part(alloc, inputs, name) {
         Ok(part) => part,

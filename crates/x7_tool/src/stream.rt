@@ -2,7 +2,7 @@
 ghost use Rattle.std.specs.Prelude.{◌≡◌, ◌≤◌, ℕ, [], ◌∷◌, IfOk, length};
 ghost use Rattle.x7_words.specs.Input.{Stays};
 ghost use Rattle.x7_tool.specs.Outcome.{stream_data};
-ghost use Rattle.x7_forms.specs.Step.{AnswersAs, seen};
+ghost use Rattle.x7_forms.specs.Step.{AnswersAs, seen, step_over};
 ghost use Rattle.x7_tool.specs.Streamed.{data_from};
 
 use std::alloc::Global;
@@ -22,7 +22,7 @@ pub(crate) fn read_stream<'w, I: Inputs>(
     inputs: &mut I,
     name: &'w str,
 ) -> Result<Stream, Refusal<'w>>
-    ensures due { AnswersAs (name.now ∷ []) (I.state inputs.old) (I.state inputs.new)
+    ensures due { AnswersAs (step_over (name.now ∷ []) (I.state inputs.old) (I.state inputs.new))
         (λ known. stream_data known name.now) (seen data_from result) }
     ensures within { IfOk result (λ stream. stream.start ≤ length stream.bytes.items) }
     ensures inputs { Stays (I.state inputs.old) (I.state inputs.new) }
@@ -43,7 +43,7 @@ pub(crate) fn read_data<'w, I: Inputs>(
     inputs: &mut I,
     name: &'w str,
 ) -> Result<Vec<u8>, Refusal<'w>>
-    ensures due { AnswersAs (name.now ∷ []) (I.state inputs.old) (I.state inputs.new)
+    ensures due { AnswersAs (step_over (name.now ∷ []) (I.state inputs.old) (I.state inputs.new))
         (λ known. stream_data known name.now) (seen (λ bytes. bytes.items) result) }
     ensures inputs { Stays (I.state inputs.old) (I.state inputs.new) }
 {

@@ -2,18 +2,21 @@
 ghost use Rattle.std.specs.Prelude.{◌≡◌, ◌⊎◌, ◌≤◌, ◌||◌, ℕ, [], ◌∷◌, Ok, Err, IfErr, IfOk, vec_len};
 ghost use Rattle.x7_forms.specs.Message.{event_of};
 ghost use Rattle.x7_forms.specs.Event.{no_memory};
-ghost use Rattle.x7_forms.specs.Play.{text_of_play};
-ghost use Rattle.x7_forms.specs.Step.{AnswersAs, AnswersBy, seen};
+ghost use Rattle.x7_forms.specs.Step.{AnswersAs, seen, step_over};
+ghost use Rattle.x7_forms.specs.Form.{PlayingSvf};
+ghost use Rattle.x7_tool.specs.Run.{AnswersForm};
 ghost use Rattle.x7_jtag.specs.Svf.{IsSvfOf};
 ghost use Rattle.x7_jtag.specs.declared.fault.SvfFault.{SvfFault as FaultData};
 ghost use Rattle.x7_tool.specs.Outcome.{PlayedSvf, plan_texts, svf_answer, svf_event};
+ghost use Rattle.x7_tool.specs.Play.{text_of_play};
 ghost use Rattle.x7_tool.specs.Svf.{texts_of};
 
 use std::alloc::Global;
 use x7_engine::Device;
-use x7_forms::{InputFault, PlayText, Refusal, TEXT_LIMIT, Why, read_part, read_whole};
+use x7_forms::{InputFault, Refusal, TEXT_LIMIT, Why, read_part, read_whole};
 use x7_jtag::{Svf, SvfFault, Tap, play_line, play_svf, svf_from};
 use x7_part::Part;
+use x7_report::PlayText;
 use x7_words::{Inputs, NoMemory};
 
 /// What playing an SVF text reads: a part, and the text.
@@ -43,7 +46,7 @@ fn read_given<'w, I: Inputs>(
     part: &'w str,
     text: &'w str,
 ) -> Result<Given, Refusal<'w>>
-    ensures given { AnswersAs (part.now ∷ text.now ∷ []) (I.state inputs.old) (I.state inputs.new)
+    ensures given { AnswersAs (step_over (part.now ∷ text.now ∷ []) (I.state inputs.old) (I.state inputs.new))
         (λ known. plan_texts known part.now text.now) (seen texts_of result) }
     ensures within { IfOk result (λ given. vec_len given.text ≤ 536870912) }
 {
@@ -115,8 +118,7 @@ pub(crate) fn svf<'w, I: Inputs>(
     part: &'w str,
     text: &'w str,
 ) -> Result<PlayText, Refusal<'w>>
-    ensures { AnswersBy (part.now ∷ text.now ∷ []) (I.state inputs.old) (I.state inputs.new)
-        (λ known end. PlayedSvf text.now (plan_texts known part.now text.now) end) (seen text_of_play result) }
+    ensures { AnswersForm (PlayingSvf part.now text.now) (I.state inputs.old) (I.state inputs.new) (seen text_of_play result) }
 {
     match read_given(alloc, inputs, part, text) {
         Ok(given) => text_of(alloc, given, text),

@@ -2,13 +2,14 @@
 ghost use Rattle.std.specs.Prelude.{◌≡◌, OnErr, OnOk};
 ghost use Rattle.x7_words.specs.Sink.{PutsFront, SinkFails, appended};
 ghost use Rattle.x7_forms.specs.Known.{Answer};
+ghost use Rattle.x7_tool.specs.Play.{text_of_play};
 ghost use Rattle.x7_tool.specs.Ready.{text_of_image, whole_of};
-ghost use Rattle.x7_forms.specs.Play.{text_of_play};
 ghost use Rattle.x7_tool.specs.Run.{Puts};
 ghost use Rattle.x7_forms.specs.Step.{seen};
 
-use x7_forms::{PlayText, Refusal, Why};
+use x7_forms::{Refusal, Why};
 use x7_mcs::McsText;
+use x7_report::PlayText;
 use x7_words::{Failed, Sink, write_all};
 
 /// A text that is ready: what it is made of was read and judged, and writing it takes no memory.

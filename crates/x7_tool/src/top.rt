@@ -1,14 +1,10 @@
 //! The top call.
-ghost use Rattle.std.specs.Prelude.{ℕ, List, map, string_bytes};
+ghost use Rattle.std.specs.Prelude.{ℕ, List};
 ghost use Rattle.x7_words.specs.Sink.{SinkState};
-ghost use Rattle.x7_words.specs.Word.{AreBytes};
-ghost use Rattle.x7_boot.specs.Boot.{BootedState, IsBoot};
-ghost use Rattle.x7_recovery.specs.Recovery.{BootsAs, Updating};
-ghost use Rattle.x7_forms.specs.Form.{form_of};
-ghost use Rattle.x7_forms.specs.Step.{seen};
-ghost use Rattle.x7_tool.specs.Leaving.{FoundSince, IsUpdateOf, UsesFlash};
-ghost use Rattle.x7_tool.specs.Outside.{outside};
-ghost use Rattle.x7_tool.specs.Run.{EndsAs};
+ghost use Rattle.x7_forms.specs.Form.{form_in};
+ghost use Rattle.x7_tool.specs.Leaving.{EachBoots, PowerLossMayLeave, UsesFlash};
+ghost use Rattle.x7_tool.specs.Outside.{outside, sources};
+ghost use Rattle.x7_tool.specs.Run.{EndsAs, written_by};
 ghost use Rattle.x7_tool.specs.Runs.{RanAs, Runs};
 
 use crate::asm::asm;
@@ -19,11 +15,12 @@ use crate::image::{image, image_for};
 use crate::list::list;
 use crate::mcs::{mcs, unmcs};
 use crate::plan::{plan_full, plan_partial, plan_read};
+use crate::play::play;
 use crate::svf::svf;
 use crate::text::put_whole;
 use crate::update::update;
 use std::alloc::Global;
-use x7_forms::{Form, Refusal, Status, Why, play, words_of};
+use x7_forms::{Form, Refusal, Status, Why, words_of};
 use x7_words::{Flash, Inputs, Sink};
 
 /// Writes the whole text that the words ask for, and says whether what it reports stopped at a fault.
@@ -34,9 +31,9 @@ fn answer<'w, I: Inputs, O: Sink, F: Flash>(
     flash: &mut F,
     out: &mut O,
 ) -> Result<bool, Refusal<'w>>
-    ensures ends { (e f : SinkState) → EndsAs (form_of (map string_bytes words.now.items)) (outside (I.state inputs.old) (F.state flash.old) (O.state out.old) e)
-        (outside (I.state inputs.new) (F.state flash.new) (O.state out.new) f) (seen (λ stopped. stopped) result) }
-    ensures flash { UsesFlash (form_of (map string_bytes words.now.items)) (I.state inputs.old) (F.state flash.old) (F.state flash.new)
+    ensures ends { (e f : SinkState) → EndsAs (form_in words.now.items) (outside (I.state inputs.old) (F.state flash.old) (O.state out.old) e)
+        (outside (I.state inputs.new) (F.state flash.new) (O.state out.new) f) (written_by result) }
+    ensures flash { UsesFlash (form_in words.now.items) (sources (I.state inputs.old) (F.state flash.old)) (F.state flash.new)
         (F.found_since flash.old) (F.found_since flash.new) }
 {
     match words_of(words) {
@@ -99,9 +96,9 @@ fn carry_out<I: Inputs, O: Sink, E: Sink, F: Flash>(
     out: &mut O,
     err: &mut E,
 ) -> Status
-    ensures ran { RanAs (form_of (map string_bytes words.now.items)) (outside (I.state inputs.old) (F.state flash.old) (O.state out.old) (E.state err.old))
+    ensures ran { RanAs (form_in words.now.items) (outside (I.state inputs.old) (F.state flash.old) (O.state out.old) (E.state err.old))
         (outside (I.state inputs.new) (F.state flash.new) (O.state out.new) (E.state err.new)) result }
-    ensures flash { UsesFlash (form_of (map string_bytes words.now.items)) (I.state inputs.old) (F.state flash.old) (F.state flash.new)
+    ensures flash { UsesFlash (form_in words.now.items) (sources (I.state inputs.old) (F.state flash.old)) (F.state flash.new)
         (F.found_since flash.old) (F.found_since flash.new) }
 {
     match answer(alloc, words, inputs, flash, out) {
@@ -124,13 +121,13 @@ pub fn run<I: Inputs, O: Sink, E: Sink, F: Flash>(
     out: &mut O,
     err: &mut E,
 ) -> Status
-    ensures ran { Runs (form_of (map string_bytes words.now.items)) (outside (I.state inputs.old) (F.state flash.old) (O.state out.old) (E.state err.old)) (outside (I.state inputs.new) (F.state flash.new) (O.state out.new) (E.state err.new)) result }
-    ensures flash { UsesFlash (form_of (map string_bytes words.now.items)) (I.state inputs.old) (F.state flash.old) (F.state flash.new)
+    ensures ran { Runs (form_in words.now.items) (outside (I.state inputs.old) (F.state flash.old) (O.state out.old) (E.state err.old)) (outside (I.state inputs.new) (F.state flash.new) (O.state out.new) (E.state err.new)) result }
+    ensures flash { UsesFlash (form_in words.now.items) (sources (I.state inputs.old) (F.state flash.old)) (F.state flash.new)
         (F.found_since flash.old) (F.found_since flash.new) }
     ensures found { (found : List ℕ) → F.found_since flash.new (F.state flash.old).moments found
-        → FoundSince (form_of (map string_bytes words.now.items)) (I.state inputs.old) (F.state flash.old) found }
-    ensures boots { (u : Updating) (found : List ℕ) (b : BootedState) → IsUpdateOf (form_of (map string_bytes words.now.items)) (I.state inputs.old) (F.state flash.old) u
-        → F.found_since flash.new (F.state flash.old).moments found → AreBytes found → IsBoot u.part found b → BootsAs u found b }
+        → PowerLossMayLeave (form_in words.now.items) (sources (I.state inputs.old) (F.state flash.old)) found }
+    ensures boots { (found : List ℕ) → F.found_since flash.new (F.state flash.old).moments found
+        → EachBoots (form_in words.now.items) (sources (I.state inputs.old) (F.state flash.old)) found }
 {
     carry_out(alloc, words, inputs, flash, out, err)
 }

@@ -1,12 +1,11 @@
 //! The command `update`: a flash gets another update stream, and may lose its power at any moment.
 ghost use Rattle.std.specs.Prelude.{◌≡◌, ℕ, List, Some};
-ghost use Rattle.x7_forms.specs.Form.{Updating};
+ghost use Rattle.x7_forms.specs.Form.{UpdatingFlash};
 ghost use Rattle.x7_forms.specs.Message.{event_of};
-ghost use Rattle.x7_forms.specs.Step.{seen};
 ghost use Rattle.x7_tool.specs.Leaving.{UsesFlash};
 ghost use Rattle.x7_tool.specs.Outcome.{update_event};
-ghost use Rattle.x7_tool.specs.Outside.{Outside};
-ghost use Rattle.x7_tool.specs.Run.{EndsAs};
+ghost use Rattle.x7_tool.specs.Outside.{sources};
+ghost use Rattle.x7_tool.specs.Run.{EndsSilently, written_by};
 ghost use Rattle.x7_update.specs.declared.fault.UpdateFault.TheVariants.{Failed};
 
 use crate::attach::open_flash;
@@ -59,10 +58,8 @@ pub(crate) fn update<'w, I: Inputs, F: Flash>(
     name: &'w str,
     stream: &'w str,
 ) -> Result<bool, Refusal<'w>>
-    ensures ends { (before after : Outside) → after.out ≡ before.out → EndsAs (Some (Updating name.now stream.now))
-        (record before { inputs = I.state inputs.old; flash = F.state flash.old })
-        (record after { inputs = I.state inputs.new; flash = F.state flash.new }) (seen (λ stopped. stopped) result) }
-    ensures flash { UsesFlash (Some (Updating name.now stream.now)) (I.state inputs.old) (F.state flash.old) (F.state flash.new)
+    ensures ends { EndsSilently (UpdatingFlash name.now stream.now) (sources (I.state inputs.old) (F.state flash.old)) (sources (I.state inputs.new) (F.state flash.new)) (written_by result) }
+    ensures flash { UsesFlash (Some (UpdatingFlash name.now stream.now)) (sources (I.state inputs.old) (F.state flash.old)) (F.state flash.new)
         (F.found_since flash.old) (F.found_since flash.new) }
 {
     match open_flash(flash, name) {

@@ -100,10 +100,6 @@ between_opening slot all mid found b h only = record {
       | inr n ↦ b.closed other k (sym (only_other slot other mid found n only) ∙ o)
     ]
 
--- a slot that is free is closed
-pub only_free : (slot : ℕ) (all : List ℕ) → IsFree all slot → OnlySwitch slot all all
-only_free slot all is = record { size = refl; others = λ i h. refl; shut = λ o. open_not_free all slot o is }
-
 -- the next slot is free still when the stream is written
 pub next_free : (next : ℕ) (all closed found : List ℕ) → HasSlots (length all) all → IsNext all next → ClosesTo all closed → KeepsBelow (update_place all) closed found → IsFree found next
 next_free next all closed found has n closes keeps =
@@ -173,10 +169,6 @@ module _ (all : List ℕ) (slots : Slots) (finds : Finds (length all) all slots)
       where
         written : IsBetween all now
         written = subst (λ l. IsBetween all l) (sym r.stands) (between_below (length all) all r.closed (with_stream slots.update stream r.closed) finds.has shut keeps)
-
--- before it is opened a free slot is shut
-pub opening_free : (slot : ℕ) (all : List ℕ) → IsFree all slot → Opening slot all all
-opening_free slot all is = inr (only_free slot all is)
 
 -- what may be found since a call's start is what was there then, or was found within it
 pub found_left : (stream : List ℕ) (old new : FlashState) (past since : ℕ → List ℕ → Type 0) → ((found : List ℕ) → past old.moments found → WhereTold old.bytes (λ all. found ≡ all)) → AtAnyMoment old new past since (MayBeLeft stream)

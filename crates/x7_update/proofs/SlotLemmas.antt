@@ -7,17 +7,6 @@ use Rattle.x7_update.specs.Slots.{Finds, OpenAmong, SoFar}
 use Rattle.x7_update.specs.declared.slots.Seen.{Seen}
 use Rattle.x7_update.specs.declared.slots.Slots.{Slots}
 
--- before the first slot
-pub so_far_none : (first : List ℕ) → SoFar first 0 (record { opened = None; next = 0 })
-so_far_none first = record {
-  leads = λ slot h. absurd (omega arith);
-  once = λ slot h again. absurd (omega arith);
-  opens = λ slot h is. absurd (omega arith);
-  within = omega arith;
-  free = λ slot h k. absurd (omega arith);
-  first = λ slot e is. absurd (omega arith);
-}
-
 -- what holds of the slots before one and of it
 up_to : (P : ℕ → Type 0) (count : ℕ) → ((k : ℕ) → k < count → P k) → P count → (k : ℕ) → k < count + 1 → P k
 up_to P count before here k h = elim (cases_eq k count) [

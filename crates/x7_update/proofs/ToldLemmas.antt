@@ -24,13 +24,6 @@ pub on_ok_map : {E : Type 0} (P Q : Type 0) (answer : Result (Unit {0}) E) → O
 on_ok_map P Q (Ok _) p f = f p
 on_ok_map P Q (Err _) p f = tt
 
--- what is written is the same, said otherwise
-pub written_as : {E : Type 0} (f g : List ℕ → List ℕ) (old new : Option (List ℕ)) (answer : Result (Unit {0}) E) → OnOk answer (new ≡ option_map f old) → ((all : List ℕ) → old ≡ Some all → f all ≡ g all) → OnOk answer (new ≡ option_map g old)
-written_as f g None new (Ok _) done same = done
-written_as f g (Some all) new (Ok _) done same = done ∙ ap Some (same all refl)
-written_as f g None new (Err _) done same = tt
-written_as f g (Some all) new (Err _) done same = tt
-
 -- ---- what calls leave
 
 -- bytes that are told still, where a relation of them is known
@@ -152,9 +145,6 @@ write_moments place target old new past since answer within done torn passes = r
         (λ all e. let Q : Option (List ℕ) → Type 0 = λ o. TornFrom place target o new.bytes in let at : TornFrom place target (Some all) new.bytes = subst Q e torn in at)
 
 -- ---- what stays
-
-pub writes_at : (s : FlashState) → OnlyWrites s s
-writes_at s = record { extent = refl; attached = refl; names = refl; faults = refl; absences = refl; write_faults = omega arith }
 
 pub writes_on : (a b c : FlashState) → OnlyWrites a b → OnlyWrites b c → OnlyWrites a c
 writes_on a b c p q = record {

@@ -1,16 +1,11 @@
 -- Lemmas on counts that only rise.
-use Rattle.std.proofs.Common.{◌≡◌, ℕ, ◌≤◌, ◌<◌, ◌^◌, inl, inr, arith}
+use Rattle.std.proofs.Common.{◌≡◌, ℕ, ◌≤◌, inl, inr, arith}
 use Rattle.std.proofs.lemmas.Grind.{common_steps}
 use Rattle.x7_words.specs.Count.{HasRisen, raised}
 
 -- a count that was raised has risen
 pub raised_risen : (old new : ℕ) → new ≡ raised old → HasRisen old new
 raised_risen old new e = grind (arith, common_steps)
-
--- a count that rose and did not fall since has risen
-pub risen_on : (a b c : ℕ) → HasRisen a b → b ≤ c → c < 2 ^ 64 → HasRisen a c
-risen_on a b c (inl h) k f = inl (omega arith)
-risen_on a b c (inr h) k f = inr (omega arith)
 
 -- a count that did not fall and then rose has risen
 pub risen_from : (a b c : ℕ) → a ≤ b → HasRisen b c → HasRisen a c

@@ -3,7 +3,6 @@ use Rattle.std.proofs.Common.{◌≡◌, ◌≤◌, ℕ, ◌+◌, List, [], ◌�
 use Rattle.std.proofs.lemmas.List.{append-nil, length-append}
 use Rattle.std.proofs.lemmas.List.Folds.{concat-append}
 use Rattle.std.specs.List.{concat}
-use Rattle.std.specs.declared.io.ErrorKind.{ErrorKind}
 use Rattle.x7_words.specs.Count.{HasRisen, raised}
 use Rattle.x7_words.specs.Flash.{Elapses, OnlyReads, OnlyWrites, Unattached, Unwritten}
 use Rattle.x7_words.proofs.CountLemmas.{raised_risen}
@@ -15,30 +14,30 @@ use Rattle.x7_words.specs.declared.input.SelectFault.TheVariants.{Missing, Faile
 -- ---- an attach
 
 -- a file whose end was sought is open
-open-extent : {F : Type 0} → (position : F → Option ℕ) (bytes : F → Option (List ℕ)) (extent : ℕ) (file : Option F) → IsExtent position bytes extent file → is_some file ≡ true
-open-extent position bytes extent None e = absurd e
-open-extent position bytes extent (Some file) e = refl
+open-extent : {F : Type 0} → (t : Tells F) (extent : ℕ) (file : Option F) → IsExtent t extent file → is_some file ≡ true
+open-extent t extent None e = absurd e
+open-extent t extent (Some file) e = refl
 
 -- an attach that is Ok attaches
-pub attached-ok : {F : Type 0} → (position : F → Option ℕ) (bytes : F → Option (List ℕ)) (extent : ℕ) (file : Option F) (answer : Result (Unit {0}) SelectFault) → OnOk answer (IsExtent position bytes extent file) → OnOk answer (is_some file ≡ true)
-attached-ok position bytes extent file (Ok _) e = open-extent position bytes extent file e
-attached-ok position bytes extent file (Err fault) e = tt
+pub attached-ok : {F : Type 0} → (t : Tells F) (extent : ℕ) (file : Option F) (answer : Result (Unit {0}) SelectFault) → OnOk answer (IsExtent t extent file) → OnOk answer (is_some file ≡ true)
+attached-ok t extent file (Ok _) e = open-extent t extent file e
+attached-ok t extent file (Err fault) e = tt
 
 -- an attach that is not Ok attaches nothing
-pub attached-err : {F : Type 0} → (old new : RealFlash F) (file : Option F) (extent : ℕ) (refusal : Option ErrorKind) (answer : Result (Unit {0}) SelectFault) → new ≡ after_opening old file extent refusal answer → OnErr answer (is_some new.file ≡ false)
-attached-err old new file extent refusal (Ok _) e = tt
-attached-err old new file extent refusal (Err _) e = ap (λ f. is_some f.file) e
+pub attached-err : {F : Type 0} → (old new : RealFlash F) (answer : Result (Unit {0}) SelectFault) → new ≡ after_opening old answer new → OnErr answer (is_some new.file ≡ false)
+attached-err old new (Ok _) e = tt
+attached-err old new (Err _) e = ap (λ f. is_some f.file) e
 
 -- an attach that is not Ok counts what it answers
-pub attached-refused : {F : Type 0} → (old new : RealFlash F) (file : Option F) (extent : ℕ) (refusal : Option ErrorKind) (answer : Result (Unit {0}) SelectFault) → new ≡ after_opening old file extent refusal answer → IfErr answer (Unattached (size_told old) (size_told new))
-attached-refused old new file extent refusal (Ok _) e = tt
-attached-refused old new file extent refusal (Err Missing) e = raised_risen old.absences new.absences (ap (λ f. f.absences) e)
-attached-refused old new file extent refusal (Err Failed) e = raised_risen old.faults new.faults (ap (λ f. f.faults) e)
+pub attached-refused : {F : Type 0} → (old new : RealFlash F) (answer : Result (Unit {0}) SelectFault) → new ≡ after_opening old answer new → IfErr answer (Unattached (size_told old) (size_told new))
+attached-refused old new (Ok _) e = tt
+attached-refused old new (Err Missing) e = raised_risen old.absences new.absences (ap (λ f. f.absences) e)
+attached-refused old new (Err Failed) e = raised_risen old.faults new.faults (ap (λ f. f.faults) e)
 
 -- an attach leaves the count of faults of writes
-pub attach_write_faults : {F : Type 0} → (old new : RealFlash F) (file : Option F) (extent : ℕ) (refusal : Option ErrorKind) (answer : Result (Unit {0}) SelectFault) → new ≡ after_opening old file extent refusal answer → new.write_faults ≡ old.write_faults
-attach_write_faults old new file extent refusal (Ok _) e = ap (λ f. f.write_faults) e
-attach_write_faults old new file extent refusal (Err _) e = ap (λ f. f.write_faults) e
+pub attach_write_faults : {F : Type 0} → (old new : RealFlash F) (answer : Result (Unit {0}) SelectFault) → new ≡ after_opening old answer new → new.write_faults ≡ old.write_faults
+attach_write_faults old new (Ok _) e = ap (λ f. f.write_faults) e
+attach_write_faults old new (Err _) e = ap (λ f. f.write_faults) e
 
 -- ---- a read
 
@@ -87,26 +86,22 @@ pub on_ok : {A E P : Type 0} → (answer : Result A E) → P → OnOk answer P
 on_ok (Ok _) p = p
 on_ok (Err _) p = tt
 
--- no byte is cleared
-pub clears-none : {F : Type 0} → (t : Tells F) (place : ℕ) (file : F) → Clears F t place [] file file
-clears-none t place file = record { pieces = []; are = refl; each = refl }
-
 -- a piece more is cleared
-pieces-more : {F : Type 0} → (t : Tells F) (place : ℕ) (pieces : List (List ℕ)) (piece : List ℕ) (old between new : F) → ClearsPieces F t place pieces old between
-    → ClearsAt F t (place + length (concat pieces)) piece between new → ClearsPieces F t place (pieces ++ piece ∷ []) old new
-pieces-more {F} t place [] piece old between new same one =
+pieces-more : {F : Type 0} → (reads writes : Tells F) (place : ℕ) (pieces : List (List ℕ)) (piece : List ℕ) (old between new : F) → ClearsPieces reads writes place pieces old between
+    → ClearsAt reads writes (place + length (concat pieces)) piece between new → ClearsPieces reads writes place (pieces ++ piece ∷ []) old new
+pieces-more {F} reads writes place [] piece old between new same one =
     let here : place + 0 ≡ place = omega arith in
-    (new, subst (λ file. ClearsAt F t place piece file new) same (subst (λ at. ClearsAt F t at piece between new) here one), refl)
-pieces-more {F} t place (first ∷ pieces) piece old between new (behind, cleared, others) one =
+    (new, subst (λ file. ClearsAt reads writes place piece file new) same (subst (λ at. ClearsAt reads writes at piece between new) here one), refl)
+pieces-more {F} reads writes place (first ∷ pieces) piece old between new (then, cleared, others) one =
     let there : place + length (first ++ concat pieces) ≡ place + length first + length (concat pieces) = omega (arith, length-append first (concat pieces)) in
-    (behind, cleared, pieces-more t (place + length first) pieces piece behind between new others (subst (λ at. ClearsAt F t at piece between new) there one))
+    (then, cleared, pieces-more reads writes (place + length first) pieces piece then between new others (subst (λ at. ClearsAt reads writes at piece between new) there one))
 
-pub clears-more : {F : Type 0} → (t : Tells F) (place at : ℕ) (front piece given : List ℕ) (old between new : F) → Clears F t place front old between → at ≡ place + length front → ClearsAt F t at piece between new
-    → given ≡ front ++ piece → Clears F t place given old new
-clears-more {F} t place at front piece given old between new c is one both = record {
+pub clears-more : {F : Type 0} → (reads writes : Tells F) (place at : ℕ) (front piece given : List ℕ) (old between new : F) → Clears reads writes place front old between → at ≡ place + length front → ClearsAt reads writes at piece between new
+    → given ≡ front ++ piece → Clears reads writes place given old new
+clears-more {F} reads writes place at front piece given old between new c is one both = record {
   pieces = c.pieces ++ piece ∷ [];
   are = concat-append c.pieces (piece ∷ []) ∙ ap (λ s. concat c.pieces ++ s) (append-nil piece) ∙ ap (λ s. s ++ piece) c.are ∙ sym both;
-  each = pieces-more t place c.pieces piece old between new c.each (subst (λ n. ClearsAt F t n piece between new) (is ∙ ap (λ s. place + length s) (sym c.are)) one);
+  each = pieces-more reads writes place c.pieces piece old between new c.each (subst (λ n. ClearsAt reads writes n piece between new) (is ∙ ap (λ s. place + length s) (sym c.are)) one);
 }
 
 -- a write that fails counts a fault of writes

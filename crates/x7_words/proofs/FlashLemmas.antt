@@ -4,7 +4,7 @@ use Rattle.std.specs.Int.{bit_at}
 use Rattle.std.proofs.lemmas.Bool.{cases_eq, cases_lt}
 use Rattle.std.proofs.lemmas.List.{length-take-le, length-replicate, get_or_append_left, get_or-append_right, get_or-take, get_or-drop, get_or-replicate, ext_get_or}
 use Rattle.std.proofs.lemmas.Nat.Bits.{bit_at_and, bit_at_or, bit_at_xor, bit_at_ones, bit_at-lt}
-use Rattle.x7_words.specs.Flash.{FlashState, FlashStays, OnlyReads, Unwritten, sector_size, erased_sector, replaced, cleared, IsTorn, Elapses}
+use Rattle.x7_words.specs.Flash.{FlashState, OnlyReads, Unwritten, sector_size, erased_sector, replaced, cleared, IsTorn, Elapses}
 use Rattle.x7_words.specs.Memory.{torn_byte, left_by}
 use Rattle.x7_words.proofs.ZipLemmas.{length-zip_with, get_or-zip_with}
 
@@ -235,14 +235,5 @@ reads_on a b c past mids since p q = record {
   names = q.names ∙ p.names;
   faults = omega (arith, p.faults, q.faults);
   absences = q.absences ∙ p.absences;
-  unwritten = unwritten_on a b c past mids since p.unwritten q.unwritten;
-}
-
--- an attach and then reads
-pub stays_and_reads : (a b c : FlashState) (past mids since : ℕ → List ℕ → Type 0) → FlashStays a b past mids → OnlyReads b c mids since → FlashStays a c past since
-stays_and_reads a b c past mids since p q = record {
-  bytes = q.bytes ∙ p.bytes;
-  faults = omega (arith, p.faults, q.faults);
-  absences = omega (arith, p.absences, q.absences);
   unwritten = unwritten_on a b c past mids since p.unwritten q.unwritten;
 }

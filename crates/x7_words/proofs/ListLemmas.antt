@@ -1,5 +1,5 @@
 -- Lemmas on lists that several crates cite: common fronts and ends, and a list with one element more at its end.
-use Rattle.std.proofs.Common.{◌≡◌, ℕ, suc, ◌<◌, ◌≤◌, List, [], ◌∷◌, ◌++◌, ◌⊎◌, inl, inr, length, map, refl, ap, sym, ◌∙◌, append_assoc, append-nil, arith, length-append, get_or, take, drop, take-append-drop}
+use Rattle.std.proofs.Common.{◌≡◌, ℕ, suc, ◌<◌, ◌≤◌, List, [], ◌∷◌, ◌++◌, ◌⊎◌, inl, inr, length, map, refl, ap, sym, ◌∙◌, append_assoc, append-nil, arith, length-append, get_or, take, drop, take-append-drop, ◌+◌, ◌-◌, take-add}
 use Rattle.std.specs.List.{flat_map, AllByRecursion}
 
 pub flat_map-last : {X Y : Type 0} → (f : X → List Y) (xs : List X) (x : X) → flat_map f (xs ++ x ∷ []) ≡ flat_map f xs ++ f x
@@ -82,3 +82,11 @@ all_from_places P (x ∷ xs) h = (h 0 (omega arith), all_from_places P xs (λ k 
 
 pub all_take : {X : Type 0} → (P : X → Type 0) (n : ℕ) (xs : List X) → AllByRecursion P xs → AllByRecursion P (take n xs)
 all_take P n xs a = all_front P (take n xs) (drop n xs) (rw take-append-drop a)
+
+-- a front and what stands behind it up to a later place
+pub take_up_to : {X : Type 0} → (xs : List X) (from to : ℕ) → from ≤ to → take from xs ++ take (to - from) (drop from xs) ≡ take to xs
+take_up_to xs from to h = let sum : from + (to - from) ≡ to = omega arith in sym (take-add from (to - from) xs) ∙ ap (λ (k : ℕ). take k xs) sum
+
+-- elements and others of which so many are taken
+pub taken_and_left : {X : Type 0} → (front xs : List X) (n : ℕ) → (front ++ take n xs) ++ drop n xs ≡ front ++ xs
+taken_and_left front xs n = append_assoc front (take n xs) (drop n xs) ∙ ap (λ t. front ++ t) (take-append-drop n xs)

@@ -74,62 +74,64 @@ after_open f rest refusal (Err fault) =
 abbrev pub Gives : Option (List ℕ) → Option (List ℕ) → List ℕ → ℕ → Type 0
 Gives old new buf n = Consumes old new (take n buf) × (n ≡ 0 → 0 < length buf → IsAtEnd new)
 
--- A file was read from the place on, and these bytes were ahead of it there: as far as it knows its place and what is left of it.
-abbrev pub ReadsAt : {F : Type 0} → (F → Option ℕ) → (F → Option (List ℕ)) → ℕ → List ℕ → F → F → Type 0
-ReadsAt {F} position left place bytes old new =
-    (there : F) × IfSome (position old) (λ _. position there ≡ Some place) × Consumes (left there) (left new) bytes
-
--- A file was written from the place on with these bytes: as far as it knows its place and what it was given.
-abbrev pub WritesAt : {F : Type 0} → (F → Option ℕ) → (F → Option (List ℕ)) → ℕ → List ℕ → F → F → Type 0
-WritesAt {F} position contents place bytes old new =
-    (there : F) × IfSome (position old) (λ _. position there ≡ Some place) × Appends (contents there) (contents new) bytes
-
 -- what files of a type tell of themselves
 pub record Tells (F : Type 0) : Type 0 where
   -- the place at which the next read or write begins
   pub position : F → Option ℕ
-  -- the bytes that reads will give
-  pub left : F → Option (List ℕ)
-  -- the bytes that were written
-  pub contents : F → Option (List ℕ)
+  -- bytes of theirs: those that reads will give, or those that were written, or all
+  pub bytes : F → Option (List ℕ)
 
-abbrev pub file_tells : {F : Type 0} → (F → Option ℕ) → (F → Option (List ℕ)) → (F → Option (List ℕ)) → Tells F
-file_tells position left contents = record { position = position; left = left; contents = contents }
+abbrev pub file_tells : {F : Type 0} → (F → Option ℕ) → (F → Option (List ℕ)) → Tells F
+file_tells position bytes = record { position = position; bytes = bytes }
 
--- the bytes from the place on were read, and then each of them AND the given one was written there
-pub record ClearsAt (F : Type 0) (t : Tells F) (place : ℕ) (given : List ℕ) (old new : F) : Type 0 where
-  pub before : List ℕ
-  pub between : F
-  pub long : length before ≡ length given
-  pub reads : ReadsAt t.position t.left place before old between
-  pub writes : WritesAt t.position t.contents place (zip_with bit_and before given) between new
+module _ {F : Type 0} (t : Tells F) where
+  -- a file went to the place, as far as it knows where it is
+  abbrev pub StandsAt : ℕ → F → F → Type 0
+  StandsAt place old there = IfSome (t.position old) (λ _. t.position there ≡ Some place)
 
--- the same piece by piece, each behind the one before
-abbrev pub ClearsPieces : (F : Type 0) → Tells F → ℕ → List (List ℕ) → F → F → Type 0
-ClearsPieces F t place [] old new = new ≡ old
-ClearsPieces F t place (piece ∷ pieces) old new =
-    (between : F) × ClearsAt F t place piece old between × ClearsPieces F t (place + length piece) pieces between new
+  -- A file was read from the place on, and these bytes were ahead of it there: as far as it knows its place and what is left of it.
+  abbrev pub ReadsAt : ℕ → List ℕ → F → F → Type 0
+  ReadsAt place bytes old new = (there : F) × StandsAt place old there × Consumes (t.bytes there) (t.bytes new) bytes
 
--- each byte from the place on was made the old one AND the given one, in pieces
-pub record Clears (F : Type 0) (t : Tells F) (place : ℕ) (given : List ℕ) (old new : F) : Type 0 where
-  pub pieces : List (List ℕ)
-  pub are : concat pieces ≡ given
-  pub each : ClearsPieces F t place pieces old new
+  -- A file was written from the place on with these bytes: as far as it knows its place and what it was given.
+  abbrev pub WritesAt : ℕ → List ℕ → F → F → Type 0
+  WritesAt place bytes old new = (there : F) × StandsAt place old there × Appends (t.bytes there) (t.bytes new) bytes
+
+  -- a file's end was sought, at this place: the number of its bytes, as far as it knows them
+  abbrev pub EndsAt : ℕ → F → F → Type 0
+  EndsAt extent opened file =
+      IfSome (t.position opened) (λ _. IfSome (t.bytes opened) (λ all. extent ≡ length all)) × Keeps (t.bytes opened) (t.bytes file)
+
+  -- a file was opened and its end sought, at this place
+  abbrev pub IsExtent : ℕ → Option F → Type 0
+  IsExtent extent None = ⊥
+  IsExtent extent (Some file) = (opened : F) × EndsAt extent opened file
+
+module _ {F : Type 0} (reads writes : Tells F) where
+  -- the bytes from the place on were read, and then each of them AND the given one was written there
+  pub record ClearsAt (place : ℕ) (given : List ℕ) (old new : F) : Type 0 where
+    pub before : List ℕ
+    pub between : F
+    pub long : length before ≡ length given
+    pub read : ReadsAt reads place before old between
+    pub written : WritesAt writes place (zip_with bit_and before given) between new
+
+  -- the same piece by piece, each behind the one before
+  abbrev pub ClearsPieces : ℕ → List (List ℕ) → F → F → Type 0
+  ClearsPieces place [] old new = new ≡ old
+  ClearsPieces place (piece ∷ pieces) old new =
+      (between : F) × ClearsAt place piece old between × ClearsPieces (place + length piece) pieces between new
+
+  -- each byte from the place on was made the old one AND the given one, in pieces
+  pub record Clears (place : ℕ) (given : List ℕ) (old new : F) : Type 0 where
+    pub pieces : List (List ℕ)
+    pub are : concat pieces ≡ given
+    pub each : ClearsPieces place pieces old new
 
 -- this holds of a file that is open before and after
 abbrev pub WhileOpen : {F : Type 0} → (F → F → Type 0) → Option F → Option F → Type 0
 WhileOpen holds (Some old) (Some new) = holds old new
 WhileOpen holds old new = ⊥
-
--- a file's end was sought, at this place: the number of its bytes, as far as it knows them
-abbrev pub EndsAt : {F : Type 0} → (F → Option ℕ) → (F → Option (List ℕ)) → ℕ → F → F → Type 0
-EndsAt position bytes extent opened file =
-    IfSome (position opened) (λ _. IfSome (bytes opened) (λ all. extent ≡ length all)) × Keeps (bytes opened) (bytes file)
-
--- a file was opened and its end sought, at this place
-abbrev pub IsExtent : {F : Type 0} → (F → Option ℕ) → (F → Option (List ℕ)) → ℕ → Option F → Type 0
-IsExtent position bytes extent None = ⊥
-IsExtent {F} position bytes extent (Some file) = (opened : F) × EndsAt position bytes extent opened file
 
 -- a file as a flash
 pub record RealFlash (F : Type 0) : Type 0 where
@@ -159,15 +161,15 @@ size_told f = record {
   moments = 0;
 }
 
--- the flash after an attach with this answer: each fault and each absence is counted once
-abbrev pub after_opening : {F : Type 0} → RealFlash F → Option F → ℕ → Option ErrorKind → Result (Unit {0}) SelectFault → RealFlash F
-after_opening f file extent refusal (Ok _) = record f { file = file; extent = extent; refusal = refusal }
-after_opening f file extent refusal (Err fault) =
-    record f {
+-- the flash after an attach with this answer, which opened what the new one has: each fault and each absence is counted once
+abbrev pub after_opening : {F : Type 0} → RealFlash F → Result (Unit {0}) SelectFault → RealFlash F → RealFlash F
+after_opening old (Ok _) new = record old { file = new.file; extent = new.extent; refusal = new.refusal }
+after_opening old (Err fault) new =
+    record old {
       file = None;
-      refusal = refusal;
-      faults = faults_after fault f.faults;
-      absences = missing_after fault f.absences;
+      refusal = new.refusal;
+      faults = faults_after fault old.faults;
+      absences = missing_after fault old.absences;
     }
 
 -- a writer as a sink

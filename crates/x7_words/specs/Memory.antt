@@ -1,5 +1,5 @@
 -- What objects in memory hold, and what their calls answer (this project's choice).
-use Rattle.std.specs.Prelude.{◌==◌, ◌||◌, not, nat_le, ℕ, ◌+◌, ◌-◌, List, [], ◌∷◌, ◌++◌, Bool, true, ◌&&◌, nat_lt, Option, None, Some, Result, Ok, Err, if◌then◌else◌, is_none, is_some, length, take, drop, min, option_map, option_and_then, unwrap_or, slice_range, bit_and, bit_or, bit_xor}
+use Rattle.std.specs.Prelude.{◌==◌, ◌||◌, not, nat_le, ℕ, ◌+◌, ◌-◌, List, [], ◌∷◌, ◌++◌, Bool, true, false, ◌&&◌, nat_lt, Option, None, Some, Result, Ok, Err, if◌then◌else◌, is_none, is_some, length, take, drop, min, option_map, option_and_then, unwrap_or, slice_range, bit_and, bit_or, bit_xor}
 use Rattle.std.specs.List.{list_any}
 use Rattle.std.specs.Str.{bytes_eq}
 use Rattle.x7_words.specs.Count.{raised}
@@ -200,6 +200,21 @@ pub record FlashInMemory : Type 0 where
   pub tear : Option Tear
   -- whether a write was torn: all calls fail from then on
   pub stopped : Bool
+
+-- a flash of these bytes under the name, not attached, with no room for a write
+abbrev pub new_flash : List ℕ → List ℕ → FlashInMemory
+new_flash name bytes = record {
+  name = name;
+  bytes = bytes;
+  attached = false;
+  absences = 0;
+  calls = no_calls;
+  read_faults = 0;
+  write_faults = 0;
+  writes = no_writes;
+  tear = None;
+  stopped = false;
+}
 
 -- the next call of the flash fails, as planned or since a write was torn
 abbrev pub flash_fails : FlashInMemory → Bool

@@ -7,7 +7,7 @@ ghost use Rattle.x7_engine.specs.State.{stop_in};
 ghost use Rattle.x7_engine.specs.Undo.{AreEqual, Back, IsUndoOf, Keeps, dropping};
 ghost use Rattle.x7_engine.specs.declared.kept.Kept.{Kept as KeptData};
 ghost use Rattle.x7_engine.specs.declared.stop.Stop.{Stop};
-ghost use Rattle.x7_engine.specs.Past.{AnswersFor, OfPast, Takes, part_taken, stop_at};
+ghost use Rattle.x7_engine.specs.Past.{AnswersFor, OfPast, Takes, part_taken, stop_at, HasPast, Past, later};
 
 use super::Device;
 use crate::fed::Fed;
@@ -135,8 +135,8 @@ impl Device {
     pub fn undo(&mut self, undo: &Undo)
         requires { IsUndoOf self.old.part undo.now }
         ensures back { (old : DeviceState) → Back undo.now self.old old → AreEqual self.new old }
-        ensures more { (part : PartData) (kept : KeptData) (wrapped : Bool) (bytes more : List ℕ) (old : DeviceState) → Keeps undo.now old → NoWordDue old → length more ≤ 4
-            → DeviceStandsFor part kept wrapped old bytes → DeviceStandsFor part kept wrapped self.old (bytes ++ more) → AreEqual self.new old }
+        ensures more { (p : Past) (more : List ℕ) (old : DeviceState) → Keeps undo.now old → NoWordDue old → length more ≤ 4
+            → HasPast old p → HasPast self.old (later p more) → AreEqual self.new old }
         ensures part { self.new.part ≡ self.old.part }
         ensures fed { fed_of self.new ≡ fed_of self.old }
     {

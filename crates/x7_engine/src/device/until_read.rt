@@ -26,7 +26,7 @@ impl Device {
         ensures stands { Takes self.old self.new (part_taken piece.now result) }
         ensures answer { AnswersFor self.old self.new (part_taken piece.now result) no_room result }
         ensures told { TellsNone self.old self.new (part_taken piece.now result) }
-        ensures first { OfPast self.old (λ p. ReadBefore p.part p.kept p.bytes piece.now (taken_in (length piece.now) result) (told_at self.old p)) }
+        ensures first { OfPast self.old (λ p. ReadBefore p piece.now (taken_in (length piece.now) result) (told_at self.old p)) }
         ensures stopped { OfPast self.old (λ p. IsSome (stop_at p) → (self.new ≡ self.old) × (taken_in (length piece.now) result ≡ 0)) }
     {
         let mut at = 0;

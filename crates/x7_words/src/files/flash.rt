@@ -17,7 +17,7 @@ use std::rt::Files;
 
 /// The number of a file's bytes: where its end is. A folder is no file.
 fn extent_of<F: OpenFile + Seek>(file: &mut F) -> io::Result<u64>
-    ensures { IfOk result (λ extent. EndsAt F.stream_position F.stream_bytes extent file.old file.new) }
+    ensures { IfOk result (λ extent. EndsAt (file_tells F.stream_position F.stream_bytes) extent file.old file.new) }
 {
     if file.metadata()?.is_dir() {
         return Err(io::Error::from(ErrorKind::IsADirectory));
@@ -44,7 +44,7 @@ fn fill<F: Read>(file: &mut F, buf: &mut [u8]) -> io::Result<()>
 /// Fills the buffer with the bytes from the place on.
 fn read_from<F: Read + Seek>(file: &mut F, place: u64, buf: &mut [u8]) -> io::Result<()>
     ensures length { length buf.new ≡ length buf.old }
-    ensures read { OnOk result (ReadsAt F.stream_position F.remaining place buf.new file.old file.new) }
+    ensures read { OnOk result (ReadsAt (file_tells F.stream_position F.remaining) place buf.new file.old file.new) }
 {
     go_to(file, place)?;
     fill(file, buf)
@@ -66,7 +66,7 @@ fn open_flash<R: Files>(rt: &R, name: &str) -> io::Result<R::File> {
 
 /// Opens a file as a flash, and says the number of its bytes.
 fn open_sized<R: Files>(rt: &R, name: &str) -> io::Result<(R::File, u64)>
-    ensures { IfOk result (λ opened. IsExtent R.File.stream_position R.File.stream_bytes opened.1 (Some opened.0)) }
+    ensures { IfOk result (λ opened. IsExtent (file_tells R.File.stream_position R.File.stream_bytes) opened.1 (Some opened.0)) }
 {
     let mut file = open_flash(rt, name)?;
     let extent = extent_of(&mut file)?;
@@ -75,7 +75,7 @@ fn open_sized<R: Files>(rt: &R, name: &str) -> io::Result<(R::File, u64)>
 
 /// Writes bytes from the place on.
 fn write_from<F: Write + Seek>(file: &mut F, place: u64, bytes: &[u8]) -> io::Result<()>
-    ensures { OnOk result (WritesAt F.stream_position F.contents place bytes.now file.old file.new) }
+    ensures { OnOk result (WritesAt (file_tells F.stream_position F.contents) place bytes.now file.old file.new) }
 {
     go_to(file, place)?;
     file.write_all(bytes)
@@ -83,7 +83,7 @@ fn write_from<F: Write + Seek>(file: &mut F, place: u64, bytes: &[u8]) -> io::Re
 
 /// Makes the bytes of a sector from the place on FF, and waits until they are kept.
 fn erase_from<F: Write + Seek + OpenFile>(file: &mut F, place: u64) -> io::Result<()>
-    ensures { OnOk result (WritesAt F.stream_position F.contents place erased_sector file.old file.new) }
+    ensures { OnOk result (WritesAt (file_tells F.stream_position F.contents) place erased_sector file.old file.new) }
 {
     let ones = [0xFF; SECTOR as usize];
     write_from(file, place, &ones)?;
@@ -103,7 +103,8 @@ fn clear_bits(bytes: &mut [u8], given: &[u8])
 /// Makes each byte of a piece from the place on the old one AND the given one.
 fn clear_piece<F: Read + Write + Seek>(file: &mut F, place: u64, given: &[u8]) -> io::Result<()>
     requires { length given.now ≤ 4096 }
-    ensures { OnOk result (ClearsAt F (file_tells F.stream_position F.remaining F.contents) place given.now file.old file.new) }
+    ensures { OnOk result (ClearsAt (file_tells F.stream_position F.remaining) (file_tells F.stream_position F.contents)
+        place given.now file.old file.new) }
 {
     let mut buffer = [0; PIECE];
     let piece = &mut buffer[..given.len()];
@@ -119,7 +120,8 @@ fn program_from<F: Read + Write + Seek + OpenFile>(
     given: &[u8],
 ) -> io::Result<()>
     requires { place + length given.now < 2 ^ 64 }
-    ensures { OnOk result (Clears F (file_tells F.stream_position F.remaining F.contents) place given.now file.old file.new) }
+    ensures { OnOk result (Clears (file_tells F.stream_position F.remaining) (file_tells F.stream_position F.contents)
+        place given.now file.old file.new) }
 {
     let mut done = 0;
     while done < given.len() {
@@ -193,9 +195,9 @@ impl<'r, R: Files> Flash for FileFlash<'r, R> {
     ghost only_now = { λ _ _ _. tt };
 
     fn attach(&mut self, name: &str) -> Result<(), SelectFault>
-        ensures after { self.new ≡ after_opening self.old self.new.file self.new.extent self.new.refusal result }
+        ensures after { self.new ≡ after_opening self.old result self.new }
         ensures extent { OnOk result
-            (IsExtent R.File.stream_position R.File.stream_bytes self.new.extent self.new.file) }
+            (IsExtent (file_tells R.File.stream_position R.File.stream_bytes) self.new.extent self.new.file) }
         ensures refused { IfErr result (RefusedFor self.new.refusal) }
         ensures faults { self.old.faults ≤ self.new.faults }
         ensures absences { self.old.absences ≤ self.new.absences }
@@ -229,7 +231,7 @@ impl<'r, R: Files> Flash for FileFlash<'r, R> {
         requires attached { is_some self.old.file ≡ true }
         requires within { place + length buf.old ≤ self.old.extent }
         ensures read { OnOk result
-            (WhileOpen (ReadsAt R.File.stream_position R.File.remaining place buf.new) self.old.file self.new.file) }
+            (WhileOpen (ReadsAt (file_tells R.File.stream_position R.File.remaining) place buf.new) self.old.file self.new.file) }
         ensures length { length buf.new ≡ length buf.old }
         ensures open { is_some self.new.file ≡ true }
         ensures ok { OnOk result (self.new ≡ record self.old { file = self.new.file }) }
@@ -252,7 +254,7 @@ impl<'r, R: Files> Flash for FileFlash<'r, R> {
         requires attached { is_some self.old.file ≡ true }
         requires within { sector * 65536 + 65536 ≤ self.old.extent }
         ensures written { OnOk result (WhileOpen
-            (WritesAt R.File.stream_position R.File.contents (sector * 65536) erased_sector) self.old.file self.new.file) }
+            (WritesAt (file_tells R.File.stream_position R.File.contents) (sector * 65536) erased_sector) self.old.file self.new.file) }
         ensures open { is_some self.new.file ≡ true }
         ensures ok { OnOk result (self.new ≡ record self.old { file = self.new.file }) }
         ensures err { OnErr result (self.new ≡
@@ -274,7 +276,7 @@ impl<'r, R: Files> Flash for FileFlash<'r, R> {
         requires attached { is_some self.old.file ≡ true }
         requires within { place + length given.now ≤ self.old.extent }
         ensures written { OnOk result (WhileOpen
-            (Clears R.File (file_tells R.File.stream_position R.File.remaining R.File.contents) place given.now)
+            (Clears (file_tells R.File.stream_position R.File.remaining) (file_tells R.File.stream_position R.File.contents) place given.now)
             self.old.file self.new.file) }
         ensures open { is_some self.new.file ≡ true }
         ensures ok { OnOk result (self.new ≡ record self.old { file = self.new.file }) }

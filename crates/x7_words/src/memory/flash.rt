@@ -1,7 +1,7 @@
 //! A flash in memory.
 ghost use Rattle.std.specs.Prelude.{◌≡◌, ◌+◌, ◌*◌, ◌<◌, ◌≤◌, ◌^◌, length, slice_range, IsTrue, Option, Some, None, true, false, is_some, OnOk, OnErr, IfOk, is_err, bit_and, vec_capacity};
 ghost use Rattle.x7_words.specs.Flash.{zip_with, cleared, erased_sector, replaced};
-ghost use Rattle.x7_words.specs.Memory.{no_calls, no_writes, planned, flash_fails, numbered, with_room, has_room, recorded, left_by, torn_byte, attach_answer, after_attach, after_read_at, write_refused, write_fails_in, after_refusal, after_write_of, latest_tear, after_tear};
+ghost use Rattle.x7_words.specs.Memory.{new_flash, planned, flash_fails, numbered, with_room, has_room, recorded, left_by, torn_byte, attach_answer, after_attach, after_read_at, write_refused, write_fails_in, after_refusal, after_write_of, latest_tear, after_tear};
 
 use crate::count::next_count;
 use crate::flash::{Flash, SECTOR};
@@ -111,19 +111,7 @@ fn write_target(
 impl MemoryFlash {
     /// A flash of these bytes under the name, not attached, with no room for a write.
     pub fn new(alloc: Global, name: &str, bytes: &[u8]) -> Result<MemoryFlash, NoMemory>
-        ensures { IfOk result (λ f. f ≡
-            record {
-              name = name.now;
-              bytes = bytes.now;
-              attached = false;
-              absences = 0;
-              calls = no_calls;
-              read_faults = 0;
-              write_faults = 0;
-              writes = no_writes;
-              tear = None;
-              stopped = false;
-            }) }
+        ensures { IfOk result (λ f. f ≡ new_flash name.now bytes.now) }
     {
         Ok(MemoryFlash {
             name: String::from_str(alloc, name)?,

@@ -12,6 +12,6 @@ pub returns-clause-cleared : goal.returns-clause-cleared
 returns-clause-cleared c = λ h register word place e. rw e (check_after-none 0 (lit< tt))
 
 pub returns-clause-written : goal.returns-clause-written
-returns-clause-written c = λ h register word place e n.
-    let other : (register == 8) ≡ false = grind (arith, nat_tests, n) in
-    rw (e, other) (sym (check_of-more (running_check h) (in_order (open_writes h)) ((register, word) ∷ []) refl))
+returns-clause-written c = λ h register word place f.
+    let other : (register == 8) ≡ false = grind (arith, nat_tests, f.other) in
+    rw (f.goes_on, other) (sym (check_of-more (running_check h) (in_order (open_writes h)) ((register, word) ∷ []) refl))

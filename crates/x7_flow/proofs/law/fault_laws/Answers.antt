@@ -14,7 +14,7 @@ pub returns-clause-far : goal.returns-clause-far
 returns-clause-far c = refused_far_read
 
 pub returns-clause-overrun : goal.returns-clause-overrun
-returns-clause-overrun c = overrun_line
+returns-clause-overrun c = λ part h access w a. overrun_line part h access w a.word a.address
 
 pub returns-clause-word : goal.returns-clause-word
 returns-clause-word c = overrun_word

@@ -6,10 +6,10 @@ pub returns-clause-settings : goal.returns-clause-settings
 returns-clause-settings c = settings_twice
 
 pub returns-clause-flow : goal.returns-clause-flow
-returns-clause-flow c = flow_twice
+returns-clause-flow c = λ x. flow_twice x.part x.settings x.flow
 
 pub returns-clause-pairs : goal.returns-clause-pairs
-returns-clause-pairs c = pairs_twice
+returns-clause-pairs c = λ x. pairs_twice x.part x.settings x.flow
 
 pub returns-clause-alone : goal.returns-clause-alone
 returns-clause-alone c = memory_behind_load_alone

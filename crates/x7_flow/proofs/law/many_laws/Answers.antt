@@ -11,4 +11,4 @@ pub returns-clause-lands : goal.returns-clause-lands
 returns-clause-lands c = words_land
 
 pub returns-clause-pairs : goal.returns-clause-pairs
-returns-clause-pairs c = λ part s f n ws later b. words_pairs part s f n ws later b.takes b.empty
+returns-clause-pairs c = λ x n ws later b. words_pairs x.part x.settings x.flow n ws later b.takes b.empty

@@ -1,4 +1,3 @@
-use Rattle.std.proofs.Common.{append_assoc}
 use Rattle.x7_forms.proofs.bad_input.say_bad_input.Goals as goal
 
 pub returns-in-Line : goal.returns-in-Line
@@ -20,8 +19,7 @@ returns-in-NoEnd g c = rw c.in-NoEnd.is c.say_at-in-NoEnd.ensures
 
 pub returns-in-Sum : goal.returns-in-Sum
 returns-in-Sum g c =
-    let said = rw (c.hex_of_byte.ensures, c.hex_of_byte-in-Sum.ensures, c.as_bytes.ensures.value, c.format.ensures.text) at c.say_sum.ensures in
-    rw c.in-Sum.is (simp append_assoc said)
+    rw c.in-Sum.is c.say_sum.ensures
 
 pub returns-in-AddressLine : goal.returns-in-AddressLine
 returns-in-AddressLine g c = rw c.in-AddressLine.is c.say_number-in-AddressLine.ensures

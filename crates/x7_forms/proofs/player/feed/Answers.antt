@@ -43,12 +43,12 @@ gather-requires-clause-most c =
     let reads = c.feed-fed.ensures.reads m.0 on_the_bench false s.taken s.stands in
     most_is c.feeds.buffer c.feed-fed.new.read reads.0 reads.1 v.buffer
 
-pub returns-in_default-clause-front : goal.returns-in_default-clause-front
-returns-in_default-clause-front c =
+pub returns-in_default-clause-prefix : goal.returns-in_default-clause-prefix
+returns-in_default-clause-prefix c =
     let piece = c.args.piece.now in
     let at = c.feeds.at in
     record {
-      front = take at piece;
+      prefix = take at piece;
       left = drop at piece;
       parts = sym (take-append-drop at piece);
       holds = λ part bytes h. subst (λ (reads : List ℕ). Plays part (bytes ++ take at piece) c.feeds.device reads) (sym c.reserve.ensures.items) (c.feeds.invariant.plays part bytes h);

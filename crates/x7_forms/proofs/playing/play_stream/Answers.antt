@@ -5,7 +5,7 @@ use Rattle.x7_words.specs.Word.{AreBytes}
 use Rattle.x7_forms.specs.Message.{event_of}
 use Rattle.x7_forms.specs.Known.{read_of, with_inputs}
 use Rattle.x7_forms.specs.Play.{PlaysOn}
-use Rattle.x7_forms.specs.Step.{FailsAmong, IsCaused, LacksAmong}
+use Rattle.x7_forms.specs.Step.{CameIn, IsCaused, step_over}
 use Rattle.x7_forms.proofs.ResultLemmas.{err_weaker, ok_weaker, from_ok}
 use Rattle.x7_forms.proofs.PlayerLemmas.{may_less, may_on, on_on}
 use Rattle.x7_forms.proofs.ReadLemmas.{reads_first, slice_of, stream_read, stream_refused, stream_unopened, stream_unread, want_or_rest}
@@ -43,18 +43,16 @@ returns-else-is_err-clause-ok g c =
     let slice = take (count - start) (drop start buf) in
     let same : drop start first ≡ slice = slice_of start count buf (omega (arith, size, c.in-Ok-data_start.ensures.within)) in
     let plays : PlaysOn c.args.player.now c.play.new.self slice = from_ok c.play.result (sym c.is_err.ensures.value ∙ c.if-is_err.false) c.play.ensures.ok in
-    let given = (i.state c.play_rest.new.inputs).given in
-    let F = FailsAmong (name ∷ []) (i.state c.args.inputs.now) (i.state c.play_rest.new.inputs) in
-    let L = LacksAmong (name ∷ []) (i.state c.args.inputs.now) (i.state c.play_rest.new.inputs) in
+    let C = CameIn (step_over (name ∷ []) (i.state c.args.inputs.now) (i.state c.play_rest.new.inputs)) in
     ok_weaker c.play_rest.result (λ left p.
     let more = p.0 in
-    let bytes : drop start first ++ more ≡ slice ++ more = ap (λ x. x ++ more) same in (
-      slice ++ more,
-      omega (arith, p.1, within, size, length-append slice more, length-take (count - start) (drop start buf)),
-      on_on c.args.player.now c.play.new.self c.play_rest.new.player slice more plays p.2,
-      λ flash. subst (λ (bytes : List ℕ). IsCaused (with_inputs contents flash) given F L (λ t. read_of t c.args.limit name) (Ok (record { bytes = bytes; room = left }))) bytes
-          (stream_read contents flash given F L name first more (drop start first) (i.state c.next_turn.new.inputs).rest (i.state c.play_rest.new.inputs).rest c.args.limit left c.in-Ok-next_turn.turn.last select p.3.0 p.3.1 c.in-Ok-next_turn.ensures.end long fits (omega (arith, p.1, size)) within c.in-Ok-data_start.ensures.data),
-    )) c.play_rest.ensures.ok
+    let bytes : drop start first ++ more ≡ slice ++ more = ap (λ x. x ++ more) same in record {
+      bytes = slice ++ more;
+      within = omega (arith, p.1, within, size, length-append slice more, length-take (count - start) (drop start buf));
+      plays = on_on c.args.player.now c.play.new.self c.play_rest.new.player slice more plays p.2;
+      reads = λ flash. subst (λ (bytes : List ℕ). IsCaused (with_inputs contents flash) C (λ t. read_of t c.args.limit name) (Ok (record { bytes = bytes; room = left }))) bytes
+          (stream_read contents flash C name first more (drop start first) (i.state c.next_turn.new.inputs).rest (i.state c.play_rest.new.inputs).rest c.args.limit left c.in-Ok-next_turn.turn.last select p.3.0 p.3.1 c.in-Ok-next_turn.ensures.end long fits (omega (arith, p.1, size)) within c.in-Ok-data_start.ensures.data);
+    }) c.play_rest.ensures.ok
 
 pub returns-in-Err-clause-err : goal.returns-in-Err-clause-err
 returns-in-Err-clause-err g c = λ flash.
@@ -103,8 +101,6 @@ returns-in-Ok-skip_rest-clause-err g c = λ flash.
     let within : length first ≤ c.args.limit = omega (arith, size, c.in-Ok-next_turn.ensures.within.0) in
     let long : c.in-Ok-next_turn.turn.last ≡ false → 262170 ≤ length first = λ e. omega (arith, size, c.in-Ok-next_turn.ensures.goes e, c.requires.buffer) in
     let select : Selects contents name (preceded first (i.state c.next_turn.new.inputs).rest) = subst (λ r. Selects contents name r) c.in-Ok-next_turn.ensures.ok.taken c.in-Ok.ensures.ok.found in
-    let given = (i.state c.skip_rest.new.inputs).given in
-    let F = FailsAmong (name ∷ []) (i.state c.args.inputs.now) (i.state c.skip_rest.new.inputs) in
-    let L = LacksAmong (name ∷ []) (i.state c.args.inputs.now) (i.state c.skip_rest.new.inputs) in
+    let C = CameIn (step_over (name ∷ []) (i.state c.args.inputs.now) (i.state c.skip_rest.new.inputs)) in
     let p = c.in-Ok-skip_rest.ensures.ok in
-    stream_refused contents flash given F L name first p.0 (i.state c.next_turn.new.inputs).rest (i.state c.skip_rest.new.inputs).rest c.args.limit c.in-Ok-next_turn.turn.last (event_of c.in-Err-data_start.refusal) select p.2.0 p.2.1 c.in-Ok-next_turn.ensures.end long fits (omega (arith, p.1, size)) within c.in-Err-data_start.ensures.data
+    stream_refused contents flash C name first p.0 (i.state c.next_turn.new.inputs).rest (i.state c.skip_rest.new.inputs).rest c.args.limit c.in-Ok-next_turn.turn.last (event_of c.in-Err-data_start.refusal) select p.2.0 p.2.1 c.in-Ok-next_turn.ensures.end long fits (omega (arith, p.1, size)) within c.in-Err-data_start.ensures.data

@@ -2,7 +2,7 @@ use Rattle.std.proofs.Common.{◌≡◌, ℕ, List, [], ◌∷◌, ◌++◌, ari
 use Rattle.x7_words.proofs.InputLemmas.{stays_at, stays_on}
 use Rattle.x7_forms.specs.Message.{event_of}
 use Rattle.x7_forms.specs.Known.{StreamRead, stream_limit}
-use Rattle.x7_forms.specs.Step.{FailsAmong, LacksAmong}
+use Rattle.x7_forms.specs.Step.{CameIn, step_over}
 use Rattle.x7_forms.proofs.ReadLemmas.{rests_all, rests_none, stream_err, stream_next}
 use Rattle.x7_forms.proofs.playing.play_streams.Goals as goal
 
@@ -32,19 +32,18 @@ loop-name-preserved g c =
     let i = g.I.Inputs in
     let v = c.loop-name.invariant in
     let name = c.as_str.result.now in
-    let F = FailsAmong (name ∷ []) (i.state c.loop-name.inputs) (i.state c.play_stream.new.inputs) in
-    let L = LacksAmong (name ∷ []) (i.state c.loop-name.inputs) (i.state c.play_stream.new.inputs) in
+    let C = CameIn (step_over (name ∷ []) (i.state c.loop-name.inputs) (i.state c.play_stream.new.inputs)) in
     let p = c.in-Ok-play_stream.ensures.ok in
-    let read : StreamRead = record { bytes = p.0; room = c.in-Ok-play_stream.left } in
-    let next = stream_next string_bytes (i.state c.args.inputs.now).contents (i.state c.loop-name.inputs).contents (i.state c.play_stream.new.inputs).given F L c.args.streams.now c.loop-name.name-index stream_limit c.loop-name.left c.name-item.result name v.played.0 read
-    v.inputs.map c.loop-name-test.true c.name-item.is c.as_str.ensures.value v.played.1.2 p.3 in
+    let read : StreamRead = record { bytes = p.bytes; room = c.in-Ok-play_stream.left } in
+    let next = stream_next string_bytes (i.state c.args.inputs.now).contents (i.state c.loop-name.inputs).contents C c.args.streams.now c.loop-name.name-index stream_limit c.loop-name.left c.name-item.result name v.played.0 read
+    v.inputs.map c.loop-name-test.true c.name-item.is c.as_str.ensures.value v.played.1.2 p.reads in
     let new = c.play_stream.new.piece in
     let old = c.loop-name.piece.items in
     let size : length new ≡ 266240 = c.play_stream.ensures.length ∙ ap length c.deref_mut.ensures.value ∙ v.piece in
     record {
       inputs = stays_on _ _ _ v.inputs c.play_stream.ensures.inputs;
       piece = omega (arith, length-take-le c.loop-name.piece.len (new ++ drop (length new) old) (omega (arith, length-append new (drop (length new) old), size, v.piece, c.loop-name.piece.ok.0)), v.piece, c.loop-name.piece.ok.0);
-      played = (v.played.0 ++ p.0, (p.2 c.args.part.now v.played.0 v.played.1.0, omega (arith, v.played.1.1, p.1, length-append v.played.0 p.0), next));
+      played = (v.played.0 ++ p.bytes, (p.plays c.args.part.now v.played.0 v.played.1.0, omega (arith, v.played.1.1, p.within, length-append v.played.0 p.bytes), next));
     }
 
 pub returns-clause-ok : goal.returns-clause-ok
@@ -53,6 +52,6 @@ returns-clause-ok g c =
     let v = c.loop-name.invariant in (
       v.played.0,
       v.played.1.0,
-      λ flash. rests_all string_bytes (i.state c.args.inputs.now).contents flash (i.state c.loop-name.inputs).given (FailsAmong (map string_bytes c.args.streams.now) (i.state c.args.inputs.now) (i.state c.loop-name.inputs)) (LacksAmong (map string_bytes c.args.streams.now) (i.state c.args.inputs.now) (i.state c.loop-name.inputs))
+      λ flash. rests_all string_bytes (i.state c.args.inputs.now).contents flash (CameIn (step_over (map string_bytes c.args.streams.now) (i.state c.args.inputs.now) (i.state c.loop-name.inputs)))
           c.args.streams.now c.loop-name.name-index stream_limit c.loop-name.left v.played.0 c.loop-name-test.false v.played.1.2,
     )

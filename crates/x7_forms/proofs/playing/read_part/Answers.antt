@@ -3,7 +3,7 @@ use Rattle.x7_forms.specs.Message.{event_of}
 use Rattle.x7_forms.specs.Known.{part_by, part_limit, part_of, whole_in, with_inputs}
 use Rattle.x7_part.specs.PartFile.{part_in}
 use Rattle.x7_forms.specs.Play.{part_event}
-use Rattle.x7_forms.specs.Step.{FailsAmong, LacksAmong}
+use Rattle.x7_forms.specs.Step.{CameIn, step_over}
 use Rattle.x7_forms.proofs.PlayLemmas.{refused}
 use Rattle.x7_forms.proofs.ReadLemmas.{after_text, caused_event, stops, works}
 use Rattle.x7_forms.proofs.playing.read_part.Goals as goal
@@ -13,28 +13,24 @@ returns-in-Ok-part_of-clause-due g c = λ flash.
     let i = g.I.Inputs in
     let known = with_inputs (i.state c.args.inputs.now).contents flash in
     let name = c.args.name.now in
-    let given = (i.state c.read_whole.new.inputs).given in
-    let F = FailsAmong (name ∷ []) (i.state c.args.inputs.now) (i.state c.read_whole.new.inputs) in
-    let L = LacksAmong (name ∷ []) (i.state c.args.inputs.now) (i.state c.read_whole.new.inputs) in
+    let C = CameIn (step_over (name ∷ []) (i.state c.args.inputs.now) (i.state c.read_whole.new.inputs)) in
     let text = c.in-Ok.text.items in
     let part = rw c.deref.ensures.value at c.in-Ok-part_of.ensures.part in
-    after_text known given F L part_limit name text (λ bytes. part_by name (part_in bytes)) (Ok c.in-Ok-part_of.part) (c.in-Ok.ensures.due flash) (works known given F L (part_by name (part_in text)) (Ok c.in-Ok-part_of.part) tt tt (ap (part_by name) part))
+    after_text known C part_limit name text (λ bytes. part_by name (part_in bytes)) (Ok c.in-Ok-part_of.part) (c.in-Ok.ensures.due flash) (works known C (part_by name (part_in text)) (Ok c.in-Ok-part_of.part) tt tt (ap (part_by name) part))
 
 pub returns-clause-due : goal.returns-clause-due
 returns-clause-due g c = λ flash.
     let i = g.I.Inputs in
     let known = with_inputs (i.state c.args.inputs.now).contents flash in
     let name = c.args.name.now in
-    let given = (i.state c.read_whole.new.inputs).given in
-    let F = FailsAmong (name ∷ []) (i.state c.args.inputs.now) (i.state c.read_whole.new.inputs) in
-    let L = LacksAmong (name ∷ []) (i.state c.args.inputs.now) (i.state c.read_whole.new.inputs) in
+    let C = CameIn (step_over (name ∷ []) (i.state c.args.inputs.now) (i.state c.read_whole.new.inputs)) in
     let text = c.in-Ok.text.items in
     let why = rw c.deref.ensures.value at c.in-Err-part_of.ensures.fault in
-    caused_event known given F L (λ known. part_of known name) (event_of c.refusal_of.result) (part_event name c.in-Err-part_of.fault) c.refusal_of.ensures (after_text known given F L part_limit name text (λ bytes. part_by name (part_in bytes)) (Err (part_event name c.in-Err-part_of.fault)) (c.in-Ok.ensures.due flash) (refused known given F L name text c.in-Err-part_of.fault why))
+    caused_event known C (λ known. part_of known name) (event_of c.refusal_of.result) (part_event name c.in-Err-part_of.fault) c.refusal_of.ensures (after_text known C part_limit name text (λ bytes. part_by name (part_in bytes)) (Err (part_event name c.in-Err-part_of.fault)) (c.in-Ok.ensures.due flash) (refused known C name text c.in-Err-part_of.fault why))
 
 pub returns-in-Err-clause-due : goal.returns-in-Err-clause-due
 returns-in-Err-clause-due g c = λ flash.
     let i = g.I.Inputs in
     let name = c.args.name.now in
-    stops (with_inputs (i.state c.args.inputs.now).contents flash) (i.state c.read_whole.new.inputs).given (FailsAmong (name ∷ []) (i.state c.args.inputs.now) (i.state c.read_whole.new.inputs)) (LacksAmong (name ∷ []) (i.state c.args.inputs.now) (i.state c.read_whole.new.inputs))
+    stops (with_inputs (i.state c.args.inputs.now).contents flash) (CameIn (step_over (name ∷ []) (i.state c.args.inputs.now) (i.state c.read_whole.new.inputs)))
     (λ t. whole_in t part_limit name) (λ t text. part_by name (part_in text)) (event_of c.in-Err.refusal) (c.in-Err.ensures.due flash)

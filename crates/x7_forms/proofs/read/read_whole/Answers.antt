@@ -1,7 +1,7 @@
 use Rattle.std.proofs.Common.{◌≡◌, [], ◌∷◌, ◌++◌, Ok, Err, ap, subst, sym, ◌∙◌}
 use Rattle.x7_words.specs.Input.{Selects}
 use Rattle.x7_forms.specs.Message.{event_of}
-use Rattle.x7_forms.specs.Step.{FailsAmong, IsCaused, LacksAmong}
+use Rattle.x7_forms.specs.Step.{CameIn, IsCaused, step_over}
 use Rattle.x7_forms.specs.Known.{whole_in, with_inputs}
 use Rattle.x7_forms.proofs.ReadLemmas.{open_refused, whole_read, whole_refused}
 use Rattle.x7_forms.proofs.read.read_whole.Goals as goal
@@ -18,11 +18,10 @@ returns-in-Ok-read_rest-clause-due g c = λ flash.
     let contents = (i.state c.args.inputs.now).contents in
     let p = c.in-Ok-read_rest.ensures.ok in
     let sel : Selects contents name _ = subst (λ r. Selects contents name r) p.3.0 c.in-Ok.ensures.ok.found in
-    let F = FailsAmong (name ∷ []) (i.state c.args.inputs.now) (i.state c.read_rest.new.inputs) in
-    let L = LacksAmong (name ∷ []) (i.state c.args.inputs.now) (i.state c.read_rest.new.inputs) in
+    let C = CameIn (step_over (name ∷ []) (i.state c.args.inputs.now) (i.state c.read_rest.new.inputs)) in
     let is : c.read_rest.new.onto.items ≡ p.0 = p.1 ∙ ap (λ x. x ++ p.0) c.new-whole.ensures.items in
-    subst (λ x. IsCaused (with_inputs contents flash) (i.state c.read_rest.new.inputs).given F L (λ t. whole_in t c.args.limit name) (Ok x)) (sym is)
-    (whole_read contents flash (i.state c.read_rest.new.inputs).given F L name p.0 (i.state c.read_rest.new.inputs).rest c.args.limit sel p.3.1 p.2)
+    subst (λ x. IsCaused (with_inputs contents flash) C (λ t. whole_in t c.args.limit name) (Ok x)) (sym is)
+    (whole_read contents flash C name p.0 (i.state c.read_rest.new.inputs).rest c.args.limit sel p.3.1 p.2)
 
 pub returns-clause-due : goal.returns-clause-due
 returns-clause-due g c = λ flash.

@@ -1,3 +1,4 @@
+use Rattle.x7_packets.specs.History.{next_in}
 use Rattle.x7_packets.proofs.HistoryLemmas.{cut_enters, history_is, next_on, next_word-is, run_enters, words_on}
 use Rattle.x7_packets.proofs.laws.words_enter.Goals as goal
 
@@ -17,7 +18,7 @@ pub returns-clause-place : goal.returns-clause-place
 returns-clause-place c = next_word-is
 
 pub returns-clause-cut : goal.returns-clause-cut
-returns-clause-cut c = λ old new bytes more r run n s w e. cut_enters old new bytes more r.sessions r.place run n s w e
+returns-clause-cut c = λ bytes more r run h. cut_enters h.old h.new bytes more r.sessions r.place run (next_in r) h.reads h.went (next_word-is bytes r.sessions r.place h.reads.reading)
 
 pub returns-clause-one : goal.returns-clause-one
 returns-clause-one c = history_is

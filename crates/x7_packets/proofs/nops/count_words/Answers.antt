@@ -1,7 +1,8 @@
 use Rattle.std.proofs.Common.{◌≡◌, ◌<◌, ℕ, length, take, replicate, arith, ap, ◌∙◌}
 use Rattle.x7_words.specs.Word.{AreBytes, words_of_bytes}
 use Rattle.x7_words.proofs.ListLemmas.{all_from_places}
-use Rattle.x7_packets.proofs.NopLemmas.{chunk_count, chunk_more, equal_taken, words_count}
+use Rattle.x7_words.proofs.WordLemmas.{chunk_count, words_count}
+use Rattle.x7_packets.proofs.NopLemmas.{chunk_more, equal_taken}
 use Rattle.x7_packets.proofs.nops.count_words.Goals as goal
 
 pub returns-then-word_of-w-clause-within : goal.returns-then-word_of-w-clause-within

@@ -1,4 +1,3 @@
-use Rattle.std.proofs.Common.{◌∙◌}
 use Rattle.std.proofs.lemmas.Bool.{eqb-true}
 use Rattle.x7_packets.proofs.BlockLemmas.{same-block}
 use Rattle.x7_packets.proofs.nops.is_block.Goals as goal

@@ -1,7 +1,7 @@
 use Rattle.std.proofs.Common.{◌∙◌, ap, sym, refl, arith, map, set, add-one, length-set}
 use Rattle.x7_words.specs.Word.{word_of_bytes}
 use Rattle.x7_pipeline.proofs.FrameLemmas.{written_over, all_over}
-use Rattle.x7_pipeline.proofs.WordLemmas.{words_by_chunks}
+use Rattle.x7_words.proofs.WordLemmas.{words_by_chunks}
 use Rattle.x7_pipeline.proofs.pipeline.read_words.Goals as goal
 
 pub loop-i-preserved : goal.loop-i-preserved

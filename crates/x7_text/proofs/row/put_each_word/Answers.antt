@@ -1,6 +1,6 @@
 use Rattle.std.proofs.Common.{arith, [], ◌++◌, ◌∙◌, ap, ◌/◌, codes, length}
 use Rattle.x7_text.proofs.ToldLemmas.{told_words_length, told_one_more}
-use Rattle.x7_text.proofs.WordLemmas.{map-take_more, words_of_bytes-all}
+use Rattle.x7_words.proofs.WordLemmas.{map-take_more, words_of_bytes-all}
 use Rattle.x7_text.specs.Row.{in_line_after, open_text, spaced}
 use Rattle.x7_text.proofs.row.put_each_word.Goals as goal
 

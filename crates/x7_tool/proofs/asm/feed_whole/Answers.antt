@@ -2,7 +2,7 @@ use Rattle.std.proofs.Common.{◌≡◌, ℕ, List, ◌∷◌, [], ◌+◌, ◌^
 use Rattle.x7_words.proofs.InputLemmas.{stays_on}
 use Rattle.x7_forms.specs.Message.{event_of}
 use Rattle.x7_tool.specs.Outcome.{text_limit}
-use Rattle.x7_forms.specs.Step.{FailsAmong, LacksAmong}
+use Rattle.x7_forms.specs.Step.{CameIn, step_over}
 use Rattle.x7_forms.proofs.ReadLemmas.{at_on, open_refused, turn_refused, whole_read}
 use Rattle.x7_tool.proofs.TurnLemmas.{taken_more}
 use Rattle.x7_tool.proofs.asm.feed_whole.Goals as goal
@@ -24,7 +24,7 @@ returns-then-turn-clause-ok g c =
       short,
       c.feed_turn-found.ensures taken fits v.told.1.1,
       λ flash.
-          whole_read contents flash (i.state c.next_turn.new.inputs).given (FailsAmong (name ∷ []) (i.state c.args.inputs.now) (i.state c.next_turn.new.inputs)) (LacksAmong (name ∷ []) (i.state c.args.inputs.now) (i.state c.next_turn.new.inputs)) name (taken ++ piece) (i.state c.next_turn.new.inputs).rest text_limit sel (c.in-Ok-next_turn.ensures.end c.if-turn.true) short,
+          whole_read contents flash (CameIn (step_over (name ∷ []) (i.state c.args.inputs.now) (i.state c.next_turn.new.inputs))) name (taken ++ piece) (i.state c.next_turn.new.inputs).rest text_limit sel (c.in-Ok-next_turn.ensures.end c.if-turn.true) short,
     )
 
 pub loop-turn-preserved : goal.loop-turn-preserved

@@ -1,7 +1,7 @@
 use Rattle.std.proofs.Common.{[], ◌∷◌}
 use Rattle.x7_forms.specs.Message.{event_of}
-use Rattle.x7_forms.specs.Play.{text_of_play}
-use Rattle.x7_forms.specs.Step.{FailsAmong, LacksAmong, seen}
+use Rattle.x7_tool.specs.Play.{text_of_play}
+use Rattle.x7_forms.specs.Step.{CameIn, seen, step_over}
 use Rattle.x7_tool.proofs.FlashLemmas.{booted_ends, part_refused}
 use Rattle.x7_tool.proofs.boot.boot.Goals as goal
 
@@ -10,7 +10,7 @@ returns-in-Ok-clause-due g c = λ before after.
     let i = g.I.Inputs in
     let f = g.F.Flash in
     booted_ends (record before { inputs = i.state c.args.inputs.now; flash = f.state c.args.flash.now }) (record after { inputs = i.state c.read_part.new.inputs; flash = f.state c.boot_from.new.flash })
-    c.args.name.now c.args.part.now c.in-Ok.part (i.state c.read_part.new.inputs).given (FailsAmong (c.args.part.now ∷ []) (i.state c.args.inputs.now) (i.state c.read_part.new.inputs)) (LacksAmong (c.args.part.now ∷ []) (i.state c.args.inputs.now) (i.state c.read_part.new.inputs)) (seen text_of_play c.boot_from.result) (c.in-Ok.ensures.due (f.state c.args.flash.now).bytes) c.boot_from.ensures.due
+    c.args.name.now c.args.part.now c.in-Ok.part (CameIn (step_over (c.args.part.now ∷ []) (i.state c.args.inputs.now) (i.state c.read_part.new.inputs))) (seen text_of_play c.boot_from.result) (c.in-Ok.ensures.due (f.state c.args.flash.now).bytes) c.boot_from.ensures.due
 
 pub returns-in-Err-clause-due : goal.returns-in-Err-clause-due
 returns-in-Err-clause-due g c = λ before after.

@@ -15,7 +15,7 @@ returns-clause-text c =
     let addressed = subst (λ (p : PlanData). AreAddressed part p.rows) (sym c.in_ok-plan.ensures) (generated_addressed part c.args.seed) in
     let few = few_reads part plan (full_stream part plan) c.frames-frames.ensures.part c.len-planned.ensures.plan width addressed refl in
     gen_is part c.args.seed c.len-planned.result plan (full_stream part plan) c.in_ok-text.text.items c.in_ok-plan.ensures c.len-planned.ensures.value refl
-    (c.in_ok-text.ensures part (full_stream part plan) c.in_ok-played.ensures.played c.in_ok-played.ensures.size few)
+    (c.in_ok-text.ensures part (full_stream part plan) (c.in_ok-played.ensures.played, c.in_ok-played.ensures.size, few))
 
 pub returns-clause-planned : goal.returns-clause-planned
 returns-clause-planned c = planned_is c.args.part.now c.args.seed c.in_ok-text.text.items c.frames-frames.ensures.part (returns-clause-text c)

@@ -10,7 +10,7 @@ use Rattle.x7_listing.specs.StreamListing.{stream_listing}
 use Rattle.x7_forms.specs.Event.{no_memory, write_fault}
 use Rattle.x7_forms.specs.Message.{event_of}
 use Rattle.x7_forms.specs.Known.{stream_limit, with_inputs}
-use Rattle.x7_forms.specs.Step.{FailsAmong, LacksAmong}
+use Rattle.x7_forms.specs.Step.{CameIn, step_over}
 use Rattle.x7_tool.specs.Turns.{Lists}
 use Rattle.x7_forms.specs.Turn.{MayFollow}
 use Rattle.x7_tool.proofs.AheadLemmas.{front_near, lists_longer, longer_front, longer_twice, stays_near, turn_near, unfronted_near, unopened_near, unread_near, unwritten_near, why_weaker}
@@ -31,17 +31,17 @@ returns-in-Err g c = λ before after.
     list_ends stream old new (Err event) (unopened old.inputs new.inputs old.flash.bytes stream (SinkFails old.out new.out) old.out.written event c.in-Err.ensures.err c.open.ensures.asks)
     (stays_near event stream old new (unopened_near old.inputs.contents stream new.inputs.rest old.out.written new.out.written old.inputs new.inputs stream event c.open.ensures.asks c.in-Err.ensures.err))
 
-pub returns-in-Err-read_front : goal.returns-in-Err-read_front
-returns-in-Err-read_front g c = λ before after.
+pub returns-in-Err-read_beginning : goal.returns-in-Err-read_beginning
+returns-in-Err-read_beginning g c = λ before after.
     let i = g.I.Inputs in
     let o = g.O.Sink in
     let old = record before { inputs = i.state c.args.inputs.now; out = o.state c.args.out.now } in
-    let new = record after { inputs = i.state c.read_front.new.inputs; out = o.state c.args.out.now } in
+    let new = record after { inputs = i.state c.read_beginning.new.inputs; out = o.state c.args.out.now } in
     let stream = c.args.stream.now in
-    let event = event_of c.in-Err-read_front.refusal in
+    let event = event_of c.in-Err-read_beginning.refusal in
     list_ends stream old new (Err event)
-    (unfronted old.inputs (i.state c.open.new.inputs) new.inputs old.flash.bytes stream (SinkFails old.out new.out) old.out.written event c.open.ensures.inputs c.in-Ok.ensures.ok.found c.open.ensures.asks c.in-Err-read_front.ensures.err)
-    (stays_near event stream old new (unfronted_near old.inputs.contents stream new.inputs.rest old.out.written new.out.written (i.state c.open.new.inputs) new.inputs stream event refl c.in-Ok.ensures.ok.found c.open.ensures.asks c.in-Err-read_front.ensures.err))
+    (unfronted old.inputs (i.state c.open.new.inputs) new.inputs old.flash.bytes stream (SinkFails old.out new.out) old.out.written event c.open.ensures.inputs c.in-Ok.ensures.ok.found c.open.ensures.asks c.in-Err-read_beginning.ensures.err)
+    (stays_near event stream old new (unfronted_near old.inputs.contents stream new.inputs.rest old.out.written new.out.written (i.state c.open.new.inputs) new.inputs stream event refl c.in-Ok.ensures.ok.found c.open.ensures.asks c.in-Err-read_beginning.ensures.err))
 
 pub returns-in-Err-put_front : goal.returns-in-Err-put_front
 returns-in-Err-put_front g c = λ before after.
@@ -50,32 +50,31 @@ returns-in-Err-put_front g c = λ before after.
     let contents = (i.state c.args.inputs.now).contents in
     let old = (o.state c.args.out.now).written in
     let stream = c.args.stream.now in
-    let given = (i.state c.read_front.new.inputs).given in
-    let F = FailsAmong (stream ∷ []) (i.state c.args.inputs.now) (i.state c.read_front.new.inputs) in
-    let L = LacksAmong (stream ∷ []) (i.state c.args.inputs.now) (i.state c.read_front.new.inputs) in
-    let f = c.in-Ok-read_front.ensures.front in
-    let taken = c.in-Ok-read_front.front.bytes.items in
-    let last = c.in-Ok-read_front.front.last in
+    let C = CameIn (step_over (stream ∷ []) (i.state c.args.inputs.now) (i.state c.read_beginning.new.inputs)) in
+    let given = (i.state c.read_beginning.new.inputs).given in
+    let f = c.in-Ok-read_beginning.ensures.begins in
+    let taken = c.in-Ok-read_beginning.front.bytes.items in
+    let last = c.in-Ok-read_beginning.front.last in
     let line = c.deref.result.now in
-    let start = c.in-Ok-read_front.front.start in
+    let start = c.in-Ok-read_beginning.front.start in
     let bytes = c.deref-2.result.now in
     let sent = take (length bytes - start) (drop start bytes) in
     let cut : sent ≡ drop start taken = take_all (length bytes - start) (drop start bytes) (omega (arith, length-drop start bytes)) ∙ ap (drop start) c.deref-2.ensures.value in
-    let rest = (i.state c.read_front.new.inputs).rest in
+    let rest = (i.state c.read_beginning.new.inputs).rest in
     let sel : Selects contents stream (preceded taken rest) = subst (λ r. Selects contents stream r) f.reads.takes.taken c.in-Ok.ensures.ok.found in
-    let goes : (left : List ℕ) → MayFollow last left → stream_listing (taken ++ left) ≡ Ok (line ++ listing_of (sent ++ left)) = λ left m. f.front left m ∙ ap (λ (l : List ℕ). Ok (l ++ listing_of (drop start taken ++ left))) (sym c.deref.ensures.value) ∙ ap (λ (s : List ℕ). Ok (line ++ listing_of (s ++ left))) (sym cut) in
+    let goes : (left : List ℕ) → MayFollow last left → stream_listing (taken ++ left) ≡ Ok (line ++ listing_of (sent ++ left)) = λ left m. f.begins left m ∙ ap (λ (l : List ℕ). Ok (l ++ listing_of (drop start taken ++ left))) (sym c.deref.ensures.value) ∙ ap (λ (s : List ℕ). Ok (line ++ listing_of (s ++ left))) (sym cut) in
     let now = (o.state c.put_front.new.out).written in
     let Full : Type 0 = SinkFails (o.state c.args.out.now) (o.state c.put_front.new.out) in
     let r = event_of c.in-Err-put_front.refusal in
     let flash = before.flash.bytes in
-    let end : (r ≡ no_memory) ⊎ ((r ≡ write_fault) × SinkFails (o.state c.args.out.now) (o.state c.put_front.new.out)) → Ended (with_inputs contents flash) given F L stream Full old now (Err r)
+    let end : (r ≡ no_memory) ⊎ ((r ≡ write_fault) × SinkFails (o.state c.args.out.now) (o.state c.put_front.new.out)) → Ended (with_inputs contents flash) C stream Full old now (Err r)
     = elim [
-      | inl h ↦ ends_same (with_inputs contents flash) given F L stream Full old now r no_memory h (out_of_memory contents flash given F L stream taken rest Full old now sel (front_here taken line sent last old now c.put_front.ensures.fits goes c.in-Err-put_front.ensures.err))
-      | inr h ↦ ends_same (with_inputs contents flash) given F L stream Full old now r write_fault h.0 (front_failed contents flash given F L stream taken line sent rest last Full old now sel f.end h.1 c.put_front.ensures.fits goes c.in-Err-put_front.ensures.err)
+      | inl h ↦ ends_same (with_inputs contents flash) C stream Full old now r no_memory h (out_of_memory contents flash C stream taken rest Full old now sel (front_here taken line sent last old now c.put_front.ensures.fits goes c.in-Err-put_front.ensures.err))
+      | inr h ↦ ends_same (with_inputs contents flash) C stream Full old now r write_fault h.0 (front_failed contents flash C stream taken line sent rest last Full old now sel f.end h.1 c.put_front.ensures.fits goes c.in-Err-put_front.ensures.err)
     ] in
     let put = c.in-Err-put_front.ensures.err [] (subst AreBytes (sym (append-nil _)) c.put_front.ensures.fits) in
     let near = unwritten_near contents stream rest old now _ given r (front_near contents stream taken rest old now sel f.few (longer_front old now _ put)) c.in-Err-put_front.ensures.why in
-    list_ends stream (record before { inputs = i.state c.args.inputs.now; out = o.state c.args.out.now }) (record after { inputs = i.state c.read_front.new.inputs; out = o.state c.put_front.new.out }) (Err r) (end c.in-Err-put_front.ensures.why) (stays_near r stream (record before { inputs = i.state c.args.inputs.now; out = o.state c.args.out.now }) (record after { inputs = i.state c.read_front.new.inputs; out = o.state c.put_front.new.out }) near)
+    list_ends stream (record before { inputs = i.state c.args.inputs.now; out = o.state c.args.out.now }) (record after { inputs = i.state c.read_beginning.new.inputs; out = o.state c.put_front.new.out }) (Err r) (end c.in-Err-put_front.ensures.why) (stays_near r stream (record before { inputs = i.state c.args.inputs.now; out = o.state c.args.out.now }) (record after { inputs = i.state c.read_beginning.new.inputs; out = o.state c.put_front.new.out }) near)
 
 pub returns-then-front : goal.returns-then-front
 returns-then-front g c = λ before after.
@@ -84,43 +83,42 @@ returns-then-front g c = λ before after.
     let contents = (i.state c.args.inputs.now).contents in
     let old = (o.state c.args.out.now).written in
     let stream = c.args.stream.now in
-    let given = (i.state c.read_front.new.inputs).given in
-    let F = FailsAmong (stream ∷ []) (i.state c.args.inputs.now) (i.state c.read_front.new.inputs) in
-    let L = LacksAmong (stream ∷ []) (i.state c.args.inputs.now) (i.state c.read_front.new.inputs) in
-    let f = c.in-Ok-read_front.ensures.front in
-    let taken = c.in-Ok-read_front.front.bytes.items in
-    let last = c.in-Ok-read_front.front.last in
+    let C = CameIn (step_over (stream ∷ []) (i.state c.args.inputs.now) (i.state c.read_beginning.new.inputs)) in
+    let given = (i.state c.read_beginning.new.inputs).given in
+    let f = c.in-Ok-read_beginning.ensures.begins in
+    let taken = c.in-Ok-read_beginning.front.bytes.items in
+    let last = c.in-Ok-read_beginning.front.last in
     let line = c.deref.result.now in
-    let start = c.in-Ok-read_front.front.start in
+    let start = c.in-Ok-read_beginning.front.start in
     let bytes = c.deref-2.result.now in
     let sent = take (length bytes - start) (drop start bytes) in
     let cut : sent ≡ drop start taken = take_all (length bytes - start) (drop start bytes) (omega (arith, length-drop start bytes)) ∙ ap (drop start) c.deref-2.ensures.value in
-    let rest = (i.state c.read_front.new.inputs).rest in
+    let rest = (i.state c.read_beginning.new.inputs).rest in
     let sel : Selects contents stream (preceded taken rest) = subst (λ r. Selects contents stream r) f.reads.takes.taken c.in-Ok.ensures.ok.found in
-    let goes : (left : List ℕ) → MayFollow last left → stream_listing (taken ++ left) ≡ Ok (line ++ listing_of (sent ++ left)) = λ left m. f.front left m ∙ ap (λ (l : List ℕ). Ok (l ++ listing_of (drop start taken ++ left))) (sym c.deref.ensures.value) ∙ ap (λ (s : List ℕ). Ok (line ++ listing_of (s ++ left))) (sym cut) in
+    let goes : (left : List ℕ) → MayFollow last left → stream_listing (taken ++ left) ≡ Ok (line ++ listing_of (sent ++ left)) = λ left m. f.begins left m ∙ ap (λ (l : List ℕ). Ok (l ++ listing_of (drop start taken ++ left))) (sym c.deref.ensures.value) ∙ ap (λ (s : List ℕ). Ok (line ++ listing_of (s ++ left))) (sym cut) in
     let now = (o.state c.put_end.new.out).written in
     let Full : Type 0 = SinkFails (o.state c.args.out.now) (o.state c.put_end.new.out) in
     let lists : Lists c.put_front.new.lister (appended old line) (o.state c.put_front.new.out).written sent = c.in-Ok-put_front.ensures.ok in
     let same = stream_whole taken line sent (goes [] (λ l. refl)) in
     let flash = before.flash.bytes in
-    let ok = on_ok_weaker c.put_end.result (λ h. (line ++ listing_of sent, listed_whole contents flash given F L stream taken (line ++ listing_of sent) rest Full old now sel (f.end c.if-front.true) same (omega (arith, f.few)) (line_then old now line (listing_of sent) (h (appended old line) sent lists)))) c.put_end.ensures.ok in
+    let ok = on_ok_weaker c.put_end.result (λ h. (line ++ listing_of sent, listed_whole contents flash C stream taken (line ++ listing_of sent) rest Full old now sel (f.end c.if-front.true) same (omega (arith, f.few)) (line_then old now line (listing_of sent) (h (appended old line) sent lists)))) c.put_end.ensures.ok in
     let err = both_err c.put_end.result (λ r. (first : Option (List ℕ)) (bytes : List ℕ) → Lists c.put_front.new.lister first (o.state c.put_front.new.out).written bytes → PutsFront first (listing_of bytes) now)
     (λ r. (event_of r ≡ no_memory) ⊎ ((event_of r ≡ write_fault) × SinkFails (o.state c.put_front.new.out) (o.state c.put_end.new.out)))
-    (λ r. Ended (with_inputs contents flash) given F L stream Full old now (Err (event_of r)))
+    (λ r. Ended (with_inputs contents flash) C stream Full old now (Err (event_of r)))
     (λ r p w.
     let front : PutsListed taken old now = (line ++ listing_of sent, (same, line_front old now line (listing_of sent) (p (appended old line) sent lists))) in
-    let end : (event_of r ≡ no_memory) ⊎ ((event_of r ≡ write_fault) × SinkFails (o.state c.put_front.new.out) (o.state c.put_end.new.out)) → Ended (with_inputs contents flash) given F L stream Full old now (Err (event_of r))
+    let end : (event_of r ≡ no_memory) ⊎ ((event_of r ≡ write_fault) × SinkFails (o.state c.put_front.new.out) (o.state c.put_end.new.out)) → Ended (with_inputs contents flash) C stream Full old now (Err (event_of r))
     = elim [
-      | inl h ↦ ends_same (with_inputs contents flash) given F L stream Full old now (event_of r) no_memory h (out_of_memory contents flash given F L stream taken rest Full old now sel front)
+      | inl h ↦ ends_same (with_inputs contents flash) C stream Full old now (event_of r) no_memory h (out_of_memory contents flash C stream taken rest Full old now sel front)
       | inr h ↦
           let risen = risen_from (o.state c.args.out.now).faults (o.state c.put_front.new.out).faults (o.state c.put_end.new.out).faults c.put_front.ensures.counts.faults h.1 in
-          ends_same (with_inputs contents flash) given F L stream Full old now (event_of r) write_fault h.0 (end_failed contents flash given F L stream taken rest Full old now sel (f.end c.if-front.true) risen front)
+          ends_same (with_inputs contents flash) C stream Full old now (event_of r) write_fault h.0 (end_failed contents flash C stream taken rest Full old now sel (f.end c.if-front.true) risen front)
     ] in
     end w)
     c.put_end.ensures.err c.put_end.ensures.why in
     let longer = longer_twice old (o.state c.put_front.new.out).written now (lists_longer c.put_front.new.lister old (o.state c.put_front.new.out).written _ _ lists) c.put_end.ensures.longer in
-    let near = err_weaker c.put_end.result (λ r w. stays_near (event_of r) stream (record before { inputs = i.state c.args.inputs.now; out = o.state c.args.out.now }) (record after { inputs = i.state c.read_front.new.inputs; out = o.state c.put_end.new.out }) (unwritten_near contents stream rest old now _ given (event_of r) (front_near contents stream taken rest old now sel f.few longer) w)) c.put_end.ensures.why in
-    list_seen stream (record before { inputs = i.state c.args.inputs.now; out = o.state c.args.out.now }) (record after { inputs = i.state c.read_front.new.inputs; out = o.state c.put_end.new.out }) c.put_end.result ok err near
+    let near = err_weaker c.put_end.result (λ r w. stays_near (event_of r) stream (record before { inputs = i.state c.args.inputs.now; out = o.state c.args.out.now }) (record after { inputs = i.state c.read_beginning.new.inputs; out = o.state c.put_end.new.out }) (unwritten_near contents stream rest old now _ given (event_of r) (front_near contents stream taken rest old now sel f.few longer) w)) c.put_end.ensures.why in
+    list_seen stream (record before { inputs = i.state c.args.inputs.now; out = o.state c.args.out.now }) (record after { inputs = i.state c.read_beginning.new.inputs; out = o.state c.put_end.new.out }) c.put_end.result ok err near
 
 pub returns-in-Err-next_turn : goal.returns-in-Err-next_turn
 returns-in-Err-next_turn g c = λ before after.
@@ -144,9 +142,8 @@ returns-in-Err-put_turn g c = λ before after.
     let contents = (i.state c.args.inputs.now).contents in
     let old = (o.state c.args.out.now).written in
     let stream = c.args.stream.now in
+    let C = CameIn (step_over (stream ∷ []) (i.state c.args.inputs.now) (i.state c.next_turn.new.inputs)) in
     let given = (i.state c.next_turn.new.inputs).given in
-    let F = FailsAmong (stream ∷ []) (i.state c.args.inputs.now) (i.state c.next_turn.new.inputs) in
-    let L = LacksAmong (stream ∷ []) (i.state c.args.inputs.now) (i.state c.next_turn.new.inputs) in
     let v = c.loop-turn.invariant in
     let taken = v.told.0 in
     let t = v.told.1.1 in
@@ -156,17 +153,17 @@ returns-in-Err-put_turn g c = λ before after.
     let Full : Type 0 = SinkFails (o.state c.args.out.now) (o.state c.put_turn.new.out) in
     let r = event_of c.in-Err-put_turn.refusal in
     let flash = before.flash.bytes in
-    let end : ((r ≡ no_memory) × (now ≡ (o.state c.loop-turn.out).written)) ⊎ ((r ≡ write_fault) × SinkFails (o.state c.loop-turn.out) (o.state c.put_turn.new.out)) → Ended (with_inputs contents flash) given F L stream Full old now (Err r)
+    let end : ((r ≡ no_memory) × (now ≡ (o.state c.loop-turn.out).written)) ⊎ ((r ≡ write_fault) × SinkFails (o.state c.loop-turn.out) (o.state c.put_turn.new.out)) → Ended (with_inputs contents flash) C stream Full old now (Err r)
     = elim [
       | inl h ↦
           let front2 : PutsListed taken old now = subst (λ w. PutsListed taken old w) (sym h.1) (stream_here c.loop-turn.lister old (o.state c.loop-turn.out).written taken t) in
-          ends_same (with_inputs contents flash) given F L stream Full old now r no_memory h.0 (out_of_memory contents flash given F L stream taken (i.state c.loop-turn.inputs).rest Full old now v.told.1.0 front2)
+          ends_same (with_inputs contents flash) C stream Full old now r no_memory h.0 (out_of_memory contents flash C stream taken (i.state c.loop-turn.inputs).rest Full old now v.told.1.0 front2)
       | inr h ↦
           let risen = risen_from (o.state c.args.out.now).faults (o.state c.loop-turn.out).faults (o.state c.put_turn.new.out).faults v.written h.1 in
           let err : (left : List ℕ) → AreBytes (t.sent ++ (piece ++ left)) → PutsFront (appended old t.line) (listing_of (t.sent ++ (piece ++ left))) now
           = λ left fits. c.in-Err-put_turn.ensures.err (appended old t.line) t.sent left t.lists fits in
-          ends_same (with_inputs contents flash) given F L stream Full old now r write_fault h.0
-          (write_failed contents flash given F L stream taken piece piece c.loop-turn.lister (i.state c.next_turn.new.inputs).rest Full old (o.state c.loop-turn.out).written now refl sel risen t c.put_turn.ensures.fits err)
+          ends_same (with_inputs contents flash) C stream Full old now r write_fault h.0
+          (write_failed contents flash C stream taken piece piece c.loop-turn.lister (i.state c.next_turn.new.inputs).rest Full old (o.state c.loop-turn.out).written now refl sel risen t c.put_turn.ensures.fits err)
     ] in
     let n = c.in-Ok-next_turn.turn.count in
     let rest = (i.state c.next_turn.new.inputs).rest in
@@ -181,9 +178,8 @@ returns-then-turn g c = λ before after.
     let contents = (i.state c.args.inputs.now).contents in
     let old = (o.state c.args.out.now).written in
     let stream = c.args.stream.now in
+    let C = CameIn (step_over (stream ∷ []) (i.state c.args.inputs.now) (i.state c.next_turn.new.inputs)) in
     let given = (i.state c.next_turn.new.inputs).given in
-    let F = FailsAmong (stream ∷ []) (i.state c.args.inputs.now) (i.state c.next_turn.new.inputs) in
-    let L = LacksAmong (stream ∷ []) (i.state c.args.inputs.now) (i.state c.next_turn.new.inputs) in
     let v = c.loop-turn.invariant in
     let taken = v.told.0 in
     let t = v.told.1.1 in
@@ -200,19 +196,19 @@ returns-then-turn g c = λ before after.
     let text = t.line ++ listing_of (t.sent ++ piece) in
     let same = stream_whole (taken ++ piece) t.line (t.sent ++ piece) (goes []) in
     let flash = before.flash.bytes in
-    let ok = on_ok_weaker c.put_end-then-turn.result (λ h. (text, listed_whole contents flash given F L stream (taken ++ piece) text (i.state c.next_turn.new.inputs).rest Full old now sel end same short (line_then old now t.line (listing_of (t.sent ++ piece)) (h (appended old t.line) (t.sent ++ piece) lists)))) c.put_end-then-turn.ensures.ok in
+    let ok = on_ok_weaker c.put_end-then-turn.result (λ h. (text, listed_whole contents flash C stream (taken ++ piece) text (i.state c.next_turn.new.inputs).rest Full old now sel end same short (line_then old now t.line (listing_of (t.sent ++ piece)) (h (appended old t.line) (t.sent ++ piece) lists)))) c.put_end-then-turn.ensures.ok in
     let err = both_err c.put_end-then-turn.result (λ r. (first : Option (List ℕ)) (bytes : List ℕ) → Lists c.put_turn.new.lister first (o.state c.put_turn.new.out).written bytes → PutsFront first (listing_of bytes) now)
     (λ r. (event_of r ≡ no_memory) ⊎ ((event_of r ≡ write_fault) × SinkFails (o.state c.put_turn.new.out) (o.state c.put_end-then-turn.new.out)))
-    (λ r. Ended (with_inputs contents flash) given F L stream Full old now (Err (event_of r)))
+    (λ r. Ended (with_inputs contents flash) C stream Full old now (Err (event_of r)))
     (λ r p w.
     let same = stream_whole (taken ++ piece) t.line (t.sent ++ piece) (goes []) in
     let front : PutsListed (taken ++ piece) old now = (t.line ++ listing_of (t.sent ++ piece), (same, line_front old now t.line (listing_of (t.sent ++ piece)) (p (appended old t.line) (t.sent ++ piece) lists))) in
-    let end : (event_of r ≡ no_memory) ⊎ ((event_of r ≡ write_fault) × SinkFails (o.state c.put_turn.new.out) (o.state c.put_end-then-turn.new.out)) → Ended (with_inputs contents flash) given F L stream Full old now (Err (event_of r))
+    let end : (event_of r ≡ no_memory) ⊎ ((event_of r ≡ write_fault) × SinkFails (o.state c.put_turn.new.out) (o.state c.put_end-then-turn.new.out)) → Ended (with_inputs contents flash) C stream Full old now (Err (event_of r))
     = elim [
-      | inl h ↦ ends_same (with_inputs contents flash) given F L stream Full old now (event_of r) no_memory h (out_of_memory contents flash given F L stream (taken ++ piece) (i.state c.next_turn.new.inputs).rest Full old now sel front)
+      | inl h ↦ ends_same (with_inputs contents flash) C stream Full old now (event_of r) no_memory h (out_of_memory contents flash C stream (taken ++ piece) (i.state c.next_turn.new.inputs).rest Full old now sel front)
       | inr h ↦
           let risen = risen_from (o.state c.args.out.now).faults (o.state c.put_turn.new.out).faults (o.state c.put_end-then-turn.new.out).faults (omega (arith, v.written, c.put_turn.ensures.counts.faults)) h.1 in
-          ends_same (with_inputs contents flash) given F L stream Full old now (event_of r) write_fault h.0 (end_failed contents flash given F L stream (taken ++ piece) (i.state c.next_turn.new.inputs).rest Full old now sel (c.in-Ok-next_turn.ensures.end c.if-turn.true) risen front)
+          ends_same (with_inputs contents flash) C stream Full old now (event_of r) write_fault h.0 (end_failed contents flash C stream (taken ++ piece) (i.state c.next_turn.new.inputs).rest Full old now sel (c.in-Ok-next_turn.ensures.end c.if-turn.true) risen front)
     ] in
     end w)
     c.put_end-then-turn.ensures.err c.put_end-then-turn.ensures.why in

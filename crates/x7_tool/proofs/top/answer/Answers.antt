@@ -1,6 +1,6 @@
 use Rattle.std.proofs.Common.{◌≡◌, refl, false, Some, map, string_bytes, sym, ap, ◌∙◌}
-use Rattle.x7_forms.specs.Form.{Assembling, Booting, Debugging, FromMcs, Generating, Imaging, ImagingFor, Listing, PlanningFull, PlanningPartial, PlanningRead, Playing, PlayingSvf, ToMcs, Updating, asked, asked_by, form_of}
-use Rattle.x7_forms.specs.Play.{text_of_play}
+use Rattle.x7_forms.specs.Form.{Assembling, Booting, Debugging, FromMcs, Generating, Imaging, ImagingFor, Listing, PlanningFull, PlanningPartial, PlanningRead, Playing, PlayingSvf, ToMcs, UpdatingFlash, asked, asked_by, form_of}
+use Rattle.x7_tool.specs.Play.{text_of_play}
 use Rattle.x7_forms.specs.Step.{seen}
 use Rattle.x7_tool.specs.Outside.{outside}
 use Rattle.x7_tool.specs.Ready.{whole_of, text_of_image}
@@ -162,8 +162,8 @@ pub returns-in-Some-Update-clause-ends : goal.returns-in-Some-Update-clause-ends
 returns-in-Some-Update-clause-ends g c = λ e f.
     let old = outside (g.I.Inputs.state c.args.inputs.now) (g.F.Flash.state c.args.flash.now) (g.O.Sink.state c.args.out.now) e in
     let new = outside (g.I.Inputs.state c.update.new.inputs) (g.F.Flash.state c.update.new.flash) (g.O.Sink.state c.args.out.now) f in
-    update_ends _ (Updating c.in-Some-Update.name.now c.in-Some-Update.stream.now) old new _ (sym c.words_of.ensures ∙ ap asked c.in-Some-Update.is ∙ ap (λ f. Some (asked_by f)) c.in-Some-Update.field-0-is) (c.update.ensures.ends old new refl)
+    update_ends _ (UpdatingFlash c.in-Some-Update.name.now c.in-Some-Update.stream.now) old new _ (sym c.words_of.ensures ∙ ap asked c.in-Some-Update.is ∙ ap (λ f. Some (asked_by f)) c.in-Some-Update.field-0-is) (c.update.ensures.ends old new refl)
 
 pub returns-in-Some-Update-clause-flash : goal.returns-in-Some-Update-clause-flash
 returns-in-Some-Update-clause-flash g c =
-    update_uses _ (Updating c.in-Some-Update.name.now c.in-Some-Update.stream.now) _ _ _ _ _ (sym c.words_of.ensures ∙ ap asked c.in-Some-Update.is ∙ ap (λ f. Some (asked_by f)) c.in-Some-Update.field-0-is) c.update.ensures.flash
+    update_uses _ (UpdatingFlash c.in-Some-Update.name.now c.in-Some-Update.stream.now) _ _ _ _ _ (sym c.words_of.ensures ∙ ap asked c.in-Some-Update.is ∙ ap (λ f. Some (asked_by f)) c.in-Some-Update.field-0-is) c.update.ensures.flash

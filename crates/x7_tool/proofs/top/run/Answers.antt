@@ -1,5 +1,4 @@
-use Rattle.std.proofs.Common.{map, string_bytes}
-use Rattle.x7_forms.specs.Form.{form_of}
+use Rattle.x7_forms.specs.Form.{form_in}
 use Rattle.x7_tool.specs.Outside.{outside}
 use Rattle.x7_tool.proofs.FoundLemmas.{found_run_boots, found_since_run}
 use Rattle.x7_tool.proofs.RunLemmas.{runs}
@@ -12,7 +11,7 @@ returns-clause-ran g c =
     let e = g.E.Sink in
     let f = g.F.Flash in
     let r = c.carry_out.ensures.ran in
-    let form = form_of (map string_bytes c.args.words.now.items) in
+    let form = form_in c.args.words.now.items in
     runs form (outside (i.state c.args.inputs.now) (f.state c.args.flash.now) (o.state c.args.out.now) (e.state c.args.err.now))
     (outside (i.state c.carry_out.new.inputs) (f.state c.carry_out.new.flash) (o.state c.carry_out.new.out) (e.state c.carry_out.new.err))
     c.carry_out.result r.0 r.1 r.2 r.3 c.carry_out.ensures.flash.keeps
@@ -23,9 +22,9 @@ returns-clause-found g c =
     found_since_run _ (g.I.Inputs.state c.args.inputs.now) (f.state c.args.flash.now) (f.state c.carry_out.new.flash) _ _ (λ found had. g.met.F.Flash.only_now c.args.flash.now found had) c.carry_out.ensures.flash
 
 pub returns-clause-boots : goal.returns-clause-boots
-returns-clause-boots g c = λ u found b w had fits boot.
+returns-clause-boots g c = λ found had u b w fits boot.
     let f = g.F.Flash in
-    let form = form_of (map string_bytes c.args.words.now.items) in
+    let form = form_in c.args.words.now.items in
     let inputs = g.I.Inputs.state c.args.inputs.now in
     let first = f.state c.args.flash.now in
     let left = found_since_run form inputs first (f.state c.carry_out.new.flash) _ _ (λ found had. g.met.F.Flash.only_now c.args.flash.now found had) c.carry_out.ensures.flash found had in

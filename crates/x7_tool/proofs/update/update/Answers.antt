@@ -6,15 +6,24 @@ use Rattle.x7_update.specs.After.{IsAfter}
 use Rattle.x7_update.specs.Layout.{HasLayout}
 use Rattle.x7_update.specs.Writing.{BecomesBytes}
 use Rattle.x7_forms.specs.Event.{Event}
-use Rattle.x7_forms.specs.Form.{Updating}
+use Rattle.x7_forms.specs.Form.{UpdatingFlash}
 use Rattle.x7_forms.specs.Known.{with_inputs}
 use Rattle.x7_forms.specs.Message.{event_of}
-use Rattle.x7_forms.specs.Step.{FailsAmong, LacksAmong}
+use Rattle.x7_forms.specs.Step.{CameIn, step_over}
 use Rattle.x7_tool.specs.Outside.{Outside}
 use Rattle.x7_tool.specs.Run.{EndsAs}
 use Rattle.x7_tool.specs.Streamed.{data_from}
-use Rattle.x7_tool.proofs.UpdateLemmas.{cause_from, data_given, done_ends, fault_ends, keeps_all, refused_ends, rest_of, unread_over, uses_updated}
+use Rattle.x7_tool.proofs.UpdateLemmas.{cause_from, data_given, done_ends, fault_ends, keeps_all, refused_ends, rest_of, unopened_over, unread_over, uses_updated}
 use Rattle.x7_tool.proofs.update.update.Goals as goal
+
+pub returns-in-Err-clause-ends : goal.returns-in-Err-clause-ends
+returns-in-Err-clause-ends g c = λ before after out.
+    let first = g.F.Flash.state c.args.flash.now in
+    let mid = g.F.Flash.state c.open_flash.new.flash in
+    let old : Outside = record before { inputs = g.I.Inputs.state c.args.inputs.now; flash = first } in
+    let new : Outside = record after { inputs = g.I.Inputs.state c.args.inputs.now; flash = mid } in
+    let event = event_of c.in-Err.refusal in
+    refused_ends c.args.name.now c.args.stream.now old new event out (unopened_over c.args.name.now c.args.stream.now old new event c.in-Err.ensures.err) (keeps_all event.reason first mid c.open_flash.ensures.stays.bytes)
 
 pub returns-in-Err-read_stream-clause-ends : goal.returns-in-Err-read_stream-clause-ends
 returns-in-Err-read_stream-clause-ends g c = λ before after out.
@@ -40,7 +49,7 @@ returns-in-Ok-update-clause-ends g c = λ before after out.
     let old : Outside = record before { inputs = i.state c.args.inputs.now; flash = first } in
     let new : Outside = record after { inputs = i.state c.read_stream.new.inputs; flash = last } in
     let within = subst (λ (o : Option (List ℕ)). WhereTold o (λ all. length all ≤ flash_limit)) same c.in-Ok.ensures.within in
-    let has = data_given (with_inputs old.inputs.contents first.bytes) new.inputs.given (FailsAmong (stream ∷ []) old.inputs new.inputs) (LacksAmong (stream ∷ []) old.inputs new.inputs) stream (data_from read) bytes (c.in-Ok-read_stream.ensures.due first.bytes) (rest_of c.deref.result.now read.bytes.items read.start c.deref.ensures.value) in
+    let has = data_given (with_inputs old.inputs.contents first.bytes) (CameIn (step_over (stream ∷ []) old.inputs new.inputs)) stream (data_from read) bytes (c.in-Ok-read_stream.ensures.due first.bytes) (rest_of c.deref.result.now read.bytes.items read.start c.deref.ensures.value) in
     let layout = subst (λ (o : Option (List ℕ)). WhereTold o HasLayout) same c.in-Ok-update.ensures.layout in
     let becomes = subst (λ (o : Option (List ℕ)). BecomesBytes (IsAfter bytes) o last.bytes) same c.in-Ok-update.ensures.updated in
     done_ends c.args.name.now stream bytes old new out within has layout becomes
@@ -54,7 +63,7 @@ returns-in-Ok-update-clause-flash g c =
     let bytes = take (length c.deref.result.now - read.start) (drop read.start c.deref.result.now) in
     let old = i.state c.args.inputs.now in
     let new = i.state c.read_stream.new.inputs in
-    let has = data_given (with_inputs old.contents first.bytes) new.given (FailsAmong (stream ∷ []) old new) (LacksAmong (stream ∷ []) old new) stream (data_from read) bytes (c.in-Ok-read_stream.ensures.due first.bytes) (rest_of c.deref.result.now read.bytes.items read.start c.deref.ensures.value) in
+    let has = data_given (with_inputs old.contents first.bytes) (CameIn (step_over (stream ∷ []) old new)) stream (data_from read) bytes (c.in-Ok-read_stream.ensures.due first.bytes) (rest_of c.deref.result.now read.bytes.items read.start c.deref.ensures.value) in
     uses_updated c.args.name.now stream bytes old first (g.F.Flash.state c.open_flash.new.flash) (g.F.Flash.state c.update.new.flash) _ _ _ c.open_flash.ensures.stays c.open_flash.ensures.asks has c.update.ensures.only c.update.ensures.any_moment
 
 pub returns-clause-ends : goal.returns-clause-ends
@@ -71,10 +80,10 @@ returns-clause-ends g c = λ before after out.
     let old : Outside = record before { inputs = i.state c.args.inputs.now; flash = first } in
     let new : Outside = record after { inputs = i.state c.read_stream.new.inputs; flash = last } in
     let within = subst (λ (o : Option (List ℕ)). WhereTold o (λ all. length all ≤ flash_limit)) stays.bytes c.in-Ok.ensures.within in
-    let has = data_given (with_inputs old.inputs.contents first.bytes) new.inputs.given (FailsAmong (stream ∷ []) old.inputs new.inputs) (LacksAmong (stream ∷ []) old.inputs new.inputs) stream (data_from read) bytes (c.in-Ok-read_stream.ensures.due first.bytes) (rest_of c.deref.result.now read.bytes.items read.start c.deref.ensures.value) in
+    let has = data_given (with_inputs old.inputs.contents first.bytes) (CameIn (step_over (stream ∷ []) old.inputs new.inputs)) stream (data_from read) bytes (c.in-Ok-read_stream.ensures.due first.bytes) (rest_of c.deref.result.now read.bytes.items read.start c.deref.ensures.value) in
     let asked = subst (λ (names : List ℕ → Bool). IsTrue (names name)) (sym c.update.ensures.only.names) c.open_flash.ensures.asks.asked in
     let cause = cause_from bytes first mid last c.in-Err-update.fault stays.bytes stays.unwritten.write_faults stays.faults c.in-Err-update.ensures.refused in
-    subst (λ (e : Event). EndsAs (Some (Updating name stream)) old new (Err e)) (sym c.refusal_of.ensures)
+    subst (λ (e : Event). EndsAs (Some (UpdatingFlash name stream)) old new (Err e)) (sym c.refusal_of.ensures)
     (fault_ends name stream bytes old new c.in-Err-update.fault out asked within has cause (λ early. let reads = c.in-Err-update.ensures.unchanged early in reads.bytes ∙ stays.bytes))
 
 pub returns-clause-flash : goal.returns-clause-flash
@@ -86,5 +95,5 @@ returns-clause-flash g c =
     let bytes = take (length c.deref.result.now - read.start) (drop read.start c.deref.result.now) in
     let old = i.state c.args.inputs.now in
     let new = i.state c.read_stream.new.inputs in
-    let has = data_given (with_inputs old.contents first.bytes) new.given (FailsAmong (stream ∷ []) old new) (LacksAmong (stream ∷ []) old new) stream (data_from read) bytes (c.in-Ok-read_stream.ensures.due first.bytes) (rest_of c.deref.result.now read.bytes.items read.start c.deref.ensures.value) in
+    let has = data_given (with_inputs old.contents first.bytes) (CameIn (step_over (stream ∷ []) old new)) stream (data_from read) bytes (c.in-Ok-read_stream.ensures.due first.bytes) (rest_of c.deref.result.now read.bytes.items read.start c.deref.ensures.value) in
     uses_updated c.args.name.now stream bytes old first (g.F.Flash.state c.open_flash.new.flash) (g.F.Flash.state c.update.new.flash) _ _ _ c.open_flash.ensures.stays c.open_flash.ensures.asks has c.update.ensures.only c.update.ensures.any_moment

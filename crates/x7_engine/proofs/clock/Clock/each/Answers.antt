@@ -40,4 +40,4 @@ returns-then-has_ended-clause-ticks c = λ kept h n l s.
     let within : newest_place h ≤ n + c.loop-i.i = omega (arith, l) in
     let clock = subst (λ (k : ℕ). IsClock c.args.part.now kept (clock_in c.byte.new.self) h k) sum (c.byte.ensures.stands kept h (n + c.loop-i.i) within before.0) in
     let none = none_more c.args.part.now kept h n c.loop-i.i before.1 (sym (c.byte.ensures.fires kept h (n + c.loop-i.i) within before.0) ∙ c.if-byte.false) in
-    c.go_on.ensures.ticks kept h n l none (sym (c.has_ended.ensures.value c.args.part.now h (n + (c.loop-i.i + 1)) clock.startup) ∙ c.if-has_ended.true) clock
+    c.go_on.ensures.ticks kept h n (record { newest = l; quiet = none; ended = sym (c.has_ended.ensures.value c.args.part.now h (n + (c.loop-i.i + 1)) clock.startup) ∙ c.if-has_ended.true; stands = clock })

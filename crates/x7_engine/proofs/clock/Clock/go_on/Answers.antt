@@ -1,16 +1,16 @@
 use Rattle.std.proofs.Common.{◌≡◌, ◌+◌, ◌-◌, arith}
 use Rattle.x7_engine.specs.Clock.{clock_in}
-use Rattle.x7_engine.proofs.ClockLemmas.{ended_on, ticks_none, ticks_some}
+use Rattle.x7_engine.proofs.ClockLemmas.{ended_alike, ticks_none, ticks_some}
 use Rattle.x7_engine.proofs.clock.Clock.go_on.Goals as goal
 
 pub returns-in-Some-clause-ticks : goal.returns-in-Some-clause-ticks
-returns-in-Some-clause-ticks c = λ kept h n l f e s.
+returns-in-Some-clause-ticks c = λ kept h n b.
     let sum : c.args.taken + (c.args.count - c.args.taken) ≡ c.args.count = omega (arith, c.requires) in
-    ticks_some c.args.part.now kept (clock_in c.alike.new.self) h n c.args.taken (c.args.count - c.args.taken) c.args.count c.in-Some.k sum f
-    (c.in-Some.ensures.ticks kept h (n + c.args.taken) (omega (arith, l)) (λ i m. ended_on c.args.part.now h (n + c.args.taken) i (omega (arith, l)) e) s)
+    ticks_some c.args.part.now kept (clock_in c.alike.new.self) h n c.args.taken (c.args.count - c.args.taken) c.args.count c.in-Some.k sum b.quiet
+    (c.in-Some.ensures.ticks kept h (n + c.args.taken) (ended_alike c.args.part.now kept (clock_in c.args.self.now) h n c.args.taken (c.args.count - c.args.taken) b.newest b.ended b.stands))
 
 pub returns-in-None-clause-ticks : goal.returns-in-None-clause-ticks
-returns-in-None-clause-ticks c = λ kept h n l f e s.
+returns-in-None-clause-ticks c = λ kept h n b.
     let sum : c.args.taken + (c.args.count - c.args.taken) ≡ c.args.count = omega (arith, c.requires) in
-    ticks_none c.args.part.now kept (clock_in c.alike.new.self) h n c.args.taken (c.args.count - c.args.taken) c.args.count sum f
-    (c.in-None.ensures.ticks kept h (n + c.args.taken) (omega (arith, l)) (λ i m. ended_on c.args.part.now h (n + c.args.taken) i (omega (arith, l)) e) s)
+    ticks_none c.args.part.now kept (clock_in c.alike.new.self) h n c.args.taken (c.args.count - c.args.taken) c.args.count sum b.quiet
+    (c.in-None.ensures.ticks kept h (n + c.args.taken) (ended_alike c.args.part.now kept (clock_in c.args.self.now) h n c.args.taken (c.args.count - c.args.taken) b.newest b.ended b.stands))

@@ -10,7 +10,7 @@ use Rattle.x7_engine.proofs.ClockLemmas.{startup_written, watch_written}
 use Rattle.x7_engine.proofs.clock.Clock.write.Goals as goal
 
 pub returns : goal.returns
-returns c = λ part kept h place w s.
+returns c = λ place part kept h w s.
     let access : Access = Write (number_of c.args.reg) c.args.word in
     record {
       startup = subst (λ t. StandsFor part.lock part.matched c.move_startup.new.startup t) (startup_written h access place c.args.executed c.args.taken c.args.cor0 w.executed_is w.taken_is w.cor0_is)

@@ -1,8 +1,8 @@
-use Rattle.std.proofs.Common.{◌≡◌, ◌<◌, ◌+◌, ◌++◌, ℕ, true, false, Option, List, length, take, sym, ap, subst, ◌∙◌, append-nil, refl, [], arith}
+use Rattle.std.proofs.Common.{◌≡◌, ◌+◌, ◌++◌, ℕ, true, false, Option, List, length, take, sym, ap, subst, ◌∙◌, append-nil, refl, arith}
 use Rattle.std.specs.Option.{is_some}
 use Rattle.x7_engine.specs.declared.fed.Fed.{Fed}
 use Rattle.x7_engine.specs.declared.stop.Stop.{Stop}
-use Rattle.x7_engine.specs.Standing.{Answers, DeviceStandsFor, DeviceState, NoWordDue, due_count, fed_by, fed_more, taken_in, told_of}
+use Rattle.x7_engine.specs.Standing.{Answers, DeviceStandsFor, DeviceState, NoWordDue, fed_by, fed_more, taken_in, told_of}
 use Rattle.x7_engine.specs.Stops.{stopped_at}
 use Rattle.x7_engine.specs.UntilRead.{ReadBefore, no_room}
 use Rattle.x7_engine.proofs.FeedLemmas.{answers_stop, stands_on, taken_by_stop, told_on}
@@ -50,7 +50,7 @@ returns-in-Some-clause-told c = λ part kept wrapped bytes s.
 
 pub returns-in-Some-clause-first : goal.returns-in-Some-clause-first
 returns-in-Some-clause-first c = λ part kept wrapped bytes s.
-    subst (λ (k : ℕ). ReadBefore part kept bytes c.args.piece.now k (told_of part kept c.args.self.now bytes)) (sym (stop_count c)) (c.runs.invariant.first part kept wrapped bytes s)
+    subst (λ (k : ℕ). ReadBefore (record { part = part; kept = kept; wrapped = wrapped; bytes = bytes }) c.args.piece.now k (told_of part kept c.args.self.now bytes)) (sym (stop_count c)) (c.runs.invariant.first part kept wrapped bytes s)
 
 -- ---- a turn
 
@@ -83,7 +83,7 @@ returns-then-turn-clause-told c = λ part kept wrapped bytes s.
 pub returns-then-turn-clause-first : goal.returns-then-turn-clause-first
 returns-then-turn-clause-first c = λ part kept wrapped bytes s.
     let used = c.turn.ensures.used_up c.if-turn.true in
-    subst (λ (k : ℕ). ReadBefore part kept bytes c.args.piece.now k (told_of part kept c.args.self.now bytes)) used.0 (
+    subst (λ (k : ℕ). ReadBefore (record { part = part; kept = kept; wrapped = wrapped; bytes = bytes }) c.args.piece.now k (told_of part kept c.args.self.now bytes)) used.0 (
     let taken : List ℕ = bytes ++ take c.runs.at c.args.piece.now in
     let here : DeviceStandsFor part kept wrapped c.runs.self taken = c.runs.invariant.stands part kept wrapped bytes s in
     let due : NoWordDue c.runs.self = grind (arith, c.has_word_due.ensures, c.if-has_word_due.false) in

@@ -18,7 +18,7 @@ invariant-runs l = record {
   told : (part : PartData) (kept : Kept) (wrapped : Bool) (bytes : List ℕ) → DeviceStandsFor part kept wrapped l.initial.self bytes
       → told_of part kept l.self (bytes ++ take l.at l.piece) ≡ told_of part kept l.initial.self bytes;
   first : (part : PartData) (kept : Kept) (wrapped : Bool) (bytes : List ℕ) → DeviceStandsFor part kept wrapped l.initial.self bytes
-      → ReadBefore part kept bytes l.piece l.at (told_of part kept l.initial.self bytes);
+      → ReadBefore (record { part = part; kept = kept; wrapped = wrapped; bytes = bytes }) l.piece l.at (told_of part kept l.initial.self bytes);
   stopped : is_some l.initial.self.registers.stop ≡ true → (l.self ≡ l.initial.self) × (l.at ≡ 0);
 }
 

@@ -2,6 +2,7 @@ use Rattle.std.proofs.Common.{◌≡◌, ◌+◌, ◌-◌, ◌^◌, ◌≤◌, �
 use Rattle.std.specs.Option.{is_some}
 use Rattle.x7_packets.specs.Cutting.{calls_left}
 use Rattle.x7_part.specs.Part.{PartData}
+use Rattle.x7_engine.specs.UntilRead.{RoomBefore}
 use Rattle.x7_engine.specs.declared.kept.Kept.{Kept}
 use Rattle.x7_engine.specs.ReadBuffer.{with_words}
 use Rattle.x7_engine.specs.Standing.{DeviceStandsFor, fed_more, fed_of, told_of}
@@ -19,6 +20,8 @@ invariant-runs l = record {
   first : (part : PartData) (kept : Kept) (wrapped : Bool) (bytes : List ℕ) → DeviceStandsFor part kept wrapped l.initial.self bytes → NoneStarted part kept bytes l.piece l.at;
   reads : (part : PartData) (kept : Kept) (wrapped : Bool) (bytes : List ℕ) → DeviceStandsFor part kept wrapped l.initial.self bytes
       → (more : List ℕ) × (l.read ≡ with_words l.initial.read more) × (told_of part kept l.self (bytes ++ take l.at l.piece) ≡ told_of part kept l.initial.self bytes ++ more);
+  room : (part : PartData) (kept : Kept) (wrapped : Bool) (bytes : List ℕ) → DeviceStandsFor part kept wrapped l.initial.self bytes
+      → RoomBefore (record { part = part; kept = kept; wrapped = wrapped; bytes = bytes }) l.piece l.at (told_of part kept l.initial.self bytes) l.initial.read;
   stopped : is_some l.initial.self.registers.stop ≡ true → (l.self ≡ l.initial.self) × (l.read ≡ l.initial.read) × (l.at ≡ 0);
 }
 

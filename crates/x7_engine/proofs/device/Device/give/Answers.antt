@@ -16,6 +16,6 @@ returns-clause-given c = λ wanted kept wrapped bytes s.
     let after : DeviceState = record fields { registers = registers_in c.give.new.self } in
     let h : History = history_taken part kept bytes in
     let going : c.self.inside.registers.stop ≡ None = ap (λ (d : DeviceState). d.registers.stop) c.self.view_is ∙ c.requires.going in
-    subst (λ (d : DeviceState). Gives wanted kept wrapped d after bytes c.args.read.now c.give.new.read) c.self.view_is
-    (subst (λ (p : PartData). Gives p kept wrapped fields after bytes c.args.read.now c.give.new.read) here
+    subst (λ (d : DeviceState). Gives (record { part = wanted; kept = kept; wrapped = wrapped; bytes = bytes }) d after c.args.read.now c.give.new.read) c.self.view_is
+    (subst (λ (p : PartData). Gives (record { part = p; kept = kept; wrapped = wrapped; bytes = bytes }) fields after c.args.read.now c.give.new.read) here
     (given part kept wrapped fields (registers_in c.give.new.self) bytes c.args.read.now c.give.new.read going c.give.ensures.going stands (c.give.ensures.given kept h (length bytes) stands.registers_are)))

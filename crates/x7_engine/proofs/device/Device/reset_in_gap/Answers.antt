@@ -1,6 +1,5 @@
 use Rattle.std.proofs.Common.{◌≡◌, false, [], refl, sym, subst, ap, ◌∙◌}
 use Rattle.x7_part.specs.Part.{PartData}
-use Rattle.x7_flow.specs.Standing.{FramesFit}
 use Rattle.x7_engine.specs.Standing.{DeviceStandsFor, DeviceState, registers_in}
 use Rattle.x7_engine.proofs.GapLemmas.{gap_again}
 use Rattle.x7_engine.proofs.device.Device.reset_in_gap.Goals as goal

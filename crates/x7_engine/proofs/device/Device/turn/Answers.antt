@@ -1,37 +1,25 @@
-use Rattle.std.proofs.Common.{◌≡◌, ◌++◌, ℕ, List, sym, ap, subst, ◌∙◌, append_assoc}
+use Rattle.std.proofs.Common.{◌++◌, ℕ, sym, subst}
 use Rattle.x7_packets.specs.Cutting.{between}
-use Rattle.x7_engine.specs.Standing.{DeviceStandsFor, told_of}
+use Rattle.x7_engine.specs.Standing.{DeviceStandsFor, DeviceState}
 use Rattle.x7_engine.specs.UntilStarted.{CommandsLast}
-use Rattle.x7_engine.proofs.PassLemmas.{between_join}
-use Rattle.x7_engine.proofs.UntilLemmas.{quiet_commands, then_commands}
 use Rattle.x7_engine.proofs.device.Device.turn.Goals as goal
 
--- the bytes of the no-ops, and then those of the run
-joined : (c : goal.After-take_run) (bytes : List ℕ)
-    → (bytes ++ between c.args.piece.now c.args.at.now c.pass_nops.new.at) ++ between c.args.piece.now c.pass_nops.new.at c.take_run.new.at ≡ bytes ++ between c.args.piece.now c.args.at.now c.take_run.new.at
-joined c bytes =
-    append_assoc bytes (between c.args.piece.now c.args.at.now c.pass_nops.new.at) (between c.args.piece.now c.pass_nops.new.at c.take_run.new.at)
-    ∙ ap (λ (t : List ℕ). bytes ++ t) (between_join c.args.piece.now c.args.at.now c.pass_nops.new.at c.take_run.new.at c.pass_nops.ensures.forward c.take_run.ensures.forward)
+pub returns-then-take_write-clause-stands : goal.returns-then-take_write-clause-stands
+returns-then-take_write-clause-stands c = c.take_write.ensures.stands c.if-take_write.true
+
+pub returns-then-take_write-clause-commands : goal.returns-then-take_write-clause-commands
+returns-then-take_write-clause-commands c = c.take_write.ensures.commands c.if-take_write.true
+
+-- where there is no write, the next run is taken of the device as it was
 
 pub returns-clause-stands : goal.returns-clause-stands
 returns-clause-stands c = λ part kept wrapped bytes s.
-    subst (λ (t : List ℕ). DeviceStandsFor part kept wrapped c.take_run.new.self t) (joined c bytes)
-    (c.take_run.ensures.stands part kept wrapped (bytes ++ between c.args.piece.now c.args.at.now c.pass_nops.new.at) (c.pass_nops.ensures.stands part kept wrapped bytes s))
-
-pub returns-clause-told : goal.returns-clause-told
-returns-clause-told c = λ part kept wrapped bytes s.
-    ap (told_of part kept c.take_run.new.self) (sym (joined c bytes))
-    ∙ c.take_run.ensures.told part kept wrapped (bytes ++ between c.args.piece.now c.args.at.now c.pass_nops.new.at) (c.pass_nops.ensures.stands part kept wrapped bytes s)
-    ∙ c.pass_nops.ensures.told part kept wrapped bytes s
+    let same = c.take_write.ensures.none c.if-take_write.false in
+    subst (λ (at : ℕ). DeviceStandsFor part kept wrapped c.take_next.new.self (bytes ++ between c.args.piece.now at c.take_next.new.at)) same.1
+    (c.take_next.ensures.stands part kept wrapped bytes (subst (λ (d : DeviceState). DeviceStandsFor part kept wrapped d bytes) (sym same.0) s))
 
 pub returns-clause-commands : goal.returns-clause-commands
 returns-clause-commands c = λ part kept wrapped bytes s.
-    let nops : List ℕ = between c.args.piece.now c.args.at.now c.pass_nops.new.at in
-    let run : List ℕ = between c.args.piece.now c.pass_nops.new.at c.take_run.new.at in
-    let stands = c.pass_nops.ensures.stands part kept wrapped bytes s in
-    subst (CommandsLast bytes) (between_join c.args.piece.now c.args.at.now c.pass_nops.new.at c.take_run.new.at c.pass_nops.ensures.forward c.take_run.ensures.forward)
-    (then_commands bytes nops run stands.fits (c.pass_nops.ensures.quiet part kept wrapped bytes s) (c.take_run.ensures.commands part kept wrapped (bytes ++ nops) stands))
-
-pub returns-then-has_stopped-clause-commands : goal.returns-then-has_stopped-clause-commands
-returns-then-has_stopped-clause-commands c = λ part kept wrapped bytes s.
-    quiet_commands bytes (between c.args.piece.now c.args.at.now c.pass_nops.new.at) (c.pass_nops.ensures.stands part kept wrapped bytes s).fits (c.pass_nops.ensures.quiet part kept wrapped bytes s)
+    let same = c.take_write.ensures.none c.if-take_write.false in
+    subst (λ (at : ℕ). CommandsLast bytes (between c.args.piece.now at c.take_next.new.at)) same.1
+    (c.take_next.ensures.commands part kept wrapped bytes (subst (λ (d : DeviceState). DeviceStandsFor part kept wrapped d bytes) (sym same.0) s))

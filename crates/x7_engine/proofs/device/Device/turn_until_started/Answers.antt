@@ -1,4 +1,6 @@
-use Rattle.x7_engine.proofs.UntilLemmas.{turn_first, turn_stands, turn_told}
+use Rattle.std.proofs.Common.{subst}
+use Rattle.x7_engine.specs.UntilStarted.{CommandsLast}
+use Rattle.x7_engine.proofs.UntilLemmas.{in_slice, turn_first, turn_stands, turn_told}
 use Rattle.x7_engine.proofs.device.Device.turn_until_started.Goals as goal
 
 pub returns-then-turn-clause-stands : goal.returns-then-turn-clause-stands
@@ -26,3 +28,9 @@ pub returns-clause-first : goal.returns-clause-first
 returns-clause-first c = λ part kept wrapped bytes s not.
     turn_first part kept wrapped c.args.self.now c.turn.new.self bytes c.args.piece.now c.turn_end-end.result c.args.at.now c.turn.new.at c.turn_end-end.ensures.within c.turn.ensures.forward c.turn.ensures.within c.requires.going
     s (c.turn.ensures.stands part kept wrapped bytes s) (c.turn.ensures.commands part kept wrapped bytes s) (c.turn_end-end.ensures.few part kept wrapped bytes s) not
+
+pub returns-then-turn-clause-commands : goal.returns-then-turn-clause-commands
+returns-then-turn-clause-commands c = λ part kept wrapped bytes s. subst (CommandsLast bytes) (in_slice c.args.piece.now c.turn_end-end.result c.args.at.now c.turn.new.at c.turn_end-end.ensures.within c.turn.ensures.forward c.turn.ensures.within) (c.turn.ensures.commands part kept wrapped bytes s)
+
+pub returns-clause-commands : goal.returns-clause-commands
+returns-clause-commands c = λ part kept wrapped bytes s. subst (CommandsLast bytes) (in_slice c.args.piece.now c.turn_end-end.result c.args.at.now c.turn.new.at c.turn_end-end.ensures.within c.turn.ensures.forward c.turn.ensures.within) (c.turn.ensures.commands part kept wrapped bytes s)

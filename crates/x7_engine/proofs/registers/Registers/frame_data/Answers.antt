@@ -8,6 +8,7 @@ use Rattle.x7_part.specs.Part.{PartData}
 use Rattle.x7_flow.specs.Controls.{is_matched}
 use Rattle.x7_flow.specs.Standing.{FramesStandFor}
 use Rattle.x7_flow.specs.Words.{NoneRefused, with_words}
+use Rattle.x7_engine.specs.Course.{course_at}
 use Rattle.x7_engine.specs.Clock.{ClockState, Ticks, clock_in, newest_place}
 use Rattle.x7_engine.specs.Standing.{controls_in, registers_in}
 use Rattle.x7_engine.specs.Watching.{first_firing}
@@ -36,7 +37,7 @@ returns-clause-stands c = λ kept h n s.
     let size : length front ≡ k = length_of_words (take (k * 4) bytes) ∙ omega (arith, length-take-le (k * 4) bytes (omega (arith, few, c.before_firing.ensures.within))) in
     let newest : newest_place h ≤ n = newest_within n h s.places in
     let none : first_firing part kept h n (k * 4) ≡ None = firing_less part kept h n (k * 4) c.before_firing.result (omega (arith, few)) (c.before_firing.ensures.none kept h n newest s.clock) in
-    let ticks : Ticks part kept clock h n (k * 4) None = ticks_quiet part kept clock h n (k * 4) c.bytes.result none (c.bytes.ensures.ticks kept h n newest s.clock) in
+    let ticks : Ticks (course_at part kept h n) clock (k * 4) None = ticks_quiet part kept clock h n (k * 4) c.bytes.result none (c.bytes.ensures.ticks kept h n newest s.clock) in
     let after = ticked part kept (registers_in c.args.self.now) clock h n (k * 4) m refl c.requires.going s ticks in
     let are : FramesStandFor part c.args.self.now.frames h 0 = standing_frames part c.args.self.now.frames c.args.self.now.stop h c.args.self.now.due c.requires.going c.requires.none_due s.frames in
     let words = given part _ n h looked c.write_words-count.result.0 c.write_words-count.result.1 (c.write_words-count.ensures.taken n h (c.settings-settings.ensures.after part kept h n s) are) in

@@ -7,6 +7,7 @@ use Rattle.x7_flow.specs.FrameAccess.{reads_frame_data}
 use Rattle.x7_flow.specs.Flow.{frame_fault}
 use Rattle.x7_flow.specs.Standing.{FramesStandFor, frames_read}
 use Rattle.x7_flow.proofs.StandingLemmas.{other_read}
+use Rattle.x7_engine.specs.Course.{course_at}
 use Rattle.x7_engine.specs.declared.kept.Kept.{Kept}
 use Rattle.x7_engine.specs.declared.stop.Stop.{Stop}
 use Rattle.x7_engine.specs.Standing.{FramesAre, frames_due, registers_in}
@@ -20,8 +21,8 @@ use Rattle.x7_engine.proofs.registers.Registers.read.Goals as goal
 read_line : (part : PartData) (kept : Kept) (h : History) (register count : ℕ) (result : Option RunFault) → frame_fault part h (Read register count) ≡ result → line_at part kept h (Read register count) ≡ frame_line result
 read_line part kept h register count result e = ap frame_line e
 
-answered : (part : PartData) (kept : Kept) (h : History) (register count place : ℕ) (line : Option Stop) → line_at part kept h (Read register count) ≡ line → answer_of part kept h (Read register count) place ≡ (if is_some line then [] else words_read part kept h place register count)
-answered part kept h register count place line e = ap (λ (o : Option Stop). if is_some o then [] else words_read part kept h place register count) e
+answered : (part : PartData) (kept : Kept) (h : History) (register count place : ℕ) (line : Option Stop) → line_at part kept h (Read register count) ≡ line → answer_of part kept h (Read register count) place ≡ (if is_some line then [] else words_read (course_at part kept h place) register count)
+answered part kept h register count place line e = ap (λ (o : Option Stop). if is_some o then [] else words_read (course_at part kept h place) register count) e
 
 pub returns-then-not-reads_frames-clause-stands : goal.returns-then-not-reads_frames-clause-stands
 returns-then-not-reads_frames-clause-stands c = λ kept h place next s.
@@ -50,7 +51,7 @@ returns-then-not-reads_frames-clause-reads c = λ kept h place s.
     let are : FramesStandFor part c.args.self.now.frames h 0 = standing_frames part c.args.self.now.frames c.args.self.now.stop h c.args.self.now.due c.requires.going c.requires.none_due s.frames in
     let read = other_read part c.args.self.now.frames.pipeline c.args.self.now.frames.memory h c.args.register c.args.count place other are in
     answered part kept h c.args.register c.args.count place None (read_line part kept h c.args.register c.args.count None read.0)
-    ∙ ap (λ b. if b then frames_read part h c.args.count else replicate c.args.count (read_value part kept h place c.args.register)) other
+    ∙ ap (λ b. if b then frames_read part h c.args.count else replicate c.args.count (read_value (course_at part kept h place) c.args.register)) other
     ∙ ap (replicate c.args.count) (sym (c.read_value.ensures c.requires.going c.requires.none_due kept h place s))
 
 pub returns-in-Some-clause-stands : goal.returns-in-Some-clause-stands
@@ -112,5 +113,5 @@ returns-in-None-clause-reads c = λ kept h place s.
     let are : FramesStandFor part c.args.self.now.frames h 0 = standing_frames part c.args.self.now.frames c.args.self.now.stop h c.args.self.now.due c.requires.going c.requires.none_due s.frames in
     let read = c.in-None.ensures h c.args.register place frames are in
     answered part kept h c.args.register c.args.count place None (read_line part kept h c.args.register c.args.count None read.0)
-    ∙ ap (λ b. if b then frames_read part h c.args.count else replicate c.args.count (read_value part kept h place c.args.register)) frames
+    ∙ ap (λ b. if b then frames_read part h c.args.count else replicate c.args.count (read_value (course_at part kept h place) c.args.register)) frames
     ∙ sym read.2

@@ -22,7 +22,7 @@ returns-clause-stands c = λ kept h place next s.
     let going : stop_of part kept h place ≡ None = s.stop ∙ ap (stopped_at place) c.requires.going in
     let are : FramesStandFor part c.args.self.now.frames h 0 = standing_frames part c.args.self.now.frames c.args.self.now.stop h c.args.self.now.due c.requires.going c.requires.none_due s.frames in
     let refused = c.write-refused.ensures.fault h (c.settings-settings.ensures.after part kept h place s) are in
-    let line = c.line_of-line.ensures.value part kept h place e s command in
+    let line = c.line_of-line.ensures.value part e kept h place s command in
     let after = c.write-refused.ensures.stands h (c.settings-settings.ensures.after part kept h place s) are place in
     record {
       places = (next.0, omega arith, next.1);
@@ -31,7 +31,7 @@ returns-clause-stands c = λ kept h place next s.
       progress = subst (λ (i : ℕ). IsProgress i (progress_in c.write.new.self) (entry access place ∷ h)) e (c.write.ensures h place command progress);
       kind = s.kind;
       before = s.before;
-      clock = c.write-4.ensures part kept h place (record { executed_is = command; taken_is = taken; cor0_is = cor0 }) s.clock;
+      clock = c.write-4.ensures place part kept h (record { executed_is = command; taken_is = taken; cor0_is = cor0 }) s.clock;
       stop = stop_of-access part kept h access place going ∙ ap (stopped_at place) (sym (line_is part kept h access c.line_of-line.result c.first_line-self.result c.write-refused.result refused line c.first_line-self.ensures.value));
       frames = subst (λ (n : ℕ). FramesAre part c.write-refused.new.self c.first_line-self.result (entry access place ∷ h) n) (sym (none_frames c.args.self.now.due c.requires.none_due))
           (access_frames part kept c.args.self.now.frames c.write-refused.new.self h (entry access place) c.line_of-line.result c.first_line-self.result c.write-refused.result are after refused line c.first_line-self.ensures.value);

@@ -2,7 +2,7 @@ use Rattle.std.proofs.Common.{◌≡◌, ℕ, List, [], ◌∷◌, ◌++◌, map
 use Rattle.x7_words.specs.Word.{word_of_bytes, words_of_bytes}
 use Rattle.x7_packets.specs.History.{entered_all}
 use Rattle.x7_packets.specs.Packet.{payload_steps}
-use Rattle.x7_crc.proofs.CheckLemmas.{words_by_chunks}
+use Rattle.x7_words.proofs.WordLemmas.{words_by_chunks}
 use Rattle.x7_engine.specs.Registers.{word_held}
 use Rattle.x7_engine.proofs.PlainLemmas.{word_held-all, words_last}
 use Rattle.x7_engine.proofs.words.Words.pass_all.Goals as goal

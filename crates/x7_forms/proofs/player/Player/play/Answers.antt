@@ -1,6 +1,7 @@
 use Rattle.std.proofs.Common.{◌<◌, arith}
 use Rattle.x7_words.specs.Word.{AreBytes}
 use Rattle.x7_words.proofs.ListLemmas.{all_from_places}
+use Rattle.x7_forms.specs.Play.{play_state}
 use Rattle.x7_forms.proofs.PlayerLemmas.{not_over, over_stays}
 use Rattle.x7_forms.proofs.player.Player.play.Goals as goal
 
@@ -9,15 +10,15 @@ returns-then-self-clause-ok c = λ part bytes h.
     let p = c.args.self.now in
     let piece = c.args.piece.now in
     let fits : AreBytes piece = all_from_places (λ b. b < 256) piece (λ k l. omega (arith, c.type_inv.piece k)) in
-    over_stays p.over part bytes piece p.device p.buffer p.reads.items c.if-self.true fits h
+    over_stays p.over part bytes piece (play_state p.device p.buffer p.reads.items) c.if-self.true fits h
 
-pub returns-in-Err-clause-front : goal.returns-in-Err-clause-front
-returns-in-Err-clause-front c =
+pub returns-in-Err-clause-prefix : goal.returns-in-Err-clause-prefix
+returns-in-Err-clause-prefix c =
     let p = c.args.self.now in
-    let f = c.in-Err.ensures.front in
+    let f = c.in-Err.ensures.prefix in
     record {
-      front = f.front;
+      prefix = f.prefix;
       left = f.left;
       parts = f.parts;
-      holds = λ part bytes h. f.holds part bytes (not_over p.over part bytes p.device p.buffer p.reads.items c.if-self.false h);
+      holds = λ part bytes h. f.holds part bytes (not_over p.over part bytes (play_state p.device p.buffer p.reads.items) c.if-self.false h);
     }

@@ -1,6 +1,6 @@
 use Rattle.std.proofs.Common.{ap, arith, length}
+use Rattle.x7_words.proofs.WordLemmas.{words_count}
 use Rattle.x7_pipeline.specs.Pipeline.{PipelineData}
-use Rattle.x7_pipeline.proofs.FrameLemmas.{words_count}
 use Rattle.x7_pipeline.proofs.pipeline.Pipeline.write_frame.Goals as goal
 
 pub invariant_of-self : goal.invariant_of-self

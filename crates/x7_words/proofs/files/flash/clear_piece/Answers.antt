@@ -1,7 +1,7 @@
 use Rattle.std.proofs.Common.{ℕ, length, length-take-le, replicate, arith, subst, ◌∙◌}
 use Rattle.std.proofs.lemmas.List.{length-replicate}
 use Rattle.std.proofs.lemmas.Result.{on_ok_weaker}
-use Rattle.x7_words.specs.Files.{WritesAt}
+use Rattle.x7_words.specs.Files.{WritesAt, file_tells}
 use Rattle.x7_words.proofs.files.flash.clear_piece.Goals as goal
 
 pub returns : goal.returns
@@ -10,6 +10,6 @@ returns g c =
       before = c.read_from.new.buf;
       between = c.read_from.new.file;
       long = c.in_ok-read_from.ensures.length ∙ length-take-le (length c.args.given.now) (replicate 4096 0) (omega (arith, c.requires, length-replicate {A = ℕ} 4096 0));
-      reads = c.in_ok-read_from.ensures.read;
-      writes = subst (λ bytes. WritesAt g.F.Seek.stream_position g.F.Write.contents c.args.place bytes c.read_from.new.file c.write_from.new.file) c.clear_bits.ensures w;
+      read = c.in_ok-read_from.ensures.read;
+      written = subst (λ bytes. WritesAt (file_tells g.F.Seek.stream_position g.F.Write.contents) c.args.place bytes c.read_from.new.file c.write_from.new.file) c.clear_bits.ensures w;
     }) c.write_from.ensures

@@ -9,8 +9,9 @@ loop-done-preserved g c =
     let given = c.args.given.now in
     let done = c.loop-done.done in
     let next = done + c.min-count.result in
-    let tells = file_tells g.F.Seek.stream_position g.F.Read.remaining g.F.Write.contents in
+    let reads = file_tells g.F.Seek.stream_position g.F.Read.remaining in
+    let writes = file_tells g.F.Seek.stream_position g.F.Write.contents in
     let size : length (take done given) ≡ done = length-take-le done given c.loop-done.invariant.0 in
     let count : c.min-count.result ≡ next - done = omega arith in
     let both : take next given ≡ take done given ++ take (next - done) (drop done given) = take-add done c.min-count.result given ∙ ap (λ n. take done given ++ take n (drop done given)) count in
-    (omega arith, clears-more tells c.args.place _ (take done given) (take (next - done) (drop done given)) (take next given) c.args.file.now c.loop-done.file c.clear_piece.new.file c.loop-done.invariant.1 (omega (arith, size)) c.in_ok-clear_piece.ensures both)
+    (omega arith, clears-more reads writes c.args.place _ (take done given) (take (next - done) (drop done given)) (take next given) c.args.file.now c.loop-done.file c.clear_piece.new.file c.loop-done.invariant.1 (omega (arith, size)) c.in_ok-clear_piece.ensures both)

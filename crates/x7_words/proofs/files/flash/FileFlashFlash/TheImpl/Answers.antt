@@ -7,15 +7,15 @@ attach-tells g c =
     let old = c.args.self.now in
     let new = c.new.self.now in
     record {
-      ok = attached-ok _ _ new.extent new.file c.result c.ensures.extent;
-      refused = attached-refused old new new.file new.extent new.refusal c.result c.ensures.after;
-      err = attached-err old new new.file new.extent new.refusal c.result c.ensures.after;
+      ok = attached-ok _ new.extent new.file c.result c.ensures.extent;
+      refused = attached-refused old new c.result c.ensures.after;
+      err = attached-err old new c.result c.ensures.after;
       asks = record { asked = refl; no_other = λ other had. inl refl };
       stays = record {
         bytes = refl;
         faults = c.ensures.faults;
         absences = c.ensures.absences;
-        unwritten = untold_unwritten old new (attach_write_faults old new new.file new.extent new.refusal c.result c.ensures.after);
+        unwritten = untold_unwritten old new (attach_write_faults old new c.result c.ensures.after);
       };
       sized = tt;
       fits = (c.ensures.last_fault, c.ensures.last_absence);

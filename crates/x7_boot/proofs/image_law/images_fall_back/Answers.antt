@@ -1,5 +1,0 @@
-use Rattle.x7_boot.proofs.ImageBootLemmas.{falls_back_from}
-use Rattle.x7_boot.proofs.image_law.images_fall_back.Goals as goal
-
-pub returns : goal.returns
-returns c = falls_back_from

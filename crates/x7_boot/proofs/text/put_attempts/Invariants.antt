@@ -1,0 +1,12 @@
+use Rattle.std.proofs.Common.{◌≡◌, ◌+◌, ◌++◌, length}
+use Rattle.x7_boot.specs.BootLines.{attempts_text}
+use Rattle.x7_boot.proofs.text.put_attempts.Given as goal
+
+abbrev pub invariant-lines : goal.invariant-lines
+invariant-lines l = record {
+  lines : l.text.items ++ attempts_text l.number l.rest ≡ l.fn.text.items ++ attempts_text 0 l.attempts;
+  count : l.number + length l.rest ≡ length l.attempts;
+}
+
+abbrev pub decreases-lines : goal.decreases-lines
+decreases-lines l = length l.rest

@@ -1,0 +1,115 @@
+//! What a boot came to, as lines of text.
+ghost use Rattle.std.specs.Prelude.{◌≡◌, ◌++◌, decimal, OnOk};
+ghost use Rattle.x7_text.specs.Digits.{hex_word};
+ghost use Rattle.x7_boot.specs.BootLines.{attempt_text, attempts_text, boot_end_text, boot_head, cause_text, ending_text, kind_text};
+
+use crate::attempt::Ending;
+use crate::boots::{BootEnd, Tried};
+use x7_regs::{Cause, Kind};
+use x7_text::{hex_of_word, make_room, put_decimal, put_text};
+use x7_words::NoMemory;
+
+/// What began an attempt, in a word.
+fn kind_words(kind: Kind) -> &'static [u8]
+    ensures { result.now ≡ kind_text kind }
+{
+    match kind {
+        Kind::Bench => b"bench",
+        Kind::Power => b"power",
+        Kind::Iprog => b"iprog",
+        Kind::Fallback => b"fallback",
+    }
+}
+
+/// What an attempt failed by, in a word.
+fn cause_words(cause: Cause) -> &'static [u8]
+    ensures { result.now ≡ cause_text cause }
+{
+    match cause {
+        Cause::Watchdog => b"watchdog",
+        Cause::Id => b"id",
+        Cause::Crc => b"crc",
+        Cause::Wrap => b"wrap",
+    }
+}
+
+/// How an attempt ended, in a word.
+fn ending_words(ending: Ending) -> &'static [u8]
+    ensures { result.now ≡ ending_text ending }
+{
+    match ending {
+        Ending::Started => b"started",
+        Ending::Iprog => b"iprog",
+        Ending::Failed(cause) => cause_words(cause),
+    }
+}
+
+/// How a boot ended, as a line.
+fn end_line(end: BootEnd) -> &'static [u8]
+    ensures { result.now ≡ boot_end_text end }
+{
+    match end {
+        BootEnd::Started => b"end started\n",
+        BootEnd::Stopped => b"end stopped\n",
+        BootEnd::Loop => b"end loop\n",
+    }
+}
+
+/// Appends a number in decimal.
+fn put_count(text: &mut Vec<u8>, number: u64) -> Result<(), NoMemory>
+    ensures { OnOk result (text.new.items ≡ text.old.items ++ decimal number) }
+{
+    make_room(text, 20)?;
+    put_decimal(text, number);
+    Ok(())
+}
+
+/// Appends the line of the attempt of this number.
+#[tactic(auto, unfolding(crate::specs::BootLines::attempt_text))]
+fn put_attempt(text: &mut Vec<u8>, number: u64, tried: &Tried) -> Result<(), NoMemory>
+    ensures { OnOk result (text.new.items ≡ text.old.items ++ attempt_text number tried.now) }
+{
+    put_text(text, b"attempt ")?;
+    put_count(text, number)?;
+    put_text(text, b" ")?;
+    put_text(text, kind_words(tried.kind))?;
+    put_text(text, b" ")?;
+    put_text(text, &hex_of_word(tried.address))?;
+    put_text(text, b" ")?;
+    put_text(text, ending_words(tried.ending))?;
+    put_text(text, b"\n")
+}
+
+/// Appends the lines of attempts, numbered from 1.
+fn put_attempts(text: &mut Vec<u8>, attempts: &[Tried]) -> Result<(), NoMemory>
+    ensures { OnOk result (text.new.items ≡ text.old.items ++ attempts_text 0 attempts.now) }
+{
+    let mut number = 0u64;
+    let mut rest = attempts;
+    'lines: loop {
+        let [first, more @ ..] = rest else {
+            return Ok(());
+        };
+        number += 1;
+        put_attempt(text, number, first)?;
+        rest = more;
+    }
+}
+
+/// Appends to `text` the lines of a boot (this project's choice): `boot NAME`; for each attempt `attempt N KIND ADDRESS ENDING`,
+/// N from 1; and `end` and how the boot ended. After an error the first of them may stand there.
+#[tactic(auto, unfolding(crate::specs::BootLines::boot_head))]
+pub fn boot_lines(
+    text: &mut Vec<u8>,
+    name: &str,
+    attempts: &[Tried],
+    end: BootEnd,
+) -> Result<(), NoMemory>
+    ensures { OnOk result (text.new.items ≡ text.old.items ++ boot_head name.now attempts.now end) }
+{
+    put_text(text, b"boot ")?;
+    put_text(text, name.as_bytes())?;
+    put_text(text, b"\n")?;
+    put_attempts(text, attempts)?;
+    put_text(text, end_line(end))
+}

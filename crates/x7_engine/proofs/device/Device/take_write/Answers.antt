@@ -1,0 +1,52 @@
+use Rattle.std.proofs.Common.{◌≡◌, ◌+◌, ◌++◌, ℕ, Bool, List, refl, sym, ap, subst, ◌∙◌}
+use Rattle.x7_packets.specs.Cutting.{between}
+use Rattle.x7_part.specs.Part.{PartData}
+use Rattle.x7_engine.specs.declared.kept.Kept.{Kept}
+use Rattle.x7_engine.specs.Standing.{DeviceStandsFor, DeviceState, due_count, registers_in}
+use Rattle.x7_engine.specs.State.{reads_of}
+use Rattle.x7_engine.specs.UntilStarted.{CommandsLast}
+use Rattle.x7_engine.proofs.PassLemmas.{told_same}
+use Rattle.x7_engine.proofs.WriteLemmas.{write_at}
+use Rattle.x7_engine.proofs.device.Device.take_write.Goals as goal
+
+-- the device before the write, and behind it
+abbrev device_before : goal.After-self-2-1 → DeviceState
+device_before c = record { part = c.self.inside.part; cutter = c.self.inside.cutter; registers = registers_in c.self.inside.registers; wrapped = c.self.inside.wrapped; taken = c.self.inside.taken; fed = c.self.inside.fed }
+
+abbrev device_after : goal.After-self-2-1 → DeviceState
+device_after c = record {
+  part = c.self.inside.part;
+  cutter = c.take_write.new.self;
+  registers = registers_in c.write_to.new.self;
+  wrapped = c.self.inside.wrapped;
+  taken = c.self.inside.taken + 8;
+  fed = c.saturating_add-self-inside.result;
+}
+
+none_due : (c : goal.After-self-2-1) → due_count c.write_to.new.self.due ≡ 0
+none_due c = ap due_count c.write_to.ensures.due ∙ ap (λ (d : DeviceState). due_count d.registers.due) c.self.view_is ∙ c.requires.none_due
+
+written_here : (c : goal.After-self-2-1) (part : PartData) (kept : Kept) (wrapped : Bool) (bytes : List ℕ) → DeviceStandsFor part kept wrapped c.args.self.now bytes
+    → (let more : List ℕ = between c.args.piece.now c.args.at.now (c.args.at.now + 8) in
+    DeviceStandsFor part kept wrapped (device_after c) (bytes ++ more) × (reads_of part kept (bytes ++ more) ≡ reads_of part kept bytes) × CommandsLast bytes more)
+written_here c given kept wrapped bytes s =
+    let part : PartData = c.self.inside.part in
+    let more : List ℕ = between c.args.piece.now c.args.at.now (c.args.at.now + 8) in
+    let here : part ≡ given = ap (λ (d : DeviceState). d.part) c.self.view_is ∙ s.part_is in
+    let now : DeviceStandsFor part kept wrapped c.args.self.now bytes = subst (λ (p : PartData). DeviceStandsFor p kept wrapped c.args.self.now bytes) (sym here) s in
+    let inside : DeviceStandsFor part kept wrapped (device_before c) bytes = subst (λ (d : DeviceState). DeviceStandsFor part kept wrapped d bytes) (sym c.self.view_is) now in
+    subst (λ (p : PartData). DeviceStandsFor p kept wrapped (device_after c) (bytes ++ more) × (reads_of p kept (bytes ++ more) ≡ reads_of p kept bytes) × CommandsLast bytes more) here
+    (write_at part kept wrapped (device_before c) (device_after c) bytes c.args.piece.now c.args.at.now c.in-Some.register c.in-Some.word inside
+    (ap (λ (d : DeviceState). d.registers.stop) c.self.view_is ∙ c.requires.going)
+    (c.is_idle.ensures.begun c.if-not-is_idle.false) (c.is_idle.ensures.limit c.if-not-is_idle.false)
+    c.in-Some.ensures.some (c.write_to.ensures.stands kept) c.write_to.ensures.counts (none_due c) refl refl refl)
+
+pub returns-clause-stands : goal.returns-clause-stands
+returns-clause-stands c = λ t part kept wrapped bytes s. (written_here c part kept wrapped bytes s).0
+
+pub returns-clause-told : goal.returns-clause-told
+returns-clause-told c = λ t part kept wrapped bytes s.
+    told_same part kept c.args.self.now (device_after c) bytes (bytes ++ between c.args.piece.now c.args.at.now (c.args.at.now + 8)) c.requires.none_due (none_due c) (written_here c part kept wrapped bytes s).1
+
+pub returns-clause-commands : goal.returns-clause-commands
+returns-clause-commands c = λ t part kept wrapped bytes s. (written_here c part kept wrapped bytes s).2

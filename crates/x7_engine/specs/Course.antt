@@ -1,0 +1,15 @@
+-- The course of a device: all that the values of its registers are a function of.
+use Rattle.std.specs.Prelude.{ℕ}
+use Rattle.x7_packets.specs.History.{History}
+use Rattle.x7_part.specs.Part.{PartData}
+use Rattle.x7_engine.specs.declared.kept.Kept.{Kept}
+
+-- its part, what its reset kept, the accesses since then, and how many bytes are taken since then
+pub record Course : Type 0 where
+  pub part : PartData
+  pub kept : Kept
+  pub history : History
+  pub taken : ℕ
+
+abbrev pub course_at : PartData → Kept → History → ℕ → Course
+course_at part kept h n = record { part = part; kept = kept; history = h; taken = n }

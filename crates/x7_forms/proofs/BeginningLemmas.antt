@@ -1,0 +1,302 @@
+-- A stream's first bytes, by which its header is judged.
+use Rattle.std.proofs.Common.{◌≡◌, ◌⊎◌, ℕ, ◌+◌, ◌-◌, ◌<◌, ◌≤◌, Bool, true, false, List, [], ◌∷◌, ◌++◌, Result, Ok, Err, Option, None, Some, inl, inr, length, drop, refl, ap, sym, subst, ◌∙◌, arith, append_assoc, append-nil, length-append}
+use Rattle.std.specs.Prelude.{MatchOption, nat_eq, nat_le}
+use Rattle.std.proofs.lemmas.Bool.{leb-true}
+use Rattle.std.specs.List.{starts_with}
+use Rattle.std.proofs.Math.Seq.{drop-append_seam}
+use Rattle.x7_words.specs.Input.{InputsState, AtEnd, Stays, Takes, preceded}
+use Rattle.x7_words.specs.Word.{AreBytes}
+use Rattle.x7_words.proofs.CountLemmas.{risen_from}
+use Rattle.x7_words.proofs.InputLemmas.{preceded-preceded}
+use Rattle.x7_words.proofs.ListLemmas.{shorter_front}
+use Rattle.x7_header.specs.Header.{Contents, EndsInHeader, listed, fixed_bytes, HasOtherLetter, HasOtherLetterAt, HaveHeader, fields_bytes, header_bytes, layout}
+use Rattle.x7_header.specs.Reading.{HeaderWaits, header_at}
+use Rattle.x7_header.specs.declared.fault.HeaderFault.{HeaderFault}
+use Rattle.x7_header.specs.declared.fault.HeaderFault.TheVariants as header
+use Rattle.x7_header.proofs.CutLemmas.{is_cut}
+use Rattle.x7_header.proofs.HeaderLemmas.{err_is, field_at_place, header_again, header_refused, ok_not_err, raw_at}
+use Rattle.x7_listing.specs.BitLine.{bit_text}
+use Rattle.x7_listing.specs.Listing.{listing_of}
+use Rattle.x7_listing.specs.StreamListing.{listing_by, stream_listing}
+use Rattle.x7_listing.proofs.BitLemmas.{header-limit}
+use Rattle.x7_forms.specs.Event.{Event, read_fault, too_large}
+use Rattle.x7_forms.specs.Known.{stream_limit}
+use Rattle.x7_forms.specs.Turn.{BeginAt, ReadsBeginning, HoldsFew, IsBeginning, IsRefused, NoLetterGiven, Reads, RefusedAt, UnreadBeginning, Unread}
+use Rattle.x7_forms.proofs.HeadLemmas.{gives_self}
+use Rattle.x7_forms.proofs.ReadLemmas.{reads_as, reads_on}
+
+-- a stream that begins as no header does
+pub raw_listed : (bytes : List ℕ) → header_at bytes ≡ Err header.Raw → stream_listing bytes ≡ Ok (listing_of bytes)
+raw_listed bytes e = ap (listing_by bytes) e
+
+-- a header that was read, whatever follows
+pub headed : (bytes line : List ℕ) (x : Contents) (n : ℕ) (last : Bool) → HaveHeader x → bytes ≡ header_bytes x ++ drop n bytes → n ≡ length (header_bytes x) → line ≡ bit_text x ++ 10 ∷ [] → IsBeginning bytes last line n
+headed bytes line x n last h e size is = λ rest more.
+    let whole : bytes ++ rest ≡ header_bytes x ++ (drop n bytes ++ rest) = ap (λ b. b ++ rest) e ∙ append_assoc (header_bytes x) (drop n bytes) rest in
+    let read : header_at (header_bytes x ++ (drop n bytes ++ rest)) ≡ Ok (x, length (header_bytes x)) = header_again x (drop n bytes ++ rest) h in
+    ap stream_listing whole ∙ ap (listing_by (header_bytes x ++ (drop n bytes ++ rest))) read
+    ∙ ap (λ (b : List ℕ). Ok (bit_text x ++ 10 ∷ listing_of b)) (drop-append_seam (header_bytes x) (drop n bytes ++ rest))
+    ∙ ap Ok (sym (append_assoc (bit_text x) (10 ∷ []) (listing_of (drop n bytes ++ rest))) ∙ ap (λ t. t ++ listing_of (drop n bytes ++ rest)) (sym is))
+
+-- no header, whatever follows
+raw_by : (bytes : List ℕ) → ((more : List ℕ) → bytes ≡ fixed_bytes ++ more → ⊥) → stream_listing bytes ≡ Ok (listing_of bytes)
+raw_by bytes h = raw_listed bytes ((raw_at bytes (starts_with nat_eq bytes fixed_bytes) refl).1 h)
+
+raw_more : (bytes rest : List ℕ) → 13 ≤ length bytes → ((more : List ℕ) → bytes ≡ fixed_bytes ++ more → ⊥) → (more : List ℕ) → bytes ++ rest ≡ fixed_bytes ++ more → ⊥
+raw_more bytes rest long h more e = let s = shorter_front fixed_bytes bytes more rest long (sym e) in h s.0 s.1
+
+pub unheaded : (bytes line : List ℕ) (n : ℕ) (last : Bool) → (last ≡ false → 13 ≤ length bytes) → ((more : List ℕ) → bytes ≡ fixed_bytes ++ more → ⊥) → line ≡ [] → n ≡ 0 → IsBeginning bytes last line n
+unheaded bytes line n true long h none zero = λ rest more.
+    let all : bytes ++ rest ≡ bytes = ap (λ r. bytes ++ r) (more refl) ∙ append-nil bytes in
+    ap stream_listing all ∙ raw_by bytes h ∙ ap Ok (ap listing_of (sym all) ∙ ap (λ t. t ++ listing_of (bytes ++ rest)) (sym none) ∙ ap (λ k. line ++ listing_of (drop k bytes ++ rest)) (sym zero))
+unheaded bytes line n false long h none zero = λ rest more.
+    raw_by (bytes ++ rest) (raw_more bytes rest (long refl) h) ∙ ap Ok (ap (λ t. t ++ listing_of (bytes ++ rest)) (sym none) ∙ ap (λ k. line ++ listing_of (drop k bytes ++ rest)) (sym zero))
+
+-- another letter, whatever follows
+other_more : (bytes rest : List ℕ) (place : ℕ) → HasOtherLetterAt bytes place → HasOtherLetterAt (bytes ++ rest) place
+other_more bytes rest place h =
+    let o : HasOtherLetter layout h.0 (length bytes - place) = h.3 in (
+      h.0 ++ rest,
+      ap (λ b. b ++ rest) h.1 ∙ append_assoc fixed_bytes h.0 rest,
+      omega (arith, h.2, length-append bytes rest),
+      record {
+        done = o.done;
+        contents = o.contents;
+        next = o.next;
+        later = o.later;
+        other = o.other;
+        rest = o.rest ++ rest;
+        fields_are = o.fields_are;
+        hold = o.hold;
+        bytes_are = ap (λ b. b ++ rest) o.bytes_are ∙ append_assoc (fields_bytes o.done o.contents) (o.other ∷ o.rest) rest;
+        left_is = omega (arith, h.2, o.left_is, length-append bytes rest, length-append o.rest rest);
+        differs = o.differs;
+      },
+    )
+
+pub other_refused : (bytes : List ℕ) (last : Bool) (place : ℕ) → HasOtherLetterAt bytes place → IsRefused bytes last place
+other_refused bytes last place h = λ rest more. ap (listing_by (bytes ++ rest)) (header_refused (bytes ++ rest) place (other_more bytes rest place h))
+
+-- a header that the whole stream ends inside
+pub cut_refused : (bytes : List ℕ) (last : Bool) (place : ℕ) → last ≡ true → header_at bytes ≡ Err (header.Cut place) → IsRefused bytes last place
+cut_refused bytes last place e h = λ rest more. ap (λ r. stream_listing (bytes ++ r)) (more e) ∙ ap stream_listing (append-nil bytes) ∙ ap (listing_by bytes) h
+
+-- bytes that end inside a header are few
+pub few_in_header : (bytes : List ℕ) → EndsInHeader bytes → length bytes ≤ 262170
+few_in_header bytes h = omega (arith, header-limit h.header h.have_header, ap length h.goes_on, length-append bytes (h.next ∷ h.missing))
+
+-- a turn more of a stream's beginning
+pub joined_taken : (old mid new : Option (List ℕ)) (a b c d : List ℕ) → old ≡ preceded a mid → mid ≡ preceded b new → c ≡ a ++ b → d ≡ c → old ≡ preceded d new
+joined_taken old mid new a b c d e f g h = e ∙ ap (preceded a) f ∙ preceded-preceded a b new ∙ ap (λ t. preceded t new) (sym g ∙ sym h)
+
+-- ---- no byte is read behind the one that judges a header
+
+-- these bytes judge a header, whatever follows
+abbrev Judge : List ℕ → Type 0
+Judge front = (rest : List ℕ) (place : ℕ) → header_at (front ++ rest) ≡ Err (header.Cut place) → ⊥
+
+-- bytes that waited for so many are not judged before the last of them
+judged_before : (old piece front more : List ℕ) (n : ℕ) (b : Bool) → nat_le (length front) (length old) ≡ b → HeaderWaits old n → 0 < n → length piece ≤ n → old ++ piece ≡ front ++ more → 0 < length more → Judge front → ⊥
+judged_before old piece front more n true l w p k e m j =
+    let s = shorter_front front old more piece (leb-true _ _ l) (sym e) in
+    j s.0 (length (old ++ [])) (ap header_at (sym s.1 ∙ sym (append-nil old)) ∙ w [] p)
+judged_before old piece front more n false l w p k e m j =
+    let less : length old ≤ length front = grind (arith, l) in
+    let s = shorter_front old front piece more less e in
+    let long : length s.0 < n = omega (arith, k, m, ap length e, ap length s.1, length-append old piece, length-append front more, length-append old s.0) in
+    j [] (length (old ++ s.0)) (ap header_at (append-nil front ∙ s.1) ∙ w s.0 long)
+
+header_judges : (x : Contents) → HaveHeader x → Judge (header_bytes x)
+header_judges x h rest place e = ok_not_err (x, length (header_bytes x)) (header.Cut place) (sym (header_again x rest h) ∙ e)
+
+letter_judges : (bytes : List ℕ) (place : ℕ) → HasOtherLetterAt bytes place → Judge bytes
+letter_judges bytes place h rest at e =
+    let same : header.Field place ≡ header.Cut at = err_is (Contents × ℕ) (header.Field place) (header.Cut at) (sym (header_refused (bytes ++ rest) place (other_more bytes rest place h)) ∙ e) in
+    absurd cc
+
+-- bytes that were read of a stream whose header was not judged yet, as many as it waited for at most
+pub record IsPiece (old piece bytes : List ℕ) (n : ℕ) : Type 0 where
+  pub joined : bytes ≡ old ++ piece
+  pub short : length piece ≤ n
+  pub some : 0 < n
+  pub fixed : length old < 13 → length old + n ≡ 13
+  pub waiting : (old ≡ []) ⊎ EndsInHeader old
+  pub waits : EndsInHeader old → HeaderWaits old n
+
+-- what such bytes begin with is no shorter where it judges
+first_judged : (old piece bytes front more : List ℕ) (n : ℕ) → IsPiece old piece bytes n → 13 ≤ length front → bytes ≡ front ++ more → Judge front → more ≡ []
+first_judged old piece bytes front [] n p l e j = refl
+first_judged old piece bytes front (x ∷ more) n p l e j = elim p.waiting [
+  | inl none ↦ absurd (omega (arith, l, p.short, p.fixed, ap length none, ap length p.joined, ap length e, length-append old piece, length-append front (x ∷ more)))
+  | inr inside ↦ absurd (judged_before old piece front (x ∷ more) n (nat_le (length front) (length old)) refl (p.waits inside) p.some p.short (sym p.joined ∙ e) (omega arith) j)
+]
+
+fixed_long : (after : List ℕ) → 13 ≤ length (fixed_bytes ++ after)
+fixed_long after = omega (arith, length-append fixed_bytes after)
+
+pub holds_few : (old piece bytes : List ℕ) (n start : ℕ) → IsPiece old piece bytes n → BeginAt bytes start → HoldsFew bytes start
+holds_few old piece bytes n start p (inl (x, h, e, size)) =
+    let none = first_judged old piece bytes (header_bytes x) (drop start bytes) n p (fixed_long (fields_bytes layout (listed x))) e (header_judges x h) in
+    inl (omega (arith, size, ap length e, ap length none, length-append (header_bytes x) (drop start bytes)))
+holds_few old piece bytes n start p (inr (zero, raw)) = elim p.waiting [
+  | inl none ↦ inr (zero, omega (arith, p.short, p.fixed, ap length none, ap length p.joined, length-append old piece))
+  | inr inside ↦ absurd (raw (inside.after ++ piece) (p.joined ∙ ap (λ b. b ++ piece) inside.fixed_are ∙ append_assoc fixed_bytes inside.after piece))
+]
+
+-- the bytes up to a wrong letter, which judge a header
+record LetterFront (bytes : List ℕ) (place : ℕ) : Type 0 where
+  front : List ℕ
+  more : List ℕ
+  parts : bytes ≡ front ++ more
+  size : length front ≡ place + 1
+  long : 13 ≤ length front
+  judges : Judge front
+
+letter_front : (bytes : List ℕ) (place : ℕ) → HasOtherLetterAt bytes place → LetterFront bytes place
+letter_front bytes place h =
+    let o : HasOtherLetter layout h.0 (length bytes - place) = h.3 in
+    let before = fields_bytes o.done o.contents in
+    let after = before ++ o.other ∷ [] in
+    let front = fixed_bytes ++ after in
+    let e : bytes ≡ front ++ o.rest = h.1 ∙ ap (λ b. fixed_bytes ++ b) (o.bytes_are ∙ sym (append_assoc before (o.other ∷ []) o.rest)) ∙ sym (append_assoc fixed_bytes after o.rest) in
+    let all : length bytes ≡ length front + length o.rest = omega (arith, ap length e, length-append front o.rest) in
+    let at : length front ≡ place + 1 = omega (arith, all, h.2, o.left_is) in
+    let there : HasOtherLetterAt front place = (
+      after,
+      refl,
+      omega (arith, at),
+      record {
+        done = o.done;
+        contents = o.contents;
+        next = o.next;
+        later = o.later;
+        other = o.other;
+        rest = [];
+        fields_are = o.fields_are;
+        hold = o.hold;
+        bytes_are = refl;
+        left_is = omega (arith, at);
+        differs = o.differs;
+      },
+    ) in
+    record { front = front; more = o.rest; parts = e; size = at; long = fixed_long after; judges = letter_judges front place there }
+
+pub refused_soon : (old piece bytes : List ℕ) (n place : ℕ) → IsPiece old piece bytes n → RefusedAt bytes place → length bytes ≤ place + 1
+refused_soon old piece bytes n place p (inl e) = omega (arith, e)
+refused_soon old piece bytes n place p (inr h) =
+    let f = letter_front bytes place h in
+    let none = first_judged old piece bytes f.front f.more n p f.long f.parts f.judges in
+    omega (arith, f.size, ap length f.parts, ap length none, length-append f.front f.more)
+
+-- ---- a fault before the header is judged
+
+-- what judges a header goes on behind bytes that wait for so many, up to the last of them at least
+judged_late : (old rest front more : List ℕ) (n : ℕ) (b : Bool) → nat_le (length front) (length old) ≡ b → HeaderWaits old n → 0 < n → old ++ rest ≡ front ++ more → Judge front → length front < length old + n → ⊥
+judged_late old rest front more n true l w p e j k =
+    let s = shorter_front front old more rest (leb-true _ _ l) (sym e) in
+    j s.0 (length (old ++ [])) (ap header_at (sym s.1 ∙ sym (append-nil old)) ∙ w [] p)
+judged_late old rest front more n false l w p e j k =
+    let less : length old ≤ length front = grind (arith, l) in
+    let s = shorter_front old front rest more less e in
+    let long : length s.0 < n = omega (arith, k, ap length s.1, length-append old s.0) in
+    j [] (length (old ++ s.0)) (ap header_at (append-nil front ∙ s.1) ∙ w s.0 long)
+
+-- a wrong letter stands no earlier than the last byte that was asked for
+pub letter_late : (old rest all : List ℕ) (n place : ℕ) → 0 < n → all ≡ old → (length all < 13 → length all + n ≡ 13) → (EndsInHeader all → HeaderWaits all n) → (0 < length old → EndsInHeader old)
+    → HasOtherLetterAt (old ++ rest) place → length old + n ≤ place + 1
+letter_late [] rest all n place some e fixed waits waiting h =
+    let f = letter_front rest place h in
+    omega (arith, ap length e, fixed, f.long, f.size)
+letter_late (x ∷ old) rest all n place some e fixed waits waiting h =
+    let f = letter_front ((x ∷ old) ++ rest) place h in
+    let w : HeaderWaits (x ∷ old) n = subst (λ (o : List ℕ). EndsInHeader o → HeaderWaits o n) e waits (waiting (omega arith)) in
+    by (nat_le (length (x ∷ old) + n) (place + 1)) refl f w
+  where
+    by : (b : Bool) → nat_le (length (x ∷ old) + n) (place + 1) ≡ b → LetterFront ((x ∷ old) ++ rest) place → HeaderWaits (x ∷ old) n → length (x ∷ old) + n ≤ place + 1
+    by true l f w = leb-true _ _ l
+    by false l f w =
+        let less : place + 1 < length (x ∷ old) + n = grind (arith, l) in
+        absurd (judged_late (x ∷ old) rest f.front f.more n (nat_le (length f.front) (length (x ∷ old))) refl w some f.parts f.judges (omega (arith, f.size, less)))
+
+-- none was given where the bytes before are those that were read, and fewer than so many more were given
+pub none_given : (old mid new : InputsState) (bytes all : List ℕ) (n count : ℕ) → 0 < n → count ≤ n → all ≡ bytes → (length all < 13 → length all + n ≡ 13) → (EndsInHeader all → HeaderWaits all n) → (0 < length bytes → EndsInHeader bytes)
+    → Reads old bytes mid → new.given < mid.given + count → NoLetterGiven old new
+none_given old mid new bytes all n count some few e fixed waits waiting r g told place is h = by mid.rest refl
+  where
+    by : (rest : Option (List ℕ)) → mid.rest ≡ rest → new.given ≤ old.given + place
+    by None m = let none : None ≡ Some told = ap (preceded bytes) (sym m) ∙ sym r.takes.taken ∙ is in absurd cc
+    by (Some rest) m =
+        let same : Some (bytes ++ rest) ≡ Some told = ap (preceded bytes) (sym m) ∙ sym r.takes.taken ∙ is in
+        let whole : told ≡ bytes ++ rest = cc in
+        let late = letter_late bytes rest all n place some e fixed waits waiting (subst (λ (b : List ℕ). HasOtherLetterAt b place) whole h) in
+        omega (arith, g, few, r.takes.given, late)
+
+-- a header that is refused at a byte that is there is refused at a wrong letter
+pub letter_there : (bytes : List ℕ) (place : ℕ) → AreBytes bytes → stream_listing bytes ≡ Err place → place < length bytes → HasOtherLetterAt bytes place
+letter_there bytes place fits e l = by (header_at bytes) refl
+  where
+    by : (r : Result (Contents × ℕ) HeaderFault) → header_at bytes ≡ r → HasOtherLetterAt bytes place
+    by (Ok head) h = let no : listing_by bytes (Ok head) ≡ Err place = sym (ap (listing_by bytes) h) ∙ e in absurd cc
+    by (Err header.Raw) h = let no : listing_by bytes (Err header.Raw) ≡ Err place = sym (ap (listing_by bytes) h) ∙ e in absurd cc
+    by (Err (header.Field at)) h =
+        let same : listing_by bytes (Err (header.Field at)) ≡ Err place = sym (ap (listing_by bytes) h) ∙ e in
+        let there : at ≡ place = cc in
+        subst (HasOtherLetterAt bytes) there (field_at_place bytes at (starts_with nat_eq bytes fixed_bytes) fits refl h)
+    by (Err (header.Cut at)) h =
+        let same : listing_by bytes (Err (header.Cut at)) ≡ Err place = sym (ap (listing_by bytes) h) ∙ e in
+        let there : at ≡ place = cc in
+        let end = ((is_cut (λ (x : Contents × ℕ). x) (header_at bytes) bytes fits (gives_self (header_at bytes)) at).0 h).0 in
+        absurd (omega (arith, end, there, l))
+
+-- what a value that was found has
+pub found_some : {A : Type 0} (found : Option A) (x : A) (P : Type 0) (Q : A → Type 0) → found ≡ Some x → MatchOption found P Q → Q x
+found_some (Some y) x P Q e m = subst Q (let same : y ≡ x = cc in same) m
+found_some None x P Q e m = absurd cc
+
+-- what holds where none was found
+pub found_none : {A : Type 0} (found : Option A) (P : Type 0) (Q : A → Type 0) → found ≡ None → MatchOption found P Q → P
+found_none None P Q e m = m
+found_none (Some x) P Q e m = absurd cc
+
+-- a piece as the turn read it
+pub piece_of : (old mid piece all bytes : List ℕ) (n : ℕ) → mid ≡ old ++ piece → bytes ≡ mid → length piece ≤ n → 0 < n → all ≡ old → (length all < 13 → length all + n ≡ 13) → (EndsInHeader all → HeaderWaits all n)
+    → (0 < length old → EndsInHeader old) → IsPiece old piece bytes n
+piece_of [] mid piece all bytes n a b c e s f h g = record {
+  joined = b ∙ a;
+  short = c;
+  some = e;
+  fixed = subst (λ (o : List ℕ). length o < 13 → length o + n ≡ 13) s f;
+  waiting = inl refl;
+  waits = subst (λ (o : List ℕ). EndsInHeader o → HeaderWaits o n) s h;
+}
+piece_of (x ∷ old) mid piece all bytes n a b c e s f h g = record {
+  joined = b ∙ a;
+  short = c;
+  some = e;
+  fixed = subst (λ (o : List ℕ). length o < 13 → length o + n ≡ 13) s f;
+  waiting = inr (g (omega arith));
+  waits = subst (λ (o : List ℕ). EndsInHeader o → HeaderWaits o n) s h;
+}
+
+-- the beginning that was read
+pub beginning_read : (old mid piece bytes line : List ℕ) (n start : ℕ) (last : Bool) (s0 s1 s2 : InputsState) → IsPiece old piece bytes n → mid ≡ old ++ piece → bytes ≡ mid → Reads s0 old s1 → Takes s1 piece s2 → s2.asked ≡ s1.asked → Stays s1 s2 → (last ≡ true → AtEnd s2.rest)
+    → length old ≤ 262170 → length piece ≤ 65536 → (start ≤ length bytes) × IsBeginning bytes last line start → BeginAt bytes start → ReadsBeginning mid line start last s0 s2
+beginning_read old mid piece bytes line n start last s0 s1 s2 p a b r t q k e few short j begin =
+    subst (λ (m : List ℕ). ReadsBeginning m line start last s0 s2) b (record {
+      reads = reads_as s0 s2 bytes (old ++ piece) (b ∙ a) (reads_on s0 s1 s2 old piece r t q k);
+      end = e;
+      within = j.0;
+      few = omega (arith, few, short, ap length (b ∙ a), length-append old piece);
+      holds_few = holds_few old piece bytes n start p begin;
+      begins = j.1;
+    })
+
+-- a turn that was not read, before the header was judged
+pub unread_turn : (old mid new : InputsState) (name bytes : List ℕ) (left : ℕ) (event : Event) → Reads old bytes mid → length bytes + left ≡ stream_limit → new.asked ≡ mid.asked → (event ≡ too_large name → ⊥) → (event ≡ read_fault name → NoLetterGiven old new) → Unread mid name new left event → UnreadBeginning old name new event
+unread_turn old mid new name bytes left event r n q small late (inl h) =
+    inr (inl (h.0, record { risen = risen_from old.faults mid.faults new.faults r.stays.faults h.1.risen; selected = h.1.selected; given = omega (arith, n, r.takes.given, h.1.given) }, q ∙ r.asked, late h.0))
+unread_turn old mid new name bytes left event r n q small late (inr h) = absurd (small h.0)
+
+-- what was read, by its parts
+pub reads_by : (old new : InputsState) (bytes : List ℕ) → new.selected ≡ true → old.rest ≡ preceded bytes new.rest → new.given ≤ old.given + length bytes → new.asked ≡ old.asked → Stays old new → Reads old bytes new
+reads_by old new bytes s t g q k = record { takes = record { selected = s; taken = t; given = g }; asked = q; stays = k }

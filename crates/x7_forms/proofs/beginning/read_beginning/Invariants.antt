@@ -1,0 +1,21 @@
+use Rattle.std.proofs.Common.{◌≡◌, ◌≤◌, ◌<◌, ◌+◌, ◌-◌, length, true}
+use Rattle.x7_header.specs.Header.{EndsInHeader}
+use Rattle.x7_words.specs.Input.{Stays, preceded}
+use Rattle.x7_forms.proofs.beginning.read_beginning.Given as goal
+
+abbrev pub invariant-loop-turn : goal.invariant-loop-turn
+invariant-loop-turn g l =
+    let i = g.I.Inputs in
+    record {
+      selected : (i.state l.inputs).selected ≡ true;
+      inputs : Stays (i.state l.fn.inputs) (i.state l.inputs);
+      piece : length l.piece ≡ 65536;
+      few : length l.bytes.items ≤ 262170;
+      waiting : 0 < length l.bytes.items → EndsInHeader l.bytes.items;
+      asked : (i.state l.inputs).asked ≡ (i.state l.fn.inputs).asked;
+      given : (i.state l.inputs).given ≤ (i.state l.fn.inputs).given + length l.bytes.items;
+      taken : (i.state l.fn.inputs).rest ≡ preceded l.bytes.items (i.state l.inputs).rest;
+    }
+
+abbrev pub decreases-loop-turn : goal.decreases-loop-turn
+decreases-loop-turn g l = 67108864 - length l.bytes.items

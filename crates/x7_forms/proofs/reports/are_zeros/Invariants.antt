@@ -1,6 +1,0 @@
-use Rattle.std.proofs.Common.{◌≡◌, ◌==◌, take}
-use Rattle.x7_forms.specs.Report.{is_blank}
-use Rattle.x7_forms.proofs.reports.are_zeros.Given as goal
-
-abbrev pub invariant-loop-word : goal.invariant-loop-word
-invariant-loop-word l = (l.any == 0) ≡ is_blank (take l.word-index l.words)

@@ -1,0 +1,121 @@
+//! The beginning of a stream that is listed, up to where its header is judged.
+ghost use Rattle.std.specs.Prelude.{◌≡◌, ◌≤◌, ◌⊎◌, ℕ, List, length, true, false, IfErr, IfOk, MatchOption, OnOk};
+ghost use Rattle.x7_words.specs.Input.{Stays};
+ghost use Rattle.x7_forms.specs.Event.{bad_input, no_memory};
+ghost use Rattle.x7_forms.specs.Message.{event_of};
+ghost use Rattle.x7_forms.specs.Turn.{BeginAt, HeaderGoesOn, IsBeginning, IsRefused, ReadsBeginning, RefusedAt, UnreadBeginning};
+ghost use Rattle.x7_forms.specs.declared.bad_input.InputFault.TheVariants as input;
+
+use crate::bad_input::InputFault;
+use crate::read::{STREAM_LIMIT, TURN, next_turn};
+use crate::refusal::{Refusal, Why};
+use std::alloc::Global;
+use x7_header::{HeaderFault, header_of, wanted};
+use x7_listing::header_line;
+use x7_words::Inputs;
+
+/// The line of a stream's header with its end, or nothing; and where the data begin.
+#[derive(Drop)]
+struct Judged {
+    line: Vec<u8>,
+    start: usize,
+}
+
+/// A header that is refused at this byte.
+fn refused_at<'w>(name: &'w str, place: usize) -> Refusal<'w>
+    ensures { event_of result ≡ bad_input name.now (input.Byte place) }
+{
+    Refusal {
+        reason: Why::BadInput(InputFault::Byte(place as u64)),
+        name,
+    }
+}
+
+/// Judges the header by a stream's first bytes, its last too or not: `None` where they end inside it and more may come.
+fn judge<'w>(
+    alloc: Global,
+    name: &'w str,
+    bytes: &[u8],
+    last: bool,
+) -> Result<Option<Judged>, Refusal<'w>>
+    requires long { last ≡ false → 13 ≤ length bytes.now }
+    ensures judged { IfOk result (λ found. MatchOption found (HeaderGoesOn bytes.now last)
+        (λ judged. (judged.start ≤ length bytes.now) × IsBeginning bytes.now last judged.line.items judged.start)) }
+    ensures begin { IfOk result (λ found. MatchOption found (Unit {0}) (λ judged. BeginAt bytes.now judged.start)) }
+    ensures refused { IfErr result (λ r. (event_of r ≡ no_memory) ⊎ ((place : ℕ) × (event_of r ≡ bad_input name.now (input.Byte place)) × IsRefused bytes.now last place × RefusedAt bytes.now place)) }
+{
+    match header_of(bytes) {
+        Ok(head) => match header_line(alloc, &head) {
+            Ok(line) => Ok(Some(Judged {
+                line,
+                start: head.size,
+            })),
+            Err(_) => Err(Refusal::unnamed(Why::NoMemory)),
+        },
+        Err(HeaderFault::Raw) => Ok(Some(Judged {
+            line: Vec::new(alloc),
+            start: 0,
+        })),
+        Err(HeaderFault::Field(place)) => Err(refused_at(name, place)),
+        Err(HeaderFault::Cut(place)) => {
+            if last {
+                return Err(refused_at(name, place));
+            }
+            Ok(None)
+        }
+    }
+}
+
+/// The first bytes of a stream, whose header is judged.
+#[derive(Drop)]
+pub struct Beginning {
+    /// The bytes that were read.
+    pub bytes: Vec<u8>,
+    /// The line of the header with its end, or nothing.
+    pub line: Vec<u8>,
+    /// Where the data begin.
+    pub start: usize,
+    /// Whether the stream ends after these bytes.
+    pub last: bool,
+}
+
+/// Reads the first bytes of the open input until its header is judged, field by field: none behind a header, nor behind a
+/// wrong letter.
+pub fn read_beginning<'w, I: Inputs>(
+    alloc: Global,
+    inputs: &mut I,
+    stream: &'w str,
+) -> Result<Beginning, Refusal<'w>>
+    requires selected { (I.state inputs.old).selected ≡ true }
+    ensures selected { OnOk result ((I.state inputs.new).selected ≡ true) }
+    ensures begins { IfOk result (λ first. ReadsBeginning first.bytes.items first.line.items first.start first.last (I.state inputs.old) (I.state inputs.new)) }
+    ensures err { IfErr result (λ r. UnreadBeginning (I.state inputs.old) stream.now (I.state inputs.new) (event_of r)) }
+    ensures inputs { Stays (I.state inputs.old) (I.state inputs.new) }
+{
+    let mut bytes = Vec::new(alloc);
+    let mut piece = [0u8; TURN];
+    loop {
+        let count = wanted(&bytes).min(TURN);
+        let left = STREAM_LIMIT - bytes.len();
+        let turn = match next_turn(inputs, stream, left, &mut piece[..count]) {
+            Ok(turn) => turn,
+            Err(refusal) => return Err(refusal),
+        };
+        match bytes.extend_from_slice(&piece[..turn.count]) {
+            Ok(()) => (),
+            Err(_) => return Err(Refusal::unnamed(Why::NoMemory)),
+        }
+        match judge(alloc, stream, &bytes, turn.last) {
+            Ok(Some(judged)) => {
+                return Ok(Beginning {
+                    bytes,
+                    line: judged.line,
+                    start: judged.start,
+                    last: turn.last,
+                });
+            }
+            Ok(None) => (),
+            Err(refusal) => return Err(refusal),
+        }
+    }
+}

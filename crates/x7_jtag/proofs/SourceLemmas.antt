@@ -1,0 +1,26 @@
+-- Bytes that are kept at the front of a text.
+use Rattle.std.proofs.Common.{◌≡◌, ℕ, ◌+◌, ◌-◌, ◌≤◌, List, ◌++◌, length, take, drop, ap, sym, ◌∙◌, append_assoc, length-append, length-drop, arith}
+use Rattle.std.proofs.lemmas.List.{drop-drop, length-take-le, take_at}
+use Rattle.std.proofs.lemmas.Slice.{drop-append-drop}
+use Rattle.std.specs.List.{copy_within}
+
+-- n bytes from place `at` on are copied to place k
+module _ (xs : List ℕ) (k at n : ℕ) where
+  abbrev pub copied : List ℕ
+  copied = take k xs ++ take n (drop at xs)
+
+  copied-long : k ≤ at → at + n ≤ length xs → length copied ≡ k + n
+  copied-long l w =
+      let front : length (take k xs) ≡ k = length-take-le k xs (omega (arith, l, w)) in
+      let part : length (take n (drop at xs)) ≡ n = length-take-le n (drop at xs) (omega (arith, w, length-drop at xs)) in
+      omega (arith, length-append (take k xs) (take n (drop at xs)), front, part)
+
+  shape : copy_within xs at (at + n) k ≡ copied ++ drop (k + n) xs
+  shape = let count : at + n - at ≡ n = omega arith in ap (λ (m : ℕ). take k xs ++ take m (drop at xs) ++ drop (k + m) xs) count
+
+  pub kept-more : k ≤ at → at + n ≤ length xs → take (k + n) (copy_within xs at (at + n) k) ≡ copied
+  kept-more l w = ap (take (k + n)) shape ∙ take_at copied (drop (k + n) xs) (k + n) (copied-long l w)
+
+  pub rest-same : k ≤ at → at + n ≤ length xs → drop (at + n) (copy_within xs at (at + n) k) ≡ drop n (drop at xs)
+  rest-same l w =
+      ap (drop (at + n)) shape ∙ drop-append-drop (k + n) xs copied (at + n) (omega (arith, l)) (copied-long l w) ∙ sym (drop-drop n at xs)

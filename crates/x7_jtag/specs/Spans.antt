@@ -1,0 +1,57 @@
+-- Digits by where they are kept, and the fields of a scan by theirs (this project's choice).
+use Rattle.std.specs.Prelude.{◌≡◌, ◌≤◌, ℕ, ◌+◌, ⊤, List, length, take, drop, Option, Some, None}
+use Rattle.x7_jtag.specs.Fields.{At, Between, Named, Inside, Fields, Scanning}
+use Rattle.x7_jtag.specs.declared.span.Span.{Span}
+use Rattle.x7_jtag.specs.declared.fields.Place.{Place}
+use Rattle.x7_jtag.specs.declared.fields.Place.TheVariants as place
+use Rattle.x7_jtag.specs.declared.fields.Given.{Given}
+use Rattle.x7_jtag.specs.declared.fields.Scanner.{Scanner}
+
+abbrev pub digits_in : List ℕ → Span → List ℕ
+digits_in kept s = take s.count (drop s.from kept)
+
+abbrev pub digits_if : List ℕ → Option Span → Option (List ℕ)
+digits_if kept None = None
+digits_if kept (Some s) = Some (digits_in kept s)
+
+abbrev pub fields_of : List ℕ → Given → Fields
+fields_of kept g = record { tdi = digits_if kept g.tdi; tdo = digits_if kept g.tdo; mask = digits_if kept g.mask; smask = digits_if kept g.smask }
+
+abbrev pub given_as : List ℕ → Option Given → Option Fields
+given_as kept None = None
+given_as kept (Some g) = Some (fields_of kept g)
+
+abbrev pub at_of : List ℕ → Place → At
+at_of kept place.Between = Between
+at_of kept (place.Named k) = Named k
+at_of kept (place.Inside k from) = Inside k (drop from kept)
+
+abbrev pub scanning_of : List ℕ → Option Scanner → Option Scanning
+scanning_of kept None = None
+scanning_of kept (Some s) = Some (record { at = at_of kept s.place; fields = fields_of kept s.given })
+
+-- ---- what is kept stays
+
+-- the first are the front of the second
+abbrev pub IsFront : List ℕ → List ℕ → Type 0
+IsFront front all = take (length front) all ≡ front
+
+-- where digits end
+abbrev pub end_of : Span → ℕ
+end_of s = s.from + s.count
+
+abbrev pub end_if : Option Span → ℕ
+end_if None = 0
+end_if (Some s) = end_of s
+
+-- the digits of fields, and of the open one, are among so many bytes
+abbrev pub AreWithin : ℕ → Given → Type 0
+AreWithin n g = (end_if g.tdi ≤ n) × (end_if g.tdo ≤ n) × (end_if g.mask ≤ n) × (end_if g.smask ≤ n)
+
+abbrev pub IsPlaceWithin : ℕ → Place → Type 0
+IsPlaceWithin n place.Between = ⊤
+IsPlaceWithin n (place.Named k) = ⊤
+IsPlaceWithin n (place.Inside k from) = from ≤ n
+
+abbrev pub IsWithin : ℕ → Scanner → Type 0
+IsWithin n s = IsPlaceWithin n s.place × AreWithin n s.given

@@ -1,0 +1,5 @@
+use Rattle.x7_recovery.proofs.ImageBootLemmas.{falls_back_from}
+use Rattle.x7_recovery.proofs.image_law.images_fall_back.Goals as goal
+
+pub returns : goal.returns
+returns c = falls_back_from

@@ -1,0 +1,99 @@
+-- Lines of frames, written group by group.
+use Rattle.std.proofs.Common.{◌≡◌, ◌++◌, ℕ, List, [], Option, codes, decimal, length, take, drop, refl, sym, ap, ◌∙◌, append_assoc, append-nil}
+use Rattle.std.proofs.lemmas.Grind.{flat_map-append}
+use Rattle.std.proofs.lemmas.List.{take-append-drop}
+use Rattle.x7_words.specs.Sink.{appended, PutsFront}
+use Rattle.x7_words.proofs.SinkLemmas.{appended-nil, appended-appended, front_more}
+use Rattle.x7_part.specs.AddressOrder.{addresses_in}
+use Rattle.x7_part.specs.Part.{PartData}
+use Rattle.x7_memory.specs.FrameMap.{AreSame, FrameMap}
+use Rattle.x7_memory.specs.Frames.{frame_at}
+use Rattle.x7_engine.specs.declared.regs.Regs.{Regs}
+use Rattle.x7_report.specs.Frames.{frames_text, line_of, lines_text, shown}
+use Rattle.x7_report.specs.Reads.{reads_text}
+use Rattle.x7_report.specs.Report.{report_text}
+use Rattle.x7_report.specs.State.{state_text}
+use Rattle.x7_report.proofs.ReportLemmas.{frames_same}
+
+-- the lines of all but the rest were written
+pub record Sent (first now : Option (List ℕ)) (memory : FrameMap) (fars rest : List ℕ) : Type 0 where
+  pub done : List ℕ
+  pub put : now ≡ appended first done
+  pub lines : lines_text memory fars ≡ done ++ lines_text memory rest
+
+pub none_sent : (first : Option (List ℕ)) (memory : FrameMap) (fars : List ℕ) → Sent first first memory fars fars
+none_sent first memory fars = record { done = []; put = sym (appended-nil first); lines = refl }
+
+parted : (memory : FrameMap) (k : ℕ) (rest group more : List ℕ) → group ≡ take k rest → more ≡ drop k rest → lines_text memory rest ≡ lines_text memory group ++ lines_text memory more
+parted memory k rest group more e f =
+    ap (lines_text memory) (sym (take-append-drop k rest)) ∙ flat_map-append (λ far. line_of far (memory far)) (take k rest) (drop k rest)
+    ∙ ap (λ t. lines_text memory t ++ lines_text memory (drop k rest)) (sym e) ∙ ap (λ t. lines_text memory group ++ lines_text memory t) (sym f)
+
+module _ (first now : Option (List ℕ)) (memory : FrameMap) (fars rest group more : List ℕ) (k : ℕ) (g : Sent first now memory fars rest) (e : group ≡ take k rest) (f : more ≡ drop k rest) where
+  pub more_sent : (next : Option (List ℕ)) → next ≡ appended now (lines_text memory group) → Sent first next memory fars more
+  more_sent next p = record {
+    done = g.done ++ lines_text memory group;
+    put = p ∙ ap (λ t. appended t (lines_text memory group)) g.put ∙ appended-appended first g.done (lines_text memory group);
+    lines = g.lines ∙ ap (λ t. g.done ++ t) (parted memory k rest group more e f) ∙ sym (append_assoc g.done (lines_text memory group) (lines_text memory more));
+  }
+
+  pub group_failed : (next : Option (List ℕ)) → PutsFront now (lines_text memory group) next → PutsFront first (lines_text memory fars) next
+  group_failed next p = rw (g.lines, parted memory k rest group more e f) (front_more first now next g.done (lines_text memory group) (lines_text memory more) g.put p)
+
+pub all_sent : (first now : Option (List ℕ)) (memory : FrameMap) (fars rest : List ℕ) → Sent first now memory fars rest → rest ≡ [] → now ≡ appended first (lines_text memory fars)
+all_sent first now memory fars rest g e = g.put ∙ ap (appended first) (sym (g.lines ∙ ap (λ t. g.done ++ lines_text memory t) e ∙ append-nil g.done))
+
+-- a text behind a head
+pub behind_head : (first mid new : Option (List ℕ)) (head lines : List ℕ) → mid ≡ appended first head → new ≡ appended mid lines → new ≡ appended first (head ++ lines)
+behind_head first mid new head lines e f = f ∙ ap (λ t. appended t lines) e ∙ appended-appended first head lines
+
+pub head_failed : (first new : Option (List ℕ)) (head lines : List ℕ) → PutsFront first head new → PutsFront first (head ++ lines) new
+head_failed first new head lines p = front_more first first new [] head lines (sym (appended-nil first)) p
+
+pub lines_failed : (first mid new : Option (List ℕ)) (head lines : List ℕ) → mid ≡ appended first head → PutsFront mid lines new → PutsFront first (head ++ lines) new
+lines_failed first mid new head lines e p = rw (ap (λ t. head ++ t) (sym (append-nil lines))) (front_more first mid new head lines [] e p)
+
+-- ---- the whole report
+
+pub head_is : (name part_name : List ℕ) (regs state : Regs) (reads none first second third fourth : List ℕ) (count : ℕ) → name ≡ part_name → regs ≡ state → none ≡ [] →
+    first ≡ none ++ state_text name regs → second ≡ first ++ reads_text reads → third ≡ second ++ codes "frames " → fourth ≡ third ++ decimal count ++ codes "\n" →
+    fourth ≡ state_text part_name state ++ reads_text reads ++ codes "frames " ++ decimal count ++ codes "\n"
+head_is name part_name regs state reads none first second third fourth count a b z e f g h =
+    h ∙ ap (λ (t : List ℕ). t ++ decimal count ++ codes "\n") (g ∙ ap (λ (t : List ℕ). t ++ codes "frames ") (f ∙ ap (λ (t : List ℕ). t ++ reads_text reads)
+    (e ∙ ap (λ (t : List ℕ). t ++ state_text name regs) z ∙ ap (λ (x : List ℕ). state_text x regs) a ∙ ap (λ (x : Regs). state_text part_name x) b)))
+
+behind : (front a b c d : List ℕ) → front ++ a ++ b ++ c ++ d ≡ front ++ (a ++ b ++ c ++ d)
+behind front a b c d =
+    ap (λ t. t ++ c ++ d) (append_assoc front a b) ∙ ap (λ t. t ++ d) (append_assoc front (a ++ b) c) ∙ append_assoc front (a ++ b ++ c) d
+
+pub play_is : (p q : PartData) (state : Regs) (reads : List ℕ) (frames : List (List ℕ)) (n : FrameMap) (head fars : List ℕ) → p ≡ q → AreSame (frame_at q frames) n → fars ≡ shown (frame_at p frames) (addresses_in p) →
+    head ≡ state_text q.name state ++ reads_text reads ++ codes "frames " ++ decimal (length fars) ++ codes "\n" → head ++ lines_text (frame_at p frames) fars ≡ report_text q state reads n
+unfolding report_text frames_text
+play_is p q state reads frames n head fars d same e h =
+    let front = state_text q.name state ++ reads_text reads in
+    let m = frame_at p frames in
+    ap (λ (t : List ℕ). t ++ lines_text m fars) h
+    ∙ behind front (codes "frames ") (decimal (length fars)) (codes "\n") (lines_text m fars)
+    ∙ ap (λ (t : List ℕ). front ++ (codes "frames " ++ decimal (length t) ++ codes "\n" ++ lines_text m t)) e
+    ∙ ap (λ (x : PartData). front ++ frames_text (frame_at x frames) (addresses_in x)) d
+    ∙ ap (λ (t : List ℕ). front ++ t) (frames_same (frame_at q frames) n (addresses_in q) same)
+
+-- ---- a report that is written
+
+joined : (p q : PartData) (frames memory : List (List ℕ)) (head kept fars places : List ℕ) → p ≡ q → frames ≡ memory → head ≡ kept → fars ≡ places →
+    head ++ lines_text (frame_at p frames) fars ≡ kept ++ lines_text (frame_at q memory) places
+joined p q frames memory head kept fars places a b e f =
+    ap (λ (t : List ℕ). t ++ lines_text (frame_at p frames) fars) e ∙ ap (λ (x : PartData). kept ++ lines_text (frame_at x frames) fars) a
+    ∙ ap (λ (x : List (List ℕ)). kept ++ lines_text (frame_at q x) fars) b ∙ ap (λ (x : List ℕ). kept ++ lines_text (frame_at q memory) x) f
+
+pub report_failed : (first mid new : Option (List ℕ)) (p q : PartData) (frames memory : List (List ℕ)) (head kept fars places text : List ℕ) → p ≡ q → frames ≡ memory → head ≡ kept → fars ≡ places →
+    kept ++ lines_text (frame_at q memory) places ≡ text → mid ≡ appended first head → PutsFront mid (lines_text (frame_at p frames) fars) new → PutsFront first text new
+report_failed first mid new p q frames memory head kept fars places text a b e f t put failed =
+    let whole : head ++ lines_text (frame_at p frames) fars ≡ text = joined p q frames memory head kept fars places a b e f ∙ t in
+    rw (← whole) (lines_failed first mid new head (lines_text (frame_at p frames) fars) put failed)
+
+pub report_put : (first mid new : Option (List ℕ)) (p q : PartData) (frames memory : List (List ℕ)) (head kept fars places text : List ℕ) → p ≡ q → frames ≡ memory → head ≡ kept → fars ≡ places →
+    kept ++ lines_text (frame_at q memory) places ≡ text → mid ≡ appended first head → new ≡ appended mid (lines_text (frame_at p frames) fars) → PutsFront first text new
+report_put first mid new p q frames memory head kept fars places text a b e f t put lines =
+    let whole : head ++ lines_text (frame_at p frames) fars ≡ text = joined p q frames memory head kept fars places a b e f ∙ t in
+    (text, ([], sym (append-nil text), behind_head first mid new head (lines_text (frame_at p frames) fars) put lines ∙ ap (appended first) whole))

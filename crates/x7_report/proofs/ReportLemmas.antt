@@ -1,0 +1,86 @@
+-- Lemmas on the frames of a report.
+use Rattle.std.proofs.Common.{◌≡◌, ◌==◌, ◌&&◌, ◌≤◌, ◌<◌, ◌+◌, ℕ, Bool, true, false, if◌then◌else◌, Option, codes, decimal, List, [], ◌∷◌, ◌++◌, length, take, get_or, bit_or, refl, ap, sym, ◌∙◌, arith, inl, inr}
+use Rattle.std.proofs.Math.Nat.{eq-zero-or-pos}
+use Rattle.std.specs.Int.Bits.{or_zero_l}
+use Rattle.std.proofs.lemmas.Nat.{le_or_l}
+use Rattle.std.proofs.lemmas.Bool.{ne_eqb}
+use Rattle.std.specs.List.{flat_map}
+use Rattle.std.proofs.lemmas.List.{take_more}
+use Rattle.x7_part.specs.AddressOrder.{addresses_in}
+use Rattle.x7_part.specs.Part.{PartData}
+use Rattle.x7_memory.specs.FrameMap.{AreSame, FrameMap}
+use Rattle.x7_memory.specs.Frames.{frame_at}
+use Rattle.x7_engine.specs.declared.regs.Regs.{Regs}
+use Rattle.x7_report.specs.Frames.{frames_text, is_blank, is_shown, line_of, shown}
+use Rattle.x7_report.specs.Reads.{reads_text}
+use Rattle.x7_report.specs.Report.{report_text}
+use Rattle.x7_report.specs.State.{state_text}
+
+blank-append : (xs ys : List ℕ) → is_blank (xs ++ ys) ≡ (is_blank xs && is_blank ys)
+blank-append [] ys = refl
+blank-append (x ∷ xs) ys = by (x == 0) (is_blank xs) (is_blank ys) (is_blank (xs ++ ys)) (blank-append xs ys)
+  where
+    by : (z a b c : Bool) → c ≡ (a && b) → (z && c) ≡ ((z && a) && b)
+    by true a b c e = e
+    by false a b c e = refl
+
+and_true : (b : Bool) → b ≡ (b && true)
+and_true true = refl
+and_true false = refl
+
+-- an or of numbers is 0 where both are
+or_blank : (a w : ℕ) → (bit_or a w == 0) ≡ ((a == 0) && (w == 0 && true))
+or_blank a w = elim (eq-zero-or-pos a) [
+  | inl e ↦ rw e (ap (λ (n : ℕ). n == 0) (or_zero_l w) ∙ and_true (w == 0))
+  | inr h ↦ let more : a ≤ bit_or a w = le_or_l a w in
+      ne_eqb (bit_or a w) 0 (λ e. omega arith) ∙ sym (ap (λ (b : Bool). b && (w == 0 && true)) (ne_eqb a 0 (λ e. omega arith)))
+]
+
+-- one word more
+pub word_taken : (words : List ℕ) (i any : ℕ) → i < length words → (any == 0) ≡ is_blank (take i words) → (bit_or any (get_or words i 0) == 0) ≡ is_blank (take (i + 1) words)
+word_taken words i any h e =
+    or_blank any (get_or words i 0) ∙ ap (λ (b : Bool). b && (get_or words i 0 == 0 && true)) e
+    ∙ sym (ap is_blank (take_more words i 0 h) ∙ blank-append (take i words) (get_or words i 0 ∷ []))
+
+-- a word other than 0 at the front
+pub first_tells : (words : List ℕ) (word : ℕ) → 0 < length words → word ≡ get_or words 0 0 → (word == 0) ≡ false → is_blank words ≡ false
+first_tells [] word h e t = absurd (omega (arith, h))
+first_tells (x ∷ xs) word h e t = ap (λ (b : Bool). b && is_blank xs) (ap (λ (n : ℕ). n == 0) (sym e) ∙ t)
+
+pub shown-append : (memory : FrameMap) (xs ys : List ℕ) → shown memory (xs ++ ys) ≡ shown memory xs ++ shown memory ys
+shown-append memory [] ys = refl
+shown-append memory (x ∷ xs) ys = by (is_shown (memory x)) (shown memory xs) (shown memory (xs ++ ys)) (shown-append memory xs ys)
+  where
+    by : (b : Bool) (first all : List ℕ) → all ≡ first ++ shown memory ys → (if b then x ∷ all else all) ≡ (if b then x ∷ first else first) ++ shown memory ys
+    by true first all e = ap (λ t. x ∷ t) e
+    by false first all e = e
+
+pub shown_more : (memory : FrameMap) (fars : List ℕ) (i : ℕ) (b : Bool) → i < length fars → is_shown (memory (get_or fars i 0)) ≡ b → shown memory (take (i + 1) fars) ≡ shown memory (take i fars) ++ (if b then get_or fars i 0 ∷ [] else [])
+shown_more memory fars i b l e =
+    ap (shown memory) (take_more fars i 0 l) ∙ shown-append memory (take i fars) (get_or fars i 0 ∷ [])
+    ∙ ap (λ (x : Bool). shown memory (take i fars) ++ (if x then get_or fars i 0 ∷ [] else [])) e
+
+shown_same : (m n : FrameMap) (fars : List ℕ) → AreSame m n → shown m fars ≡ shown n fars
+shown_same m n [] same = refl
+shown_same m n (x ∷ fars) same = ap (λ (o : Option (List ℕ)). if is_shown o then x ∷ shown m fars else shown m fars) (same x) ∙ ap (λ t. if is_shown (n x) then x ∷ t else t) (shown_same m n fars same)
+
+lines_same : (m n : FrameMap) (fars : List ℕ) → AreSame m n → flat_map (λ far. line_of far (m far)) fars ≡ flat_map (λ far. line_of far (n far)) fars
+lines_same m n [] same = refl
+lines_same m n (x ∷ fars) same = ap (λ (o : Option (List ℕ)). line_of x o ++ flat_map (λ far. line_of far (m far)) fars) (same x) ∙ ap (λ t. line_of x (n x) ++ t) (lines_same m n fars same)
+
+-- maps that have the same frames are shown alike
+pub frames_same : (m n : FrameMap) (fars : List ℕ) → AreSame m n → frames_text m fars ≡ frames_text n fars
+unfolding frames_text
+frames_same m n fars same =
+    ap (λ (xs : List ℕ). codes "frames " ++ decimal (length xs) ++ codes "\n" ++ flat_map (λ far. line_of far (m far)) xs) (shown_same m n fars same)
+    ∙ ap (λ (t : List ℕ). codes "frames " ++ decimal (length (shown n fars)) ++ codes "\n" ++ t) (lines_same m n (shown n fars) same)
+
+pub report_is : (p q : PartData) (name : List ℕ) (regs state : Regs) (reads : List ℕ) (frames : List (List ℕ)) (n : FrameMap) (none first second third : List ℕ) → name ≡ p.name → regs ≡ state → p ≡ q → AreSame (frame_at q frames) n → none ≡ []
+    → first ≡ none ++ state_text name regs → second ≡ first ++ reads_text reads → third ≡ second ++ frames_text (frame_at p frames) (addresses_in p) → third ≡ report_text q state reads n
+unfolding report_text
+report_is p q name regs state reads frames n none first second third a b d same z e f g =
+    g ∙ ap (λ (x : PartData). second ++ frames_text (frame_at x frames) (addresses_in x)) d
+    ∙ ap (λ (t : List ℕ). second ++ t) (frames_same (frame_at q frames) n (addresses_in q) same)
+    ∙ ap (λ (t : List ℕ). t ++ frames_text n (addresses_in q)) (f ∙ ap (λ (t : List ℕ). t ++ reads_text reads) (e ∙ ap (λ (t : List ℕ). t ++ state_text name regs) z))
+    ∙ ap (λ (x : List ℕ). (state_text x regs ++ reads_text reads) ++ frames_text n (addresses_in q)) (a ∙ ap (λ (x : PartData). x.name) d)
+    ∙ ap (λ (x : Regs). (state_text q.name x ++ reads_text reads) ++ frames_text n (addresses_in q)) b

@@ -1,0 +1,5 @@
+use Rattle.x7_report.proofs.DigitLemmas.{eight_bytes}
+use Rattle.x7_report.proofs.frames.turned.Goals as goal
+
+pub returns : goal.returns
+returns c = eight_bytes c.args.words c.requires c.fits-words.1

@@ -1,0 +1,18 @@
+use Rattle.std.proofs.Common.{ap}
+use Rattle.x7_report.specs.Report.{PlayTextState}
+use Rattle.x7_report.proofs.LinesLemmas.{report_failed, report_put}
+use Rattle.x7_report.proofs.streamed.PlayText.write.Goals as goal
+
+pub returns-in_err-write_lines-clause-prefix : goal.returns-in_err-write_lines-clause-prefix
+returns-in_err-write_lines-clause-prefix g c =
+    let s = g.S.Sink in
+    report_failed (s.state c.args.out.now).written (s.state c.write_all.new.sink).written (s.state c.write_lines.new.out).written c.part.result.now c.self.inside.device.part c.memory.result.now c.self.inside.device.registers.frames.memory
+    c.deref.result.now c.self.inside.head.items c.deref-2.result.now c.self.inside.fars.items c.args.self.now.text c.part.ensures.now c.memory.ensures.now c.deref.ensures.value c.deref-2.ensures.value
+    (ap (λ (a : PlayTextState). a.text) c.self.view_is) c.in_ok-write_all.ensures.ok c.in_err-write_lines.ensures.prefix
+
+pub returns-clause-prefix : goal.returns-clause-prefix
+returns-clause-prefix g c =
+    let s = g.S.Sink in
+    report_put (s.state c.args.out.now).written (s.state c.write_all.new.sink).written (s.state c.write_lines.new.out).written c.part.result.now c.self.inside.device.part c.memory.result.now c.self.inside.device.registers.frames.memory
+    c.deref.result.now c.self.inside.head.items c.deref-2.result.now c.self.inside.fars.items c.args.self.now.text c.part.ensures.now c.memory.ensures.now c.deref.ensures.value c.deref-2.ensures.value
+    (ap (λ (a : PlayTextState). a.text) c.self.view_is) c.in_ok-write_all.ensures.ok c.in_ok-write_lines.ensures.whole

@@ -1,0 +1,17 @@
+use Rattle.std.proofs.Common.{◌≤◌, length, vec_capacity}
+use Rattle.x7_words.specs.Sink.{Counts}
+use Rattle.x7_memory.specs.Frames.{frame_at}
+use Rattle.x7_report.proofs.LinesLemmas.{Sent}
+use Rattle.x7_report.proofs.streamed.write_lines.Given as goal
+
+abbrev pub invariant-loop-rest : goal.invariant-loop-rest
+invariant-loop-rest g l =
+    let s = g.S.Sink in
+    record {
+      sent : Sent (s.state l.fn.out).written (s.state l.out).written (frame_at l.part l.memory) l.fars l.rest;
+      room : 263168 ≤ vec_capacity l.block;
+      counts : Counts (s.state l.fn.out) (s.state l.out);
+    }
+
+abbrev pub decreases-loop-rest : goal.decreases-loop-rest
+decreases-loop-rest g l = length l.rest

@@ -1,0 +1,37 @@
+-- The lines of frames, and which frames a report shows (this project's choice).
+use Rattle.std.specs.Prelude.{ℕ, ◌==◌, ◌&&◌, not, Bool, true, false, if◌then◌else◌, Option, None, Some, List, [], ◌∷◌, ◌++◌, codes, decimal, length}
+use Rattle.std.specs.List.{flat_map}
+use Rattle.x7_memory.specs.FrameMap.{FrameMap}
+use Rattle.x7_text.specs.Digits.{hex_word}
+
+-- the line of a frame: its address and the digits of its words
+unfoldable pub frame_text : ℕ → List ℕ → List ℕ
+frame_text far words = codes "frame " ++ hex_word far ++ 32 ∷ flat_map hex_word words ++ codes "\n"
+
+-- all words are 0
+abbrev pub is_blank : List ℕ → Bool
+is_blank [] = true
+is_blank (w ∷ words) = w == 0 && is_blank words
+
+-- there is a frame, and it has a word other than 0
+abbrev pub is_shown : Option (List ℕ) → Bool
+is_shown None = false
+is_shown (Some words) = not (is_blank words)
+
+-- of these addresses those whose frames are shown
+abbrev pub shown : FrameMap → List ℕ → List ℕ
+shown memory [] = []
+shown memory (far ∷ fars) = if is_shown (memory far) then far ∷ shown memory fars else shown memory fars
+
+-- the line of the frame at an address
+abbrev pub line_of : ℕ → Option (List ℕ) → List ℕ
+line_of far None = []
+line_of far (Some words) = frame_text far words
+
+-- the lines of the frames at these addresses
+abbrev pub lines_text : FrameMap → List ℕ → List ℕ
+lines_text memory fars = flat_map (λ far. line_of far (memory far)) fars
+
+-- the number of the frames shown, and their lines in number order of their addresses
+unfoldable pub frames_text : FrameMap → List ℕ → List ℕ
+frames_text memory fars = codes "frames " ++ decimal (length (shown memory fars)) ++ codes "\n" ++ flat_map (λ far. line_of far (memory far)) (shown memory fars)

@@ -1,0 +1,4 @@
+pub mod Frames
+pub mod Reads
+pub mod Report
+pub mod State

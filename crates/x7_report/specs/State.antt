@@ -1,0 +1,80 @@
+-- The state of a device as a report gives it (this project's choice). Words are eight hexadecimal digits.
+use Rattle.std.specs.Prelude.{ℕ, Bool, if◌then◌else◌, List, [], ◌∷◌, ◌++◌, codes, decimal}
+use Rattle.std.specs.List.{flat_map}
+use Rattle.x7_regs.specs.Register.{number_of, reg_name}
+use Rattle.x7_regs.specs.declared.register.Reg.{Reg}
+use Rattle.x7_regs.specs.declared.register.Reg.TheVariants as reg
+use Rattle.x7_text.specs.Digits.{hex_word}
+use Rattle.x7_engine.specs.declared.fault.Fault.{Fault}
+use Rattle.x7_engine.specs.declared.fault.Fault.TheVariants as fault
+use Rattle.x7_engine.specs.declared.regs.End.{End}
+use Rattle.x7_engine.specs.declared.regs.End.TheVariants as at_end
+use Rattle.x7_engine.specs.declared.regs.Regs.{Regs}
+
+-- what kind of fault it is, and its words
+abbrev pub fault_text : Fault → List ℕ
+fault_text (fault.Packet w) = codes "Packet " ++ hex_word w
+fault_text (fault.Id want got) = codes "Id " ++ hex_word want ++ 32 ∷ hex_word got
+fault_text (fault.Crc want got) = codes "Crc " ++ hex_word want ++ 32 ∷ hex_word got
+fault_text (fault.Address far) = codes "Address " ++ hex_word far
+fault_text fault.Overrun = codes "Overrun"
+fault_text fault.Multi = codes "Multi"
+fault_text fault.Encrypted = codes "Encrypted"
+fault_text fault.Watchdog = codes "Watchdog"
+
+-- where the bytes taken end
+unfoldable pub end_text : End → List ℕ
+end_text at_end.Searching = codes "searching"
+end_text at_end.Synced = codes "synced"
+end_text (at_end.Iprog wbstar) = codes "iprog " ++ hex_word wbstar
+end_text (at_end.Fault f) = codes "fault " ++ fault_text f
+
+-- the digit of a line, 0 or 1
+abbrev pub bit_text : Bool → List ℕ
+bit_text b = if b then codes "1" else codes "0"
+
+-- the line of startup: its phase, and DONE, GTS and GWE
+unfoldable pub phase_text : Regs → List ℕ
+phase_text r =
+    codes "phase " ++ decimal r.phase
+    ++ codes " done " ++ bit_text r.lines.done
+    ++ codes " gts " ++ bit_text r.lines.gts
+    ++ codes " gwe " ++ bit_text r.lines.gwe
+    ++ codes "\n"
+
+-- the registers in the order of their numbers, each with its word
+abbrev pub reg_words : Regs → List (Reg × ℕ)
+reg_words r =
+    (reg.Crc, r.crc)
+    ∷ (reg.Far, r.far)
+    ∷ (reg.Cmd, r.cmd)
+    ∷ (reg.Ctl0, r.ctl0)
+    ∷ (reg.Mask, r.mask)
+    ∷ (reg.Stat, r.stat)
+    ∷ (reg.Cor0, r.cor0)
+    ∷ (reg.Idcode, r.idcode)
+    ∷ (reg.Axss, r.axss)
+    ∷ (reg.Cor1, r.cor1)
+    ∷ (reg.Wbstar, r.wbstar)
+    ∷ (reg.Timer, r.timer)
+    ∷ (reg.Bootsts, r.bootsts)
+    ∷ (reg.Ctl1, r.ctl1)
+    ∷ (reg.Bspi, r.bspi)
+    ∷ []
+
+-- the line of a register: its name and its word
+abbrev pub reg_line : Reg × ℕ → List ℕ
+reg_line row = codes "reg " ++ reg_name (number_of row.0) ++ 32 ∷ hex_word row.1 ++ codes "\n"
+
+-- the lines of the registers
+unfoldable pub reg_text : Regs → List ℕ
+reg_text r = flat_map reg_line (reg_words r)
+
+-- the device's part, the bytes that it took, where they end, startup and the registers
+unfoldable pub state_text : List ℕ → Regs → List ℕ
+state_text name regs =
+    codes "part " ++ name ++ codes "\n"
+    ++ codes "taken " ++ decimal regs.taken ++ codes "\n"
+    ++ codes "end " ++ end_text regs.end ++ codes "\n"
+    ++ phase_text regs
+    ++ reg_text regs

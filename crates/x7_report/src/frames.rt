@@ -1,0 +1,219 @@
+//! The lines of frames, and which frames a report shows.
+ghost use Rattle.std.specs.Prelude.{◌≡◌, ◌∷◌, ◌++◌, ◌≤◌, ◌<◌, ◌+◌, ◌*◌, [], slice_index, length, vec_len, vec_capacity, IfOk, OnOk, OnErr};
+ghost use Rattle.std.specs.List.{flat_map};
+ghost use Rattle.x7_text.specs.Appends.{Appends};
+ghost use Rattle.x7_text.specs.Digits.{hex_word};
+ghost use Rattle.x7_words.specs.Word.{bytes_of_word};
+ghost use Rattle.x7_part.specs.AddressOrder.{addresses_in};
+ghost use Rattle.x7_memory.specs.Frames.{AreFramesOf, frame_at};
+ghost use Rattle.x7_report.specs.Frames.{frame_text, frames_text, is_blank, is_shown, line_of, shown};
+
+use std::alloc::Global;
+use std::simd::prelude::*;
+use x7_memory::Memory;
+use x7_part::Part;
+use x7_text::{hex_of_block, hex_of_word, make_room, put, put_number, put_text};
+use x7_words::NoMemory;
+
+/// Appends the digits of a word.
+fn put_word(out: &mut Vec<u8>, word: u32)
+    requires { vec_len out.old + 8 ≤ vec_capacity out.old }
+    ensures appends { Appends out.old out.new (hex_word word) 8 }
+{
+    put(out, &hex_of_word(word));
+}
+
+/// The bytes of eight words, the highest of each first.
+#[inline(always)]
+fn turned(words: u32x8) -> u8x32
+    requires { length words ≡ 8 }
+    ensures { result ≡ flat_map bytes_of_word words }
+{
+    words.to_le_bytes().swizzle([
+        3, 2, 1, 0, 7, 6, 5, 4, 11, 10, 9, 8, 15, 14, 13, 12, 19, 18, 17, 16, 23, 22, 21, 20, 27,
+        26, 25, 24, 31, 30, 29, 28,
+    ])
+}
+
+/// The same in arrays.
+#[inline(always)]
+fn bytes_of_words(words: &[u32; 8]) -> [u8; 32]
+    ensures { result ≡ flat_map bytes_of_word words.now }
+{
+    turned(u32x8::from_array(*words)).to_array()
+}
+
+/// Appends the digits of eight words.
+#[inline(always)]
+fn put_eight(out: &mut Vec<u8>, words: &[u32; 8])
+    requires { vec_len out.old + 64 ≤ vec_capacity out.old }
+    ensures appends { Appends out.old out.new (flat_map hex_word words.now) 64 }
+{
+    put(out, &hex_of_block(&bytes_of_words(words)));
+}
+
+/// Appends the digits of words one by one.
+fn put_each(out: &mut Vec<u8>, words: &[u32])
+    requires { vec_len out.old + 8 * length words.now ≤ vec_capacity out.old }
+    ensures appends { Appends out.old out.new (flat_map hex_word words.now) (8 * length words.now) }
+{
+    for word in words {
+        put_word(out, *word);
+    }
+}
+
+/// Appends the digits of words that stand eight in a block.
+fn put_blocks(out: &mut Vec<u8>, blocks: &[[u32; 8]])
+    requires { vec_len out.old + 64 * length blocks.now ≤ vec_capacity out.old }
+    ensures appends { Appends out.old out.new (flat_map (λ block. flat_map hex_word block) blocks.now) (64 * length blocks.now) }
+{
+    for block in blocks {
+        put_eight(out, block);
+    }
+}
+
+/// Appends the digits of words.
+fn put_digits(out: &mut Vec<u8>, words: &[u32])
+    requires { vec_len out.old + 8 * length words.now ≤ vec_capacity out.old }
+    ensures appends { Appends out.old out.new (flat_map hex_word words.now) (8 * length words.now) }
+{
+    let (blocks, rest) = words.as_chunks::<8>();
+    put_blocks(out, blocks);
+    put_each(out, rest);
+}
+
+/// Appends the line of a frame, as `frame_line`, where there is room for it, and so takes no memory.
+#[tactic(auto, unfolding(crate::specs::Frames::frame_text))]
+pub fn put_frame(out: &mut Vec<u8>, far: u32, words: &[u32])
+    requires { vec_len out.old + (16 + 8 * length words.now) ≤ vec_capacity out.old }
+    ensures appends { Appends out.old out.new (frame_text far words.now) (16 + 8 * length words.now) }
+{
+    put(out, b"frame ");
+    put_word(out, far);
+    put(out, b" ");
+    put_digits(out, words);
+    put(out, b"\n");
+}
+
+/// Appends to `out` the line `frame FAR WORDS` of a frame (this project's choice): its address, and its words one after the
+/// other. Each has eight upper-case hexadecimal digits. `NoMemory` leaves the items as they were.
+pub fn frame_line(out: &mut Vec<u8>, far: u32, words: &[u32]) -> Result<(), NoMemory>
+    ensures ok { OnOk result (out.new.items ≡ out.old.items ++ frame_text far words.now) }
+    ensures err { OnErr result (out.new.items ≡ out.old.items) }
+{
+    let Some(digits) = words.len().checked_mul(8) else {
+        return Err(NoMemory);
+    };
+    let Some(room) = digits.checked_add(16) else {
+        return Err(NoMemory);
+    };
+    make_room(out, room)?;
+    put_frame(out, far, words);
+    Ok(())
+}
+
+/// Whether all words are 0.
+fn are_zeros(words: &[u32]) -> bool
+    ensures { result ≡ is_blank words.now }
+{
+    let mut any = 0;
+    for word in words {
+        any |= *word;
+    }
+    any == 0
+}
+
+/// Whether all words of a frame are 0.
+fn is_blank_frame(words: &[u32]) -> bool
+    ensures { result ≡ is_blank words.now }
+{
+    match words.first() {
+        Some(word) if *word != 0 => false,
+        _ => are_zeros(words),
+    }
+}
+
+/// Whether the frame of a rank has a word other than 0.
+fn is_shown_at(_part: &Part, memory: &Memory, rank: u32) -> bool
+    requires part { AreFramesOf _part.now memory.now }
+    requires rank { rank < length (addresses_in _part.now) }
+    ensures { result ≡ is_shown (frame_at _part.now memory.now (slice_index (addresses_in _part.now) rank)) }
+{
+    match memory.frame_at_rank(rank) {
+        Some(words) => !is_blank_frame(words),
+        None => false,
+    }
+}
+
+/// Appends the address of a rank.
+fn push_address(fars: &mut Vec<u32>, part: &Part, rank: u32) -> Result<(), NoMemory>
+    requires { rank < length (addresses_in part.now) }
+    ensures { OnOk result (fars.new.items ≡ fars.old.items ++ slice_index (addresses_in part.now) rank ∷ []) }
+{
+    if let Some(far) = part.address(rank) {
+        fars.push(far)?;
+    }
+    Ok(())
+}
+
+/// The addresses of the frames that have a word other than 0, in number order.
+pub(crate) fn shown_frames(
+    alloc: Global,
+    part: &Part,
+    memory: &Memory,
+) -> Result<Vec<u32>, NoMemory>
+    requires { AreFramesOf part.now memory.now }
+    ensures { IfOk result (λ fars. fars.items ≡ shown (frame_at part.now memory.now) (addresses_in part.now)) }
+{
+    let mut fars = Vec::new(alloc);
+    for rank in 0..part.frames() {
+        if is_shown_at(part, memory, rank) {
+            push_address(&mut fars, part, rank)?;
+        }
+    }
+    Ok(fars)
+}
+
+/// Appends the line of the frame at an address.
+fn put_frame_at(text: &mut Vec<u8>, part: &Part, memory: &Memory, far: u32) -> Result<(), NoMemory>
+    requires { AreFramesOf part.now memory.now }
+    ensures { OnOk result (text.new.items ≡ text.old.items ++ line_of far (frame_at part.now memory.now far)) }
+{
+    match memory.frame(part, far) {
+        Some(words) => frame_line(text, far, words),
+        None => Ok(()),
+    }
+}
+
+/// Appends the lines of the frames at these addresses.
+fn put_frame_lines(
+    text: &mut Vec<u8>,
+    part: &Part,
+    memory: &Memory,
+    fars: &[u32],
+) -> Result<(), NoMemory>
+    requires { AreFramesOf part.now memory.now }
+    ensures { OnOk result (text.new.items ≡ text.old.items ++ flat_map (λ far. line_of far (frame_at part.now memory.now far)) fars.now) }
+{
+    for far in fars {
+        put_frame_at(text, part, memory, *far)?;
+    }
+    Ok(())
+}
+
+/// Appends the lines of the frames that have a word other than 0.
+#[tactic(auto, unfolding(crate::specs::Frames::frames_text))]
+pub(crate) fn put_frames(
+    alloc: Global,
+    text: &mut Vec<u8>,
+    part: &Part,
+    memory: &Memory,
+) -> Result<(), NoMemory>
+    requires { AreFramesOf part.now memory.now }
+    ensures { OnOk result (text.new.items ≡ text.old.items ++ frames_text (frame_at part.now memory.now) (addresses_in part.now)) }
+{
+    let fars = shown_frames(alloc, part, memory)?;
+    put_text(text, b"frames ")?;
+    put_number(text, fars.len() as u64)?;
+    put_frame_lines(text, part, memory, &fars)
+}

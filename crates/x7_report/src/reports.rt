@@ -1,0 +1,51 @@
+//! The report of a device.
+ghost use Rattle.std.specs.Prelude.{◌≡◌, ◌++◌, codes, decimal, IfOk};
+ghost use Rattle.x7_engine.specs.Past.{OfPast, memory_at, state_at};
+ghost use Rattle.x7_engine.specs.Standing.{NoWordDue, frames_due};
+ghost use Rattle.x7_engine.specs.State.{state_owing};
+ghost use Rattle.x7_report.specs.Reads.{reads_text};
+ghost use Rattle.x7_report.specs.Report.{report_text};
+ghost use Rattle.x7_report.specs.State.{state_text};
+
+use crate::frames::put_frames;
+use crate::reads::put_reads;
+use crate::state::put_state;
+use std::alloc::Global;
+use x7_engine::Device;
+use x7_text::{put_number, put_text};
+use x7_words::NoMemory;
+
+/// What a report has before the lines of its frames, of which it shows so many.
+pub(crate) fn report_head(
+    alloc: Global,
+    device: &Device,
+    reads: &[u32],
+    count: usize,
+) -> Result<Vec<u8>, NoMemory>
+    ensures value { IfOk result (λ text. OfPast device.now (λ p. NoWordDue device.now
+        → text.items ≡ state_text p.part.name (state_at p) ++ reads_text reads.now ++ codes "frames " ++ decimal count ++ codes "\n")) }
+    ensures owing { IfOk result (λ text. OfPast device.now (λ p.
+        text.items ≡ state_text p.part.name (state_owing p.part p.kept p.wrapped p.bytes (frames_due device.now.registers.due)) ++ reads_text reads.now ++ codes "frames " ++ decimal count ++ codes "\n")) }
+{
+    let mut text = Vec::new(alloc);
+    put_state(&mut text, device.part().name(), &device.state())?;
+    put_reads(&mut text, reads)?;
+    put_text(&mut text, b"frames ")?;
+    put_number(&mut text, count as u64)?;
+    Ok(text)
+}
+
+/// The report of a device and of the words that it read out (this project's choice): `part NAME`; `taken N`, the bytes
+/// that it took; `end` and where they end; `phase P done D gts G gwe E`; fifteen lines `reg NAME WORD`; `reads N` and the
+/// words in `data` lines of eight; `frames N` and the `frame` lines of all frames that have a word other than 0.
+#[tactic(auto, unfolding(crate::specs::Report::report_text))]
+pub fn report(alloc: Global, device: &Device, reads: &[u32]) -> Result<Vec<u8>, NoMemory>
+    ensures { IfOk result (λ text. OfPast device.now (λ p. NoWordDue device.now
+        → text.items ≡ report_text p.part (state_at p) reads.now (memory_at p))) }
+{
+    let mut text = Vec::new(alloc);
+    put_state(&mut text, device.part().name(), &device.state())?;
+    put_reads(&mut text, reads)?;
+    put_frames(alloc, &mut text, device.part(), device.memory())?;
+    Ok(text)
+}

@@ -1,0 +1,186 @@
+//! The state of a device as text, appended where room is made first.
+ghost use Rattle.std.specs.Prelude.{◌≡◌, ◌∷◌, ◌++◌, ◌≤◌, ◌+◌, ◌*◌, length, vec_len, vec_capacity, OnOk, OnErr};
+ghost use Rattle.std.specs.List.{flat_map};
+ghost use Rattle.x7_text.specs.Appends.{Appends};
+ghost use Rattle.x7_text.specs.Digits.{hex_word};
+ghost use Rattle.x7_report.specs.State.{bit_text, end_text, fault_text, phase_text, reg_line, reg_text, reg_words, state_text};
+
+use x7_engine::{End, Fault, Regs};
+use x7_regs::{Reg, name_of};
+use x7_text::{hex_of_word, make_room, put, put_decimal, put_number, put_text};
+use x7_words::NoMemory;
+
+/// Appends a name and the digits of a word.
+fn put_named_word(out: &mut Vec<u8>, name: &[u8], word: u32)
+    requires { vec_len out.old + (length name.now + 8) ≤ vec_capacity out.old }
+    ensures { out.new.items ≡ out.old.items ++ (name.now ++ hex_word word) }
+{
+    put(out, name);
+    put(out, &hex_of_word(word));
+}
+
+/// Appends a name and the digits of two words.
+fn put_named_pair(out: &mut Vec<u8>, name: &[u8], want: u32, got: u32)
+    requires { vec_len out.old + (length name.now + 17) ≤ vec_capacity out.old }
+    ensures { out.new.items ≡ out.old.items ++ (name.now ++ hex_word want ++ 32 ∷ hex_word got) }
+{
+    put(out, name);
+    put(out, &hex_of_word(want));
+    put(out, b" ");
+    put(out, &hex_of_word(got));
+}
+
+/// Appends what kind of fault it is, and its words.
+fn put_fault(out: &mut Vec<u8>, fault: Fault)
+    requires { vec_len out.old + 21 ≤ vec_capacity out.old }
+    ensures { out.new.items ≡ out.old.items ++ fault_text fault }
+{
+    match fault {
+        Fault::Packet(word) => put_named_word(out, b"Packet ", word),
+        Fault::Id { want, got } => put_named_pair(out, b"Id ", want, got),
+        Fault::Crc { want, got } => put_named_pair(out, b"Crc ", want, got),
+        Fault::Address(far) => put_named_word(out, b"Address ", far),
+        Fault::Overrun => put(out, b"Overrun"),
+        Fault::Multi => put(out, b"Multi"),
+        Fault::Encrypted => put(out, b"Encrypted"),
+        Fault::Watchdog => put(out, b"Watchdog"),
+    }
+}
+
+/// Appends where the bytes taken end.
+#[tactic(auto, unfolding(crate::specs::State::end_text))]
+fn put_end(out: &mut Vec<u8>, end: End)
+    requires { vec_len out.old + 27 ≤ vec_capacity out.old }
+    ensures { out.new.items ≡ out.old.items ++ end_text end }
+{
+    match end {
+        End::Searching => put(out, b"searching"),
+        End::Synced => put(out, b"synced"),
+        End::Iprog(wbstar) => put_named_word(out, b"iprog ", wbstar),
+        End::Fault(fault) => {
+            put(out, b"fault ");
+            put_fault(out, fault);
+        }
+    }
+}
+
+/// Appends to `out` where the bytes taken end, without a line end (this project's choice): `searching`, `synced`,
+/// `iprog WBSTAR`, or `fault ` with the kind of fault and its words. Words have eight upper-case hexadecimal digits.
+/// `NoMemory` leaves the items as they were.
+pub fn end_words(out: &mut Vec<u8>, r: &Regs) -> Result<(), NoMemory>
+    ensures ok { OnOk result (out.new.items ≡ out.old.items ++ end_text r.now.end) }
+    ensures err { OnErr result (out.new.items ≡ out.old.items) }
+{
+    make_room(out, 27)?;
+    put_end(out, r.end);
+    Ok(())
+}
+
+/// Appends a name and the digit of a line, 0 or 1.
+fn put_bit(out: &mut Vec<u8>, name: &[u8], bit: bool)
+    requires { vec_len out.old + (length name.now + 1) ≤ vec_capacity out.old }
+    ensures appends { Appends out.old out.new (name.now ++ bit_text bit) (length name.now + 1) }
+{
+    put(out, name);
+    put(out, if bit { b"1" } else { b"0" });
+}
+
+/// Appends the line of startup.
+#[tactic(auto, unfolding(crate::specs::State::phase_text))]
+fn put_phase(out: &mut Vec<u8>, r: &Regs)
+    requires { vec_len out.old + 46 ≤ vec_capacity out.old }
+    ensures { out.new.items ≡ out.old.items ++ phase_text r.now }
+{
+    put(out, b"phase ");
+    put_decimal(out, u64::from(r.phase));
+    put_bit(out, b" done ", r.lines.done);
+    put_bit(out, b" gts ", r.lines.gts);
+    put_bit(out, b" gwe ", r.lines.gwe);
+    put(out, b"\n");
+}
+
+/// Appends to `out` the line `phase P done D gts G gwe E` (this project's choice): the phase of startup in decimal, and
+/// DONE, GTS and GWE as 0 or 1. `NoMemory` leaves the items as they were.
+pub fn phase_line(out: &mut Vec<u8>, r: &Regs) -> Result<(), NoMemory>
+    ensures ok { OnOk result (out.new.items ≡ out.old.items ++ phase_text r.now) }
+    ensures err { OnErr result (out.new.items ≡ out.old.items) }
+{
+    make_room(out, 46)?;
+    put_phase(out, r);
+    Ok(())
+}
+
+/// The registers in the order of their numbers, each with its word.
+#[rattlefmt::skip]
+fn rows_of(r: &Regs) -> [(Reg, u32); 15]
+    ensures { result ≡ reg_words r.now }
+{
+    [
+        (Reg::Crc,     r.crc),
+        (Reg::Far,     r.far),
+        (Reg::Cmd,     r.cmd),
+        (Reg::Ctl0,    r.ctl0),
+        (Reg::Mask,    r.mask),
+        (Reg::Stat,    r.stat),
+        (Reg::Cor0,    r.cor0),
+        (Reg::Idcode,  r.idcode),
+        (Reg::Axss,    r.axss),
+        (Reg::Cor1,    r.cor1),
+        (Reg::Wbstar,  r.wbstar),
+        (Reg::Timer,   r.timer),
+        (Reg::Bootsts, r.bootsts),
+        (Reg::Ctl1,    r.ctl1),
+        (Reg::Bspi,    r.bspi),
+    ]
+}
+
+/// Appends the line of a register.
+fn put_row(out: &mut Vec<u8>, row: (Reg, u32))
+    requires { vec_len out.old + 21 ≤ vec_capacity out.old }
+    ensures appends { Appends out.old out.new (reg_line row) 21 }
+{
+    let (reg, word) = row;
+    put(out, b"reg ");
+    put(out, name_of(reg.number()).bytes());
+    put(out, b" ");
+    put(out, &hex_of_word(word));
+    put(out, b"\n");
+}
+
+/// Appends the lines of registers.
+fn put_rows(out: &mut Vec<u8>, rows: &[(Reg, u32)])
+    requires { vec_len out.old + 21 * length rows.now ≤ vec_capacity out.old }
+    ensures { out.new.items ≡ out.old.items ++ flat_map reg_line rows.now }
+{
+    for row in rows {
+        put_row(out, *row);
+    }
+}
+
+/// Appends to `out` the fifteen lines `reg NAME WORD` of the registers, from CRC to BSPI in the order of their numbers
+/// (this project's choice). Words have eight upper-case hexadecimal digits. `NoMemory` leaves the items as they were.
+#[tactic(auto, unfolding(crate::specs::State::reg_text))]
+pub fn reg_lines(out: &mut Vec<u8>, r: &Regs) -> Result<(), NoMemory>
+    ensures ok { OnOk result (out.new.items ≡ out.old.items ++ reg_text r.now) }
+    ensures err { OnErr result (out.new.items ≡ out.old.items) }
+{
+    make_room(out, 315)?;
+    put_rows(out, &rows_of(r));
+    Ok(())
+}
+
+/// Appends the lines of the state of a device of the part of this name.
+#[tactic(auto, unfolding(crate::specs::State::state_text))]
+pub(crate) fn put_state(text: &mut Vec<u8>, name: &str, regs: &Regs) -> Result<(), NoMemory>
+    ensures { OnOk result (text.new.items ≡ text.old.items ++ state_text name.now regs.now) }
+{
+    put_text(text, b"part ")?;
+    put_text(text, name.as_bytes())?;
+    put_text(text, b"\ntaken ")?;
+    put_number(text, regs.taken)?;
+    put_text(text, b"end ")?;
+    end_words(text, regs)?;
+    put_text(text, b"\n")?;
+    phase_line(text, regs)?;
+    reg_lines(text, regs)
+}

@@ -1,0 +1,167 @@
+//! The report of a play, ready to be written: the lines of its frames are made as they are written.
+ghost use Rattle.std.specs.Prelude.{◌≡◌, ◌++◌, ◌+◌, ◌*◌, ◌≤◌, length, vec_len, vec_capacity, IfOk, OnErr, OnOk};
+ghost use Rattle.x7_words.specs.Sink.{Counts, PutsAll, PutsSome, SinkFails};
+ghost use Rattle.x7_text.specs.Appends.{Appends};
+ghost use Rattle.x7_memory.specs.Frames.{AreFramesOf, frame_at};
+ghost use Rattle.x7_engine.specs.Past.{OfPast, memory_at, state_at};
+ghost use Rattle.x7_engine.specs.Standing.{NoWordDue, frames_due};
+ghost use Rattle.x7_engine.specs.State.{state_owing};
+ghost use Rattle.x7_report.specs.Frames.{line_of, lines_text};
+ghost use Rattle.x7_report.specs.Report.{report_text};
+
+use crate::frames::{put_frame, shown_frames};
+use crate::reports::report_head;
+use std::alloc::Global;
+use std::marker::Model;
+use x7_engine::Device;
+use x7_memory::Memory;
+use x7_part::Part;
+use x7_words::{Failed, NoMemory, Sink, write_all};
+
+/// How many frames' lines are written at once.
+const GROUP: usize = 128;
+
+/// The room that they take at most.
+const GROUP_ROOM: usize = 2_056 * GROUP;
+
+/// Appends the line of the frame at an address. A frame has at most 255 words.
+fn put_frame_at(text: &mut Vec<u8>, part: &Part, memory: &Memory, far: u32)
+    requires memory { AreFramesOf part.now memory.now }
+    requires room { vec_len text.old + 2056 ≤ vec_capacity text.old }
+    ensures appends { Appends text.old text.new (line_of far (frame_at part.now memory.now far)) 2056 }
+{
+    let _words = part.words();
+    match memory.frame(part, far) {
+        Some(words) => put_frame(text, far, words),
+        None => (),
+    }
+}
+
+/// Appends the lines of the frames at these addresses.
+fn put_lines(text: &mut Vec<u8>, part: &Part, memory: &Memory, fars: &[u32])
+    requires memory { AreFramesOf part.now memory.now }
+    requires room { vec_len text.old + 2056 * length fars.now ≤ vec_capacity text.old }
+    ensures appends { Appends text.old text.new (lines_text (frame_at part.now memory.now) fars.now) (2056 * length fars.now) }
+{
+    for far in fars {
+        put_frame_at(text, part, memory, *far);
+    }
+}
+
+/// Writes the lines of the frames at these addresses, those of a group at a time. It takes no memory.
+fn write_lines<S: Sink>(
+    out: &mut S,
+    part: &Part,
+    memory: &Memory,
+    fars: &[u32],
+    block: &mut Vec<u8>,
+) -> Result<(), Failed>
+    requires memory { AreFramesOf part.now memory.now }
+    requires room { 263168 ≤ vec_capacity block.old }
+    ensures whole { OnOk result (PutsAll (S.state out.old) (lines_text (frame_at part.now memory.now) fars.now) (S.state out.new)) }
+    ensures prefix { PutsSome (S.state out.old) (lines_text (frame_at part.now memory.now) fars.now) (S.state out.new) }
+    ensures failed { OnErr result (SinkFails (S.state out.old) (S.state out.new)) }
+    ensures counts { Counts (S.state out.old) (S.state out.new) }
+    ensures room { 263168 ≤ vec_capacity block.new }
+{
+    let mut rest = fars;
+    while rest.len() > 0 {
+        let (group, more) = rest.split_at(rest.len().min(GROUP));
+        block.clear();
+        put_lines(block, part, memory, group);
+        write_all(out, block)?;
+        rest = more;
+    }
+    Ok(())
+}
+
+/// The report of a device, ready to be written: what comes before the lines of its frames, the addresses of the frames that it
+/// shows, and room for a group of their lines.
+#[derive(Drop)]
+pub struct PlayText {
+    stopped: bool,
+    device: Device,
+    head: Vec<u8>,
+    fars: Vec<u32>,
+    block: Vec<u8>,
+}
+
+impl Model for PlayText {
+    ghost use Rattle.std.specs.Prelude.{◌++◌, ◌≤◌, vec_capacity};
+    ghost use Rattle.x7_memory.specs.Frames.{frame_at};
+    ghost use Rattle.x7_report.specs.Frames.{lines_text};
+    ghost use Rattle.x7_report.specs.Report.{PlayTextState};
+
+    ghost Value = { PlayTextState };
+
+    ghost view = { λ t. record { stopped = t.stopped; text = t.head.items ++ lines_text (frame_at t.device.part t.device.registers.frames.memory) t.fars.items } };
+
+    ghost invariant = { λ t. 263168 ≤ vec_capacity t.block };
+}
+
+impl PlayText {
+    /// The report of a device and of the words that it read out. While words of frame data are due, FAR is that of the words
+    /// given so far.
+    pub fn new(
+        alloc: Global,
+        device: Device,
+        reads: &[u32],
+        stopped: bool,
+    ) -> Result<PlayText, NoMemory>
+        ensures value { IfOk result (λ text. OfPast device (λ p. NoWordDue device → text ≡ record { stopped = stopped; text = report_text p.part (state_at p) reads.now (memory_at p) })) }
+        ensures owing { IfOk result (λ text. OfPast device (λ p.
+            text ≡ record { stopped = stopped; text = report_text p.part (state_owing p.part p.kept p.wrapped p.bytes (frames_due device.registers.due)) reads.now (memory_at p) })) }
+    {
+        let fars = shown_frames(alloc, device.part(), device.memory())?;
+        let head = report_head(alloc, &device, reads, fars.len())?;
+        let Ok(block) = Vec::with_capacity(alloc, GROUP_ROOM) else {
+            return Err(NoMemory);
+        };
+        Ok(PlayText {
+            stopped,
+            device,
+            head,
+            fars,
+            block,
+        })
+    }
+
+    /// The same text after lines of another.
+    pub fn after(self, lines: Vec<u8>) -> Result<PlayText, NoMemory>
+        ensures { IfOk result (λ text. text ≡ record { stopped = self.stopped; text = lines.items ++ self.text }) }
+    {
+        let mut head = lines;
+        head.extend_from_slice(&self.head)?;
+        Ok(PlayText {
+            stopped: self.stopped,
+            device: self.device,
+            head,
+            fars: self.fars,
+            block: self.block,
+        })
+    }
+
+    /// Whether the device stopped at a fault.
+    pub fn is_stopped(&self) -> bool
+        ensures { result ≡ self.now.stopped }
+    {
+        self.stopped
+    }
+
+    /// Writes the report. After an error a prefix of it was written.
+    pub fn write<S: Sink>(&mut self, out: &mut S) -> Result<(), Failed>
+        ensures whole { OnOk result (PutsAll (S.state out.old) self.old.text (S.state out.new)) }
+        ensures prefix { PutsSome (S.state out.old) self.old.text (S.state out.new) }
+        ensures failed { OnErr result (SinkFails (S.state out.old) (S.state out.new)) }
+    {
+        write_all(out, &self.head)?;
+        write_lines(
+            out,
+            self.device.part(),
+            self.device.memory(),
+            &self.fars,
+            &mut self.block,
+        )?;
+        Ok(())
+    }
+}

@@ -1,0 +1,38 @@
+use Rattle.std.proofs.Common.{◌≡◌, ℕ, List, [], ◌∷◌, Ok, Err, inr, map, string_bytes}
+use Rattle.x7_part.specs.Part.{PartData}
+use Rattle.x7_forms.specs.Message.{event_of}
+use Rattle.x7_forms.specs.Known.{Answer, and_so, data_of, part_of, stream_limit}
+use Rattle.x7_tool.specs.Play.{reported, text_of_play}
+use Rattle.x7_forms.specs.Step.{seen}
+use Rattle.x7_tool.proofs.PlayLemmas.{text_ends}
+use Rattle.x7_forms.proofs.ReadLemmas.{answers_end, answers_go, answers_stop, data_steady, first_of, part_steady}
+use Rattle.x7_tool.proofs.play.play.Goals as goal
+
+pub returns-in-Err : goal.returns-in-Err
+returns-in-Err g c =
+    let i = g.I.Inputs in
+    let part = c.args.part.now in
+    let streams = map string_bytes c.args.streams.now in
+    answers_stop PartData Answer (part ∷ []) (part ∷ streams) (i.state c.args.inputs.now) (i.state c.read_part.new.inputs) (λ t. part_of t part) (λ t p. and_so (data_of t stream_limit streams) (reported p)) (event_of c.in-Err.refusal)
+    (first_of part streams) c.in-Err.ensures.due
+
+pub returns : goal.returns
+returns g c =
+    let i = g.I.Inputs in
+    let part = c.args.part.now in
+    let streams = map string_bytes c.args.streams.now in
+    let event = event_of c.in-Err-play_streams.refusal in
+    answers_go PartData Answer (part ∷ []) streams (part ∷ streams) (i.state c.args.inputs.now) (i.state c.read_part.new.inputs) (i.state c.play_streams.new.inputs) (λ t. part_of t part) (λ t p. and_so (data_of t stream_limit streams) (reported p)) c.in-Ok.part (Err event)
+    (part_steady part) c.read_part.ensures.inputs (λ n h. inr h) c.in-Ok.ensures.due
+    (answers_stop (List ℕ) Answer streams streams (i.state c.read_part.new.inputs) (i.state c.play_streams.new.inputs) (λ t. data_of t stream_limit streams) (λ t. reported c.in-Ok.part) event (λ n h. h) c.in-Err-play_streams.ensures.err)
+
+pub returns-in-Ok-play_streams : goal.returns-in-Ok-play_streams
+returns-in-Ok-play_streams g c =
+    let i = g.I.Inputs in
+    let part = c.args.part.now in
+    let streams = map string_bytes c.args.streams.now in
+    let p = c.in-Ok-play_streams.ensures.ok in
+    answers_go PartData Answer (part ∷ []) streams (part ∷ streams) (i.state c.args.inputs.now) (i.state c.read_part.new.inputs) (i.state c.play_streams.new.inputs) (λ t. part_of t part) (λ t p. and_so (data_of t stream_limit streams) (reported p)) c.in-Ok.part (seen text_of_play c.text_of.result)
+    (part_steady part) c.read_part.ensures.inputs (λ n h. inr h) c.in-Ok.ensures.due
+    (answers_end (List ℕ) Answer streams (i.state c.read_part.new.inputs) (i.state c.play_streams.new.inputs) (λ t. data_of t stream_limit streams) (reported c.in-Ok.part) p.0 (seen text_of_play c.text_of.result) (data_steady streams stream_limit) p.2
+    (text_ends c.in-Ok.part p.0 c.in-Ok-play_streams.player c.text_of.result p.1 c.text_of.ensures.ok c.text_of.ensures.err))

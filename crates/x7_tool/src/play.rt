@@ -1,0 +1,51 @@
+//! The command `play`.
+ghost use Rattle.std.specs.Prelude.{◌≡◌, ◌⊎◌, ℕ, List, map, string_bytes, Ok, Err, IfErr, IfOk};
+ghost use Rattle.x7_part.specs.Part.{PartData};
+ghost use Rattle.x7_forms.specs.Event.{no_memory, too_many_reads};
+ghost use Rattle.x7_forms.specs.Message.{event_of};
+ghost use Rattle.x7_forms.specs.Play.{HasPlayed};
+ghost use Rattle.x7_forms.specs.Step.{seen};
+ghost use Rattle.x7_tool.specs.Play.{ReportsPlay, reported, text_of_play};
+
+use std::alloc::Global;
+use x7_forms::{Player, Refusal, Why, play_streams, read_part};
+use x7_report::PlayText;
+use x7_words::Inputs;
+
+/// The text of a play, ready to be written, or that too many words were read out.
+fn text_of<'w>(alloc: Global, player: Player) -> Result<PlayText, Refusal<'w>>
+    ensures ok { IfOk result (λ text. (part : PartData) (bytes : List ℕ) → HasPlayed part bytes player → reported part bytes ≡ Ok (text_of_play text)) }
+    ensures err { IfErr result (λ r. (event_of r ≡ no_memory) ⊎ ((event_of r ≡ too_many_reads) × ((part : PartData) (bytes : List ℕ) → HasPlayed part bytes player → reported part bytes ≡ Err too_many_reads))) }
+{
+    if player.over {
+        return Err(Refusal {
+            reason: Why::TooLarge,
+            name: "reads",
+        });
+    }
+    let stopped = player.device.fault().is_some();
+    match PlayText::new(alloc, player.device, &player.reads, stopped) {
+        Ok(text) => Ok(text),
+        Err(_) => Err(Refusal::unnamed(Why::NoMemory)),
+    }
+}
+
+/// The text of `play PART STREAM..`: the inputs are read in the order of the words, and the streams' data are played as
+/// one stream while they are read.
+pub(crate) fn play<'w, I: Inputs>(
+    alloc: Global,
+    inputs: &mut I,
+    part: &'w str,
+    streams: &'w [String],
+) -> Result<PlayText, Refusal<'w>>
+    ensures { ReportsPlay (I.state inputs.old) (I.state inputs.new) part.now (map string_bytes streams.now) (seen text_of_play result) }
+{
+    let part = match read_part(alloc, inputs, part) {
+        Ok(part) => part,
+        Err(refusal) => return Err(refusal),
+    };
+    match play_streams(alloc, &part, inputs, streams) {
+        Ok(player) => text_of(alloc, player),
+        Err(refusal) => Err(refusal),
+    }
+}
