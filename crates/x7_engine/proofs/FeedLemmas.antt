@@ -1,25 +1,22 @@
 -- Lemmas on a feed: words given to a buffer, and the bytes taken of a piece.
-use Rattle.std.proofs.Common.{◌≡◌, ◌+◌, ◌-◌, ◌≤◌, ◌<◌, ℕ, suc, Option, None, Some, List, [], ◌∷◌, ◌++◌, length, take, drop, replicate, refl, ap, sym, subst, ◌∙◌, append_assoc, append-nil, arith, Bool}
+use Rattle.std.proofs.Common.{◌≡◌, ◌+◌, ◌-◌, ◌≤◌, ◌<◌, ℕ, suc, Option, None, Some, List, [], ◌∷◌, ◌++◌, length, take, drop, refl, ap, sym, subst, ◌∙◌, append_assoc, append-nil, arith, Bool}
 use Rattle.std.proofs.Math.Seq.{take-length}
-use Rattle.std.proofs.lemmas.List.{drop-take, length-take, replicate-append-replicate, take-append-drop, take-take}
+use Rattle.std.proofs.lemmas.List.{drop-take, length-take, take-append-drop, take-take}
 use Rattle.std.proofs.lemmas.Option.{none-some}
 use Rattle.x7_packets.specs.Cutting.{between}
 use Rattle.x7_packets.specs.History.{History}
 use Rattle.x7_part.specs.Part.{PartData}
 use Rattle.x7_flow.specs.Standing.{FramesStandFor, FramesState, words_due}
 use Rattle.x7_engine.specs.Course.{course_at}
-use Rattle.x7_engine.specs.declared.due.Due.{Due}
-use Rattle.x7_engine.specs.declared.due.Due.TheVariants as due
 use Rattle.x7_engine.specs.declared.kept.Kept.{Kept}
 use Rattle.x7_engine.specs.declared.stop.Stop.{Stop}
 use Rattle.x7_engine.specs.declared.stop.Stop.TheVariants as stop
 use Rattle.x7_engine.specs.ReadBuffer.{ReadBufState, gathered, with_words}
 use Rattle.x7_engine.specs.Readout.{Gave, GaveFrames, Gives}
-use Rattle.x7_engine.specs.Standing.{Answers, DeviceStandsFor, DeviceState, FramesAre, NoWordDue, RegistersStandFor, RegistersState, due_count, fed_by, frames_among, frames_due, taken_in, told_of, words_left}
+use Rattle.x7_engine.specs.Standing.{Answers, DeviceStandsFor, DeviceState, NoWordDue, RegistersState, due_count, fed_by, taken_in, told_of, words_left}
 use Rattle.x7_engine.specs.State.{history_taken, reads_of}
 use Rattle.x7_engine.specs.Stops.{stopped_at}
 use Rattle.x7_engine.proofs.DeviceLemmas.{told_by}
-use Rattle.x7_engine.proofs.FrameLemmas.{all_frames_among, frames_at, frames_of, goes_on, no_frames_among}
 
 -- the device gave words that were due
 pub given : (part : PartData) (kept : Kept) (wrapped : Bool) (d : DeviceState) (r : RegistersState) (bytes : List ℕ) (old new : ReadBufState) → d.registers.stop ≡ None → r.stop ≡ None → DeviceStandsFor part kept wrapped d bytes
@@ -128,17 +125,6 @@ told_within part kept d bytes = omega (arith, length-take (length (reads_of part
 
 -- ---- words of frame data given to a buffer
 
--- no word yet
-pub gave_none : (part : PartData) (f : FramesState) (h : History) (count i : ℕ) (read : ReadBufState) → i ≡ 0 → FramesStandFor part f h count → GaveFrames part f h count (count - i) read read
-gave_none part f h count i read z s =
-    let all : count - i ≡ count = omega (arith, z) in
-    record {
-      more = [];
-      read_is = words_none read;
-      words_are = ap (words_due part h) (sym all);
-      stands = subst (FramesStandFor part f h) (sym all) s;
-    }
-
 -- a word more
 pub gave_more : (part : PartData) (f g : FramesState) (h : History) (count i w : ℕ) (first read new : ReadBufState) → i < count → GaveFrames part f h count (count - i) first read
     → ((due : ℕ) → FramesStandFor part f h (due + 1) → FramesStandFor part g h due) → ((due : ℕ) → FramesStandFor part f h (due + 1) → words_due part h (suc due) ≡ w ∷ words_due part h due)
@@ -155,12 +141,6 @@ gave_more part f g h count i w first read new l s stands word e =
       stands = stands due now;
     }
 
--- all words
-pub gave_all : (part : PartData) (f : FramesState) (h : History) (count i : ℕ) (first read : ReadBufState) → count ≤ i → GaveFrames part f h count (count - i) first read → GaveFrames part f h count 0 first read
-gave_all part f h count i first read l s =
-    let none : count - i ≡ 0 = omega (arith, l) in
-    subst (λ (k : ℕ). GaveFrames part f h count k first read) none s
-
 -- a dropping buffer takes them all
 pub gave_dropped : (part : PartData) (f g : FramesState) (h : History) (count : ℕ) (read : ReadBufState) → read.most ≡ None → FramesStandFor part f h count → ((due : ℕ) → FramesStandFor part f h (due + count) → FramesStandFor part g h due)
     → GaveFrames part g h count 0 read read
@@ -171,43 +151,4 @@ gave_dropped part f g h count read e s stands =
       read_is = ap (λ ws. record { most = read.most; words = ws }) (sym (ap (λ (most : Option ℕ). gathered most read.words (words_due part h count)) e));
       words_are = sym (append-nil (words_due part h count));
       stands = stands 0 (subst (FramesStandFor part f h) (sym all) s);
-    }
-
--- ---- and words that are all the same
-
-due_parts : (due left w : ℕ) → left ≤ due → replicate due w ≡ replicate (due - left) w ++ replicate left w
-due_parts due left w l =
-    let sum : due - left + left ≡ due = omega arith in
-    sym (replicate-append-replicate (due - left) left w ∙ ap (λ (k : ℕ). replicate k w) sum)
-
--- with other words due and other frames
-redue : (part : PartData) (kept : Kept) (d : RegistersState) (h : History) (n : ℕ) (f : FramesState) (now : Due) → RegistersStandFor part kept d h n → FramesAre part f d.stop h (frames_due now) → frames_due now ≡ frames_among h (due_count now)
-    → RegistersStandFor part kept (record d { due = now; frames = f }) h n
-redue part kept d h n f now s are k = record { places = s.places; words = s.words; controls = s.controls; progress = s.progress; kind = s.kind; before = s.before; clock = s.clock; stop = s.stop; frames = are; due_kind = k }
-
-pub gave_nothing : (part : PartData) (kept : Kept) (d : RegistersState) (h : History) (n : ℕ) (read : ReadBufState) → RegistersStandFor part kept d h n → Gave (course_at part kept h n) d d read read
-gave_nothing part kept d h n read s = record { more = []; read_is = words_none read; words_are = refl; stands = s }
-
-pub gave_same : (part : PartData) (kept : Kept) (d : RegistersState) (h : History) (n word count left : ℕ) (read new : ReadBufState) → d.due ≡ due.Same word count → left ≤ count → new ≡ with_words read (replicate (count - left) word) → RegistersStandFor part kept d h n
-    → Gave (course_at part kept h n) d (record d { due = due.Same word left }) read new
-gave_same part kept d h n word count left read new e l w s = record {
-  more = replicate (count - left) word;
-  read_is = w;
-  words_are = ap (words_left part h) e ∙ due_parts count left word l;
-  stands = redue part kept d h n d.frames (due.Same word left) s (subst (λ (k : ℕ). FramesAre part d.frames d.stop h k) (ap frames_due e) s.frames)
-      (no_frames_among h count left l (sym (ap frames_due e) ∙ s.due_kind ∙ ap (λ (x : Due). frames_among h (due_count x)) e));
-}
-
-pub gave_frames : (part : PartData) (kept : Kept) (d : RegistersState) (f : FramesState) (h : History) (n count left : ℕ) (read new : ReadBufState) → d.stop ≡ None → d.due ≡ due.Frames count → left ≤ count
-    → (FramesStandFor part d.frames h count → GaveFrames part f h count left read new) → RegistersStandFor part kept d h n
-    → Gave (course_at part kept h n) d (record d { due = due.Frames left; frames = f }) read new
-gave_frames part kept d f h n count left read new going e l gave s =
-    let before : FramesStandFor part d.frames h count = frames_of part d.frames d.stop h count (goes_on d.stop going) (subst (λ (k : ℕ). FramesAre part d.frames d.stop h k) (ap frames_due e) s.frames) in
-    let g = gave before in
-    record {
-      more = g.more;
-      read_is = g.read_is;
-      words_are = ap (words_left part h) e ∙ g.words_are;
-      stands = redue part kept d h n f (due.Frames left) s (frames_at part f d.stop h left (goes_on d.stop going) g.stands)
-          (all_frames_among h count left l (sym (ap frames_due e) ∙ s.due_kind ∙ ap (λ (x : Due). frames_among h (due_count x)) e));
     }

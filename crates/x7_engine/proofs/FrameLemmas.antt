@@ -82,23 +82,6 @@ zero_among (e ∷ h) = if_same (reads_frame_data h e.access) 0
 pub none_among : (d : Due) (h : History) → due_count d ≡ 0 → frames_due d ≡ frames_among h (due_count d)
 none_among d h e = none_frames d e ∙ sym (ap (frames_among h) e ∙ zero_among h)
 
--- of fewer words, of which none or all are frame data
-few_by : (b : Bool) (count left : ℕ) → left ≤ count → 0 ≡ (if b then count else 0) → 0 ≡ (if b then left else 0)
-few_by true count left l e = omega (arith, l, e)
-few_by false count left l e = refl
-
-pub no_frames_among : (h : History) (count left : ℕ) → left ≤ count → 0 ≡ frames_among h count → 0 ≡ frames_among h left
-no_frames_among [] count left l e = refl
-no_frames_among (x ∷ h) count left l e = few_by (reads_frame_data h x.access) count left l e
-
-all_by : (b : Bool) (count left : ℕ) → left ≤ count → count ≡ (if b then count else 0) → left ≡ (if b then left else 0)
-all_by true count left l e = refl
-all_by false count left l e = omega (arith, l, e)
-
-pub all_frames_among : (h : History) (count left : ℕ) → left ≤ count → count ≡ frames_among h count → left ≡ frames_among h left
-all_frames_among [] count left l e = omega (arith, l, e)
-all_frames_among (x ∷ h) count left l e = all_by (reads_frame_data h x.access) count left l e
-
 pub none_left : (part : PartData) (h : History) (d : Due) → due_count d ≡ 0 → words_left part h d ≡ []
 none_left part h due.Nothing e = refl
 none_left part h (due.Same word count) e = ap (λ (n : ℕ). replicate n word) e

@@ -3,7 +3,6 @@ use Rattle.std.proofs.Common.{◌≡◌, ℕ, ◌+◌, ◌<◌, ◌≤◌, inl, 
 use Rattle.std.specs.Prelude.{nat_lt}
 use Rattle.x7_words.specs.Word.{AreBytes}
 use Rattle.x7_words.proofs.ListLemmas.{all_front}
-use Rattle.x7_packets.specs.Cutting.{CutterState}
 use Rattle.x7_packets.specs.History.{Entry, History, Placed, history_of, until}
 use Rattle.x7_packets.proofs.GrowthLemmas.{placed_of, placed_within, until_placed}
 use Rattle.x7_packets.proofs.OnceLemmas.{enter_once}
@@ -22,7 +21,7 @@ use Rattle.x7_engine.specs.ReadBuffer.{IsFullBy, ReadBufState, with_words}
 use Rattle.x7_engine.specs.Standing.{Answers, DeviceState, DeviceStandsFor, NoWordDue, RegistersState, frames_due}
 use Rattle.x7_engine.specs.State.{history_by, history_taken, last_counted, memory_in, stop_in}
 use Rattle.x7_engine.specs.Stops.{Stopped, stopped_at}
-use Rattle.x7_engine.specs.Undo.{AreEqual, Back, Keeps, KeepsValues, UndoState, ValuesState, dropping, registers_with, values_of}
+use Rattle.x7_engine.specs.Undo.{Back, Keeps, UndoState, ValuesState, dropping, registers_with, values_of}
 use Rattle.x7_engine.proofs.DeviceLemmas.{going_taken}
 use Rattle.x7_engine.proofs.FrameLemmas.{frames_of, goes_on, none_frames}
 use Rattle.x7_engine.proofs.StateLemmas.{stop_is_final-stop, counted_most}
@@ -134,14 +133,3 @@ answers_dropping part kept d bytes more first read (fed.ReadFull n) e g a =
 
 pub registers_are : (v : ValuesState) (f : FramesState) (old : RegistersState) → v ≡ values_of old → f ≡ old.frames → registers_with v f ≡ old
 registers_are v f old e g = ap (λ (w : ValuesState). registers_with w f) e ∙ ap (registers_with (values_of old)) g
-
-pub device_is : (u : UndoState) (old new : DeviceState) → KeepsValues u old → new.part ≡ old.part → new.cutter ≡ u.cutter → new.registers ≡ old.registers → new.wrapped ≡ u.wrapped → new.taken ≡ u.taken → AreEqual new old
-device_is u old new k p c r w t =
-    let cutter : new.cutter ≡ old.cutter = c ∙ k.cutter in
-    let wrapped : new.wrapped ≡ old.wrapped = w ∙ k.wrapped in
-    let taken : new.taken ≡ old.taken = t ∙ k.taken in
-    ap (λ (x : PartData). record new { part = x }) p
-    ∙ ap (λ (x : CutterState). record new { part = old.part; cutter = x }) cutter
-    ∙ ap (λ (x : RegistersState). record new { part = old.part; cutter = old.cutter; registers = x }) r
-    ∙ ap (λ (x : Bool). record new { part = old.part; cutter = old.cutter; registers = old.registers; wrapped = x }) wrapped
-    ∙ ap (λ (x : ℕ). record new { part = old.part; cutter = old.cutter; registers = old.registers; wrapped = old.wrapped; taken = x }) taken

@@ -89,44 +89,7 @@ write_line-is register h =
     let line : best_line (write_head register) ≡ Write register 1 = rw (nop, sync, named, count, same) refl in
     ap line_text line ∙ ap (λ t. codes "write " ++ reg_name register ++ 32 ∷ t ++ 10 ∷ []) (decimal_digit 1 (omega arith)) ∙ append_assoc (codes "write " ++ reg_name register) (32 ∷ 49 ∷ []) (10 ∷ [])
 
--- a write to CMD of a word that no row has
-pub far_command_appends : (t0 t1 t2 : Vec ℕ Global) (line w : ℕ) → Appends t0 t1 (close line ++ head_text (Open 4 1) (write_head 4)) 48 → Appends t1 t2 (close 0 ++ command_line w) 48 → Appends t0 t2 (close line ++ command_lines w) 97
-far_command_appends t0 t1 t2 line w a b =
-    record {
-      items = b.items ∙ ap (λ t. t ++ command_line w) a.items ∙ append_assoc t0.items (close line ++ head_text (Open 4 1) (write_head 4)) (command_line w)
-          ∙ ap (λ t. t0.items ++ t) (append_assoc (close line) (head_text (Open 4 1) (write_head 4)) (command_line w) ∙ ap (λ t. close line ++ (t ++ command_line w)) (write_line-is 4 (omega arith)));
-      within = omega (arith, a.within, b.within);
-      room = omega (arith, a.room, b.room);
-    }
-
--- a write to CMD
-pub command_appends : (t0 t1 : Vec ℕ Global) (line register w : ℕ) → register ≡ 4 → Appends t0 t1 (close line ++ command_lines w) 97
-    → Appends t0 t1 (close line ++ head_text (Open register 1) (write_head register) ++ words_told 0 (payload_steps register (w ∷ []))) 97
-command_appends t0 t1 line register w e a =
-    subst (λ (r : ℕ). Appends t0 t1 (close line ++ head_text (Open r 1) (write_head r) ++ words_told 0 (payload_steps r (w ∷ []))) 97) (sym e)
-    (record {
-      items = a.items ∙ ap (λ t. t0.items ++ t) (sym (append_assoc (close line) (write_line 4) (command_line w)) ∙ ap (λ t. close line ++ t ++ command_line w) (sym (write_line-is 4 (omega arith))) ∙ ap (λ t. close line ++ head_text (Open 4 1) (write_head 4) ++ t) (sym (append-nil (command_line w))));
-      within = a.within;
-      room = a.room;
-    })
-
--- a write to another register
-pub data_appends : (t0 t1 t2 : Vec ℕ Global) (line register w : ℕ) (row digits : List ℕ) → register < 32 → (register ≡ 4 → ⊥) → row_text row ≡ close line ++ write_start register → digits ≡ hex_word w
-    → Appends t0 t1 (row_text row) 32 → Appends t1 t2 digits (length digits)
-    → Appends t0 t2 (close line ++ head_text (Open register 1) (write_head register) ++ words_told 0 (payload_steps register (w ∷ []))) 97
-data_appends t0 t1 t2 line register w row digits h n e f b c =
-    let H : List ℕ = write_line register in
-    let told : words_told 0 (payload_steps register (w ∷ [])) ≡ codes "data " ++ hex_word w =
-    data_told register 0 (w ∷ []) (is_data register n) ∙ append-nil _ ∙ ap (λ t. codes "data" ++ t) (append-nil (32 ∷ hex_word w)) in
-    record {
-      items = c.items ∙ ap (λ t. t ++ digits) b.items ∙ ap (λ t. (t0.items ++ t) ++ digits) e ∙ ap (λ t. (t0.items ++ (close line ++ write_start register)) ++ t) f
-          ∙ append_assoc t0.items (close line ++ write_start register) (hex_word w)
-          ∙ ap (λ t. t0.items ++ t) (append_assoc (close line) (write_start register) (hex_word w) ∙ ap (λ t. close line ++ t) (append_assoc H (codes "data ") (hex_word w)) ∙ sym (append_assoc (close line) H (codes "data " ++ hex_word w)) ∙ ap (λ t. close line ++ t ++ (codes "data " ++ hex_word w)) (sym (write_line-is register h)) ∙ ap (λ t. close line ++ head_text (Open register 1) (write_head register) ++ t) (sym told));
-      within = omega (arith, b.within, c.within, ap length f);
-      room = omega (arith, b.room, c.room);
-    }
-
--- the same, as texts alone: a row to CMD, and a row and the digits of a word to another register
+-- the lines of a write of one word: a row to CMD, and a row and the digits of a word to another register
 pub command_row-is : (line register w : ℕ) → register ≡ 4 → close line ++ command_lines w ≡ close line ++ head_text (Open register 1) (write_head register) ++ words_told 0 (payload_steps register (w ∷ []))
 command_row-is line register w e =
     subst (λ (r : ℕ). close line ++ command_lines w ≡ close line ++ head_text (Open r 1) (write_head r) ++ words_told 0 (payload_steps r (w ∷ []))) (sym e)
@@ -141,7 +104,7 @@ data_row-is line register w h n =
     ∙ ap (λ t. close line ++ t ++ (codes "data " ++ hex_word w)) (sym (write_line-is register h)) ∙ ap (λ t. close line ++ head_text (Open register 1) (write_head register) ++ t) (sym told)
 
 -- the header's line of a short write
-short_line-is : (register count : ℕ) → register < 32 → count < 20 → head_text (Open register count) (short_head register count) ≡ write_name register ++ (decimal count ++ 10 ∷ [])
+pub short_line-is : (register count : ℕ) → register < 32 → count < 20 → head_text (Open register count) (short_head register count) ≡ write_name register ++ (decimal count ++ 10 ∷ [])
 short_line-is register count h k =
     let nop : (short_head register count == 0x20000000) ≡ false = grind (arith, nat_tests) in
     let sync : (short_head register count == 0xAA995566) ≡ false = grind (arith, nat_tests) in
@@ -158,16 +121,6 @@ two_digits n h k =
     let ones : n % 10 ≡ n - 10 = omega arith in
     decimal_step n h (omega (arith, k)) ∙ ap (λ (m : ℕ). decimal m ++ (48 + n % 10) ∷ []) tens ∙ ap (λ t. t ++ (48 + n % 10) ∷ []) (decimal_digit 1 (omega arith)) ∙ ap (λ (m : ℕ). 49 ∷ (48 + m) ∷ []) ones
 
-pub short_head_appends : (t0 t1 t2 : Vec ℕ Global) (line register count : ℕ) (row : List ℕ) → register < 32 → count < 20 → row_text row ≡ close line ++ write_name register
-    → Appends t0 t1 (row_text row) 32 → Appends t1 t2 (decimal count ++ 10 ∷ []) 3 → Appends t0 t2 (close line ++ head_text (Open register count) (short_head register count)) 35
-short_head_appends t0 t1 t2 line register count row h k e a b =
-    record {
-      items = b.items ∙ ap (λ t. t ++ (decimal count ++ 10 ∷ [])) (a.items ∙ ap (λ t. t0.items ++ t) e) ∙ append_assoc t0.items (close line ++ write_name register) (decimal count ++ 10 ∷ [])
-          ∙ ap (λ t. t0.items ++ t) (append_assoc (close line) (write_name register) (decimal count ++ 10 ∷ []) ∙ ap (λ t. close line ++ t) (sym (short_line-is register count h k)));
-      within = omega (arith, a.within, b.within);
-      room = omega (arith, a.room, b.room);
-    }
-
 -- the first of many chunks
 pub first_chunk : (size n : ℕ) (xs : List ℕ) → 0 < n → get_or (first_chunks size n xs) 0 [] ≡ take size xs
 first_chunk size zero xs h = absurd (omega (arith, h))
@@ -178,10 +131,6 @@ front_of_front n count xs block h k e = ap (take (4 * count)) e ∙ take-take (4
 
 pub short_written : (old t1 new head row told : List ℕ) → t1 ≡ old ++ head → new ≡ t1 ++ row → row ≡ told → new ≡ old ++ (head ++ told)
 short_written old t1 new head row told a b e = b ∙ ap (λ t. t ++ row) a ∙ append_assoc old head row ∙ ap (λ t. old ++ (head ++ t)) e
-
-pub gap_written : (old t1 new rest block : List ℕ) (count : ℕ) → count ≤ 32 → block ≡ take 32 rest → t1 ≡ old ++ bytes_text (take count block) → new ≡ t1 ++ codes "sync\n" → new ≡ old ++ (bytes_text (take count rest) ++ codes "sync\n")
-gap_written old t1 new rest block count few e a b =
-    b ∙ ap (λ t. t ++ codes "sync\n") (a ∙ ap (λ t. old ++ bytes_text t) (ap (take count) e ∙ take-take count 32 rest few)) ∙ append_assoc old (bytes_text (take count rest)) (codes "sync\n")
 
 -- ---- what a lister stands for
 

@@ -18,6 +18,7 @@ pub mod WordsAtLemmas
 pub mod RunLemmas
 pub mod SessionLemmas
 pub mod SheetLemmas
+pub mod OnSheetLemmas
 pub mod ShortLemmas
 pub mod StandLemmas
 pub mod StreamLemmas

@@ -33,3 +33,11 @@ RestsOn old new more = (given before bytes : List ℕ) → TellsFor old given be
 -- a pen has told all of a reading but what an end tells, behind the listings before
 abbrev pub PenToldWhole : Pen → List ℕ → List ℕ → List Session → Place → Type 0
 PenToldWhole pen all before sessions place = ToldWhole pen.synced pen.line (take pen.count pen.held) all before sessions place
+
+-- a lister with this pen, whose text is any text and then this one
+abbrev pub lister_behind : CutterState → Pen → List ℕ → List ℕ → ListerState
+lister_behind cutter pen shown text = lister_with cutter pen (text ++ shown)
+
+-- the lister tells these bytes more, whatever text stands before
+abbrev pub TellsBehind : (List ℕ → ListerState) → (List ℕ → ListerState) → List ℕ → Type 0
+TellsBehind old new more = (text : List ℕ) → TellsOn (old text) (new text) more

@@ -16,6 +16,7 @@ mod reading;
 mod rows;
 mod runs;
 mod sheet;
+mod short;
 
 pub use assembler::{ASM_LIMIT, AsmFault, Assembler, assemble};
 pub use bit_line::header_line;

@@ -7,9 +7,10 @@ ghost use Rattle.x7_listing.specs.Pens.{RestsOn, lister_with};
 
 mod taking;
 
-use crate::at_once::{put_idle, take_short, take_writes};
+use crate::at_once::take_equal;
 use crate::pen::{Pen, new_pen, put_end, put_run};
-use crate::sheet::Sheet;
+use crate::sheet::SHEET;
+use crate::short::take_short;
 use std::alloc::Global;
 use std::marker::Model;
 use x7_packets::{Cut, Cutter};
@@ -20,23 +21,17 @@ fn take_all(text: &mut Vec<u8>, cutter: &mut Cutter, pen: Pen, piece: &[u8]) -> 
     requires { vec_len text.old + (131 * length piece.now + (3 * length cutter.old.kept + 128)) ≤ vec_capacity text.old }
     ensures rests { RestsOn (lister_with cutter.old pen text.old.items) (lister_with cutter.new result text.new.items) piece.now }
 {
-    let mut sheet = Sheet::new();
+    let mut sheet = [0; SHEET];
     let mut now = pen;
     let mut at = 0;
     loop {
         let rest = &piece[at..];
-        let nops = cutter.nop_count(rest);
-        if nops > 0 {
-            now = put_idle(text, now, nops);
-            at += 4 * nops;
-            continue;
-        }
-        if let Some(taken) = take_writes(text, &mut sheet, cutter, now, rest) {
+        if let Some(taken) = take_short(text, &mut sheet, cutter, now, rest) {
             now = taken.pen;
             at += taken.size;
             continue;
         }
-        if let Some(taken) = take_short(text, cutter, now, rest) {
+        if let Some(taken) = take_equal(text, cutter, now, rest) {
             now = taken.pen;
             at += taken.size;
             continue;

@@ -1,82 +1,39 @@
-//! A sheet of text: each piece is stored whole, as a fixed number of bytes, and the next one behind what of it is text.
-ghost use Rattle.std.specs.Prelude.{◌≡◌, ◌≤◌, ◌+◌, ◌++◌, [], length};
+//! A sheet of text: each piece is stored whole, as a fixed number of bytes, and the next one behind what of it is text. How
+//! many bytes are text stands beside the sheet, not in it, so that it may stay in a register.
+ghost use Rattle.std.specs.Prelude.{◌≡◌, ◌≤◌, ◌+◌, ◌++◌, length, take};
 ghost use Rattle.x7_listing.specs.AtOnce.{row_text};
 
-use std::marker::Model;
-use std::simd::prelude::*;
-
-/// How many bytes a sheet has room for.
+/// How many bytes a sheet has.
 pub(crate) const SHEET: usize = 2048;
 
-/// The text so far, and room behind it.
-#[derive(Drop)]
-pub(crate) struct Sheet {
-    block: [u8; SHEET],
-    len: usize,
+/// Stores a piece behind a text of `len` bytes, which its first `count` bytes go on. Gives how long the text is then.
+#[inline(always)]
+pub(crate) fn put_front(sheet: &mut [u8; SHEET], len: usize, piece: &[u8], count: usize) -> usize
+    requires room { len + length piece.now ≤ 2048 }
+    requires part { count ≤ length piece.now }
+    ensures len { result ≡ len + count }
+    ensures text { take result sheet.new ≡ take len sheet.old ++ take count piece.now }
+{
+    sheet[len..len + piece.len()].copy_from_slice(piece);
+    len + count
 }
 
-impl Model for Sheet {
-    ghost use Rattle.std.specs.Prelude.{ℕ, List, ◌≤◌, take};
-
-    ghost Value = { List ℕ };
-
-    ghost view = { λ s. take s.len s.block };
-
-    ghost invariant = { λ s. s.len ≤ 2048 };
+/// Stores a piece behind a text of `len` bytes, which it goes on. Gives how long the text is then.
+#[inline(always)]
+pub(crate) fn put_whole(sheet: &mut [u8; SHEET], len: usize, piece: &[u8]) -> usize
+    requires room { len + length piece.now ≤ 2048 }
+    ensures len { result ≡ len + length piece.now }
+    ensures text { take result sheet.new ≡ take len sheet.old ++ piece.now }
+{
+    put_front(sheet, len, piece, piece.len())
 }
 
-impl Sheet {
-    /// A sheet without text.
-    pub(crate) fn new() -> Sheet
-        ensures { result ≡ [] }
-    {
-        Sheet {
-            block: [0; SHEET],
-            len: 0,
-        }
-    }
-
-    /// The text.
-    pub(crate) fn text(&self) -> &[u8]
-        ensures { result.now ≡ self.now }
-    {
-        &self.block[..self.len]
-    }
-
-    /// How many bytes the text has.
-    #[inline(always)]
-    pub(crate) fn len(&self) -> usize
-        ensures { result ≡ length self.now }
-    {
-        self.len
-    }
-
-    /// Takes the text away.
-    pub(crate) fn clear(&mut self)
-        ensures { self.new ≡ [] }
-    {
-        self.len = 0;
-    }
-
-    /// Puts the text of a row.
-    #[inline(always)]
-    pub(crate) fn put_row(&mut self, row: &[u8; 32])
-        requires { length self.old + 32 ≤ 2048 }
-        ensures text { self.new ≡ self.old ++ row_text row.now }
-        ensures len { length self.new ≤ length self.old + 32 }
-    {
-        u8x32::from_array(*row).copy_to_slice(&mut self.block[self.len..]);
-        self.len += (row[31] as usize).min(32);
-    }
-
-    /// Puts eight bytes.
-    #[inline(always)]
-    pub(crate) fn put_eight(&mut self, bytes: &[u8; 8])
-        requires { length self.old + 8 ≤ 2048 }
-        ensures text { self.new ≡ self.old ++ bytes.now }
-        ensures len { length self.new ≡ length self.old + 8 }
-    {
-        u8x8::from_array(*bytes).copy_to_slice(&mut self.block[self.len..]);
-        self.len += 8;
-    }
+/// Stores a row behind a text of `len` bytes, which the row's text goes on. Gives how long the text is then.
+#[inline(always)]
+pub(crate) fn put_row(sheet: &mut [u8; SHEET], len: usize, row: &[u8; 32]) -> usize
+    requires room { len + 32 ≤ 2048 }
+    ensures len { result ≤ len + 32 }
+    ensures text { take result sheet.new ≡ take len sheet.old ++ row_text row.now }
+{
+    put_front(sheet, len, row, (row[31] as usize).min(32))
 }

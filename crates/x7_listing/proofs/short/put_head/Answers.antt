@@ -1,0 +1,6 @@
+use Rattle.std.proofs.Common.{arith, take}
+use Rattle.x7_listing.proofs.OnSheetLemmas.{head_shown}
+use Rattle.x7_listing.proofs.short.put_head.Goals as goal
+
+pub returns-clause-text : goal.returns-clause-text
+returns-clause-text c = head_shown (take c.args.len c.args.sheet.now) _ _ c.args.in_line c.args.register c.args.count c.name_row.result.now c.requires.range (omega (arith, c.requires.few)) c.name_row.ensures c.put_row-start.ensures.text c.put_count.ensures.text

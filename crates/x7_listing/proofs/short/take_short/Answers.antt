@@ -1,0 +1,32 @@
+use Rattle.std.proofs.Common.{◌≡◌, ◌-◌, ◌++◌, append-nil, arith, drop, length, refl, subst, take}
+use Rattle.x7_listing.specs.Telling.{Tells}
+use Rattle.x7_listing.proofs.AtOnceLemmas.{rest_length, seam}
+use Rattle.x7_listing.proofs.short.take_short.Goals as goal
+
+pub loop-len-init : goal.loop-len-init
+loop-len-init c = record {
+  within = omega arith;
+  first = λ e. (refl, refl);
+  later = λ e. absurd (omega (arith, e));
+  kept = omega arith;
+  inside = omega arith;
+  few = omega arith;
+  tells = λ given before bytes s. rw (append-nil c.args.text.now.items, append-nil bytes) s;
+}
+
+pub loop-len-preserved : goal.loop-len-preserved
+loop-len-preserved c =
+    let next = c.in-Some.ensures.some in
+    let left : length (take (length c.args.rest.now - c.loop-len.at) (drop c.loop-len.at c.args.rest.now)) ≡ length c.args.rest.now - c.loop-len.at = rest_length c.args.rest.now c.loop-len.at c.loop-len.invariant.within in
+    record {
+      within = omega (arith, left, next.within, c.loop-len.invariant.within);
+      first = λ e. absurd (omega (arith, e, next.some));
+      later = λ some. omega (arith, next.some);
+      kept = omega (arith, next.kept, c.loop-len.invariant.kept);
+      inside = next.inside;
+      few = omega (arith, next.grown, c.loop-len.invariant.few);
+      tells = λ given before bytes s.
+          subst (Tells c.take_next.new.cutter c.in-Some.next.pen.synced c.in-Some.next.pen.line (take c.in-Some.next.pen.count c.in-Some.next.pen.held) (c.args.text.now.items ++ take c.in-Some.next.len c.take_next.new.sheet) given before)
+          (seam c.args.rest.now bytes _ c.loop-len.at c.in-Some.next.size c.loop-len.invariant.within refl)
+          (c.in-Some.ensures.told c.args.text.now.items given before (bytes ++ take c.loop-len.at c.args.rest.now) (c.loop-len.invariant.tells given before bytes s));
+    }
