@@ -4,9 +4,9 @@ ghost use Rattle.x7_part.specs.Part.{PartData};
 ghost use Rattle.x7_forms.specs.Play.{HasPlayed, MayPlay, MayPlayBy, PlaysOn, emptied, FeedsOn, FeedsPrefix, OfPrefix, PlaysPrefix, play_state};
 
 use std::alloc::Global;
+use x7_engine::{Device, Fed, ReadBuf};
 use x7_part::Part;
 use x7_words::NoMemory;
-use x7_engine::{Device, Fed, ReadBuf};
 
 /// The most words that a play reads out.
 const READS_LIMIT: usize = 16_777_216;

@@ -9,11 +9,11 @@ ghost use Rattle.x7_forms.specs.Turn.{ReadsRest, UnreadRest};
 ghost use Rattle.x7_forms.specs.Step.{AnswersAs, seen, ReadsStream, ReadsStreams, step_over};
 
 use crate::player::Player;
-use std::alloc::Global;
-use x7_words::Inputs;
 use crate::read::{STREAM_LIMIT, data_start, next_turn, open, read_whole, skip_rest};
 use crate::refusal::{Refusal, Why};
+use std::alloc::Global;
 use x7_part::{Part, PartFault, part_of};
+use x7_words::Inputs;
 
 /// The most bytes of a part file.
 const PART_LIMIT: usize = 1_048_576;

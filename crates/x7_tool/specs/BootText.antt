@@ -2,12 +2,18 @@
 -- read out.
 use Rattle.std.specs.Prelude.{ℕ, List, [], ◌++◌}
 use Rattle.x7_part.specs.Part.{PartData}
+use Rattle.x7_engine.specs.Standing.{NoWordDue}
 use Rattle.x7_engine.specs.State.{memory_in, state_of}
 use Rattle.x7_report.specs.Report.{report_text}
-use Rattle.x7_boot.specs.Attempt.{Trial}
+use Rattle.x7_boot.specs.Attempt.{IsDeviceOf, Trial}
+use Rattle.x7_boot.specs.Boot.{BootedState}
 use Rattle.x7_boot.specs.BootLines.{boot_head}
 use Rattle.x7_boot.specs.declared.boots.BootEnd.{BootEnd}
 use Rattle.x7_boot.specs.declared.boots.Tried.{Tried}
+
+-- this holds of the part and the last attempt of a boot, whose device has no word due
+abbrev pub OfBoot : BootedState → (PartData → Trial → Type 0) → Type 0
+OfBoot boot Holds = (part : PartData) (last : Trial) → IsDeviceOf part boot.device last → NoWordDue boot.device → Holds part last
 
 -- all of it, by the last attempt
 unfoldable pub boot_text : PartData → List Tried → BootEnd → Trial → List ℕ

@@ -1,6 +1,5 @@
 -- The command `play`: the report of the streams' data (this project's choice).
-use Rattle.std.specs.Prelude.{ℕ, List, ◌∷◌, is_some, Result, Ok, Err, false, if◌then◌else◌, length, nat_lt}
-use Rattle.x7_words.specs.Input.{InputsState}
+use Rattle.std.specs.Prelude.{ℕ, List, is_some, Result, Ok, Err, false, if◌then◌else◌, length, nat_lt}
 use Rattle.x7_part.specs.Part.{PartData}
 use Rattle.x7_engine.specs.Kept.{on_the_bench}
 use Rattle.x7_engine.specs.State.{line_by, memory_in, reads_of, state_of, stop_in}
@@ -8,7 +7,6 @@ use Rattle.x7_engine.specs.Stops.{fault_of}
 use Rattle.x7_report.specs.Report.{PlayTextState, report_text}
 use Rattle.x7_forms.specs.Event.{Event, too_many_reads}
 use Rattle.x7_forms.specs.Known.{Answer, Known, and_so, data_of, part_of, reads_limit, stream_limit}
-use Rattle.x7_forms.specs.Step.{AnswersAs, step_over}
 
 -- the report of a new device of the part that took the data, and whether a fault stopped it
 abbrev pub report_of : PartData → List ℕ → Answer
@@ -27,7 +25,3 @@ played known part streams = and_so (part_of known part) (λ p. and_so (data_of k
 -- a report that is ready to be written, as an answer
 abbrev pub text_of_play : PlayTextState → Answer
 text_of_play text = record { stopped = text.stopped; text = text.text }
-
--- the report of streams over what the inputs hold
-abbrev pub ReportsPlay : InputsState → InputsState → List ℕ → List (List ℕ) → Result Answer Event → Type 0
-ReportsPlay old new part streams got = AnswersAs (step_over (part ∷ streams) old new) (λ known. played known part streams) got

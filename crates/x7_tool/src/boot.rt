@@ -2,34 +2,32 @@
 ghost use Rattle.std.specs.Prelude.{◌≡◌, ◌⊎◌, ◌≤◌, ℕ, List, [], ◌∷◌, Some, length, IfErr, IfOk};
 ghost use Rattle.x7_words.specs.Flash.{Unwritten};
 ghost use Rattle.x7_part.specs.Part.{PartData};
-ghost use Rattle.x7_boot.specs.Attempt.{IsDeviceOf, Trial};
 ghost use Rattle.x7_boot.specs.Boot.{IsBoot};
 ghost use Rattle.x7_engine.specs.Standing.{NoWordDue};
 ghost use Rattle.x7_forms.specs.Form.{Booting};
 ghost use Rattle.x7_forms.specs.Event.{no_memory};
 ghost use Rattle.x7_forms.specs.Message.{event_of};
-ghost use Rattle.x7_tool.specs.Outcome.{boot_event, has_failed, IsBootText};
-ghost use Rattle.x7_tool.specs.BootText.{boot_text};
+ghost use Rattle.x7_tool.specs.Outcome.{IsBootText, boot_event, has_failed};
+ghost use Rattle.x7_tool.specs.BootText.{OfBoot, boot_text};
 ghost use Rattle.x7_forms.specs.Step.{seen};
 ghost use Rattle.x7_tool.specs.Outside.{ReadsFlash, sources};
 ghost use Rattle.x7_tool.specs.Play.{text_of_play};
-ghost use Rattle.x7_tool.specs.Run.{FlashComes, AnswersFrom};
+ghost use Rattle.x7_tool.specs.Run.{AnswersFrom, FlashComes};
 
 use crate::attach::attach;
 use std::alloc::Global;
-use x7_part::Part;
-use x7_text::put_text;
 use x7_boot::{BootEnd, BootFault, Booted, boot_lines};
 use x7_forms::{Refusal, Why, read_part};
+use x7_part::Part;
 use x7_report::{PlayText, report};
+use x7_text::put_text;
 use x7_words::{Flash, Inputs, NoMemory};
 
 /// The text of a boot (this project's choice): `boot NAME`; for each attempt `attempt N KIND ADDRESS ENDING`; `end` and how
 /// the boot ended; and the report of the device, as the last attempt left it.
 #[tactic(auto, unfolding(crate::specs::BootText::boot_text))]
 pub fn boot_text(alloc: Global, booted: &Booted) -> Result<Vec<u8>, NoMemory>
-    ensures { IfOk result (λ text. (part : PartData) (last : Trial) → IsDeviceOf part booted.now.device last → NoWordDue booted.now.device
-        → text.items ≡ boot_text part booted.now.attempts booted.now.end last) }
+    ensures { IfOk result (λ text. OfBoot booted.now (λ part last. text.items ≡ boot_text part booted.now.attempts booted.now.end last)) }
 {
     let device = booted.device();
     let mut text = Vec::new(alloc);
@@ -56,8 +54,7 @@ fn has_failed(end: BootEnd) -> bool
 
 /// The text of a boot, as `boot_text`, ready to be written, and whether it ended without a start.
 fn ready_text(alloc: Global, booted: Booted) -> Result<PlayText, NoMemory>
-    ensures { IfOk result (λ text. (part : PartData) (last : Trial) → IsDeviceOf part booted.device last → NoWordDue booted.device
-        → text ≡ record { stopped = has_failed booted.end; text = boot_text part booted.attempts booted.end last }) }
+    ensures { IfOk result (λ text. OfBoot booted (λ part last. text ≡ record { stopped = has_failed booted.end; text = boot_text part booted.attempts booted.end last })) }
 {
     let mut head = Vec::new(alloc);
     boot_lines(

@@ -4,8 +4,10 @@ ghost use Rattle.x7_part.specs.Part.{PartData};
 ghost use Rattle.x7_forms.specs.Event.{no_memory, too_many_reads};
 ghost use Rattle.x7_forms.specs.Message.{event_of};
 ghost use Rattle.x7_forms.specs.Play.{HasPlayed};
+ghost use Rattle.x7_forms.specs.Form.{Playing};
 ghost use Rattle.x7_forms.specs.Step.{seen};
-ghost use Rattle.x7_tool.specs.Play.{ReportsPlay, reported, text_of_play};
+ghost use Rattle.x7_tool.specs.Play.{reported, text_of_play};
+ghost use Rattle.x7_tool.specs.Run.{AnswersForm};
 
 use std::alloc::Global;
 use x7_forms::{Player, Refusal, Why, play_streams, read_part};
@@ -38,7 +40,7 @@ pub(crate) fn play<'w, I: Inputs>(
     part: &'w str,
     streams: &'w [String],
 ) -> Result<PlayText, Refusal<'w>>
-    ensures { ReportsPlay (I.state inputs.old) (I.state inputs.new) part.now (map string_bytes streams.now) (seen text_of_play result) }
+    ensures { AnswersForm (Playing part.now (map string_bytes streams.now)) (I.state inputs.old) (I.state inputs.new) (seen text_of_play result) }
 {
     let part = match read_part(alloc, inputs, part) {
         Ok(part) => part,
