@@ -1,7 +1,7 @@
 -- Lemmas on a boot, attempt after attempt.
 use Rattle.std.proofs.Common.{◌≡◌, ◌+◌, ℕ, List, [], ◌∷◌, ◌++◌, length, map, reverse, Option, None, Some, refl, ap, sym, subst, ◌∙◌, ◌<◌, ◌≤◌, Bool, true, false, arith}
 use Rattle.std.proofs.lemmas.List.{reverse-append}
-use Rattle.x7_words.specs.Flash.{WhereTold}
+use Rattle.x7_words.specs.Flash.{IfKnown}
 use Rattle.x7_words.specs.Word.{AreBytes}
 use Rattle.x7_part.specs.Part.{PartData}
 use Rattle.x7_regs.specs.declared.boot_status.Kind.{Kind}
@@ -17,11 +17,11 @@ use Rattle.x7_boot.specs.declared.next.Next.{Next}
 use Rattle.x7_boot.specs.declared.next.Next.TheVariants.{Again, Ends}
 
 -- what holds of all bytes holds of those that are told
-pub where_all : (known : Option (List ℕ)) (P : List ℕ → Type 0) → ((all : List ℕ) → P all) → WhereTold known P
+pub where_all : (known : Option (List ℕ)) (P : List ℕ → Type 0) → ((all : List ℕ) → P all) → IfKnown known P
 where_all None P f = tt
 where_all (Some all) P f = f all
 
-pub where_on : (known : Option (List ℕ)) (P Q R : List ℕ → Type 0) → ((all : List ℕ) → P all → Q all → R all) → WhereTold known P → WhereTold known Q → WhereTold known R
+pub where_on : (known : Option (List ℕ)) (P Q R : List ℕ → Type 0) → ((all : List ℕ) → P all → Q all → R all) → IfKnown known P → IfKnown known Q → IfKnown known R
 where_on None P Q R f p q = tt
 where_on (Some all) P Q R f p q = f all p q
 
@@ -85,23 +85,23 @@ abbrev pub told_as : Kept → ℕ → Ending → Tried
 told_as kept address ending = record { kind = kept.kind; address = address; ending = ending }
 
 pub led_next : (part old_part : PartData) (kept kept_now : Kept) (address address_now : ℕ) (known told : Option (List ℕ)) (d : DeviceState) (ending : Ending) (attempts now : List Tried) (number : ℕ) (next : Next)
-    → told ≡ known → old_part ≡ part → WhereTold known (λ all. AreBytes all → Led part all kept address attempts number) → WhereTold told (λ all. AreBytes all → Tries old_part kept address all d ending)
+    → told ≡ known → old_part ≡ part → IfKnown known (λ all. AreBytes all → Led part all kept address attempts number) → IfKnown told (λ all. AreBytes all → Tries old_part kept address all d ending)
     → ByTable d kept (number + 1) ending next → next ≡ Again kept_now address_now → now ≡ attempts ++ told_as kept address ending ∷ []
-    → WhereTold known (λ all. AreBytes all → Led part all kept_now address_now now (number + 1))
+    → IfKnown known (λ all. AreBytes all → Led part all kept_now address_now now (number + 1))
 led_next part old_part kept kept_now address address_now known told d ending attempts now number next same e led tries table is items =
-    let here : WhereTold known (λ all. AreBytes all → Tries part kept address all d ending) =
-    subst (λ (p : PartData). WhereTold known (λ all. AreBytes all → Tries p kept address all d ending)) e (subst (λ (k : Option (List ℕ)). WhereTold k (λ all. AreBytes all → Tries old_part kept address all d ending)) same tries) in
+    let here : IfKnown known (λ all. AreBytes all → Tries part kept address all d ending) =
+    subst (λ (p : PartData). IfKnown known (λ all. AreBytes all → Tries p kept address all d ending)) e (subst (λ (k : Option (List ℕ)). IfKnown k (λ all. AreBytes all → Tries old_part kept address all d ending)) same tries) in
     where_on known (λ all. AreBytes all → Led part all kept address attempts number) (λ all. AreBytes all → Tries part kept address all d ending) (λ all. AreBytes all → Led part all kept_now address_now now (number + 1))
     (λ all l t fits. subst (λ (a : List Tried). Led part all kept_now address_now a (number + 1)) (sym items)
     (led_on part kept kept_now address address_now all d ending attempts number next (l fits) (t fits) (table part) is)) led here
 
 pub boot_ends : (part old_part : PartData) (kept : Kept) (address : ℕ) (known told : Option (List ℕ)) (d : DeviceState) (ending : Ending) (attempts now : List Tried) (number : ℕ) (next : Next) (end : BootEnd)
-    → told ≡ known → old_part ≡ part → WhereTold known (λ all. AreBytes all → Led part all kept address attempts number) → WhereTold told (λ all. AreBytes all → Tries old_part kept address all d ending)
+    → told ≡ known → old_part ≡ part → IfKnown known (λ all. AreBytes all → Led part all kept address attempts number) → IfKnown told (λ all. AreBytes all → Tries old_part kept address all d ending)
     → ByTable d kept (number + 1) ending next → next ≡ Ends end → now ≡ attempts ++ told_as kept address ending ∷ []
-    → WhereTold known (λ all. AreBytes all → IsBoot part all (record { attempts = now; end = end; device = d }))
+    → IfKnown known (λ all. AreBytes all → IsBoot part all (record { attempts = now; end = end; device = d }))
 boot_ends part old_part kept address known told d ending attempts now number next end same e led tries table is items =
-    let here : WhereTold known (λ all. AreBytes all → Tries part kept address all d ending) =
-    subst (λ (p : PartData). WhereTold known (λ all. AreBytes all → Tries p kept address all d ending)) e (subst (λ (k : Option (List ℕ)). WhereTold k (λ all. AreBytes all → Tries old_part kept address all d ending)) same tries) in
+    let here : IfKnown known (λ all. AreBytes all → Tries part kept address all d ending) =
+    subst (λ (p : PartData). IfKnown known (λ all. AreBytes all → Tries p kept address all d ending)) e (subst (λ (k : Option (List ℕ)). IfKnown k (λ all. AreBytes all → Tries old_part kept address all d ending)) same tries) in
     where_on known (λ all. AreBytes all → Led part all kept address attempts number) (λ all. AreBytes all → Tries part kept address all d ending) (λ all. AreBytes all → IsBoot part all (record { attempts = now; end = end; device = d }))
     (λ all l t fits. subst (λ (a : List Tried). IsBoot part all (record { attempts = a; end = end; device = d })) (sym items)
     (led_ends part kept address all d ending attempts number next end (l fits) (t fits) (table part) is)) led here

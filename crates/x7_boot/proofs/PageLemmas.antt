@@ -6,7 +6,7 @@ use Rattle.std.specs.Map.{lookup, lookup_entry}
 use Rattle.std.specs.declared.alloc.Global.{Global}
 use Rattle.lru.specs.LruCache.{LruCache, lru_cache, promoted, put_entries}
 use Rattle.lru.proofs.CallerLemmas.{Contains-lookup, Contains-lookup_entry, Contains-promoted, Contains-put_entries, lookup-put_entries}
-use Rattle.x7_words.specs.Flash.{WhereTold}
+use Rattle.x7_words.specs.Flash.{IfKnown}
 use Rattle.x7_boot.specs.Image.{flash_limit}
 use Rattle.x7_boot.specs.Pages.{AreFrom, ArePages, HasPage, IsBlock, IsLoaded, IsRest, Pages, Reaches, block_end, page_end, page_size}
 use Rattle.x7_boot.specs.declared.cache.Loaded.{Loaded}
@@ -52,8 +52,8 @@ range_of_range all block bytes from end start stop at to e f g h l m =
     ∙ ap (take (stop - start)) (drop-drop start from all ∙ ap (λ (n : ℕ). drop n all) g)
     ∙ ap (λ (n : ℕ). take n (drop at all)) same
 
-told_of_block : (known : Option (List ℕ)) (block bytes : List ℕ) (from end start stop at to : ℕ) → WhereTold known (λ all. block ≡ slice_range all from end) → bytes ≡ slice_range block start stop → from + start ≡ at → from + stop ≡ to → to ≤ end
-    → start ≤ stop → WhereTold known (λ all. bytes ≡ slice_range all at to)
+told_of_block : (known : Option (List ℕ)) (block bytes : List ℕ) (from end start stop at to : ℕ) → IfKnown known (λ all. block ≡ slice_range all from end) → bytes ≡ slice_range block start stop → from + start ≡ at → from + stop ≡ to → to ≤ end
+    → start ≤ stop → IfKnown known (λ all. bytes ≡ slice_range all at to)
 told_of_block None block bytes from end start stop at to e f g h l m = tt
 told_of_block (Some all) block bytes from end start stop at to e f g h l m = range_of_range all block bytes from end start stop at to e f g h l m
 
@@ -107,8 +107,8 @@ there_promoted test pages e = by (lookup_entry test pages) refl
 pub within_page : (at extent : ℕ) → at < extent → at < page_end at extent
 within_page at extent l = grind arith
 
-told_from : (known : Option (List ℕ)) (bytes : List ℕ) (start more at end stop : ℕ) → start + more ≡ at → end ≡ stop → at ≤ stop → WhereTold known (λ all. bytes ≡ slice_range all start end)
-    → WhereTold known (λ all. drop more bytes ≡ slice_range all at stop)
+told_from : (known : Option (List ℕ)) (bytes : List ℕ) (start more at end stop : ℕ) → start + more ≡ at → end ≡ stop → at ≤ stop → IfKnown known (λ all. bytes ≡ slice_range all start end)
+    → IfKnown known (λ all. drop more bytes ≡ slice_range all at stop)
 told_from None bytes start more at end stop e f l w = tt
 told_from (Some all) bytes start more at end stop e f l w =
     let long : end - start ≡ more + (stop - at) = omega (arith, e, f, l) in
@@ -157,12 +157,12 @@ pub pages_of : (known told : Option (List ℕ)) (extent size : ℕ) (pages : Pag
 pages_of known told extent size pages e f are page c =
     subst (λ (k : Option (List ℕ)). IsRest k extent (page.0 * page_size) page.1.items) e (subst (λ (n : ℕ). IsRest told n (page.0 * page_size) page.1.items) f (are page c))
 
-pub rest_told : (known : Option (List ℕ)) (extent at : ℕ) (page : List ℕ) → at < extent → IsRest known extent at page → WhereTold known (λ all. page ≡ slice_range all at (at + length page))
+pub rest_told : (known : Option (List ℕ)) (extent at : ℕ) (page : List ℕ) → at < extent → IsRest known extent at page → IfKnown known (λ all. page ≡ slice_range all at (at + length page))
 rest_told known extent at page within r =
     let inside : at < page_end at extent = within_page at extent within in
     let long : length page ≡ page_end at extent - at = r.long in
     let end : page_end at extent ≡ at + length page = omega (arith, long, inside) in
-    subst (λ (n : ℕ). WhereTold known (λ all. page ≡ slice_range all at n)) end r.told
+    subst (λ (n : ℕ). IfKnown known (λ all. page ≡ slice_range all at n)) end r.told
 
 pub rest_goes : (known : Option (List ℕ)) (extent at : ℕ) (page : List ℕ) → at < extent → IsRest known extent at page → 0 < length page
 rest_goes known extent at page within r =

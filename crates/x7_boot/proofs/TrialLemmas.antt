@@ -3,7 +3,7 @@ use Rattle.std.proofs.Common.{◌≡◌, ◌==◌, ◌+◌, ◌-◌, ◌^◌, �
 use Rattle.std.proofs.lemmas.Bool.{cases_lt}
 use Rattle.std.proofs.lemmas.List.{take-append-le}
 use Rattle.std.proofs.Math.Seq.{take-append-add, take-append_seam}
-use Rattle.x7_words.specs.Flash.{WhereTold}
+use Rattle.x7_words.specs.Flash.{IfKnown}
 use Rattle.x7_words.specs.Word.{AreBytes}
 use Rattle.x7_words.proofs.ListLemmas.{all_back, all_front}
 use Rattle.x7_packets.specs.History.{history_of}
@@ -119,13 +119,13 @@ ranges_join all a b c l m =
     let d : drop b all ≡ drop (b - a) (drop a all) = sym (ap (λ (n : ℕ). drop n all) e) ∙ sym (drop-drop (b - a) a all) in
     ap (λ (x : List ℕ). take (b - a) (drop a all) ++ take (c - b) x) d ∙ sym (take-add (b - a) (c - b) (drop a all)) ∙ ap (λ (n : ℕ). take n (drop a all)) f
 
-joined_told : (known : Option (List ℕ)) (bytes page : List ℕ) (a b c : ℕ) → a ≤ b → b ≤ c → WhereTold known (λ all. bytes ≡ slice_range all a b) → WhereTold known (λ all. page ≡ slice_range all b c)
-    → WhereTold known (λ all. bytes ++ page ≡ slice_range all a c)
+joined_told : (known : Option (List ℕ)) (bytes page : List ℕ) (a b c : ℕ) → a ≤ b → b ≤ c → IfKnown known (λ all. bytes ≡ slice_range all a b) → IfKnown known (λ all. page ≡ slice_range all b c)
+    → IfKnown known (λ all. bytes ++ page ≡ slice_range all a c)
 joined_told None bytes page a b c l m e f = tt
 joined_told (Some all) bytes page a b c l m e f = ap (λ (x : List ℕ). x ++ page) e ∙ ap (λ (x : List ℕ). slice_range all a b ++ x) f ∙ ranges_join all a b c l m
 
 pub feeds_on : (part : PartData) (kept : Kept) (address : ℕ) (known : Option (List ℕ)) (d new : DeviceState) (page : List ℕ) (at end : ℕ) (step : Step) → at + length page ≡ end → end ≤ flash_limit → (f : Feeds part kept address known d at)
-    → WhereTold known (λ all. page ≡ slice_range all at end) → Took part kept new f.bytes page step → step ≡ Goes → Feeds part kept address known new end
+    → IfKnown known (λ all. page ≡ slice_range all at end) → Took part kept new f.bytes page step → step ≡ Goes → Feeds part kept address known new end
 feeds_on part kept address known d new page at end step sum limit f told t goes =
     let whole : t.count ≡ length page = t.all goes in
     let all : take t.count page ≡ page = ap (λ (n : ℕ). take n page) whole ∙ take_all (length page) page (omega arith) in
@@ -279,19 +279,19 @@ tries_out part kept address all d wrapped at f past w =
 -- ---- the same where the bytes of the flash are known or not
 
 pub known_out : (part : PartData) (kept : Kept) (address : ℕ) (known : Option (List ℕ)) (d wrapped : DeviceState) (at size : ℕ) (e : Ending) → (f : Feeds part kept address known d at) → size ≤ at
-    → WhereTold known (λ all. size ≡ length all) → DeviceStandsFor part kept true wrapped f.bytes → e ≡ Failed Wrap → WhereTold known (λ all. AreBytes all → Tries part kept address all wrapped e)
+    → IfKnown known (λ all. size ≡ length all) → DeviceStandsFor part kept true wrapped f.bytes → e ≡ Failed Wrap → IfKnown known (λ all. AreBytes all → Tries part kept address all wrapped e)
 known_out part kept address None d wrapped at size e f past told w is = tt
 known_out part kept address (Some all) d wrapped at size e f past told w is =
     λ fits. subst (λ (x : Ending). Tries part kept address all wrapped x) (sym is) (tries_out part kept address all d wrapped at f (omega (arith, past, told)) w)
 
 pub known_ended : (part : PartData) (kept : Kept) (address : ℕ) (known : Option (List ℕ)) (d new : DeviceState) (page : List ℕ) (at : ℕ) (step : Step) (e : Ending) → (f : Feeds part kept address known d at)
-    → WhereTold known (λ all. page ≡ slice_range all at (at + length page)) → Took part kept new f.bytes page step → step ≡ Ends e → WhereTold known (λ all. AreBytes all → Tries part kept address all new e)
+    → IfKnown known (λ all. page ≡ slice_range all at (at + length page)) → Took part kept new f.bytes page step → step ≡ Ends e → IfKnown known (λ all. AreBytes all → Tries part kept address all new e)
 known_ended part kept address None d new page at step e f told t is = tt
 known_ended part kept address (Some all) d new page at step e f told t is = λ fits. tries_ended part kept address all d new page at (at + length page) step e (omega arith) f told t is
 
 pub known_stopped : (part : PartData) (kept : Kept) (address : ℕ) (known : Option (List ℕ)) (d new wrapped : DeviceState) (page : List ℕ) (at : ℕ) (step : Step) (e : Ending) → (f : Feeds part kept address known d at)
-    → WhereTold known (λ all. page ≡ slice_range all at (at + length page)) → (t : Took part kept new f.bytes page step) → step ≡ Stops → DeviceStandsFor part kept true wrapped (f.bytes ++ take t.count page) → e ≡ Failed Wrap
-    → WhereTold known (λ all. AreBytes all → Tries part kept address all wrapped e)
+    → IfKnown known (λ all. page ≡ slice_range all at (at + length page)) → (t : Took part kept new f.bytes page step) → step ≡ Stops → DeviceStandsFor part kept true wrapped (f.bytes ++ take t.count page) → e ≡ Failed Wrap
+    → IfKnown known (λ all. AreBytes all → Tries part kept address all wrapped e)
 known_stopped part kept address None d new wrapped page at step e f told t is w failed = tt
 known_stopped part kept address (Some all) d new wrapped page at step e f told t is w failed =
     λ fits. subst (λ (x : Ending). Tries part kept address all wrapped x) (sym failed) (tries_stopped part kept address all d new wrapped page at (at + length page) step fits (omega arith) f told t is w)
@@ -327,7 +327,7 @@ feeds_gap keep address taken known d new l gap fallback count again due =
       due = due;
       count = ap (λ (n : ℕ). address + n) (sym long);
       few = l.few;
-      read = subst (λ (n : ℕ). WhereTold known (λ all. l.bytes ≡ slice_range all address (address + n))) (sym long) l.read;
+      read = subst (λ (n : ℕ). IfKnown known (λ all. l.bytes ≡ slice_range all address (address + n))) (sym long) l.read;
       none = λ k m. gap_open d.part keep (take k l.bytes) fallback (fewer_ask_nothing l.bytes k fits nothing);
     }
 
@@ -340,10 +340,10 @@ leaves_out part kept address known d new at f s = record {
   bytes = f.bytes;
   stands = s;
   few = f.few;
-  read = subst (λ (n : ℕ). WhereTold known (λ all. f.bytes ≡ slice_range all address n)) (sym f.count) f.read;
+  read = subst (λ (n : ℕ). IfKnown known (λ all. f.bytes ≡ slice_range all address n)) (sym f.count) f.read;
 }
 
-front_told : (known : Option (List ℕ)) (page : List ℕ) (at n : ℕ) → n ≤ length page → WhereTold known (λ all. page ≡ slice_range all at (at + length page)) → WhereTold known (λ all. take n page ≡ slice_range all at (at + n))
+front_told : (known : Option (List ℕ)) (page : List ℕ) (at n : ℕ) → n ≤ length page → IfKnown known (λ all. page ≡ slice_range all at (at + length page)) → IfKnown known (λ all. take n page ≡ slice_range all at (at + n))
 front_told None page at n l e = tt
 front_told (Some all) page at n l e =
     let long : at + length page - at ≡ length page = omega arith in
@@ -352,7 +352,7 @@ front_told (Some all) page at n l e =
 
 -- and one that took bytes of a page
 pub leaves_page : (part : PartData) (kept : Kept) (wrapped : Bool) (address : ℕ) (known : Option (List ℕ)) (d new last : DeviceState) (page : List ℕ) (at : ℕ) (step : Step) → (f : Feeds part kept address known d at)
-    → WhereTold known (λ all. page ≡ slice_range all at (at + length page)) → at + length page ≤ flash_limit → (t : Took part kept new f.bytes page step) → DeviceStandsFor part kept wrapped last (f.bytes ++ take t.count page) → Leaves address known last
+    → IfKnown known (λ all. page ≡ slice_range all at (at + length page)) → at + length page ≤ flash_limit → (t : Took part kept new f.bytes page step) → DeviceStandsFor part kept wrapped last (f.bytes ++ take t.count page) → Leaves address known last
 leaves_page part kept wrapped address known d new last page at step f told limit t s =
     let count : address + length f.bytes ≡ at = f.count in
     let within : t.count ≤ length page = t.within in
@@ -366,6 +366,6 @@ leaves_page part kept wrapped address known d new last page at step f told limit
       bytes = f.bytes ++ take t.count page;
       stands = s;
       few = omega (arith, long, count, within, limit);
-      read = subst (λ (n : ℕ). WhereTold known (λ all. f.bytes ++ take t.count page ≡ slice_range all address n)) end
+      read = subst (λ (n : ℕ). IfKnown known (λ all. f.bytes ++ take t.count page ≡ slice_range all address n)) end
           (joined_told known f.bytes (take t.count page) address at (at + t.count) (omega (arith, count)) (omega arith) f.read (front_told known page at t.count within told));
     }

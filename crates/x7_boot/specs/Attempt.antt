@@ -1,7 +1,7 @@
 -- A boot attempt: a device takes the bytes of a flash from an address on, up to what ends the attempt (UG470, MultiBoot; its
 -- end at the least byte, and at the flash's end, are this project's choice).
 use Rattle.std.specs.Prelude.{◌≡◌, ℕ, suc, ◌+◌, ◌^◌, ◌<◌, ◌≤◌, ◌==◌, ◌⊎◌, Bool, true, false, if◌then◌else◌, List, ◌++◌, length, take, drop, slice_range, Option, None, Some, IsSome}
-use Rattle.x7_words.specs.Flash.{WhereTold}
+use Rattle.x7_words.specs.Flash.{IfKnown}
 use Rattle.x7_part.specs.Part.{PartData}
 use Rattle.x7_regs.specs.declared.boot_status.Cause.{Cause}
 use Rattle.x7_regs.specs.declared.boot_status.Cause.TheVariants.{Wrap}
@@ -127,7 +127,7 @@ pub record Feeds (part : PartData) (kept : Kept) (address : ℕ) (known : Option
   pub due : NoWordDue d
   pub count : address + length bytes ≡ at
   pub few : length bytes ≤ flash_limit
-  pub read : WhereTold known (λ all. bytes ≡ slice_range all address at)
+  pub read : IfKnown known (λ all. bytes ≡ slice_range all address at)
   pub none : (k : ℕ) → k < length bytes → ending_at part kept (take k bytes) ≡ None
 
 -- an attempt left a device that stands for the bytes of a flash from an address on, as many as it took, where they are told
@@ -138,4 +138,4 @@ pub record Leaves (address : ℕ) (known : Option (List ℕ)) (d : DeviceState) 
   pub bytes : List ℕ
   pub stands : DeviceStandsFor part kept wrapped d bytes
   pub few : length bytes ≤ flash_limit
-  pub read : WhereTold known (λ all. bytes ≡ slice_range all address (address + length bytes))
+  pub read : IfKnown known (λ all. bytes ≡ slice_range all address (address + length bytes))

@@ -1,6 +1,6 @@
 //! The boot of a device from a flash.
 ghost use Rattle.std.specs.Prelude.{◌≡◌, ◌≤◌, ◌<◌, ◌↔◌, List, true, Err, IfOk, IsErrOf, OnOk};
-ghost use Rattle.x7_words.specs.Flash.{FlashFails, OnlyReads, WhereTold};
+ghost use Rattle.x7_words.specs.Flash.{FlashFails, OnlyReads, IfKnown};
 ghost use Rattle.x7_words.specs.Word.{AreBytes};
 ghost use Rattle.x7_engine.specs.Standing.{NoWordDue};
 ghost use Rattle.x7_boot.specs.Boot.{BootedState, IsBoot};
@@ -99,7 +99,7 @@ const AT_POWER: Kept = Kept {
 /// the end of one to the next.
 pub fn boot<F: Flash>(alloc: Global, part: &Part, flash: &mut F) -> Result<Booted, BootFault>
     requires attached { (F.state flash.old).attached ≡ true }
-    ensures booted { IfOk result (λ booted. WhereTold (F.state flash.old).bytes (λ all. AreBytes all → IsBoot part.now all booted)) }
+    ensures booted { IfOk result (λ booted. IfKnown (F.state flash.old).bytes (λ all. AreBytes all → IsBoot part.now all booted)) }
     ensures part { IfOk result (λ booted. booted.device.part ≡ part.now) }
     ensures due { IfOk result (λ booted. NoWordDue booted.device) }
     ensures failed { IsErrOf result BootFault.Failed → FlashFails (F.state flash.old) (F.state flash.new) }

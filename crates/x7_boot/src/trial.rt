@@ -2,7 +2,7 @@
 ghost use Rattle.std.specs.Prelude.{◌≡◌, ◌≤◌, ◌<◌, ◌^◌, ℕ, List, Option, length, true, false, IfOk, IsErrOf, IsTrue, OnOk};
 ghost use Rattle.x7_regs.specs.declared.boot_status.Kind.TheVariants.{Bench};
 ghost use Rattle.x7_regs.specs.declared.boot_status.Cause.TheVariants.{Wrap};
-ghost use Rattle.x7_words.specs.Flash.{FlashFails, OnlyReads, WhereTold};
+ghost use Rattle.x7_words.specs.Flash.{FlashFails, OnlyReads, IfKnown};
 ghost use Rattle.x7_words.specs.Word.{AreBytes};
 ghost use Rattle.x7_part.specs.Part.{PartData};
 ghost use Rattle.x7_engine.specs.FirstGap.{IsInFirstGap};
@@ -81,7 +81,7 @@ pub(crate) fn try_once<F: Flash>(
     requires left { Leaves last_address (F.state flash.old).bytes device.old }
     requires pages { ArePages (F.state flash.old).bytes (F.state flash.old).extent pages.old.pages.entries }
     ensures pages { ArePages (F.state flash.old).bytes (F.state flash.old).extent pages.new.pages.entries }
-    ensures tried { IfOk result (λ ending. WhereTold (F.state flash.old).bytes (λ all. AreBytes all → Tries device.old.part keep address all device.new ending)) }
+    ensures tried { IfOk result (λ ending. IfKnown (F.state flash.old).bytes (λ all. AreBytes all → Tries device.old.part keep address all device.new ending)) }
     ensures leaves { IfOk result (λ _. Leaves address (F.state flash.old).bytes device.new) }
     ensures part { IfOk result (λ ending. device.new.part ≡ device.old.part) }
     ensures due { IfOk result (λ ending. NoWordDue device.new) }

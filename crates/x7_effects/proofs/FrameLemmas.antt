@@ -26,7 +26,7 @@ use Rattle.x7_memory.specs.Planned.{PlanRow, PlanData, planned, planned_addresse
 use Rattle.x7_memory.proofs.FrameLemmas.{among_none}
 use Rattle.x7_memory.proofs.MapLemmas.{zeros_at, unnamed_none}
 use Rattle.x7_memory.proofs.PlanLemmas.{planned_here, planned_behind}
-use Rattle.x7_pipeline.specs.Runs.{onto, slots_from, landed, put_over}
+use Rattle.x7_pipeline.specs.Runs.{onto, slots_from, written_frames, put_over}
 use Rattle.x7_pipeline.specs.InWords.{pair_of}
 use Rattle.x7_pipeline.proofs.SlotLemmas.{addresses_among-slots}
 use Rattle.x7_flow.proofs.InsideLemmas.{contains_or_not}
@@ -58,7 +58,7 @@ rows_paired [] more = ap (filter_map pair_of) (zip-nil more)
 rows_paired (r ∷ rows) more = ap (λ t. r ∷ t) (rows_paired rows more)
 
 pub rows_land : (part : PartData) (base : ℕ) (rows : List PlanRow) (more : List Slot) (last : List ℕ) → 0 < frame_words part → AreWide (frame_words part) (row_frames rows ++ last ∷ [])
-    → slots_from part base ≡ row_slots rows ++ more → landed part base (onto (joined (row_frames rows ++ last ∷ [])) []) ≡ reverse rows
+    → slots_from part base ≡ row_slots rows ++ more → written_frames part base (onto (joined (row_frames rows ++ last ∷ [])) []) ≡ reverse rows
 rows_land part base rows more last some a e =
     frames_land part base (row_frames rows) last some a
     ∙ ap (λ t. reverse (filter_map pair_of (zip t (row_frames rows)))) e
@@ -120,7 +120,7 @@ frames_at-append part plan (x ∷ xs) ys = ap (λ t. frame_of part plan x ∷ t)
 
 -- the frames of all slots land at all addresses in order
 pub slots_land : (part : PartData) (plan : PlanData) → IsPart part → IsPlan plan → plan.width ≡ frame_words part
-    → landed part (get_or (addresses_in part) 0 0) (onto (joined (frames_at part plan (slots_in part))) []) ≡ reverse (map (row_of part plan) (addresses_in part))
+    → written_frames part (get_or (addresses_in part) 0 0) (onto (joined (frames_at part plan (slots_in part))) []) ≡ reverse (map (row_of part plan) (addresses_in part))
 slots_land part plan is p same_width =
     let first : ℕ = get_or (addresses_in part) 0 0 in
     let e : EndsInPad (slots_in part) = slots_end part.far part.rows is.some in
@@ -129,7 +129,7 @@ slots_land part plan is p same_width =
     let split : frames_at part plan (slots_in part) ≡ frames ++ last ∷ [] = ap (frames_at part plan) e.split ∙ frames_at-append part plan e.prefix (Pad ∷ []) in
     let wide : AreWide (frame_words part) (frames ++ last ∷ []) = rw split at (all_wide part plan (slots_in part) (plan_wide part plan p same_width)) in
     let fars : addresses_in part ≡ addresses_among e.prefix = sym (addresses_among-slots part.far part.rows) ∙ ap addresses_among e.split ∙ addresses_before_pad e.prefix in
-    ap (λ t. landed part first (onto (joined t) [])) split
+    ap (λ t. written_frames part first (onto (joined t) [])) split
     ∙ frames_land part first frames last (omega (arith, is.words)) wide
     ∙ ap (λ t. reverse (filter_map pair_of (zip t frames))) (slots_all part is ∙ e.split)
     ∙ ap reverse (frames_paired part plan e.prefix (Pad ∷ []) ∙ ap (map (row_of part plan)) (sym fars))
@@ -159,10 +159,10 @@ some_or (Some x) z = refl
 -- over any memory with frames at the part's addresses alone they leave the plan over zeros
 pub whole_over : (part : PartData) (plan : PlanData) (memory : FrameMap) → IsPart part → IsPlan plan → plan.width ≡ frame_words part
     → ((far : ℕ) → Contains (planned_addresses plan.rows) far → Contains (addresses_in part) far) → ((far : ℕ) → (Contains (addresses_in part) far → ⊥) → memory far ≡ None)
-    → AreSame (put_over (landed part (get_or (addresses_in part) 0 0) (onto (joined (frames_at part plan (slots_in part))) [])) memory) (total part plan)
+    → AreSame (put_over (written_frames part (get_or (addresses_in part) 0 0) (onto (joined (frames_at part plan (slots_in part))) [])) memory) (total part plan)
 whole_over part plan memory is p e within outside far =
     let fars : List ℕ = addresses_in part in
-    let same : landed part (get_or fars 0 0) (onto (joined (frames_at part plan (slots_in part))) []) ≡ map (row_of part plan) (reverse fars) = slots_land part plan is p e ∙ sym (map_of_reverse (row_of part plan) fars) in
+    let same : written_frames part (get_or fars 0 0) (onto (joined (frames_at part plan (slots_in part))) []) ≡ map (row_of part plan) (reverse fars) = slots_land part plan is p e ∙ sym (map_of_reverse (row_of part plan) fars) in
     ap (λ t. or_else (planned t far) (memory far)) same
     ∙ elim (contains_or_not fars far) [
       | inl h ↦ ap (λ t. or_else t (memory far)) (row_here part plan (reverse fars) far (in_reverse fars far h)) ∙ some_or (planned plan.rows far) (zero_frame part) ∙ ap (or_else (planned plan.rows far)) (sym (zeros_at part far h))

@@ -16,7 +16,7 @@ use Rattle.x7_part.proofs.PartLemmas.{some_address}
 use Rattle.x7_part.proofs.SlotLemmas.{slots_all}
 use Rattle.x7_memory.specs.FrameMap.{AreSame, FrameMap}
 use Rattle.x7_memory.specs.Planned.{IsPlan, PlanData, planned_addresses}
-use Rattle.x7_pipeline.specs.Runs.{landed, onto, put_over, slots_from}
+use Rattle.x7_pipeline.specs.Runs.{written_frames, onto, put_over, slots_from}
 use Rattle.x7_startup.specs.Calls.{Begun, NotBegun}
 use Rattle.x7_startup.proofs.CallLemmas.{further}
 use Rattle.x7_flow.specs.Controls.{ctl0_held, forbids_reading, is_matched, mask_held, masked_word}
@@ -225,16 +225,16 @@ full_plays part kept bytes plan f r is p e within =
     let data_in : History = written (at + 8 + 8) (Put (WriteLong 2 ws) ∷ []) load in
     let put : HasWritten part kept 0 first ws data_in data_at m = loaded_words part kept 0 first load (at + 8 + 8) m ws loaded t.1 room in
     let checked : History = written data_at (Check ∷ []) data_in in
-    let check : IsReady part kept 0 checked (data_at + 8) (put_over (landed part first (onto ws [])) m) = ready_check part kept 0 data_in data_at (put_over (landed part first (onto ws [])) m) put.ready in
+    let check : IsReady part kept 0 checked (data_at + 8) (put_over (written_frames part first (onto ws [])) m) = ready_check part kept 0 data_in data_at (put_over (written_frames part first (onto ws [])) m) put.ready in
     let cor0 : last_word 9 0 checked ≡ 0x02003FE5 = words_leave 9 0 (at + 8 + 8 + 8) ws load refl in
     let whole : History = written (data_at + 8) (command Lfrm ∷ command Start ∷ Check ∷ []) checked in
     let ended : IsGoing part kept 7 (entry (access.Write 4 13) (data_at + 8 + 8 + 8 + 8 + 8) ∷ whole) (data_at + 8 + 8 + 8 + 8 + 8 + 4 * 16) = starts part kept checked (data_at + 8) 16 check.going check.matched cor0 (omega arith) in
     let pieces : List Piece = full_pieces part plan in
     let last : data_at + 8 + 8 + 8 + 8 ≡ n + 4 * pieces_length pieces = omega arith in
-    let memory : AreSame (memory_of part whole) (put_over (landed part first (onto ws [])) m) =
+    let memory : AreSame (memory_of part whole) (put_over (written_frames part first (onto ws [])) m) =
     quiet_one part _ (access.Write 0 _) _ _ refl (quiet_one part _ (access.Write 4 5) _ _ refl (quiet_one part checked (access.Write 4 3) _ _ refl check.memory)) in
-    let all : HasPlayed part kept 7 bytes (stream_of pieces 16) (put_over (landed part first (onto ws [])) m) =
-    played part kept 7 bytes pieces 16 (put_over (landed part first (onto ws [])) m) f r.searching (full_fits part plan is p e (have_words plan.rows p.each)) (full_clears part plan)
+    let all : HasPlayed part kept 7 bytes (stream_of pieces 16) (put_over (written_frames part first (onto ws [])) m) =
+    played part kept 7 bytes pieces 16 (put_over (written_frames part first (onto ws [])) m) f r.searching (full_fits part plan is p e (have_words plan.rows p.each)) (full_clears part plan)
     (subst (λ (x : ℕ). IsGoing part kept 7 (entry (access.Write 4 13) (x + 8) ∷ whole) (x + 8 + 4 * 16)) last ended) check.allows memory in
     record {
       memory = λ far. all.memory far ∙ whole_over part plan m is p e within (memory_has part h (omega (arith, is.words))).inside far;

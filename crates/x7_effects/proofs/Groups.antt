@@ -4,7 +4,7 @@ use Rattle.x7_part.specs.Part.{PartData, frame_words}
 use Rattle.x7_part.specs.declared.slot.Slot.{Slot}
 use Rattle.x7_memory.specs.FrameMap.{FrameMap}
 use Rattle.x7_memory.specs.Planned.{PlanRow, planned_addresses}
-use Rattle.x7_pipeline.specs.Runs.{slots_from, put_over, landed, onto, frames_of}
+use Rattle.x7_pipeline.specs.Runs.{slots_from, put_over, written_frames, onto, frames_of}
 use Rattle.x7_pipeline.specs.Copies.{newest_of}
 use Rattle.x7_effects.proofs.Frames.{joined, row_frames, row_slots, zero_frame}
 use Rattle.x7_effects.proofs.Checking.{Piece}
@@ -27,5 +27,5 @@ plan_pieces part rows = partial_pieces part (stretches_of part rows)
 
 -- how a stretch lands: a run as its rows at its first address; a content not at all, but it is the source of the copies
 abbrev pub LandsAs : PartData → Stretch → Type 0
-LandsAs part (Copies words fars) = (landed part (slice_index fars 0) (onto words []) ≡ []) × (newest_of (frames_of (frame_words part) (onto words [])) ≡ Some words)
-LandsAs part (Rows rows) = landed part (slice_index (planned_addresses rows) 0) (onto (joined (row_frames rows ++ zero_frame part ∷ [])) []) ≡ reverse rows
+LandsAs part (Copies words fars) = (written_frames part (slice_index fars 0) (onto words []) ≡ []) × (newest_of (frames_of (frame_words part) (onto words [])) ≡ Some words)
+LandsAs part (Rows rows) = written_frames part (slice_index (planned_addresses rows) 0) (onto (joined (row_frames rows ++ zero_frame part ∷ [])) []) ≡ reverse rows

@@ -17,7 +17,7 @@ use Rattle.x7_part.specs.declared.slot.Slot.{Slot}
 use Rattle.x7_part.specs.declared.slot.Slot.TheVariants.{Frame, Pad, End}
 use Rattle.x7_part.proofs.RowLemmas.{part_rises}
 use Rattle.x7_memory.specs.Planned.{PlanRow, planned_addresses}
-use Rattle.x7_pipeline.specs.Runs.{frames_of, slots_from, in_slots, landed, onto, but_newest}
+use Rattle.x7_pipeline.specs.Runs.{frames_of, slots_from, in_slots, written_frames, onto, but_newest}
 use Rattle.x7_pipeline.specs.Copies.{newest_of}
 use Rattle.x7_pipeline.proofs.SlotLemmas.{addresses_among-slots, slot_among}
 use Rattle.x7_planner.proofs.FewLemmas.{rises_in, rises_rest, by_rows}
@@ -139,7 +139,7 @@ runs_land part [] some p w = tt
 runs_land part (run ∷ runs) some p w = (run_lands part run some p.0 w.0, runs_land part runs some p.1 w.1)
 
 copies_land : (part : PartData) (words fars : List ℕ) → 0 < frame_words part → length words ≡ frame_words part → LandsAs part (Copies words fars)
-unfolding landed in_slots
+unfolding written_frames in_slots
 copies_land part words fars some w =
     let one : frames_of (frame_words part) (onto words []) ≡ words ∷ [] = ap (λ t. frames_of (frame_words part) (onto t [])) (sym (append-nil words)) ∙ whole_cut part [] words some (w, tt) in
     (ap (λ t. in_slots (slots_from part (get_or fars 0 0)) (but_newest t)) one, ap newest_of one)

@@ -14,7 +14,7 @@ use Rattle.x7_regs.specs.declared.command.Command.{Command}
 use Rattle.x7_pipeline.specs.Copies.{is_mfw}
 use Rattle.x7_pipeline.specs.FarAsRead.{has_frame_at, loaded_base}
 use Rattle.x7_pipeline.specs.Faults.{address_fault, copy_fault}
-use Rattle.x7_pipeline.specs.Runs.{landed, onto, put_over, slots_from}
+use Rattle.x7_pipeline.specs.Runs.{written_frames, onto, put_over, slots_from}
 use Rattle.x7_pipeline.proofs.LawLemmas.{put_twice}
 use Rattle.x7_flow.specs.declared.asked.Asked.TheVariants.{Copies, Other}
 use Rattle.x7_flow.specs.Controls.{ctl0_held}
@@ -47,7 +47,7 @@ record IsCopying (part : PartData) (kept : Kept) (phase : ℕ) (words : List ℕ
 
 -- MFW after the words of one frame
 begins_copies : (part : PartData) (kept : Kept) (phase far : ℕ) (words : List ℕ) (h : History) (n : ℕ) (m : FrameMap) → 0 < frame_words part → length words ≡ frame_words part → HasWritten part kept phase far words h n m
-    → landed part far (onto words []) ≡ [] → IsCopying part kept phase words (written n (command Mfw ∷ []) h) (n + 8) m
+    → written_frames part far (onto words []) ≡ [] → IsCopying part kept phase words (written n (command Mfw ∷ []) h) (n + 8) m
 begins_copies part kept phase far words h n m some wide w none =
     let run : run_of part h ≡ onto (flat_map (λ frame. frame) ([] ++ words ∷ [])) [] = w.run_is ∙ ap (λ t. onto t []) (sym (append-nil words)) in
     record {
@@ -55,7 +55,7 @@ begins_copies part kept phase far words h n m some wide w none =
         going = going_one part kept phase h n 4 2 (record { start = refl; shutdown = refl; desync = refl }) refl refl w.ready.going.calm.off w.ready.going;
         matched = w.ready.matched;
         allows = w.ready.allows;
-        memory = quiet_one part h (access.Write 4 2) (n + 4 + 4) m refl (λ a. w.ready.memory a ∙ put_none (landed part far (onto words [])) m none a);
+        memory = quiet_one part h (access.Write 4 2) (n + 4 + 4) m refl (λ a. w.ready.memory a ∙ put_none (written_frames part far (onto words [])) m none a);
       };
       held_is = refl;
       source_is = source_left part h 2 (n + 4 + 4) [] words some w.held_is refl run (wide, tt);
@@ -162,7 +162,7 @@ rows_ready part kept phase rows h n m r l s =
       going = w.ready.going;
       matched = w.ready.matched;
       allows = w.ready.allows;
-      memory = λ a. w.ready.memory a ∙ put_same (landed part far (onto ws [])) (reverse rows) m m l (λ x. refl) a;
+      memory = λ a. w.ready.memory a ∙ put_same (written_frames part far (onto ws [])) (reverse rows) m m l (λ x. refl) a;
     })
 
 copies_ready : (part : PartData) (kept : Kept) (phase : ℕ) (words fars : List ℕ) (h : History) (n : ℕ) (m : FrameMap) → 0 < frame_words part → IsReady part kept phase h n m → LandsAs part (stretch.Copies words fars) → Stands part (stretch.Copies words fars)

@@ -11,7 +11,7 @@ use Rattle.x7_memory.specs.FrameMap.{AreSame, FrameMap}
 use Rattle.x7_memory.specs.Planned.{PlanRow, planned}
 use Rattle.x7_memory.proofs.MapLemmas.{override_same}
 use Rattle.x7_pipeline.specs.FarAsRead.{has_frame_at, loaded_base}
-use Rattle.x7_pipeline.specs.Runs.{landed, onto, put_over, slots_from}
+use Rattle.x7_pipeline.specs.Runs.{written_frames, onto, put_over, slots_from}
 use Rattle.x7_words.specs.Word.{field_of}
 use Rattle.x7_flow.specs.Controls.{ctl0_held, forbids_reading, forbids_writing, is_matched}
 use Rattle.x7_flow.specs.Flow.{Flow, base_of, frame_fault, run_of}
@@ -115,7 +115,7 @@ ready_load part kept phase far h n m r s =
 
 -- words of frame data from there on
 pub record HasWritten (part : PartData) (kept : Kept) (phase far : ℕ) (words : List ℕ) (h : History) (n : ℕ) (m : FrameMap) : Type 0 where
-  pub ready : IsReady part kept phase h n (put_over (landed part far (onto words [])) m)
+  pub ready : IsReady part kept phase h n (put_over (written_frames part far (onto words [])) m)
   pub held_is : command_held h ≡ 1
   pub run_is : run_of part h ≡ onto words []
 
@@ -132,15 +132,15 @@ loaded_words part kept phase far h n m ws l a few =
     let refused : NoneRefused part (n + 8) ws h = words_none part (n + 8) ws h t there (omega (arith, few, none, slots)) in
     let going : IsGoing part kept phase g (n + 8 + 4 * length ws) = going_words part kept phase h (n + 8) ws l.ready.matched refused (going_bytes part kept phase h n (n + 8) (omega arith) l.ready.going) in
     let end : n + 8 + 4 * length ws ≡ n + 4 * piece_length (Put (WriteLong 2 ws)) = omega arith in
-    let pairs : landed part (base_of part h) (onto ws []) ≡ landed part far (onto ws []) = ap (λ (x : ℕ). landed part x (onto ws [])) l.base_is in
-    let memory : AreSame (memory_of part g) (put_over (landed part (base_of part h) (onto ws [])) (memory_of part h)) =
-    subst (λ (x : History). AreSame (memory_of part x) (put_over (landed part (base_of part h) (onto ws [])) (memory_of part h))) same (words_memory part (n + 8) ws h t l.run_is) in
+    let pairs : written_frames part (base_of part h) (onto ws []) ≡ written_frames part far (onto ws []) = ap (λ (x : ℕ). written_frames part x (onto ws [])) l.base_is in
+    let memory : AreSame (memory_of part g) (put_over (written_frames part (base_of part h) (onto ws [])) (memory_of part h)) =
+    subst (λ (x : History). AreSame (memory_of part x) (put_over (written_frames part (base_of part h) (onto ws [])) (memory_of part h))) same (words_memory part (n + 8) ws h t l.run_is) in
     record {
       ready = record {
         going = subst (λ (k : ℕ). IsGoing part kept phase g k) end going;
         matched = ap (λ (s : Settings). s.matched) settings ∙ l.ready.matched;
         allows = ap (λ (s : Settings). forbids_reading s.ctl0) settings ∙ l.ready.allows;
-        memory = same_then (memory_of part g) _ (put_over (landed part far (onto ws [])) m) memory (put_same (landed part (base_of part h) (onto ws [])) (landed part far (onto ws [])) (memory_of part h) m pairs l.ready.memory);
+        memory = same_then (memory_of part g) _ (put_over (written_frames part far (onto ws [])) m) memory (put_same (written_frames part (base_of part h) (onto ws [])) (written_frames part far (onto ws [])) (memory_of part h) m pairs l.ready.memory);
       };
       held_is = ap (λ (s : Settings). s.held) settings ∙ l.held_is;
       run_is = ap (run_of part) (sym same) ∙ ap (λ (f : Flow). f.run) (words_run part (n + 8) ws h t l.run_is);

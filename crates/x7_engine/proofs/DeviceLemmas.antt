@@ -18,7 +18,7 @@ use Rattle.x7_packets.proofs.HistoryLemmas.{cut_enters, next_word-is, words_end}
 use Rattle.x7_part.specs.Part.{PartData}
 use Rattle.x7_engine.specs.declared.kept.Kept.{Kept}
 use Rattle.x7_engine.specs.declared.stop.Stop.{Stop}
-use Rattle.x7_engine.specs.Standing.{DeviceStandsFor, DeviceState, EndsWords, HoldsRun, IsCutterOf, RegistersStandFor, counted_in, due_count, told_of, words_left}
+use Rattle.x7_engine.specs.Standing.{DeviceStandsFor, DeviceState, EndsWords, HoldsRun, IsCutterOf, RegistersStandFor, counted_in, due_count, reads_given, words_left}
 use Rattle.x7_engine.specs.State.{history_by, history_taken, reads_of, stop_in}
 use Rattle.x7_engine.specs.Stops.{Stopped, stop_of, stopped_at}
 use Rattle.x7_engine.specs.Values.{read_out}
@@ -32,7 +32,7 @@ front_told told rest due e =
     let count : length (told ++ rest) - due ≡ length told = omega (arith, length-append told rest, e) in
     ap (λ (n : ℕ). take n (told ++ rest)) count ∙ take-append_seam told rest
 
-pub told_by : (part : PartData) (kept : Kept) (d : DeviceState) (bytes told : List ℕ) (h : History) → reads_of part kept bytes ≡ told ++ words_left part h d.registers.due → told_of part kept d bytes ≡ told
+pub told_by : (part : PartData) (kept : Kept) (d : DeviceState) (bytes told : List ℕ) (h : History) → reads_of part kept bytes ≡ told ++ words_left part h d.registers.due → reads_given part kept d bytes ≡ told
 told_by part kept d bytes told h e =
     ap (λ (t : List ℕ). take (length t - due_count d.registers.due) t) e ∙ front_told told (words_left part h d.registers.due) (due_count d.registers.due) (length_left part h d.registers.due)
 

@@ -13,7 +13,7 @@ use Rattle.x7_engine.specs.declared.stop.Stop.{Stop}
 use Rattle.x7_engine.specs.declared.stop.Stop.TheVariants as stop
 use Rattle.x7_engine.specs.ReadBuffer.{ReadBufState, gathered, with_words}
 use Rattle.x7_engine.specs.Readout.{Gave, GaveFrames, Gives}
-use Rattle.x7_engine.specs.Standing.{Answers, DeviceStandsFor, DeviceState, NoWordDue, RegistersState, due_count, fed_by, taken_in, told_of, words_left}
+use Rattle.x7_engine.specs.Standing.{Answers, DeviceStandsFor, DeviceState, NoWordDue, RegistersState, due_count, fed_by, taken_in, reads_given, words_left}
 use Rattle.x7_engine.specs.State.{history_taken, reads_of}
 use Rattle.x7_engine.specs.Stops.{stopped_at}
 use Rattle.x7_engine.proofs.DeviceLemmas.{told_by}
@@ -76,14 +76,14 @@ pub stands_on : (part : PartData) (kept : Kept) (wrapped : Bool) (d e : DeviceSt
 stands_on part kept wrapped d e bytes piece from to l f s = subst (λ (b : List ℕ). DeviceStandsFor part kept wrapped e b) (taken_more bytes piece from to l) (f (bytes ++ take from piece) s)
 
 pub told_on : (part : PartData) (kept : Kept) (wrapped : Bool) (d e : DeviceState) (bytes piece : List ℕ) (from to : ℕ) → from ≤ to
-    → ((b : List ℕ) → DeviceStandsFor part kept wrapped d b → told_of part kept e (b ++ between piece from to) ≡ told_of part kept d b)
-    → DeviceStandsFor part kept wrapped d (bytes ++ take from piece) → told_of part kept e (bytes ++ take to piece) ≡ told_of part kept d (bytes ++ take from piece)
-told_on part kept wrapped d e bytes piece from to l f s = sym (ap (told_of part kept e) (taken_more bytes piece from to l)) ∙ f (bytes ++ take from piece) s
+    → ((b : List ℕ) → DeviceStandsFor part kept wrapped d b → reads_given part kept e (b ++ between piece from to) ≡ reads_given part kept d b)
+    → DeviceStandsFor part kept wrapped d (bytes ++ take from piece) → reads_given part kept e (bytes ++ take to piece) ≡ reads_given part kept d (bytes ++ take from piece)
+told_on part kept wrapped d e bytes piece from to l f s = sym (ap (reads_given part kept e) (taken_more bytes piece from to l)) ∙ f (bytes ++ take from piece) s
 
 -- the words told so far, and those that were given now
 pub now_told : (part : PartData) (kept : Kept) (wrapped : Bool) (d e : DeviceState) (first read next : ReadBufState) (taken told : List ℕ) → Gives (record { part = part; kept = kept; wrapped = wrapped; bytes = taken }) d e read next
-    → ((more : List ℕ) × (read ≡ with_words first more) × (told_of part kept d taken ≡ told ++ more))
-    → (more : List ℕ) × (next ≡ with_words first more) × (told_of part kept e taken ≡ told ++ more)
+    → ((more : List ℕ) × (read ≡ with_words first more) × (reads_given part kept d taken ≡ told ++ more))
+    → (more : List ℕ) × (next ≡ with_words first more) × (reads_given part kept e taken ≡ told ++ more)
 now_told part kept wrapped d e first read next taken told g m = (
   m.0 ++ g.more,
   g.read_is ∙ ap (λ (b : ReadBufState). with_words b g.more) m.1 ∙ words_append first m.0 g.more,
@@ -92,11 +92,11 @@ now_told part kept wrapped d e first read next taken told g m = (
 
 -- and then a run more is taken
 pub read_here : (part : PartData) (kept : Kept) (wrapped : Bool) (old new next : DeviceState) (first read last : ReadBufState) (bytes piece told : List ℕ) (from to : ℕ) → Gives (record { part = part; kept = kept; wrapped = wrapped; bytes = bytes ++ take from piece }) old new read last → from ≤ to
-    → ((b : List ℕ) → DeviceStandsFor part kept wrapped new b → told_of part kept next (b ++ between piece from to) ≡ told_of part kept new b)
-    → ((more : List ℕ) × (read ≡ with_words first more) × (told_of part kept old (bytes ++ take from piece) ≡ told ++ more))
-    → (more : List ℕ) × (last ≡ with_words first more) × (told_of part kept next (bytes ++ take to piece) ≡ told ++ more)
+    → ((b : List ℕ) → DeviceStandsFor part kept wrapped new b → reads_given part kept next (b ++ between piece from to) ≡ reads_given part kept new b)
+    → ((more : List ℕ) × (read ≡ with_words first more) × (reads_given part kept old (bytes ++ take from piece) ≡ told ++ more))
+    → (more : List ℕ) × (last ≡ with_words first more) × (reads_given part kept next (bytes ++ take to piece) ≡ told ++ more)
 read_here part kept wrapped old new next first read last bytes piece told from to g f t m =
-    let now : (more : List ℕ) × (last ≡ with_words first more) × (told_of part kept new (bytes ++ take from piece) ≡ told ++ more) = now_told part kept wrapped old new first read last (bytes ++ take from piece) told g m in
+    let now : (more : List ℕ) × (last ≡ with_words first more) × (reads_given part kept new (bytes ++ take from piece) ≡ told ++ more) = now_told part kept wrapped old new first read last (bytes ++ take from piece) told g m in
     (now.0, now.1, told_on part kept wrapped new next bytes piece from to f t g.stands ∙ now.2)
 
 -- what is answered for a stop
@@ -111,7 +111,7 @@ answers_stop part kept wrapped d bytes read stop.Iprog at s e = (s.stop_is ∙ a
 -- ---- named facts for the crates above
 
 -- no word is due, so all that was read out was told
-pub told_all : (part : PartData) (kept : Kept) (d : DeviceState) (bytes : List ℕ) → NoWordDue d → told_of part kept d bytes ≡ reads_of part kept bytes
+pub told_all : (part : PartData) (kept : Kept) (d : DeviceState) (bytes : List ℕ) → NoWordDue d → reads_given part kept d bytes ≡ reads_of part kept bytes
 told_all part kept d bytes e = ap (λ (n : ℕ). take (length (reads_of part kept bytes) - n) (reads_of part kept bytes)) e ∙ whole (reads_of part kept bytes)
   where
     whole : (xs : List ℕ) → take (length xs - 0) xs ≡ xs
@@ -120,7 +120,7 @@ told_all part kept d bytes e = ap (λ (n : ℕ). take (length (reads_of part kep
         ap (λ (n : ℕ). take n xs) all ∙ take-length xs
 
 -- no more was told than was read out
-pub told_within : (part : PartData) (kept : Kept) (d : DeviceState) (bytes : List ℕ) → length (told_of part kept d bytes) ≤ length (reads_of part kept bytes)
+pub told_within : (part : PartData) (kept : Kept) (d : DeviceState) (bytes : List ℕ) → length (reads_given part kept d bytes) ≤ length (reads_of part kept bytes)
 told_within part kept d bytes = omega (arith, length-take (length (reads_of part kept bytes) - due_count d.registers.due) (reads_of part kept bytes))
 
 -- ---- words of frame data given to a buffer

@@ -15,7 +15,7 @@ use Rattle.x7_engine.specs.declared.fault.Fault.TheVariants as fault
 use Rattle.x7_engine.specs.declared.kept.Kept.{Kept}
 use Rattle.x7_engine.specs.declared.stop.Stop.{Stop}
 use Rattle.x7_engine.specs.declared.stop.Stop.TheVariants as stop
-use Rattle.x7_engine.specs.Standing.{DeviceStandsFor, DeviceState, IsCutterOf, RegistersStandFor, counted_in, due_count, told_of}
+use Rattle.x7_engine.specs.Standing.{DeviceStandsFor, DeviceState, IsCutterOf, RegistersStandFor, counted_in, due_count, reads_given}
 use Rattle.x7_engine.specs.State.{history_by, history_taken, reads_of, stop_in}
 use Rattle.x7_engine.specs.Stops.{stop_of, stopped_at}
 use Rattle.x7_engine.specs.Values.{read_out}
@@ -87,7 +87,7 @@ passed part kept wrapped d e bytes cut more rest count left s going quiet idles 
     )
 
 -- the words told stay where none is due before or after
-pub told_same : (part : PartData) (kept : Kept) (d e : DeviceState) (bytes more : List ℕ) → due_count d.registers.due ≡ 0 → due_count e.registers.due ≡ 0 → reads_of part kept more ≡ reads_of part kept bytes → told_of part kept e more ≡ told_of part kept d bytes
+pub told_same : (part : PartData) (kept : Kept) (d e : DeviceState) (bytes more : List ℕ) → due_count d.registers.due ≡ 0 → due_count e.registers.due ≡ 0 → reads_of part kept more ≡ reads_of part kept bytes → reads_given part kept e more ≡ reads_given part kept d bytes
 told_same part kept d e bytes more i j r =
     told_by part kept e more (reads_of part kept bytes) [] (r ∙ none_due (reads_of part kept bytes) part [] e.registers.due j)
     ∙ sym (told_by part kept d bytes (reads_of part kept bytes) [] (none_due (reads_of part kept bytes) part [] d.registers.due i))

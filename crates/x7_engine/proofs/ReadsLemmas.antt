@@ -4,7 +4,7 @@ use Rattle.std.specs.Prelude.{if◌then◌else◌, nat_lt}
 use Rattle.std.proofs.lemmas.Bool.Decides.{nat_tests}
 use Rattle.x7_words.specs.Word.{AreBytes}
 use Rattle.x7_words.proofs.ListLemmas.{all_front}
-use Rattle.x7_packets.specs.History.{AllBehind, History, Placed, history_of, until}
+use Rattle.x7_packets.specs.History.{AllAfter, History, Placed, history_of, until}
 use Rattle.x7_packets.proofs.GrowthLemmas.{newer_of, placed_of}
 use Rattle.x7_part.specs.Part.{PartData}
 use Rattle.x7_engine.specs.declared.kept.Kept.{Kept}
@@ -62,7 +62,7 @@ stop_behind part kept (x ∷ h) first n s l none e =
     let less : x.place + (first - x.place) < s.place = watchdog_behind part kept (x ∷ h) x.place (first - x.place) (n - x.place) s (omega (arith, l)) lines.1 fired in
     omega (arith, less)
 
-newer_stop : (part : PartData) (kept : Kept) (newer h : History) (first most n : ℕ) (s : Stopped) → AllBehind first most newer → first ≤ n → stop_of part kept h first ≡ None → stop_of part kept (newer ++ h) n ≡ Some s → first < s.place
+newer_stop : (part : PartData) (kept : Kept) (newer h : History) (first most n : ℕ) (s : Stopped) → AllAfter first most newer → first ≤ n → stop_of part kept h first ≡ None → stop_of part kept (newer ++ h) n ≡ Some s → first < s.place
 newer_stop part kept [] h first most n s a l none e = stop_behind part kept h first n s l none e
 newer_stop part kept (x ∷ newer) h first most n s a l none e =
     by (stop_of part kept (newer ++ h) x.place) (line_at part kept (newer ++ h) x.access) refl (newer_stop part kept newer h first most x.place s a.2 (omega (arith, a.0)) none) e
@@ -114,7 +114,7 @@ reads_on part kept bytes more fits all none =
     let reads = reads_front part kept kept_all.0 h in
     (reads.0, ap (read_out part kept) kept_all.1 ∙ reads.1 ∙ ap (λ (x : History). read_out part kept x ++ reads.0) (sym before))
   where
-    by : (newer : History) → history_of (bytes ++ more) ≡ newer ++ history_of bytes → AllBehind (length bytes) (length (bytes ++ more)) newer → (o : Option Stopped) → stop_in part kept (bytes ++ more) ≡ o
+    by : (newer : History) → history_of (bytes ++ more) ≡ newer ++ history_of bytes → AllAfter (length bytes) (length (bytes ++ more)) newer → (o : Option Stopped) → stop_in part kept (bytes ++ more) ≡ o
         → (rest : History) × (history_taken part kept (bytes ++ more) ≡ rest ++ history_of bytes)
     by newer e a None s = (newer, ap (λ (o : Option Stopped). history_by o (history_of (bytes ++ more))) s ∙ e)
     by newer e a (Some t) s =

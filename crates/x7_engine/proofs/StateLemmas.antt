@@ -4,7 +4,7 @@ use Rattle.std.proofs.lemmas.Bool.{lt-ltb}
 use Rattle.x7_words.specs.Word.{AreBytes}
 use Rattle.x7_words.proofs.ListLemmas.{all_front}
 use Rattle.x7_packets.specs.ByHand.{reading_of}
-use Rattle.x7_packets.specs.History.{AllBehind, History, Placed, history_of, until}
+use Rattle.x7_packets.specs.History.{AllAfter, History, Placed, history_of, until}
 use Rattle.x7_packets.specs.Reading.{is_synced}
 use Rattle.x7_packets.proofs.GrowthLemmas.{IsLater, newer_of, placed_of, placed_within}
 use Rattle.x7_part.specs.Part.{PartData}
@@ -77,7 +77,7 @@ stop_later part kept (x ∷ h) n m s l e =
     (watchdog_later part kept (x ∷ h) x.place (n - x.place) (m - x.place) s (omega arith)) e
 
 -- newer accesses leave a stop
-stop_stays_behind : (part : PartData) (kept : Kept) (newer h : History) (n k m : ℕ) (s : Stopped) → AllBehind n k newer → n ≤ m → stop_of part kept h n ≡ Some s → stop_of part kept (newer ++ h) m ≡ Some s
+stop_stays_behind : (part : PartData) (kept : Kept) (newer h : History) (n k m : ℕ) (s : Stopped) → AllAfter n k newer → n ≤ m → stop_of part kept h n ≡ Some s → stop_of part kept (newer ++ h) m ≡ Some s
 stop_stays_behind part kept [] h n k m s a l e = stop_later part kept h n m s l e
 stop_stays_behind part kept (x ∷ newer) h n k m s a l e =
     let before : stop_of part kept (newer ++ h) x.place ≡ Some s = stop_stays_behind part kept newer h n k x.place s a.2 (omega (arith, a.0)) e in
@@ -145,7 +145,7 @@ counted_least (stop.Fault fault.Watchdog) place = omega arith
 counted_least stop.Iprog place = omega arith
 
 -- accesses past a place don't count up to it
-behind_it : (n k m : ℕ) (newer h : History) → AllBehind n m newer → k ≤ n → until k (newer ++ h) ≡ until k h
+behind_it : (n k m : ℕ) (newer h : History) → AllAfter n m newer → k ≤ n → until k (newer ++ h) ≡ until k h
 behind_it n k m [] h a l = refl
 behind_it n k m (x ∷ newer) h a l = ap (λ (b : Bool). if b then until k (newer ++ h) else x ∷ (newer ++ h)) (lt-ltb k x.place (omega (arith, a.0))) ∙ behind_it n k m newer h a.2 l
 

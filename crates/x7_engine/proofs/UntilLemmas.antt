@@ -27,7 +27,7 @@ use Rattle.x7_engine.specs.declared.until_started.UntilStarted.TheVariants as un
 use Rattle.x7_engine.specs.Phases.{soonest}
 use Rattle.x7_engine.specs.Registers.{takes_shutdown}
 use Rattle.x7_engine.specs.ReadBuffer.{ReadBufState}
-use Rattle.x7_engine.specs.Standing.{Answers, DeviceStandsFor, DeviceState, EndsWords, NoWordDue, taken_in, told_of}
+use Rattle.x7_engine.specs.Standing.{Answers, DeviceStandsFor, DeviceState, EndsWords, NoWordDue, taken_in, reads_given}
 use Rattle.x7_engine.specs.Startup.{phase_by, phase_of, startup_call, startup_calls, startup_progress}
 use Rattle.x7_engine.specs.State.{history_by, history_taken, state_of, stop_in, taken_by, taken_of}
 use Rattle.x7_engine.specs.Stops.{Stopped, stopped_at}
@@ -280,8 +280,8 @@ pub turn_stands : (part : PartData) (kept : Kept) (wrapped : Bool) (d : DeviceSt
 turn_stands part kept wrapped d bytes piece end from to m l k s = subst (λ (t : List ℕ). DeviceStandsFor part kept wrapped d (bytes ++ t)) (in_slice piece end from to m l k) s
 
 pub turn_told : (part : PartData) (kept : Kept) (d e : DeviceState) (bytes piece : List ℕ) (end from to : ℕ) → end ≤ length piece → from ≤ to → to ≤ length (take end piece)
-    → told_of part kept e (bytes ++ between (take end piece) from to) ≡ told_of part kept d bytes → told_of part kept e (bytes ++ between piece from to) ≡ told_of part kept d bytes
-turn_told part kept d e bytes piece end from to m l k t = subst (λ (b : List ℕ). told_of part kept e (bytes ++ b) ≡ told_of part kept d bytes) (in_slice piece end from to m l k) t
+    → reads_given part kept e (bytes ++ between (take end piece) from to) ≡ reads_given part kept d bytes → reads_given part kept e (bytes ++ between piece from to) ≡ reads_given part kept d bytes
+turn_told part kept d e bytes piece end from to m l k t = subst (λ (b : List ℕ). reads_given part kept e (bytes ++ b) ≡ reads_given part kept d bytes) (in_slice piece end from to m l k) t
 
 pub turn_first : (part : PartData) (kept : Kept) (wrapped : Bool) (d e : DeviceState) (bytes piece : List ℕ) (end from to : ℕ) → end ≤ length piece → from ≤ to → to ≤ length (take end piece) → d.registers.stop ≡ None
     → DeviceStandsFor part kept wrapped d bytes → DeviceStandsFor part kept wrapped e (bytes ++ between (take end piece) from to) → CommandsLast bytes (between (take end piece) from to)

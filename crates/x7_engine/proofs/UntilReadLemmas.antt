@@ -7,7 +7,7 @@ use Rattle.x7_packets.specs.History.{Access, Bad, History, Read, Write, history_
 use Rattle.x7_part.specs.Part.{PartData}
 use Rattle.x7_engine.specs.ReadBuffer.{HasRoomBy, HasRoomFor, HoldsFew, ReadBufState, gathered, with_words}
 use Rattle.x7_engine.specs.declared.kept.Kept.{Kept}
-use Rattle.x7_engine.specs.Standing.{DeviceStandsFor, DeviceState, NoWordDue, told_of}
+use Rattle.x7_engine.specs.Standing.{DeviceStandsFor, DeviceState, NoWordDue, reads_given}
 use Rattle.x7_engine.specs.State.{history_by, reads_of, stop_in}
 use Rattle.x7_engine.specs.Stops.{Stopped, stopped_at}
 use Rattle.x7_engine.specs.UntilRead.{ReadBefore, RoomBefore}
@@ -46,7 +46,7 @@ turn_reads_none part kept wrapped d e bytes more going s after f k l =
 -- in a turn of a piece, at each byte but its last, the words read out are those told
 turn_piece : (part : PartData) (kept : Kept) (wrapped : Bool) (d e : DeviceState) (bytes piece : List ℕ) (from to k : ℕ) → from ≤ to → to ≤ length piece → d.registers.stop ≡ None → NoWordDue d
     → DeviceStandsFor part kept wrapped d (bytes ++ take from piece) → DeviceStandsFor part kept wrapped e ((bytes ++ take from piece) ++ between piece from to) → CommandsLast (bytes ++ take from piece) (between piece from to)
-    → from ≤ k → k < to → reads_of part kept (bytes ++ take k piece) ≡ told_of part kept d (bytes ++ take from piece)
+    → from ≤ k → k < to → reads_of part kept (bytes ++ take k piece) ≡ reads_given part kept d (bytes ++ take from piece)
 turn_piece part kept wrapped d e bytes piece from to k l m going due s after f more n =
     let taken : List ℕ = bytes ++ take from piece in
     let j : ℕ = k - from in
@@ -58,7 +58,7 @@ turn_piece part kept wrapped d e bytes piece from to k l m going due s after f m
 -- nothing before, and nothing in a turn more but at its last byte
 pub none_read_on : (part : PartData) (kept : Kept) (wrapped : Bool) (d e : DeviceState) (bytes piece words : List ℕ) (from to : ℕ) → from ≤ to → to ≤ length piece → d.registers.stop ≡ None → NoWordDue d
     → DeviceStandsFor part kept wrapped d (bytes ++ take from piece) → DeviceStandsFor part kept wrapped e ((bytes ++ take from piece) ++ between piece from to) → CommandsLast (bytes ++ take from piece) (between piece from to)
-    → told_of part kept d (bytes ++ take from piece) ≡ words → ReadBefore (record { part = part; kept = kept; wrapped = wrapped; bytes = bytes }) piece from words → ReadBefore (record { part = part; kept = kept; wrapped = wrapped; bytes = bytes }) piece to words
+    → reads_given part kept d (bytes ++ take from piece) ≡ words → ReadBefore (record { part = part; kept = kept; wrapped = wrapped; bytes = bytes }) piece from words → ReadBefore (record { part = part; kept = kept; wrapped = wrapped; bytes = bytes }) piece to words
 none_read_on part kept wrapped d e bytes piece words from to l m going due s after f told before = λ k n. elim (cases_lt k from) [
   | inl less ↦ before k less
   | inr more ↦ turn_piece part kept wrapped d e bytes piece from to k l m going due s after f more n ∙ told
@@ -77,7 +77,7 @@ room_for b more f = by b.most b.words more f
 -- the words told before and those that the buffer has got, at each byte of a turn but its last
 pub room_read_on : (part : PartData) (kept : Kept) (wrapped : Bool) (d e : DeviceState) (first read : ReadBufState) (bytes piece told : List ℕ) (from to : ℕ) → from ≤ to → to ≤ length piece → d.registers.stop ≡ None → NoWordDue d
     → DeviceStandsFor part kept wrapped d (bytes ++ take from piece) → DeviceStandsFor part kept wrapped e ((bytes ++ take from piece) ++ between piece from to) → CommandsLast (bytes ++ take from piece) (between piece from to)
-    → HoldsFew read.most read.words → ((more : List ℕ) × (read ≡ with_words first more) × (told_of part kept d (bytes ++ take from piece) ≡ told ++ more))
+    → HoldsFew read.most read.words → ((more : List ℕ) × (read ≡ with_words first more) × (reads_given part kept d (bytes ++ take from piece) ≡ told ++ more))
     → RoomBefore (record { part = part; kept = kept; wrapped = wrapped; bytes = bytes }) piece from told first → RoomBefore (record { part = part; kept = kept; wrapped = wrapped; bytes = bytes }) piece to told first
 room_read_on part kept wrapped d e first read bytes piece told from to l m going due s after f few now before = λ k n. elim (cases_lt k from) [
   | inl less ↦ before k less

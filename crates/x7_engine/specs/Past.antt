@@ -14,7 +14,7 @@ use Rattle.x7_engine.specs.declared.kept.Kept.{Kept}
 use Rattle.x7_engine.specs.declared.regs.Regs.{Regs}
 use Rattle.x7_engine.specs.declared.until_started.UntilStarted.{UntilStarted}
 use Rattle.x7_engine.specs.ReadBuffer.{ReadBufState, with_words}
-use Rattle.x7_engine.specs.Standing.{Answers, DeviceStandsFor, DeviceState, due_of, taken_in, told_of}
+use Rattle.x7_engine.specs.Standing.{Answers, DeviceStandsFor, DeviceState, due_of, taken_in, reads_given}
 use Rattle.x7_engine.specs.State.{history_taken, line_by, memory_in, reads_of, state_of, stop_in, taken_of}
 use Rattle.x7_engine.specs.Stops.{Stopped, fault_of}
 use Rattle.x7_engine.specs.UntilStarted.{AnswersUntil, has_started, taken_until}
@@ -56,8 +56,8 @@ history_at p = history_taken p.part p.kept p.bytes
 abbrev pub taken_at : Past → ℕ
 taken_at p = taken_of p.part p.kept p.bytes
 
-abbrev pub told_at : DeviceState → Past → List ℕ
-told_at d p = told_of p.part p.kept d p.bytes
+abbrev pub reads_given_at : DeviceState → Past → List ℕ
+reads_given_at d p = reads_given p.part p.kept d p.bytes
 
 abbrev pub due_at : DeviceState → Past → List ℕ
 due_at d p = due_of p.part p.kept d p.bytes
@@ -101,11 +101,11 @@ Takes old new more = OfPast old (λ p. HasPast new (later p more))
 
 -- it takes them, and tells no word
 abbrev pub TellsNone : DeviceState → DeviceState → List ℕ → Type 0
-TellsNone old new more = OfPast old (λ p. told_at new (later p more) ≡ told_at old p)
+TellsNone old new more = OfPast old (λ p. reads_given_at new (later p more) ≡ reads_given_at old p)
 
 -- it takes them, and the buffer gets the next words that they read out
 abbrev pub TellsNext : DeviceState → DeviceState → List ℕ → ReadBufState → ReadBufState → Type 0
-TellsNext old new more before after = OfPast old (λ p. (words : List ℕ) × (after ≡ with_words before words) × (told_at new (later p more) ≡ told_at old p ++ words))
+TellsNext old new more before after = OfPast old (λ p. (words : List ℕ) × (after ≡ with_words before words) × (reads_given_at new (later p more) ≡ reads_given_at old p ++ words))
 
 -- it takes them, and answers so
 abbrev pub AnswersFor : DeviceState → DeviceState → List ℕ → ReadBufState → Fed → Type 0

@@ -4,7 +4,7 @@ use Rattle.x7_packets.specs.History.{History}
 use Rattle.x7_part.specs.Part.{PartData}
 use Rattle.x7_flow.specs.Standing.{FramesStandFor, FramesState, words_due}
 use Rattle.x7_engine.specs.Course.{Course}
-use Rattle.x7_engine.specs.Past.{HasPast, Past, told_at}
+use Rattle.x7_engine.specs.Past.{HasPast, Past, reads_given_at}
 use Rattle.x7_engine.specs.ReadBuffer.{ReadBufState, with_words}
 use Rattle.x7_engine.specs.Standing.{DeviceState, RegistersStandFor, RegistersState, words_left}
 
@@ -26,5 +26,5 @@ pub record Gave (c : Course) (d e : RegistersState) (old new : ReadBufState) : T
 pub record Gives (p : Past) (d e : DeviceState) (old new : ReadBufState) : Type 0 where
   pub more : List ℕ
   pub read_is : new ≡ with_words old more
-  pub told_are : told_at e p ≡ told_at d p ++ more
+  pub told_are : reads_given_at e p ≡ reads_given_at d p ++ more
   pub stands : HasPast e p

@@ -261,8 +261,8 @@ pub record DeviceStandsFor (part : PartData) (kept : Kept) (wrapped : Bool) (d :
   pub at_rest : (line : Stop) → d.registers.stop ≡ Some line → due_count d.registers.due ≡ 0
 
 -- the words read out so far, without those that are still due
-abbrev pub told_of : PartData → Kept → DeviceState → List ℕ → List ℕ
-told_of part kept d bytes = take (length (reads_of part kept bytes) - due_count d.registers.due) (reads_of part kept bytes)
+abbrev pub reads_given : PartData → Kept → DeviceState → List ℕ → List ℕ
+reads_given part kept d bytes = take (length (reads_of part kept bytes) - due_count d.registers.due) (reads_of part kept bytes)
 
 -- the words read out that are still due
 abbrev pub due_of : PartData → Kept → DeviceState → List ℕ → List ℕ

@@ -30,13 +30,13 @@ last_load [] = 0
 last_load (e ∷ h) = if loads h e.access then e.place else last_load h
 
 -- how many of so many bytes behind the first `from` have the watchdog on
-abbrev pub on_behind : PartData → Kept → List ℕ → ℕ → ℕ → ℕ
-on_behind part kept bytes from zero = 0
-on_behind part kept bytes from (suc count) = on_behind part kept bytes from count + (if is_on_at part kept bytes (from + count + 1) then 1 else 0)
+abbrev pub on_after : PartData → Kept → List ℕ → ℕ → ℕ → ℕ
+on_after part kept bytes from zero = 0
+on_after part kept bytes from (suc count) = on_after part kept bytes from count + (if is_on_at part kept bytes (from + count + 1) then 1 else 0)
 
 -- the bytes behind the last load, up to byte n, that have it on
 abbrev pub counted_at : PartData → Kept → List ℕ → ℕ → ℕ
-counted_at part kept bytes n = on_behind part kept bytes (last_load (before_byte bytes n)) (n - last_load (before_byte bytes n))
+counted_at part kept bytes n = on_after part kept bytes (last_load (before_byte bytes n)) (n - last_load (before_byte bytes n))
 
 -- it fires at byte n: it is on there, and these bytes are four times TIMER's value
 abbrev pub fires_at : PartData → Kept → List ℕ → ℕ → Bool

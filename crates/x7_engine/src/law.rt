@@ -13,7 +13,7 @@ ghost use Rattle.x7_engine.specs.FirstStop.{IsFirstStop, line_at_byte};
 ghost use Rattle.x7_flow.specs.Controls.{masked, same_idcode};
 ghost use Rattle.x7_flow.specs.Standing.{word_to};
 ghost use Rattle.x7_engine.specs.Registers.{HasMaskedBits, cor0_held, has_ghigh, clears_check, is_pending, takes_shutdown};
-ghost use Rattle.x7_engine.specs.Past.{HasStoppedBefore, IsBoot, OfPast, Past, StandsBefore, cause_in, due_at, history_at, later, memory_at, reads_at, state_at, stop_at, taken_at, told_at};
+ghost use Rattle.x7_engine.specs.Past.{HasStoppedBefore, IsBoot, OfPast, Past, StandsBefore, cause_in, due_at, history_at, later, memory_at, reads_at, state_at, stop_at, taken_at, reads_given_at};
 ghost use Rattle.x7_engine.specs.Rest.{AtRest, GoesOn};
 ghost use Rattle.x7_engine.specs.Sequence.{Begins, HasGhigh, IsPending};
 ghost use Rattle.x7_engine.specs.Standing.{DeviceState, NoWordDue};
@@ -90,8 +90,8 @@ pub fn rest_lasts()
 {}
 
 /// The words read out are those told, and then those that are still due.
-pub fn reads_are_told_or_due()
-    ensures all { (d : DeviceState) → OfPast d (λ p. told_at d p ++ due_at d p ≡ reads_at p) }
+pub fn reads_are_given_or_due()
+    ensures all { (d : DeviceState) → OfPast d (λ p. reads_given_at d p ++ due_at d p ≡ reads_at p) }
     ensures none { (d : DeviceState) (p : Past) → NoWordDue d → due_at d p ≡ [] }
 {}
 

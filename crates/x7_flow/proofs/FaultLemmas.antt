@@ -7,7 +7,7 @@ use Rattle.x7_part.specs.Part.{PartData, frame_words}
 use Rattle.x7_memory.specs.FrameMap.{AreSame}
 use Rattle.x7_pipeline.specs.declared.fault.RunFault.{RunFault}
 use Rattle.x7_pipeline.specs.declared.fault.RunFault.TheVariants.{Address, Overrun, Multi}
-use Rattle.x7_pipeline.specs.Runs.{frames_of, landed, rest_of, slots_from}
+use Rattle.x7_pipeline.specs.Runs.{frames_of, written_frames, rest_of, slots_from}
 use Rattle.x7_pipeline.specs.FarAsRead.{has_frame_at}
 use Rattle.x7_pipeline.specs.Copies.{copied, is_mfw}
 use Rattle.x7_pipeline.specs.Faults.{address_fault, completes, copy_fault, has_filled, write_fault}
@@ -16,7 +16,7 @@ use Rattle.std.proofs.lemmas.Bool.{ltb-true}
 use Rattle.x7_flow.specs.declared.asked.Asked.{Asked}
 use Rattle.x7_flow.specs.declared.asked.Asked.TheVariants.{Load, Order, Word, Copies, Reads, Other}
 use Rattle.x7_flow.specs.Flow.{Flow, asks, base_of, far_in, far_read, fault_by, flow_by, flow_of, frame_fault, is_copy, is_word, run_of}
-use Rattle.x7_flow.specs.FrameMemory.{copy_pairs, landed_more, memory_of, puts}
+use Rattle.x7_flow.specs.FrameMemory.{copy_pairs, written_frames_more, memory_of, puts}
 use Rattle.x7_flow.specs.NeedsAddress.{needs_address}
 use Rattle.x7_flow.proofs.FlowLemmas.{flow_more, landed_grows, memory_more, put_none}
 
@@ -46,7 +46,7 @@ refused_by : (part : PartData) (a : Asked) (f : Flow) (fault : RunFault) → fau
 refused_by part (Load w) f fault e = absurd (none-some fault e)
 refused_by part (Order c) f fault e = absurd (none-some fault e)
 refused_by part (Word w) f fault e = (
-  append_cancel_right (landed_more part f.base f.run) [] (landed part f.base f.run) (sym (landed_grows part f.base w f.run) ∙ refused_landed part f.base f.run w fault e),
+  append_cancel_right (written_frames_more part f.base f.run) [] (written_frames part f.base f.run) (sym (landed_grows part f.base w f.run) ∙ refused_landed part f.base f.run w fault e),
   refused_far part f.base f.run w f.given fault e,
 )
 refused_by part Copies f fault e = (no_copy part f fault e, refl)

@@ -8,7 +8,7 @@ use Rattle.x7_memory.specs.FrameMap.{FrameMap, AreSame}
 use Rattle.x7_memory.specs.Planned.{PlanRow, planned}
 use Rattle.x7_regs.specs.Command.{command_with}
 use Rattle.x7_regs.specs.declared.command.Command.{Command}
-use Rattle.x7_pipeline.specs.Runs.{rest_of, frames_of, slots_from, in_slots, but_newest, landed, put_over}
+use Rattle.x7_pipeline.specs.Runs.{rest_of, frames_of, slots_from, in_slots, but_newest, written_frames, put_over}
 use Rattle.x7_pipeline.specs.FarAsRead.{has_frame_at}
 use Rattle.x7_pipeline.specs.Copies.{is_wcfg}
 use Rattle.x7_pipeline.proofs.LawLemmas.{put_twice, no_source}
@@ -17,21 +17,21 @@ use Rattle.x7_flow.specs.declared.asked.Asked.{Asked}
 use Rattle.x7_flow.specs.declared.asked.Asked.TheVariants.{Load, Order, Word, Copies, Reads, Other}
 use Rattle.x7_flow.specs.Settings.{Settings, settings_of, settings_after, settings_from}
 use Rattle.x7_flow.specs.Flow.{Flow, asked, asks, flow_by, flow_of, source_of}
-use Rattle.x7_flow.specs.FrameMemory.{landed_more, memory_of, newest_put, puts}
+use Rattle.x7_flow.specs.FrameMemory.{written_frames_more, memory_of, newest_put, puts}
 use Rattle.x7_flow.specs.Sound.{IsSound}
 use Rattle.x7_flow.specs.Later.{flow_from, pairs_from, flow_loaded, pairs_loaded}
 use Rattle.x7_flow.proofs.SettingsLemmas.{Means, asked_means, settings_joined, settings_more}
 use Rattle.x7_pipeline.proofs.StateLemmas.{at_slot_more}
 
--- ---- landed frames and one word more
+-- ---- written frames and one word more
 
 landed_step : (part : PartData) (base : ℕ) (frames : List (List ℕ)) → in_slots (slots_from part base) frames ≡ newest_put part base frames ++ in_slots (slots_from part base) (but_newest frames)
 unfolding in_slots
 landed_step part base [] = refl
 landed_step part base (frame ∷ older) = at_slot_more (get_or (slots_from part base) (length older) End) frame (in_slots (slots_from part base) older)
 
-pub landed_grows : (part : PartData) (base w : ℕ) (run : List ℕ) → landed part base (w ∷ run) ≡ landed_more part base run ++ landed part base run
-unfolding landed landed_more
+pub landed_grows : (part : PartData) (base w : ℕ) (run : List ℕ) → written_frames part base (w ∷ run) ≡ written_frames_more part base run ++ written_frames part base run
+unfolding written_frames written_frames_more
 landed_grows part base w run =
     elim (cases_eq (length (rest_of (frame_words part) run) + 1) (frame_words part)) [
       | inl e ↦ rw (frames-completes (frame_words part) w run e, eq-eqb (length (rest_of (frame_words part) run) + 1) (frame_words part) e) (landed_step part base (frames_of (frame_words part) run))

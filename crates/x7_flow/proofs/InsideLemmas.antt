@@ -25,7 +25,7 @@ use Rattle.x7_pipeline.proofs.SlotLemmas.{has_address, slot_address}
 use Rattle.x7_flow.specs.declared.asked.Asked.{Asked}
 use Rattle.x7_flow.specs.declared.asked.Asked.TheVariants.{Copies, Load, Order, Other, Reads, Word}
 use Rattle.x7_flow.specs.Flow.{asks, flow_of, source_of}
-use Rattle.x7_flow.specs.FrameMemory.{copy_pairs, landed_more, memory_of, newest_put, puts}
+use Rattle.x7_flow.specs.FrameMemory.{copy_pairs, written_frames_more, memory_of, newest_put, puts}
 use Rattle.x7_flow.specs.Inside.{HasFrames}
 use Rattle.x7_flow.specs.InWords.{frame_taken, words_written}
 use Rattle.x7_flow.proofs.WordLemmas.{source_is}
@@ -67,8 +67,8 @@ newest_frames part base [] a = tt
 newest_frames part base (frame ∷ older) a =
     slot_put part (get_or (slots_from part base) (length older) End) frame (λ far e. slot_address part base (length older) far e) (All-head (λ t. length t ≡ frame_words part) frame older a)
 
-more_frames : (part : PartData) (base : ℕ) (run : List ℕ) → 0 < frame_words part → AreFrames part (landed_more part base run)
-unfolding landed_more
+more_frames : (part : PartData) (base : ℕ) (run : List ℕ) → 0 < frame_words part → AreFrames part (written_frames_more part base run)
+unfolding written_frames_more
 more_frames part base run some = by (completes part run)
   where
     by : (b : Bool) → AreFrames part (if b then newest_put part base (frames_of (frame_words part) run) else [])

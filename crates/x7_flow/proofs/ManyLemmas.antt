@@ -5,7 +5,7 @@ use Rattle.x7_packets.specs.Packet.{payload_steps}
 use Rattle.x7_part.specs.Part.{PartData}
 use Rattle.x7_memory.specs.FrameMap.{FrameMap, AreSame}
 use Rattle.x7_memory.specs.Planned.{PlanRow}
-use Rattle.x7_pipeline.specs.Runs.{landed, onto, put_over, Lands}
+use Rattle.x7_pipeline.specs.Runs.{written_frames, onto, put_over, Lands}
 use Rattle.x7_pipeline.specs.Copies.{is_mfw}
 use Rattle.x7_pipeline.proofs.LawLemmas.{landed_empty, lands_more, lands_none}
 use Rattle.x7_regs.specs.Command.{command_with}
@@ -13,7 +13,7 @@ use Rattle.x7_flow.specs.declared.asked.Asked.{Asked}
 use Rattle.x7_flow.specs.declared.asked.Asked.TheVariants.{Word, Other}
 use Rattle.x7_flow.specs.Settings.{Settings, settings_of, settings_after, settings_from, takes_frames}
 use Rattle.x7_flow.specs.Flow.{Flow, asked, base_of, flow_by, flow_of, run_of}
-use Rattle.x7_flow.specs.FrameMemory.{landed_more, memory_of, puts}
+use Rattle.x7_flow.specs.FrameMemory.{written_frames_more, memory_of, puts}
 use Rattle.x7_flow.specs.Later.{flow_from, pairs_from, pairs_loaded}
 use Rattle.x7_flow.proofs.FlowLemmas.{flow_more, flow_sound, landed_grows, memory_behind_load, memory_more}
 
@@ -38,7 +38,7 @@ words_flow part n (w ∷ ws) h t =
 word_lands : (part : PartData) (w place : ℕ) (h : History) → takes_frames (settings_of part.idcode h) ≡ true →
     Lands part (base_of part h) (run_of part h) (w ∷ run_of part h) (memory_of part h) (memory_of part (entry (Write 2 w) place ∷ h))
 word_lands part w place h t = record {
-  added = landed_more part (base_of part h) (run_of part h);
+  added = written_frames_more part (base_of part h) (run_of part h);
   grows = landed_grows part (base_of part h) w (run_of part h);
   memory = λ far.
       memory_more part (entry (Write 2 w) place) h far
@@ -90,20 +90,20 @@ pairs_twice part s f (e ∷ later) middle =
 
 -- ---- words of frame data of a history that goes on
 
--- where the flow has no run yet the words put their landed frames
+-- where the flow has no run yet the words put their written frames
 word_pairs : (part : PartData) (s : Settings) (f : Flow) (w place : ℕ) (later : History) → takes_frames (settings_from part.idcode s later) ≡ true →
     (flow_from part s f (entry (Write 2 w) place ∷ later) ≡ record (flow_from part s f later) { run = w ∷ (flow_from part s f later).run })
-    × (pairs_from part s f (entry (Write 2 w) place ∷ later) ≡ landed_more part (flow_from part s f later).base (flow_from part s f later).run ++ pairs_from part s f later)
+    × (pairs_from part s f (entry (Write 2 w) place ∷ later) ≡ written_frames_more part (flow_from part s f later).base (flow_from part s f later).run ++ pairs_from part s f later)
 unfolding flow_from pairs_from
 word_pairs part s f w place later t = (
   ap (λ (a : Asked). flow_by part a (flow_from part s f later)) (word_asked (settings_from part.idcode s later) w t),
   ap (λ (a : Asked). puts part a (flow_from part s f later) ++ pairs_from part s f later) (word_asked (settings_from part.idcode s later) w t),
 )
 
--- pairs put by words of frame data, and the pairs by which the landed frames grow
+-- pairs put by words of frame data, and the pairs by which the written frames grow
 pub record Grown (part : PartData) (base : ℕ) (run longer : List ℕ) (old new : List PlanRow) : Type 0 where
   pub added : List PlanRow
-  pub grows : landed part base longer ≡ added ++ landed part base run
+  pub grows : written_frames part base longer ≡ added ++ written_frames part base run
   pub pairs : new ≡ added ++ old
 
 word_settings : (idcode w place : ℕ) (s : Settings) (later : History) → settings_from idcode s (entry (Write 2 w) place ∷ later) ≡ settings_from idcode s later
@@ -121,18 +121,18 @@ words_grow part s f n (w ∷ ws) later t =
     let more : Grown part g.base (w ∷ g.run) (onto ws (w ∷ g.run)) (pairs_from part s f now) end =
     subst (λ (x : Flow). Grown part x.base x.run (onto ws x.run) (pairs_from part s f now) end) step.0 (words_grow part s f (n + 4) ws now (ap takes_frames (word_settings part.idcode w (n + 4) s later) ∙ t)) in
     record {
-      added = more.added ++ landed_more part g.base g.run;
-      grows = more.grows ∙ ap (λ (ps : List PlanRow). more.added ++ ps) (landed_grows part g.base w g.run) ∙ sym (append_assoc more.added (landed_more part g.base g.run) (landed part g.base g.run));
-      pairs = more.pairs ∙ ap (λ (ps : List PlanRow). more.added ++ ps) step.1 ∙ sym (append_assoc more.added (landed_more part g.base g.run) (pairs_from part s f later));
+      added = more.added ++ written_frames_more part g.base g.run;
+      grows = more.grows ∙ ap (λ (ps : List PlanRow). more.added ++ ps) (landed_grows part g.base w g.run) ∙ sym (append_assoc more.added (written_frames_more part g.base g.run) (written_frames part g.base g.run));
+      pairs = more.pairs ∙ ap (λ (ps : List PlanRow). more.added ++ ps) step.1 ∙ sym (append_assoc more.added (written_frames_more part g.base g.run) (pairs_from part s f later));
     }
 
 pub words_pairs : (part : PartData) (s : Settings) (f : Flow) (n : ℕ) (ws : List ℕ) (later : History) → takes_frames (settings_from part.idcode s later) ≡ true → (flow_from part s f later).run ≡ [] →
-    pairs_from part s f (entered_all n (payload_steps 2 ws) later) ≡ landed part (flow_from part s f later).base (onto ws []) ++ pairs_from part s f later
+    pairs_from part s f (entered_all n (payload_steps 2 ws) later) ≡ written_frames part (flow_from part s f later).base (onto ws []) ++ pairs_from part s f later
 words_pairs part s f n ws later t none =
     let g : Flow = flow_from part s f later in
     let more = words_grow part s f n ws later t in
-    let added : landed part g.base (onto ws []) ≡ more.added =
-    ap (λ (run : List ℕ). landed part g.base (onto ws run)) (sym none) ∙ more.grows ∙ ap (λ (run : List ℕ). more.added ++ landed part g.base run) none
+    let added : written_frames part g.base (onto ws []) ≡ more.added =
+    ap (λ (run : List ℕ). written_frames part g.base (onto ws run)) (sym none) ∙ more.grows ∙ ap (λ (run : List ℕ). more.added ++ written_frames part g.base run) none
     ∙ ap (λ (ps : List PlanRow). more.added ++ ps) (landed_empty part g.base) ∙ append-nil more.added in
     more.pairs ∙ ap (λ (ps : List PlanRow). ps ++ pairs_from part s f later) (sym added)
 

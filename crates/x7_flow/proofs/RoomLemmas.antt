@@ -10,7 +10,7 @@ use Rattle.x7_memory.specs.FrameMap.{AreSame}
 use Rattle.x7_pipeline.specs.declared.fault.RunFault.TheVariants.{Overrun}
 use Rattle.x7_pipeline.specs.FarAsRead.{has_frame_at}
 use Rattle.x7_pipeline.specs.Faults.{address_fault, completes, has_filled, write_fault}
-use Rattle.x7_pipeline.specs.Runs.{frames_of, landed, onto, put_over, rest_of, slots_from}
+use Rattle.x7_pipeline.specs.Runs.{frames_of, written_frames, onto, put_over, rest_of, slots_from}
 use Rattle.x7_pipeline.proofs.LawLemmas.{landed_empty, lands_over}
 use Rattle.x7_pipeline.proofs.RunLemmas.{frames-completes, frames-goes_on, rest-completes, rest-goes_on}
 use Rattle.x7_flow.specs.Flow.{Flow, base_of, fault_by, flow_of, frame_fault, run_of}
@@ -69,13 +69,13 @@ words_none part n (w ∷ ws) h t a l =
 
 -- the memory that words leave which begin a run
 pub words_memory : (part : PartData) (n : ℕ) (ws : List ℕ) (h : History) → takes_frames (settings_of part.idcode h) ≡ true → run_of part h ≡ []
-    → AreSame (memory_of part (entered_all n (payload_steps 2 ws) h)) (put_over (landed part (base_of part h) (onto ws [])) (memory_of part h))
+    → AreSame (memory_of part (entered_all n (payload_steps 2 ws) h)) (put_over (written_frames part (base_of part h) (onto ws [])) (memory_of part h))
 words_memory part n ws h t e =
     let base : ℕ = base_of part h in
-    let first : AreSame (memory_of part h) (put_over (landed part base (run_of part h)) (memory_of part h)) = λ far. sym (put_none (landed part base (run_of part h)) (memory_of part h) (ap (landed part base) e ∙ landed_empty part base) far) in
-    let all : AreSame (memory_of part (entered_all n (payload_steps 2 ws) h)) (put_over (landed part base (onto ws (run_of part h))) (memory_of part h)) =
+    let first : AreSame (memory_of part h) (put_over (written_frames part base (run_of part h)) (memory_of part h)) = λ far. sym (put_none (written_frames part base (run_of part h)) (memory_of part h) (ap (written_frames part base) e ∙ landed_empty part base) far) in
+    let all : AreSame (memory_of part (entered_all n (payload_steps 2 ws) h)) (put_over (written_frames part base (onto ws (run_of part h))) (memory_of part h)) =
     lands_over part base (run_of part h) (onto ws (run_of part h)) (memory_of part h) (memory_of part h) (memory_of part (entered_all n (payload_steps 2 ws) h)) (words_land part n ws h t) first in
-    λ far. all far ∙ ap (λ t. put_over (landed part base (onto ws t)) (memory_of part h) far) e
+    λ far. all far ∙ ap (λ t. put_over (written_frames part base (onto ws t)) (memory_of part h) far) e
 
 pub words_run : (part : PartData) (n : ℕ) (ws : List ℕ) (h : History) → takes_frames (settings_of part.idcode h) ≡ true → run_of part h ≡ [] → flow_of part (entered_all n (payload_steps 2 ws) h) ≡ record (flow_of part h) { run = onto ws [] }
 words_run part n ws h t e = words_flow part n ws h t ∙ ap (λ (x : List ℕ). record (flow_of part h) { run = onto ws x }) e

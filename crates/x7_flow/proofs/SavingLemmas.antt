@@ -17,7 +17,7 @@ use Rattle.x7_flow.specs.declared.asked.Asked.{Asked}
 use Rattle.x7_flow.specs.declared.asked.Asked.TheVariants.{Load, Order, Word, Copies, Reads, Other}
 use Rattle.x7_flow.specs.Settings.{Settings, settings_after, settings_of}
 use Rattle.x7_flow.specs.Flow.{Flow, asks, flow_of}
-use Rattle.x7_flow.specs.FrameMemory.{landed_more, memory_of, puts}
+use Rattle.x7_flow.specs.FrameMemory.{written_frames_more, memory_of, puts}
 use Rattle.x7_flow.specs.Saving.{FramesBack, KeepsFrames}
 use Rattle.x7_flow.specs.Sound.{IsSound}
 use Rattle.x7_flow.specs.Standing.{FramesFit, FramesStandFor, FramesState, HasFlow}
@@ -27,9 +27,9 @@ use Rattle.x7_flow.proofs.SettingsLemmas.{Means, asked_means}
 -- ---- what an access puts
 
 -- a word, by what lands
-word_changes : (part : PartData) (p : PipelineData) (f : Flow) (w : ℕ) (old new : FrameMap) → HasFlow part p f → is_mfw f.command ≡ false → AreSame new (put_over (landed_more part f.base f.run) old) → ChangesAt (next_put part p) old new
+word_changes : (part : PartData) (p : PipelineData) (f : Flow) (w : ℕ) (old new : FrameMap) → HasFlow part p f → is_mfw f.command ≡ false → AreSame new (put_over (written_frames_more part f.base f.run) old) → ChangesAt (next_put part p) old new
 word_changes part p f w old new h words same =
-    one_word part p f.command f.base f.run f.source f.given w old new h.stands words (record { added = landed_more part f.base f.run; grows = landed_grows part f.base w f.run; memory = same })
+    one_word part p f.command f.base f.run f.source f.given w old new h.stands words (record { added = written_frames_more part f.base f.run; grows = landed_grows part f.base w f.run; memory = same })
 
 copy_by : (part : PartData) (p : PipelineData) (base : ℕ) (source : Option (List ℕ)) (old new : FrameMap) (m b : Bool) → p.base ≡ base → p.source ≡ source → is_mfw p.command ≡ m → has_frame_at part p.base ≡ b
     → AreSame new (put_over (if m && b then copied base source else []) old) → ChangesAt (next_put part p) old new

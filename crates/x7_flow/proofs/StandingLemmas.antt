@@ -17,7 +17,7 @@ use Rattle.x7_regs.specs.declared.command.Command.TheVariants as command
 use Rattle.x7_flow.specs.Settings.{Settings, gives_frames, settings_of}
 use Rattle.x7_pipeline.specs.declared.fault.RunFault.{RunFault}
 use Rattle.x7_pipeline.specs.declared.fault.RunFault.TheVariants.{Address, Multi}
-use Rattle.x7_pipeline.specs.Runs.{landed, put_over, Lands}
+use Rattle.x7_pipeline.specs.Runs.{written_frames, put_over, Lands}
 use Rattle.x7_pipeline.specs.FarAsRead.{far_of, has_frame_at, loaded_base}
 use Rattle.x7_pipeline.specs.Copies.{copied, is_mfw, source_after}
 use Rattle.x7_pipeline.specs.Faults.{address_fault, copy_fault, drop_fault, read_fault}
@@ -26,7 +26,7 @@ use Rattle.x7_pipeline.specs.Readback.{read_at, read_slot, word_at, word_of}
 use Rattle.x7_flow.specs.declared.asked.Asked.{Asked}
 use Rattle.x7_flow.specs.declared.asked.Asked.TheVariants.{Load, Order, Word, Copies, Reads, Other}
 use Rattle.x7_flow.specs.Flow.{Flow, asked, asks, base_of, fault_by, flow_by, flow_of, frame_fault, given_of}
-use Rattle.x7_flow.specs.FrameMemory.{copy_pairs, landed_more, memory_of, puts}
+use Rattle.x7_flow.specs.FrameMemory.{copy_pairs, written_frames_more, memory_of, puts}
 use Rattle.x7_flow.specs.FrameAccess.{reads_frame_data}
 use Rattle.x7_flow.specs.Standing.{AfterAccess, AfterRead, AreFramesAfter, FramesFit, FramesStandFor, FramesState, AreOf, Did, HasFlow, less, words_from, words_due, frames_read}
 use Rattle.x7_flow.proofs.FlowLemmas.{flow_more, flow_sound, given_nowhere, landed_grows, memory_more, put_none}
@@ -50,9 +50,9 @@ did_order part p q frames c stands = record {
   memory = λ f h far. sym (put_none [] (frame_at part frames) refl far);
 }
 
-word_memory : (part : PartData) (base w : ℕ) (run : List ℕ) (old new : FrameMap) → Lands part base run (w ∷ run) old new → AreSame new (put_over (landed_more part base run) old)
+word_memory : (part : PartData) (base w : ℕ) (run : List ℕ) (old new : FrameMap) → Lands part base run (w ∷ run) old new → AreSame new (put_over (written_frames_more part base run) old)
 word_memory part base w run old new l =
-    let same : l.added ≡ landed_more part base run = append_cancel_right l.added (landed_more part base run) (landed part base run) (sym l.grows ∙ landed_grows part base w run) in
+    let same : l.added ≡ written_frames_more part base run = append_cancel_right l.added (written_frames_more part base run) (written_frames part base run) (sym l.grows ∙ landed_grows part base w run) in
     rw (← same) l.memory
 
 pub did_word : (part : PartData) (p q : PipelineData) (old new : List (List ℕ)) (w : ℕ) →

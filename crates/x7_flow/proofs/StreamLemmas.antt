@@ -11,7 +11,7 @@ use Rattle.x7_memory.specs.Planned.{PlanRow, planned}
 use Rattle.x7_memory.proofs.MapLemmas.{override_again, override_same}
 use Rattle.x7_regs.specs.Command.{command_with}
 use Rattle.x7_pipeline.specs.InWords.{pair_of}
-use Rattle.x7_pipeline.specs.Runs.{but_newest, frames_of, landed, onto, put_over, rest_of, slots_from, Lands}
+use Rattle.x7_pipeline.specs.Runs.{but_newest, frames_of, written_frames, onto, put_over, rest_of, slots_from, Lands}
 use Rattle.x7_pipeline.specs.FarAsRead.{has_frame_at, loaded_base}
 use Rattle.x7_pipeline.specs.Copies.{copied, is_mfw}
 use Rattle.x7_pipeline.proofs.LawLemmas.{landed_empty, landed_in_order, reverse-cons}
@@ -80,7 +80,7 @@ whole_cut part frames last some all =
 
 -- whole frames and one more, which stays behind, land in order
 pub frames_land : (part : PartData) (base : ℕ) (frames : List (List ℕ)) (last : List ℕ) → 0 < frame_words part → AllByRecursion (λ frame. length frame ≡ frame_words part) (frames ++ last ∷ []) →
-    landed part base (onto (flat_map (λ frame. frame) (frames ++ last ∷ [])) []) ≡ reverse (filter_map pair_of (zip (slots_from part base) frames))
+    written_frames part base (onto (flat_map (λ frame. frame) (frames ++ last ∷ [])) []) ≡ reverse (filter_map pair_of (zip (slots_from part base) frames))
 frames_land part base frames last some all =
     let run : List ℕ = onto (flat_map (λ frame. frame) (frames ++ last ∷ [])) [] in
     let cut : frames_of (frame_words part) run ≡ last ∷ reverse frames =
@@ -88,7 +88,7 @@ frames_land part base frames last some all =
     ∙ ap (λ (fs : List (List ℕ)). reverse (frames ++ last ∷ []) ++ fs) (nothing_yet (frame_words part)).1
     ∙ append-nil (reverse (frames ++ last ∷ [])) ∙ reverse-append frames (last ∷ []) in
     let back : reverse (but_newest (frames_of (frame_words part) run)) ≡ frames = ap (λ (fs : List (List ℕ)). reverse (but_newest fs)) cut ∙ reverse-reverse frames in
-    sym (reverse-reverse (landed part base run))
+    sym (reverse-reverse (written_frames part base run))
     ∙ ap reverse (landed_in_order part base run ∙ ap (λ (fs : List (List ℕ)). filter_map pair_of (zip (slots_from part base) fs)) back)
 
 -- ---- a write under WCFG from a FAR load

@@ -7,7 +7,7 @@ use Rattle.x7_memory.specs.FrameMap.{FrameMap, AreSame}
 use Rattle.x7_memory.specs.Planned.{PlanRow, planned}
 use Rattle.x7_memory.proofs.MapLemmas.{override_same}
 use Rattle.x7_regs.specs.Command.{command_by}
-use Rattle.x7_pipeline.specs.Runs.{landed, put_over}
+use Rattle.x7_pipeline.specs.Runs.{written_frames, put_over}
 use Rattle.x7_pipeline.specs.FarAsRead.{has_frame_at}
 use Rattle.x7_pipeline.specs.Copies.{copied, is_mfw, is_wcfg}
 use Rattle.x7_pipeline.proofs.LawLemmas.{landed_empty, put_twice}
@@ -18,7 +18,7 @@ use Rattle.x7_flow.specs.declared.asked.Asked.{Asked}
 use Rattle.x7_flow.specs.declared.asked.Asked.TheVariants.{Load, Order, Word, Copies, Reads, Other}
 use Rattle.x7_flow.specs.Settings.{Settings, settings_of, takes_frames, takes_copies, gives_frames}
 use Rattle.x7_flow.specs.Flow.{Flow, asked, asks, begins, is_copy, flow_by, flow_of}
-use Rattle.x7_flow.specs.FrameMemory.{copy_pairs, landed_more, memory_of, puts}
+use Rattle.x7_flow.specs.FrameMemory.{copy_pairs, written_frames_more, memory_of, puts}
 use Rattle.x7_flow.specs.Stretches.{is_boundary, copies_of, ends_of, overridden, stretch_pairs}
 use Rattle.x7_flow.proofs.FlowLemmas.{flow_sound, landed_grows, put_none}
 
@@ -73,8 +73,8 @@ copies_more : (part : PartData) (e : Entry) (h : History) → copies_of part (e 
 unfolding copies_of copies_by
 copies_more part e h = rw (asked_boundary (settings_of part.idcode h) e.access, asked_copy part.idcode h e.access) refl
 
-no_landing : (part : PartData) (base : ℕ) (run : List ℕ) → run ≡ [] → landed part base run ≡ []
-no_landing part base run e = ap (landed part base) e ∙ landed_empty part base
+no_landing : (part : PartData) (base : ℕ) (run : List ℕ) → run ≡ [] → written_frames part base run ≡ []
+no_landing part base run e = ap (written_frames part base) e ∙ landed_empty part base
 
 -- without MFW no copy puts a pair, and with it no run stands
 mfw_not_wcfg : (c : Command) → is_mfw c ≡ true → is_wcfg c ≡ false
@@ -82,25 +82,25 @@ mfw_not_wcfg command.Wcfg e = absurd cc
 mfw_not_wcfg c e = refl
 
 copy_last : (part : PartData) (f : Flow) (old : List PlanRow) → (is_wcfg f.command ≡ false → f.run ≡ []) →
-    landed part f.base f.run ++ (copy_pairs part f ++ old) ≡ copy_pairs part f ++ (landed part f.base f.run ++ old)
+    written_frames part f.base f.run ++ (copy_pairs part f ++ old) ≡ copy_pairs part f ++ (written_frames part f.base f.run ++ old)
 copy_last part f old idle = by (is_mfw f.command) refl
   where
-    by : (b : Bool) → is_mfw f.command ≡ b → landed part f.base f.run ++ ((if b && has_frame_at part f.base then copied f.base f.source else []) ++ old) ≡ (if b && has_frame_at part f.base then copied f.base f.source else []) ++ (landed part f.base f.run ++ old)
+    by : (b : Bool) → is_mfw f.command ≡ b → written_frames part f.base f.run ++ ((if b && has_frame_at part f.base then copied f.base f.source else []) ++ old) ≡ (if b && has_frame_at part f.base then copied f.base f.source else []) ++ (written_frames part f.base f.run ++ old)
     by true e = rw (no_landing part f.base f.run (idle (mfw_not_wcfg f.command e))) refl
     by false e = refl
 
 stretch_step : (part : PartData) (a : Asked) (f : Flow) (old : List PlanRow) → begins a ≡ false → (is_wcfg f.command ≡ false → f.run ≡ []) →
-    landed part (flow_by part a f).base (flow_by part a f).run ++ copies_by part a f old ≡ puts part a f ++ (landed part f.base f.run ++ old)
+    written_frames part (flow_by part a f).base (flow_by part a f).run ++ copies_by part a f old ≡ puts part a f ++ (written_frames part f.base f.run ++ old)
 unfolding copies_by
 stretch_step part (Load w) f old e idle = absurd cc
 stretch_step part (Order c) f old e idle = absurd cc
-stretch_step part (Word w) f old e idle = ap (λ ps. ps ++ old) (landed_grows part f.base w f.run) ∙ append_assoc (landed_more part f.base f.run) (landed part f.base f.run) old
+stretch_step part (Word w) f old e idle = ap (λ ps. ps ++ old) (landed_grows part f.base w f.run) ∙ append_assoc (written_frames_more part f.base f.run) (written_frames part f.base f.run) old
 stretch_step part Copies f old e idle = copy_last part f old idle
 stretch_step part (Reads count) f old e idle = refl
 stretch_step part Other f old e idle = refl
 
 begin_step : (part : PartData) (a : Asked) (f : Flow) (old : List PlanRow) → begins a ≡ true →
-    (landed part (flow_by part a f).base (flow_by part a f).run ++ copies_by part a f old ≡ []) × (puts part a f ≡ [])
+    (written_frames part (flow_by part a f).base (flow_by part a f).run ++ copies_by part a f old ≡ []) × (puts part a f ≡ [])
 unfolding copies_by
 begin_step part (Load w) f old e = (ap (λ ps. ps ++ []) (landed_empty part _), refl)
 begin_step part (Order c) f old e = (ap (λ ps. ps ++ []) (landed_empty part _), refl)
@@ -131,14 +131,14 @@ ends_stay e h b = rw b refl
 
 pub by_stretches : (part : PartData) (h : History) → AreSame (memory_of part h) (overridden part (h ∷ ends_of h))
 unfolding memory_of flow_of overridden copies_of ends_of
-by_stretches part [] far = sym (put_none (landed part 0 [] ++ []) (overridden part []) (ap (λ ps. ps ++ []) (landed_empty part 0)) far)
+by_stretches part [] far = sym (put_none (written_frames part 0 [] ++ []) (overridden part []) (ap (λ ps. ps ++ []) (landed_empty part 0)) far)
 by_stretches part (e ∷ h) far =
     let a : Asked = asks part.idcode h e.access in
     let f : Flow = flow_of part h in
     let old : List PlanRow = copies_of part h in
     let ih : AreSame (memory_of part h) (overridden part (h ∷ ends_of h)) = by_stretches part h in
-    let pairs : stretch_pairs part (e ∷ h) ≡ landed part (flow_by part a f).base (flow_by part a f).run ++ copies_by part a f old =
-    ap (λ ps. landed part (flow_by part a f).base (flow_by part a f).run ++ ps) (copies_more part e h) in
+    let pairs : stretch_pairs part (e ∷ h) ≡ written_frames part (flow_by part a f).base (flow_by part a f).run ++ copies_by part a f old =
+    ap (λ ps. written_frames part (flow_by part a f).base (flow_by part a f).run ++ ps) (copies_more part e h) in
     elim (true_or_false (begins a)) [
       | inl t ↦
           let step = begin_step part a f old t in

@@ -9,7 +9,7 @@ use Rattle.x7_memory.specs.Planned.{PlanRow, planned}
 use Rattle.x7_memory.proofs.MapLemmas.{override_same}
 use Rattle.x7_regs.specs.declared.command.Command.{Command}
 use Rattle.x7_pipeline.specs.declared.fault.RunFault.{RunFault}
-use Rattle.x7_pipeline.specs.Runs.{landed, onto, put_over, Lands}
+use Rattle.x7_pipeline.specs.Runs.{written_frames, onto, put_over, Lands}
 use Rattle.x7_pipeline.specs.Faults.{write_fault}
 use Rattle.x7_pipeline.specs.Pipeline.{PipelineData, StandsFor}
 use Rattle.x7_pipeline.specs.Words.{Written, one_written, written}
@@ -76,7 +76,7 @@ parted part n (w ∷ words) h t =
 
 lands_alike : (part : PartData) (base : ℕ) (run longer : List ℕ) (old new under over : FrameMap) → Lands part base run longer old new → Lands part base run longer under over → AreSame old under → AreSame new over
 lands_alike part base run longer old new under over first second same far =
-    let added : first.added ≡ second.added = append_cancel_right first.added second.added (landed part base run) (sym first.grows ∙ second.grows) in
+    let added : first.added ≡ second.added = append_cancel_right first.added second.added (written_frames part base run) (sym first.grows ∙ second.grows) in
     first.memory far ∙ ap (λ (ps : List PlanRow). put_over ps old far) added
     ∙ override_same old under (planned second.added) (planned second.added) same (λ a. refl) far ∙ sym (second.memory far)
 

@@ -19,9 +19,9 @@ abbrev pub newest_put : PartData → ℕ → List (List ℕ) → List PlanRow
 newest_put part base [] = []
 newest_put part base (frame ∷ older) = at_slot (slice_index_or (slots_from part base) (length older) End) frame []
 
--- the pairs by which the landed frames of a run grow at one word more: where it completes a frame, that of the frame before it
-unfoldable pub landed_more : PartData → ℕ → List ℕ → List PlanRow
-landed_more part base run = if completes part run then newest_put part base (frames_of (frame_words part) run) else []
+-- the pairs by which the written frames of a run grow at one word more: where it completes a frame, that of the frame before it
+unfoldable pub written_frames_more : PartData → ℕ → List ℕ → List PlanRow
+written_frames_more part base run = if completes part run then newest_put part base (frames_of (frame_words part) run) else []
 
 -- the pair of a copy, under MFW and at an address
 abbrev pub copy_pairs : PartData → Flow → List PlanRow
@@ -31,7 +31,7 @@ copy_pairs part f = if is_mfw f.command && has_frame_at part f.base then copied 
 abbrev pub puts : PartData → Asked → Flow → List PlanRow
 puts part (Load w) f = []
 puts part (Order c) f = []
-puts part (Word w) f = landed_more part f.base f.run
+puts part (Word w) f = written_frames_more part f.base f.run
 puts part Copies f = copy_pairs part f
 puts part (Reads count) f = []
 puts part Other f = []

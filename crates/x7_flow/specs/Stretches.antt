@@ -7,7 +7,7 @@ use Rattle.x7_memory.specs.Frames.{zeros}
 use Rattle.x7_memory.specs.Planned.{PlanRow}
 use Rattle.x7_regs.specs.declared.register.Reg.TheVariants as reg
 use Rattle.x7_regs.specs.Register.{number_of}
-use Rattle.x7_pipeline.specs.Runs.{landed, put_over}
+use Rattle.x7_pipeline.specs.Runs.{written_frames, put_over}
 use Rattle.x7_flow.specs.FrameAccess.{copies_frame}
 use Rattle.x7_flow.specs.Flow.{base_of, flow_of, run_of}
 use Rattle.x7_flow.specs.FrameMemory.{copy_pairs}
@@ -28,9 +28,9 @@ copies_of part (e ∷ h) =
     if is_boundary e.access then [] else
     if copies_frame part.idcode h e.access then copy_pairs part (flow_of part h) ++ copies_of part h else copies_of part h
 
--- the pairs of the last stretch: its landed frames and its copies
+-- the pairs of the last stretch: its written frames and its copies
 abbrev pub stretch_pairs : PartData → History → List PlanRow
-stretch_pairs part h = landed part (base_of part h) (run_of part h) ++ copies_of part h
+stretch_pairs part h = written_frames part (base_of part h) (run_of part h) ++ copies_of part h
 
 -- the zero map overridden by the pairs of the stretches that these histories end with, the newest first
 unfoldable pub overridden : PartData → List History → FrameMap

@@ -10,13 +10,13 @@ ghost use Rattle.x7_regs.specs.declared.register.Reg.TheVariants as reg;
 ghost use Rattle.x7_regs.specs.Command.{code_of};
 ghost use Rattle.x7_pipeline.specs.Flow.{LandsAt, after_words};
 ghost use Rattle.x7_pipeline.specs.InWords.{Overruns};
-ghost use Rattle.x7_pipeline.specs.Runs.{landed, onto};
+ghost use Rattle.x7_pipeline.specs.Runs.{written_frames, onto};
 ghost use Rattle.x7_pipeline.specs.Saving.{SavedState};
 ghost use Rattle.x7_pipeline.specs.declared.fault.RunFault.{RunFault};
 ghost use Rattle.x7_flow.specs.Alike.{AreAlike, MasksFirst};
 ghost use Rattle.x7_flow.specs.Flow.{Flow, HasAddress, asks, base_of, begins, far_read, flow_of, frame_fault, given_of, is_copy, is_read, is_word, run_of, source_of};
 ghost use Rattle.x7_flow.specs.FrameAccess.{copies_frame, reads_frame_data, writes_frame_data};
-ghost use Rattle.x7_flow.specs.FrameMemory.{landed_more, memory_of};
+ghost use Rattle.x7_flow.specs.FrameMemory.{written_frames_more, memory_of};
 ghost use Rattle.x7_flow.specs.FrameWrites.{FrameCopies, FrameWrite, MfwAfter, TakesCopies, TakesWrite, copied_by, placed, with_frame_copies, with_frames};
 ghost use Rattle.x7_flow.specs.InWords.{base_after, frame_taken, words_given, words_written};
 ghost use Rattle.x7_flow.specs.Inside.{HasFrames};
@@ -33,7 +33,7 @@ ghost use Rattle.x7_flow.specs.Words.{HasRoomFor, NoneRefused, with_copies, with
 /// A flow has what its settings say.
 pub fn flow_laws()
     ensures sound { (part : PartData) (h : History) → IsSound part (settings_of part.idcode h) (flow_of part h) }
-    ensures landed { (part : PartData) (base word : ℕ) (run : List ℕ) → landed part base (word ∷ run) ≡ landed_more part base run ++ landed part base run }
+    ensures written_frames { (part : PartData) (base word : ℕ) (run : List ℕ) → written_frames part base (word ∷ run) ≡ written_frames_more part base run ++ written_frames part base run }
     ensures settings { (idcode : ℕ) (e : Entry) (h : History) → settings_of idcode (e ∷ h) ≡ settings_after idcode e.access (settings_of idcode h) }
 {}
 
@@ -46,7 +46,7 @@ pub fn memory_laws()
         MemoryGets part (later ++ after_load w place earlier) earlier (pairs_after_load part earlier w later) }
 {}
 
-/// The memory is the zero map overridden, stretch by stretch in order, by the stretch's landed frames and its copies.
+/// The memory is the zero map overridden, stretch by stretch in order, by the stretch's written frames and its copies.
 pub fn stretch_laws()
     ensures memory { (part : PartData) (h : History) → AreSame (memory_of part h) (overridden part (h ∷ ends_of h)) }
 {}
@@ -99,7 +99,7 @@ pub fn many_laws()
     ensures lands { (part : PartData) (n : ℕ) (ws : List ℕ) (h : History) → TakesFrames part h →
         LandsAt part (flow_of part h) ws (memory_of part h) (memory_of part (with_words n ws h)) }
     ensures pairs { (x : Start) (n : ℕ) (ws : List ℕ) (later : History) → BeginsRun x later →
-        pairs_on x (with_words n ws later) ≡ landed x.part (flow_on x later).base (onto ws []) ++ pairs_on x later }
+        pairs_on x (with_words n ws later) ≡ written_frames x.part (flow_on x later).base (onto ws []) ++ pairs_on x later }
 {}
 
 /// A history that goes on in two parts, and behind a load under another command than MFW.
@@ -151,7 +151,7 @@ pub fn memory_has_frames()
 pub fn words_have_room()
     ensures none { (part : PartData) (n : ℕ) (ws : List ℕ) (h : History) → TakesFrames part h → HasAddress part h → HasRoomFor part h ws → NoneRefused part n ws h }
     ensures memory { (part : PartData) (n : ℕ) (ws : List ℕ) (h : History) → TakesFrames part h → run_of part h ≡ [] →
-        MemoryGets part (with_words n ws h) h (landed part (base_of part h) (onto ws [])) }
+        MemoryGets part (with_words n ws h) h (written_frames part (base_of part h) (onto ws [])) }
 {}
 
 /// What is kept of frames without a word due leads back from the same history, and from one with one access more.

@@ -7,7 +7,7 @@ use Rattle.x7_engine.specs.declared.fed.Fed.{Fed}
 use Rattle.x7_engine.specs.Kept.{on_the_bench}
 use Rattle.x7_engine.specs.ReadBuffer.{IsFull, IsFullBy, ReadBufState, gathered, with_words}
 use Rattle.x7_engine.proofs.FeedLemmas.{told_all, told_within}
-use Rattle.x7_engine.specs.Standing.{NoWordDue, DeviceState, DeviceStandsFor, told_of}
+use Rattle.x7_engine.specs.Standing.{NoWordDue, DeviceState, DeviceStandsFor, reads_given}
 use Rattle.x7_engine.specs.State.{memory_in, reads_of, state_of, stop_in}
 use Rattle.x7_engine.specs.Stops.{Stopped}
 use Rattle.x7_forms.specs.Known.{Known, part_by, reads_limit, Mishap}
@@ -47,13 +47,13 @@ full_words b m f = subst (λ (most : Option ℕ). IsFullBy most (length b.words)
 -- ---- the ends of a play
 
 -- more words than the limit were told
-pub over_limit : (part : PartData) (d : DeviceState) (bytes reads words prefix rest : List ℕ) → AreBytes bytes → bytes ≡ prefix ++ rest → told_of part on_the_bench d prefix ≡ reads ++ words → 16777216 < length reads + length words
+pub over_limit : (part : PartData) (d : DeviceState) (bytes reads words prefix rest : List ℕ) → AreBytes bytes → bytes ≡ prefix ++ rest → reads_given part on_the_bench d prefix ≡ reads ++ words → 16777216 < length reads + length words
     → 16777216 < length (reads_of part on_the_bench bytes)
 over_limit part d bytes reads words prefix rest fits split told k =
     let grown = reads_grow part on_the_bench prefix rest (subst (λ x. AreBytes x) split fits) in
     let all : length (reads_of part on_the_bench bytes) ≡ length (reads_of part on_the_bench prefix) + length grown.0
     = ap (λ x. length (reads_of part on_the_bench x)) split ∙ ap length grown.1 ∙ length-append (reads_of part on_the_bench prefix) grown.0 in
-    let some : length (told_of part on_the_bench d prefix) ≤ length (reads_of part on_the_bench prefix) = told_within part on_the_bench d prefix in
+    let some : length (reads_given part on_the_bench d prefix) ≤ length (reads_of part on_the_bench prefix) = told_within part on_the_bench d prefix in
     omega (arith, all, some, ap length told, length-append reads words, k)
 
 abbrev pub IsEnd : Fed → Type 0
@@ -66,7 +66,7 @@ is_end fed.All h = tt
 is_end (fed.Stopped n) h = tt
 is_end (fed.Iprog n) h = tt
 
-pub stopped_end : (part : PartData) (bytes prefix rest : List ℕ) (d : DeviceState) (reads : List ℕ) (s : Stopped) → AreBytes bytes → bytes ≡ prefix ++ rest → DeviceStandsFor part on_the_bench false d prefix → reads ≡ told_of part on_the_bench d prefix → length reads ≤ reads_limit
+pub stopped_end : (part : PartData) (bytes prefix rest : List ℕ) (d : DeviceState) (reads : List ℕ) (s : Stopped) → AreBytes bytes → bytes ≡ prefix ++ rest → DeviceStandsFor part on_the_bench false d prefix → reads ≡ reads_given part on_the_bench d prefix → length reads ≤ reads_limit
     → stop_in part on_the_bench prefix ≡ Some s → NoWordDue d → IsPlayed part bytes d reads
 stopped_end part bytes prefix rest d reads s fits split stands told few stop due =
     let all : AreBytes (prefix ++ rest) = subst (λ x. AreBytes x) split fits in

@@ -10,7 +10,7 @@ use Rattle.x7_engine.specs.declared.fed.Fed.{Fed}
 use Rattle.x7_engine.specs.declared.fed.Fed.TheVariants as fed
 use Rattle.x7_engine.specs.Kept.{on_the_bench}
 use Rattle.x7_engine.specs.ReadBuffer.{ReadBufState}
-use Rattle.x7_engine.specs.Standing.{Answers, DeviceState, DeviceStandsFor, NoWordDue, taken_in, told_of, words_left}
+use Rattle.x7_engine.specs.Standing.{Answers, DeviceState, DeviceStandsFor, NoWordDue, taken_in, reads_given, words_left}
 use Rattle.x7_engine.specs.State.{history_taken, reads_of, stop_in}
 use Rattle.x7_engine.specs.Stops.{Stopped}
 use Rattle.x7_engine.proofs.FeedLemmas.{told_all}
@@ -69,7 +69,7 @@ taken_fit part bytes piece d reads s fits = all-append (λ b. b < 256) s.taken p
 
 -- a feed that waits for room
 pub fed_full : (part : PartData) (bytes piece : List ℕ) (d e : DeviceState) (reads now : List ℕ) → (s : Plays part bytes d reads) → AreBytes piece → DeviceStandsFor part on_the_bench false e (s.taken ++ piece) → stop_in part on_the_bench (s.taken ++ piece) ≡ None
-    → now ≡ told_of part on_the_bench e (s.taken ++ piece) → length now ≤ reads_limit → Plays part (bytes ++ piece) e now
+    → now ≡ reads_given part on_the_bench e (s.taken ++ piece) → length now ≤ reads_limit → Plays part (bytes ++ piece) e now
 fed_full part bytes piece d e reads now s fits stands none told few =
     let fit = taken_fit part bytes piece d reads s fits in
     let all = ap (λ b. b ++ piece) (went_on part bytes piece d reads s fit none) in
@@ -85,7 +85,7 @@ fed_full part bytes piece d e reads now s fits stands none told few =
     }
 
 fed_stopped : (part : PartData) (bytes piece : List ℕ) (n : ℕ) (d e : DeviceState) (reads now : List ℕ) → (s : Plays part bytes d reads) → (IsSome (stop_in part on_the_bench s.taken) → n ≡ 0) → AreBytes (bytes ++ piece) → DeviceStandsFor part on_the_bench false e (s.taken ++ take n piece) → (st : Stopped) → stop_in part on_the_bench (s.taken ++ take n piece) ≡ Some st
-    → now ≡ told_of part on_the_bench e (s.taken ++ take n piece) → length now ≤ reads_limit → Plays part (bytes ++ piece) e now
+    → now ≡ reads_given part on_the_bench e (s.taken ++ take n piece) → length now ≤ reads_limit → Plays part (bytes ++ piece) e now
 fed_stopped part bytes piece n d e reads now s still fits stands st stop told few =
     let rest = behind part bytes piece n d reads s still in
     record {
@@ -102,7 +102,7 @@ fed_stopped part bytes piece n d e reads now s still fits stands st stop told fe
 -- a feed that ends
 pub fed_end : (part : PartData) (bytes piece : List ℕ) (d e : DeviceState) (read : ReadBufState) (reads now : List ℕ) (f : Fed) → (s : Plays part bytes d reads) → IsEnd f → AreBytes piece → (IsSome (stop_in part on_the_bench s.taken) → taken_in (length piece) f ≡ 0)
     → DeviceStandsFor part on_the_bench false e (s.taken ++ take (taken_in (length piece) f) piece) → Answers part on_the_bench e (s.taken ++ take (taken_in (length piece) f) piece) read f
-    → now ≡ told_of part on_the_bench e (s.taken ++ take (taken_in (length piece) f) piece) → length now ≤ reads_limit → Plays part (bytes ++ piece) e now × NoWordDue e
+    → now ≡ reads_given part on_the_bench e (s.taken ++ take (taken_in (length piece) f) piece) → length now ≤ reads_limit → Plays part (bytes ++ piece) e now × NoWordDue e
 fed_end part bytes piece d e read reads now (fed.ReadFull n) s end fits still stands answer told few = absurd end
 fed_end part bytes piece d e read reads now (fed.Stopped n) s end fits still stands answer told few =
     (fed_stopped part bytes piece n d e reads now s still (all-append (λ b. b < 256) bytes piece s.fits fits) stands _ answer.1 told few, answer.2)
@@ -200,7 +200,7 @@ some_fits : (piece : List ℕ) (n : ℕ) → AreBytes piece → AreBytes (take n
 some_fits piece n fits = all_front (λ b. b < 256) (take n piece) (drop n piece) (subst (λ x. AreBytes x) (sym (take-append-drop n piece)) fits)
 
 pub turn_over : (part : PartData) (bytes piece : List ℕ) (at n : ℕ) (d e : DeviceState) (reads more : List ℕ) → AreBytes bytes → AreBytes piece → (s : Plays part (bytes ++ take at piece) d reads) → (IsSome (stop_in part on_the_bench s.taken) → n ≡ 0)
-    → told_of part on_the_bench e (s.taken ++ take n (drop at piece)) ≡ told_of part on_the_bench d s.taken ++ more → 16777216 < length reads + length more → ReadsOver part (bytes ++ piece)
+    → reads_given part on_the_bench e (s.taken ++ take n (drop at piece)) ≡ reads_given part on_the_bench d s.taken ++ more → 16777216 < length reads + length more → ReadsOver part (bytes ++ piece)
 turn_over part bytes piece at n d e reads more fb fp s still told many =
     let fits : AreBytes (bytes ++ piece) = all-append (λ b. b < 256) bytes piece fb fp in
     let rest = behind part (bytes ++ take at piece) (drop at piece) n d reads s still in
@@ -210,20 +210,20 @@ turn_over part bytes piece at n d e reads more fb fp s still told many =
     }
 
 pub turn_full : (part : PartData) (bytes piece : List ℕ) (at n : ℕ) (d e : DeviceState) (reads now more : List ℕ) → AreBytes piece → (s : Plays part (bytes ++ take at piece) d reads) → DeviceStandsFor part on_the_bench false e (s.taken ++ take n (drop at piece))
-    → stop_in part on_the_bench (s.taken ++ take n (drop at piece)) ≡ None → told_of part on_the_bench e (s.taken ++ take n (drop at piece)) ≡ told_of part on_the_bench d s.taken ++ more → now ≡ reads ++ more → length now ≤ reads_limit
+    → stop_in part on_the_bench (s.taken ++ take n (drop at piece)) ≡ None → reads_given part on_the_bench e (s.taken ++ take n (drop at piece)) ≡ reads_given part on_the_bench d s.taken ++ more → now ≡ reads ++ more → length now ≤ reads_limit
     → Plays part (bytes ++ take (at + n) piece) e now
 turn_full part bytes piece at n d e reads now more fp s stands none told is few =
-    let words : now ≡ told_of part on_the_bench e (s.taken ++ take n (drop at piece)) = is ∙ ap (λ x. x ++ more) s.reads_are ∙ sym told in
+    let words : now ≡ reads_given part on_the_bench e (s.taken ++ take n (drop at piece)) = is ∙ ap (λ x. x ++ more) s.reads_are ∙ sym told in
     subst (λ b. Plays part b e now) (more_piece bytes piece at n)
     (fed_full part (bytes ++ take at piece) (take n (drop at piece)) d e reads now s (some_fits (drop at piece) n (rest_fits piece at fp)) stands none words few)
 
 pub turn_end : (part : PartData) (bytes piece : List ℕ) (at : ℕ) (d e : DeviceState) (read : ReadBufState) (reads now more : List ℕ) (f : Fed) → AreBytes piece → (s : Plays part (bytes ++ take at piece) d reads) → IsEnd f
     → (IsSome (stop_in part on_the_bench s.taken) → taken_in (length (drop at piece)) f ≡ 0) → DeviceStandsFor part on_the_bench false e (s.taken ++ take (taken_in (length (drop at piece)) f) (drop at piece))
     → Answers part on_the_bench e (s.taken ++ take (taken_in (length (drop at piece)) f) (drop at piece)) read f
-    → told_of part on_the_bench e (s.taken ++ take (taken_in (length (drop at piece)) f) (drop at piece)) ≡ told_of part on_the_bench d s.taken ++ more → now ≡ reads ++ more → length now ≤ reads_limit
+    → reads_given part on_the_bench e (s.taken ++ take (taken_in (length (drop at piece)) f) (drop at piece)) ≡ reads_given part on_the_bench d s.taken ++ more → now ≡ reads ++ more → length now ≤ reads_limit
     → Plays part (bytes ++ piece) e now × NoWordDue e
 turn_end part bytes piece at d e read reads now more f fp s end still stands answer told is few =
-    let words : now ≡ told_of part on_the_bench e (s.taken ++ take (taken_in (length (drop at piece)) f) (drop at piece)) = is ∙ ap (λ x. x ++ more) s.reads_are ∙ sym told in
+    let words : now ≡ reads_given part on_the_bench e (s.taken ++ take (taken_in (length (drop at piece)) f) (drop at piece)) = is ∙ ap (λ x. x ++ more) s.reads_are ∙ sym told in
     subst (λ b. Plays part b e now × NoWordDue e) (whole_piece bytes piece at)
     (fed_end part (bytes ++ take at piece) (drop at piece) d e read reads now f s end (rest_fits piece at fp) still stands answer words few)
 

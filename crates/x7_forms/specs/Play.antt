@@ -4,7 +4,7 @@ use Rattle.x7_words.specs.Word.{AreBytes}
 use Rattle.x7_part.specs.Part.{PartData}
 use Rattle.x7_engine.specs.Kept.{on_the_bench}
 use Rattle.x7_engine.specs.ReadBuffer.{ReadBufState}
-use Rattle.x7_engine.specs.Standing.{DeviceState, DeviceStandsFor, NoWordDue, told_of}
+use Rattle.x7_engine.specs.Standing.{DeviceState, DeviceStandsFor, NoWordDue, reads_given}
 use Rattle.x7_engine.specs.State.{memory_in, reads_of, state_of, stop_in}
 use Rattle.x7_part.specs.declared.fault.PartFault.{PartFault}
 use Rattle.x7_forms.specs.Known.{reads_limit, StreamRead}
@@ -20,7 +20,7 @@ pub record Plays (part : PartData) (bytes : List ℕ) (d : DeviceState) (reads :
   pub ends : (left ≡ []) ⊎ IsSome (stop_in part on_the_bench taken)
   pub fits : AreBytes bytes
   pub stands : DeviceStandsFor part on_the_bench false d taken
-  pub reads_are : reads ≡ told_of part on_the_bench d taken
+  pub reads_are : reads ≡ reads_given part on_the_bench d taken
   pub few : length reads ≤ reads_limit
 
 -- the bytes read out more words than their limit

@@ -7,7 +7,7 @@ use Rattle.std.proofs.lemmas.List.{get_or-map, length-map, get_or_at, get_or_app
 use Rattle.std.proofs.lemmas.List.Elements.{All-contains, All-contains_itself, Contains-append_right}
 use Rattle.std.proofs.lemmas.List.Sorted.{All-permutation, IsPermutation-sym, IsPermutation-trans}
 use Rattle.x7_memory.proofs.PlanLemmas.{order_tail}
-use Rattle.x7_words.proofs.ListLemmas.{same_front}
+use Rattle.x7_words.proofs.ListLemmas.{same_prefix}
 use Rattle.x7_words.specs.Word.{words_of_bytes}
 use Rattle.x7_text.specs.DigitValue.{word_value}
 use Rattle.x7_text.specs.EitherCase.{pairs}
@@ -28,7 +28,7 @@ row-is a b e f = ap₂ (λ (x : ℕ) (w : List ℕ). let r : PlanRow = record { 
 pub one-row : (width : ℕ) (line : List ℕ) (a b : PlanRow) → IsFrameLine width line a → IsFrameLine width line b → a ≡ b
 one-row width line a b is other =
     let e : frame_head a.far ++ is.digits ≡ frame_head b.far ++ other.digits = sym is.is ∙ other.is in
-    let head : frame_head a.far ≡ frame_head b.far = same_front (frame_head a.far) (frame_head b.far) is.digits other.digits refl e in
+    let head : frame_head a.far ≡ frame_head b.far = same_prefix (frame_head a.far) (frame_head b.far) is.digits other.digits refl e in
     let far : a.far ≡ b.far = sym (word-back a.far is.far) ∙ ap (λ (t : List ℕ). word_value (take 8 (drop 6 t))) head ∙ word-back b.far other.far in
     let digits : is.digits ≡ other.digits = ap (λ (t : List ℕ). drop 15 t) e in
     let bytes : is.bytes ≡ other.bytes = same_Some is.bytes other.bytes (sym is.read ∙ ap pairs digits ∙ other.read) in

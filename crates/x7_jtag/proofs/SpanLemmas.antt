@@ -4,7 +4,7 @@ use Rattle.std.proofs.lemmas.Bool.{cases_lt}
 use Rattle.std.proofs.lemmas.List.{drop-append-le, drop-take, take-take, take_all, take_at}
 use Rattle.x7_jtag.specs.Bits.{bits_of}
 use Rattle.x7_jtag.specs.Fields.{Inside, Scanning, bits_option}
-use Rattle.x7_jtag.specs.Spans.{AreWithin, IsFront, digits_if, digits_in, end_if, end_of, fields_of, scanning_of}
+use Rattle.x7_jtag.specs.Spans.{AreWithin, IsPrefix, digits_if, digits_in, end_if, end_of, fields_of, scanning_of}
 use Rattle.x7_jtag.specs.Stored.{AreStoredWithin, IsStoredWithin, statement_in, statements_in}
 use Rattle.x7_jtag.specs.declared.fields.Field.{Field}
 use Rattle.x7_jtag.specs.declared.fields.Given.{Given}
@@ -14,22 +14,22 @@ use Rattle.x7_jtag.specs.declared.statement.Statement.TheVariants as statement
 use Rattle.x7_jtag.specs.declared.stored.Stored.{Stored}
 use Rattle.x7_jtag.specs.declared.stored.Stored.TheVariants as stored
 
-pub front-long : (a b : List ℕ) → IsFront a b → length a ≤ length b
+pub front-long : (a b : List ℕ) → IsPrefix a b → length a ≤ length b
 front-long a b f = elim (cases_lt (length b) (length a)) [
   | inl l ↦ omega (arith, ap length (sym (take_all (length a) b (omega (arith, l))) ∙ f))
   | inr l ↦ omega (arith, l)
 ]
 
-pub front-self : (a b : List ℕ) → b ≡ a → IsFront a b
+pub front-self : (a b : List ℕ) → b ≡ a → IsPrefix a b
 front-self a b e = ap (take (length a)) e ∙ take_all (length a) a (omega arith)
 
-pub front-on : (a b c : List ℕ) → IsFront a b → IsFront b c → IsFront a c
+pub front-on : (a b c : List ℕ) → IsPrefix a b → IsPrefix b c → IsPrefix a c
 front-on a b c f g = sym (take-take (length a) (length b) c (front-long a b f)) ∙ ap (take (length a)) g ∙ f
 
-pub front-append : (a b more : List ℕ) → b ≡ a ++ more → IsFront a b
+pub front-append : (a b more : List ℕ) → b ≡ a ++ more → IsPrefix a b
 front-append a b more e = ap (take (length a)) e ∙ take_at a more (length a) refl
 
-module _ (a b : List ℕ) (f : IsFront a b) where
+module _ (a b : List ℕ) (f : IsPrefix a b) where
   pub digits-stay : (s : Span) → end_of s ≤ length a → digits_in b s ≡ digits_in a s
   digits-stay s w =
       let m : ℕ = length a - s.from in

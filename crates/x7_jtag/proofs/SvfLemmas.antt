@@ -9,7 +9,7 @@ use Rattle.x7_jtag.specs.Svf.{after_mark, ended, ended_statement, marks_before, 
 use Rattle.std.proofs.lemmas.List.{map-append}
 use Rattle.x7_words.proofs.ListLemmas.{all-append}
 use Rattle.x7_jtag.specs.Source.{SourceState, pieces_left}
-use Rattle.x7_jtag.specs.Spans.{IsFront}
+use Rattle.x7_jtag.specs.Spans.{IsPrefix}
 use Rattle.x7_jtag.specs.Stored.{AreStoredWithin, IsStoredWithin, statement_in, statements_in, stored_if}
 use Rattle.x7_jtag.specs.declared.stored.Stored.{Stored}
 use Rattle.x7_jtag.proofs.MarkLemmas.{ended-with, marks-line, never-ended}
@@ -101,10 +101,10 @@ module _ (ps before : List Piece) (ss : List Statement) (line there : ℕ) (t : 
 
 -- a source from before its next piece, there, behind the statement there, and behind its end
 module _ (ps : List Piece) (before here behind after : SourceState) (n : ℕ) (out new : List Stored) (one : Stored) where
-  front-here : IsFront here.kept behind.kept → here.kept ≡ before.kept → after.kept ≡ behind.kept → IsFront before.kept after.kept
-  front-here f e g = subst (λ (k : List ℕ). IsFront before.kept k) (sym g) (subst (λ (k : List ℕ). IsFront k behind.kept) e f)
+  front-here : IsPrefix here.kept behind.kept → here.kept ≡ before.kept → after.kept ≡ behind.kept → IsPrefix before.kept after.kept
+  front-here f e g = subst (λ (k : List ℕ). IsPrefix before.kept k) (sym g) (subst (λ (k : List ℕ). IsPrefix k behind.kept) e f)
 
-  pub stored-on : new ≡ out ++ one ∷ [] → AreStoredWithin (length before.kept) out → here.kept ≡ before.kept → IsFront here.kept behind.kept → after.kept ≡ behind.kept
+  pub stored-on : new ≡ out ++ one ∷ [] → AreStoredWithin (length before.kept) out → here.kept ≡ before.kept → IsPrefix here.kept behind.kept → after.kept ≡ behind.kept
       → BeginWith ps (statements_in before.kept out) (pieces_left before) → pieces_left before ≡ at_word here.line (take n here.rest) (drop n here.rest)
       → stored_if behind.kept (Some one) ≡ statement_by (take n here.rest) (statement_marks (drop n here.rest))
       → pieces_after (pieces here.line (drop n here.rest)) ≡ pieces_after (pieces_left behind) → pieces_after (pieces_left behind) ≡ Some (pieces_left after)
@@ -116,7 +116,7 @@ module _ (ps : List Piece) (before here behind after : SourceState) (n : ℕ) (o
       statements-on ps (statements_in before.kept out) (statements_in after.kept new) (statement_in behind.kept one) here.line (take n here.rest) (drop n here.rest) (pieces_left after) all
       (subst (λ (left : List Piece). BeginWith ps (statements_in before.kept out) left) there h) (a ∙ b) (sym is)
 
-  pub all-within : new ≡ out ++ one ∷ [] → AreStoredWithin (length before.kept) out → IsStoredWithin (length behind.kept) one → here.kept ≡ before.kept → IsFront here.kept behind.kept → after.kept ≡ behind.kept
+  pub all-within : new ≡ out ++ one ∷ [] → AreStoredWithin (length before.kept) out → IsStoredWithin (length behind.kept) one → here.kept ≡ before.kept → IsPrefix here.kept behind.kept → after.kept ≡ behind.kept
       → AreStoredWithin (length after.kept) new
   all-within e w o same f g =
       let few : length before.kept ≤ length after.kept = front-long before.kept after.kept (front-here f same g) in

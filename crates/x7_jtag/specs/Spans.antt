@@ -33,8 +33,8 @@ scanning_of kept (Some s) = Some (record { at = at_of kept s.place; fields = fie
 -- ---- what is kept stays
 
 -- the first are the front of the second
-abbrev pub IsFront : List ℕ → List ℕ → Type 0
-IsFront front all = take (length front) all ≡ front
+abbrev pub IsPrefix : List ℕ → List ℕ → Type 0
+IsPrefix front all = take (length front) all ≡ front
 
 -- where digits end
 abbrev pub end_of : Span → ℕ

@@ -6,7 +6,7 @@ use Rattle.x7_part.specs.Part.{PartData}
 use Rattle.x7_engine.specs.declared.fed.Fed.{Fed}
 use Rattle.x7_engine.specs.declared.fed.Fed.TheVariants as fed
 use Rattle.x7_engine.specs.Kept.{on_the_bench}
-use Rattle.x7_engine.specs.Standing.{DeviceState, DeviceStandsFor, NoWordDue, told_of}
+use Rattle.x7_engine.specs.Standing.{DeviceState, DeviceStandsFor, NoWordDue, reads_given}
 use Rattle.x7_engine.specs.State.{stop_in}
 use Rattle.x7_jtag.specs.declared.instruction.Instruction.{Instruction}
 use Rattle.x7_jtag.specs.declared.instruction.Instruction.TheVariants as instruction
@@ -49,7 +49,7 @@ given_by _ count = count
 
 -- the words that were taken of a device that took these bytes
 abbrev pub words_taken : PartData → DeviceState → List ℕ → List ℕ
-words_taken part d bytes = told_of part on_the_bench d bytes
+words_taken part d bytes = reads_given part on_the_bench d bytes
 
 -- a queue and its device stand for bytes given, bytes held and bits that are out, where a word may be due though none waits
 pub record Holds (part : PartData) (k : QueueState) (d : DeviceState) (given held : List ℕ) (out : ℕ) : Type 0 where

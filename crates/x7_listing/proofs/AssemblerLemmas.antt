@@ -8,7 +8,7 @@ use Rattle.std.specs.List.{AllByRecursion}
 use Rattle.x7_text.specs.Lines.{has_no_end, joined, on_first, split}
 use Rattle.x7_text.proofs.SplitLemmas.{joined-split, split-free}
 use Rattle.x7_listing.specs.Assembly.{AreHeadedAsm, IsAsm}
-use Rattle.x7_listing.specs.Assembling.{AssemblerStandsFor, AssemblerState, FailsIn, Goes, TakesFront, TakesPiece, TakesLines, Unbegun, Waits, Went}
+use Rattle.x7_listing.specs.Assembling.{AssemblerStandsFor, AssemblerState, FailsIn, Goes, TakesPrefix, TakesPiece, TakesLines, Unbegun, Waits, Went}
 use Rattle.x7_listing.specs.BitLine.{bit_text, IsHeaderOf, IsHeld}
 use Rattle.x7_listing.specs.declared.assembler.AsmFault.{AsmFault}
 use Rattle.x7_listing.specs.declared.assembler.AsmFault.TheVariants as fault
@@ -184,7 +184,7 @@ completes a b text line whole held free is clear count reads fits s = record {
 }
 
 -- a piece in two parts
-module _ (a b c : AssemblerState) (piece rest : List ℕ) (f : TakesFront a b piece rest) where
+module _ (a b c : AssemblerState) (piece rest : List ℕ) (f : TakesPrefix a b piece rest) where
   whole-piece : (text : List ℕ) → (text ++ f.front) ++ rest ≡ text ++ piece
   whole-piece text = append_assoc text f.front rest ∙ ap (λ t. text ++ t) (sym f.split_is)
 

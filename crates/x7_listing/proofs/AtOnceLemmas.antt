@@ -26,7 +26,7 @@ use Rattle.x7_regs.specs.Register.{reg_name}
 use Rattle.x7_listing.specs.declared.line.HeadLine.TheVariants.{Write}
 use Rattle.x7_listing.specs.AtOnce.{AreRows, command_lines, equal_lines, nop_lines, row_text, zero_lines, write_line, write_name, write_start}
 use Rattle.x7_listing.specs.HeadLine.{best_line, command_line, head_text, line_text}
-use Rattle.x7_listing.specs.Telling.{GapTold, Tells, words_place, words_told, Writes}
+use Rattle.x7_listing.specs.Telling.{GapListed, Tells, words_place, open_words, Writes}
 use Rattle.x7_listing.proofs.GapLemmas.{told_more}
 use Rattle.x7_listing.proofs.RunLemmas.{by_body, by_head, by_skip, by_sync, by_word}
 use Rattle.x7_listing.proofs.SessionLemmas.{data_told, is_data}
@@ -90,18 +90,18 @@ write_line-is register h =
     ap line_text line ∙ ap (λ t. codes "write " ++ reg_name register ++ 32 ∷ t ++ 10 ∷ []) (decimal_digit 1 (omega arith)) ∙ append_assoc (codes "write " ++ reg_name register) (32 ∷ 49 ∷ []) (10 ∷ [])
 
 -- the lines of a write of one word: a row to CMD, and a row and the digits of a word to another register
-pub command_row-is : (line register w : ℕ) → register ≡ 4 → close line ++ command_lines w ≡ close line ++ head_text (Open register 1) (write_head register) ++ words_told 0 (payload_steps register (w ∷ []))
+pub command_row-is : (line register w : ℕ) → register ≡ 4 → close line ++ command_lines w ≡ close line ++ head_text (Open register 1) (write_head register) ++ open_words 0 (payload_steps register (w ∷ []))
 command_row-is line register w e =
-    subst (λ (r : ℕ). close line ++ command_lines w ≡ close line ++ head_text (Open r 1) (write_head r) ++ words_told 0 (payload_steps r (w ∷ []))) (sym e)
+    subst (λ (r : ℕ). close line ++ command_lines w ≡ close line ++ head_text (Open r 1) (write_head r) ++ open_words 0 (payload_steps r (w ∷ []))) (sym e)
     (sym (append_assoc (close line) (write_line 4) (command_line w)) ∙ ap (λ t. close line ++ t ++ command_line w) (sym (write_line-is 4 (omega arith))) ∙ ap (λ t. close line ++ head_text (Open 4 1) (write_head 4) ++ t) (sym (append-nil (command_line w))))
 
-pub data_row-is : (line register w : ℕ) → register < 32 → (register ≡ 4 → ⊥) → (close line ++ write_start register) ++ hex_word w ≡ close line ++ head_text (Open register 1) (write_head register) ++ words_told 0 (payload_steps register (w ∷ []))
+pub data_row-is : (line register w : ℕ) → register < 32 → (register ≡ 4 → ⊥) → (close line ++ write_start register) ++ hex_word w ≡ close line ++ head_text (Open register 1) (write_head register) ++ open_words 0 (payload_steps register (w ∷ []))
 data_row-is line register w h n =
     let H : List ℕ = write_line register in
-    let told : words_told 0 (payload_steps register (w ∷ [])) ≡ codes "data " ++ hex_word w =
+    let listed : open_words 0 (payload_steps register (w ∷ [])) ≡ codes "data " ++ hex_word w =
     data_told register 0 (w ∷ []) (is_data register n) ∙ append-nil _ ∙ ap (λ t. codes "data" ++ t) (append-nil (32 ∷ hex_word w)) in
     append_assoc (close line) (write_start register) (hex_word w) ∙ ap (λ t. close line ++ t) (append_assoc H (codes "data ") (hex_word w)) ∙ sym (append_assoc (close line) H (codes "data " ++ hex_word w))
-    ∙ ap (λ t. close line ++ t ++ (codes "data " ++ hex_word w)) (sym (write_line-is register h)) ∙ ap (λ t. close line ++ head_text (Open register 1) (write_head register) ++ t) (sym told)
+    ∙ ap (λ t. close line ++ t ++ (codes "data " ++ hex_word w)) (sym (write_line-is register h)) ∙ ap (λ t. close line ++ head_text (Open register 1) (write_head register) ++ t) (sym listed)
 
 -- the header's line of a short write
 pub short_line-is : (register count : ℕ) → register < 32 → count < 20 → head_text (Open register count) (short_head register count) ≡ write_name register ++ (decimal count ++ 10 ∷ [])
@@ -129,8 +129,8 @@ first_chunk size (suc n) xs h = refl
 pub front_of_front : (n count : ℕ) (xs block : List ℕ) → 4 * count ≤ 64 → 64 ≤ n → block ≡ take 64 (take n xs) → take (4 * count) block ≡ take (4 * count) xs
 front_of_front n count xs block h k e = ap (take (4 * count)) e ∙ take-take (4 * count) 64 (take n xs) h ∙ take-take (4 * count) n xs (omega (arith, h, k))
 
-pub short_written : (old t1 new head row told : List ℕ) → t1 ≡ old ++ head → new ≡ t1 ++ row → row ≡ told → new ≡ old ++ (head ++ told)
-short_written old t1 new head row told a b e = b ∙ ap (λ t. t ++ row) a ∙ append_assoc old head row ∙ ap (λ t. old ++ (head ++ t)) e
+pub short_written : (old t1 new head row listed : List ℕ) → t1 ≡ old ++ head → new ≡ t1 ++ row → row ≡ listed → new ≡ old ++ (head ++ listed)
+short_written old t1 new head row listed a b e = b ∙ ap (λ t. t ++ row) a ∙ append_assoc old head row ∙ ap (λ t. old ++ (head ++ t)) e
 
 -- ---- what a lister stands for
 
@@ -142,7 +142,7 @@ took_run c d run synced s2 line l2 held h2 text text2 given before bytes taken s
       sessions = w.new_sessions;
       at = w.new_place;
       cut = w.stands;
-      told = writes before (bytes ++ taken) s.sessions w.new_sessions s.at w.new_place c.mode d.mode s.told w.adds w.turns is w.stands.reading;
+      listed = writes before (bytes ++ taken) s.sessions w.new_sessions s.at w.new_place c.mode d.mode s.listed w.adds w.turns is w.stands.reading;
     }
 
 one_equal : (c : CutterState) (w : ℕ) (step : Step) (synced s2 : Bool) (line l2 from : ℕ) (held h2 text text2 given before bytes : List ℕ) → IsRun (Head w step) → Takes c c (bytes_of_word w) (Head w step) → (synced ≡ true → from ≡ line) → s2 ≡ true → l2 ≡ 0
@@ -176,11 +176,11 @@ equal_told (suc n) c w step synced s2 line l2 from held h2 text text1 text2 give
     subst (λ (x : Bool). Tells c x l2 h2 text2 given before (bytes ++ equal_bytes w (suc n))) (sym e) (subst (Tells c true l2 h2 text2 given before) (append_assoc bytes (bytes_of_word w) (equal_bytes w n)) all)
 
 pub write_told : (c d : CutterState) (synced s2 : Bool) (line l2 from register w : ℕ) (held h2 text text2 given before bytes rest : List ℕ) → WritesOne c d rest register w → (synced ≡ true → from ≡ line) → s2 ≡ true
-    → l2 ≡ words_place 0 (payload_steps register (w ∷ [])) → text2 ≡ text ++ (close from ++ head_text (Open register 1) (write_head register) ++ words_told 0 (payload_steps register (w ∷ [])))
+    → l2 ≡ words_place 0 (payload_steps register (w ∷ [])) → text2 ≡ text ++ (close from ++ head_text (Open register 1) (write_head register) ++ open_words 0 (payload_steps register (w ∷ [])))
     → Tells c synced line held text given before bytes → Tells d s2 l2 h2 text2 given before (bytes ++ take 8 rest)
 write_told c d synced s2 line l2 from register w held h2 text text2 given before bytes rest x same e f t s =
     let H : List ℕ = head_text (Open register 1) (write_head register) in
-    let D : List ℕ = words_told 0 (payload_steps register (w ∷ [])) in
+    let D : List ℕ = open_words 0 (payload_steps register (w ∷ [])) in
     let head : List ℕ = bytes_of_word (write_head register) in
     let next : List ℕ = text ++ (close from ++ H) in
     let one : Tells x.between true 0 [] next given before (bytes ++ head) =
@@ -193,7 +193,7 @@ write_told c d synced s2 line l2 from register w held h2 text text2 given before
 
 -- a write of a few words: `lent` is any slice
 pub short_told : (c d : CutterState) (synced s2 : Bool) (line l2 from register count : ℕ) (held h2 text text2 given before bytes rest ws : List ℕ) (lent : Bor (List ℕ)) → WritesFew c d rest register count → ws ≡ words_of_bytes (take (4 * count) (drop 4 rest))
-    → (synced ≡ true → from ≡ line) → s2 ≡ true → l2 ≡ words_place 0 (payload_steps register ws) → text2 ≡ text ++ (close from ++ head_text (Open register count) (short_head register count) ++ words_told 0 (payload_steps register ws))
+    → (synced ≡ true → from ≡ line) → s2 ≡ true → l2 ≡ words_place 0 (payload_steps register ws) → text2 ≡ text ++ (close from ++ head_text (Open register count) (short_head register count) ++ open_words 0 (payload_steps register ws))
     → Tells c synced line held text given before bytes → Tells d s2 l2 h2 text2 given before (bytes ++ take (4 + 4 * count) rest)
 short_told c d synced s2 line l2 from register count held h2 text text2 given before bytes rest ws lent x are same e f t s =
     let H : List ℕ = head_text (Open register count) (short_head register count) in
@@ -202,7 +202,7 @@ short_told c d synced s2 line l2 from register count held h2 text text2 given be
     let size : length (take (4 * count) (drop 4 rest)) ≡ 4 * count = length-take-le (4 * count) (drop 4 rest) (omega (arith, length-drop 4 rest, x.long, x.few)) in
     let head : List ℕ = bytes_of_word (short_head register count) in
     let next : List ℕ = text ++ (close from ++ head_text (Open register count) (short_head register count)) in
-    let D : List ℕ = words_told 0 (payload_steps register (words_of_bytes (take (4 * count) (drop 4 rest)))) in
+    let D : List ℕ = open_words 0 (payload_steps register (words_of_bytes (take (4 * count) (drop 4 rest)))) in
     let one : Tells x.between true 0 [] next given before (bytes ++ bytes_of_word (short_head register count)) =
     took_run c x.between (Head (short_head register count) (Open register count)) synced true line 0 held [] text next given before bytes (bytes_of_word (short_head register count)) s x.head tt
     (by_head (Head (short_head register count) (Open register count)) synced true line 0 from held [] given text next (short_head register count) (Open register count) refl same refl refl refl) in
@@ -210,19 +210,19 @@ short_told c d synced s2 line l2 from register count held h2 text text2 given be
     took_run x.between d (Body register run) true s2 0 l2 [] h2 next text2 given before (bytes ++ bytes_of_word (short_head register count)) (take (4 * count) (drop 4 rest)) one (x.words run refl)
     (x.range, omega (arith, size, x.some), omega (arith, size), λ k. absurd (x.other k))
     (by_body (Body register run) true s2 0 l2 0 [] h2 given next text2 register run refl (λ k. refl) e (f ∙ ap (λ (w : List ℕ). words_place 0 (payload_steps register w)) are)
-    (t ∙ ap (λ (w : List ℕ). text ++ (close from ++ head_text (Open register count) (short_head register count) ++ words_told 0 (payload_steps register w))) are ∙ sym (append_assoc text (close from ++ H) D))) in
+    (t ∙ ap (λ (w : List ℕ). text ++ (close from ++ head_text (Open register count) (short_head register count) ++ open_words 0 (payload_steps register w))) are ∙ sym (append_assoc text (close from ++ H) D))) in
     subst (Tells d s2 l2 h2 text2 given before) (append_assoc bytes (bytes_of_word (short_head register count)) (take (4 * count) (drop 4 rest)) ∙ ap (λ k. bytes ++ (k ++ take (4 * count) (drop 4 rest))) (sym x.bytes) ∙ ap (λ k. bytes ++ k) (sym (take-add 4 (4 * count) rest))) two
 
 -- bytes of a gap and the sync word, behind a session
-gap_begun : (given text text1 start : List ℕ) (gap taken told : List ℕ) → taken ≡ told ++ sync_bytes → text1 ≡ text ++ open_text 32 (codes "bytes ") hex_byte 0 told
-    → GapTold (given ++ text) start 0 [] gap → GapTold (given ++ text1) start (in_line_after 32 0 told) sync_bytes (gap ++ taken)
-gap_begun given text text1 start gap taken told e f g = told_more given text text1 start 0 (in_line_after 32 0 told) [] sync_bytes gap taken told g e refl f refl
+gap_begun : (given text text1 start : List ℕ) (gap taken listed : List ℕ) → taken ≡ listed ++ sync_bytes → text1 ≡ text ++ open_text 32 (codes "bytes ") hex_byte 0 listed
+    → GapListed (given ++ text) start 0 [] gap → GapListed (given ++ text1) start (in_line_after 32 0 listed) sync_bytes (gap ++ taken)
+gap_begun given text text1 start gap taken listed e f g = told_more given text text1 start 0 (in_line_after 32 0 listed) [] sync_bytes gap taken listed g e refl f refl
 
 pub gap_told : (c d : CutterState) (synced s2 : Bool) (line l2 count : ℕ) (held h2 text text2 given before bytes rest : List ℕ) (lent : Bor (List ℕ)) → EndsGap c d rest count → synced ≡ true → s2 ≡ true → l2 ≡ 0
     → text2 ≡ text ++ (bytes_text (take count rest) ++ codes "sync\n") → Tells c synced line held text given before bytes → Tells d s2 l2 h2 text2 given before (bytes ++ take (count + 4) rest)
 gap_told c d false s2 line l2 count held h2 text text2 given before bytes rest lent x is e f t s = absurd (cc)
 gap_told c d true s2 line l2 count held h2 text text2 given before bytes rest lent x is e f t s =
-    let told : List ℕ = take count rest in
+    let listed : List ℕ = take count rest in
     let shown : List ℕ = open_text 32 (codes "bytes ") hex_byte 0 (take count rest) in
     let open_line : ℕ = in_line_after 32 0 (take count rest) in
     let run : Bor (List ℕ) = record lent { now = take (count + 4) rest } in

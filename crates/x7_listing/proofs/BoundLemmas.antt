@@ -16,7 +16,7 @@ use Rattle.x7_regs.specs.Register.{reg_name}
 use Rattle.x7_text.proofs.LineLemmas.{bytes_closed}
 use Rattle.x7_listing.specs.HeadLine.{command_line, head_line, head_text, line_text}
 use Rattle.x7_listing.specs.Listing.{session_text}
-use Rattle.x7_listing.specs.Telling.{GapTold, ListerStandsFor, ListerState, ToldAt, payload_told, word_next, word_told, words_told}
+use Rattle.x7_listing.specs.Telling.{GapListed, ListerStandsFor, ListerState, HasListedAt, open_payload, word_next, open_word, open_words}
 use Rattle.x7_listing.specs.Taking.{TakerStandsFor}
 use Rattle.x7_packets.specs.Mode.{Mode}
 use Rattle.x7_listing.specs.declared.line.HeadLine.{HeadLine}
@@ -49,15 +49,15 @@ command_by_case false name digits = omega arith
 command_long : (w : ℕ) → 4 ≤ length (command_line w)
 command_long w = command_by_case (code_of (command_by w) == w) (command_name_of (command_by w)) (hex_word w)
 
-payload_by : (b : Bool) (i w : ℕ) → 4 ≤ length (payload_told b i w)
+payload_by : (b : Bool) (i w : ℕ) → 4 ≤ length (open_payload b i w)
 payload_by true i w = omega (arith, command_long w, length-append (close i) (command_line w))
 payload_by false i w =
     let first : List ℕ = line_start (codes "data") i ++ spaced w in
-    let all : length (payload_told false i w) ≡ length (first ++ line_end 8 i) = refl in
+    let all : length (open_payload false i w) ≡ length (first ++ line_end 8 i) = refl in
     omega (arith, all, length-append first (line_end 8 i), length-append (line_start (codes "data") i) (spaced w))
 
 -- what a word adds has at least its four bytes
-word_long : (i w : ℕ) (step : Step) → 4 ≤ length (word_told i w step)
+word_long : (i w : ℕ) (step : Step) → 4 ≤ length (open_word i w step)
 word_long i w (Payload register x) = payload_by (register == 4) i w
 word_long i w Filler = omega (arith, line_long (head_line Filler w), length-append (close i) (head_text Filler w))
 word_long i w Nop = omega (arith, line_long (head_line Nop w), length-append (close i) (head_text Nop w))
@@ -65,9 +65,9 @@ word_long i w (Open r n) = omega (arith, line_long (head_line (Open r n) w), len
 word_long i w (Read r n) = omega (arith, line_long (head_line (Read r n) w), length-append (close i) (head_text (Read r n) w))
 word_long i w (Bad x) = omega (arith, line_long (head_line (Bad x) w), length-append (close i) (head_text (Bad x) w))
 
-words_long : (i : ℕ) (ss : List (ℕ × Step)) → 4 * length ss ≤ length (words_told i ss)
+words_long : (i : ℕ) (ss : List (ℕ × Step)) → 4 * length ss ≤ length (open_words i ss)
 words_long i [] = omega arith
-words_long i (s ∷ ss) = omega (arith, words_long (word_next i s.1) ss, word_long i s.0 s.1, length-append (word_told i s.0 s.1) (words_told (word_next i s.1) ss))
+words_long i (s ∷ ss) = omega (arith, words_long (word_next i s.1) ss, word_long i s.0 s.1, length-append (open_word i s.0 s.1) (open_words (word_next i s.1) ss))
 
 four_each : (ws : List ℕ) → length (flat_map bytes_of_word ws) ≡ 4 * length ws
 four_each [] = refl
@@ -79,9 +79,9 @@ as_many (p ∷ ps) =
     omega (arith, as_many ps, length-append (words p) (flat_map words ps), length-append (stepped p) (flat_map stepped ps), length-map {B = ℕ × Step} p.payload (λ (w : ℕ). (w, Payload (named_by p.step) w)))
 
 -- a gap, the sync word and packets
-session_long : (gap : List ℕ) (packets : List Packet) → length gap + 4 + length (packet_bytes packets) ≤ length (bytes_text gap ++ codes "sync\n" ++ words_told 0 (flat_map stepped packets))
+session_long : (gap : List ℕ) (packets : List Packet) → length gap + 4 + length (packet_bytes packets) ≤ length (bytes_text gap ++ codes "sync\n" ++ open_words 0 (flat_map stepped packets))
 session_long gap packets =
-    let ws : List ℕ = words_told 0 (flat_map stepped packets) in
+    let ws : List ℕ = open_words 0 (flat_map stepped packets) in
     let bytes : length (packet_bytes packets) ≡ 4 * length (flat_map words packets) = four_each (flat_map words packets) in
     omega (arith, gap_long gap, bytes, as_many packets, words_long 0 (flat_map stepped packets), length-append (bytes_text gap ++ codes "sync\n") ws, length-append (bytes_text gap) (codes "sync\n"))
   where
@@ -91,7 +91,7 @@ session_long gap packets =
 ended_long : (s : Session) → IsSession s → length (session_bytes s) ≤ length (session_text s)
 ended_long s is =
     let over = session_over s.gap s.packets is.packets in
-    let sure : List ℕ = bytes_text s.gap ++ codes "sync\n" ++ words_told 0 (flat_map stepped s.packets) in
+    let sure : List ℕ = bytes_text s.gap ++ codes "sync\n" ++ open_words 0 (flat_map stepped s.packets) in
     let text : length (session_text s) ≡ length (sure ++ over.0) = ap length over.1 in
     let bytes : length (session_bytes s) ≡ length ((s.gap ++ sync_bytes) ++ packet_bytes s.packets) = refl in
     omega (arith, session_long s.gap s.packets, text, bytes, length-append sure over.0, length-append (s.gap ++ sync_bytes) (packet_bytes s.packets), length-append s.gap sync_bytes)
@@ -104,7 +104,7 @@ place_long : (place : Place) → IsPlace place → length (place_bytes place) �
 place_long (Searching gap) is = omega (arith, bytes_long 0 (before_last_four gap), length-take-le (length gap - 4) gap (omega arith))
 place_long (Synced gap packets tail) is =
     let bytes : length (place_bytes (Synced gap packets tail)) ≡ length (((gap ++ sync_bytes) ++ packet_bytes packets) ++ tail) = refl in
-    let text : length (sure_place (Synced gap packets tail)) ≡ length (bytes_text gap ++ codes "sync\n" ++ words_told 0 (flat_map stepped packets)) = refl in
+    let text : length (sure_place (Synced gap packets tail)) ≡ length (bytes_text gap ++ codes "sync\n" ++ open_words 0 (flat_map stepped packets)) = refl in
     omega (arith, session_long gap packets, is.3, bytes, text, length-append ((gap ++ sync_bytes) ++ packet_bytes packets) tail, length-append (gap ++ sync_bytes) (packet_bytes packets), length-append gap sync_bytes)
 
 -- a lister's text is at most four bytes behind
@@ -114,20 +114,20 @@ few_held l given before bytes s =
     let r = t.cut.reading in
     omega (arith, ap length (told_behind l given before bytes s), length-append (before ++ flat_map session_text t.sessions) (sure_place t.at), length-append before (flat_map session_text t.sessions), ap length r.joined, length-append (flat_map session_bytes t.sessions) (place_bytes t.at), sessions_long t.sessions r.each, place_long t.at r.ends)
 
--- a sync word is not told yet: it stands in the gap's bytes, of which all but those that are held are told
-due_long : (all start : List ℕ) (line : ℕ) (held gap : List ℕ) → GapTold all start line held (gap ++ sync_bytes) → length start + length (gap ++ sync_bytes) ≤ length all + 4
+-- a sync word is not listed yet: it stands in the gap's bytes, of which all but those that are held are listed
+due_long : (all start : List ℕ) (line : ℕ) (held gap : List ℕ) → GapListed all start line held (gap ++ sync_bytes) → length start + length (gap ++ sync_bytes) ≤ length all + 4
 due_long all start line held gap t =
-    omega (arith, ap length t.split, length-append t.front held, t.few, ap length t.told, length-append start (open_text 32 (codes "bytes ") hex_byte 0 t.front), bytes_long 0 t.front)
+    omega (arith, ap length t.split, length-append t.front held, t.few, ap length t.listed, length-append start (open_text 32 (codes "bytes ") hex_byte 0 t.front), bytes_long 0 t.front)
 
-told_long : (synced : Bool) (line : ℕ) (held all start : List ℕ) (place : Place) (m : Mode) → ToldAt synced line held all start place m → IsPlace place → length start + length (place_bytes place) ≤ length all + 4
+told_long : (synced : Bool) (line : ℕ) (held all start : List ℕ) (place : Place) (m : Mode) → HasListedAt synced line held all start place m → IsPlace place → length start + length (place_bytes place) ≤ length all + 4
 told_long false line held all start (Searching gap) m t p =
-    omega (arith, ap length t.split, length-append t.front held, t.few, ap length t.told, length-append start (open_text 32 (codes "bytes ") hex_byte 0 t.front), bytes_long 0 t.front)
+    omega (arith, ap length t.split, length-append t.front held, t.few, ap length t.listed, length-append start (open_text 32 (codes "bytes ") hex_byte 0 t.front), bytes_long 0 t.front)
 told_long false line held all start (Synced gap packets tail) m t p =
     let bytes : place_bytes (Synced gap packets tail) ≡ gap ++ sync_bytes = rw (t.1, t.2) (append-nil (gap ++ sync_bytes ++ []) ∙ append-nil (gap ++ sync_bytes)) in
     omega (arith, due_long all start line held gap t.3, ap length bytes)
 told_long true line held all start place m t p = omega (arith, ap length (told_sure_at line held all start place m t), length-append start (sure_place place), place_long place p)
   where
-    told_sure_at : (line : ℕ) (held all start : List ℕ) (place : Place) (m : Mode) → ToldAt true line held all start place m → all ≡ start ++ sure_place place
+    told_sure_at : (line : ℕ) (held all start : List ℕ) (place : Place) (m : Mode) → HasListedAt true line held all start place m → all ≡ start ++ sure_place place
     told_sure_at line held all start (Searching gap) m t = place_sure true line held all start (Searching gap) Mode.Searching (λ e. let f : Mode.Searching ≡ Mode.Due = e in cc) t
     told_sure_at line held all start (Synced gap packets tail) m t = place_sure true line held all start (Synced gap packets tail) m t.0 t
 
@@ -135,4 +135,4 @@ told_long true line held all start place m t p = omega (arith, ap length (told_s
 pub few_taken : (l : ListerState) (given before bytes : List ℕ) (due : Mode) → TakerStandsFor l given before bytes due → length before + length bytes ≤ length (given ++ l.text) + 4
 few_taken l given before bytes due t =
     let r = t.reading in
-    omega (arith, told_long l.synced l.line l.held (given ++ l.text) (before ++ flat_map session_text t.sessions) t.at due t.told r.ends, length-append before (flat_map session_text t.sessions), ap length r.joined, length-append (flat_map session_bytes t.sessions) (place_bytes t.at), sessions_long t.sessions r.each)
+    omega (arith, told_long l.synced l.line l.held (given ++ l.text) (before ++ flat_map session_text t.sessions) t.at due t.listed r.ends, length-append before (flat_map session_text t.sessions), ap length r.joined, length-append (flat_map session_bytes t.sessions) (place_bytes t.at), sessions_long t.sessions r.each)

@@ -1,4 +1,4 @@
--- What was told of bytes is a front of the listing of every longer list of bytes.
+-- What was listed of bytes is a front of the listing of every longer list of bytes.
 use Rattle.std.proofs.Common.{◌≡◌, ℕ, ◌+◌, ◌-◌, ◌<◌, ◌≤◌, Bool, true, false, if◌then◌else◌, List, [], ◌∷◌, ◌++◌, inl, inr, Option, None, length, take, drop, refl, ap, sym, subst, ◌∙◌, append_assoc, append-nil, arith, length-append, take-add, take-append-drop, codes, flat_map}
 use Rattle.std.proofs.lemmas.List.{take-append-le}
 use Rattle.std.proofs.lemmas.List.Sums.{fold-append}
@@ -17,8 +17,8 @@ use Rattle.x7_text.specs.Digits.{hex_byte}
 use Rattle.x7_text.specs.Row.{bytes_text, close, in_line_after, open_text}
 use Rattle.x7_text.proofs.LineLemmas.{bytes_closed, open_text-append}
 use Rattle.x7_listing.specs.Listing.{listing_of, packet_text, packets_text, place_text, session_text}
-use Rattle.x7_listing.specs.Telling.{GapTold, ListerStandsFor, ListerState, ToldAt, words_place, words_told}
-use Rattle.x7_listing.proofs.SessionLemmas.{session_closed, words_told-append}
+use Rattle.x7_listing.specs.Telling.{GapListed, ListerStandsFor, ListerState, HasListedAt, words_place, open_words}
+use Rattle.x7_listing.proofs.SessionLemmas.{session_closed, open_words-append}
 
 -- the text of bytes in `bytes` lines, the last of which stays open unless it is full
 abbrev B : ℕ → List ℕ → List ℕ
@@ -37,9 +37,9 @@ front_then xs ys zs f g = (f.0 ++ g.0, g.1 ∙ ap (λ t. t ++ g.0) f.1 ∙ appen
 front_behind : (start xs ys : List ℕ) → Front xs ys → Front (start ++ xs) (start ++ ys)
 front_behind start xs ys f = (f.0, ap (λ t. start ++ t) f.1 ∙ sym (append_assoc start xs f.0))
 
--- the words of packets told one by one, the last line being open
+-- the words of packets listed one by one, the last line being open
 abbrev W : List Packet → List ℕ
-W packets = words_told 0 (flat_map stepped packets)
+W packets = open_words 0 (flat_map stepped packets)
 
 -- a session's text, the last line being open
 abbrev sure_session : List ℕ → List Packet → List ℕ
@@ -109,18 +109,18 @@ stepped_more latest (p ∷ q ∷ ps) w =
     let m : SteppedMore (with_word_after (latest_after latest p.step) (q ∷ ps) w) (q ∷ ps) w = stepped_more (latest_after latest p.step) (q ∷ ps) w in
     (m.0, ap (λ t. stepped p ++ t) m.1 ∙ sym (append_assoc (stepped p) (flat_map stepped (q ∷ ps)) ((w, m.0) ∷ [])))
 
--- the words told of packets, with one word more
+-- the words listed of packets, with one word more
 words_more : (packets : List Packet) (w : ℕ) → Front (W packets) (W (with_word packets w))
 words_more packets w =
     let ss : List (ℕ × Step) = flat_map stepped packets in
     let m : SteppedMore (with_word packets w) packets w = stepped_more None packets w in
-    (words_told (words_place 0 ss) ((w, m.0) ∷ []), ap (words_told 0) m.1 ∙ words_told-append 0 ss ((w, m.0) ∷ []))
+    (open_words (words_place 0 ss) ((w, m.0) ∷ []), ap (open_words 0) m.1 ∙ open_words-append 0 ss ((w, m.0) ∷ []))
 
--- the lines of packets begin with their words told
+-- the lines of packets begin with their words listed
 words_over : (packets : List Packet) → EachPacket None packets → Front (W packets) (flat_map packet_text packets)
 words_over packets each = (close (words_place 0 (flat_map stepped packets)), sym (session_closed None 0 packets each))
 
--- a session's words told are a front of its lines
+-- a session's words listed are a front of its lines
 pub session_over : (gap : List ℕ) (packets : List Packet) → EachPacket None packets → Front (sure_session gap packets) (packets_text gap packets)
 session_over gap packets each = front_behind (bytes_text gap ++ codes "sync\n") (W packets) (flat_map packet_text packets) (words_over packets each)
 
@@ -206,7 +206,7 @@ sure_over bytes f =
     let r : Reading = reading_of bytes in
     front_behind (flat_map session_text r.sessions) (sure_place r.place) (place_text r.place) (place_over bytes r.sessions r.place (reading_is_found bytes f))
 
--- the bytes of a gap that are told are those before the last four
+-- the bytes of a gap that are listed are those before the last four
 told_before : (front held gap : List ℕ) → gap ≡ front ++ held → length held ≡ 4 → before_last_four gap ≡ front
 told_before front held gap e four =
     let n : length gap - 4 ≡ length front = omega (arith, ap length e, length-append front held) in
@@ -215,7 +215,7 @@ told_before front held gap e four =
 none_before : (gap : List ℕ) → length gap ≤ 4 → before_last_four gap ≡ []
 none_before gap few = let n : length gap - 4 ≡ 0 = omega arith in ap (λ k. take k gap) n
 
-gap_sure : (all start : List ℕ) (line : ℕ) (held gap : List ℕ) → GapTold all start line held gap → all ≡ start ++ B 0 (before_last_four gap)
+gap_sure : (all start : List ℕ) (line : ℕ) (held gap : List ℕ) → GapListed all start line held gap → all ≡ start ++ B 0 (before_last_four gap)
 gap_sure all start line held gap g =
     let same : before_last_four gap ≡ g.front = elim g.full [
       | inl four ↦ told_before g.front held gap g.split four
@@ -224,35 +224,35 @@ gap_sure all start line held gap g =
           let few : length gap ≤ 4 = omega (arith, ap length is, g.few) in
           none_before gap few ∙ sym none
     ] in
-    g.told ∙ ap (λ t. start ++ B 0 t) (sym same)
+    g.listed ∙ ap (λ t. start ++ B 0 t) (sym same)
 
--- what is told at a place is the sure text there
-pub place_sure : (synced : Bool) (line : ℕ) (held all start : List ℕ) (place : Place) (m : Mode) → (m ≡ Mode.Due → ⊥) → ToldAt synced line held all start place m → all ≡ start ++ sure_place place
+-- what is listed at a place is the sure text there
+pub place_sure : (synced : Bool) (line : ℕ) (held all start : List ℕ) (place : Place) (m : Mode) → (m ≡ Mode.Due → ⊥) → HasListedAt synced line held all start place m → all ≡ start ++ sure_place place
 place_sure false line held all start (Searching gap) m d t = gap_sure all start line held gap t
 place_sure false line held all start (Synced gap packets tail) m d t = absurd (d t.0)
 place_sure true line held all start (Searching gap) m d t = t.2 ∙ sym (append-nil start) ∙ ap (λ x. start ++ B 0 (before_last_four x)) (sym t.0)
 place_sure true line held all start (Synced gap packets tail) m d t =
     let ws : List ℕ = W packets in
-    t.1.told ∙ ap (λ x. x ++ ws) (append_assoc start (bytes_text gap) (codes "sync\n")) ∙ append_assoc start (bytes_text gap ++ codes "sync\n") ws
+    t.1.listed ∙ ap (λ x. x ++ ws) (append_assoc start (bytes_text gap) (codes "sync\n")) ∙ append_assoc start (bytes_text gap ++ codes "sync\n") ws
 
--- what a lister has told of bytes is their sure text
+-- what a lister has listed of bytes is their sure text
 pub told_sure : (l : ListerState) (given bytes : List ℕ) → ListerStandsFor l given [] bytes → given ++ l.text ≡ sure_text bytes
 told_sure l given bytes s =
     let t = s.tells in
     let e : (t.sessions ≡ (reading_of bytes).sessions) × (t.at ≡ (reading_of bytes).place) = reading_is bytes t.sessions t.at t.cut.reading in
-    place_sure l.synced l.line l.held (given ++ l.text) (flat_map session_text t.sessions) t.at l.cutter.mode s.ready t.told
+    place_sure l.synced l.line l.held (given ++ l.text) (flat_map session_text t.sessions) t.at l.cutter.mode s.ready t.listed
     ∙ ap (λ x. flat_map session_text x ++ sure_place t.at) e.0 ∙ ap (λ x. flat_map session_text (reading_of bytes).sessions ++ sure_place x) e.1
 
--- what a lister has told of bytes is a front of the listing of those bytes with any further ones
+-- what a lister has listed of bytes is a front of the listing of those bytes with any further ones
 pub told_front : (l : ListerState) (given bytes rest : List ℕ) → ListerStandsFor l given [] bytes → AreBytes (bytes ++ rest) → (more : List ℕ) × (listing_of (bytes ++ rest) ≡ (given ++ l.text) ++ more)
 told_front l given bytes rest s f =
     let sure : List ℕ = sure_text bytes in
     let all : Front sure (listing_of (bytes ++ rest)) = front_then sure (sure_text (bytes ++ rest)) (listing_of (bytes ++ rest)) (sure_goes_on bytes rest f) (sure_over (bytes ++ rest) f) in
     subst (λ t. Front t (listing_of (bytes ++ rest))) (sym (told_sure l given bytes s)) all
 
--- what a lister has told behind other listings is the sure text of its bytes
+-- what a lister has listed behind other listings is the sure text of its bytes
 pub told_behind : (l : ListerState) (given before bytes : List ℕ) (s : ListerStandsFor l given before bytes) → given ++ l.text ≡ (before ++ flat_map session_text s.tells.sessions) ++ sure_place s.tells.at
-told_behind l given before bytes s = place_sure l.synced l.line l.held (given ++ l.text) (before ++ flat_map session_text s.tells.sessions) s.tells.at l.cutter.mode s.ready s.tells.told
+told_behind l given before bytes s = place_sure l.synced l.line l.held (given ++ l.text) (before ++ flat_map session_text s.tells.sessions) s.tells.at l.cutter.mode s.ready s.tells.listed
 
 pub sure_behind : (l : ListerState) (given before bytes : List ℕ) → ListerStandsFor l given before bytes → given ++ l.text ≡ before ++ sure_text bytes
 sure_behind l given before bytes s =
@@ -261,7 +261,7 @@ sure_behind l given before bytes s =
     told_behind l given before bytes s ∙ append_assoc before (flat_map session_text t.sessions) (sure_place t.at)
     ∙ ap (λ x. before ++ (flat_map session_text x ++ sure_place t.at)) e.0 ∙ ap (λ x. before ++ (flat_map session_text (reading_of bytes).sessions ++ sure_place x)) e.1
 
--- the listings before and what is told of bytes are a front of those and the listing of the bytes with any further ones
+-- the listings before and what is listed of bytes are a front of those and the listing of the bytes with any further ones
 pub front_behind_others : (l : ListerState) (given before bytes rest : List ℕ) → ListerStandsFor l given before bytes → AreBytes (bytes ++ rest) → (more : List ℕ) × (before ++ listing_of (bytes ++ rest) ≡ (given ++ l.text) ++ more)
 front_behind_others l given before bytes rest s f =
     let sure : List ℕ = sure_text bytes in

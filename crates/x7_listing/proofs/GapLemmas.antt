@@ -1,4 +1,4 @@
--- The bytes of a gap: which are told, and which are held since they may yet be a sync word.
+-- The bytes of a gap: which are listed, and which are held since they may yet be a sync word.
 use Rattle.std.proofs.Common.{◌≡◌, ℕ, ◌+◌, ◌-◌, ◌<◌, ◌≤◌, ◌^◌, List, [], ◌∷◌, ◌++◌, inl, inr, length, take, drop, get_or, slice_index_or, refl, ap, sym, ◌∙◌, append_assoc, append-nil, arith, take-append-drop, codes, zero, suc}
 use Rattle.std.proofs.lemmas.List.{take_more}
 use Rattle.x7_words.specs.Word.{bytes_of_word, words_of_bytes}
@@ -6,24 +6,24 @@ use Rattle.x7_text.specs.Digits.{hex_byte}
 use Rattle.x7_text.specs.Row.{in_line_after, open_text}
 use Rattle.x7_words.proofs.WordLemmas.{words-four}
 use Rattle.x7_text.proofs.LineLemmas.{in_line_after-append, open_text-append}
-use Rattle.x7_listing.specs.Telling.{GapTold}
+use Rattle.x7_listing.specs.Telling.{GapListed}
 
 -- the text of bytes in `bytes` lines
 abbrev B : ℕ → List ℕ → List ℕ
 B i xs = open_text 32 (codes "bytes ") hex_byte i xs
 
-pub fresh_gap : (all start : List ℕ) (gap : List ℕ) → gap ≡ [] → all ≡ start → GapTold all start 0 [] gap
-fresh_gap all start gap e f = record { front = []; split = e; told = f ∙ sym (append-nil start); count = refl; full = inr refl; few = omega arith }
+pub fresh_gap : (all start : List ℕ) (gap : List ℕ) → gap ≡ [] → all ≡ start → GapListed all start 0 [] gap
+fresh_gap all start gap e f = record { front = []; split = e; listed = f ∙ sym (append-nil start); count = refl; full = inr refl; few = omega arith }
 
--- bytes more of a gap: those held and a front of the new ones are told, and four are held then
-pub told_more : (given old new start : List ℕ) (line line2 : ℕ) (held held2 gap more told : List ℕ) → GapTold (given ++ old) start line held gap → held ++ more ≡ told ++ held2 → length held2 ≡ 4
-    → new ≡ old ++ B line told → line2 ≡ in_line_after 32 line told → GapTold (given ++ new) start line2 held2 (gap ++ more)
-told_more given old new start line line2 held held2 gap more told g e four t n = record {
-  front = g.front ++ told;
-  split = ap (λ t. t ++ more) g.split ∙ append_assoc g.front held more ∙ ap (λ t. g.front ++ t) e ∙ sym (append_assoc g.front told held2);
-  told = ap (λ t. given ++ t) t ∙ sym (append_assoc given old (B line told)) ∙ ap (λ t. t ++ B line told) g.told ∙ append_assoc start (B 0 g.front) (B line told)
-      ∙ ap (λ k. start ++ (B 0 g.front ++ B k told)) g.count ∙ ap (λ t. start ++ t) (sym (open_text-append 32 (codes "bytes ") hex_byte 0 g.front told));
-  count = n ∙ ap (λ k. in_line_after 32 k told) g.count ∙ sym (in_line_after-append 32 0 g.front told);
+-- bytes more of a gap: those held and a front of the new ones are listed, and four are held then
+pub told_more : (given old new start : List ℕ) (line line2 : ℕ) (held held2 gap more listed : List ℕ) → GapListed (given ++ old) start line held gap → held ++ more ≡ listed ++ held2 → length held2 ≡ 4
+    → new ≡ old ++ B line listed → line2 ≡ in_line_after 32 line listed → GapListed (given ++ new) start line2 held2 (gap ++ more)
+told_more given old new start line line2 held held2 gap more listed g e four t n = record {
+  front = g.front ++ listed;
+  split = ap (λ t. t ++ more) g.split ∙ append_assoc g.front held more ∙ ap (λ t. g.front ++ t) e ∙ sym (append_assoc g.front listed held2);
+  listed = ap (λ t. given ++ t) t ∙ sym (append_assoc given old (B line listed)) ∙ ap (λ t. t ++ B line listed) g.listed ∙ append_assoc start (B 0 g.front) (B line listed)
+      ∙ ap (λ k. start ++ (B 0 g.front ++ B k listed)) g.count ∙ ap (λ t. start ++ t) (sym (open_text-append 32 (codes "bytes ") hex_byte 0 g.front listed));
+  count = n ∙ ap (λ k. in_line_after 32 k listed) g.count ∙ sym (in_line_after-append 32 0 g.front listed);
   full = inl four;
   few = omega arith;
 }
@@ -46,7 +46,7 @@ last_four xs k e =
     rw (one, two, three) (last_four_at xs k (omega (arith, e)))
 
 -- the gap one byte further
-pub gap_step : (all start : List ℕ) (line : ℕ) (held gap bytes : List ℕ) (i : ℕ) → i < length bytes → GapTold all start line held (gap ++ take i bytes ++ get_or bytes i 0 ∷ []) → GapTold all start line held (gap ++ take (i + 1) bytes)
+pub gap_step : (all start : List ℕ) (line : ℕ) (held gap bytes : List ℕ) (i : ℕ) → i < length bytes → GapListed all start line held (gap ++ take i bytes ++ get_or bytes i 0 ∷ []) → GapListed all start line held (gap ++ take (i + 1) bytes)
 gap_step all start line held gap bytes i h g = let e : gap ++ take i bytes ++ get_or bytes i 0 ∷ [] ≡ gap ++ take (i + 1) bytes = append_assoc gap (take i bytes) (get_or bytes i 0 ∷ []) ∙ ap (λ t. gap ++ t) (sym (take_more bytes i 0 h)) in rw (← e) g
 
 -- four bytes held and one more are the first and the last four
@@ -58,11 +58,11 @@ held_then (p ∷ q ∷ r ∷ []) n byte e f = absurd (omega (arith, e))
 held_then (p ∷ q ∷ r ∷ s ∷ []) n byte e f = rw f refl
 held_then (p ∷ q ∷ r ∷ s ∷ t ∷ xs) n byte e f = absurd (omega (arith, e))
 
--- bytes held and then a piece, of which all but the last four are told
-pub told_all : (given old mid new start : List ℕ) (line behind line2 : ℕ) (held gap bytes : List ℕ) → GapTold (given ++ old) start line held gap → 4 ≤ length bytes
+-- bytes held and then a piece, of which all but the last four are listed
+pub told_all : (given old mid new start : List ℕ) (line behind line2 : ℕ) (held gap bytes : List ℕ) → GapListed (given ++ old) start line held gap → 4 ≤ length bytes
     → mid ≡ old ++ B line held → behind ≡ in_line_after 32 line held
     → new ≡ mid ++ B behind (take (length bytes - 4) bytes) → line2 ≡ in_line_after 32 behind (take (length bytes - 4) bytes)
-    → GapTold (given ++ new) start line2 (slice_index_or bytes (length bytes - 4) 0 ∷ slice_index_or bytes (length bytes - 4 + 1) 0 ∷ slice_index_or bytes (length bytes - 4 + 2) 0 ∷ slice_index_or bytes (length bytes - 4 + 3) 0 ∷ []) (gap ++ bytes)
+    → GapListed (given ++ new) start line2 (slice_index_or bytes (length bytes - 4) 0 ∷ slice_index_or bytes (length bytes - 4 + 1) 0 ∷ slice_index_or bytes (length bytes - 4 + 2) 0 ∷ slice_index_or bytes (length bytes - 4 + 3) 0 ∷ []) (gap ++ bytes)
 told_all given old mid new start line behind line2 held gap bytes g h m b t n =
     let k : ℕ = length bytes - 4 in
     let last : drop k bytes ≡ slice_index_or bytes k 0 ∷ slice_index_or bytes (k + 1) 0 ∷ slice_index_or bytes (k + 2) 0 ∷ slice_index_or bytes (k + 3) 0 ∷ [] = last_four bytes k (omega arith) in

@@ -42,10 +42,10 @@ small_code FallEdge = omega arith
 -- the lines of a write to CMD of a word that is no small one
 pub far_command : (shown : List ℕ) (line register w : ℕ) → register ≡ 4 → 32 ≤ w → ((shown ++ (close line ++ write_start register)) ++ hex_word w) ++ 10 ∷ [] ≡ shown ++ (close line ++ command_lines w)
 far_command shown line register w e far =
-    let told : command_line w ≡ codes "data " ++ hex_word w ++ 10 ∷ [] = word_line w (λ f. absurd (omega (arith, f, far, small_code (command_by w)))) in
+    let listed : command_line w ≡ codes "data " ++ hex_word w ++ 10 ∷ [] = word_line w (λ f. absurd (omega (arith, f, far, small_code (command_by w)))) in
     ap (λ (r : ℕ). ((shown ++ (close line ++ write_start r)) ++ hex_word w) ++ 10 ∷ []) e
     ∙ append_assoc (shown ++ (close line ++ write_start 4)) (hex_word w) (10 ∷ []) ∙ append_assoc shown (close line ++ write_start 4) (hex_word w ++ 10 ∷ [])
-    ∙ ap (λ t. shown ++ t) (append_assoc (close line) (write_start 4) (hex_word w ++ 10 ∷ []) ∙ ap (λ t. close line ++ t) (append_assoc (write_line 4) (codes "data ") (hex_word w ++ 10 ∷ []) ∙ ap (λ t. write_line 4 ++ t) (sym told)))
+    ∙ ap (λ t. shown ++ t) (append_assoc (close line) (write_start 4) (hex_word w ++ 10 ∷ []) ∙ ap (λ t. close line ++ t) (append_assoc (write_line 4) (codes "data ") (hex_word w ++ 10 ∷ []) ∙ ap (λ t. write_line 4 ++ t) (sym listed)))
 
 -- the line of the header of a short write
 pub head_shown : (shown first all : List ℕ) (line register count : ℕ) (row : List ℕ) → register < 32 → count < 20 → row_text row ≡ close line ++ write_name register → first ≡ shown ++ row_text row → all ≡ first ++ (decimal count ++ 10 ∷ [])
@@ -59,6 +59,6 @@ pub nops_shown : (count : ℕ) (block : List ℕ) → count ≤ 16 → block ≡
 nops_shown count block few e = ap (take (4 * count)) (e ∙ equal_block Nop nop_word 16 (codes "nop\n") refl) ∙ equal_front Nop nop_word 4 16 count refl few
 
 -- a gap and its sync word
-pub gap_shown : (shown cut first all told : List ℕ) → first ≡ shown ++ cut → all ≡ first ++ (10 ∷ codes "sync\n") → told ≡ cut ++ 10 ∷ [] → all ≡ shown ++ (told ++ codes "sync\n")
-gap_shown shown cut first all told a b e =
+pub gap_shown : (shown cut first all listed : List ℕ) → first ≡ shown ++ cut → all ≡ first ++ (10 ∷ codes "sync\n") → listed ≡ cut ++ 10 ∷ [] → all ≡ shown ++ (listed ++ codes "sync\n")
+gap_shown shown cut first all listed a b e =
     b ∙ ap (λ t. t ++ (10 ∷ codes "sync\n")) a ∙ append_assoc shown cut (10 ∷ codes "sync\n") ∙ ap (λ t. shown ++ t) (sym (append_assoc cut (10 ∷ []) (codes "sync\n")) ∙ ap (λ t. t ++ codes "sync\n") (sym e))

@@ -2,7 +2,7 @@
 use Rattle.std.proofs.Common.{◌≡◌, ◌⊎◌, ℕ, ◌+◌, ◌-◌, ◌<◌, ◌≤◌, List, [], ◌∷◌, ◌++◌, inl, inr, Result, Ok, Err, IfOk, IfErr, MatchResult, length, map, fold, refl, ap, sym, subst, ◌∙◌, arith, append_assoc, append-nil, length-append}
 use Rattle.std.proofs.lemmas.Grind.{fold-append}
 use Rattle.std.specs.List.{AllByRecursion}
-use Rattle.x7_listing.specs.Assembly.{asm_limit, Assembles, assembled, Begins, AreAsm, behind, Follows, HasNoHead, IsBad, IsAsm, IsHeaded, IsTooLong, with_line}
+use Rattle.x7_listing.specs.Assembly.{asm_limit, Assembles, assembled, Begins, AreAsm, after_one_line, Follows, HasNoHead, IsBad, IsAsm, IsHeaded, IsTooLong, with_line}
 use Rattle.x7_text.specs.Lines.{split}
 use Rattle.x7_header.specs.Header.{header_bytes}
 use Rattle.x7_listing.specs.BitLine.{bit_text}
@@ -136,7 +136,7 @@ same-asm limit texts (Err (fault.TooLong m)) (Err fault.NoMemory) h k = absurd k
 same-asm limit texts (Err fault.NoMemory) b h k = absurd h
 
 same-follows : (front : List ℕ) (others : List (List ℕ)) (a b : Result (List ℕ) AsmFault) → Follows front others a → Follows front others b → a ≡ b
-same-follows front others a b h k = h.is ∙ ap (behind front) (same-asm (asm_limit - length front) others h.rest k.rest h.lines k.lines) ∙ sym k.is
+same-follows front others a b h k = h.is ∙ ap (after_one_line front) (same-asm (asm_limit - length front) others h.rest k.rest h.lines k.lines) ∙ sym k.is
 
 same-headed : (texts : List (List ℕ)) (a b : Result (List ℕ) AsmFault) → IsHeaded texts a → IsHeaded texts b → a ≡ b
 same-headed texts a b h k =

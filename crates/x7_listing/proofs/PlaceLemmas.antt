@@ -1,8 +1,8 @@
--- What is told at each place of a stream, after each kind of run and at the end.
+-- What is listed at each place of a stream, after each kind of run and at the end.
 use Rattle.std.proofs.Common.{◌≡◌, ℕ, ◌==◌, ◌&&◌, Bool, true, false, if◌then◌else◌, inl, inr, Bor, List, [], ◌∷◌, ◌++◌, None, length, refl, ap, sym, subst, ◌∙◌, append_assoc, append-nil, arith, length-append, codes, flat_map}
 use Rattle.std.proofs.lemmas.Grind.{flat_map-append}
 use Rattle.std.specs.List.{AllByRecursion}
-use Rattle.x7_words.proofs.ListLemmas.{all_back, same_front}
+use Rattle.x7_words.proofs.ListLemmas.{all_back, same_prefix}
 use Rattle.x7_packets.specs.SyncWord.{sync_bytes}
 use Rattle.x7_packets.specs.Packet.{Packet, EachPacket, ended, stepped}
 use Rattle.x7_packets.specs.Taking.{ends_by, is_end}
@@ -16,28 +16,28 @@ use Rattle.x7_text.specs.Digits.{hex_byte}
 use Rattle.x7_text.specs.Row.{bytes_text, close, in_line_after, open_text}
 use Rattle.x7_text.proofs.LineLemmas.{bytes_closed, in_line_after-append, open_text-append}
 use Rattle.x7_listing.specs.Listing.{packets_text, reading_text, session_text}
-use Rattle.x7_listing.specs.Telling.{GapTold, SessionTold, Told, ToldAt, word_next, words_place, words_told}
+use Rattle.x7_listing.specs.Telling.{GapListed, SessionListed, HasListed, HasListedAt, word_next, words_place, open_words}
 use Rattle.x7_listing.proofs.GapLemmas.{fresh_gap}
-use Rattle.x7_listing.proofs.SessionLemmas.{session_closed, words_place-append, words_told-append}
+use Rattle.x7_listing.proofs.SessionLemmas.{session_closed, words_place-append, open_words-append}
 
 -- the text of bytes in `bytes` lines
 abbrev B : ℕ → List ℕ → List ℕ
 B i xs = open_text 32 (codes "bytes ") hex_byte i xs
 
 skipped : (line2 : ℕ) (held2 all2 start gap : List ℕ) (run : Bor (List ℕ)) (sessions new_sessions : List Session) (np : Place) (old new : Mode)
-    → Adds (Skip run) sessions (Searching gap) new_sessions np → Turns (Skip run) old new np → GapTold all2 start line2 held2 (gap ++ run.now) → ToldAt false line2 held2 all2 start np new
+    → Adds (Skip run) sessions (Searching gap) new_sessions np → Turns (Skip run) old new np → GapListed all2 start line2 held2 (gap ++ run.now) → HasListedAt false line2 held2 all2 start np new
 skipped line2 held2 all2 start gap run sessions new_sessions np old new a m g = elim a.1 [
-  | inl e ↦ subst (λ p. ToldAt false line2 held2 all2 start p new) (sym e) g
-  | inr f ↦ subst (λ p. Turns (Skip run) old new p → ToldAt false line2 held2 all2 start p new) (sym f.2) (λ k. (k, refl, refl, subst (λ t. GapTold all2 start line2 held2 t) f.1 g)) m
+  | inl e ↦ subst (λ p. HasListedAt false line2 held2 all2 start p new) (sym e) g
+  | inr f ↦ subst (λ p. Turns (Skip run) old new p → HasListedAt false line2 held2 all2 start p new) (sym f.2) (λ k. (k, refl, refl, subst (λ t. GapListed all2 start line2 held2 t) f.1 g)) m
 ]
 
-same_sessions : (synced : Bool) (line : ℕ) (held all before : List ℕ) (sessions new_sessions : List Session) (np : Place) (new : Mode) → new_sessions ≡ sessions → ToldAt synced line held all (before ++ flat_map session_text sessions) np new → Told synced line held all before new_sessions np new
-same_sessions synced line held all before sessions new_sessions np new e a = subst (λ s. ToldAt synced line held all (before ++ flat_map session_text s) np new) (sym e) a
+same_sessions : (synced : Bool) (line : ℕ) (held all before : List ℕ) (sessions new_sessions : List Session) (np : Place) (new : Mode) → new_sessions ≡ sessions → HasListedAt synced line held all (before ++ flat_map session_text sessions) np new → HasListed synced line held all before new_sessions np new
+same_sessions synced line held all before sessions new_sessions np new e a = subst (λ s. HasListedAt synced line held all (before ++ flat_map session_text s) np new) (sym e) a
 
 pub skip_told : (synced : Bool) (line line2 : ℕ) (held held2 all all2 before : List ℕ) (sessions new_sessions : List Session) (at np : Place) (old new : Mode) (run : Bor (List ℕ))
-    → Told synced line held all before sessions at old → Adds (Skip run) sessions at new_sessions np → Turns (Skip run) old new np
-    → ((start gap : List ℕ) → GapTold all start (if synced then 0 else line) (if synced then [] else held) gap → GapTold all2 start line2 held2 (gap ++ run.now))
-    → Told false line2 held2 all2 before new_sessions np new
+    → HasListed synced line held all before sessions at old → Adds (Skip run) sessions at new_sessions np → Turns (Skip run) old new np
+    → ((start gap : List ℕ) → GapListed all start (if synced then 0 else line) (if synced then [] else held) gap → GapListed all2 start line2 held2 (gap ++ run.now))
+    → HasListed false line2 held2 all2 before new_sessions np new
 skip_told synced line line2 held held2 all all2 before sessions new_sessions (Synced gap packets tail) np old new run t a m g = absurd a
 skip_told false line line2 held held2 all all2 before sessions new_sessions (Searching gap) np old new run t a m g =
     let start : List ℕ = before ++ flat_map session_text sessions in
@@ -50,37 +50,37 @@ gap_closed : (all start : List ℕ) (line : ℕ) (front : List ℕ) → all ≡ 
 gap_closed all start line front e n = ap (λ t. t ++ close line) e ∙ append_assoc start (B 0 front) (close line) ∙ ap (λ k. start ++ (B 0 front ++ close k)) n ∙ ap (λ t. start ++ t) (bytes_closed front)
 
 -- where a gap ends with the sync word, its four bytes are those held
-found_gap : (all start : List ℕ) (line : ℕ) (held gap : List ℕ) → GapTold all start line held (gap ++ sync_bytes) → all ++ close line ≡ start ++ bytes_text gap
+found_gap : (all start : List ℕ) (line : ℕ) (held gap : List ℕ) → GapListed all start line held (gap ++ sync_bytes) → all ++ close line ≡ start ++ bytes_text gap
 found_gap all start line held gap g =
     let four : length held ≡ 4 = elim g.full [
       | inl a ↦ a
       | inr a ↦ let e : gap ++ sync_bytes ≡ held = g.split ∙ ap (λ t. t ++ held) a in omega (arith, ap length e, length-append gap sync_bytes, g.few)
     ] in
     let long : length gap ≡ length g.front = omega (arith, ap length g.split, length-append gap sync_bytes, length-append g.front held, four) in
-    let same : gap ≡ g.front = same_front gap g.front sync_bytes held long g.split in
-    gap_closed all start line g.front g.told g.count ∙ ap (λ t. start ++ bytes_text t) (sym same)
+    let same : gap ≡ g.front = same_prefix gap g.front sync_bytes held long g.split in
+    gap_closed all start line g.front g.listed g.count ∙ ap (λ t. start ++ bytes_text t) (sym same)
 
 pub sync_told : (synced : Bool) (line : ℕ) (held held2 all all2 before : List ℕ) (sessions new_sessions : List Session) (at np : Place) (old new : Mode)
-    → Told synced line held all before sessions at old → Adds Sync sessions at new_sessions np → Turns Sync old new np → all2 ≡ all ++ close line ++ codes "sync\n" → Told true 0 held2 all2 before new_sessions np new
+    → HasListed synced line held all before sessions at old → Adds Sync sessions at new_sessions np → Turns Sync old new np → all2 ≡ all ++ close line ++ codes "sync\n" → HasListed true 0 held2 all2 before new_sessions np new
 sync_told synced line held held2 all all2 before sessions new_sessions (Searching gap) np old new t a m e = absurd a
 sync_told true line held held2 all all2 before sessions new_sessions (Synced gap packets tail) np old new t a m e = absurd (t.0 m.0)
 sync_told false line held held2 all all2 before sessions new_sessions (Synced gap packets tail) np old new t a m e =
     let start : List ℕ = before ++ flat_map session_text sessions in
-    let session : SessionTold all2 start 0 gap [] = record {
-      told = e ∙ ap (λ t. t ++ codes "sync\n") (found_gap all start line held gap t.3) ∙ sym (append-nil (start ++ bytes_text gap ++ codes "sync\n"));
+    let session : SessionListed all2 start 0 gap [] = record {
+      listed = e ∙ ap (λ t. t ++ codes "sync\n") (found_gap all start line held gap t.3) ∙ sym (append-nil (start ++ bytes_text gap ++ codes "sync\n"));
       count = refl;
     } in
-    same_sessions true 0 held2 all2 before sessions new_sessions np new a.2 (subst (λ p. ToldAt true 0 held2 all2 start p new) (sym a.3) (m.1, session))
+    same_sessions true 0 held2 all2 before sessions new_sessions np new a.2 (subst (λ p. HasListedAt true 0 held2 all2 start p new) (sym a.3) (m.1, session))
 
 -- words more of a session, at once
-session_words : (all all2 start : List ℕ) (line line2 : ℕ) (gap : List ℕ) (packets all_packets : List Packet) (more : List (ℕ × Step)) → SessionTold all start line gap packets
-    → flat_map stepped all_packets ≡ flat_map stepped packets ++ more → all2 ≡ all ++ words_told line more → line2 ≡ words_place line more → SessionTold all2 start line2 gap all_packets
+session_words : (all all2 start : List ℕ) (line line2 : ℕ) (gap : List ℕ) (packets all_packets : List Packet) (more : List (ℕ × Step)) → SessionListed all start line gap packets
+    → flat_map stepped all_packets ≡ flat_map stepped packets ++ more → all2 ≡ all ++ open_words line more → line2 ≡ words_place line more → SessionListed all2 start line2 gap all_packets
 session_words all all2 start line line2 gap packets all_packets more s grown t n =
     let ss : List (ℕ × Step) = flat_map stepped packets in
     let X : List ℕ = start ++ bytes_text gap ++ codes "sync\n" in
     record {
-      told = t ∙ ap (λ t. t ++ words_told line more) s.told ∙ append_assoc X (words_told 0 ss) (words_told line more) ∙ ap (λ k. X ++ (words_told 0 ss ++ words_told k more)) s.count
-          ∙ ap (λ t. X ++ t) (sym (words_told-append 0 ss more)) ∙ ap (λ t. X ++ words_told 0 t) (sym grown);
+      listed = t ∙ ap (λ t. t ++ open_words line more) s.listed ∙ append_assoc X (open_words 0 ss) (open_words line more) ∙ ap (λ k. X ++ (open_words 0 ss ++ open_words k more)) s.count
+          ∙ ap (λ t. X ++ t) (sym (open_words-append 0 ss more)) ∙ ap (λ t. X ++ open_words 0 t) (sym grown);
       count = n ∙ ap (λ k. words_place k more) s.count ∙ sym (words_place-append 0 ss more) ∙ ap (words_place 0) (sym grown);
     }
 
@@ -103,36 +103,36 @@ ends_next i (s ∷ []) e = end_next i s.1 e
 ends_next i (s ∷ t ∷ more) e = ends_next (word_next i s.1) (t ∷ more) e
 
 -- the open session, where its line is ended
-session_ended : (all start : List ℕ) (line : ℕ) (gap : List ℕ) (packets : List Packet) → SessionTold all start line gap packets → EachPacket None packets → all ++ close line ≡ start ++ packets_text gap packets
+session_ended : (all start : List ℕ) (line : ℕ) (gap : List ℕ) (packets : List Packet) → SessionListed all start line gap packets → EachPacket None packets → all ++ close line ≡ start ++ packets_text gap packets
 session_ended all start line gap packets s each =
     let ss : List (ℕ × Step) = flat_map stepped packets in
     let X : List ℕ = start ++ bytes_text gap ++ codes "sync\n" in
-    ap (λ t. t ++ close line) s.told ∙ append_assoc X (words_told 0 ss) (close line) ∙ ap (λ k. X ++ (words_told 0 ss ++ close k)) s.count ∙ ap (λ t. X ++ t) (session_closed None 0 packets each) ∙ simp append_assoc
+    ap (λ t. t ++ close line) s.listed ∙ append_assoc X (open_words 0 ss) (close line) ∙ ap (λ k. X ++ (open_words 0 ss ++ close k)) s.count ∙ ap (λ t. X ++ t) (session_closed None 0 packets each) ∙ simp append_assoc
 
 words_by : (line line2 : ℕ) (held2 all all2 before bytes : List ℕ) (sessions new_sessions : List Session) (gap : List ℕ) (packets all_packets : List Packet) (np : Place) (new : Mode) (more : List (ℕ × Step)) (b : Bool)
     → ended all_packets ≡ b → (b ≡ true → line2 ≡ 0)
-    → SessionTold all2 (before ++ flat_map session_text sessions) line2 gap all_packets → (new ≡ Mode.Due → ⊥)
+    → SessionListed all2 (before ++ flat_map session_text sessions) line2 gap all_packets → (new ≡ Mode.Due → ⊥)
     → (b ≡ true → (new_sessions ≡ sessions ++ record { gap = gap; packets = all_packets } ∷ []) × (np ≡ Searching []))
     → (b ≡ false → (new_sessions ≡ sessions) × (np ≡ Synced gap all_packets []))
-    → IsReading bytes new_sessions np → Told true line2 held2 all2 before new_sessions np new
+    → IsReading bytes new_sessions np → HasListed true line2 held2 all2 before new_sessions np new
 words_by line line2 held2 all all2 before bytes sessions new_sessions gap packets all_packets np new more true is n s due over goes r =
     let session : Session = record { gap = gap; packets = all_packets } in
     let e = over refl in
     let zero : line2 ≡ 0 = n refl in
     let all_sessions : AllByRecursion IsSession (sessions ++ session ∷ []) = subst (λ x. AllByRecursion IsSession x) e.0 r.each in
     let last : IsSession session = (all_back IsSession sessions (session ∷ []) all_sessions).0 in
-    let told : all2 ≡ before ++ flat_map session_text sessions ++ packets_text gap all_packets = sym (append-nil all2) ∙ ap (λ k. all2 ++ close k) (sym zero) ∙ session_ended all2 (before ++ flat_map session_text sessions) line2 gap all_packets s last.packets in
+    let listed : all2 ≡ before ++ flat_map session_text sessions ++ packets_text gap all_packets = sym (append-nil all2) ∙ ap (λ k. all2 ++ close k) (sym zero) ∙ session_ended all2 (before ++ flat_map session_text sessions) line2 gap all_packets s last.packets in
     let joined : before ++ flat_map session_text sessions ++ packets_text gap all_packets ≡ before ++ flat_map session_text (sessions ++ session ∷ []) =
     append_assoc before (flat_map session_text sessions) (packets_text gap all_packets) ∙ ap (λ t. before ++ (flat_map session_text sessions ++ t)) (sym (append-nil (packets_text gap all_packets))) ∙ ap (λ t. before ++ t) (sym (flat_map-append session_text sessions (session ∷ []))) in
-    subst (λ p. Told true line2 held2 all2 before new_sessions p new) (sym e.1) (refl, zero, told ∙ joined ∙ ap (λ x. before ++ flat_map session_text x) (sym e.0))
+    subst (λ p. HasListed true line2 held2 all2 before new_sessions p new) (sym e.1) (refl, zero, listed ∙ joined ∙ ap (λ x. before ++ flat_map session_text x) (sym e.0))
 words_by line line2 held2 all all2 before bytes sessions new_sessions gap packets all_packets np new more false is n s due over goes r =
     let e = goes refl in
-    same_sessions true line2 held2 all2 before sessions new_sessions np new e.0 (subst (λ p. ToldAt true line2 held2 all2 (before ++ flat_map session_text sessions) p new) (sym e.1) (due, s))
+    same_sessions true line2 held2 all2 before sessions new_sessions np new e.0 (subst (λ p. HasListedAt true line2 held2 all2 (before ++ flat_map session_text sessions) p new) (sym e.1) (due, s))
 
--- words more of a session are told: a header's word, or payload words
+-- words more of a session are listed: a header's word, or payload words
 pub words_told_at : (synced : Bool) (line line2 : ℕ) (held held2 all all2 before bytes : List ℕ) (sessions new_sessions : List Session) (gap tail : List ℕ) (packets : List Packet) (np : Place) (old new : Mode) (more : List (ℕ × Step))
-    → Told synced line held all before sessions (Synced gap packets tail) old → (old ≡ Mode.Due → ⊥) → (new ≡ Mode.Due → ⊥) → Longer gap packets more sessions new_sessions np → IsReading bytes new_sessions np
-    → (synced ≡ true → (all2 ≡ all ++ words_told line more) × (line2 ≡ words_place line more)) → Told true line2 held2 all2 before new_sessions np new
+    → HasListed synced line held all before sessions (Synced gap packets tail) old → (old ≡ Mode.Due → ⊥) → (new ≡ Mode.Due → ⊥) → Longer gap packets more sessions new_sessions np → IsReading bytes new_sessions np
+    → (synced ≡ true → (all2 ≡ all ++ open_words line more) × (line2 ≡ words_place line more)) → HasListed true line2 held2 all2 before new_sessions np new
 words_told_at false line line2 held held2 all all2 before bytes sessions new_sessions gap tail packets np old new more t o n l r h = absurd (o t.0)
 words_told_at true line line2 held held2 all all2 before bytes sessions new_sessions gap tail packets np old new more t o n l r h =
     let e = h refl in
@@ -141,17 +141,17 @@ words_told_at true line line2 held held2 all all2 before bytes sessions new_sess
     (session_words all all2 (before ++ flat_map session_text sessions) line line2 gap packets l.all more t.1 l.grown e.0 e.1) n l.ends l.goes_on r
 
 -- the end of a listing in a gap
-pub gap_ended : (all all2 before : List ℕ) (line : ℕ) (held bytes : List ℕ) (sessions : List Session) (at : Place) (m : Mode) → Told false line held all before sessions at m → (m ≡ Mode.Due → ⊥)
+pub gap_ended : (all all2 before : List ℕ) (line : ℕ) (held bytes : List ℕ) (sessions : List Session) (at : Place) (m : Mode) → HasListed false line held all before sessions at m → (m ≡ Mode.Due → ⊥)
     → all2 ≡ all ++ B line held ++ close (in_line_after 32 line held) → all2 ≡ before ++ reading_text sessions at
 gap_ended all all2 before line held bytes sessions (Synced gap packets tail) m t d e = absurd (d t.0)
 gap_ended all all2 before line held bytes sessions (Searching gap) m t d e =
     let start : List ℕ = before ++ flat_map session_text sessions in
-    let told : all ++ B line held ≡ start ++ B 0 gap = ap (λ t. t ++ B line held) t.told ∙ append_assoc start (B 0 t.front) (B line held) ∙ ap (λ k. start ++ (B 0 t.front ++ B k held)) t.count ∙ ap (λ t. start ++ t) (sym (open_text-append 32 (codes "bytes ") hex_byte 0 t.front held)) ∙ ap (λ t. start ++ B 0 t) (sym t.split) in
+    let listed : all ++ B line held ≡ start ++ B 0 gap = ap (λ t. t ++ B line held) t.listed ∙ append_assoc start (B 0 t.front) (B line held) ∙ ap (λ k. start ++ (B 0 t.front ++ B k held)) t.count ∙ ap (λ t. start ++ t) (sym (open_text-append 32 (codes "bytes ") hex_byte 0 t.front held)) ∙ ap (λ t. start ++ B 0 t) (sym t.split) in
     let count : in_line_after 32 line held ≡ in_line_after 32 0 gap = ap (λ k. in_line_after 32 k held) t.count ∙ sym (in_line_after-append 32 0 t.front held) ∙ ap (in_line_after 32 0) (sym t.split) in
-    e ∙ gap_closed (all ++ B line held) start (in_line_after 32 line held) gap told count ∙ append_assoc before (flat_map session_text sessions) (bytes_text gap)
+    e ∙ gap_closed (all ++ B line held) start (in_line_after 32 line held) gap listed count ∙ append_assoc before (flat_map session_text sessions) (bytes_text gap)
 
 -- the end of a listing in a session
-pub session_over : (all all2 before : List ℕ) (line : ℕ) (held kept bytes : List ℕ) (sessions : List Session) (at : Place) (m : Mode) → Told true line held all before sessions at m → IsReading bytes sessions at → kept ≡ tail_of at
+pub session_over : (all all2 before : List ℕ) (line : ℕ) (held kept bytes : List ℕ) (sessions : List Session) (at : Place) (m : Mode) → HasListed true line held all before sessions at m → IsReading bytes sessions at → kept ≡ tail_of at
     → all2 ≡ all ++ close line ++ B 0 kept ++ close (in_line_after 32 0 kept) → all2 ≡ before ++ reading_text sessions at
 session_over all all2 before line held kept bytes sessions (Searching gap) m t r k e =
     rw (e, k, t.1, t.2, t.0) (simp (append_assoc, append-nil))

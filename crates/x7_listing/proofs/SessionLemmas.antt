@@ -1,4 +1,4 @@
--- The words of a session told one by one are the lines of its packets.
+-- The words of a session listed one by one are the lines of its packets.
 use Rattle.std.proofs.Common.{◌≡◌, ℕ, ◌==◌, Bool, true, false, List, [], ◌∷◌, ◌++◌, Option, refl, ap, sym, ◌∙◌, append_assoc, append-nil, codes, flat_map}
 use Rattle.std.proofs.Common.{arith}
 use Rattle.std.proofs.lemmas.Bool.Decides.{nat_tests}
@@ -12,18 +12,18 @@ use Rattle.x7_text.specs.Row.{close, element_text, in_line_after, next_in_line, 
 use Rattle.x7_text.proofs.LineLemmas.{data_closed}
 use Rattle.x7_listing.specs.HeadLine.{command_line, head_text}
 use Rattle.x7_listing.specs.Listing.{packet_text, payload_text}
-use Rattle.x7_listing.specs.Telling.{payload_next, word_next, word_told, words_place, words_told}
+use Rattle.x7_listing.specs.Telling.{payload_next, word_next, open_word, words_place, open_words}
 
-pub words_told-append : (i : ℕ) (xs ys : List (ℕ × Step)) → words_told i (xs ++ ys) ≡ words_told i xs ++ words_told (words_place i xs) ys
-words_told-append i [] ys = refl
-words_told-append i (x ∷ xs) ys = ap (λ t. word_told i x.0 x.1 ++ t) (words_told-append (word_next i x.1) xs ys) ∙ sym (append_assoc (word_told i x.0 x.1) (words_told (word_next i x.1) xs) (words_told (words_place (word_next i x.1) xs) ys))
+pub open_words-append : (i : ℕ) (xs ys : List (ℕ × Step)) → open_words i (xs ++ ys) ≡ open_words i xs ++ open_words (words_place i xs) ys
+open_words-append i [] ys = refl
+open_words-append i (x ∷ xs) ys = ap (λ t. open_word i x.0 x.1 ++ t) (open_words-append (word_next i x.1) xs ys) ∙ sym (append_assoc (open_word i x.0 x.1) (open_words (word_next i x.1) xs) (open_words (words_place (word_next i x.1) xs) ys))
 
 pub words_place-append : (i : ℕ) (xs ys : List (ℕ × Step)) → words_place i (xs ++ ys) ≡ words_place (words_place i xs) ys
 words_place-append i [] ys = refl
 words_place-append i (x ∷ xs) ys = words_place-append (word_next i x.1) xs ys
 
--- payload words of a register other than CMD are told in `data` lines
-pub data_told : (register i : ℕ) (ws : List ℕ) → (register == 4) ≡ false → words_told i (payload_steps register ws) ≡ open_text 8 (codes "data") spaced i ws
+-- payload words of a register other than CMD are listed in `data` lines
+pub data_told : (register i : ℕ) (ws : List ℕ) → (register == 4) ≡ false → open_words i (payload_steps register ws) ≡ open_text 8 (codes "data") spaced i ws
 data_told register i [] e = refl
 data_told register i (w ∷ ws) e = rw e (ap (λ t. element_text 8 (codes "data") spaced i w ++ t) (data_told register (next_in_line 8 i) ws e))
 
@@ -31,7 +31,7 @@ pub data_place : (register i : ℕ) (ws : List ℕ) → (register == 4) ≡ fals
 data_place register i [] e = refl
 data_place register i (w ∷ ws) e = ap (λ b. words_place (payload_next b i) (payload_steps register ws)) e ∙ data_place register (next_in_line 8 i) ws e
 
-commands_told : (register : ℕ) (ws : List ℕ) → (register == 4) ≡ true → words_told 0 (payload_steps register ws) ≡ flat_map command_line ws
+commands_told : (register : ℕ) (ws : List ℕ) → (register == 4) ≡ true → open_words 0 (payload_steps register ws) ≡ flat_map command_line ws
 commands_told register [] e = refl
 commands_told register (w ∷ ws) e = rw e (ap (λ t. command_line w ++ t) (commands_told register ws e))
 
@@ -39,14 +39,14 @@ commands_place : (register : ℕ) (ws : List ℕ) → (register == 4) ≡ true �
 commands_place register [] e = refl
 commands_place register (w ∷ ws) e = ap (λ b. words_place (payload_next b 0) (payload_steps register ws)) e ∙ commands_place register ws e
 
-payload_by : (register : ℕ) (ws : List ℕ) (b : Bool) → (register == 4) ≡ b → words_told 0 (payload_steps register ws) ++ close (words_place 0 (payload_steps register ws)) ≡ payload_text register ws
+payload_by : (register : ℕ) (ws : List ℕ) (b : Bool) → (register == 4) ≡ b → open_words 0 (payload_steps register ws) ++ close (words_place 0 (payload_steps register ws)) ≡ payload_text register ws
 payload_by register ws true e = ap (λ t. t ++ close (words_place 0 (payload_steps register ws))) (commands_told register ws e) ∙ ap (λ k. flat_map command_line ws ++ close k) (commands_place register ws e) ∙ append-nil (flat_map command_line ws) ∙ rw e refl
 payload_by register ws false e = ap (λ t. t ++ close (words_place 0 (payload_steps register ws))) (data_told register 0 ws e) ∙ ap (λ k. open_text 8 (codes "data") spaced 0 ws ++ close k) (data_place register 0 ws e) ∙ data_closed ws ∙ rw e refl
 
-payload_closed : (register : ℕ) (ws : List ℕ) → words_told 0 (payload_steps register ws) ++ close (words_place 0 (payload_steps register ws)) ≡ payload_text register ws
+payload_closed : (register : ℕ) (ws : List ℕ) → open_words 0 (payload_steps register ws) ++ close (words_place 0 (payload_steps register ws)) ≡ payload_text register ws
 payload_closed register ws = payload_by register ws (register == 4) refl
 
-pub head_told : (i w : ℕ) (s : Step) → ((r x : ℕ) → s ≡ Payload r x → ⊥) → word_told i w s ≡ close i ++ head_text s w
+pub head_told : (i w : ℕ) (s : Step) → ((r x : ℕ) → s ≡ Payload r x → ⊥) → open_word i w s ≡ close i ++ head_text s w
 head_told i w (Payload r x) h = absurd (h r x refl)
 head_told i w Filler h = refl
 head_told i w Nop h = refl
@@ -65,12 +65,12 @@ head_next i (Bad x) h = refl
 packet_glue : (W c h C O R : List ℕ) → W ≡ c ++ h → O ++ C ≡ R → W ++ O ++ C ≡ c ++ (h ++ R)
 packet_glue W c h C O R e f = rw (e, ← f) (simp append_assoc)
 
-packet_closed : (l : Option ℕ) (i : ℕ) (p : Packet) → IsPacket l p → words_told i (stepped p) ++ close (words_place i (stepped p)) ≡ close i ++ packet_text p
+packet_closed : (l : Option ℕ) (i : ℕ) (p : Packet) → IsPacket l p → open_words i (stepped p) ++ close (words_place i (stepped p)) ≡ close i ++ packet_text p
 packet_closed l i p is =
     let none : (r x : ℕ) → p.step ≡ Payload r x → ⊥ = λ r x e. no_payload l p.head r x (sym is.means ∙ e) in
     let ss : List (ℕ × Step) = payload_steps (named_by p.step) p.payload in
-    ap (λ k. word_told i p.head p.step ++ words_told k ss ++ close (words_place k ss)) (head_next i p.step none)
-    ∙ packet_glue (word_told i p.head p.step) (close i) (head_text p.step p.head) (close (words_place 0 ss)) (words_told 0 ss) (payload_text (named_by p.step) p.payload) (head_told i p.head p.step none) (payload_closed (named_by p.step) p.payload)
+    ap (λ k. open_word i p.head p.step ++ open_words k ss ++ close (words_place k ss)) (head_next i p.step none)
+    ∙ packet_glue (open_word i p.head p.step) (close i) (head_text p.step p.head) (close (words_place 0 ss)) (open_words 0 ss) (payload_text (named_by p.step) p.payload) (head_told i p.head p.step none) (payload_closed (named_by p.step) p.payload)
 
 split_each : (l : Option ℕ) (p : Packet) (ps : List Packet) → EachPacket l (p ∷ ps) → IsPacket l p × EachPacket (latest_after l p.step) ps
 split_each l p [] e = (e, tt)
@@ -79,15 +79,15 @@ split_each l p (q ∷ ps) e = (e.0, e.2)
 session_glue : (A B C K F I P : List ℕ) → B ++ C ≡ K ++ F → A ++ K ≡ I ++ P → A ++ B ++ C ≡ I ++ (P ++ F)
 session_glue A B C K F I P e f = append_assoc A B C ∙ ap (λ t. A ++ t) e ∙ sym (append_assoc A K F) ∙ ap (λ t. t ++ F) f ∙ append_assoc I P F
 
--- the words of packets told one by one are the packets' lines
-pub session_closed : (l : Option ℕ) (i : ℕ) (ps : List Packet) → EachPacket l ps → words_told i (flat_map stepped ps) ++ close (words_place i (flat_map stepped ps)) ≡ close i ++ flat_map packet_text ps
+-- the words of packets listed one by one are the packets' lines
+pub session_closed : (l : Option ℕ) (i : ℕ) (ps : List Packet) → EachPacket l ps → open_words i (flat_map stepped ps) ++ close (words_place i (flat_map stepped ps)) ≡ close i ++ flat_map packet_text ps
 session_closed l i [] e = sym (append-nil (close i))
 session_closed l i (p ∷ ps) e =
     let s : IsPacket l p × EachPacket (latest_after l p.step) ps = split_each l p ps e in
     let rest : List (ℕ × Step) = flat_map stepped ps in
-    ap (λ t. t ++ close (words_place i (stepped p ++ rest))) (words_told-append i (stepped p) rest)
-    ∙ ap (λ k. words_told i (stepped p) ++ words_told (words_place i (stepped p)) rest ++ close k) (words_place-append i (stepped p) rest)
-    ∙ session_glue (words_told i (stepped p)) (words_told (words_place i (stepped p)) rest) (close (words_place (words_place i (stepped p)) rest)) (close (words_place i (stepped p))) (flat_map packet_text ps) (close i) (packet_text p)
+    ap (λ t. t ++ close (words_place i (stepped p ++ rest))) (open_words-append i (stepped p) rest)
+    ∙ ap (λ k. open_words i (stepped p) ++ open_words (words_place i (stepped p)) rest ++ close k) (words_place-append i (stepped p) rest)
+    ∙ session_glue (open_words i (stepped p)) (open_words (words_place i (stepped p)) rest) (close (words_place (words_place i (stepped p)) rest)) (close (words_place i (stepped p))) (flat_map packet_text ps) (close i) (packet_text p)
     (session_closed (latest_after l p.step) (words_place i (stepped p)) ps s.1) (packet_closed l i p s.0)
 
 tests_false : (a b : ℕ) → (a ≡ b → ⊥) → (a == b) ≡ false

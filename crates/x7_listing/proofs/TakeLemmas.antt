@@ -9,7 +9,7 @@ use Rattle.x7_packets.specs.declared.cutter.Cut.TheVariants.{Need, Skip, Sync, H
 use Rattle.x7_text.specs.Digits.{hex_byte}
 use Rattle.x7_text.specs.Row.{close, in_line_after, open_text}
 use Rattle.x7_listing.specs.Listing.{IsListing, reading_text}
-use Rattle.x7_listing.specs.Telling.{Rests, Tells, Told, Writes}
+use Rattle.x7_listing.specs.Telling.{Rests, Tells, HasListed, Writes}
 use Rattle.x7_listing.proofs.GapLemmas.{fresh_gap}
 use Rattle.x7_listing.proofs.PlaceLemmas.{gap_ended, session_over}
 use Rattle.x7_listing.proofs.RunLemmas.{need_adds}
@@ -31,7 +31,7 @@ took c d run synced s2 line l2 at to held h2 text text2 given before bytes piece
       sessions = w.new_sessions;
       at = w.new_place;
       cut = w.stands;
-      told = writes before (bytes ++ take at piece ++ between piece at to) s.sessions w.new_sessions s.at w.new_place c.mode d.mode s.told w.adds w.turns is w.stands.reading;
+      listed = writes before (bytes ++ take at piece ++ between piece at to) s.sessions w.new_sessions s.at w.new_place c.mode d.mode s.listed w.adds w.turns is w.stands.reading;
     } in
     subst (λ t. Tells d s2 l2 h2 text2 given before t) e all
 
@@ -53,22 +53,22 @@ took_all c d run synced line at to held text given before bytes piece s h full i
       sessions = w.new_sessions;
       at = w.new_place;
       cut = w.stands;
-      told = need_adds synced line held (given ++ text) before s.sessions w.new_sessions s.at w.new_place c.mode d.mode s.told w.adds w.turns;
+      listed = need_adds synced line held (given ++ text) before s.sessions w.new_sessions s.at w.new_place c.mode d.mode s.listed w.adds w.turns;
     } in
     record { tells = subst (λ t. Tells d synced line held text given before t) e all; ready = w.turns.1 }
 
-pub ended_gap : (synced : Bool) (line : ℕ) (held given old new before bytes : List ℕ) (sessions : List Session) (spot : Place) (m : Mode) → synced ≡ false → Told synced line held (given ++ old) before sessions spot m → (m ≡ Mode.Due → ⊥)
+pub ended_gap : (synced : Bool) (line : ℕ) (held given old new before bytes : List ℕ) (sessions : List Session) (spot : Place) (m : Mode) → synced ≡ false → HasListed synced line held (given ++ old) before sessions spot m → (m ≡ Mode.Due → ⊥)
     → new ≡ old ++ open_text 32 (codes "bytes ") hex_byte line held ++ close (in_line_after 32 line held) → given ++ new ≡ before ++ reading_text sessions spot
 ended_gap synced line held given old new before bytes sessions spot m is t d e =
-    let t2 : Told false line held (given ++ old) before sessions spot m = subst (λ s. Told s line held (given ++ old) before sessions spot m) is t in
+    let t2 : HasListed false line held (given ++ old) before sessions spot m = subst (λ s. HasListed s line held (given ++ old) before sessions spot m) is t in
     let B : List ℕ = open_text 32 (codes "bytes ") hex_byte line held in
     gap_ended (given ++ old) (given ++ new) before line held bytes sessions spot m t2 d
     (ap (λ x. given ++ x) e ∙ sym (append_assoc given (old ++ B) (close (in_line_after 32 line held))) ∙ ap (λ x. x ++ close (in_line_after 32 line held)) (sym (append_assoc given old B)))
 
-pub ended_session : (synced : Bool) (line : ℕ) (held kept given old new before bytes : List ℕ) (sessions : List Session) (spot : Place) (m : Mode) → synced ≡ true → Told synced line held (given ++ old) before sessions spot m → IsReading bytes sessions spot → kept ≡ tail_of spot
+pub ended_session : (synced : Bool) (line : ℕ) (held kept given old new before bytes : List ℕ) (sessions : List Session) (spot : Place) (m : Mode) → synced ≡ true → HasListed synced line held (given ++ old) before sessions spot m → IsReading bytes sessions spot → kept ≡ tail_of spot
     → new ≡ old ++ close line ++ open_text 32 (codes "bytes ") hex_byte 0 kept ++ close (in_line_after 32 0 kept) → given ++ new ≡ before ++ reading_text sessions spot
 ended_session synced line held kept given old new before bytes sessions spot m is t r k e =
-    let t2 : Told true line held (given ++ old) before sessions spot m = subst (λ s. Told s line held (given ++ old) before sessions spot m) is t in
+    let t2 : HasListed true line held (given ++ old) before sessions spot m = subst (λ s. HasListed s line held (given ++ old) before sessions spot m) is t in
     let B : List ℕ = open_text 32 (codes "bytes ") hex_byte 0 kept in
     let C : List ℕ = close (in_line_after 32 0 kept) in
     session_over (given ++ old) (given ++ new) before line held kept bytes sessions spot m t2 r k
@@ -83,7 +83,7 @@ begins c synced line held text given before s e f g t d =
         sessions = [];
         at = Searching [];
         cut = s;
-        told = subst (λ x. Told x line held (given ++ text) before [] (Searching []) c.mode) (sym e) (subst (λ x. Told false x held (given ++ text) before [] (Searching []) c.mode) (sym f) (subst (λ x. Told false 0 x (given ++ text) before [] (Searching []) c.mode) (sym g)
+        listed = subst (λ x. HasListed x line held (given ++ text) before [] (Searching []) c.mode) (sym e) (subst (λ x. HasListed false x held (given ++ text) before [] (Searching []) c.mode) (sym f) (subst (λ x. HasListed false 0 x (given ++ text) before [] (Searching []) c.mode) (sym g)
             (fresh_gap (given ++ text) (before ++ []) [] refl (t ∙ sym (append-nil before)))));
       };
       ready = d;
@@ -101,7 +101,7 @@ moved c synced line held text given before bytes r =
         sessions = r.tells.sessions;
         at = r.tells.at;
         cut = r.tells.cut;
-        told = subst (λ t. Told synced line held t before r.tells.sessions r.tells.at c.mode) (sym (append-nil (given ++ text))) r.tells.told;
+        listed = subst (λ t. HasListed synced line held t before r.tells.sessions r.tells.at c.mode) (sym (append-nil (given ++ text))) r.tells.listed;
       };
       ready = r.ready;
     }

@@ -4,7 +4,7 @@ use Rattle.std.proofs.lemmas.List.{take-take, take_all}
 use Rattle.std.specs.List.{flat_map}
 use Rattle.x7_packets.specs.Reading.{Place, Searching, Synced, Session, IsReading, tail_of}
 use Rattle.x7_packets.specs.Cutting.{Adds, CutterStandsFor, IsNeed, IsRun}
-use Rattle.x7_packets.specs.Run.{FitsRun, IsNext, RunAdds, cut_of, is_last, told_bytes}
+use Rattle.x7_packets.specs.Run.{FitsRun, IsNext, RunAdds, cut_of, is_last, bytes_of_run}
 use Rattle.x7_packets.specs.declared.cutter.Cut.{Cut}
 use Rattle.x7_packets.specs.Mode.{Mode}
 use Rattle.x7_packets.specs.declared.stream.Run.{Run}
@@ -12,7 +12,7 @@ use Rattle.x7_packets.specs.declared.stream.Run.TheVariants as run
 use Rattle.x7_packets.proofs.RunningLemmas.{bare_after}
 use Rattle.x7_packets.proofs.UniqueLemmas.{one_reading}
 use Rattle.x7_listing.specs.Listing.{reading_text, session_text}
-use Rattle.x7_listing.specs.Telling.{ListerState, SessionTold, Told, ToldAt, Writes}
+use Rattle.x7_listing.specs.Telling.{ListerState, SessionListed, HasListed, HasListedAt, Writes}
 use Rattle.x7_listing.specs.Taking.{EndsRuns, TakerStandsFor, TakesRun}
 use Rattle.x7_listing.proofs.GapLemmas.{fresh_gap}
 use Rattle.x7_listing.proofs.TakeLemmas.{begins, not_due}
@@ -57,26 +57,26 @@ takes_as run.End l given before bytes due e t = absurd (let g : true ≡ false =
 
 -- ---- a run
 
--- what was told of bytes, by any reading of them
+-- what was listed of bytes, by any reading of them
 told_by : (l : ListerState) (given before bytes : List ℕ) (due : Mode) (t : TakerStandsFor l given before bytes due) (sessions : List Session) (place : Place) → IsReading bytes sessions place
-    → Told l.synced l.line l.held (given ++ l.text) before sessions place due × (t.at ≡ place)
+    → HasListed l.synced l.line l.held (given ++ l.text) before sessions place due × (t.at ≡ place)
 told_by l given before bytes due t sessions place r =
     let e : (t.sessions ≡ sessions) × (t.at ≡ place) = one_reading bytes t.sessions sessions t.at place t.reading r in (
-      subst (λ p. Told l.synced l.line l.held (given ++ l.text) before sessions p due) e.1 (subst (λ (s : List Session). Told l.synced l.line l.held (given ++ l.text) before s t.at due) e.0 t.told),
+      subst (λ p. HasListed l.synced l.line l.held (given ++ l.text) before sessions p due) e.1 (subst (λ (s : List Session). HasListed l.synced l.line l.held (given ++ l.text) before s t.at due) e.0 t.listed),
       e.1,
     )
 
 pub takes_run : (l n : ListerState) (r : Run) (given before bytes : List ℕ) (due next : Mode) → is_last r ≡ false → n.cutter ≡ l.cutter
     → Writes (cut_of r) l.synced l.line l.held (given ++ l.text) n.synced n.line n.held (given ++ n.text) → ((IsNeed (cut_of r) → ⊥) → n.synced ≡ true → n.held ≡ [])
-    → TakerStandsFor l given before bytes due → IsNext bytes due r next → TakesRun r n given before (bytes ++ told_bytes r) next
+    → TakerStandsFor l given before bytes due → IsNext bytes due r next → TakesRun r n given before (bytes ++ bytes_of_run r) next
 takes_run l n r given before bytes due next on same writes none t x =
-    let told = (told_by l given before bytes due t x.sessions x.place x.before).0 in
+    let listed = (told_by l given before bytes due t x.sessions x.place x.before).0 in
     let adds : Adds (cut_of r) x.sessions x.place x.new_sessions x.new_place = cut_adds r x.sessions x.new_sessions x.place x.new_place on x.adds in
-    takes_as r n given before (bytes ++ told_bytes r) next on (record {
+    takes_as r n given before (bytes ++ bytes_of_run r) next on (record {
       sessions = x.new_sessions;
       at = x.new_place;
       reading = x.after;
-      told = writes before (bytes ++ told_bytes r) x.sessions x.new_sessions x.place x.new_place due next told adds x.turns (cut_fits r on x.is) x.after;
+      listed = writes before (bytes ++ bytes_of_run r) x.sessions x.new_sessions x.place x.new_place due next listed adds x.turns (cut_fits r on x.is) x.after;
       tail = λ s. none (goes_on r on) s ∙ sym (bare_after (cut_of r) x.sessions x.place x.new_sessions x.new_place (goes_on r on) adds);
       cutter = rw same t.cutter;
     })
@@ -84,7 +84,7 @@ takes_run l n r given before bytes due next on same writes none t x =
 -- the same, of the run as a cutter's
 pub takes_cut : (l n : ListerState) (r : Run) (k : Cut) (given before bytes : List ℕ) (due next : Mode) → ((tail : Bor (List ℕ)) → r ≡ run.Tail tail → ⊥) → (r ≡ run.End → ⊥) → n.cutter ≡ l.cutter → k ≡ cut_of r
     → Writes k l.synced l.line l.held (given ++ l.text) n.synced n.line n.held (given ++ n.text) → ((IsNeed k → ⊥) → n.synced ≡ true → n.held ≡ [])
-    → TakerStandsFor l given before bytes due → IsNext bytes due r next → TakesRun r n given before (bytes ++ told_bytes r) next
+    → TakerStandsFor l given before bytes due → IsNext bytes due r next → TakesRun r n given before (bytes ++ bytes_of_run r) next
 takes_cut l n r k given before bytes due next no_tail no_end same e writes none t x =
     takes_run l n r given before bytes due next (goes_if r no_tail no_end) same
     (subst (λ c. Writes c l.synced l.line l.held (given ++ l.text) n.synced n.line n.held (given ++ n.text)) e writes)
@@ -102,25 +102,25 @@ takes_cut l n r k given before bytes due next no_tail no_end same e writes none 
 -- ---- the tail
 
 told_tail : (synced : Bool) (line : ℕ) (held all before : List ℕ) (bytes : Bor (List ℕ)) (sessions new_sessions : List Session) (place new : Place) (old next : Mode)
-    → Told synced line held all before sessions place old → RunAdds (run.Tail bytes) sessions place new_sessions new → (old ≡ Mode.Due → ⊥) → (next ≡ Mode.Due → ⊥)
-    → Told synced line bytes.now all before new_sessions new next × (tail_of new ≡ bytes.now)
+    → HasListed synced line held all before sessions place old → RunAdds (run.Tail bytes) sessions place new_sessions new → (old ≡ Mode.Due → ⊥) → (next ≡ Mode.Due → ⊥)
+    → HasListed synced line bytes.now all before new_sessions new next × (tail_of new ≡ bytes.now)
 told_tail synced line held all before bytes sessions ns (Searching gap) new old next t a d e = absurd a
 told_tail false line held all before bytes sessions ns (Synced gap packets tail) new old next t a d e = absurd (d t.0)
 told_tail true line held all before bytes sessions ns (Synced gap packets tail) new old next t a d e = (
-  subst (λ p. ToldAt true line bytes.now all (before ++ flat_map session_text ns) p next) (sym a.2) (e, subst (λ (s : List Session). SessionTold all (before ++ flat_map session_text s) line gap packets) (sym a.0) t.1),
+  subst (λ p. HasListedAt true line bytes.now all (before ++ flat_map session_text ns) p next) (sym a.2) (e, subst (λ (s : List Session). SessionListed all (before ++ flat_map session_text s) line gap packets) (sym a.0) t.1),
   ap tail_of a.2,
 )
 
 pub takes_tail : (l n : ListerState) (tail : Bor (List ℕ)) (given before bytes : List ℕ) (due next : Mode) → n.cutter ≡ l.cutter → n.synced ≡ l.synced → n.line ≡ l.line → n.held ≡ tail.now → n.text ≡ l.text
     → TakerStandsFor l given before bytes due → IsNext bytes due (run.Tail tail) next → TakerStandsFor n given before (bytes ++ tail.now) next
 takes_tail l n tail given before bytes due next c s i h e t x =
-    let told = (told_by l given before bytes due t x.sessions x.place x.before).0 in
-    let now = told_tail l.synced l.line l.held (given ++ l.text) before tail x.sessions x.new_sessions x.place x.new_place due next told x.adds x.turns.0 x.turns.1 in
+    let listed = (told_by l given before bytes due t x.sessions x.place x.before).0 in
+    let now = told_tail l.synced l.line l.held (given ++ l.text) before tail x.sessions x.new_sessions x.place x.new_place due next listed x.adds x.turns.0 x.turns.1 in
     record {
       sessions = x.new_sessions;
       at = x.new_place;
       reading = x.after;
-      told = rw (s, i, h, e) now.0;
+      listed = rw (s, i, h, e) now.0;
       tail = λ _. h ∙ sym now.1;
       cutter = rw c t.cutter;
     }
@@ -133,27 +133,27 @@ starts l given before c s i h e = record {
   sessions = [];
   at = Searching [];
   reading = c.reading;
-  told = rw (s, i, h) (fresh_gap (given ++ l.text) (before ++ []) [] refl (e ∙ sym (append-nil before)));
+  listed = rw (s, i, h) (fresh_gap (given ++ l.text) (before ++ []) [] refl (e ∙ sym (append-nil before)));
   tail = λ f. absurd (let g : false ≡ true = sym s ∙ f in cc);
   cutter = c;
 }
 
 pub takes_end : (l n : ListerState) (given before bytes : List ℕ) (due next : Mode) → n.cutter ≡ l.cutter → n.synced ≡ false → n.line ≡ 0 → n.held ≡ []
-    → ((given before bytes : List ℕ) (sessions : List Session) (place : Place) (m : Mode) → Told l.synced l.line l.held (given ++ l.text) before sessions place m → (m ≡ Mode.Due → ⊥) → IsReading bytes sessions place
+    → ((given before bytes : List ℕ) (sessions : List Session) (place : Place) (m : Mode) → HasListed l.synced l.line l.held (given ++ l.text) before sessions place m → (m ≡ Mode.Due → ⊥) → IsReading bytes sessions place
     → (l.synced ≡ true → l.held ≡ tail_of place) → given ++ n.text ≡ before ++ reading_text sessions place)
     → TakerStandsFor l given before bytes due → IsNext bytes due run.End next → EndsRuns n given before (bytes ++ [])
 takes_end l n given before bytes due next c s i h writes t x =
     let cutter : CutterStandsFor n.cutter [] [] (Searching []) = rw c t.cutter in
     let listing : List ℕ = reading_text t.sessions t.at in
-    let told : given ++ n.text ≡ before ++ listing = writes given before bytes t.sessions t.at due t.told x.turns.0 t.reading t.tail in
+    let listed : given ++ n.text ≡ before ++ listing = writes given before bytes t.sessions t.at due t.listed x.turns.0 t.reading t.tail in
     record {
       finished = record {
         listing = listing;
         is = record { sessions = t.sessions; place = t.at; reading = rw (append-nil bytes) t.reading; is = refl };
-        told = told;
-        stands = begins n.cutter n.synced n.line n.held n.text given (before ++ listing) cutter s i h told (not_due n.cutter cutter);
+        listed = listed;
+        stands = begins n.cutter n.synced n.line n.held n.text given (before ++ listing) cutter s i h listed (not_due n.cutter cutter);
       };
-      next = starts n given (before ++ listing) cutter s i h told;
+      next = starts n given (before ++ listing) cutter s i h listed;
     }
 
 -- the bytes that a pen holds at the end are the tail
@@ -165,7 +165,7 @@ few_taken held tail (suc (suc (suc n))) e few =
     let three : min (suc (suc (suc n))) 3 ≡ 3 = omega arith in
     ap (λ (k : ℕ). take k held) three ∙ sym (take-take 3 (suc (suc (suc n))) held (omega arith)) ∙ ap (take 3) e ∙ take_all 3 tail (omega (arith, few))
 
-pub last_kept : (synced : Bool) (line count : ℕ) (held all before bytes : List ℕ) (sessions : List Session) (place : Place) (m : Mode) → Told synced line (take count held) all before sessions place m
+pub last_kept : (synced : Bool) (line count : ℕ) (held all before bytes : List ℕ) (sessions : List Session) (place : Place) (m : Mode) → HasListed synced line (take count held) all before sessions place m
     → (m ≡ Mode.Due → ⊥) → IsReading bytes sessions place → (synced ≡ true → take count held ≡ tail_of place) → take (if synced then min count 3 else 0) held ≡ tail_of place
 last_kept true line count held all before bytes sessions (Searching gap) m t d r k = few_taken held [] count (k refl) (omega arith)
 last_kept true line count held all before bytes sessions (Synced gap packets tail) m t d r k = few_taken held tail count (k refl) r.ends.3

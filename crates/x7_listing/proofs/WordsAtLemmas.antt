@@ -108,8 +108,8 @@ pub takes-full : (text bs old new digits : List ℕ) (n : ℕ) → 77 ≤ length
     → digits ≡ flat_map (λ (w : List ℕ). w) (words_at text 4 8) → take n digits ≡ take n (flat_map hex_byte bs) → new ≡ old ++ bs → TakesFirst text old new 77 1
 takes-full text bs old new digits n long word spaces end full fit e are same put =
     let size : length digits ≡ 64 = ap length are ∙ whole 8 4 (omega arith) in
-    let told : length (flat_map hex_byte bs) ≡ 64 = length-hex_bytes bs ∙ omega (arith, full) in
-    let all : digits ≡ flat_map hex_byte bs = sym (take_all 64 digits (omega (arith, size))) ∙ ap (λ (k : ℕ). take k digits) (sym e) ∙ same ∙ ap (λ (k : ℕ). take k (flat_map hex_byte bs)) e ∙ take_all 64 (flat_map hex_byte bs) (omega (arith, told)) in
+    let listed : length (flat_map hex_byte bs) ≡ 64 = length-hex_bytes bs ∙ omega (arith, full) in
+    let all : digits ≡ flat_map hex_byte bs = sym (take_all 64 digits (omega (arith, size))) ∙ ap (λ (k : ℕ). take k digits) (sym e) ∙ same ∙ ap (λ (k : ℕ). take k (flat_map hex_byte bs)) e ∙ take_all 64 (flat_map hex_byte bs) (omega (arith, listed)) in
     takes-data bs text old new full (λ i. byte-at bs i fit) long (row-line text bs long word spaces end full (each-byte bs fit) (sym are ∙ all)) put
   where
     whole : (n p : ℕ) → p + 9 * n ≤ length text → length (flat_map (λ (w : List ℕ). w) (words_at text p n)) ≡ 8 * n

@@ -100,7 +100,7 @@ abbrev pub TakesPiece : AssemblerState → AssemblerState → List ℕ → Type 
 TakesPiece a b piece = (text : List ℕ) → length (text ++ piece) < 2 ^ 63 → AssemblerStandsFor a text → AssemblerStandsFor b (text ++ piece)
 
 -- a piece of which an assembler takes only the front, so that the first line is read and none is held
-pub record TakesFront (a b : AssemblerState) (piece rest : List ℕ) : Type 0 where
+pub record TakesPrefix (a b : AssemblerState) (piece rest : List ℕ) : Type 0 where
   pub front : List ℕ
   pub split_is : piece ≡ front ++ rest
   pub begun : b.begun ≡ true

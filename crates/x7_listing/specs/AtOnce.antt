@@ -1,4 +1,4 @@
--- The lines of what is told at once: no-ops and zero words in a row, short writes, and a gap with its sync word (this project's choice).
+-- The lines of what is listed at once: no-ops and zero words in a row, short writes, and a gap with its sync word (this project's choice).
 use Rattle.std.specs.Prelude.{◌≡◌, ◌==◌, Bool, not, ℕ, zero, suc, ◌+◌, List, [], ◌∷◌, ◌++◌, codes, drop, get_or, take}
 use Rattle.x7_packets.specs.Nops.{nop_word}
 use Rattle.x7_packets.specs.declared.header.Step.{Step}
@@ -39,8 +39,8 @@ abbrev pub row_text : List ℕ → List ℕ
 row_text row = take (get_or row 31 0) row
 
 -- a text with the end of the line before it
-abbrev pub behind : (ℕ → List ℕ) → ℕ → List ℕ
-behind text n = 10 ∷ text n
+abbrev pub on_new_line : (ℕ → List ℕ) → ℕ → List ℕ
+on_new_line text n = 10 ∷ text n
 
 -- the rows are those of the numbers from n up
 abbrev pub AreRows : (ℕ → List ℕ) → ℕ → List (List ℕ) → Type 0

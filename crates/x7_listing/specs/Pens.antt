@@ -7,7 +7,7 @@ use Rattle.x7_packets.specs.declared.cutter.Cut.TheVariants.{Head}
 use Rattle.x7_packets.specs.declared.header.Step.{Step}
 use Rattle.x7_packets.specs.Reading.{Place, Session}
 use Rattle.x7_listing.specs.Taking.{lister_of}
-use Rattle.x7_listing.specs.Telling.{ListerState, ListerStandsFor, Tells, ToldWhole}
+use Rattle.x7_listing.specs.Telling.{ListerState, ListerStandsFor, Tells, HasListedAll}
 use Rattle.x7_listing.specs.declared.pen.Pen.{Pen}
 
 -- a lister with this pen
@@ -18,7 +18,7 @@ lister_with cutter pen text = lister_of cutter pen.synced pen.line (take pen.cou
 abbrev pub TakesHead : CutterState → ℕ → Step → Type 0
 TakesHead c w step = Takes c c (bytes_of_word w) (Head w step)
 
--- the texts given and the lister's are those before and what is told of these bytes
+-- the texts given and the lister's are those before and what is listed of these bytes
 abbrev pub TellsFor : ListerState → List ℕ → List ℕ → List ℕ → Type 0
 TellsFor l given before bytes = Tells l.cutter l.synced l.line l.held l.text given before bytes
 
@@ -26,18 +26,18 @@ TellsFor l given before bytes = Tells l.cutter l.synced l.line l.held l.text giv
 abbrev pub TellsOn : ListerState → ListerState → List ℕ → Type 0
 TellsOn old new more = (given before bytes : List ℕ) → TellsFor old given before bytes → TellsFor new given before (bytes ++ more)
 
--- the same, and then no sync word is still to be told
+-- the same, and then no sync word is still to be listed
 abbrev pub RestsOn : ListerState → ListerState → List ℕ → Type 0
 RestsOn old new more = (given before bytes : List ℕ) → TellsFor old given before bytes → ListerStandsFor new given before (bytes ++ more)
 
--- a pen has told all of a reading but what an end tells, behind the listings before
-abbrev pub PenToldWhole : Pen → List ℕ → List ℕ → List Session → Place → Type 0
-PenToldWhole pen all before sessions place = ToldWhole pen.synced pen.line (take pen.count pen.held) all before sessions place
+-- a pen has listed all of a reading but what an end tells, behind the listings before
+abbrev pub PenHasListedAll : Pen → List ℕ → List ℕ → List Session → Place → Type 0
+PenHasListedAll pen all before sessions place = HasListedAll pen.synced pen.line (take pen.count pen.held) all before sessions place
 
 -- a lister with this pen, whose text is any text and then this one
-abbrev pub lister_behind : CutterState → Pen → List ℕ → List ℕ → ListerState
-lister_behind cutter pen shown text = lister_with cutter pen (text ++ shown)
+abbrev pub lister_after : CutterState → Pen → List ℕ → List ℕ → ListerState
+lister_after cutter pen shown text = lister_with cutter pen (text ++ shown)
 
 -- the lister tells these bytes more, whatever text stands before
-abbrev pub TellsBehind : (List ℕ → ListerState) → (List ℕ → ListerState) → List ℕ → Type 0
-TellsBehind old new more = (text : List ℕ) → TellsOn (old text) (new text) more
+abbrev pub TellsAfter : (List ℕ → ListerState) → (List ℕ → ListerState) → List ℕ → Type 0
+TellsAfter old new more = (text : List ℕ) → TellsOn (old text) (new text) more

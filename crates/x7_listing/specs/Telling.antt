@@ -1,4 +1,4 @@
--- What a lister has told of the bytes that it took, word by word and byte by byte.
+-- What a lister has listed of the bytes that it took, word by word and byte by byte.
 use Rattle.std.specs.Prelude.{◌≡◌, ℕ, ◌==◌, ◌⊎◌, ◌≤◌, Bool, true, false, if◌then◌else◌, List, [], ◌∷◌, ◌++◌, codes, length}
 use Rattle.std.specs.List.{flat_map}
 use Rattle.x7_packets.specs.SyncWord.{sync_bytes}
@@ -17,78 +17,78 @@ use Rattle.x7_listing.specs.HeadLine.{command_line, head_text}
 use Rattle.x7_listing.specs.Listing.{IsListing, session_text}
 
 -- what a payload word adds where i words stand in an open `data` line, and how many stand in one then
-abbrev pub payload_told : Bool → ℕ → ℕ → List ℕ
-payload_told is_cmd i w = if is_cmd then close i ++ command_line w else element_text 8 (codes "data") spaced i w
+abbrev pub open_payload : Bool → ℕ → ℕ → List ℕ
+open_payload is_cmd i w = if is_cmd then close i ++ command_line w else element_text 8 (codes "data") spaced i w
 
 abbrev pub payload_next : Bool → ℕ → ℕ
 payload_next is_cmd i = if is_cmd then 0 else next_in_line 8 i
 
 -- what a word of a session adds, by its step
-abbrev pub word_told : ℕ → ℕ → Step → List ℕ
-word_told i w (Payload register x) = payload_told (register == number_of Cmd) i w
-word_told i w step = close i ++ head_text step w
+abbrev pub open_word : ℕ → ℕ → Step → List ℕ
+open_word i w (Payload register x) = open_payload (register == number_of Cmd) i w
+open_word i w step = close i ++ head_text step w
 
 abbrev pub word_next : ℕ → Step → ℕ
 word_next i (Payload register x) = payload_next (register == number_of Cmd) i
 word_next i step = 0
 
 -- what words add, the last line being open
-abbrev pub words_told : ℕ → List (ℕ × Step) → List ℕ
-words_told i [] = []
-words_told i (s ∷ ss) = word_told i s.0 s.1 ++ words_told (word_next i s.1) ss
+abbrev pub open_words : ℕ → List (ℕ × Step) → List ℕ
+open_words i [] = []
+open_words i (s ∷ ss) = open_word i s.0 s.1 ++ open_words (word_next i s.1) ss
 
 abbrev pub words_place : ℕ → List (ℕ × Step) → ℕ
 words_place i [] = i
 words_place i (s ∷ ss) = words_place (word_next i s.1) ss
 
--- the bytes of a gap are told but for those that are held, which may yet be a sync word
-pub record GapTold (all start : List ℕ) (line : ℕ) (held gap : List ℕ) : Type 0 where
+-- the bytes of a gap are listed but for those that are held, which may yet be a sync word
+pub record GapListed (all start : List ℕ) (line : ℕ) (held gap : List ℕ) : Type 0 where
   pub front : List ℕ
   pub split : gap ≡ front ++ held
-  pub told : all ≡ start ++ open_text 32 (codes "bytes ") hex_byte 0 front
+  pub listed : all ≡ start ++ open_text 32 (codes "bytes ") hex_byte 0 front
   pub count : line ≡ in_line_after 32 0 front
   pub full : (length held ≡ 4) ⊎ (front ≡ [])
   pub few : length held ≤ 4
 
--- the words of a session are told, and the last line is open
-pub record SessionTold (all start : List ℕ) (line : ℕ) (gap : List ℕ) (packets : List Packet) : Type 0 where
-  pub told : all ≡ start ++ bytes_text gap ++ codes "sync\n" ++ words_told 0 (flat_map stepped packets)
+-- the words of a session are listed, and the last line is open
+pub record SessionListed (all start : List ℕ) (line : ℕ) (gap : List ℕ) (packets : List Packet) : Type 0 where
+  pub listed : all ≡ start ++ bytes_text gap ++ codes "sync\n" ++ open_words 0 (flat_map stepped packets)
   pub count : line ≡ words_place 0 (flat_map stepped packets)
 
--- what was told at a place, where the sessions before it are told
-abbrev pub ToldAt : Bool → ℕ → List ℕ → List ℕ → List ℕ → Place → Mode → Type 0
-ToldAt false line held all start (Searching gap) m = GapTold all start line held gap
-ToldAt false line held all start (Synced gap packets tail) m = (m ≡ Mode.Due) × (packets ≡ []) × (tail ≡ []) × GapTold all start line held (gap ++ sync_bytes)
-ToldAt true line held all start (Searching gap) m = (gap ≡ []) × (line ≡ 0) × (all ≡ start)
-ToldAt true line held all start (Synced gap packets tail) m = (m ≡ Mode.Due → ⊥) × SessionTold all start line gap packets
+-- what was listed at a place, where the sessions before it are listed
+abbrev pub HasListedAt : Bool → ℕ → List ℕ → List ℕ → List ℕ → Place → Mode → Type 0
+HasListedAt false line held all start (Searching gap) m = GapListed all start line held gap
+HasListedAt false line held all start (Synced gap packets tail) m = (m ≡ Mode.Due) × (packets ≡ []) × (tail ≡ []) × GapListed all start line held (gap ++ sync_bytes)
+HasListedAt true line held all start (Searching gap) m = (gap ≡ []) × (line ≡ 0) × (all ≡ start)
+HasListedAt true line held all start (Synced gap packets tail) m = (m ≡ Mode.Due → ⊥) × SessionListed all start line gap packets
 
--- what was told, behind the listings before
-abbrev pub Told : Bool → ℕ → List ℕ → List ℕ → List ℕ → List Session → Place → Mode → Type 0
-Told synced line held all before sessions place m = ToldAt synced line held all (before ++ flat_map session_text sessions) place m
+-- what was listed, behind the listings before
+abbrev pub HasListed : Bool → ℕ → List ℕ → List ℕ → List ℕ → List Session → Place → Mode → Type 0
+HasListed synced line held all before sessions place m = HasListedAt synced line held all (before ++ flat_map session_text sessions) place m
 
--- all of a reading was told but what an end tells: no sync word is still to be told
-pub record ToldWhole (synced : Bool) (line : ℕ) (held all before : List ℕ) (sessions : List Session) (place : Place) : Type 0 where
+-- all of a reading was listed but what an end tells: no sync word is still to be listed
+pub record HasListedAll (synced : Bool) (line : ℕ) (held all before : List ℕ) (sessions : List Session) (place : Place) : Type 0 where
   pub bytes : List ℕ
   pub reading : IsReading bytes sessions place
   pub mode : Mode
-  pub told : Told synced line held all before sessions place mode
+  pub listed : HasListed synced line held all before sessions place mode
   pub not_due : mode ≡ Mode.Due → ⊥
 
--- A run writes what it adds to a reading: what is told before it is told after it.
+-- A run writes what it adds to a reading: what is listed before it is listed after it.
 abbrev pub Writes : Cut → Bool → ℕ → List ℕ → List ℕ → Bool → ℕ → List ℕ → List ℕ → Type 0
 Writes run synced line held all synced2 line2 held2 all2 =
     (before bytes : List ℕ) (sessions new_sessions : List Session) (place new_place : Place) (old new : Mode)
-    → Told synced line held all before sessions place old → Adds run sessions place new_sessions new_place → Turns run old new new_place → IsRun run
-    → IsReading bytes new_sessions new_place → Told synced2 line2 held2 all2 before new_sessions new_place new
+    → HasListed synced line held all before sessions place old → Adds run sessions place new_sessions new_place → Turns run old new new_place → IsRun run
+    → IsReading bytes new_sessions new_place → HasListed synced2 line2 held2 all2 before new_sessions new_place new
 
--- The texts given and this text are those before and what is told of these bytes.
+-- The texts given and this text are those before and what is listed of these bytes.
 pub record Tells (c : CutterState) (synced : Bool) (line : ℕ) (held text given before bytes : List ℕ) : Type 0 where
   pub sessions : List Session
   pub at : Place
   pub cut : CutterStandsFor c bytes sessions at
-  pub told : Told synced line held (given ++ text) before sessions at c.mode
+  pub listed : HasListed synced line held (given ++ text) before sessions at c.mode
 
--- the same, where no sync word is still to be told
+-- the same, where no sync word is still to be listed
 pub record Rests (c : CutterState) (synced : Bool) (line : ℕ) (held text given before bytes : List ℕ) : Type 0 where
   pub tells : Tells c synced line held text given before bytes
   pub ready : c.mode ≡ Mode.Due → ⊥
@@ -101,7 +101,7 @@ pub record ListerState : Type 0 where
   pub held : List ℕ
   pub text : List ℕ
 
--- The texts given and the lister's text are those of listings before, and then what is told of these bytes.
+-- The texts given and the lister's text are those of listings before, and then what is listed of these bytes.
 abbrev pub ListerStandsFor : ListerState → List ℕ → List ℕ → List ℕ → Type 0
 ListerStandsFor l given before bytes = Rests l.cutter l.synced l.line l.held l.text given before bytes
 
@@ -109,5 +109,5 @@ ListerStandsFor l given before bytes = Rests l.cutter l.synced l.line l.held l.t
 pub record Finished (l : ListerState) (given before bytes : List ℕ) : Type 0 where
   pub listing : List ℕ
   pub is : IsListing bytes listing
-  pub told : given ++ l.text ≡ before ++ listing
+  pub listed : given ++ l.text ≡ before ++ listing
   pub stands : ListerStandsFor l given (before ++ listing) []

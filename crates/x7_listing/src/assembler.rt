@@ -2,7 +2,7 @@
 ghost use Rattle.std.specs.Prelude.{◌≡◌, ℕ, List, [], ◌+◌, ◌^◌, ◌<◌, ◌≤◌, ◌⊎◌, true, false, length, Ok, Err, IfOk, IfErr, OnErr, OnOk, MatchOption, MatchResult};
 ghost use Rattle.x7_words.specs.Word.{AreBytes};
 ghost use Rattle.x7_listing.specs.Assembly.{IsAsm};
-ghost use Rattle.x7_listing.specs.Assembling.{AssemblerStandsFor, FailsAt, FailsIn, ReadsNext, TakesFront, TakesPiece, body_of};
+ghost use Rattle.x7_listing.specs.Assembling.{AssemblerStandsFor, FailsAt, FailsIn, ReadsNext, TakesPrefix, TakesPiece, body_of};
 ghost use Rattle.x7_listing.specs.StreamListing.{stream_listing};
 
 use crate::bit_line::header_of_line;
@@ -117,7 +117,7 @@ impl Assembler {
 
     /// Reads the line that the piece completes, if it completes one. Answers the text behind it.
     fn complete<'t>(&mut self, piece: &'t [u8]) -> Result<Option<&'t [u8]>, AsmFault>
-        ensures ok { IfOk result (λ found. MatchOption found (TakesPiece self.old self.new piece.now) (λ rest. TakesFront self.old self.new piece.now rest.now)) }
+        ensures ok { IfOk result (λ found. MatchOption found (TakesPiece self.old self.new piece.now) (λ rest. TakesPrefix self.old self.new piece.now rest.now)) }
         ensures fault { IfErr result (FailsIn self.old piece.now) }
     {
         let (line, more) = first_line(piece);

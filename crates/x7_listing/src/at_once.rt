@@ -1,4 +1,4 @@
-//! No-ops and zero words in a row, told at once.
+//! No-ops and zero words in a row, listed at once.
 ghost use Rattle.std.specs.Prelude.{◌≡◌, ℕ, ◌+◌, ◌*◌, ◌<◌, ◌≤◌, List, IfNone, IfSome, length, take, vec_len, vec_capacity};
 ghost use Rattle.x7_packets.specs.Cutting.{CutterState};
 ghost use Rattle.x7_packets.specs.Nops.{equal_bytes, nop_bytes, nop_word};
@@ -69,7 +69,7 @@ fn put_idle(text: &mut Vec<u8>, pen: Pen, count: usize) -> Pen
     requires room { vec_len text.old + (4 * count + 1) ≤ vec_capacity text.old }
     ensures len { vec_len text.new ≤ vec_len text.old + (4 * count + 1) }
     ensures room { vec_capacity text.old ≤ vec_capacity text.new }
-    ensures told { (c : CutterState) → TakesHead c nop_word Step.Nop
+    ensures listed { (c : CutterState) → TakesHead c nop_word Step.Nop
         → TellsOn (lister_with c pen text.old.items) (lister_with c result text.new.items) (nop_bytes count) }
 {
     put_close(text, session_line(pen));
@@ -84,7 +84,7 @@ fn put_zero_words(text: &mut Vec<u8>, pen: Pen, count: usize) -> Pen
     requires room { vec_len text.old + (14 * count + 1) ≤ vec_capacity text.old }
     ensures len { vec_len text.new ≤ vec_len text.old + (14 * count + 1) }
     ensures room { vec_capacity text.old ≤ vec_capacity text.new }
-    ensures told { (c : CutterState) → TakesHead c 0 Step.Filler
+    ensures listed { (c : CutterState) → TakesHead c 0 Step.Filler
         → TellsOn (lister_with c pen text.old.items) (lister_with c result text.new.items) (equal_bytes 0 count) }
 {
     put_close(text, session_line(pen));
@@ -109,7 +109,7 @@ pub(crate) fn take_equal(
 ) -> Option<Taken>
     requires { vec_len text.old + 131 * length rest.now ≤ vec_capacity text.old }
     ensures some { IfSome result (λ t. TakesAtOnce cutter.old cutter.new rest.now t.size (vec_len text.old) (vec_len text.new)) }
-    ensures told { IfSome result (λ t. TellsOn (lister_with cutter.old pen text.old.items) (lister_with cutter.new t.pen text.new.items) (take t.size rest.now)) }
+    ensures listed { IfSome result (λ t. TellsOn (lister_with cutter.old pen text.old.items) (lister_with cutter.new t.pen text.new.items) (take t.size rest.now)) }
     ensures none { IfNone result (cutter.new ≡ cutter.old) }
     ensures same { IfNone result (text.new ≡ text.old) }
     ensures room { vec_capacity text.old ≤ vec_capacity text.new }

@@ -19,8 +19,8 @@ pub fn one_listing()
     ensures { (bytes text other : List ℕ) → IsListing bytes text → IsListing bytes other → text ≡ other }
 {}
 
-/// What a lister has told, behind the listings before, is a front of the listing of its bytes with any further ones.
-pub fn told_is_a_front()
+/// What a lister has listed, behind the listings before, is a front of the listing of its bytes with any further ones.
+pub fn listed_is_a_prefix()
     ensures { (l : ListerState) (given before bytes rest : List ℕ) → ListerStandsFor l given before bytes → AreBytes (bytes ++ rest)
         → (more : List ℕ) × (before ++ listing_of (bytes ++ rest) ≡ given ++ l.text ++ more) }
 {}

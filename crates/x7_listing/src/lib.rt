@@ -22,8 +22,8 @@ pub use assembler::{ASM_LIMIT, AsmFault, Assembler, assemble};
 pub use bit_line::header_line;
 pub use laws::{
     few_bytes_are_held, few_bytes_of_runs_are_held, header_line_is_its_own, lines_hold_no_end,
-    listing_assembles_back, listing_is_of_lines, listing_is_short, one_line, one_listing,
-    one_outcome, told_is_a_front,
+    listed_is_a_prefix, listing_assembles_back, listing_is_of_lines, listing_is_short, one_line,
+    one_listing, one_outcome,
 };
 pub use line::HeadLine;
 pub use lister::Lister;

@@ -10,7 +10,7 @@ ghost use Rattle.x7_text.specs.Appends.{Appends};
 ghost use Rattle.x7_text.specs.Digits.{hex_byte};
 ghost use Rattle.x7_text.specs.Row.{close, in_line_after, open_text};
 ghost use Rattle.x7_listing.specs.Listing.{reading_text};
-ghost use Rattle.x7_listing.specs.Telling.{GapTold, ToldWhole, words_place, words_told, Writes};
+ghost use Rattle.x7_listing.specs.Telling.{GapListed, HasListedAll, words_place, open_words, Writes};
 
 use crate::line::{put_command, put_head, put_sync};
 use x7_packets::Cut;
@@ -75,15 +75,15 @@ pub(crate) fn session_line(pen: Pen) -> usize
     if pen.synced { pen.line } else { 0 }
 }
 
-/// Takes a byte of a gap: where four are held, the first of them is told.
+/// Takes a byte of a gap: where four are held, the first of them is listed.
 fn hold(text: &mut Vec<u8>, pen: Pen, byte: u8) -> Pen
     requires gap { pen.synced ≡ false }
     requires room { vec_len text.old + 19 ≤ vec_capacity text.old }
     ensures gap { result.synced ≡ false }
     ensures len { vec_len text.new ≤ vec_len text.old + 19 }
     ensures room { vec_capacity text.old ≤ vec_capacity text.new }
-    ensures told { (given start gap : List ℕ) → GapTold (given ++ text.old.items) start pen.line (take pen.count pen.held) gap
-        → GapTold (given ++ text.new.items) start result.line (take result.count result.held) (gap ++ byte ∷ []) }
+    ensures listed { (given start gap : List ℕ) → GapListed (given ++ text.old.items) start pen.line (take pen.count pen.held) gap
+        → GapListed (given ++ text.new.items) start result.line (take result.count result.held) (gap ++ byte ∷ []) }
 {
     if pen.count < 4 {
         let mut held = pen.held;
@@ -112,8 +112,8 @@ fn hold_each(text: &mut Vec<u8>, pen: Pen, bytes: &[u8]) -> Pen
     ensures gap { result.synced ≡ false }
     ensures len { vec_len text.new ≤ vec_len text.old + 64 }
     ensures room { vec_capacity text.old ≤ vec_capacity text.new }
-    ensures told { (given start gap : List ℕ) → GapTold (given ++ text.old.items) start pen.line (take pen.count pen.held) gap
-        → GapTold (given ++ text.new.items) start result.line (take result.count result.held) (gap ++ bytes.now) }
+    ensures listed { (given start gap : List ℕ) → GapListed (given ++ text.old.items) start pen.line (take pen.count pen.held) gap
+        → GapListed (given ++ text.new.items) start result.line (take result.count result.held) (gap ++ bytes.now) }
 {
     let mut now = pen;
     for byte in bytes {
@@ -122,15 +122,15 @@ fn hold_each(text: &mut Vec<u8>, pen: Pen, bytes: &[u8]) -> Pen
     now
 }
 
-/// Takes bytes of a gap: all but the last four are told.
+/// Takes bytes of a gap: all but the last four are listed.
 fn hold_all(text: &mut Vec<u8>, pen: Pen, bytes: &[u8]) -> Pen
     requires gap { pen.synced ≡ false }
     requires room { vec_len text.old + (64 + 3 * length bytes.now) ≤ vec_capacity text.old }
     ensures gap { result.synced ≡ false }
     ensures len { vec_len text.new ≤ vec_len text.old + (64 + 3 * length bytes.now) }
     ensures room { vec_capacity text.old ≤ vec_capacity text.new }
-    ensures told { (given start gap : List ℕ) → GapTold (given ++ text.old.items) start pen.line (take pen.count pen.held) gap
-        → GapTold (given ++ text.new.items) start result.line (take result.count result.held) (gap ++ bytes.now) }
+    ensures listed { (given start gap : List ℕ) → GapListed (given ++ text.old.items) start pen.line (take pen.count pen.held) gap
+        → GapListed (given ++ text.new.items) start result.line (take result.count result.held) (gap ++ bytes.now) }
 {
     if bytes.len() < 4 {
         return hold_each(text, pen, bytes);
@@ -157,7 +157,7 @@ fn put_payload(text: &mut Vec<u8>, in_line: usize, register: u8, w: u32) -> usiz
     requires room { vec_len text.old + 48 ≤ vec_capacity text.old }
     ensures within { result < 8 }
     ensures count { result ≡ words_place in_line (payload_steps register (w ∷ [])) }
-    ensures appends { Appends text.old text.new (words_told in_line (payload_steps register (w ∷ []))) 48 }
+    ensures appends { Appends text.old text.new (open_words in_line (payload_steps register (w ∷ []))) 48 }
 {
     if register == Reg::Cmd.number() {
         put_command(text, in_line, w);
@@ -174,7 +174,7 @@ fn put_body(text: &mut Vec<u8>, in_line: usize, register: u8, body: &[u8]) -> us
     requires room { vec_len text.old + (64 + 3 * length body.now) ≤ vec_capacity text.old }
     ensures within { result < 8 }
     ensures count { result ≡ words_place in_line (payload_steps register (words_of_bytes body.now)) }
-    ensures appends { Appends text.old text.new (words_told in_line (payload_steps register (words_of_bytes body.now))) (64 + 3 * length body.now) }
+    ensures appends { Appends text.old text.new (open_words in_line (payload_steps register (words_of_bytes body.now))) (64 + 3 * length body.now) }
 {
     if register == Reg::Cmd.number() {
         return put_payload(
@@ -193,7 +193,7 @@ pub(crate) fn put_run(text: &mut Vec<u8>, pen: Pen, run: Cut) -> Pen
     requires room { vec_len text.old + (64 + 3 * length (run_bytes run)) ≤ vec_capacity text.old }
     ensures len { vec_len text.new ≤ vec_len text.old + (64 + 3 * length (run_bytes run.entry)) }
     ensures room { vec_capacity text.old ≤ vec_capacity text.new }
-    ensures told { (given : List ℕ) → Writes run.entry pen.synced pen.line (take pen.count pen.held) (given ++ text.old.items)
+    ensures listed { (given : List ℕ) → Writes run.entry pen.synced pen.line (take pen.count pen.held) (given ++ text.old.items)
         result.synced result.line (take result.count result.held) (given ++ text.new.items) }
     ensures held { (IsNeed run.entry → ⊥) → result.synced ≡ true → take result.count result.held ≡ [] }
 {
@@ -238,7 +238,7 @@ fn end_session(text: &mut Vec<u8>, line: usize, kept: &[u8])
 pub(crate) fn put_end(text: &mut Vec<u8>, pen: Pen, kept: &[u8])
     requires short { length kept.now ≤ 3 }
     requires room { vec_len text.old + 64 ≤ vec_capacity text.old }
-    ensures told { (given before : List ℕ) (sessions : List Session) (place : Place) → ToldWhole pen.synced pen.line (take pen.count pen.held) (given ++ text.old.items) before sessions place
+    ensures listed { (given before : List ℕ) (sessions : List Session) (place : Place) → HasListedAll pen.synced pen.line (take pen.count pen.held) (given ++ text.old.items) before sessions place
         → kept.now ≡ tail_of place → given ++ text.new.items ≡ before ++ reading_text sessions place }
 {
     if pen.synced {

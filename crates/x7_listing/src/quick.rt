@@ -10,7 +10,7 @@ use crate::assembler::ASM_LIMIT;
 use crate::pairs::{differences, put_pair};
 use crate::reading::{access_at, put_command, put_digits, put_word};
 use std::simd::prelude::*;
-use x7_text::{front_of_hex, put};
+use x7_text::{prefix_of_hex, put};
 use x7_words::{NoMemory, is_same};
 
 /// The lines of eight no-ops.
@@ -140,7 +140,7 @@ fn put_data(out: &mut Vec<u8>, text: &[u8]) -> Option<WholeLines>
     if text[76] != b'\n' || !is_data(text) || !has_spaces(text) {
         return None;
     }
-    let front = front_of_hex(&row_digits(text));
+    let front = prefix_of_hex(&row_digits(text));
     if front.digits != 64 {
         return None;
     }
@@ -177,7 +177,7 @@ fn put_bytes(out: &mut Vec<u8>, text: &[u8]) -> Option<WholeLines>
     if !is_bytes(text) {
         return None;
     }
-    let front = front_of_hex(&behind_word(text));
+    let front = prefix_of_hex(&behind_word(text));
     let count = front.digits / 2;
     if count == 0 || front.digits != 2 * count || text[6 + front.digits] != b'\n' {
         return None;

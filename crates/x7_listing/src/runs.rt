@@ -2,7 +2,7 @@
 ghost use Rattle.std.specs.Prelude.{◌≡◌, ◌≤◌, ◌^◌, ◌⊎◌, ℕ, List, length, false, true, IfOk, IsErrOf, OnErr, OnOk};
 ghost use Rattle.x7_words.specs.Input.{AtEnd, Fails, Stays};
 ghost use Rattle.x7_packets.specs.Running.{PacketsStandFor};
-ghost use Rattle.x7_listing.specs.TakingRuns.{StopsBehind, TakesRuns};
+ghost use Rattle.x7_listing.specs.TakingRuns.{StopsAfter, TakesRuns};
 
 use crate::lister::Lister;
 use x7_packets::{Packets, Run};
@@ -21,7 +21,7 @@ pub enum RunsFault {
 const MOST_TAKEN: u64 = 1 << 63;
 
 /// Takes runs of an open input until the lister's text has so many bytes or more, or the end was taken; says whether it
-/// was. Of an input of more than 2^63 bytes it takes no more. After an error the lister's text is told of the runs before it.
+/// was. Of an input of more than 2^63 bytes it takes no more. After an error the lister's text is that of the runs before it.
 pub fn take_runs<I: Inputs>(
     lister: &mut Lister,
     packets: &mut Packets,
@@ -31,12 +31,12 @@ pub fn take_runs<I: Inputs>(
     requires selected { (I.state inputs.old).selected ≡ true }
     requires good { packets.old.failed ≡ false }
     requires end { packets.old.done ≡ true → AtEnd (I.state inputs.old).rest }
-    requires stands { (bytes told : List ℕ) × PacketsStandFor packets.old bytes told }
+    requires stands { (bytes listed : List ℕ) × PacketsStandFor packets.old bytes listed }
     ensures taken { IfOk result (λ ended. TakesRuns packets.old packets.new lister.old lister.new (I.state inputs.old).rest (I.state inputs.new).rest ended) }
     ensures enough { IfOk result (λ ended. ended ≡ false → (most ≤ length lister.new.text) ⊎ (2 ^ 63 ≤ packets.new.taken)) }
     ensures failed { IsErrOf result RunsFault.Failed → Fails (I.state inputs.old) (I.state inputs.new) }
     ensures reader { IsErrOf result RunsFault.Failed → packets.new.failed ≡ true }
-    ensures fault { OnErr result (StopsBehind packets.old lister.old lister.new (I.state inputs.old).rest) }
+    ensures fault { OnErr result (StopsAfter packets.old lister.old lister.new (I.state inputs.old).rest) }
     ensures selected { OnOk result ((I.state inputs.new).selected ≡ true) }
     ensures inputs { Stays (I.state inputs.old) (I.state inputs.new) }
 {

@@ -8,7 +8,7 @@ pub(crate) const SHEET: usize = 2048;
 
 /// Stores a piece behind a text of `len` bytes, which its first `count` bytes go on. Gives how long the text is then.
 #[inline(always)]
-pub(crate) fn put_front(sheet: &mut [u8; SHEET], len: usize, piece: &[u8], count: usize) -> usize
+pub(crate) fn put_prefix(sheet: &mut [u8; SHEET], len: usize, piece: &[u8], count: usize) -> usize
     requires room { len + length piece.now ≤ 2048 }
     requires part { count ≤ length piece.now }
     ensures len { result ≡ len + count }
@@ -25,7 +25,7 @@ pub(crate) fn put_whole(sheet: &mut [u8; SHEET], len: usize, piece: &[u8]) -> us
     ensures len { result ≡ len + length piece.now }
     ensures text { take result sheet.new ≡ take len sheet.old ++ piece.now }
 {
-    put_front(sheet, len, piece, piece.len())
+    put_prefix(sheet, len, piece, piece.len())
 }
 
 /// Stores a row behind a text of `len` bytes, which the row's text goes on. Gives how long the text is then.
@@ -35,5 +35,5 @@ pub(crate) fn put_row(sheet: &mut [u8; SHEET], len: usize, row: &[u8; 32]) -> us
     ensures len { result ≤ len + 32 }
     ensures text { take result sheet.new ≡ take len sheet.old ++ row_text row.now }
 {
-    put_front(sheet, len, row, (row[31] as usize).min(32))
+    put_prefix(sheet, len, row, (row[31] as usize).min(32))
 }

@@ -1,4 +1,4 @@
-//! Short runs, told at once on a sheet: writes of one word and of up to sixteen, a few no-ops, and a short gap with the sync
+//! Short runs, listed at once on a sheet: writes of one word and of up to sixteen, a few no-ops, and a short gap with the sync
 //! word behind it.
 ghost use Rattle.std.specs.Prelude.{◌≡◌, ℕ, ◌+◌, ◌*◌, ◌<◌, ◌≤◌, true, List, [], ◌∷◌, ◌++◌, IfNone, IfSome, codes, decimal, length, take, vec_len, vec_capacity};
 ghost use Rattle.x7_words.specs.Word.{words_of_bytes};
@@ -10,13 +10,13 @@ ghost use Rattle.x7_text.specs.Row.{bytes_text, close, in_line_after, open_text,
 ghost use Rattle.x7_listing.specs.TakingAtOnce.{TakesAtOnce, TakesOnSheet};
 ghost use Rattle.x7_listing.specs.AtOnce.{command_lines};
 ghost use Rattle.x7_listing.specs.HeadLine.{head_text};
-ghost use Rattle.x7_listing.specs.Pens.{TakesHead, TellsBehind, TellsOn, lister_behind, lister_with};
-ghost use Rattle.x7_listing.specs.Telling.{words_place, words_told};
+ghost use Rattle.x7_listing.specs.Pens.{TakesHead, TellsAfter, TellsOn, lister_after, lister_with};
+ghost use Rattle.x7_listing.specs.Telling.{words_place, open_words};
 
 use crate::at_once::Taken;
 use crate::pen::{Pen, in_session, session_line};
 use crate::rows::{command_row, name_row, write_row};
-use crate::sheet::{SHEET, put_front, put_row, put_whole};
+use crate::sheet::{SHEET, put_prefix, put_row, put_whole};
 use x7_packets::{Cutter, Step};
 use x7_regs::Reg;
 use x7_text::{bytes_line, data_line, hex_of_word, put};
@@ -73,7 +73,7 @@ fn put_one_word(sheet: &mut [u8; SHEET], len: usize, in_line: usize, register: u
     ensures within { result.line < 8 }
     ensures count { result.line ≡ words_place 0 (payload_steps register (w ∷ [])) }
     ensures len { result.len ≤ len + 41 }
-    ensures text { take result.len sheet.new ≡ take len sheet.old ++ (close in_line ++ head_text (Step.Open register 1) (write_head register) ++ words_told 0 (payload_steps register (w ∷ []))) }
+    ensures text { take result.len sheet.new ≡ take len sheet.old ++ (close in_line ++ head_text (Step.Open register 1) (write_head register) ++ open_words 0 (payload_steps register (w ∷ []))) }
 {
     if register == Reg::Cmd.number() {
         return End {
@@ -140,7 +140,7 @@ fn put_in_row(sheet: &mut [u8; SHEET], len: usize, bytes: &[u8; 32], count: usiz
         };
     }
     End {
-        len: put_front(sheet, len, &line, 4 + 9 * count),
+        len: put_prefix(sheet, len, &line, 4 + 9 * count),
         line: count,
     }
 }
@@ -175,7 +175,7 @@ fn put_bytes_and_sync(sheet: &mut [u8; SHEET], len: usize, bytes: &[u8; 32], cou
     if count == 0 {
         return put_whole(sheet, len, b"sync\n");
     }
-    let end = put_front(sheet, len, &bytes_line(bytes), 6 + 2 * count);
+    let end = put_prefix(sheet, len, &bytes_line(bytes), 6 + 2 * count);
     put_whole(sheet, end, b"\nsync\n")
 }
 
@@ -194,8 +194,8 @@ fn put_write(sheet: &mut [u8; SHEET], len: usize, pen: Pen, register: u8, w: u32
     requires room { len + 41 ≤ 2048 }
     ensures size { result.size ≡ 8 }
     ensures len { result.len ≤ len + 41 }
-    ensures told { (old new : CutterState) (rest : List ℕ) → WritesOne old new rest register w
-        → TellsBehind (lister_behind old pen (take len sheet.old)) (lister_behind new result.pen (take result.len sheet.new)) (take 8 rest) }
+    ensures listed { (old new : CutterState) (rest : List ℕ) → WritesOne old new rest register w
+        → TellsAfter (lister_after old pen (take len sheet.old)) (lister_after new result.pen (take result.len sheet.new)) (take 8 rest) }
 {
     let end = put_one_word(sheet, len, session_line(pen), register, w);
     Next {
@@ -242,8 +242,8 @@ fn put_short_write(
     requires room { len + 189 ≤ 2048 }
     ensures size { result.size ≡ 4 + 4 * count }
     ensures len { result.len ≤ len + 189 }
-    ensures told { (old new : CutterState) → WritesFew old new rest.now register count
-        → TellsBehind (lister_behind old pen (take len sheet.old)) (lister_behind new result.pen (take result.len sheet.new)) (take (4 + 4 * count) rest.now) }
+    ensures listed { (old new : CutterState) → WritesFew old new rest.now register count
+        → TellsAfter (lister_after old pen (take len sheet.old)) (lister_after new result.pen (take result.len sheet.new)) (take (4 + 4 * count) rest.now) }
 {
     let start = put_head(sheet, len, session_line(pen), register, count);
     let end = put_words(sheet, start, first_64(&rest[4..]), count);
@@ -262,13 +262,13 @@ fn put_few_nops(sheet: &mut [u8; SHEET], len: usize, pen: Pen, count: usize) -> 
     requires room { len + 65 ≤ 2048 }
     ensures size { result.size ≡ 4 * count }
     ensures len { result.len ≤ len + (4 * count + 1) }
-    ensures told { (c : CutterState) → TakesHead c nop_word Step.Nop
-        → TellsBehind (lister_behind c pen (take len sheet.old)) (lister_behind c result.pen (take result.len sheet.new)) (nop_bytes count) }
+    ensures listed { (c : CutterState) → TakesHead c nop_word Step.Nop
+        → TellsAfter (lister_after c pen (take len sheet.old)) (lister_after c result.pen (take result.len sheet.new)) (nop_bytes count) }
 {
     let start = put_close(sheet, len, session_line(pen));
     Next {
         pen: in_session(0),
-        len: put_front(sheet, start, NOPS.as_flattened(), 4 * count),
+        len: put_prefix(sheet, start, NOPS.as_flattened(), 4 * count),
         size: 4 * count,
     }
 }
@@ -282,8 +282,8 @@ fn put_gap(sheet: &mut [u8; SHEET], len: usize, pen: Pen, count: usize, rest: &[
     requires room { len + 77 ≤ 2048 }
     ensures size { result.size ≡ count + 4 }
     ensures len { result.len ≤ len + 77 }
-    ensures told { (old new : CutterState) → EndsGap old new rest.now count
-        → TellsBehind (lister_behind old pen (take len sheet.old)) (lister_behind new result.pen (take result.len sheet.new)) (take (count + 4) rest.now) }
+    ensures listed { (old new : CutterState) → EndsGap old new rest.now count
+        → TellsAfter (lister_after old pen (take len sheet.old)) (lister_after new result.pen (take result.len sheet.new)) (take (count + 4) rest.now) }
 {
     Next {
         pen: in_session(0),
@@ -303,7 +303,7 @@ fn take_next(
 ) -> Option<Next>
     requires room { len + 256 ≤ 2048 }
     ensures some { IfSome result (λ n. TakesOnSheet cutter.old cutter.new rest.now n.size len n.len) }
-    ensures told { IfSome result (λ n. TellsBehind (lister_behind cutter.old pen (take len sheet.old)) (lister_behind cutter.new n.pen (take n.len sheet.new)) (take n.size rest.now)) }
+    ensures listed { IfSome result (λ n. TellsAfter (lister_after cutter.old pen (take len sheet.old)) (lister_after cutter.new n.pen (take n.len sheet.new)) (take n.size rest.now)) }
     ensures none { IfNone result (cutter.new ≡ cutter.old) }
     ensures same { IfNone result (sheet.new ≡ sheet.old) }
 {
@@ -340,7 +340,7 @@ pub(crate) fn take_short(
 ) -> Option<Taken>
     requires { vec_len text.old + 131 * length rest.now ≤ vec_capacity text.old }
     ensures some { IfSome result (λ t. TakesAtOnce cutter.old cutter.new rest.now t.size (vec_len text.old) (vec_len text.new)) }
-    ensures told { IfSome result (λ t. TellsOn (lister_with cutter.old pen text.old.items) (lister_with cutter.new t.pen text.new.items) (take t.size rest.now)) }
+    ensures listed { IfSome result (λ t. TellsOn (lister_with cutter.old pen text.old.items) (lister_with cutter.new t.pen text.new.items) (take t.size rest.now)) }
     ensures none { IfNone result (cutter.new ≡ cutter.old) }
     ensures same { IfNone result (text.new ≡ text.old) }
     ensures room { vec_capacity text.old ≤ vec_capacity text.new }

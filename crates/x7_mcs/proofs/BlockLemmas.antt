@@ -4,7 +4,7 @@ use Rattle.std.specs.Prelude.{OnOk, Result}
 use Rattle.std.proofs.lemmas.Result.{on_ok_weaker}
 use Rattle.std.proofs.lemmas.Grind.{common_steps}
 use Rattle.std.proofs.lemmas.List.{take-append-drop}
-use Rattle.x7_words.specs.Sink.{appended, PutsFront}
+use Rattle.x7_words.specs.Sink.{appended, PutsPrefix}
 use Rattle.x7_words.proofs.SinkLemmas.{appended-appended, appended-nil, front_more}
 use Rattle.x7_text.specs.Row.{rows}
 use Rattle.x7_mcs.specs.Text.{mcs_text, row_lines}
@@ -69,17 +69,17 @@ module _ (first now : Option (List ℕ)) (flash : List ℕ) (place : ℕ) (rest 
     lines = lines ∙ sym (append_assoc g.done block (row_lines (place + length bytes) (rows 16 more)));
   }
 
-  pub block-failed : (next : Option (List ℕ)) → PutsFront now block next → PutsFront first (row_lines 0 (rows 16 flash)) next
+  pub block-failed : (next : Option (List ℕ)) → PutsPrefix now block next → PutsPrefix first (row_lines 0 (rows 16 flash)) next
   block-failed next p = rw lines (front_more first now next g.done block (row_lines (place + length bytes) (rows 16 more)) g.put p)
 
 -- ---- the whole text
 
-pub text-begun : (first new : Option (List ℕ)) (image flash : List ℕ) → image ≡ flash → PutsFront first (row_lines 0 (rows 16 flash)) new → PutsFront first (mcs_text image) new
+pub text-begun : (first new : Option (List ℕ)) (image flash : List ℕ) → image ≡ flash → PutsPrefix first (row_lines 0 (rows 16 flash)) new → PutsPrefix first (mcs_text image) new
 text-begun first new image flash e p = rw e (front_more first first new [] (row_lines 0 (rows 16 flash)) (codes ":00000001FF\n") (sym (appended-nil first)) p)
 
-pub text-failed : (first now new : Option (List ℕ)) (image flash : List ℕ) → image ≡ flash → now ≡ appended first (row_lines 0 (rows 16 flash)) → PutsFront now (codes ":00000001FF\n") new → PutsFront first (mcs_text image) new
+pub text-failed : (first now new : Option (List ℕ)) (image flash : List ℕ) → image ≡ flash → now ≡ appended first (row_lines 0 (rows 16 flash)) → PutsPrefix now (codes ":00000001FF\n") new → PutsPrefix first (mcs_text image) new
 text-failed first now new image flash e p q =
-    rw e (subst (λ t. PutsFront first (row_lines 0 (rows 16 flash) ++ t) new) (append-nil (codes ":00000001FF\n")) (front_more first now new (row_lines 0 (rows 16 flash)) (codes ":00000001FF\n") [] p q))
+    rw e (subst (λ t. PutsPrefix first (row_lines 0 (rows 16 flash) ++ t) new) (append-nil (codes ":00000001FF\n")) (front_more first now new (row_lines 0 (rows 16 flash)) (codes ":00000001FF\n") [] p q))
 
 pub text-put : {T E : Type 0} (r : Result T E) (first now new : Option (List ℕ)) (image flash : List ℕ) → image ≡ flash → now ≡ appended first (row_lines 0 (rows 16 flash)) → OnOk r (new ≡ appended now (codes ":00000001FF\n"))
     → OnOk r (new ≡ appended first (mcs_text image))

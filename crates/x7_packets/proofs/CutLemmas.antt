@@ -47,7 +47,7 @@ kept_more c n bytes more sessions (Synced gap packets tail) s is to same kept sh
       turns = (λ e. absurd (let f : Mode.Synced ≡ Mode.Due = sym is ∙ e in cc), λ e. absurd (let f : Mode.Synced ≡ Mode.Due = sym to ∙ e in cc));
     }
 
--- the sync word is told
+-- the sync word is given
 pub sync_told : (c n : CutterState) (bytes : List ℕ) (sessions : List Session) (place : Place) → CutterStandsFor c bytes sessions place
     → c.mode ≡ Mode.Due → n.mode ≡ Mode.Synced → n.machine ≡ c.machine → n.kept ≡ []
     → Went c n (bytes ++ []) sessions place Sync

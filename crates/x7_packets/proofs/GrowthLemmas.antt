@@ -11,7 +11,7 @@ use Rattle.x7_packets.specs.declared.header.Step.TheVariants as step
 use Rattle.x7_packets.specs.Packet.{Packet, count_of, ended, latest_after, meaning, named_by, stepped}
 use Rattle.x7_packets.specs.Reading.{Place, Searching, Synced, Session, IsReading}
 use Rattle.x7_packets.specs.ByHand.{before_last_four, header_packet, is_sync, last_four, Reading, reading_of, with_byte, with_byte_at, with_payload_word, with_session_byte, with_word, with_word_after}
-use Rattle.x7_packets.specs.History.{Access, AllBehind, Bad, entered, entered_all, entered_sessions, entry, History, history, history_of, next_word, Placed, Read, until, Write}
+use Rattle.x7_packets.specs.History.{Access, AllAfter, Bad, entered, entered_all, entered_sessions, entry, History, history, history_of, next_word, Placed, Read, until, Write}
 use Rattle.x7_packets.proofs.ByHandLemmas.{reading_is_found}
 use Rattle.x7_packets.proofs.HistoryLemmas.{grown_ends, grown_goes_on, next_word-is}
 use Rattle.x7_packets.proofs.TakeLemmas.{stepped_more}
@@ -96,16 +96,16 @@ bytes_keep P keeps bytes (x ∷ more) f p =
 
 -- the history of bytes is this one and newer accesses, all past the first n bytes
 abbrev pub IsLater : ℕ → History → List ℕ → Type 0
-IsLater n h bytes = (newer : History) × (history_of bytes ≡ newer ++ h) × AllBehind n (length bytes) newer
+IsLater n h bytes = (newer : History) × (history_of bytes ≡ newer ++ h) × AllAfter n (length bytes) newer
 
-behind_within : (n m k : ℕ) (h : History) → m ≤ k → AllBehind n m h → AllBehind n k h
+behind_within : (n m k : ℕ) (h : History) → m ≤ k → AllAfter n m h → AllAfter n k h
 behind_within n m k [] l a = tt
 behind_within n m k (e ∷ h) l a = (a.0, omega (arith, a.1), behind_within n m k h l a.2)
 
 later_more : (n : ℕ) (h : History) (bytes : List ℕ) (x : ℕ) → AreBytes (bytes ++ x ∷ []) → (n ≤ length bytes) × IsLater n h bytes → (n ≤ length (bytes ++ x ∷ [])) × IsLater n h (bytes ++ x ∷ [])
 later_more n h bytes x f p =
     let longer : length (bytes ++ x ∷ []) ≡ length bytes + 1 = length-append bytes (x ∷ []) in
-    let behind : AllBehind n (length (bytes ++ x ∷ [])) p.1.0 = behind_within n (length bytes) (length (bytes ++ x ∷ [])) p.1.0 (omega arith) p.1.2 in
+    let behind : AllAfter n (length (bytes ++ x ∷ [])) p.1.0 = behind_within n (length bytes) (length (bytes ++ x ∷ [])) p.1.0 (omega arith) p.1.2 in
     let place : ℕ = length bytes + 1 in
     let later : IsLater n h (bytes ++ x ∷ []) = elim (byte_enters bytes x f) [
       | inl e ↦ (p.1.0, e ∙ p.1.1, behind)
@@ -136,7 +136,7 @@ placed_more bytes x f p =
 pub placed_of : (bytes : List ℕ) → AreBytes bytes → Placed (length bytes) (history_of bytes)
 placed_of bytes f = bytes_keep (λ (b : List ℕ). Placed (length b) (history_of b)) placed_more [] bytes f tt
 
-until_behind : (n m : ℕ) (newer h : History) → AllBehind n m newer → until n (newer ++ h) ≡ until n h
+until_behind : (n m : ℕ) (newer h : History) → AllAfter n m newer → until n (newer ++ h) ≡ until n h
 until_behind n m [] h a = refl
 until_behind n m (e ∷ newer) h a = ap (λ (b : Bool). if b then until n (newer ++ h) else e ∷ (newer ++ h)) (lt-ltb n e.place a.0) ∙ until_behind n m newer h a.2
 

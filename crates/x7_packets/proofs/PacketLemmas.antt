@@ -3,7 +3,7 @@ use Rattle.std.proofs.Common.{◌≡◌, ℕ, List, [], ◌∷◌, ◌++◌, Opt
 use Rattle.std.proofs.lemmas.List.{append_cancel_left}
 use Rattle.std.proofs.lemmas.Grind.{common_steps}
 use Rattle.std.specs.List.{flat_map}
-use Rattle.x7_words.proofs.ListLemmas.{flat_map-last, same_front, map-append}
+use Rattle.x7_words.proofs.ListLemmas.{flat_map-last, same_prefix, map-append}
 use Rattle.x7_packets.specs.declared.header.Step.{Step}
 use Rattle.x7_packets.specs.declared.header.Step.TheVariants.{Payload}
 use Rattle.x7_packets.specs.Packet.{Packet, Packets, EachPacket, IsPacket, IsWhole, OnlyLastEnds, NoneEnds, latest_of, latest_after, count_of, named_by, words, payload_steps, stepped, meaning, ends_session, ended, last_ends}
@@ -88,7 +88,7 @@ pub same_packet : (l : Option ℕ) (p q : Packet) (cs ds : List ℕ) → IsPacke
 same_packet l p q cs ds i j len e =
     let head : p.head ≡ q.head = cc in
     let tail : p.payload ++ cs ≡ q.payload ++ ds = cc in
-    same_fields p q head (i.means ∙ ap (meaning l) head ∙ sym j.means) (same_front p.payload q.payload cs ds len tail)
+    same_fields p q head (i.means ∙ ap (meaning l) head ∙ sym j.means) (same_prefix p.payload q.payload cs ds len tail)
 
 pub same_count : (l : Option ℕ) (p q : Packet) (cs ds : List ℕ) → IsPacket l p → IsPacket l q → words p ++ cs ≡ words q ++ ds → count_of p.step ≡ count_of q.step
 same_count l p q cs ds i j e =

@@ -17,8 +17,8 @@ use Rattle.x7_packets.specs.Found.{Found}
 use Rattle.x7_packets.specs.declared.stream.Run.{Run}
 use Rattle.x7_packets.specs.declared.stream.Run.TheVariants as run
 use Rattle.x7_packets.specs.PacketsState.{PacketsState}
-use Rattle.x7_packets.specs.Run.{FitsRun, IsNext, RunAdds, cut_of, is_last, told_bytes}
-use Rattle.x7_packets.specs.Running.{GivesRun, GivesUp, IsFound, IsLast, IsRunOf, PacketsStandFor, Reads, SameDue, Steps, Tells, filled, untold, with_tail}
+use Rattle.x7_packets.specs.Run.{FitsRun, IsNext, RunAdds, cut_of, is_last, bytes_of_run}
+use Rattle.x7_packets.specs.Running.{GivesRun, GivesUp, IsFound, IsLast, IsRunOf, PacketsStandFor, Reads, SameDue, Steps, Tells, filled, not_given, with_tail}
 
 -- how many reads there are at most until a word is whole
 abbrev pub turns_left : List ℕ → List ℕ → ℕ
@@ -74,7 +74,7 @@ adds_bare (cut.Body register bytes) t sessions (Synced gap packets tail) ns n ne
 
 -- the run tells what was cut
 record Same (c : Cut) (r : Run) : Type 0 where
-  bytes : told_bytes r ≡ run_bytes c
+  bytes : bytes_of_run r ≡ run_bytes c
   adds : (sessions new_sessions : List Session) (place new : Place) → Adds c sessions place new_sessions new → RunAdds r sessions place new_sessions new
   turns : (old new : Mode) (place : Place) → Turns c old new place → Turns (cut_of r) old new place
   is : IsRun c → FitsRun r
@@ -219,7 +219,7 @@ need_turns (cut.Head w step) old new place n t = absurd n
 need_turns (cut.Word register w) old new place n t = absurd n
 need_turns (cut.Body register bytes) old new place n t = absurd n
 
-untold_on : (p : PacketsState) → p.done ≡ false → untold p ≡ p.cutter.kept
+untold_on : (p : PacketsState) → p.done ≡ false → not_given p ≡ p.cutter.kept
 untold_on p e = rw e refl
 
 tail_on : (place : Place) (done : Bool) (kept : List ℕ) → done ≡ false → tail_of place ≡ (if done then kept else []) → tail_of place ≡ []
@@ -227,26 +227,26 @@ tail_on place true kept e h = absurd (cc)
 tail_on place false kept e h = h
 
 -- the bytes left are the ones taken and the others
-parted : (told kept left : List ℕ) (n : ℕ) → told ++ (kept ++ left) ≡ ((told ++ kept) ++ take n left) ++ drop n left
-parted told kept left n = ap (λ t. told ++ (kept ++ t)) (sym (take-append-drop n left)) ∙ simp append_assoc
+parted : (given kept left : List ℕ) (n : ℕ) → given ++ (kept ++ left) ≡ ((given ++ kept) ++ take n left) ++ drop n left
+parted given kept left n = ap (λ t. given ++ (kept ++ t)) (sym (take-append-drop n left)) ∙ simp append_assoc
 
 -- after a call that needs more bytes the reader stands for the same bytes
-pub needs : (old new : PacketsState) (bytes told : List ℕ) (s : Steps old new false) → old.done ≡ false → PacketsStandFor old bytes told
-    → PacketsStandFor new bytes told × (old.cutter.mode ≡ Mode.Due → ⊥) × (new.cutter.mode ≡ Mode.Due → ⊥)
-needs old new bytes told s on p =
-    let none : untold old ≡ old.cutter.kept = untold_on old on in
+pub needs : (old new : PacketsState) (bytes given : List ℕ) (s : Steps old new false) → old.done ≡ false → PacketsStandFor old bytes given
+    → PacketsStandFor new bytes given × (old.cutter.mode ≡ Mode.Due → ⊥) × (new.cutter.mode ≡ Mode.Due → ⊥)
+needs old new bytes given s on p =
+    let none : not_given old ≡ old.cutter.kept = untold_on old on in
     let still : new.done ≡ false = s.done ∙ on in
-    let w : Went old.cutter new.cutter ((told ++ untold old) ++ take s.count old.left) p.sessions (with_tail old.cutter.kept p.place) s.run = s.cuts.adds _ p.sessions _ p.cutter in
+    let w : Went old.cutter new.cutter ((given ++ not_given old) ++ take s.count old.left) p.sessions (with_tail old.cutter.kept p.place) s.run = s.cuts.adds _ p.sessions _ p.cutter in
     let k : new.cutter.kept ≡ tail_of w.new_place = s.kept _ w.new_sessions w.new_place w.stands in
     let at : (w.new_sessions ≡ p.sessions) × (w.new_place ≡ with_tail new.cutter.kept p.place) = need_place s.run p.sessions w.new_sessions p.place w.new_place old.cutter.kept new.cutter.kept s.is w.adds k in
     let t : (old.cutter.mode ≡ Mode.Due → ⊥) × (new.cutter.mode ≡ Mode.Due → ⊥) = need_turns s.run old.cutter.mode new.cutter.mode w.new_place s.is w.turns in
     let joined : old.cutter.kept ++ take s.count old.left ≡ new.cutter.kept = s.cuts.joined ∙ ap (λ x. x ++ new.cutter.kept) (need_tells_none s.run s.is) in
-    let taken : (told ++ untold old) ++ take s.count old.left ≡ told ++ untold new = ap (λ x. (told ++ x) ++ take s.count old.left) none ∙ append_assoc told old.cutter.kept (take s.count old.left) ∙ ap (λ x. told ++ x) (joined ∙ sym (untold_on new still)) in
-    let stands : CutterStandsFor new.cutter (told ++ untold new) p.sessions (with_tail new.cutter.kept p.place) = rw (← taken, ← at.0, ← at.1) w.stands in (
+    let taken : (given ++ not_given old) ++ take s.count old.left ≡ given ++ not_given new = ap (λ x. (given ++ x) ++ take s.count old.left) none ∙ append_assoc given old.cutter.kept (take s.count old.left) ∙ ap (λ x. given ++ x) (joined ∙ sym (untold_on new still)) in
+    let stands : CutterStandsFor new.cutter (given ++ not_given new) p.sessions (with_tail new.cutter.kept p.place) = rw (← taken, ← at.0, ← at.1) w.stands in (
       record {
         sessions = p.sessions;
         place = p.place;
-        split = p.split ∙ parted told (untold old) old.left s.count ∙ ap (λ x. x ++ drop s.count old.left) taken ∙ append_assoc told (untold new) (drop s.count old.left) ∙ ap (λ x. told ++ (untold new ++ x)) (sym s.left);
+        split = p.split ∙ parted given (not_given old) old.left s.count ∙ ap (λ x. x ++ drop s.count old.left) taken ∙ append_assoc given (not_given new) (drop s.count old.left) ∙ ap (λ x. given ++ (not_given new ++ x)) (sym s.left);
         reading = p.reading;
         tail = tail_on p.place old.done old.cutter.kept on p.tail ∙ rw still refl;
         cutter = stands;
@@ -258,34 +258,34 @@ needs old new bytes told s on p =
       t.1,
     )
 
--- after a call that gave a run the reader stands for the same bytes, of which the run's are told
-pub runs : (old new : PacketsState) (bytes told : List ℕ) (r : Run) (s : Steps old new true) → old.done ≡ false → IsLast new r → PacketsStandFor old bytes told
-    → PacketsStandFor new bytes (told ++ told_bytes r) × IsNext told old.cutter.mode r new.cutter.mode × (is_last r ≡ false)
-runs old new bytes told r s on last p =
+-- after a call that gave a run the reader stands for the same bytes, of which the run's are given
+pub runs : (old new : PacketsState) (bytes given : List ℕ) (r : Run) (s : Steps old new true) → old.done ≡ false → IsLast new r → PacketsStandFor old bytes given
+    → PacketsStandFor new bytes (given ++ bytes_of_run r) × IsNext given old.cutter.mode r new.cutter.mode × (is_last r ≡ false)
+runs old new bytes given r s on last p =
     let never : IsNeed s.run → ⊥ = found_needs_none new.found s.run s.is in
-    let none : untold old ≡ old.cutter.kept = untold_on old on in
+    let none : not_given old ≡ old.cutter.kept = untold_on old on in
     let still : new.done ≡ false = s.done ∙ on in
-    let w : Went old.cutter new.cutter ((told ++ untold old) ++ take s.count old.left) p.sessions (with_tail old.cutter.kept p.place) s.run = s.cuts.adds _ p.sessions _ p.cutter in
+    let w : Went old.cutter new.cutter ((given ++ not_given old) ++ take s.count old.left) p.sessions (with_tail old.cutter.kept p.place) s.run = s.cuts.adds _ p.sessions _ p.cutter in
     let k : new.cutter.kept ≡ tail_of w.new_place = s.kept _ w.new_sessions w.new_place w.stands in
     let bare : tail_of w.new_place ≡ [] = bare_after s.run p.sessions (with_tail old.cutter.kept p.place) w.new_sessions w.new_place never w.adds in
     let empty : new.cutter.kept ≡ [] = k ∙ bare in
     let l : Lends s.run (take s.count old.left) = lends old.cutter new.cutter old.left (take s.count old.left) (length old.left) s.run p.sessions w.new_sessions (with_tail old.cutter.kept p.place) w.new_place s.cuts.lent w.adds p.kept empty s.cuts.joined in
     let same : Same s.run r = same_run new.found s.run r new.bytes new.cutter.kept s.is last (subst (λ t. Lends s.run t) (sym s.bytes) l) in
-    let now : List ℕ = told ++ told_bytes r in
-    let joined : old.cutter.kept ++ take s.count old.left ≡ told_bytes r = s.cuts.joined ∙ ap (λ t. run_bytes s.run ++ t) empty ∙ append-nil (run_bytes s.run) ∙ sym same.bytes in
-    let taken : (told ++ untold old) ++ take s.count old.left ≡ now = ap (λ x. (told ++ x) ++ take s.count old.left) none ∙ append_assoc told old.cutter.kept (take s.count old.left) ∙ ap (λ x. told ++ x) joined in
-    let nothing : untold new ≡ [] = untold_on new still ∙ empty in
-    let all : (told ++ untold old) ++ take s.count old.left ≡ now ++ untold new = taken ∙ sym (append-nil now) ∙ ap (λ x. now ++ x) (sym nothing) in
+    let now : List ℕ = given ++ bytes_of_run r in
+    let joined : old.cutter.kept ++ take s.count old.left ≡ bytes_of_run r = s.cuts.joined ∙ ap (λ t. run_bytes s.run ++ t) empty ∙ append-nil (run_bytes s.run) ∙ sym same.bytes in
+    let taken : (given ++ not_given old) ++ take s.count old.left ≡ now = ap (λ x. (given ++ x) ++ take s.count old.left) none ∙ append_assoc given old.cutter.kept (take s.count old.left) ∙ ap (λ x. given ++ x) joined in
+    let nothing : not_given new ≡ [] = untold_on new still ∙ empty in
+    let all : (given ++ not_given old) ++ take s.count old.left ≡ now ++ not_given new = taken ∙ sym (append-nil now) ∙ ap (λ x. now ++ x) (sym nothing) in
     let own : with_tail new.cutter.kept w.new_place ≡ w.new_place = ap (λ t. with_tail t w.new_place) k ∙ with_own_tail w.new_place in
-    let stands : CutterStandsFor new.cutter (now ++ untold new) w.new_sessions w.new_place = subst (λ x. CutterStandsFor new.cutter x w.new_sessions w.new_place) all w.stands in
+    let stands : CutterStandsFor new.cutter (now ++ not_given new) w.new_sessions w.new_place = subst (λ x. CutterStandsFor new.cutter x w.new_sessions w.new_place) all w.stands in
     let after : IsReading now w.new_sessions w.new_place = subst (λ x. IsReading x w.new_sessions w.new_place) taken w.stands.reading in (
       record {
         sessions = w.new_sessions;
         place = w.new_place;
-        split = p.split ∙ parted told (untold old) old.left s.count ∙ ap (λ x. x ++ drop s.count old.left) all ∙ append_assoc now (untold new) (drop s.count old.left) ∙ ap (λ x. now ++ (untold new ++ x)) (sym s.left);
+        split = p.split ∙ parted given (not_given old) old.left s.count ∙ ap (λ x. x ++ drop s.count old.left) all ∙ append_assoc now (not_given new) (drop s.count old.left) ∙ ap (λ x. now ++ (not_given new ++ x)) (sym s.left);
         reading = after;
         tail = bare ∙ rw still refl;
-        cutter = subst (λ x. CutterStandsFor new.cutter (now ++ untold new) w.new_sessions x) (sym own) stands;
+        cutter = subst (λ x. CutterStandsFor new.cutter (now ++ not_given new) w.new_sessions x) (sym own) stands;
         kept = k ∙ ap tail_of (sym own);
         all = λ e. absurd (let f : false ≡ true = sym still ∙ e in cc);
         count = s.taken ∙ p.count;
@@ -322,11 +322,11 @@ pub needs_all : (old new : PacketsState) (s : Steps old new false) → new.left 
 needs_all old new s = s.left ∙ all_dropped s.count old.left (need_goes s.run _ _ _ s.is s.cuts.goes)
 
 -- the reader stands for the bytes of a piece more
-pub fills : (old : PacketsState) (bytes told piece : List ℕ) → old.left ≡ [] → old.done ≡ false → PacketsStandFor old bytes told → PacketsStandFor (filled old piece) (bytes ++ piece) told
-fills old bytes told piece none on p = record {
+pub fills : (old : PacketsState) (bytes given piece : List ℕ) → old.left ≡ [] → old.done ≡ false → PacketsStandFor old bytes given → PacketsStandFor (filled old piece) (bytes ++ piece) given
+fills old bytes given piece none on p = record {
   sessions = p.sessions;
   place = p.place;
-  split = ap (λ t. t ++ piece) (p.split ∙ ap (λ t. told ++ (untold old ++ t)) none) ∙ simp (append_assoc, append-nil);
+  split = ap (λ t. t ++ piece) (p.split ∙ ap (λ t. given ++ (not_given old ++ t)) none) ∙ simp (append_assoc, append-nil);
   reading = p.reading;
   tail = p.tail;
   cutter = p.cutter;
@@ -364,10 +364,10 @@ same_due old now new s n m = (λ e. absurd (n (s.0 e)), λ e. absurd (m e))
 pub reads_on : (first old new : PacketsState) (more piece : List ℕ) (s : Steps old new false) → old.done ≡ false → Reads first old more → Reads first (filled new piece) (more ++ piece)
 reads_on first old new more piece s on r = record {
   count = ap (λ t. t + length piece) (s.taken ∙ r.count) ∙ omega (arith, length-append more piece);
-  stands = λ bytes told p.
-      let h = r.stands bytes told p in
-      let n = needs old new (bytes ++ more) told s on h.0 in (
-        subst (λ t. PacketsStandFor (filled new piece) t told) (append_assoc bytes more piece) (fills new (bytes ++ more) told piece (needs_all old new s) (s.done ∙ on) n.0),
+  stands = λ bytes given p.
+      let h = r.stands bytes given p in
+      let n = needs old new (bytes ++ more) given s on h.0 in (
+        subst (λ t. PacketsStandFor (filled new piece) t given) (append_assoc bytes more piece) (fills new (bytes ++ more) given piece (needs_all old new s) (s.done ∙ on) n.0),
         same_due first.cutter.mode old.cutter.mode new.cutter.mode h.1 n.1 n.2,
       );
 }
@@ -375,13 +375,13 @@ reads_on first old new more piece s on r = record {
 pub reads_none : (p : PacketsState) → Reads p p []
 reads_none p = record {
   count = omega arith;
-  stands = λ bytes told s. (subst (λ t. PacketsStandFor p t told) (sym (append-nil bytes)) s, (λ e. e, λ e. e));
+  stands = λ bytes given s. (subst (λ t. PacketsStandFor p t given) (sym (append-nil bytes)) s, (λ e. e, λ e. e));
 }
 
 -- ---- what a call tells
 
-next_same : (told : List ℕ) (old now new : Mode) (r : Run) → SameDue old now → IsNext told now r new → IsNext told old r new
-next_same told old now new r s n = record {
+next_same : (given : List ℕ) (old now new : Mode) (r : Run) → SameDue old now → IsNext given now r new → IsNext given old r new
+next_same given old now new r s n = record {
   sessions = n.sessions;
   place = n.place;
   new_sessions = n.new_sessions;
@@ -411,10 +411,10 @@ tells_run first old new more r s on good last reads =
     let goes : is_last r ≡ false = kind_goes_on new.found s.run r new.bytes new.cutter.kept s.is last in
     record {
       count = s.taken ∙ reads.count;
-      stands = λ bytes told p.
-          let h = reads.stands bytes told p in
-          let t = runs old new (bytes ++ more) told r s on last h.0 in
-          (t.0, next_same told first.cutter.mode old.cutter.mode new.cutter.mode r h.1 t.1);
+      stands = λ bytes given p.
+          let h = reads.stands bytes given p in
+          let t = runs old new (bytes ++ more) given r s on last h.0 in
+          (t.0, next_same given first.cutter.mode old.cutter.mode new.cutter.mode r h.1 t.1);
       all = λ e. absurd (not_last r goes e);
       done = s.done ∙ on ∙ sym goes;
       good = s.failed ∙ good;
@@ -433,24 +433,24 @@ short_tail : (kept : List ℕ) (place : Place) → IsPlace (with_tail kept place
 short_tail kept (Searching gap) p k = omega (arith, ap length k)
 short_tail kept (Synced gap packets tail) p k = p.3
 
--- the reader stands for its bytes, all told, once it is done
-ends_tail : (p : PacketsState) (bytes told : List ℕ) (lent : Bor (List ℕ)) → p.done ≡ false → p.left ≡ [] → 0 < length p.cutter.kept → lent.now ≡ p.cutter.kept → (p.cutter.mode ≡ Mode.Due → ⊥) → PacketsStandFor p bytes told
-    → PacketsStandFor (record p { found = Found.Tail; done = true }) bytes (told ++ lent.now) × IsNext told p.cutter.mode (run.Tail lent) p.cutter.mode × (told ++ lent.now ≡ bytes)
-ends_tail p bytes told lent on none some e due s =
-    let keeps : untold p ≡ p.cutter.kept = untold_on p on in
+-- the reader stands for its bytes, all given, once it is done
+ends_tail : (p : PacketsState) (bytes given : List ℕ) (lent : Bor (List ℕ)) → p.done ≡ false → p.left ≡ [] → 0 < length p.cutter.kept → lent.now ≡ p.cutter.kept → (p.cutter.mode ≡ Mode.Due → ⊥) → PacketsStandFor p bytes given
+    → PacketsStandFor (record p { found = Found.Tail; done = true }) bytes (given ++ lent.now) × IsNext given p.cutter.mode (run.Tail lent) p.cutter.mode × (given ++ lent.now ≡ bytes)
+ends_tail p bytes given lent on none some e due s =
+    let keeps : not_given p ≡ p.cutter.kept = untold_on p on in
     let bare : tail_of s.place ≡ [] = tail_on s.place p.done p.cutter.kept on s.tail in
-    let now : told ++ untold p ≡ told ++ lent.now = ap (λ t. told ++ t) (keeps ∙ sym e) in
-    let after : IsReading (told ++ lent.now) s.sessions (with_tail p.cutter.kept s.place) = subst (λ t. IsReading t s.sessions (with_tail p.cutter.kept s.place)) now s.cutter.reading in
-    let all : bytes ≡ told ++ lent.now = s.split ∙ ap (λ t. told ++ (untold p ++ t)) none ∙ ap (λ t. told ++ t) (append-nil (untold p)) ∙ now in
+    let now : given ++ not_given p ≡ given ++ lent.now = ap (λ t. given ++ t) (keeps ∙ sym e) in
+    let after : IsReading (given ++ lent.now) s.sessions (with_tail p.cutter.kept s.place) = subst (λ t. IsReading t s.sessions (with_tail p.cutter.kept s.place)) now s.cutter.reading in
+    let all : bytes ≡ given ++ lent.now = s.split ∙ ap (λ t. given ++ (not_given p ++ t)) none ∙ ap (λ t. given ++ t) (append-nil (not_given p)) ∙ now in
     let twice : with_tail p.cutter.kept (with_tail p.cutter.kept s.place) ≡ with_tail p.cutter.kept s.place = with_tail_twice p.cutter.kept p.cutter.kept s.place in
-    let stands : CutterStandsFor p.cutter ((told ++ lent.now) ++ []) s.sessions (with_tail p.cutter.kept s.place) = subst (λ t. CutterStandsFor p.cutter t s.sessions (with_tail p.cutter.kept s.place)) (now ∙ sym (append-nil (told ++ lent.now))) s.cutter in (
+    let stands : CutterStandsFor p.cutter ((given ++ lent.now) ++ []) s.sessions (with_tail p.cutter.kept s.place) = subst (λ t. CutterStandsFor p.cutter t s.sessions (with_tail p.cutter.kept s.place)) (now ∙ sym (append-nil (given ++ lent.now))) s.cutter in (
       record {
         sessions = s.sessions;
         place = with_tail p.cutter.kept s.place;
-        split = all ∙ sym (append-nil (told ++ lent.now)) ∙ ap (λ t. (told ++ lent.now) ++ t) (sym none);
+        split = all ∙ sym (append-nil (given ++ lent.now)) ∙ ap (λ t. (given ++ lent.now) ++ t) (sym none);
         reading = after;
         tail = sym s.kept;
-        cutter = subst (λ t. CutterStandsFor p.cutter ((told ++ lent.now) ++ []) s.sessions t) (sym twice) stands;
+        cutter = subst (λ t. CutterStandsFor p.cutter ((given ++ lent.now) ++ []) s.sessions t) (sym twice) stands;
         kept = s.kept ∙ ap tail_of (sym twice);
         all = λ d. (none, due);
         count = s.count;
@@ -470,19 +470,19 @@ ends_tail p bytes told lent on none some e due s =
     )
 
 -- the end, of a reader that has no byte more to tell
-ends_none : (p : PacketsState) (bytes told : List ℕ) → p.left ≡ [] → untold p ≡ [] → (p.cutter.mode ≡ Mode.Due → ⊥) → (s : PacketsStandFor p bytes told) → tail_of s.place ≡ p.cutter.kept
-    → PacketsStandFor (record p { found = Found.End; done = true }) bytes (told ++ []) × IsNext told p.cutter.mode run.End p.cutter.mode × (told ++ [] ≡ bytes)
-ends_none p bytes told none nothing due s own =
-    let now : told ++ untold p ≡ told ++ [] = ap (λ t. told ++ t) nothing in
-    let all : bytes ≡ told ++ [] = s.split ∙ ap (λ t. told ++ (untold p ++ t)) none ∙ ap (λ t. told ++ t) (append-nil (untold p)) ∙ now in
-    let after : IsReading (told ++ []) s.sessions s.place = subst (λ t. IsReading t s.sessions s.place) (sym (append-nil told)) s.reading in (
+ends_none : (p : PacketsState) (bytes given : List ℕ) → p.left ≡ [] → not_given p ≡ [] → (p.cutter.mode ≡ Mode.Due → ⊥) → (s : PacketsStandFor p bytes given) → tail_of s.place ≡ p.cutter.kept
+    → PacketsStandFor (record p { found = Found.End; done = true }) bytes (given ++ []) × IsNext given p.cutter.mode run.End p.cutter.mode × (given ++ [] ≡ bytes)
+ends_none p bytes given none nothing due s own =
+    let now : given ++ not_given p ≡ given ++ [] = ap (λ t. given ++ t) nothing in
+    let all : bytes ≡ given ++ [] = s.split ∙ ap (λ t. given ++ (not_given p ++ t)) none ∙ ap (λ t. given ++ t) (append-nil (not_given p)) ∙ now in
+    let after : IsReading (given ++ []) s.sessions s.place = subst (λ t. IsReading t s.sessions s.place) (sym (append-nil given)) s.reading in (
       record {
         sessions = s.sessions;
         place = s.place;
-        split = all ∙ sym (append-nil (told ++ [])) ∙ ap (λ t. (told ++ []) ++ t) (sym none);
+        split = all ∙ sym (append-nil (given ++ [])) ∙ ap (λ t. (given ++ []) ++ t) (sym none);
         reading = after;
         tail = own;
-        cutter = subst (λ t. CutterStandsFor p.cutter t s.sessions (with_tail p.cutter.kept s.place)) (now ∙ sym (append-nil (told ++ []))) s.cutter;
+        cutter = subst (λ t. CutterStandsFor p.cutter t s.sessions (with_tail p.cutter.kept s.place)) (now ∙ sym (append-nil (given ++ []))) s.cutter;
         kept = s.kept;
         all = λ d. (none, due);
         count = s.count;
@@ -501,20 +501,20 @@ ends_none p bytes told none nothing due s own =
       sym all,
     )
 
--- what a reader is when it was told that the input ended
+-- what a reader is when it was given that the input ended
 record Ends (old new : PacketsState) (r : Run) : Type 0 where
   pub last : is_last r ≡ true
   pub done : new.done ≡ true
   pub failed : new.failed ≡ old.failed
   pub taken : new.taken ≡ old.taken
-  pub stands : (bytes told : List ℕ) → (old.cutter.mode ≡ Mode.Due → ⊥) → PacketsStandFor old bytes told
-      → PacketsStandFor new bytes (told ++ told_bytes r) × IsNext told old.cutter.mode r new.cutter.mode × (told ++ told_bytes r ≡ bytes)
+  pub stands : (bytes given : List ℕ) → (old.cutter.mode ≡ Mode.Due → ⊥) → PacketsStandFor old bytes given
+      → PacketsStandFor new bytes (given ++ bytes_of_run r) × IsNext given old.cutter.mode r new.cutter.mode × (given ++ bytes_of_run r ≡ bytes)
 
 tail_ends : (p : PacketsState) (lent : Bor (List ℕ)) → p.done ≡ false → p.left ≡ [] → 0 < length p.cutter.kept → lent.now ≡ p.cutter.kept → Ends p (record p { found = Found.Tail; done = true }) (run.Tail lent)
-tail_ends p lent on none some e = record { last = refl; done = refl; failed = refl; taken = refl; stands = λ bytes told due s. ends_tail p bytes told lent on none some e due s }
+tail_ends p lent on none some e = record { last = refl; done = refl; failed = refl; taken = refl; stands = λ bytes given due s. ends_tail p bytes given lent on none some e due s }
 
-none_ends : (p : PacketsState) → p.left ≡ [] → untold p ≡ [] → ((bytes told : List ℕ) (s : PacketsStandFor p bytes told) → tail_of s.place ≡ p.cutter.kept) → Ends p (record p { found = Found.End; done = true }) run.End
-none_ends p none nothing own = record { last = refl; done = refl; failed = refl; taken = refl; stands = λ bytes told due s. ends_none p bytes told none nothing due s (own bytes told s) }
+none_ends : (p : PacketsState) → p.left ≡ [] → not_given p ≡ [] → ((bytes given : List ℕ) (s : PacketsStandFor p bytes given) → tail_of s.place ≡ p.cutter.kept) → Ends p (record p { found = Found.End; done = true }) run.End
+none_ends p none nothing own = record { last = refl; done = refl; failed = refl; taken = refl; stands = λ bytes given due s. ends_none p bytes given none nothing due s (own bytes given s) }
 
 -- the end behind bytes of no whole word, or behind none
 finishes : (p new : PacketsState) (r : Run) (kept : List ℕ) → p.cutter.kept ≡ kept → p.done ≡ false → p.left ≡ []
@@ -522,7 +522,7 @@ finishes : (p new : PacketsState) (r : Run) (kept : List ℕ) → p.cutter.kept 
 finishes p new r [] k on none tail end last =
     let is : new ≡ record p { found = Found.End; done = true } = end k in
     let at : r ≡ run.End = subst (λ (x : PacketsState). IsLast x r) is last in
-    rw (is, at) (none_ends p none (untold_on p on ∙ k) (λ bytes told s. tail_on s.place p.done p.cutter.kept on s.tail ∙ sym k))
+    rw (is, at) (none_ends p none (untold_on p on ∙ k) (λ bytes given s. tail_on s.place p.done p.cutter.kept on s.tail ∙ sym k))
 finishes p new r (x ∷ xs) k on none tail end last =
     let is : new ≡ record p { found = Found.Tail; done = true } = tail (λ e. absurd (let f : x ∷ xs ≡ [] = sym k ∙ e in cc)) in
     let at : (lent : Bor (List ℕ)) × (r ≡ run.Tail lent) × (lent.now ≡ p.cutter.kept) = subst (λ (x : PacketsState). IsLast x r) is last in
@@ -536,19 +536,19 @@ tells_end first old now new more r s on good reads tail end last =
     let e : Ends (filled now []) new r = finishes (filled now []) new r now.cutter.kept refl (s.done ∙ on) refl tail end last in (
       record {
         count = e.taken ∙ (let z : now.taken + 0 ≡ now.taken = omega arith in z) ∙ s.taken ∙ reads.count;
-        stands = λ bytes told p.
-            let h = reads.stands bytes told p in
-            let n = needs old now (bytes ++ more) told s on h.0 in
-            let f = fills now (bytes ++ more) told [] (needs_all old now s) (s.done ∙ on) n.0 in
-            let t = e.stands ((bytes ++ more) ++ []) told n.2 f in (
-              subst (λ x. PacketsStandFor new x (told ++ told_bytes r)) (append-nil (bytes ++ more)) t.0,
-              next_same told first.cutter.mode now.cutter.mode new.cutter.mode r (same_due first.cutter.mode old.cutter.mode now.cutter.mode h.1 n.1 n.2) t.1,
+        stands = λ bytes given p.
+            let h = reads.stands bytes given p in
+            let n = needs old now (bytes ++ more) given s on h.0 in
+            let f = fills now (bytes ++ more) given [] (needs_all old now s) (s.done ∙ on) n.0 in
+            let t = e.stands ((bytes ++ more) ++ []) given n.2 f in (
+              subst (λ x. PacketsStandFor new x (given ++ bytes_of_run r)) (append-nil (bytes ++ more)) t.0,
+              next_same given first.cutter.mode now.cutter.mode new.cutter.mode r (same_due first.cutter.mode old.cutter.mode now.cutter.mode h.1 n.1 n.2) t.1,
             );
-        all = λ _ bytes told p.
-            let h = reads.stands bytes told p in
-            let n = needs old now (bytes ++ more) told s on h.0 in
-            let f = fills now (bytes ++ more) told [] (needs_all old now s) (s.done ∙ on) n.0 in
-            (e.stands ((bytes ++ more) ++ []) told n.2 f).2 ∙ append-nil (bytes ++ more);
+        all = λ _ bytes given p.
+            let h = reads.stands bytes given p in
+            let n = needs old now (bytes ++ more) given s on h.0 in
+            let f = fills now (bytes ++ more) given [] (needs_all old now s) (s.done ∙ on) n.0 in
+            (e.stands ((bytes ++ more) ++ []) given n.2 f).2 ∙ append-nil (bytes ++ more);
         done = e.done ∙ sym e.last;
         good = e.failed ∙ s.failed ∙ good;
       },
@@ -559,20 +559,20 @@ own_tail : (place : Place) (done : Bool) (kept : List ℕ) → done ≡ true →
 own_tail place true kept e h = h
 own_tail place false kept e h = absurd (cc)
 
-untold_off : (p : PacketsState) → p.done ≡ true → untold p ≡ []
+untold_off : (p : PacketsState) → p.done ≡ true → not_given p ≡ []
 untold_off p e = rw e refl
 
--- the end is told again
+-- the end is given again
 again : (p : PacketsState) → p.done ≡ true → p.failed ≡ false → Tells p (record p { found = Found.End; done = true }) [] run.End
 again p off good = record {
   count = omega arith;
-  stands = λ bytes told s.
+  stands = λ bytes given s.
       let due = s.all off in
-      let t = ends_none p bytes told due.0 (untold_off p off) due.1 s (own_tail s.place p.done p.cutter.kept off s.tail) in
-      (subst (λ x. PacketsStandFor (record p { found = Found.End; done = true }) x (told ++ [])) (sym (append-nil bytes)) t.0, t.1);
-  all = λ _ bytes told s.
+      let t = ends_none p bytes given due.0 (untold_off p off) due.1 s (own_tail s.place p.done p.cutter.kept off s.tail) in
+      (subst (λ x. PacketsStandFor (record p { found = Found.End; done = true }) x (given ++ [])) (sym (append-nil bytes)) t.0, t.1);
+  all = λ _ bytes given s.
       let due = s.all off in
-      (ends_none p bytes told due.0 (untold_off p off) due.1 s (own_tail s.place p.done p.cutter.kept off s.tail)).2 ∙ sym (append-nil bytes);
+      (ends_none p bytes given due.0 (untold_off p off) due.1 s (own_tail s.place p.done p.cutter.kept off s.tail)).2 ∙ sym (append-nil bytes);
   done = refl;
   good = good;
 }
@@ -604,9 +604,9 @@ gives_up first old now new more s on reads e = rw e (record {
   more = more;
   reads = record {
     count = s.taken ∙ reads.count;
-    stands = λ bytes told p.
-        let h = reads.stands bytes told p in
-        let n = needs old now (bytes ++ more) told s on h.0 in
+    stands = λ bytes given p.
+        let h = reads.stands bytes given p in
+        let n = needs old now (bytes ++ more) given s on h.0 in
         let k = n.0 in (
           record { sessions = k.sessions; place = k.place; split = k.split; reading = k.reading; tail = k.tail; cutter = k.cutter; kept = k.kept; all = k.all; count = k.count },
           same_due first.cutter.mode old.cutter.mode now.cutter.mode h.1 n.1 n.2,
@@ -620,7 +620,7 @@ pub room_on : (old now new : PacketsState) (s : Steps old now false) (piece : Li
     → old.taken + 65536 * turns_left old.cutter.kept old.left ≤ limit → new.taken + 65536 * turns_left new.cutter.kept new.left ≤ limit
 room_on old now new s piece limit e some most room = rw e (omega (arith, s.taken, most, room, turns_go old now s piece some))
 
--- a reader that has told nothing yet
+-- a reader that has given nothing yet
 pub starts : (p : PacketsState) (first : List ℕ) → CutterStandsFor p.cutter [] [] (Searching []) → p.cutter.kept ≡ [] → p.left ≡ first → p.done ≡ false → p.taken ≡ length first → PacketsStandFor p first []
 starts p first c k l on t = record {
   sessions = [];

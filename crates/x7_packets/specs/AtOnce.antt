@@ -60,7 +60,7 @@ pub record WritesFew (old new : CutterState) (rest : List ℕ) (register count :
   pub words : (run : Bor (List ℕ)) → run.now ≡ take (4 * count) (drop 4 rest) → Takes between new run.now (Body register run)
   pub none_kept : new.kept ≡ []
 
--- the bytes begin with a gap and the sync word behind it: taken, they are those of both, and then the sync word is told
+-- the bytes begin with a gap and the sync word behind it: taken, they are those of both, and then the sync word is given
 pub record EndsGap (old new : CutterState) (rest : List ℕ) (count : ℕ) : Type 0 where
   pub between : CutterState
   pub near : count + 4 ≤ 32

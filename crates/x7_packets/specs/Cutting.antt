@@ -92,7 +92,7 @@ Adds (Word register w) sessions (Synced gap packets tail) new_sessions new = Lon
 Adds (Body register bytes) sessions (Searching gap) new_sessions new = ⊥
 Adds (Body register bytes) sessions (Synced gap packets tail) new_sessions new = Longer gap packets (run_steps (Body register bytes)) sessions new_sessions new
 
--- how a run goes with what the cutter is at before and after it: the sync word is due just after it came, and told at once
+-- how a run goes with what the cutter is at before and after it: the sync word is due just after it came, and given at once
 abbrev pub Turns : Cut → Mode → Mode → Place → Type 0
 Turns Need old new place = (old ≡ Mode.Due → ⊥) × (new ≡ Mode.Due → ⊥)
 Turns (Skip bytes) old new (Searching gap) = Unit {0}
@@ -143,7 +143,7 @@ abbrev pub IsBody : ℕ → List ℕ → Cut → Type 0
 IsBody register body (Body r bytes) = (r ≡ register) × (bytes.now ≡ body)
 IsBody register body _ = ⊥
 
--- 1 where a sync word is still to be told
+-- 1 where a sync word is still to be given
 abbrev pub syncs_due : Mode → ℕ
 syncs_due Mode.Due = 1
 syncs_due _ = 0

@@ -148,10 +148,10 @@ Placed n [] = Unit {0}
 Placed n (e ∷ h) = (0 < e.place) × (e.place ≤ n) × Placed (e.place - 1) h
 
 -- each place is past the first n bytes, and none is past the first m
-abbrev pub AllBehind : ℕ → ℕ → History → Type 0
-AllBehind n m [] = Unit {0}
-AllBehind n m (e ∷ h) = (n < e.place) × (e.place ≤ m) × AllBehind n m h
+abbrev pub AllAfter : ℕ → ℕ → History → Type 0
+AllAfter n m [] = Unit {0}
+AllAfter n m (e ∷ h) = (n < e.place) × (e.place ≤ m) × AllAfter n m h
 
 -- bytes more enter these accesses, each with a place among them
 abbrev pub EntersNewer : List ℕ → List ℕ → Type 0
-EntersNewer bytes more = (newer : History) × (history_of (bytes ++ more) ≡ newer ++ history_of bytes) × AllBehind (length bytes) (length (bytes ++ more)) newer
+EntersNewer bytes more = (newer : History) × (history_of (bytes ++ more) ≡ newer ++ history_of bytes) × AllAfter (length bytes) (length (bytes ++ more)) newer

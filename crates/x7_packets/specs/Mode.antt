@@ -1,11 +1,11 @@
--- What a cutter is at (this project's choice: a sync word is told by itself, behind the bytes that it ends).
+-- What a cutter is at (this project's choice: a sync word is given by itself, behind the bytes that it ends).
 use Rattle.x7_packets.specs.declared.cutter.Stage.{Stage}
 use Rattle.x7_packets.specs.declared.cutter.Stage.TheVariants as stage
 
 pub data Mode : Type 0 where
   -- in a gap
   Searching : Mode
-  -- just behind a sync word that is still to be told
+  -- just behind a sync word that is still to be given
   Due : Mode
   -- in a session
   Synced : Mode

@@ -19,9 +19,9 @@ cut_of (run.Tail bytes) = cut.Need
 cut_of run.End = cut.Need
 
 -- the bytes that a run tells
-abbrev pub told_bytes : Run → List ℕ
-told_bytes (run.Tail bytes) = bytes.now
-told_bytes r = run_bytes (cut_of r)
+abbrev pub bytes_of_run : Run → List ℕ
+bytes_of_run (run.Tail bytes) = bytes.now
+bytes_of_run r = run_bytes (cut_of r)
 
 -- nothing but the end comes after it
 abbrev pub is_last : Run → Bool
@@ -29,7 +29,7 @@ is_last (run.Tail bytes) = true
 is_last run.End = true
 is_last r = false
 
--- what a run adds to the reading of the bytes told before it: the tail are bytes of no whole word, and the end adds nothing
+-- what a run adds to the reading of the bytes given before it: the tail are bytes of no whole word, and the end adds nothing
 abbrev pub RunAdds : Run → List Session → Place → List Session → Place → Type 0
 RunAdds (run.Tail bytes) sessions (Searching gap) new_sessions new = ⊥
 RunAdds (run.Tail bytes) sessions (Synced gap packets tail) new_sessions new = (new_sessions ≡ sessions) × (tail ≡ []) × (new ≡ Synced gap packets bytes.now)
@@ -41,14 +41,14 @@ abbrev pub FitsRun : Run → Type 0
 FitsRun (run.Tail bytes) = (0 < length bytes.now) × (length bytes.now < 4)
 FitsRun r = IsRun (cut_of r)
 
--- The run is what comes next behind these bytes, a sync word being due to be told or not before and after it.
+-- The run is what comes next behind these bytes, a sync word being due to be given or not before and after it.
 pub record IsNext (bytes : List ℕ) (old : Mode) (r : Run) (new : Mode) : Type 0 where
   pub sessions : List Session
   pub place : Place
   pub new_sessions : List Session
   pub new_place : Place
   pub before : IsReading bytes sessions place
-  pub after : IsReading (bytes ++ told_bytes r) new_sessions new_place
+  pub after : IsReading (bytes ++ bytes_of_run r) new_sessions new_place
   pub adds : RunAdds r sessions place new_sessions new_place
   pub turns : Turns (cut_of r) old new new_place
   pub is : FitsRun r

@@ -14,25 +14,25 @@ use Rattle.x7_packets.specs.declared.stream.Run.{Run}
 use Rattle.x7_packets.specs.declared.stream.Run.TheVariants as run
 use Rattle.x7_packets.specs.contracts.stream.Packets.{the_row}
 use Rattle.x7_packets.specs.PacketsState.{PacketsState}
-use Rattle.x7_packets.specs.Run.{IsNext, is_last, told_bytes}
+use Rattle.x7_packets.specs.Run.{IsNext, is_last, bytes_of_run}
 
 -- the place with these bytes of no whole word
 abbrev pub with_tail : List ℕ → Place → Place
 with_tail tail (Searching gap) = Searching gap
 with_tail tail (Synced gap packets old) = Synced gap packets tail
 
--- the bytes that the cutter took and that no run told yet
-abbrev pub untold : PacketsState → List ℕ
-untold p = if p.done then [] else p.cutter.kept
+-- the bytes that the cutter took and that no run gave yet
+abbrev pub not_given : PacketsState → List ℕ
+not_given p = if p.done then [] else p.cutter.kept
 
--- The reader stands for these bytes: those that its runs told, those that its cutter keeps, and those that it has not taken.
-pub record PacketsStandFor (p : PacketsState) (bytes told : List ℕ) : Type 0 where
+-- The reader stands for these bytes: those that its runs gave, those that its cutter keeps, and those that it has not taken.
+pub record PacketsStandFor (p : PacketsState) (bytes given : List ℕ) : Type 0 where
   pub sessions : List Session
   pub place : Place
-  pub split : bytes ≡ told ++ (untold p ++ p.left)
-  pub reading : IsReading told sessions place
+  pub split : bytes ≡ given ++ (not_given p ++ p.left)
+  pub reading : IsReading given sessions place
   pub tail : tail_of place ≡ (if p.done then p.cutter.kept else [])
-  pub cutter : CutterStandsFor p.cutter (told ++ untold p) sessions (with_tail p.cutter.kept place)
+  pub cutter : CutterStandsFor p.cutter (given ++ not_given p) sessions (with_tail p.cutter.kept place)
   pub kept : p.cutter.kept ≡ tail_of (with_tail p.cutter.kept place)
   pub all : p.done ≡ true → (p.left ≡ []) × (p.cutter.mode ≡ Mode.Due → ⊥)
   pub count : p.taken ≡ length bytes
@@ -91,24 +91,24 @@ pub record Fills (old new : PacketsState) (rest rest_now : Option (List ℕ)) (a
   pub some : any ≡ true → 0 < length piece
   pub end : any ≡ false → (piece ≡ []) × AtEnd rest_now
 
--- a sync word is due to be told in both, or in neither
+-- a sync word is due to be given in both, or in neither
 abbrev pub SameDue : Mode → Mode → Type 0
 SameDue old new = (old ≡ Mode.Due) ↔ (new ≡ Mode.Due)
 
--- the reader took more bytes of the input, and told none
+-- the reader took more bytes of the input, and gave none
 pub record Reads (old new : PacketsState) (more : List ℕ) : Type 0 where
   pub count : new.taken ≡ old.taken + length more
-  pub stands : (bytes told : List ℕ) → PacketsStandFor old bytes told → PacketsStandFor new (bytes ++ more) told × SameDue old.cutter.mode new.cutter.mode
+  pub stands : (bytes given : List ℕ) → PacketsStandFor old bytes given → PacketsStandFor new (bytes ++ more) given × SameDue old.cutter.mode new.cutter.mode
 
--- the reader took more bytes of the input, and told those of a run
+-- the reader took more bytes of the input, and gave those of a run
 pub record Tells (old new : PacketsState) (more : List ℕ) (r : Run) : Type 0 where
   pub count : new.taken ≡ old.taken + length more
-  pub stands : (bytes told : List ℕ) → PacketsStandFor old bytes told → PacketsStandFor new (bytes ++ more) (told ++ told_bytes r) × IsNext told old.cutter.mode r new.cutter.mode
-  pub all : is_last r ≡ true → (bytes told : List ℕ) → PacketsStandFor old bytes told → told ++ told_bytes r ≡ bytes ++ more
+  pub stands : (bytes given : List ℕ) → PacketsStandFor old bytes given → PacketsStandFor new (bytes ++ more) (given ++ bytes_of_run r) × IsNext given old.cutter.mode r new.cutter.mode
+  pub all : is_last r ≡ true → (bytes given : List ℕ) → PacketsStandFor old bytes given → given ++ bytes_of_run r ≡ bytes ++ more
   pub done : new.done ≡ is_last r
   pub good : new.failed ≡ false
 
--- the call gave a run: the tail and the end only where the input's rest, if it is told, is empty
+-- the call gave a run: the tail and the end only where the input's rest, if it is known, is empty
 pub record GivesRun (old new : PacketsState) (rest rest_now : Option (List ℕ)) (r : Run) : Type 0 where
   pub more : List ℕ
   pub taken : rest ≡ preceded more rest_now

@@ -25,7 +25,7 @@ use x7_words::word_of;
 pub(crate) enum Stage {
     /// In a gap.
     Searching,
-    /// Just behind a sync word that is still to be told.
+    /// Just behind a sync word that is still to be given.
     Due,
     /// In a session.
     Synced,
@@ -146,7 +146,7 @@ impl Cutter {
         let _ = &self.stage;
     }
 
-    /// Whether the bytes taken end in a session. It begins just behind its sync word, before that is told.
+    /// Whether the bytes taken end in a session. It begins just behind its sync word, before that is given.
     pub fn is_synced(&self) -> bool
         ensures synced { (bytes : List ℕ) (sessions : List Session) (place : Place) → CutterStandsFor self.now bytes sessions place → result ≡ is_synced place }
     {
@@ -394,7 +394,7 @@ impl Cutter {
         requires synced { self.old.mode ≡ Mode.Synced }
         requires whole { length self.old.kept + length missing.now ≡ 4 }
         ensures word { IsOneWord self.old.machine.due result }
-        ensures told { syncs_due self.new.mode ≡ 0 }
+        ensures given { syncs_due self.new.mode ≡ 0 }
         ensures none_kept { self.new.kept ≡ [] }
         ensures joined { self.old.kept ++ missing.now ≡ run_bytes result }
         ensures run { IsRun result }
@@ -422,7 +422,7 @@ impl Cutter {
         requires due { length body.now / 4 ≤ self.old.machine.due }
         requires one { self.old.machine.register ≡ number_of Cmd → length body.now ≡ 4 }
         ensures body { IsBody self.old.machine.register body.now result }
-        ensures told { syncs_due self.new.mode ≡ 0 }
+        ensures given { syncs_due self.new.mode ≡ 0 }
         ensures none_kept { self.new.kept ≡ [] }
         ensures run { IsRun result }
         ensures adds { (bytes : List ℕ) (sessions : List Session) (place : Place) → CutterStandsFor self.old bytes sessions place

@@ -130,7 +130,7 @@ impl Packets {
     /// How many bytes were taken, the first ones included, also after a failed read.
     pub fn taken(&self) -> u64
         ensures is { result ≡ self.now.taken }
-        ensures count { (bytes told : List ℕ) → PacketsStandFor self.now bytes told → result ≡ length bytes }
+        ensures count { (bytes given : List ℕ) → PacketsStandFor self.now bytes given → result ≡ length bytes }
     {
         self.taken
     }

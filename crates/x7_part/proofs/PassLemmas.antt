@@ -19,7 +19,7 @@ use Rattle.x7_part.specs.FrameAddress.{IsRow}
 use Rattle.x7_part.specs.declared.settings.Settings.{Settings}
 use Rattle.x7_part.specs.AddressOrder.{addresses}
 use Rattle.x7_part.specs.PartValues.{RowValues, TopValues, top_values, settings_of, row_of, rows_of, part_data, part_with}
-use Rattle.x7_part.specs.PartChecks.{told, unless, first_of, rows_fault, is_in, is_long, is_name, is_odd, is_unit, are_widths_or_none, row_range_fault, type_fault, other_fault, number_range_fault, top_range_fault, range_fault}
+use Rattle.x7_part.specs.PartChecks.{fault_of_call, unless, first_of, rows_fault, is_in, is_long, is_name, is_odd, is_unit, are_widths_or_none, row_range_fault, type_fault, other_fault, number_range_fault, top_range_fault, range_fault}
 use Rattle.x7_part.specs.PartRows.{same_row_fault, has_few_frames, frames_fault, in_order}
 use Rattle.x7_part.specs.PartFile.{fault_of, part_in, part_of_table, part_unless, part_from}
 use Rattle.x7_part.proofs.OrderLemmas.{unless_none, ordered, frames_sum, frames_permutation}
@@ -103,7 +103,7 @@ first_alone (Some fault) = refl
 -- the checks of rows, by their number of frames
 pub rows_checked : (part : PartData) (words frames : ℕ) (rows : List RowData) (r : Result (Unit {0}) PartFault) → part.words ≡ words → part.rows ≡ rows →
     frames ≡ sum_by (λ r. sum r.minors) rows → None ≡ same_row_fault [] rows →
-    told r ≡ unless (has_few_frames words frames (length rows)) (TooMany frames) → told r ≡ first_of (same_row_fault [] rows ∷ frames_fault part ∷ [])
+    fault_of_call r ≡ unless (has_few_frames words frames (length rows)) (TooMany frames) → fault_of_call r ≡ first_of (same_row_fault [] rows ∷ frames_fault part ∷ [])
 rows_checked part words frames rows r wide same counted apart checked =
     let n : length (addresses part.far rows) ≡ frames = frames_sum part.far rows ∙ sym counted in
     checked ∙ rw (← apart, same, wide, n) (first_alone (unless (has_few_frames words frames (length rows)) (TooMany frames)))
@@ -244,7 +244,7 @@ pub handed_on : {T : Type 0} (r : Result T PartFault) (text : List ℕ) (fault :
 handed_on (Ok x) text fault h is = tt
 handed_on (Err e) text fault h is = inr (rw h.1 is)
 
-pub told_from : {T : Type 0} (r : Result T PartFault) (fault : PartFault) → IsErr r × IsErrAnd r (λ e. e ≡ fault) → told r ≡ Some fault
+pub told_from : {T : Type 0} (r : Result T PartFault) (fault : PartFault) → IsErr r × IsErrAnd r (λ e. e ≡ fault) → fault_of_call r ≡ Some fault
 told_from (Ok x) fault h = absurd (false≢true h.0)
 told_from (Err e) fault h = ap Some h.1
 

@@ -22,9 +22,9 @@ first_of (Some fault ∷ checks) = Some fault
 first_of (None ∷ checks) = first_of checks
 
 -- the fault that a call tells
-abbrev pub told : {T : Type 0} → Result T PartFault → Option PartFault
-told (Ok done) = None
-told (Err fault) = Some fault
+abbrev pub fault_of_call : {T : Type 0} → Result T PartFault → Option PartFault
+fault_of_call (Ok done) = None
+fault_of_call (Err fault) = Some fault
 
 -- a call that takes memory tells this fault or none; want of memory has no cause
 abbrev pub Tells : {T : Type 0} → Option PartFault → Result T PartFault → Type 0
@@ -32,13 +32,13 @@ Tells due (Ok done) = due ≡ None
 Tells due (Err fault) = (fault ≡ NoMemory) ⊎ (due ≡ Some fault)
 
 -- the number of the row behind row n; a number past 32 bits is told as the last of 32 bits
-abbrev pub behind : ℕ → ℕ
-behind n = min (n + 1) (2 ^ 32 - 1)
+abbrev pub next_row_number : ℕ → ℕ
+next_row_number n = min (n + 1) (2 ^ 32 - 1)
 
 -- the first fault that a check finds in the rows, which count from n
 abbrev pub rows_fault : {R : Type 0} → (ℕ → R → Option PartFault) → ℕ → List R → Option PartFault
 rows_fault check n [] = None
-rows_fault check n (row ∷ rows) = first_of (check n row ∷ rows_fault check (behind n) rows ∷ [])
+rows_fault check n (row ∷ rows) = first_of (check n row ∷ rows_fault check (next_row_number n) rows ∷ [])
 
 -- ---- types
 

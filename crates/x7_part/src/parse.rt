@@ -3,7 +3,7 @@ ghost use Rattle.std.specs.Prelude.{◌≡◌, ◌⊎◌, ◌≤◌, [], ◌∷�
 ghost use Rattle.toml.specs.Parse.{parse_document};
 ghost use Rattle.toml.specs.View.{table_view};
 ghost use Rattle.x7_part.specs.Part.{PartData};
-ghost use Rattle.x7_part.specs.PartChecks.{told, first_of};
+ghost use Rattle.x7_part.specs.PartChecks.{fault_of_call, first_of};
 ghost use Rattle.x7_part.specs.PartRows.{same_row_fault, frames_fault, has_few_frames};
 ghost use Rattle.x7_part.specs.PartFile.{part_in};
 ghost use Rattle.x7_part.specs.declared.fault.PartFault.{PartFault};
@@ -49,7 +49,7 @@ fn check_rows(words: u32, rows: &[Row]) -> Result<(), PartFault>
     requires words { words ≤ 255 }
     requires rows { length rows.now ≤ 192 }
     ensures { (part : PartData) → part.words ≡ words → part.rows ≡ rows.now →
-        told result ≡ first_of (same_row_fault [] rows.now ∷ frames_fault part ∷ []) }
+        fault_of_call result ≡ first_of (same_row_fault [] rows.now ∷ frames_fault part ∷ []) }
 {
     check_same_rows(rows)?;
     let frames = frame_count(rows);

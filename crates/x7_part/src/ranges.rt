@@ -1,7 +1,7 @@
 //! The ranges of a part file's values: each judges a value and gives the number of a part that it stands for.
 ghost use Rattle.std.specs.Prelude.{◌≡◌, ◌≤◌, map, length, IfOk, Some};
 ghost use Rattle.x7_part.specs.PartValues.{natural, widths_of};
-ghost use Rattle.x7_part.specs.PartChecks.{told, Tells, unless, is_in, is_long, are_printed, is_name, is_odd, is_unit, are_widths, are_minors};
+ghost use Rattle.x7_part.specs.PartChecks.{fault_of_call, Tells, unless, is_in, is_long, are_printed, is_name, is_odd, is_unit, are_widths, are_minors};
 ghost use Rattle.x7_part.specs.declared.fault.PartFault.TheVariants.{Range};
 
 use crate::address::Fields;
@@ -10,7 +10,7 @@ use std::alloc::Global;
 
 /// The fault, unless the test holds.
 pub fn require(holds: bool, fault: PartFault) -> Result<(), PartFault>
-    ensures { told result ≡ unless holds fault }
+    ensures { fault_of_call result ≡ unless holds fault }
 {
     if holds { Ok(()) } else { Err(fault) }
 }
@@ -45,7 +45,7 @@ pub fn is_name(text: &str) -> bool
 /// A number in the range.
 #[tactic(auto, unfolding(crate::specs::PartChecks::is_in))]
 pub fn within(number: i64, low: u32, high: u32, at: Which) -> Result<u32, PartFault>
-    ensures fault { told result ≡ unless (is_in low high number) (Range at) }
+    ensures fault { fault_of_call result ≡ unless (is_in low high number) (Range at) }
     ensures value { IfOk result (λ n. n ≡ natural number) }
     ensures range { IfOk result (λ n. (low ≤ n) × (n ≤ high)) }
 {
@@ -59,7 +59,7 @@ pub fn within(number: i64, low: u32, high: u32, at: Which) -> Result<u32, PartFa
 /// An odd number of 32 bits.
 #[tactic(auto, unfolding(crate::specs::PartChecks::is_odd))]
 pub fn odd(number: i64, at: Which) -> Result<u32, PartFault>
-    ensures fault { told result ≡ unless (is_odd number) (Range at) }
+    ensures fault { fault_of_call result ≡ unless (is_odd number) (Range at) }
     ensures value { IfOk result (λ n. n ≡ natural number) }
 {
     let odd = within(number, 1, 4_294_967_295, at)?;
@@ -70,7 +70,7 @@ pub fn odd(number: i64, at: Which) -> Result<u32, PartFault>
 /// 1 or 256.
 #[tactic(auto, unfolding(crate::specs::PartChecks::is_unit, crate::specs::PartChecks::is_in))]
 pub fn unit(number: i64, at: Which) -> Result<u16, PartFault>
-    ensures fault { told result ≡ unless (is_unit number) (Range at) }
+    ensures fault { fault_of_call result ≡ unless (is_unit number) (Range at) }
     ensures value { IfOk result (λ n. n ≡ natural number) }
 {
     if number == 1 {
@@ -85,7 +85,7 @@ pub fn unit(number: i64, at: Which) -> Result<u16, PartFault>
 /// The widths of the fields of an address, each in its range, with 32 bits together.
 #[tactic(auto, unfolding(crate::specs::PartChecks::is_in))]
 pub fn widths(numbers: &[i64], at: Which) -> Result<Fields, PartFault>
-    ensures fault { told result ≡ unless (are_widths numbers.now) (Range at) }
+    ensures fault { fault_of_call result ≡ unless (are_widths numbers.now) (Range at) }
     ensures value { IfOk result (λ far. far ≡ widths_of numbers.now) }
 {
     let [minor, column, row, half, block] = numbers else {

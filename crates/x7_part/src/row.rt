@@ -2,7 +2,7 @@
 ghost use Rattle.std.specs.Prelude.{◌≡◌, ◌≤◌, [], None, map, length, sum, All, IfOk};
 ghost use Rattle.std.specs.List.{sum_by};
 ghost use Rattle.x7_part.specs.FrameAddress.{row_address, AreWidths, IsRow};
-ghost use Rattle.x7_part.specs.PartChecks.{told, Tells, rows_fault, row_range_fault};
+ghost use Rattle.x7_part.specs.PartChecks.{fault_of_call, Tells, rows_fault, row_range_fault};
 ghost use Rattle.x7_part.specs.PartRows.{is_same, has_same, same_row_fault, in_order};
 ghost use Rattle.x7_part.specs.PartValues.{row_of};
 ghost use Rattle.x7_part.specs.Part.{RowData};
@@ -119,7 +119,7 @@ fn has_same(row: &Row, rows: &[Row]) -> bool
 /// The first row that is the same as an earlier one. Rows count from 1.
 pub fn check_same_rows(rows: &[Row]) -> Result<(), PartFault>
     requires { length rows.now ≤ 192 }
-    ensures { told result ≡ same_row_fault [] rows.now }
+    ensures { fault_of_call result ≡ same_row_fault [] rows.now }
 {
     for (place, row) in rows.iter().enumerate() {
         let same = has_same(row, &rows[..place]);

@@ -1,7 +1,7 @@
 //! What a part file's top table says of a part, but for its name and its rows.
 ghost use Rattle.std.specs.Prelude.{◌≡◌, [], option_map, unwrap_or, IfOk};
 ghost use Rattle.x7_part.specs.PartValues.{settings_of, widths_of};
-ghost use Rattle.x7_part.specs.PartChecks.{told, unless, are_widths_or_none, number_range_fault, top_range_fault};
+ghost use Rattle.x7_part.specs.PartChecks.{fault_of_call, unless, are_widths_or_none, number_range_fault, top_range_fault};
 ghost use Rattle.x7_part.specs.declared.fault.PartFault.TheVariants.{Range};
 
 use crate::address::Fields;
@@ -25,7 +25,7 @@ pub struct Settings {
 /// The widths of the fields of an address, those of the 7 series where they aren't given.
 #[tactic(auto, unfolding(crate::specs::PartChecks::are_widths_or_none))]
 fn fields_in(widths_given: &Option<Vec<i64>>, at: Which) -> Result<Fields, PartFault>
-    ensures fault { told result ≡ unless (are_widths_or_none (option_map (λ zs. zs.items) widths_given.now)) (Range at) }
+    ensures fault { fault_of_call result ≡ unless (are_widths_or_none (option_map (λ zs. zs.items) widths_given.now)) (Range at) }
     ensures value { IfOk result (λ far. far ≡ widths_of (unwrap_or (option_map (λ zs. zs.items) widths_given.now) [])) }
 {
     match widths_given {
@@ -37,7 +37,7 @@ fn fields_in(widths_given: &Option<Vec<i64>>, at: Which) -> Result<Fields, PartF
 /// The settings of a top table, or the first number that is out of range.
 #[tactic(auto, unfolding(crate::specs::PartChecks::number_range_fault))]
 fn numbers_in(values: &Values) -> Result<Settings, PartFault>
-    ensures fault { told result ≡ number_range_fault values.now }
+    ensures fault { fault_of_call result ≡ number_range_fault values.now }
     ensures value { IfOk result (λ settings. settings ≡ settings_of values.now) }
 {
     Ok(Settings {
@@ -55,7 +55,7 @@ fn numbers_in(values: &Values) -> Result<Settings, PartFault>
 /// The settings of a top table, or its first value that is out of range.
 #[tactic(auto, unfolding(crate::specs::PartChecks::top_range_fault))]
 pub fn settings_in(values: &Values) -> Result<Settings, PartFault>
-    ensures fault { told result ≡ top_range_fault values.now }
+    ensures fault { fault_of_call result ≡ top_range_fault values.now }
     ensures value { IfOk result (λ settings. settings ≡ settings_of values.now) }
 {
     let name = PartFault::Range(Which::top(PartKey::Name));

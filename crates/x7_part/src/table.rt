@@ -10,7 +10,7 @@ use crate::row::Row;
 use std::alloc::{AllocError, Global};
 
 /// The pads behind column `column` of so many: two behind a row's last one (this project's choice).
-fn pads_behind(column: usize, columns: usize) -> u32
+fn pads_after(column: usize, columns: usize) -> u32
     requires { column < columns }
     ensures { result ≡ (if column + 1 == columns then 2 else 0) }
 {
@@ -39,7 +39,7 @@ fn add_row(
         columns.push(Column {
             first: base + column as u32 * pitch,
             count: u32::from(*count),
-            pads: pads_behind(column, minors.len()),
+            pads: pads_after(column, minors.len()),
             rank,
             slot,
         })?;

@@ -2,7 +2,7 @@
 ghost use Rattle.std.specs.Prelude.{◌≡◌, Ok, option_map, is_some, map, string_bytes, IfOk, IfSome};
 ghost use Rattle.toml.specs.View.{view, table_view, items_view};
 ghost use Rattle.x7_part.specs.PartValues.{under, text, number_or, numbers, numbers_under, tables, row_tables};
-ghost use Rattle.x7_part.specs.PartChecks.{told, Tells, unless, has, may_have, are_wholes, are_tables, is_text, is_whole, is_list_of_wholes, is_list_of_tables};
+ghost use Rattle.x7_part.specs.PartChecks.{fault_of_call, Tells, unless, has, may_have, are_wholes, are_tables, is_text, is_whole, is_list_of_wholes, is_list_of_tables};
 ghost use Rattle.x7_part.specs.declared.fault.PartFault.TheVariants.{Key};
 ghost use Rattle.x7_part.specs.declared.fault.PartKey.TheVariants as key;
 ghost use Rattle.x7_part.specs.PartKey.{top};
@@ -34,7 +34,7 @@ pub fn text(alloc: Global, table: &Table, at: Which) -> Result<String, PartFault
 
 /// The whole number under a key.
 pub fn number(table: &Table, at: Which) -> Result<i64, PartFault>
-    ensures fault { told result ≡ unless (has is_whole (under at.key (table_view table.now))) (Key at) }
+    ensures fault { fault_of_call result ≡ unless (has is_whole (under at.key (table_view table.now))) (Key at) }
     ensures value { IfOk result (λ z. z ≡ number_or 0 at.key (table_view table.now)) }
 {
     match value_under(table, at.key) {
@@ -48,7 +48,7 @@ pub fn number(table: &Table, at: Which) -> Result<i64, PartFault>
 
 /// The whole number under a key, `usual` where the key is left out.
 pub fn number_or(usual: u32, table: &Table, at: Which) -> Result<i64, PartFault>
-    ensures fault { told result ≡ unless (may_have is_whole (under at.key (table_view table.now))) (Key at) }
+    ensures fault { fault_of_call result ≡ unless (may_have is_whole (under at.key (table_view table.now))) (Key at) }
     ensures value { IfOk result (λ z. z ≡ number_or usual at.key (table_view table.now)) }
 {
     match value_under(table, at.key) {

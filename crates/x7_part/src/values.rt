@@ -2,7 +2,7 @@
 ghost use Rattle.std.specs.Prelude.{◌≡◌, map, option_map, string_bytes, IfOk};
 ghost use Rattle.toml.specs.View.{table_view};
 ghost use Rattle.x7_part.specs.PartValues.{RowValues as RowData, TopValues, row_values, top_values};
-ghost use Rattle.x7_part.specs.PartChecks.{told, Tells, rows_fault, row_type_fault, row_other_fault, type_fault, other_fault};
+ghost use Rattle.x7_part.specs.PartChecks.{fault_of_call, Tells, rows_fault, row_type_fault, row_other_fault, type_fault, other_fault};
 
 use crate::fault::{PartFault, PartKey, Which};
 use crate::keys::{ROW_KEYS, TOP_KEYS, has_only};
@@ -109,7 +109,7 @@ pub fn values_of(alloc: Global, table: &Table) -> Result<Values, PartFault>
 /// An unknown key, at the top and then row by row.
 #[tactic(auto, unfolding(crate::specs::PartChecks::other_fault))]
 pub fn check_known(values: &Values) -> Result<(), PartFault>
-    ensures { told result ≡ other_fault values.now }
+    ensures { fault_of_call result ≡ other_fault values.now }
 {
     require(values.known, PartFault::Key(Which::top(PartKey::Other)))?;
     check_known_rows(&values.rows)
@@ -117,7 +117,7 @@ pub fn check_known(values: &Values) -> Result<(), PartFault>
 
 /// An unknown key of the rows, which count from 1.
 fn check_known_rows(rows: &[RowValues]) -> Result<(), PartFault>
-    ensures { told result ≡ rows_fault row_other_fault 1 rows.now }
+    ensures { fault_of_call result ≡ rows_fault row_other_fault 1 rows.now }
 {
     let mut number = 1u32;
     for row in rows {

@@ -20,7 +20,7 @@ use Rattle.x7_memory.proofs.MapLemmas.{override_twice, override_same, planned_jo
 use Rattle.x7_regs.specs.declared.command.Command.{Command}
 use Rattle.x7_pipeline.specs.declared.fault.RunFault.{RunFault}
 use Rattle.x7_pipeline.specs.declared.fault.RunFault.TheVariants.{Address, Overrun, Multi}
-use Rattle.x7_pipeline.specs.Runs.{rest_of, frames_of, slots_from, at_slot, in_slots, but_newest, landed, put_over, Lands}
+use Rattle.x7_pipeline.specs.Runs.{rest_of, frames_of, slots_from, at_slot, in_slots, but_newest, written_frames, put_over, Lands}
 use Rattle.x7_pipeline.specs.InWords.{AreCutFrom, pair_of}
 use Rattle.x7_pipeline.specs.FarAsRead.{has_frame_at, first_address, last_address, far_at, far_of}
 use Rattle.x7_regs.specs.declared.command.Command.TheVariants.{Wcfg, Mfw}
@@ -57,7 +57,7 @@ cut width (w ∷ run) some =
       | inr n ↦ rw (ne_eqb (length (rest_of width run) + 1) width n) (record { joined = joined; each = ih.each; short = omega arith })
     ]
 
--- ---- the landed pairs are frames with slots, those at pads left out
+-- ---- the written pairs are frames with slots, those at pads left out
 
 pub zip-nil : (places : List Slot) → zip {K = Slot} {X = List ℕ} places [] ≡ []
 zip-nil [] = refl
@@ -91,12 +91,12 @@ in_order places (frame ∷ older) =
     ∙ ap (λ t. filter_map pair_of (zip places t)) (sym (reverse-cons frame older))
 
 pub landed_in_order : (part : PartData) (base : ℕ) (run : List ℕ) →
-    reverse (landed part base run) ≡ filter_map pair_of (zip (slots_from part base) (reverse (but_newest (frames_of (frame_words part) run))))
-unfolding landed
+    reverse (written_frames part base run) ≡ filter_map pair_of (zip (slots_from part base) (reverse (but_newest (frames_of (frame_words part) run))))
+unfolding written_frames
 landed_in_order part base run = in_order (slots_from part base) (but_newest (frames_of (frame_words part) run))
 
-pub landed_empty : (part : PartData) (base : ℕ) → landed part base [] ≡ []
-unfolding landed frames_of in_slots
+pub landed_empty : (part : PartData) (base : ℕ) → written_frames part base [] ≡ []
+unfolding written_frames frames_of in_slots
 landed_empty part base = refl
 
 nothing_lands : (places : List Slot) (frames : List (List ℕ)) → length places ≡ 0 → in_slots places frames ≡ []
@@ -105,8 +105,8 @@ nothing_lands places [] none = refl
 nothing_lands places (frame ∷ older) none =
     ap (λ slot. at_slot slot frame (in_slots places older)) (get_or_past places (length older) End (omega arith)) ∙ nothing_lands places older none
 
-pub landed_nowhere : (part : PartData) (base : ℕ) (run : List ℕ) → has_frame_at part base ≡ false → landed part base run ≡ []
-unfolding landed
+pub landed_nowhere : (part : PartData) (base : ℕ) (run : List ℕ) → has_frame_at part base ≡ false → written_frames part base run ≡ []
+unfolding written_frames
 landed_nowhere part base run f = nothing_lands (slots_from part base) (but_newest (frames_of (frame_words part) run)) (no_slots part base f)
 
 -- ---- what a memory gets
@@ -125,12 +125,12 @@ put_twice first second old middle new m n far =
 pub lands_more : (part : PartData) (base : ℕ) (run longer longest : List ℕ) (old middle new : FrameMap) → Lands part base run longer old middle → Lands part base longer longest middle new → Lands part base run longest old new
 lands_more part base run longer longest old middle new first second = record {
   added = second.added ++ first.added;
-  grows = second.grows ∙ ap (λ t. second.added ++ t) first.grows ∙ sym (append_assoc second.added first.added (landed part base run));
+  grows = second.grows ∙ ap (λ t. second.added ++ t) first.grows ∙ sym (append_assoc second.added first.added (written_frames part base run));
   memory = put_twice first.added second.added old middle new first.memory second.memory;
 }
 
-pub lands_over : (part : PartData) (base : ℕ) (run longer : List ℕ) (under old new : FrameMap) → Lands part base run longer old new → AreSame old (put_over (landed part base run) under) → AreSame new (put_over (landed part base longer) under)
-lands_over part base run longer under old new l m = rw l.grows (put_twice (landed part base run) l.added under old new m l.memory)
+pub lands_over : (part : PartData) (base : ℕ) (run longer : List ℕ) (under old new : FrameMap) → Lands part base run longer old new → AreSame old (put_over (written_frames part base run) under) → AreSame new (put_over (written_frames part base longer) under)
+lands_over part base run longer under old new l m = rw l.grows (put_twice (written_frames part base run) l.added under old new m l.memory)
 
 -- ---- FAR as read
 
@@ -277,8 +277,8 @@ at_newest places [] h ends = refl
 at_newest places (frame ∷ older) h ends = at_no_frame (get_or places (length older) End) frame (in_slots places older) (λ far. ends (length older) far (omega arith))
 
 -- a refused word would land nothing
-pub refused_landed : (part : PartData) (base : ℕ) (run : List ℕ) (word : ℕ) (fault : RunFault) → write_fault part base run ≡ Some fault → landed part base (word ∷ run) ≡ landed part base run
-unfolding write_fault landed
+pub refused_landed : (part : PartData) (base : ℕ) (run : List ℕ) (word : ℕ) (fault : RunFault) → write_fault part base run ≡ Some fault → written_frames part base (word ∷ run) ≡ written_frames part base run
+unfolding write_fault written_frames
 refused_landed part base [] word fault e =
     let f = (no_address part base fault e).0 in landed_nowhere part base (word ∷ []) f ∙ sym (landed_nowhere part base [] f)
 refused_landed part base (v ∷ run) word fault e =

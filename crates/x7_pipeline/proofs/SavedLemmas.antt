@@ -11,7 +11,7 @@ use Rattle.x7_memory.specs.FrameMap.{FrameMap, AreSame, or_else}
 use Rattle.x7_memory.specs.Frames.{AreFramesOf, frame_among, frame_at}
 use Rattle.x7_memory.specs.Planned.{PlanRow, planned}
 use Rattle.x7_memory.proofs.MapLemmas.{override_one}
-use Rattle.x7_pipeline.specs.Runs.{at_slot, but_newest, frames_of, in_slots, landed, put_over, rest_of, slots_from, Lands}
+use Rattle.x7_pipeline.specs.Runs.{at_slot, but_newest, frames_of, in_slots, written_frames, put_over, rest_of, slots_from, Lands}
 use Rattle.x7_regs.specs.declared.command.Command.{Command}
 use Rattle.x7_pipeline.specs.declared.fault.RunFault.TheVariants.{Address, Multi}
 use Rattle.x7_pipeline.specs.FarAsRead.{has_frame_at}
@@ -109,24 +109,24 @@ copy_changes part p command base run source given old new s f same =
 -- ---- a word
 
 -- a word that lands nothing more changes nothing
-lands_none : (part : PartData) (base : ℕ) (run longer : List ℕ) (old new : FrameMap) → landed part base longer ≡ landed part base run → Lands part base run longer old new → AreSame new old
+lands_none : (part : PartData) (base : ℕ) (run longer : List ℕ) (old new : FrameMap) → written_frames part base longer ≡ written_frames part base run → Lands part base run longer old new → AreSame new old
 unfolding planned
 lands_none part base run longer old new same l = λ far.
-    let none : l.added ≡ [] = append_cancel_right l.added [] (landed part base run) (sym l.grows ∙ same) in
+    let none : l.added ≡ [] = append_cancel_right l.added [] (written_frames part base run) (sym l.grows ∙ same) in
     l.memory far ∙ ap (λ (ps : List PlanRow). put_over ps old far) none
 
 -- where all frames of a run land but those to come, the newest one is put at its slot
 lands_newest : (part : PartData) (base : ℕ) (run longer : List ℕ) (frames : List (List ℕ)) (n : ℕ) (old new : FrameMap) → frames_of (frame_words part) run ≡ frames → n ≡ length frames
-    → landed part base longer ≡ in_slots (slots_from part base) frames → Lands part base run longer old new → ChangesAt (address_of (if n == 0 then Pad else get_or (slots_from part base) (n - 1) End)) old new
-unfolding landed in_slots
+    → written_frames part base longer ≡ in_slots (slots_from part base) frames → Lands part base run longer old new → ChangesAt (address_of (if n == 0 then Pad else get_or (slots_from part base) (n - 1) End)) old new
+unfolding written_frames in_slots
 lands_newest part base run longer [] n old new e count now l =
-    let same : landed part base longer ≡ landed part base run = now ∙ ap (λ (fs : List (List ℕ)). in_slots (slots_from part base) (but_newest fs)) (sym e) in
+    let same : written_frames part base longer ≡ written_frames part base run = now ∙ ap (λ (fs : List (List ℕ)). in_slots (slots_from part base) (but_newest fs)) (sym e) in
     rw count (changes_none None old new (lands_none part base run longer old new same l))
 lands_newest part base run longer (frame ∷ older) n old new e count now l =
     let slot : Slot = get_or (slots_from part base) (length older) End in
-    let before : landed part base run ≡ in_slots (slots_from part base) older = ap (λ (fs : List (List ℕ)). in_slots (slots_from part base) (but_newest fs)) e in
+    let before : written_frames part base run ≡ in_slots (slots_from part base) older = ap (λ (fs : List (List ℕ)). in_slots (slots_from part base) (but_newest fs)) e in
     let added : l.added ≡ at_slot slot frame [] =
-    append_cancel_right l.added (at_slot slot frame []) (landed part base run)
+    append_cancel_right l.added (at_slot slot frame []) (written_frames part base run)
     (sym l.grows ∙ now ∙ at_slot_more slot frame (in_slots (slots_from part base) older) ∙ ap (λ (ps : List PlanRow). at_slot slot frame [] ++ ps) (sym before)) in
     let some : (n == 0) ≡ false = ne_eqb n 0 (λ z. omega (arith, count, z)) in
     let one : n - 1 ≡ length older = omega (arith, count) in
@@ -135,7 +135,7 @@ lands_newest part base run longer (frame ∷ older) n old new e count now l =
 -- a word changes the address where the next word would put a frame, and no other one
 pub word_changes : (part : PartData) (p : PipelineData) (command : Command) (base : ℕ) (run : List ℕ) (source : Option (List ℕ)) (given word : ℕ) (old new : FrameMap) → StandsFor part p command base run source given
     → is_mfw command ≡ false → Lands part base run (word ∷ run) old new → ChangesAt (next_put part p) old new
-unfolding landed
+unfolding written_frames
 word_changes part p command base run source given word old new s words l =
     let mfw : is_mfw p.command ≡ false = ap is_mfw s.command_is ∙ words in
     let copies : takes_copies p ≡ false = rw mfw refl in

@@ -13,7 +13,7 @@ use Rattle.x7_memory.specs.Planned.{PlanRow, planned}
 use Rattle.x7_memory.proofs.MapLemmas.{override_one}
 use Rattle.x7_regs.specs.declared.command.Command.{Command}
 use Rattle.x7_pipeline.specs.declared.fault.RunFault.TheVariants.{Address, Overrun, Multi}
-use Rattle.x7_pipeline.specs.Runs.{rest_of, frames_of, slots_from, at_slot, in_slots, but_newest, landed, put_over, Lands}
+use Rattle.x7_pipeline.specs.Runs.{rest_of, frames_of, slots_from, at_slot, in_slots, but_newest, written_frames, put_over, Lands}
 use Rattle.x7_pipeline.specs.FarAsRead.{has_frame_at, far_at, far_of}
 use Rattle.x7_pipeline.specs.Copies.{is_mfw, newest_of, source_with, source_after, copied}
 use Rattle.x7_pipeline.specs.Readback.{word_at, read_slot, read_at, read_limit, given_stored}
@@ -110,14 +110,14 @@ completes_frame part p q w command base run source given s whole low e =
 
 -- ---- what the memory gets
 
-same_lands : (part : PartData) (base : ℕ) (run longer : List ℕ) (old new : FrameMap) → landed part base longer ≡ landed part base run → AreSame new old → Lands part base run longer old new
+same_lands : (part : PartData) (base : ℕ) (run longer : List ℕ) (old new : FrameMap) → written_frames part base longer ≡ written_frames part base run → AreSame new old → Lands part base run longer old new
 unfolding planned
 same_lands part base run longer old new e same = record { added = []; grows = e; memory = same }
 
 -- a word within a frame puts nothing
 pub lands_nothing : (part : PartData) (p : PipelineData) (w : ℕ) (command : Command) (base : ℕ) (run : List ℕ) (source : Option (List ℕ)) (given : ℕ) (old new : FrameMap) → StandsFor part p command base run source given →
     length p.rest + 1 < p.width → AreSame new old → Lands part base run (w ∷ run) old new
-unfolding landed
+unfolding written_frames
 lands_nothing part p w command base run source given old new s short same =
     let rest = s.rest_is in let width = s.width_is in
     let inside : length (rest_of (frame_words part) run) + 1 ≡ frame_words part → ⊥ = λ same. (let long = ap length rest in absurd (omega arith)) in
@@ -130,13 +130,13 @@ at_slot_more End words pairs = refl
 
 -- the frames now land but the newest, whatever their number
 lands_by : (part : PartData) (base : ℕ) (run longer : List ℕ) (frames : List (List ℕ)) (old new : FrameMap) → frames_of (frame_words part) run ≡ frames →
-    landed part base longer ≡ in_slots (slots_from part base) frames → (newest_of frames ≡ None → AreSame new old) →
+    written_frames part base longer ≡ in_slots (slots_from part base) frames → (newest_of frames ≡ None → AreSame new old) →
     ((frame : List ℕ) → newest_of frames ≡ Some frame → AreSame new (put_over (at_slot (get_or (slots_from part base) (length frames - 1) End) frame []) old)) → Lands part base run longer old new
-unfolding landed in_slots
+unfolding written_frames in_slots
 lands_by part base run longer [] old new e now none some =
     same_lands part base run longer old new (now ∙ ap (λ frames. in_slots (slots_from part base) (but_newest frames)) (sym e)) (none refl)
 lands_by part base run longer (frame ∷ older) old new e now none some =
-    let before : landed part base run ≡ in_slots (slots_from part base) older = ap (λ frames. in_slots (slots_from part base) (but_newest frames)) e in
+    let before : written_frames part base run ≡ in_slots (slots_from part base) older = ap (λ frames. in_slots (slots_from part base) (but_newest frames)) e in
     let place : length (frame ∷ older) - 1 ≡ length older = omega arith in
     record {
       added = at_slot (get_or (slots_from part base) (length (frame ∷ older) - 1) End) frame [];
@@ -150,7 +150,7 @@ lands_by part base run longer (frame ∷ older) old new e now none some =
 pub lands_frame : (part : PartData) (p : PipelineData) (w : ℕ) (command : Command) (base : ℕ) (run : List ℕ) (source : Option (List ℕ)) (given : ℕ) (old new : FrameMap) → StandsFor part p command base run source given →
     length p.rest + 1 ≡ p.width → (p.newest ≡ None → AreSame new old) →
     ((frame : List ℕ) → p.newest ≡ Some frame → AreSame new (put_over (at_slot (get_or (slots_from part p.base) (p.frame_count - 1) End) frame []) old)) → Lands part base run (w ∷ run) old new
-unfolding landed
+unfolding written_frames
 lands_frame part p w command base run source given old new s whole none some =
     let rest = s.rest_is in let width = s.width_is in
     let full : length (rest_of (frame_words part) run) + 1 ≡ frame_words part = (let long = ap length rest in omega arith) in

@@ -1,4 +1,4 @@
--- Runs and landed frames in other words, for the laws of this crate.
+-- Runs and written frames in other words, for the laws of this crate.
 use Rattle.std.specs.Prelude.{◌≡◌, ℕ, ◌+◌, ◌*◌, ◌<◌, List, [], ◌++◌, length, reverse, slice_index_or, Option, Some, None, All}
 use Rattle.std.specs.List.{filter_map, flat_map, zip}
 use Rattle.x7_part.specs.Part.{PartData, frame_words}
@@ -6,7 +6,7 @@ use Rattle.x7_part.specs.declared.slot.Slot.{Slot}
 use Rattle.x7_part.specs.declared.slot.Slot.TheVariants.{Frame, Pad, End}
 use Rattle.x7_memory.specs.FrameMap.{FrameMap, AreSame}
 use Rattle.x7_memory.specs.Planned.{PlanRow}
-use Rattle.x7_pipeline.specs.Runs.{frames_of, landed, onto, put_over, rest_of, slots_from}
+use Rattle.x7_pipeline.specs.Runs.{frames_of, written_frames, onto, put_over, rest_of, slots_from}
 use Rattle.x7_pipeline.specs.Words.{Written}
 
 -- whole frames of `width` words, the newest first, and then a shorter rest, the oldest first
@@ -25,9 +25,9 @@ pair_of (End, words) = None
 abbrev pub placed_from : PartData → ℕ → List (List ℕ) → List PlanRow
 placed_from part base frames = filter_map pair_of (zip (slots_from part base) frames)
 
--- the memory is another one with what a run has landed
+-- the memory is another one with what a run has written
 abbrev pub HasRun : PartData → ℕ → List ℕ → FrameMap → FrameMap → Type 0
-HasRun part base run under memory = AreSame memory (put_over (landed part base run) under)
+HasRun part base run under memory = AreSame memory (put_over (written_frames part base run) under)
 
 -- words that were all written
 abbrev pub all_written : List ℕ → List ℕ → Written

@@ -48,8 +48,8 @@ but_newest [] = []
 but_newest (frame ∷ older) = older
 
 -- what a run from a base has put, the newest pair first: each whole frame but the newest, at its slot
-unfoldable pub landed : PartData → ℕ → List ℕ → List PlanRow
-landed part base run = in_slots (slots_from part base) (but_newest (frames_of (frame_words part) run))
+unfoldable pub written_frames : PartData → ℕ → List ℕ → List PlanRow
+written_frames part base run = in_slots (slots_from part base) (but_newest (frames_of (frame_words part) run))
 
 -- ---- what a memory gets
 
@@ -57,8 +57,8 @@ landed part base run = in_slots (slots_from part base) (but_newest (frames_of (f
 abbrev pub put_over : List PlanRow → FrameMap → FrameMap
 put_over pairs memory = override memory (planned pairs)
 
--- the run became longer, and the memory got just the pairs by which the landed frames grew
+-- the run became longer, and the memory got just the pairs by which the written frames grew
 pub record Lands (part : PartData) (base : ℕ) (run longer : List ℕ) (old new : FrameMap) : Type 0 where
   pub added : List PlanRow
-  pub grows : landed part base longer ≡ added ++ landed part base run
+  pub grows : written_frames part base longer ≡ added ++ written_frames part base run
   pub memory : AreSame new (put_over added old)

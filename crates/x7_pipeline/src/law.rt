@@ -8,7 +8,7 @@ ghost use Rattle.x7_memory.specs.Frames.{frame_at};
 ghost use Rattle.x7_memory.specs.Planned.{PlanRow};
 ghost use Rattle.x7_regs.specs.declared.command.Command.{Command};
 ghost use Rattle.x7_pipeline.specs.declared.fault.RunFault.{RunFault};
-ghost use Rattle.x7_pipeline.specs.Runs.{rest_of, frames_of, but_newest, landed, put_over, Lands};
+ghost use Rattle.x7_pipeline.specs.Runs.{rest_of, frames_of, but_newest, written_frames, put_over, Lands};
 ghost use Rattle.x7_pipeline.specs.InWords.{AreCutFrom, HasRun, Overruns, all_written, place_in, placed_from};
 ghost use Rattle.x7_pipeline.specs.FarAsRead.{IsBase, has_frame_at, far_of, last_address};
 ghost use Rattle.x7_pipeline.specs.Copies.{is_wcfg, is_mfw, newest_of, source_after};
@@ -24,9 +24,9 @@ ghost use Rattle.x7_pipeline.specs.Flow.{HoldsFlow, LandsAt, OfFlow, copied_by, 
 pub fn run_laws()
     ensures frames { (width : ℕ) (run : List ℕ) → 0 < width → AreCutFrom width run (frames_of width run) (rest_of width run) }
     ensures order { (part : PartData) (base : ℕ) (run : List ℕ) →
-        reverse (landed part base run) ≡ placed_from part base (reverse (but_newest (frames_of (frame_words part) run))) }
-    ensures empty { (part : PartData) (base : ℕ) → landed part base [] ≡ [] }
-    ensures nowhere { (part : PartData) (base : ℕ) (run : List ℕ) → has_frame_at part base ≡ false → landed part base run ≡ [] }
+        reverse (written_frames part base run) ≡ placed_from part base (reverse (but_newest (frames_of (frame_words part) run))) }
+    ensures empty { (part : PartData) (base : ℕ) → written_frames part base [] ≡ [] }
+    ensures nowhere { (part : PartData) (base : ℕ) (run : List ℕ) → has_frame_at part base ≡ false → written_frames part base run ≡ [] }
     ensures none { (part : PartData) (base : ℕ) (run : List ℕ) (old new : FrameMap) → AreSame new old → Lands part base run run old new }
     ensures twice { (first second : List PlanRow) (old middle new : FrameMap) → AreSame middle (put_over first old) → AreSame new (put_over second middle) →
         AreSame new (put_over (second ++ first) old) }
@@ -69,12 +69,12 @@ pub fn read_laws()
     ensures stored { (part : PartData) (base given n : ℕ) → given_stored part base (given + n) ≡ min (given_stored part base given + n) (read_limit part base) }
 {}
 
-/// When there are faults, and that a refused word would change neither the landed frames nor FAR as read.
+/// When there are faults, and that a refused word would change neither the written frames nor FAR as read.
 pub fn fault_laws()
     ensures address { (part : PartData) (far : ℕ) → (has_frame_at part far ≡ true) ↔ Contains (addresses_in part) far }
     ensures overrun { (part : PartData) (base word newest : ℕ) (run : List ℕ) → (write_fault part base (newest ∷ run) ≡ Some RunFault.Overrun) ↔ Overruns part base (word ∷ newest ∷ run) }
-    ensures landed { (part : PartData) (base : ℕ) (run : List ℕ) (word : ℕ) (fault : RunFault) → write_fault part base run ≡ Some fault →
-        landed part base (word ∷ run) ≡ landed part base run }
+    ensures written_frames { (part : PartData) (base : ℕ) (run : List ℕ) (word : ℕ) (fault : RunFault) → write_fault part base run ≡ Some fault →
+        written_frames part base (word ∷ run) ≡ written_frames part base run }
     ensures far { (part : PartData) (base : ℕ) (run : List ℕ) (word given : ℕ) (why : RunFault) → write_fault part base run ≡ Some why →
         far_of part base (word ∷ run) given ≡ far_of part base run given }
     ensures written { (part : PartData) (base : ℕ) (run : List ℕ) → write_fault part base run ≢ Some RunFault.Multi }

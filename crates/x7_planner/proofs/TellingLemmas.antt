@@ -1,4 +1,4 @@
--- What was told of a full stream, and what is left of it.
+-- What was given of a full stream, and what is left of it.
 use Rattle.std.proofs.Common.{◌≡◌, ℕ, ◌+◌, ◌-◌, ◌<◌, ◌≤◌, List, [], ◌∷◌, ◌++◌, length, take, drop, min, fold, refl, sym, ap, subst, ◌∙◌, arith, append_assoc, append-nil, take-add, take_all}
 use Rattle.std.proofs.Math.Seq.{drop-append_seam}
 use Rattle.std.proofs.lemmas.List.{drop-take, take-append-drop, take_rest}
@@ -11,7 +11,7 @@ use Rattle.x7_memory.specs.Planned.{PlanData}
 use Rattle.x7_planner.specs.Full.{frame_at_slot, full_ending, full_opening, full_stream, slot_words, start_words}
 use Rattle.x7_planner.specs.Stream.{Piece, Words, Check, bytes_of_words, check_words, stream_of, with_piece}
 use Rattle.x7_crc.specs.Checking.{check_of_bytes, HasTaken}
-use Rattle.x7_planner.specs.Telling.{FullStreamState, HasTold, IsFullStream, TellsMore, Writes, calls_from, calls_left, frame_pieces, pieces_before, pieces_to, slot_next}
+use Rattle.x7_planner.specs.Telling.{FullStreamState, HasGiven, IsFullStream, TellsMore, Writes, calls_from, calls_left, frame_pieces, pieces_before, pieces_to, slot_next}
 use Rattle.x7_planner.specs.declared.whole.NextPiece.{NextPiece}
 use Rattle.x7_planner.specs.declared.whole.NextPiece.TheVariants as next
 
@@ -48,7 +48,7 @@ left_of part plan next.LastCheck = rest_of (stream_of (pieces_before part plan n
 left_of part plan next.Desync = rest_of (stream_of (pieces_before part plan next.Desync)) (Words full_ending ∷ [])
 left_of part plan next.Nothing = ([], append-nil (full_stream part plan))
 
--- ---- what is next, told
+-- ---- what is next, given
 
 -- the words of the slots up to n, and of those from there to another place
 pub slots_to : (part : PartData) (plan : PlanData) (n to : ℕ) → n ≤ to →
@@ -67,20 +67,20 @@ pub inside_at : (s : FullStreamState) (n : ℕ) → s.next ≡ next.Slot n → I
 inside_at s n e is = subst (λ (x : NextPiece). slot_next x ≤ length (slots_in s.part)) e is.inside
 
 -- the bytes before what is next, by its name
-before_at : (s : FullStreamState) (told : List ℕ) (at : NextPiece) → s.next ≡ at → HasTold s told → told ≡ stream_of (pieces_before s.part s.plan at)
-before_at s told at e h = h.before ∙ ap (λ (x : NextPiece). stream_of (pieces_before s.part s.plan x)) e
+before_at : (s : FullStreamState) (given : List ℕ) (at : NextPiece) → s.next ≡ at → HasGiven s given → given ≡ stream_of (pieces_before s.part s.plan at)
+before_at s given at e h = h.before ∙ ap (λ (x : NextPiece). stream_of (pieces_before s.part s.plan x)) e
 
 calls_at : (s : FullStreamState) (at behind : NextPiece) → s.next ≡ at → calls_from (length (slots_in s.part)) behind < calls_from (length (slots_in s.part)) at → calls_from (length (slots_in s.part)) behind < calls_left s
 calls_at s at behind e h = subst (λ (x : NextPiece). calls_from (length (slots_in s.part)) behind < calls_from (length (slots_in s.part)) x) (sym e) h
 
 module _ (s : FullStreamState) (old new : List ℕ) where
-  frames_before : (n to : ℕ) → s.next ≡ next.Slot n → n ≤ to → (told : List ℕ) → HasTold s told →
-      told ++ bytes_of_words (slot_words s.part s.plan (drop n (take to (slots_in s.part)))) ≡ stream_of (pieces_to s.part s.plan to)
-  frames_before n to e h told t =
+  frames_before : (n to : ℕ) → s.next ≡ next.Slot n → n ≤ to → (given : List ℕ) → HasGiven s given →
+      given ++ bytes_of_words (slot_words s.part s.plan (drop n (take to (slots_in s.part)))) ≡ stream_of (pieces_to s.part s.plan to)
+  frames_before n to e h given t =
       let front : List ℕ = bytes_of_words (full_opening s.part) in
       let first : List ℕ = bytes_of_words (slot_words s.part s.plan (take n (slots_in s.part))) in
       let piece : List ℕ = bytes_of_words (slot_words s.part s.plan (drop n (take to (slots_in s.part)))) in
-      ap (λ (x : List ℕ). x ++ piece) (before_at s told (next.Slot n) e t) ∙ append_assoc front first piece ∙ ap (λ (x : List ℕ). front ++ x) (slots_to s.part s.plan n to h)
+      ap (λ (x : List ℕ). x ++ piece) (before_at s given (next.Slot n) e t) ∙ append_assoc front first piece ∙ ap (λ (x : List ℕ). front ++ x) (slots_to s.part s.plan n to h)
 
   pub wrote_slots : (n count to : ℕ) → s.next ≡ next.Slot n → n ≤ length (slots_in s.part) → count ≡ length (slots_in s.part) → to ≡ min count (n + 160) → (to ≡ count → ⊥)
       → new ≡ old ++ bytes_of_words (slot_words s.part s.plan (drop n (take to (slots_in s.part)))) → Writes s old new (next.Slot to)
@@ -97,7 +97,7 @@ module _ (s : FullStreamState) (old new : List ℕ) where
   wrote_frames n count to e within c m last adds = record {
     piece = bytes_of_words (slot_words s.part s.plan (drop n (take to (slots_in s.part))));
     adds = adds;
-    before = λ told h. frames_before n to e (omega (arith, within, c, m)) told h
+    before = λ given h. frames_before n to e (omega (arith, within, c, m)) given h
         ∙ ap (λ (t : List Slot). bytes_of_words (full_opening s.part) ++ bytes_of_words (slot_words s.part s.plan t)) (take_all to (slots_in s.part) (omega (arith, c, last)));
     inside = omega arith;
     fewer = λ _. calls_at s (next.Slot n) next.Check e (omega arith);
@@ -107,7 +107,7 @@ module _ (s : FullStreamState) (old new : List ℕ) where
   wrote_nothing e same = record {
     piece = [];
     adds = same ∙ sym (append-nil old);
-    before = λ told h. append-nil told ∙ before_at s told next.Nothing e h;
+    before = λ given h. append-nil given ∙ before_at s given next.Nothing e h;
     inside = omega arith;
     fewer = λ n. absurd (n e);
   }
@@ -117,19 +117,19 @@ pub behind_old : (old piece new : List ℕ) (start : ℕ) → start ≡ length o
 behind_old old piece new start e f =
     take_rest new start ∙ ap (λ (k : ℕ). drop k new) e ∙ ap (λ (t : List ℕ). drop (length old) t) f ∙ drop-append_seam old piece
 
--- what was written is told, once it is checked too
-pub told_more : (s t : FullStreamState) (told old new : List ℕ) (start : ℕ) → t.part ≡ s.part → t.plan ≡ s.plan → start ≡ length old → Writes s old new t.next
-    → ((bytes : List ℕ) → HasTaken s.check bytes → HasTaken t.check (bytes ++ take (length new - start) (drop start new))) → HasTold s told → TellsMore t told old new
-told_more s t told old new start same_part same_plan e w takes h =
-    let before : told ++ w.piece ≡ stream_of (pieces_before t.part t.plan t.next) =
-    w.before told h ∙ ap (λ (p : PartData). stream_of (pieces_before p s.plan t.next)) (sym same_part) ∙ ap (λ (p : PlanData). stream_of (pieces_before t.part p t.next)) (sym same_plan) in
+-- what was written is given, once it is checked too
+pub told_more : (s t : FullStreamState) (given old new : List ℕ) (start : ℕ) → t.part ≡ s.part → t.plan ≡ s.plan → start ≡ length old → Writes s old new t.next
+    → ((bytes : List ℕ) → HasTaken s.check bytes → HasTaken t.check (bytes ++ take (length new - start) (drop start new))) → HasGiven s given → TellsMore t given old new
+told_more s t given old new start same_part same_plan e w takes h =
+    let before : given ++ w.piece ≡ stream_of (pieces_before t.part t.plan t.next) =
+    w.before given h ∙ ap (λ (p : PartData). stream_of (pieces_before p s.plan t.next)) (sym same_part) ∙ ap (λ (p : PlanData). stream_of (pieces_before t.part p t.next)) (sym same_plan) in
     let left = left_of t.part t.plan t.next in
     record {
       piece = w.piece;
       adds = w.adds;
       more = record {
         before = before;
-        checked = subst (λ (x : List ℕ). HasTaken t.check (told ++ x)) (behind_old old w.piece new start e w.adds) (takes told h.checked);
+        checked = subst (λ (x : List ℕ). HasTaken t.check (given ++ x)) (behind_old old w.piece new start e w.adds) (takes given h.checked);
         left = left.0;
         whole = ap (λ (x : List ℕ). x ++ left.0) before ∙ left.1;
       };

@@ -1,4 +1,4 @@
--- A full stream that is written piece by piece: what was told of it, and what is told next (this project's choice).
+-- A full stream that is written piece by piece: what was written of it, and what is next (this project's choice).
 use Rattle.std.specs.Prelude.{◌≡◌, ◌≢◌, ℕ, ◌+◌, ◌-◌, ◌<◌, ◌≤◌, List, [], ◌∷◌, ◌++◌, length, take}
 use Rattle.x7_crc.specs.Checking.{HasTaken, PieceCheckerState}
 use Rattle.x7_part.specs.Part.{PartData, frame_words}
@@ -57,27 +57,27 @@ pub record IsFullStream (s : FullStreamState) : Type 0 where
   pub width : s.plan.width ≡ frame_words s.part
   pub inside : slot_next s.next ≤ length (slots_in s.part)
 
--- these bytes of the stream were told: they stand before what is next, they were checked, and others are still left
-pub record HasTold (s : FullStreamState) (told : List ℕ) : Type 0 where
-  pub before : told ≡ stream_of (pieces_before s.part s.plan s.next)
-  pub checked : HasTaken s.check told
+-- these bytes of the stream were written: they stand before what is next, they were checked, and others are still left
+pub record HasGiven (s : FullStreamState) (given : List ℕ) : Type 0 where
+  pub before : given ≡ stream_of (pieces_before s.part s.plan s.next)
+  pub checked : HasTaken s.check given
   pub left : List ℕ
-  pub whole : told ++ left ≡ full_stream s.part s.plan
+  pub whole : given ++ left ≡ full_stream s.part s.plan
 
 -- the bytes of a piece at most: 160 frames of 255 words
 abbrev pub piece_limit : ℕ
 piece_limit = 163200
 
--- a piece more was appended to bytes, and told
-pub record TellsMore (s : FullStreamState) (told old new : List ℕ) : Type 0 where
+-- a piece more was appended to bytes, and counts as written
+pub record TellsMore (s : FullStreamState) (given old new : List ℕ) : Type 0 where
   pub piece : List ℕ
   pub adds : new ≡ old ++ piece
-  pub more : HasTold s (told ++ piece)
+  pub more : HasGiven s (given ++ piece)
 
 -- what is next was appended to bytes, and this is next behind it
 pub record Writes (s : FullStreamState) (old new : List ℕ) (behind : NextPiece) : Type 0 where
   pub piece : List ℕ
   pub adds : new ≡ old ++ piece
-  pub before : (told : List ℕ) → HasTold s told → told ++ piece ≡ stream_of (pieces_before s.part s.plan behind)
+  pub before : (given : List ℕ) → HasGiven s given → given ++ piece ≡ stream_of (pieces_before s.part s.plan behind)
   pub inside : slot_next behind ≤ length (slots_in s.part)
   pub fewer : s.next ≢ next.Nothing → calls_from (length (slots_in s.part)) behind < calls_left s

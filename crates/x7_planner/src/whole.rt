@@ -9,7 +9,7 @@ ghost use Rattle.x7_part.specs.Slots.{slots_in};
 ghost use Rattle.x7_planner.specs.Full.{frame_at_slot, full_opening, full_settings, full_stream, slot_words};
 ghost use Rattle.x7_planner.specs.Refusals.{IsFullFault};
 ghost use Rattle.x7_planner.specs.Stream.{bytes_of_words};
-ghost use Rattle.x7_planner.specs.Telling.{HasTold, TellsMore, Writes, calls_left, piece_limit, slot_next};
+ghost use Rattle.x7_planner.specs.Telling.{HasGiven, TellsMore, Writes, calls_left, piece_limit, slot_next};
 ghost use Rattle.x7_planner.specs.declared.fault.PlanFault.{PlanFault};
 ghost use Rattle.x7_planner.specs.declared.whole.NextPiece.{NextPiece};
 
@@ -204,7 +204,7 @@ impl<'p> FullStream<'p> {
     /// The full stream of a plan, of which nothing is written yet. A plan has the part's width.
     pub fn new(part: &'p Part, plan: &'p Plan) -> Result<FullStream<'p>, PlanFault>
         requires width { plan.now.width ≡ frame_words part.now }
-        ensures stream { IfOk result (λ stream. HasTold stream []) }
+        ensures stream { IfOk result (λ stream. HasGiven stream []) }
         ensures part { IfOk result (λ stream. stream.part ≡ part.now) }
         ensures plan { IfOk result (λ stream. stream.plan ≡ plan.now) }
         ensures addresses { IfOk result (λ stream. AreAddressed part.now plan.now.rows) }
@@ -224,9 +224,9 @@ impl<'p> FullStream<'p> {
     /// Appends the next piece, of 160 frames at most, and says whether there was one. After an error nothing was appended, and
     /// the same piece is next.
     pub fn put_next(&mut self, out: &mut Vec<u8>) -> Result<bool, NoMemory>
-        ensures more { (told : List ℕ) → HasTold self.old told → IfOk result (λ more. more ≡ true → TellsMore self.new told out.old.items out.new.items) }
+        ensures more { (given : List ℕ) → HasGiven self.old given → IfOk result (λ more. more ≡ true → TellsMore self.new given out.old.items out.new.items) }
         ensures fewer { IfOk result (λ more. more ≡ true → calls_left self.new < calls_left self.old) }
-        ensures end { (told : List ℕ) → HasTold self.old told → IfOk result (λ more. more ≡ false → told ≡ full_stream self.old.part self.old.plan) }
+        ensures end { (given : List ℕ) → HasGiven self.old given → IfOk result (λ more. more ≡ false → given ≡ full_stream self.old.part self.old.plan) }
         ensures nothing { IfOk result (λ more. more ≡ false → out.new.items ≡ out.old.items) }
         ensures few { length out.new.items ≤ length out.old.items + piece_limit }
         ensures part { self.new.part ≡ self.old.part }
@@ -317,9 +317,9 @@ pub fn full(alloc: Global, part: &Part, plan: &Plan) -> Result<Vec<u8>, PlanFaul
     Ok(out)
 }
 
-/// Appends all pieces of a stream that has told nothing.
+/// Appends all pieces of a stream that has written nothing.
 fn put_all(stream: FullStream<'_>, out: &mut Vec<u8>) -> Result<(), NoMemory>
-    requires told { HasTold stream out.old.items }
+    requires given { HasGiven stream out.old.items }
     ensures { OnOk result (out.new.items ≡ full_stream stream.entry.part stream.entry.plan) }
 {
     let mut stream = stream;

@@ -2,7 +2,7 @@
 use Rattle.std.proofs.Common.{◌≡◌, ◌++◌, ℕ, List, [], Option, codes, decimal, length, take, drop, refl, sym, ap, ◌∙◌, append_assoc, append-nil}
 use Rattle.std.proofs.lemmas.Grind.{flat_map-append}
 use Rattle.std.proofs.lemmas.List.{take-append-drop}
-use Rattle.x7_words.specs.Sink.{appended, PutsFront}
+use Rattle.x7_words.specs.Sink.{appended, PutsPrefix}
 use Rattle.x7_words.proofs.SinkLemmas.{appended-nil, appended-appended, front_more}
 use Rattle.x7_part.specs.AddressOrder.{addresses_in}
 use Rattle.x7_part.specs.Part.{PartData}
@@ -37,7 +37,7 @@ module _ (first now : Option (List ℕ)) (memory : FrameMap) (fars rest group mo
     lines = g.lines ∙ ap (λ t. g.done ++ t) (parted memory k rest group more e f) ∙ sym (append_assoc g.done (lines_text memory group) (lines_text memory more));
   }
 
-  pub group_failed : (next : Option (List ℕ)) → PutsFront now (lines_text memory group) next → PutsFront first (lines_text memory fars) next
+  pub group_failed : (next : Option (List ℕ)) → PutsPrefix now (lines_text memory group) next → PutsPrefix first (lines_text memory fars) next
   group_failed next p = rw (g.lines, parted memory k rest group more e f) (front_more first now next g.done (lines_text memory group) (lines_text memory more) g.put p)
 
 pub all_sent : (first now : Option (List ℕ)) (memory : FrameMap) (fars rest : List ℕ) → Sent first now memory fars rest → rest ≡ [] → now ≡ appended first (lines_text memory fars)
@@ -47,10 +47,10 @@ all_sent first now memory fars rest g e = g.put ∙ ap (appended first) (sym (g.
 pub behind_head : (first mid new : Option (List ℕ)) (head lines : List ℕ) → mid ≡ appended first head → new ≡ appended mid lines → new ≡ appended first (head ++ lines)
 behind_head first mid new head lines e f = f ∙ ap (λ t. appended t lines) e ∙ appended-appended first head lines
 
-pub head_failed : (first new : Option (List ℕ)) (head lines : List ℕ) → PutsFront first head new → PutsFront first (head ++ lines) new
+pub head_failed : (first new : Option (List ℕ)) (head lines : List ℕ) → PutsPrefix first head new → PutsPrefix first (head ++ lines) new
 head_failed first new head lines p = front_more first first new [] head lines (sym (appended-nil first)) p
 
-pub lines_failed : (first mid new : Option (List ℕ)) (head lines : List ℕ) → mid ≡ appended first head → PutsFront mid lines new → PutsFront first (head ++ lines) new
+pub lines_failed : (first mid new : Option (List ℕ)) (head lines : List ℕ) → mid ≡ appended first head → PutsPrefix mid lines new → PutsPrefix first (head ++ lines) new
 lines_failed first mid new head lines e p = rw (ap (λ t. head ++ t) (sym (append-nil lines))) (front_more first mid new head lines [] e p)
 
 -- ---- the whole report
@@ -87,13 +87,13 @@ joined p q frames memory head kept fars places a b e f =
     ∙ ap (λ (x : List (List ℕ)). kept ++ lines_text (frame_at q x) fars) b ∙ ap (λ (x : List ℕ). kept ++ lines_text (frame_at q memory) x) f
 
 pub report_failed : (first mid new : Option (List ℕ)) (p q : PartData) (frames memory : List (List ℕ)) (head kept fars places text : List ℕ) → p ≡ q → frames ≡ memory → head ≡ kept → fars ≡ places →
-    kept ++ lines_text (frame_at q memory) places ≡ text → mid ≡ appended first head → PutsFront mid (lines_text (frame_at p frames) fars) new → PutsFront first text new
+    kept ++ lines_text (frame_at q memory) places ≡ text → mid ≡ appended first head → PutsPrefix mid (lines_text (frame_at p frames) fars) new → PutsPrefix first text new
 report_failed first mid new p q frames memory head kept fars places text a b e f t put failed =
     let whole : head ++ lines_text (frame_at p frames) fars ≡ text = joined p q frames memory head kept fars places a b e f ∙ t in
     rw (← whole) (lines_failed first mid new head (lines_text (frame_at p frames) fars) put failed)
 
 pub report_put : (first mid new : Option (List ℕ)) (p q : PartData) (frames memory : List (List ℕ)) (head kept fars places text : List ℕ) → p ≡ q → frames ≡ memory → head ≡ kept → fars ≡ places →
-    kept ++ lines_text (frame_at q memory) places ≡ text → mid ≡ appended first head → new ≡ appended mid (lines_text (frame_at p frames) fars) → PutsFront first text new
+    kept ++ lines_text (frame_at q memory) places ≡ text → mid ≡ appended first head → new ≡ appended mid (lines_text (frame_at p frames) fars) → PutsPrefix first text new
 report_put first mid new p q frames memory head kept fars places text a b e f t put lines =
     let whole : head ++ lines_text (frame_at p frames) fars ≡ text = joined p q frames memory head kept fars places a b e f ∙ t in
     (text, ([], sym (append-nil text), behind_head first mid new head (lines_text (frame_at p frames) fars) put lines ∙ ap (appended first) whole))

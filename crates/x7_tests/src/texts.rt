@@ -84,7 +84,7 @@ fn listed_in_turn(alloc: Global) -> Result<Lister, NoMemory> {
 }
 
 #[test]
-fn a_new_listing_begins_behind_finish(rt: HostRuntime) -> Result<(), Fail> {
+fn a_new_listing_begins_after_finish(rt: HostRuntime) -> Result<(), Fail> {
     let lister = listed_in_turn(rt.alloc())?;
     let want = b"bytes AA99\nbytes 5566\nsync\nwrite CMD 2\nbytes 0000\nbytes 000720000000\n";
     assert!(rt; lister.text() == want.as_slice());

@@ -2,7 +2,7 @@
 use Rattle.std.proofs.Common.{◌≡◌, ℕ, suc, ◌+◌, ◌<◌, ◌==◌, Bool, true, false, List, [], ◌∷◌, ◌++◌, length, refl, ap, sym, ◌∙◌, append_assoc, append-nil, arith, length-append, codes, flat_map}
 use Rattle.std.proofs.lemmas.Grind.{common_steps, flat_map-append}
 use Rattle.x7_text.specs.Digits.{hex_byte}
-use Rattle.x7_text.specs.Row.{line_start, bytes_text, close, data_text, line_end, line, next_in_line, open_text, element_text, in_line_after, rows_behind, spaced}
+use Rattle.x7_text.specs.Row.{line_start, bytes_text, close, data_text, line_end, line, next_in_line, open_text, element_text, in_line_after, rows_from, spaced}
 
 pub open_text-append : (n : ℕ) (word : List ℕ) (text : ℕ → List ℕ) (i : ℕ) (xs ys : List ℕ) → open_text n word text i (xs ++ ys) ≡ open_text n word text i xs ++ open_text n word text (in_line_after n i xs) ys
 open_text-append n word text i [] ys = refl
@@ -39,15 +39,15 @@ more_glue o b t r c l R e f = rw (← f, e) (simp (append_assoc, append-nil))
 
 -- what the lines are, behind those elements of an open line
 abbrev pub Closes : ℕ → List ℕ → (ℕ → List ℕ) → List ℕ → ℕ → List ℕ → Type 0
-Closes n word text part k xs = opened word text part ++ open_text n word text k xs ++ close (in_line_after n k xs) ≡ flat_map (line word text) (rows_behind n part xs)
+Closes n word text part k xs = opened word text part ++ open_text n word text k xs ++ close (in_line_after n k xs) ≡ flat_map (line word text) (rows_from n part xs)
 
 closing_by : (n : ℕ) (word : List ℕ) (text : ℕ → List ℕ) (part : List ℕ) (k x : ℕ) (xs : List ℕ) (b : Bool) → k ≡ length part → (length part + 1 == n) ≡ b
     → Closes n word text [] 0 xs → Closes n word text (part ++ x ∷ []) (length part + 1) xs → Closes n word text part k (x ∷ xs)
 closing_by n word text part k x xs true same e full more =
-    rw (same, e) (full_glue (opened word text part) (line_start word (length part)) (text x) (open_text n word text 0 xs) (close (in_line_after n 0 xs)) (opened word text (part ++ x ∷ [])) (flat_map (line word text) (rows_behind n [] xs)) (opened-snoc word text part x) full
-    ∙ ap (λ t. t ++ flat_map (line word text) (rows_behind n [] xs)) (sym (line-opened word text part x)))
+    rw (same, e) (full_glue (opened word text part) (line_start word (length part)) (text x) (open_text n word text 0 xs) (close (in_line_after n 0 xs)) (opened word text (part ++ x ∷ [])) (flat_map (line word text) (rows_from n [] xs)) (opened-snoc word text part x) full
+    ∙ ap (λ t. t ++ flat_map (line word text) (rows_from n [] xs)) (sym (line-opened word text part x)))
 closing_by n word text part k x xs false same e full more =
-    rw (same, e) (more_glue (opened word text part) (line_start word (length part)) (text x) (open_text n word text (length part + 1) xs) (close (in_line_after n (length part + 1) xs)) (opened word text (part ++ x ∷ [])) (flat_map (line word text) (rows_behind n (part ++ x ∷ []) xs)) (opened-snoc word text part x) more)
+    rw (same, e) (more_glue (opened word text part) (line_start word (length part)) (text x) (open_text n word text (length part + 1) xs) (close (in_line_after n (length part + 1) xs)) (opened word text (part ++ x ∷ [])) (flat_map (line word text) (rows_from n (part ++ x ∷ []) xs)) (opened-snoc word text part x) more)
 
 pub closing : (n : ℕ) (word : List ℕ) (text : ℕ → List ℕ) (part : List ℕ) (k : ℕ) (xs : List ℕ) → k ≡ length part → Closes n word text part k xs
 closing n word text [] k [] same = rw same refl

@@ -10,13 +10,13 @@ row_if_any [] = []
 row_if_any (x ∷ xs) = (x ∷ xs) ∷ []
 
 -- the rows of n elements, the first of which begins with the elements of an open row
-abbrev pub rows_behind : ℕ → List ℕ → List ℕ → List (List ℕ)
-rows_behind n part [] = row_if_any part
-rows_behind n part (x ∷ xs) = if length part + 1 == n then (part ++ x ∷ []) ∷ rows_behind n [] xs else rows_behind n (part ++ x ∷ []) xs
+abbrev pub rows_from : ℕ → List ℕ → List ℕ → List (List ℕ)
+rows_from n part [] = row_if_any part
+rows_from n part (x ∷ xs) = if length part + 1 == n then (part ++ x ∷ []) ∷ rows_from n [] xs else rows_from n (part ++ x ∷ []) xs
 
 -- the rows of n elements, the last of which may be shorter
 abbrev pub rows : ℕ → List ℕ → List (List ℕ)
-rows n xs = rows_behind n [] xs
+rows n xs = rows_from n [] xs
 
 -- all rows but the last have n elements, and the last has one to n
 abbrev pub AreFullButLast : ℕ → List (List ℕ) → Type 0

@@ -9,13 +9,13 @@ ghost use Rattle.x7_text.specs.Lines.{has_no_end, joined, split};
 ghost use Rattle.x7_text.specs.Row.{AreFullButLast, rows, line, bytes_text, data_text, open_text, in_line_after, spaced, close};
 
 /// Words told one by one and closed are the `data` lines, and bytes the `bytes` lines.
-pub fn told_one_by_one()
+pub fn lines_one_by_one()
     ensures words { (ws : List ℕ) → open_text 8 (codes "data") spaced 0 ws ++ close (in_line_after 8 0 ws) ≡ data_text ws }
     ensures bytes { (bs : List ℕ) → open_text 32 (codes "bytes ") hex_byte 0 bs ++ close (in_line_after 32 0 bs) ≡ bytes_text bs }
 {}
 
 /// Elements told in two parts are told at once.
-pub fn told_in_parts()
+pub fn lines_in_parts()
     ensures text { (n : ℕ) (word : List ℕ) (text : ℕ → List ℕ) (i : ℕ) (xs ys : List ℕ) → let lines = open_text n word text in
         lines i (xs ++ ys) ≡ lines i xs ++ lines (in_line_after n i xs) ys }
     ensures count { (n i : ℕ) (xs ys : List ℕ) → in_line_after n i (xs ++ ys) ≡ in_line_after n (in_line_after n i xs) ys }

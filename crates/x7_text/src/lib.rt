@@ -18,12 +18,12 @@ pub use digits::{hex_of_byte, hex_of_word, put_decimal};
 pub use either_case::byte_of_pair;
 pub use growing::{put_number, put_text};
 pub use law::{
-    digits_lead_back, either_case_leads_back, lines_lead_back, rows_are_the_elements,
-    told_in_parts, told_one_by_one, whole_rows,
+    digits_lead_back, either_case_leads_back, lines_in_parts, lines_lead_back, lines_one_by_one,
+    rows_are_the_elements, whole_rows,
 };
 pub use lines::first_line;
 pub use read_row::{put_byte_row, put_word_row};
-pub use reading::{Front, block_of_hex, decimal_below, front_of_hex, word_of_hex};
+pub use reading::{HexPrefix, block_of_hex, decimal_below, prefix_of_hex, word_of_hex};
 pub use room::{make_room, put};
 pub use row::{put_bytes, put_close, put_word, put_words};
 pub use window::{put_first_bytes, put_first_words};

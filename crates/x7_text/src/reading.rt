@@ -148,7 +148,7 @@ pub fn block_of_hex(digits: &[u8; 64]) -> Option<[u8; 32]>
 
 /// How many of the first bytes of two blocks are the same.
 #[inline(always)]
-fn same_front(a: &[u8; 64], b: &[u8; 64]) -> usize
+fn same_prefix(a: &[u8; 64], b: &[u8; 64]) -> usize
     ensures within { result ≤ 64 }
     ensures same { take result a.now ≡ take result b.now }
 {
@@ -160,22 +160,22 @@ fn same_front(a: &[u8; 64], b: &[u8; 64]) -> usize
 
 /// What the digits at the front of a block stand for, others behind it, and how many digits there are.
 #[derive(Clone, Copy)]
-pub struct Front {
+pub struct HexPrefix {
     pub bytes: [u8; 32],
     pub digits: usize,
 }
 
 /// The digits at the front of a block, which may have none.
 #[inline(always)]
-pub fn front_of_hex(block: &[u8; 64]) -> Front
+pub fn prefix_of_hex(block: &[u8; 64]) -> HexPrefix
     ensures within { result.digits ≤ 64 }
     ensures long { length result.bytes ≡ 32 }
     ensures fit { AreBytes result.bytes }
     ensures digits { take result.digits block.now ≡ take result.digits (flat_map hex_byte result.bytes) }
 {
     let bytes = bytes_of_digits(block);
-    Front {
+    HexPrefix {
         bytes,
-        digits: same_front(block, &hex_of_block(&bytes)),
+        digits: same_prefix(block, &hex_of_block(&bytes)),
     }
 }

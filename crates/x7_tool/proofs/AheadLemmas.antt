@@ -2,7 +2,7 @@
 use Rattle.std.proofs.Common.{◌≡◌, ℕ, ◌+◌, ◌<◌, ◌≤◌, ◌⊎◌, inl, inr, Bool, true, false, List, [], ◌++◌, Option, Some, Result, Ok, Err, length, length-append, ap, sym, subst, ◌∙◌, append-nil, arith}
 use Rattle.x7_words.specs.Input.{Asks, InputsState, preceded, Selects}
 use Rattle.x7_words.specs.Word.{AreBytes}
-use Rattle.x7_words.specs.Sink.{SinkState, appended, PutsFront}
+use Rattle.x7_words.specs.Sink.{SinkState, appended, PutsPrefix}
 use Rattle.x7_words.proofs.SinkLemmas.{appended-appended, appended-nil}
 use Rattle.x7_listing.specs.Telling.{ListerState}
 use Rattle.x7_listing.proofs.BoundLemmas.{few_held}
@@ -63,7 +63,7 @@ Longer old new = (more : List ℕ) × (new ≡ appended old more)
 pub same_now : (old : SinkState) → IsLonger old old
 same_now old = ([], sym (appended-nil old.written))
 
-pub longer_front : (old new : Option (List ℕ)) (text : List ℕ) → PutsFront old text new → Longer old new
+pub longer_front : (old new : Option (List ℕ)) (text : List ℕ) → PutsPrefix old text new → Longer old new
 longer_front old new text p = (p.0, p.1.2)
 
 pub longer_twice : (old mid new : Option (List ℕ)) → Longer old mid → Longer mid new → Longer old new

@@ -2,7 +2,7 @@
 use Rattle.std.proofs.Common.{◌≡◌, ◌<◌, ◌≤◌, ◌++◌, ℕ, Bool, List, [], ◌∷◌, length, Option, None, Some, Result, Ok, Err, IfErr, IfOk, refl, ap, subst, sym, ◌∙◌, inl, inr, ◌⊎◌, arith}
 use Rattle.std.proofs.lemmas.Bool.{cases_lt}
 use Rattle.std.specs.Prelude.{IsTrue}
-use Rattle.x7_words.specs.Flash.{AsksFor, FlashFails, FlashState, IsSized, OnlyReads, WhereTold}
+use Rattle.x7_words.specs.Flash.{AsksFor, FlashFails, FlashState, IsSized, OnlyReads, IfKnown}
 use Rattle.x7_words.specs.Word.{AreBytes}
 use Rattle.x7_words.proofs.CountLemmas.{risen_from}
 use Rattle.x7_part.specs.Part.{PartData}
@@ -59,24 +59,24 @@ ready_is part last attempts a end e f name head start stopped report text none b
 abbrev pub AnswersBoot : BootedState → Answer → Type 0
 AnswersBoot b answer = (part : PartData) (flash : List ℕ) → IsBoot part flash b → NoWordDue b.device → IsBootText part flash answer
 
-flash_boots : (name : List ℕ) (part : PartData) (flash : Option (List ℕ)) (b : BootedState) (answer : Answer) → WhereTold flash (λ all. length all ≤ flash_limit) → WhereTold flash (λ all. AreBytes all → IsBoot part all b) → NoWordDue b.device
+flash_boots : (name : List ℕ) (part : PartData) (flash : Option (List ℕ)) (b : BootedState) (answer : Answer) → IfKnown flash (λ all. length all ≤ flash_limit) → IfKnown flash (λ all. AreBytes all → IsBoot part all b) → NoWordDue b.device
     → AnswersBoot b answer → FlashBoots name part (flash_found flash) (Ok answer)
 flash_boots name part None b answer short boots due answers = tt
 flash_boots name part (Some all) b answer short boots due answers = (short, λ fits. answers part all (boots fits) due)
 
 -- the text of a boot was made, or there was no memory for it
-pub text_boots : (name : List ℕ) (part : PartData) (old mid new : FlashState) (b : BootedState) (got : Result PlayTextState Refusal) → ReadsFlash name old mid → WhereTold mid.bytes (λ all. length all ≤ flash_limit)
-    → WhereTold mid.bytes (λ all. AreBytes all → IsBoot part all b) → NoWordDue b.device → IfOk got (λ text. AnswersBoot b (text_of_play text)) → IfErr got (λ r. event_of r ≡ no_memory)
+pub text_boots : (name : List ℕ) (part : PartData) (old mid new : FlashState) (b : BootedState) (got : Result PlayTextState Refusal) → ReadsFlash name old mid → IfKnown mid.bytes (λ all. length all ≤ flash_limit)
+    → IfKnown mid.bytes (λ all. AreBytes all → IsBoot part all b) → NoWordDue b.device → IfOk got (λ text. AnswersBoot b (text_of_play text)) → IfErr got (λ r. event_of r ≡ no_memory)
     → FlashComes name part old new (seen text_of_play got)
 text_boots name part old mid new b (Ok text) r short boots due ok err =
     subst (λ (f : Option (List ℕ)). FlashBoots name part (flash_found f) (Ok (text_of_play text))) r.bytes (flash_boots name part mid.bytes b (text_of_play text) short boots due ok)
 text_boots name part old mid new b (Err x) r short boots due ok err = inl err
 
 -- a flash is within the limit where it wasn't refused
-pub short_flash : (s : FlashState) → IsSized s → (flash_limit < s.extent → ⊥) → WhereTold s.bytes (λ all. length all ≤ flash_limit)
+pub short_flash : (s : FlashState) → IsSized s → (flash_limit < s.extent → ⊥) → IfKnown s.bytes (λ all. length all ≤ flash_limit)
 short_flash s e small = by s.bytes e
   where
-    by : (told : Option (List ℕ)) → WhereTold told (λ all. s.extent ≡ length all) → WhereTold told (λ all. length all ≤ flash_limit)
+    by : (told : Option (List ℕ)) → IfKnown told (λ all. s.extent ≡ length all) → IfKnown told (λ all. length all ≤ flash_limit)
     by None h = tt
     by (Some all) h = within (cases_lt flash_limit (length all))
       where
@@ -84,7 +84,7 @@ short_flash s e small = by s.bytes e
         within (inl l) = absurd (small (omega (arith, l, h)))
         within (inr l) = l
 
-large_flash : (name : List ℕ) (part : PartData) (told : Option (List ℕ)) (extent : ℕ) (event : Event) → WhereTold told (λ all. extent ≡ length all) → flash_limit < extent → event ≡ too_large name → FlashBoots name part (flash_found told) (Err event)
+large_flash : (name : List ℕ) (part : PartData) (told : Option (List ℕ)) (extent : ℕ) (event : Event) → IfKnown told (λ all. extent ≡ length all) → flash_limit < extent → event ≡ too_large name → FlashBoots name part (flash_found told) (Err event)
 large_flash name part None extent event e l is = is
 large_flash name part (Some all) extent event e l is = (omega (arith, l, e), is)
 

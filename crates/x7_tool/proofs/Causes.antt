@@ -7,7 +7,7 @@ use Rattle.std.proofs.lemmas.List.{length-take}
 use Rattle.x7_words.specs.Count.{HasRisen}
 use Rattle.x7_words.specs.Input.{InputsState, Asks, AtEnd, Misses, Selects, Stays, preceded}
 use Rattle.x7_words.specs.Input.{Lacks as MapLacks}
-use Rattle.x7_words.specs.Sink.{SinkFails, SinkState, appended, PutsFront}
+use Rattle.x7_words.specs.Sink.{SinkFails, SinkState, appended, PutsPrefix}
 use Rattle.x7_words.specs.Word.{AreBytes}
 use Rattle.x7_words.proofs.SinkLemmas.{appended-nil}
 use Rattle.x7_header.specs.Header.{fixed_bytes}
@@ -37,22 +37,22 @@ use Rattle.x7_tool.proofs.RunLemmas.{has_cause}
 
 -- a prefix of the listing of these bytes was put
 abbrev pub PutsListed : List ℕ → Option (List ℕ) → Option (List ℕ) → Type 0
-PutsListed bytes old new = (text : List ℕ) × ((stream_listing bytes ≡ Ok text) × PutsFront old text new)
+PutsListed bytes old new = (text : List ℕ) × ((stream_listing bytes ≡ Ok text) × PutsPrefix old text new)
 
 -- the same of a prefix of the stream
-abbrev pub PutsPrefix : Option Known → List ℕ → Option (List ℕ) → Option (List ℕ) → Type 0
-PutsPrefix known stream old new = (bytes : List ℕ) × (IsPrefixOf known stream bytes × PutsListed bytes old new)
+abbrev pub PutsPrefixOf : Option Known → List ℕ → Option (List ℕ) → Option (List ℕ) → Type 0
+PutsPrefixOf known stream old new = (bytes : List ℕ) × (IsPrefixOf known stream bytes × PutsListed bytes old new)
 
 -- what is left by a reason
 abbrev pub LeftAs : Why → Option Known → List ℕ → Option (List ℕ) → Option (List ℕ) → Type 0
-LeftAs why.ReadFault known stream old new = PutsPrefix known stream old new
-LeftAs why.TooLarge known stream old new = PutsPrefix known stream old new
-LeftAs why.NoMemory known stream old new = PutsPrefix known stream old new
+LeftAs why.ReadFault known stream old new = PutsPrefixOf known stream old new
+LeftAs why.TooLarge known stream old new = PutsPrefixOf known stream old new
+LeftAs why.NoMemory known stream old new = PutsPrefixOf known stream old new
 LeftAs _ known stream old new = new ≡ old
 
 -- where the stream is known, a prefix of its listing was put
 abbrev pub PutsSomeOf : Option Known → List ℕ → Option (List ℕ) → Option (List ℕ) → Type 0
-PutsSomeOf None stream old new = (text : List ℕ) × PutsFront old text new
+PutsSomeOf None stream old new = (text : List ℕ) × PutsPrefix old text new
 PutsSomeOf (Some known) stream old new = (bytes : List ℕ) × ((known.inputs stream ≡ Held bytes) × (AreBytes bytes → PutsListed bytes old new))
 
 abbrev pub EndedBy : Cause → Option Known → (Mishap → Type 0) → List ℕ → Type 0 → Option (List ℕ) → Option (List ℕ) → Event → Type 0
@@ -134,7 +134,7 @@ front_none : (contents : Option (List ℕ → Option (List ℕ))) (flash : Optio
 front_none None flash name = tt
 front_none (Some inputs) flash name = (bytes_found (found (inputs name)), refl)
 
-none_put : (old : Option (List ℕ)) (text : List ℕ) → PutsFront old text old
+none_put : (old : Option (List ℕ)) (text : List ℕ) → PutsPrefix old text old
 none_put old text = ([], (text, refl, sym (appended-nil old)))
 
 nothing_listed : stream_listing [] ≡ Ok (listing_of [])

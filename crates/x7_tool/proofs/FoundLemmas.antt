@@ -1,6 +1,6 @@
 -- What may be found of a flash since a run began, and what a boot makes of it.
 use Rattle.std.proofs.Common.{◌≡◌, ℕ, List, Option, None, Some, Result, Ok, Err, refl, subst, sym, ◌∙◌, inl, inr, ◌⊎◌, ⊎_elim, arith}
-use Rattle.x7_words.specs.Flash.{FlashState, WhereTold}
+use Rattle.x7_words.specs.Flash.{FlashState, IfKnown}
 use Rattle.x7_words.specs.Input.{InputsState}
 use Rattle.x7_words.specs.Word.{AreBytes}
 use Rattle.x7_boot.specs.Boot.{BootedState, IsBoot}
@@ -17,7 +17,7 @@ use Rattle.x7_tool.specs.Outside.{known_from, sources}
 use Rattle.x7_tool.proofs.FlashLemmas.{found_same}
 
 -- what may be found since a run began is what the flash held then, or was found within the run
-pub found_since_run : (form : Option Asked) (inputs : InputsState) (old new : FlashState) (past since : ℕ → List ℕ → Type 0) → ((found : List ℕ) → past old.moments found → WhereTold old.bytes (λ all. found ≡ all)) → UsesFlash form (sources inputs old) new past since
+pub found_since_run : (form : Option Asked) (inputs : InputsState) (old new : FlashState) (past since : ℕ → List ℕ → Type 0) → ((found : List ℕ) → past old.moments found → IfKnown old.bytes (λ all. found ≡ all)) → UsesFlash form (sources inputs old) new past since
     → (found : List ℕ) → since old.moments found → PowerLossMayLeave form (sources inputs old) found
 found_since_run form inputs old new past since only u found had =
     let known = known_from (sources inputs old) in

@@ -22,7 +22,7 @@ use Rattle.x7_part.specs.PartRange.{IsPart}
 use Rattle.x7_part.specs.Slots.{slots_in}
 use Rattle.x7_part.proofs.SlotLemmas.{slots_number}
 use Rattle.x7_planner.specs.Full.{full_stream}
-use Rattle.x7_planner.specs.Telling.{FullStreamState, HasTold, TellsMore}
+use Rattle.x7_planner.specs.Telling.{FullStreamState, HasGiven, TellsMore}
 use Rattle.x7_planner.specs.Refusals.{IsFullFault}
 use Rattle.x7_planner.specs.declared.fault.PlanFault.{PlanFault}
 use Rattle.x7_planner.specs.declared.fault.PlanFault.TheVariants as fault
@@ -230,7 +230,7 @@ planned_is part seed text is e =
 -- what was told of the full stream of a plan was played, and no piece waits
 pub record PlaysAlong (part : PartData) (plan : PlanData) (stream : FullStreamState) (player : Player) (size : ℕ) (block : List ℕ) : Type 0 where
   pub told : List ℕ
-  pub stands : HasTold stream told
+  pub stands : HasGiven stream told
   pub played : HasPlayed part told player
   pub counted : size ≡ length told
   pub empty : block ≡ []
@@ -238,7 +238,7 @@ pub record PlaysAlong (part : PartData) (plan : PlanData) (stream : FullStreamSt
   pub of_plan : stream.plan ≡ plan
 
 -- what was told of a full stream is no longer than a stream may be
-told_few : (part : PartData) (plan : PlanData) (stream : FullStreamState) (told : List ℕ) → IsPart part → IsPlan plan → plan.width ≡ frame_words part → stream.part ≡ part → stream.plan ≡ plan → HasTold stream told → length told ≤ 2 ^ 27
+told_few : (part : PartData) (plan : PlanData) (stream : FullStreamState) (told : List ℕ) → IsPart part → IsPlan plan → plan.width ≡ frame_words part → stream.part ≡ part → stream.plan ≡ plan → HasGiven stream told → length told ≤ 2 ^ 27
 told_few part plan stream told is p e a b h =
     let whole : told ++ h.left ≡ full_stream part plan = h.whole ∙ ap (λ (x : PartData). full_stream x stream.plan) a ∙ ap (full_stream part) b in
     let size : length told + length h.left ≡ 4 * (55 + frame_words part * length (slots_in part)) = sym (length-append told h.left) ∙ ap length (whole ∙ full_same part plan is p e) ∙ full_length part plan p e in

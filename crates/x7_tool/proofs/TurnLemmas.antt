@@ -1,6 +1,6 @@
 -- A listing that is written turn by turn.
 use Rattle.std.proofs.Common.{length-append, arith, inl, inr, ◌≡◌, ℕ, ◌+◌, ◌≤◌, ◌<◌, Bool, true, List, [], ◌∷◌, ◌++◌, false, Option, None, Some, Ok, Err, length, refl, ap, sym, subst, ◌∙◌, append_assoc, append-nil}
-use Rattle.x7_words.specs.Sink.{appended, PutsFront}
+use Rattle.x7_words.specs.Sink.{appended, PutsPrefix}
 use Rattle.x7_words.specs.Word.{AreBytes}
 use Rattle.x7_words.proofs.SinkLemmas.{appended-appended, appended-nil, front_more}
 use Rattle.x7_packets.specs.ByHand.{reading_of}
@@ -31,13 +31,13 @@ stands_fit : (l : ListerState) (given bytes : List ℕ) → ListerStandsFor l gi
 stands_fit l given bytes stands = stands.tells.cut.reading.fits
 
 -- what was put is a front of the listing of the bytes and any that may follow
-pub lists_front : (l : ListerState) (first now : Option (List ℕ)) (bytes rest : List ℕ) → Lists l first now bytes → AreBytes (bytes ++ rest) → PutsFront first (listing_of (bytes ++ rest)) now
+pub lists_front : (l : ListerState) (first now : Option (List ℕ)) (bytes rest : List ℕ) → Lists l first now bytes → AreBytes (bytes ++ rest) → PutsPrefix first (listing_of (bytes ++ rest)) now
 lists_front l first now bytes rest t fits =
     let front = told_front l t.given bytes rest t.stands fits in
     (t.given, (front.0, front.1 ∙ ap (λ x. (t.given ++ x) ++ front.0) t.clear ∙ ap (λ x. x ++ front.0) (append-nil t.given), t.put))
 
 -- what was put is a front of the listing of the bytes
-pub lists_here : (l : ListerState) (first now : Option (List ℕ)) (bytes : List ℕ) → Lists l first now bytes → PutsFront first (listing_of bytes) now
+pub lists_here : (l : ListerState) (first now : Option (List ℕ)) (bytes : List ℕ) → Lists l first now bytes → PutsPrefix first (listing_of bytes) now
 lists_here l first now bytes t =
     let fits : AreBytes (bytes ++ []) = rw (append-nil bytes) (stands_fit l t.given bytes t.stands) in
     let front = lists_front l first now bytes [] t fits in
@@ -57,8 +57,8 @@ lists_more l fed clear first mid now bytes piece text t feeds same put none clea
 
 -- a turn whose text was written in part
 pub lists_part : (l fed : ListerState) (first mid now : Option (List ℕ)) (bytes piece rest text : List ℕ) → Lists l first mid bytes
-    → ((given before taken : List ℕ) → ListerStandsFor l given before taken → ListerStandsFor fed given before (taken ++ piece)) → text ≡ fed.text → PutsFront mid text now → AreBytes (bytes ++ (piece ++ rest))
-    → PutsFront first (listing_of (bytes ++ (piece ++ rest))) now
+    → ((given before taken : List ℕ) → ListerStandsFor l given before taken → ListerStandsFor fed given before (taken ++ piece)) → text ≡ fed.text → PutsPrefix mid text now → AreBytes (bytes ++ (piece ++ rest))
+    → PutsPrefix first (listing_of (bytes ++ (piece ++ rest))) now
 lists_part l fed first mid now bytes piece rest text t feeds same front fits =
     let all : (bytes ++ piece) ++ rest ≡ bytes ++ (piece ++ rest) = append_assoc bytes piece rest in
     let fits2 : AreBytes ((bytes ++ piece) ++ rest) = rw all fits in
@@ -71,15 +71,15 @@ pub end_put : (l done : ListerState) (first mid now : Option (List ℕ)) (bytes 
     → ((given before taken : List ℕ) → ListerStandsFor l given before taken → Finished done given before taken) → text ≡ done.text → now ≡ appended mid text → now ≡ appended first (listing_of bytes)
 end_put l done first mid now bytes text t ends same put =
     let f = ends t.given [] bytes t.stands in
-    let whole : t.given ++ text ≡ listing_of bytes = ap (λ x. t.given ++ x) same ∙ f.told ∙ listing_is bytes f.listing f.is in
+    let whole : t.given ++ text ≡ listing_of bytes = ap (λ x. t.given ++ x) same ∙ f.listed ∙ listing_is bytes f.listing f.is in
     rw (put, t.put) (appended-appended first t.given text) ∙ ap (appended first) whole
 
 -- the end of a listing was written in part
 pub end_part : (l done : ListerState) (first mid now : Option (List ℕ)) (bytes text : List ℕ) → Lists l first mid bytes
-    → ((given before taken : List ℕ) → ListerStandsFor l given before taken → Finished done given before taken) → text ≡ done.text → PutsFront mid text now → PutsFront first (listing_of bytes) now
+    → ((given before taken : List ℕ) → ListerStandsFor l given before taken → Finished done given before taken) → text ≡ done.text → PutsPrefix mid text now → PutsPrefix first (listing_of bytes) now
 end_part l done first mid now bytes text t ends same front =
     let f = ends t.given [] bytes t.stands in
-    let whole : listing_of bytes ≡ t.given ++ (text ++ []) = sym (ap (λ x. t.given ++ x) (append-nil text ∙ same) ∙ f.told ∙ listing_is bytes f.listing f.is) in
+    let whole : listing_of bytes ≡ t.given ++ (text ++ []) = sym (ap (λ x. t.given ++ x) (append-nil text ∙ same) ∙ f.listed ∙ listing_is bytes f.listing f.is) in
     rw whole (front_more first mid now t.given text [] t.put front)
 
 -- bytes more were taken
@@ -89,15 +89,15 @@ taken_more contents name taken piece old new s e =
     subst (λ r. Selects contents name r) whole s
 
 -- what was put is a front of the listing of the stream's bytes
-pub line_front : (first now : Option (List ℕ)) (line text : List ℕ) → PutsFront (appended first line) text now → PutsFront first (line ++ text) now
-line_front first now line text p = subst (λ t. PutsFront first (line ++ t) now) (append-nil text) (front_more first (appended first line) now line text [] refl p)
+pub line_front : (first now : Option (List ℕ)) (line text : List ℕ) → PutsPrefix (appended first line) text now → PutsPrefix first (line ++ text) now
+line_front first now line text p = subst (λ t. PutsPrefix first (line ++ t) now) (append-nil text) (front_more first (appended first line) now line text [] refl p)
 
 -- the listing of a whole stream
 pub stream_whole : (bytes line sent : List ℕ) → stream_listing (bytes ++ []) ≡ Ok (line ++ listing_of (sent ++ [])) → stream_listing bytes ≡ Ok (line ++ listing_of sent)
 stream_whole bytes line sent e = ap stream_listing (sym (append-nil bytes)) ∙ e ∙ ap (λ s. Ok (line ++ listing_of s)) (append-nil sent)
 
 -- a line that was written in part, and what would follow it
-pub line_part : (first now : Option (List ℕ)) (line more : List ℕ) → PutsFront first line now → PutsFront first (line ++ more) now
+pub line_part : (first now : Option (List ℕ)) (line more : List ℕ) → PutsPrefix first line now → PutsPrefix first (line ++ more) now
 line_part first now line more p = (p.0, (p.1.0 ++ more, ap (λ t. t ++ more) p.1.1 ∙ append_assoc p.0 p.1.0 more, p.1.2))
 
 -- a lister that begins behind a line
@@ -119,28 +119,28 @@ goes_on bytes piece line sent g rest = ap stream_listing (append_assoc bytes pie
 
 -- a sink that failed in a turn
 pub write_failed : (contents : Option (List ℕ → Option (List ℕ))) (flash : Option (List ℕ)) (C : Mishap → Type 0) (stream taken piece same : List ℕ) (l : ListerState) (rest : Option (List ℕ)) (Full : Type 0) (old mid now : Option (List ℕ))
-    → same ≡ piece → Selects contents stream (preceded (taken ++ piece) rest) → Full → (t : ListsStream l old mid taken) → AreBytes same → ((left : List ℕ) → AreBytes (t.sent ++ (same ++ left)) → PutsFront (appended old t.line) (listing_of (t.sent ++ (same ++ left))) now)
+    → same ≡ piece → Selects contents stream (preceded (taken ++ piece) rest) → Full → (t : ListsStream l old mid taken) → AreBytes same → ((left : List ℕ) → AreBytes (t.sent ++ (same ++ left)) → PutsPrefix (appended old t.line) (listing_of (t.sent ++ (same ++ left))) now)
     → Ended (with_inputs contents flash) C stream Full old now (Err write_fault)
 write_failed contents flash C stream taken piece same l rest Full old mid now e s f t fits p =
     let sent : AreBytes t.sent = stands_fit l t.lists.given t.sent t.lists.stands in
     let q : (left : List ℕ) → AreBytes left → PutsListed ((taken ++ piece) ++ left) old now
     = λ left fit.
-    let front : PutsFront (appended old t.line) (listing_of (t.sent ++ (piece ++ left))) now = subst (λ x. PutsFront (appended old t.line) (listing_of (t.sent ++ (x ++ left))) now) e (p left (all-append (λ b. b < 256) t.sent (same ++ left) sent (all-append (λ b. b < 256) same left fits fit))) in
+    let front : PutsPrefix (appended old t.line) (listing_of (t.sent ++ (piece ++ left))) now = subst (λ x. PutsPrefix (appended old t.line) (listing_of (t.sent ++ (x ++ left))) now) e (p left (all-append (λ b. b < 256) t.sent (same ++ left) sent (all-append (λ b. b < 256) same left fits fit))) in
     (t.line ++ listing_of (t.sent ++ (piece ++ left)), (ap stream_listing (append_assoc taken piece left) ∙ t.goes (piece ++ left), line_front old now t.line (listing_of (t.sent ++ (piece ++ left))) front)) in
     let here : PutsListed (taken ++ piece) old now = subst (λ x. PutsListed x old now) (append-nil (taken ++ piece)) (q [] tt) in
     unwritten contents flash C stream (taken ++ piece) rest false Full old now s (λ l. absurd cc) f here (λ left m fit. q left (all_back (λ b. b < 256) (taken ++ piece) left fit))
 
 -- what was put at the front of a stream
 pub front_here : (taken line sent : List ℕ) (last : Bool) (old now : Option (List ℕ)) → AreBytes sent → ((left : List ℕ) → MayFollow last left → stream_listing (taken ++ left) ≡ Ok (line ++ listing_of (sent ++ left)))
-    → ((left : List ℕ) → AreBytes (sent ++ left) → PutsFront old (line ++ listing_of (sent ++ left)) now) → PutsListed taken old now
+    → ((left : List ℕ) → AreBytes (sent ++ left) → PutsPrefix old (line ++ listing_of (sent ++ left)) now) → PutsListed taken old now
 front_here taken line sent last old now fits g p =
-    let put : PutsFront old (line ++ listing_of sent) now = subst (λ s. PutsFront old (line ++ listing_of s) now) (append-nil sent) (p [] (subst AreBytes (sym (append-nil sent)) fits)) in
+    let put : PutsPrefix old (line ++ listing_of sent) now = subst (λ s. PutsPrefix old (line ++ listing_of s) now) (append-nil sent) (p [] (subst AreBytes (sym (append-nil sent)) fits)) in
     (line ++ listing_of sent, (stream_whole taken line sent (g [] (λ l. refl)), put))
 
 -- a sink that failed at the front of a stream
 pub front_failed : (contents : Option (List ℕ → Option (List ℕ))) (flash : Option (List ℕ)) (C : Mishap → Type 0) (stream taken line sent : List ℕ) (rest : Option (List ℕ)) (last : Bool) (Full : Type 0) (old now : Option (List ℕ))
     → Selects contents stream (preceded taken rest) → (last ≡ true → AtEnd rest) → Full → AreBytes sent → ((left : List ℕ) → MayFollow last left → stream_listing (taken ++ left) ≡ Ok (line ++ listing_of (sent ++ left)))
-    → ((left : List ℕ) → AreBytes (sent ++ left) → PutsFront old (line ++ listing_of (sent ++ left)) now) → Ended (with_inputs contents flash) C stream Full old now (Err write_fault)
+    → ((left : List ℕ) → AreBytes (sent ++ left) → PutsPrefix old (line ++ listing_of (sent ++ left)) now) → Ended (with_inputs contents flash) C stream Full old now (Err write_fault)
 front_failed contents flash C stream taken line sent rest last Full old now s e f fits g p =
     let q : (left : List ℕ) → MayFollow last left → AreBytes left → PutsListed (taken ++ left) old now
     = λ left m fit. (line ++ listing_of (sent ++ left), (g left m, p left (all-append (λ b. b < 256) sent left fits fit))) in

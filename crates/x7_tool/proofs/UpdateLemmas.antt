@@ -4,7 +4,7 @@ use Rattle.std.specs.Prelude.{IsTrue, if◌then◌else◌}
 use Rattle.std.specs.Str.{bytes_eq}
 use Rattle.std.proofs.lemmas.Slice.Eq.{bytes_eq-Decides}
 use Rattle.x7_words.specs.Count.{HasRisen}
-use Rattle.x7_words.specs.Flash.{AsksFor, FlashState, FlashStays, WhereTold}
+use Rattle.x7_words.specs.Flash.{AsksFor, FlashState, FlashStays, IfKnown}
 use Rattle.x7_words.specs.Input.{InputsState}
 use Rattle.x7_words.specs.Sink.{SinkState}
 use Rattle.x7_words.proofs.CountLemmas.{risen_from}
@@ -39,7 +39,7 @@ names flash stream = record { flash = flash; stream = stream }
 
 -- the flash is no larger than a flash may be, where its bytes are told
 abbrev IsWithin : Option (List ℕ) → Type 0
-IsWithin told = WhereTold told (λ all. length all ≤ flash_limit)
+IsWithin told = IfKnown told (λ all. length all ≤ flash_limit)
 
 -- what is known of the flash of this name is what its bytes say
 abbrev IsTold : Option Known → List ℕ → Option (List ℕ) → Type 0
@@ -179,8 +179,8 @@ fault_told n told read bytes fault within e h = inr (within, subst (λ (r : Resu
 pub cause_from : (bytes : List ℕ) (a b c : FlashState) (fault : UpdateFault) → b.bytes ≡ a.bytes → b.write_faults ≡ a.write_faults → a.faults ≤ b.faults → HasCause bytes b c fault → HasCause bytes a c fault
 cause_from bytes a b c (Failed true) e w f h = subst (λ (n : ℕ). HasRisen n c.write_faults) w h
 cause_from bytes a b c (Failed false) e w f h = risen_from a.faults b.faults c.faults f h
-cause_from bytes a b c TooLong e w f h = subst (λ (o : Option (List ℕ)). WhereTold o (IsTooLong bytes)) e h
-cause_from bytes a b c (NoLayout place) e w f h = subst (λ (o : Option (List ℕ)). WhereTold o (λ flash. NoLayoutAt (length flash) flash place)) e h
+cause_from bytes a b c TooLong e w f h = subst (λ (o : Option (List ℕ)). IfKnown o (IsTooLong bytes)) e h
+cause_from bytes a b c (NoLayout place) e w f h = subst (λ (o : Option (List ℕ)). IfKnown o (λ flash. NoLayoutAt (length flash) flash place)) e h
 cause_from bytes a b c (Differs place wrote read) e w f h = (h.0, sym e ∙ h.1)
 cause_from bytes a b c NoMemory e w f h = tt
 
@@ -211,12 +211,12 @@ fault_ends flash stream bytes old new (Differs place wrote read) out asked withi
 }
 fault_ends flash stream bytes old new NoMemory out asked within has h early = refused_ends flash stream old new no_memory out (inl (inl refl)) (early tt)
 
-can_take : (told now : Option (List ℕ)) (bytes : List ℕ) → WhereTold told HasLayout → BecomesBytes (IsAfter bytes) told now → WhereTold told (CanTake bytes)
+can_take : (told now : Option (List ℕ)) (bytes : List ℕ) → IfKnown told HasLayout → BecomesBytes (IsAfter bytes) told now → IfKnown told (CanTake bytes)
 can_take None now bytes l b = tt
 can_take (Some all) now bytes l b = record { layout = l; fits = b.2.fits }
 
 -- an update that is done
-pub done_ends : (flash stream bytes : List ℕ) (old new : Outside) → new.out ≡ old.out → IsWithin old.flash.bytes → HasData (known_in old) stream bytes → WhereTold old.flash.bytes HasLayout → Becomes old.flash new.flash (IsAfter bytes)
+pub done_ends : (flash stream bytes : List ℕ) (old new : Outside) → new.out ≡ old.out → IsWithin old.flash.bytes → HasData (known_in old) stream bytes → IfKnown old.flash.bytes HasLayout → Becomes old.flash new.flash (IsAfter bytes)
     → EndsAs (Some (UpdatingFlash flash stream)) old new (Ok false)
 done_ends flash stream bytes old new out within has layout becomes =
     let told = old.flash.bytes in

@@ -1,6 +1,6 @@
 -- What a run leaves of a flash, and what may be found of it after a power loss at any moment (this project's choice).
 use Rattle.std.specs.Prelude.{◌≡◌, ℕ, List, Option, None, Some, Result, Ok, Err, ◌⊎◌}
-use Rattle.x7_words.specs.Flash.{FlashFails, FlashState, WhereTold}
+use Rattle.x7_words.specs.Flash.{FlashFails, FlashState, IfKnown}
 use Rattle.x7_words.specs.Word.{AreBytes}
 use Rattle.x7_update.specs.After.{IsAfter, MayBeLeft}
 use Rattle.x7_update.specs.Writing.{AtAnyMoment, Becomes}
@@ -31,7 +31,7 @@ pub record UsesFlash (form : Option Asked) (old : Sources) (new : FlashState) (p
 
 -- what a power loss at any moment of a run may leave of its flash, where the bytes of that are known
 abbrev pub PowerLossMayLeave : Option Asked → Sources → List ℕ → Type 0
-PowerLossMayLeave form old found = WhereTold old.flash.bytes (λ all. MayBeFound (known_from old) (updated_by form) all found)
+PowerLossMayLeave form old found = IfKnown old.flash.bytes (λ all. MayBeFound (known_from old) (updated_by form) all found)
 
 -- A run updates a flash with a stream, whose bytes and data are known; the flash has a layout, and its golden stream is the full stream of a plan for a part.
 pub record IsUpdateOf (form : Option Asked) (old : Sources) (u : Updating) : Type 0 where

@@ -15,7 +15,7 @@ use Rattle.x7_listing.specs.StreamListing.{stream_listing}
 use Rattle.x7_listing.specs.declared.assembler.AsmFault.{AsmFault}
 use Rattle.x7_listing.specs.declared.assembler.AsmFault.TheVariants as asm
 use Rattle.x7_part.specs.Part.{PartData}
-use Rattle.x7_words.specs.Flash.{WhereTold}
+use Rattle.x7_words.specs.Flash.{IfKnown}
 use Rattle.x7_words.specs.Word.{AreBytes}
 use Rattle.x7_boot.specs.Attempt.{Trial}
 use Rattle.x7_boot.specs.Boot.{LeadsToEnd, tried}
@@ -325,8 +325,8 @@ pub record CanTake (stream flash : List ℕ) : Type 0 where
 
 -- why a flash isn't updated with a stream, by its bytes where they are known; a byte read back may differ only where they aren't
 abbrev pub IsUpdateFault : Option (List ℕ) → List ℕ → UpdateFault → Type 0
-IsUpdateFault bytes stream (update_fault.NoLayout place) = WhereTold bytes (λ flash. NoLayoutAt (length flash) flash place)
-IsUpdateFault bytes stream update_fault.TooLong = WhereTold bytes (IsTooLong stream)
+IsUpdateFault bytes stream (update_fault.NoLayout place) = IfKnown bytes (λ flash. NoLayoutAt (length flash) flash place)
+IsUpdateFault bytes stream update_fault.TooLong = IfKnown bytes (IsTooLong stream)
 IsUpdateFault bytes stream (update_fault.Differs place wrote read) = (wrote ≢ read) × (bytes ≡ None)
 IsUpdateFault bytes stream (update_fault.Failed writing) = ⊥
 IsUpdateFault bytes stream update_fault.NoMemory = ⊥
@@ -334,14 +334,14 @@ IsUpdateFault bytes stream update_fault.NoMemory = ⊥
 -- the update of a flash of these bytes, where they are known, with the data of a stream
 abbrev pub UpdatesWith : UpdateNames → Option (List ℕ) → Result (List ℕ) Event → Result Answer Event → Type 0
 UpdatesWith names bytes (Err event) end = Err event ≡ end
-UpdatesWith names bytes (Ok stream) (Ok answer) = (answer ≡ no_text) × WhereTold bytes (CanTake stream)
+UpdatesWith names bytes (Ok stream) (Ok answer) = (answer ≡ no_text) × IfKnown bytes (CanTake stream)
 UpdatesWith names bytes (Ok stream) (Err event) = (fault : UpdateFault) × IsUpdateFault bytes stream fault × (update_event names fault ≡ event)
 
 -- the same of any flash: one that is larger than a flash may be is refused before the stream is read
 abbrev pub UpdatesBytes : UpdateNames → Option (List ℕ) → Result (List ℕ) Event → Result Answer Event → Type 0
 UpdatesBytes names bytes stream end =
-    (WhereTold bytes (λ flash. flash_limit < length flash) × (end ≡ Err (too_large names.flash)))
-    ⊎ (WhereTold bytes (λ flash. length flash ≤ flash_limit) × UpdatesWith names bytes stream end)
+    (IfKnown bytes (λ flash. flash_limit < length flash) × (end ≡ Err (too_large names.flash)))
+    ⊎ (IfKnown bytes (λ flash. length flash ≤ flash_limit) × UpdatesWith names bytes stream end)
 
 -- the update of what is found under the flash's name
 abbrev pub FlashUpdates : UpdateNames → Option Found → Result (List ℕ) Event → Result Answer Event → Type 0

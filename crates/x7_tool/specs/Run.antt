@@ -1,6 +1,6 @@
 -- What may end a command, and what its output holds then (this project's choice).
 use Rattle.std.specs.Prelude.{◌≡◌, ◌<◌, ℕ, List, [], ◌∷◌, ◌++◌, length, Option, None, Some, Result, Ok, Err, Bool, ◌⊎◌}
-use Rattle.x7_words.specs.Flash.{FlashState, WhereTold}
+use Rattle.x7_words.specs.Flash.{FlashState, IfKnown}
 use Rattle.x7_words.specs.Input.{InputsState}
 use Rattle.x7_boot.specs.Image.{flash_limit}
 use Rattle.x7_words.specs.Sink.{PutsAll, PutsSome, SinkFails, SinkState, Tells}
@@ -172,7 +172,7 @@ IsUnattached name old new event = ((event ≡ missing name) × FlashLacksAmong (
 
 -- a flash can't be used: it was not attached, or it is larger than a flash may be
 abbrev pub IsUnopened : List ℕ → FlashState → FlashState → Event → Type 0
-IsUnopened name old new event = IsUnattached name old new event ⊎ ((event ≡ too_large name) × WhereTold old.bytes (λ all. flash_limit < length all))
+IsUnopened name old new event = IsUnattached name old new event ⊎ ((event ≡ too_large name) × IfKnown old.bytes (λ all. flash_limit < length all))
 
 -- what a boot from a flash of this name comes to: want of memory, a flash that was not attached or failed, or what its bytes give
 abbrev pub FlashComes : List ℕ → PartData → FlashState → FlashState → Result Answer Event → Type 0

@@ -1,6 +1,6 @@
 -- What stands between two turns: of a listing that is written, and of a text that is assembled.
 use Rattle.std.specs.Prelude.{◌≡◌, ◌≤◌, ◌⊎◌, ◌++◌, ℕ, List, [], Option, None, Some, Ok, Err, length, ◌+◌}
-use Rattle.x7_words.specs.Sink.{PutsFront, appended}
+use Rattle.x7_words.specs.Sink.{PutsPrefix, appended}
 use Rattle.x7_words.specs.Word.{AreBytes}
 use Rattle.x7_listing.specs.Assembly.{IsAsm}
 use Rattle.x7_listing.specs.Assembling.{AssemblerStandsFor, AssemblerState}
@@ -19,7 +19,7 @@ pub record Lists (l : ListerState) (first now : Option (List ℕ)) (bytes : List
 
 -- The listing stopped in a piece: whatever was listed before, and may follow, a prefix of the listing of all of it was put.
 abbrev pub StopsIn : ListerState → Option (List ℕ) → List ℕ → Option (List ℕ) → Type 0
-StopsIn l old piece new = (first : Option (List ℕ)) (bytes rest : List ℕ) → Lists l first old bytes → AreBytes (bytes ++ (piece ++ rest)) → PutsFront first (listing_of (bytes ++ (piece ++ rest))) new
+StopsIn l old piece new = (first : Option (List ℕ)) (bytes rest : List ℕ) → Lists l first old bytes → AreBytes (bytes ++ (piece ++ rest)) → PutsPrefix first (listing_of (bytes ++ (piece ++ rest))) new
 
 -- What was put after the first bytes is so far the listing of each stream that begins with these bytes: a header's line or nothing, and the listing of the data.
 pub record ListsStream (l : ListerState) (first now : Option (List ℕ)) (bytes : List ℕ) : Type 0 where

@@ -1,6 +1,6 @@
 //! A flash that a command reads or updates, attached under its name.
 ghost use Rattle.std.specs.Prelude.{◌≡◌, ◌≤◌, IfErr, OnOk, length, true};
-ghost use Rattle.x7_words.specs.Flash.{AsksFor, FlashStays, IsSized, WhereTold};
+ghost use Rattle.x7_words.specs.Flash.{AsksFor, FlashStays, IsSized, IfKnown};
 ghost use Rattle.x7_boot.specs.Image.{flash_limit};
 ghost use Rattle.x7_forms.specs.Message.{event_of};
 ghost use Rattle.x7_tool.specs.Outside.{ReadsFlash};
@@ -34,7 +34,7 @@ pub(crate) fn attach<'w, F: Flash>(flash: &mut F, name: &'w str) -> Result<(), R
 /// Attaches the flash of this name, which is no larger than a flash may be.
 pub(crate) fn open_flash<'w, F: Flash>(flash: &mut F, name: &'w str) -> Result<(), Refusal<'w>>
     ensures attached { OnOk result ((F.state flash.new).attached ≡ true) }
-    ensures within { OnOk result (WhereTold (F.state flash.new).bytes (λ all. length all ≤ flash_limit)) }
+    ensures within { OnOk result (IfKnown (F.state flash.new).bytes (λ all. length all ≤ flash_limit)) }
     ensures err { IfErr result (λ r. IsUnopened name.now (F.state flash.old) (F.state flash.new) (event_of r)) }
     ensures stays { FlashStays (F.state flash.old) (F.state flash.new) (F.found_since flash.old) (F.found_since flash.new) }
     ensures asks { AsksFor (F.state flash.old) name.now (F.state flash.new) }

@@ -7,7 +7,7 @@ ghost use Rattle.x7_part.specs.PartRange.{IsPart};
 ghost use Rattle.x7_memory.specs.Frames.{AreFramesOf, frame_at};
 ghost use Rattle.x7_memory.specs.Planned.{AreAddressed, IsPlan};
 ghost use Rattle.x7_planner.specs.Full.{full_stream};
-ghost use Rattle.x7_planner.specs.Telling.{HasTold};
+ghost use Rattle.x7_planner.specs.Telling.{HasGiven};
 ghost use Rattle.x7_tool.specs.Generated.{TookStream, count_line, counted, gen_text, head_line, sum_line, generated, next_number, planned_summary, played_summary, row_by, summary_text, words_sum};
 ghost use Rattle.x7_forms.specs.Event.{no_memory};
 ghost use Rattle.x7_forms.specs.Message.{event_of};
@@ -132,7 +132,7 @@ fn play_all(
     player: &mut Player,
     block: &mut Vec<u8>,
 ) -> Result<u64, NoMemory>
-    requires told { HasTold stream [] }
+    requires told { HasGiven stream [] }
     requires played { HasPlayed stream.part [] player.old }
     requires part { IsPart stream.part }
     requires plan { IsPlan stream.plan }

@@ -1,6 +1,6 @@
 //! The command `list`.
 ghost use Rattle.std.specs.Prelude.{◌≡◌, ℕ, List, [], ◌∷◌, ◌++◌, ◌≤◌, ◌⊎◌, false, drop, length, Option, Some, Ok, Err, OnErr, OnOk, IfErr};
-ghost use Rattle.x7_words.specs.Sink.{Counts, PutsFront, SinkFails, appended};
+ghost use Rattle.x7_words.specs.Sink.{Counts, PutsPrefix, SinkFails, appended};
 ghost use Rattle.x7_words.specs.Word.{AreBytes};
 ghost use Rattle.x7_listing.specs.Listing.{listing_of};
 ghost use Rattle.x7_tool.specs.Ahead.{IsLonger};
@@ -37,7 +37,7 @@ fn put_turn<'w, O: Sink>(lister: &mut Lister, out: &mut O, piece: &[u8]) -> Resu
 }
 
 /// Writes the line of a stream's header, lists the first data, and writes what that adds.
-fn put_front<'w, O: Sink>(
+fn put_beginning<'w, O: Sink>(
     lister: &mut Lister,
     out: &mut O,
     line: &[u8],
@@ -46,7 +46,7 @@ fn put_front<'w, O: Sink>(
     requires new { ListerStandsFor lister.old [] [] [] }
     requires clear { lister.old.text ≡ [] }
     ensures ok { OnOk result (Lists lister.new (appended (O.state out.old).written line.now) (O.state out.new).written sent.now) }
-    ensures err { IfErr result (λ r. (rest : List ℕ) → AreBytes (sent.now ++ rest) → PutsFront (O.state out.old).written (line.now ++ listing_of (sent.now ++ rest)) (O.state out.new).written) }
+    ensures err { IfErr result (λ r. (rest : List ℕ) → AreBytes (sent.now ++ rest) → PutsPrefix (O.state out.old).written (line.now ++ listing_of (sent.now ++ rest)) (O.state out.new).written) }
     ensures why { IfErr result (λ r. (event_of r ≡ no_memory) ⊎ ((event_of r ≡ write_fault) × SinkFails (O.state out.old) (O.state out.new))) }
     ensures fits { AreBytes sent.now }
     ensures counts { Counts (O.state out.old) (O.state out.new) }
@@ -60,7 +60,7 @@ fn put_front<'w, O: Sink>(
 /// Ends the listing, and writes what that adds.
 fn put_end<'w, O: Sink>(lister: &mut Lister, out: &mut O) -> Result<(), Refusal<'w>>
     ensures ok { OnOk result ((first : Option (List ℕ)) (bytes : List ℕ) → Lists lister.old first (O.state out.old).written bytes → (O.state out.new).written ≡ appended first (listing_of bytes)) }
-    ensures err { IfErr result (λ r. (first : Option (List ℕ)) (bytes : List ℕ) → Lists lister.old first (O.state out.old).written bytes → PutsFront first (listing_of bytes) (O.state out.new).written) }
+    ensures err { IfErr result (λ r. (first : Option (List ℕ)) (bytes : List ℕ) → Lists lister.old first (O.state out.old).written bytes → PutsPrefix first (listing_of bytes) (O.state out.new).written) }
     ensures why { IfErr result (λ r. (event_of r ≡ no_memory) ⊎ ((event_of r ≡ write_fault) × SinkFails (O.state out.old) (O.state out.new))) }
     ensures longer { IsLonger (O.state out.old) (O.state out.new) }
 {
@@ -91,7 +91,7 @@ pub(crate) fn list<'w, I: Inputs, O: Sink>(
         Err(refusal) => return Err(refusal),
     };
     let mut lister = Lister::new(alloc);
-    match put_front(&mut lister, out, &front.line, &front.bytes[front.start..]) {
+    match put_beginning(&mut lister, out, &front.line, &front.bytes[front.start..]) {
         Ok(()) => (),
         Err(refusal) => return Err(refusal),
     }

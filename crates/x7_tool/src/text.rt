@@ -1,6 +1,6 @@
 //! Texts that are ready before any of them is written.
 ghost use Rattle.std.specs.Prelude.{◌≡◌, OnErr, OnOk};
-ghost use Rattle.x7_words.specs.Sink.{PutsFront, SinkFails, appended};
+ghost use Rattle.x7_words.specs.Sink.{PutsPrefix, SinkFails, appended};
 ghost use Rattle.x7_forms.specs.Known.{Answer};
 ghost use Rattle.x7_tool.specs.Play.{text_of_play};
 ghost use Rattle.x7_tool.specs.Ready.{text_of_image, whole_of};
@@ -24,7 +24,7 @@ pub(crate) trait Ready {
     /// Writes the text. After an error a prefix of it was written.
     fn write<O: Sink>(&mut self, out: &mut O) -> Result<(), Failed>
         ensures whole { OnOk result ((O.state out.new).written ≡ appended (O.state out.old).written (answer self.old).text) }
-        ensures prefix { PutsFront (O.state out.old).written (answer self.old).text (O.state out.new).written }
+        ensures prefix { PutsPrefix (O.state out.old).written (answer self.old).text (O.state out.new).written }
         ensures failed { OnErr result (SinkFails (O.state out.old) (O.state out.new)) };
 }
 

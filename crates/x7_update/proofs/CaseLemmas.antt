@@ -1,7 +1,7 @@
 -- Lemmas on what may be left of a flash: from one case to the next.
 use Rattle.std.proofs.Common.{◌≡◌, ℕ, ◌+◌, ◌*◌, ◌%◌, ◌<◌, ◌≤◌, ◌⊎◌, inl, inr, ⊎_elim, List, length, get_or, Bool, true, false, refl, ap, sym, subst, ◌∙◌, arith}
 use Rattle.std.proofs.lemmas.Bool.{cases_eq, cases_lt}
-use Rattle.x7_words.specs.Flash.{FlashState, WhereTold}
+use Rattle.x7_words.specs.Flash.{FlashState, IfKnown}
 use Rattle.x7_update.specs.Layout.{HasLayout, HasSlots, IsOpen, IsFree, IsNext, switch_of, open_word, free_word, spent_word, update_place}
 use Rattle.x7_update.specs.After.{ClosesTo, already, spends, IsAfter, IsBetween, MayBeLeft, untouched, between, after, switched, with_stream}
 use Rattle.x7_update.specs.Writing.{AtAnyMoment, Closing, HasWanted, KeepsBelow, OnlySwitch, Opening, Replaced, Replacing}
@@ -171,8 +171,8 @@ module _ (all : List ℕ) (slots : Slots) (finds : Finds (length all) all slots)
         written = subst (λ l. IsBetween all l) (sym r.stands) (between_below (length all) all r.closed (with_stream slots.update stream r.closed) finds.has shut keeps)
 
 -- what may be found since a call's start is what was there then, or was found within it
-pub found_left : (stream : List ℕ) (old new : FlashState) (past since : ℕ → List ℕ → Type 0) → ((found : List ℕ) → past old.moments found → WhereTold old.bytes (λ all. found ≡ all)) → AtAnyMoment old new past since (MayBeLeft stream)
-    → (found : List ℕ) → since old.moments found → WhereTold old.bytes (λ all. MayBeLeft stream all found)
+pub found_left : (stream : List ℕ) (old new : FlashState) (past since : ℕ → List ℕ → Type 0) → ((found : List ℕ) → past old.moments found → IfKnown old.bytes (λ all. found ≡ all)) → AtAnyMoment old new past since (MayBeLeft stream)
+    → (found : List ℕ) → since old.moments found → IfKnown old.bytes (λ all. MayBeLeft stream all found)
 found_left stream old new past since only m found had =
     let now : old.moments ≤ old.moments = omega arith in
     ⊎_elim (λ before. told_map old.bytes (λ all. found ≡ all) (λ all. MayBeLeft stream all found) (λ all e same. untouched same) (only found before)) (λ within. within) (m.elapses.nothing_else old.moments found now had)

@@ -1,17 +1,17 @@
 -- Lemmas on bytes that may be told, and on what calls leave of them one after the other.
 use Rattle.std.proofs.Common.{◌≡◌, ℕ, ◌+◌, ◌≤◌, List, length, Option, None, Some, option_map, Result, Ok, Err, OnOk, OnErr, refl, ap, sym, subst, ◌∙◌, arith}
-use Rattle.x7_words.specs.Flash.{Elapses, FlashState, IsTorn, OnlyWrites, TornFrom, Unwritten, WhereTold, WithinWrite, replaced}
+use Rattle.x7_words.specs.Flash.{Elapses, FlashState, IsTorn, OnlyWrites, TornFrom, Unwritten, IfKnown, WithinWrite, replaced}
 use Rattle.x7_words.proofs.FlashLemmas.{elapses_none, elapses_on, elapses_unwritten, elapses_weaker, left_is_torn}
 use Rattle.x7_update.specs.Writing.{AtAnyMoment, Becomes, BecomesBytes, Leaves}
 
-pub told_at : (told : Option (List ℕ)) (P : List ℕ → Type 0) → WhereTold told P → (all : List ℕ) → told ≡ Some all → P all
-told_at told P t all e = let Q : Option (List ℕ) → Type 0 = λ o. WhereTold o P in let at : WhereTold (Some all) P = subst Q e t in at
+pub told_at : (told : Option (List ℕ)) (P : List ℕ → Type 0) → IfKnown told P → (all : List ℕ) → told ≡ Some all → P all
+told_at told P t all e = let Q : Option (List ℕ) → Type 0 = λ o. IfKnown o P in let at : IfKnown (Some all) P = subst Q e t in at
 
-pub told_all : (told : Option (List ℕ)) (P : List ℕ → Type 0) → ((all : List ℕ) → told ≡ Some all → P all) → WhereTold told P
+pub told_all : (told : Option (List ℕ)) (P : List ℕ → Type 0) → ((all : List ℕ) → told ≡ Some all → P all) → IfKnown told P
 told_all None P f = tt
 told_all (Some all) P f = f all refl
 
-pub told_map : (told : Option (List ℕ)) (P Q : List ℕ → Type 0) → ((all : List ℕ) → told ≡ Some all → P all → Q all) → WhereTold told P → WhereTold told Q
+pub told_map : (told : Option (List ℕ)) (P Q : List ℕ → Type 0) → ((all : List ℕ) → told ≡ Some all → P all → Q all) → IfKnown told P → IfKnown told Q
 told_map None P Q f t = tt
 told_map (Some all) P Q f t = f all refl t
 
@@ -49,7 +49,7 @@ becomes_same s P h = go s.bytes h
 pub becomes_leaves : (old new : FlashState) (P : List ℕ → List ℕ → Type 0) → Becomes old new P → Leaves old new P
 becomes_leaves old new P b = go old.bytes b
   where
-    go : (told : Option (List ℕ)) → BecomesBytes P told new.bytes → WhereTold told (λ all. (now : List ℕ) × (new.bytes ≡ Some now) × P all now)
+    go : (told : Option (List ℕ)) → BecomesBytes P told new.bytes → IfKnown told (λ all. (now : List ℕ) × (new.bytes ≡ Some now) × P all now)
     go None b = tt
     go (Some all) b = b
 
@@ -72,13 +72,13 @@ becomes_on a b c P Q R f p q = go a.bytes f p
     go (Some all) f p = let m : BecomesBytes Q (Some p.0) c.bytes = at b.bytes (Some p.0) p.1 q in (m.0, m.1, f all p.0 m.0 refl p.2 m.2)
 
 -- what holds of the bytes then
-pub becomes_then : (a b : FlashState) (P : List ℕ → List ℕ → Type 0) (Q : List ℕ → Type 0) → ((all now : List ℕ) → a.bytes ≡ Some all → P all now → Q now) → Becomes a b P → WhereTold b.bytes Q
+pub becomes_then : (a b : FlashState) (P : List ℕ → List ℕ → Type 0) (Q : List ℕ → Type 0) → ((all now : List ℕ) → a.bytes ≡ Some all → P all now → Q now) → Becomes a b P → IfKnown b.bytes Q
 becomes_then a b P Q f p = go a.bytes f p
   where
-    at : (told now : Option (List ℕ)) → told ≡ now → WhereTold now Q → WhereTold told Q
-    at told now e w = let S : Option (List ℕ) → Type 0 = λ o. WhereTold o Q in subst S (sym e) w
+    at : (told now : Option (List ℕ)) → told ≡ now → IfKnown now Q → IfKnown told Q
+    at told now e w = let S : Option (List ℕ) → Type 0 = λ o. IfKnown o Q in subst S (sym e) w
 
-    go : (told : Option (List ℕ)) → ((all now : List ℕ) → told ≡ Some all → P all now → Q now) → BecomesBytes P told b.bytes → WhereTold b.bytes Q
+    go : (told : Option (List ℕ)) → ((all now : List ℕ) → told ≡ Some all → P all now → Q now) → BecomesBytes P told b.bytes → IfKnown b.bytes Q
     go None f p = at b.bytes None p tt
     go (Some all) f p = at b.bytes (Some p.0) p.1 (f all p.0 refl p.2)
 
@@ -93,14 +93,14 @@ leaves_on a b c P Q R f l m = told_map a.bytes (λ all. (now : List ℕ) × (b.b
 pub moments_none : (s : FlashState) (since : ℕ → List ℕ → Type 0) (P : List ℕ → List ℕ → Type 0) → ((all : List ℕ) → s.bytes ≡ Some all → P all all) → AtAnyMoment s s since since P
 moments_none s since P h = record {
   leaves = told_all s.bytes (λ all. (now : List ℕ) × (s.bytes ≡ Some now) × P all now) (λ all e. (all, e, h all e));
-  elapses = elapses_none s.moments since (λ found. WhereTold s.bytes (λ all. P all found));
+  elapses = elapses_none s.moments since (λ found. IfKnown s.bytes (λ all. P all found));
 }
 
 -- the same said weaker
 pub moments_weaker : (a b : FlashState) (past since : ℕ → List ℕ → Type 0) (P Q : List ℕ → List ℕ → Type 0) → ((all found : List ℕ) → a.bytes ≡ Some all → P all found → Q all found) → AtAnyMoment a b past since P → AtAnyMoment a b past since Q
 moments_weaker a b past since P Q f m = record {
   leaves = leaves_map a b P Q (λ all now e p. f all now e p) m.leaves;
-  elapses = elapses_weaker a.moments b.moments past since (λ found. WhereTold a.bytes (λ all. P all found)) (λ found. WhereTold a.bytes (λ all. Q all found)) m.elapses
+  elapses = elapses_weaker a.moments b.moments past since (λ found. IfKnown a.bytes (λ all. P all found)) (λ found. IfKnown a.bytes (λ all. Q all found)) m.elapses
       (λ found w. told_map a.bytes (λ all. P all found) (λ all. Q all found) (λ all e p. f all found e p) w);
 }
 
@@ -109,7 +109,7 @@ pub moments_on : (a b c : FlashState) (past mids since : ℕ → List ℕ → Ty
     → AtAnyMoment a b past mids R → Leaves a b P → AtAnyMoment b c mids since Q → AtAnyMoment a c past since R
 moments_on a b c past mids since P Q R f m l n = record {
   leaves = leaves_on a b c P Q R f l n.leaves;
-  elapses = elapses_on a.moments b.moments c.moments past mids since (λ found. WhereTold a.bytes (λ all. R all found)) (λ found. WhereTold b.bytes (λ mid. Q mid found)) m.elapses n.elapses
+  elapses = elapses_on a.moments b.moments c.moments past mids since (λ found. IfKnown a.bytes (λ all. R all found)) (λ found. IfKnown b.bytes (λ mid. Q mid found)) m.elapses n.elapses
       (λ found w. told_map a.bytes (λ all. (mid : List ℕ) × (b.bytes ≡ Some mid) × P all mid) (λ all. R all found) (λ all e p. f all p.0 found e p.2 (told_at b.bytes (λ mid. Q mid found) w p.0 p.1)) l);
 }
 
@@ -117,7 +117,7 @@ moments_on a b c past mids since P Q R f m l n = record {
 pub moments_read : (a b c : FlashState) (past mids since : ℕ → List ℕ → Type 0) (P : List ℕ → List ℕ → Type 0) → AtAnyMoment a b past mids P → c.bytes ≡ b.bytes → Unwritten b c mids since → AtAnyMoment a c past since P
 moments_read a b c past mids since P m same u = record {
   leaves = told_map a.bytes (λ all. (now : List ℕ) × (b.bytes ≡ Some now) × P all now) (λ all. (now : List ℕ) × (c.bytes ≡ Some now) × P all now) (λ all e p. (p.0, same ∙ p.1, p.2)) m.leaves;
-  elapses = elapses_unwritten a.moments b c past mids since (λ found. WhereTold a.bytes (λ all. P all found)) m.elapses u;
+  elapses = elapses_unwritten a.moments b c past mids since (λ found. IfKnown a.bytes (λ all. P all found)) m.elapses u;
 }
 
 -- an attach or a read before them

@@ -1,6 +1,6 @@
 -- Why an update is refused, and where a flash has no layout (this project's choice).
 use Rattle.std.specs.Prelude.{◌≡◌, ◌≢◌, ℕ, ◌+◌, ◌*◌, ◌<◌, ◌≤◌, ◌⊎◌, true, false, List, length, get_or, None, Some}
-use Rattle.x7_words.specs.Flash.{FlashFails, FlashState, WhereTold, WriteFails}
+use Rattle.x7_words.specs.Flash.{FlashFails, FlashState, IfKnown, WriteFails}
 use Rattle.x7_update.specs.Layout.{CanStandAt, HasLayout, HasSize, IsFree, IsOpen, Leads, first_slot, update_place}
 use Rattle.x7_update.specs.declared.fault.UpdateFault.{UpdateFault}
 use Rattle.x7_update.specs.declared.fault.UpdateFault.TheVariants.{Differs, Failed, NoLayout, NoMemory, TooLong}
@@ -57,8 +57,8 @@ pub record IsTooLong (stream flash : List ℕ) : Type 0 where
 abbrev pub HasCause : List ℕ → FlashState → FlashState → UpdateFault → Type 0
 HasCause stream old new (Failed true) = WriteFails old new
 HasCause stream old new (Failed false) = FlashFails old new
-HasCause stream old new TooLong = WhereTold old.bytes (IsTooLong stream)
-HasCause stream old new (NoLayout place) = WhereTold old.bytes (λ flash. NoLayoutAt (length flash) flash place)
+HasCause stream old new TooLong = IfKnown old.bytes (IsTooLong stream)
+HasCause stream old new (NoLayout place) = IfKnown old.bytes (λ flash. NoLayoutAt (length flash) flash place)
 HasCause stream old new (Differs place wrote read) = (wrote ≢ read) × (old.bytes ≡ None)
 HasCause stream old new NoMemory = Unit {0}
 

@@ -1,6 +1,6 @@
 -- What the steps of an update do to the flash (this project's choice).
 use Rattle.std.specs.Prelude.{◌≡◌, ◌≢◌, ℕ, ◌+◌, ◌-◌, ◌*◌, ◌<◌, ◌≤◌, ◌⊎◌, List, length, get_or, Option, Some, None, nat_lt, if◌then◌else◌, true, false}
-use Rattle.x7_words.specs.Flash.{Elapses, FlashFails, FlashState, WhereTold, WriteFails}
+use Rattle.x7_words.specs.Flash.{Elapses, FlashFails, FlashState, IfKnown, WriteFails}
 use Rattle.x7_update.specs.After.{ClosesTo, IsBetween, switched, with_stream}
 use Rattle.x7_update.specs.Layout.{open_word, switch_of}
 use Rattle.x7_update.specs.declared.fault.UpdateFault.{UpdateFault}
@@ -8,7 +8,7 @@ use Rattle.x7_update.specs.declared.fault.UpdateFault.TheVariants.{Differs, Fail
 
 -- where the bytes were told they are told still, and in this relation to what they were
 abbrev pub Leaves : FlashState → FlashState → (List ℕ → List ℕ → Type 0) → Type 0
-Leaves old new Relates = WhereTold old.bytes (λ all. (now : List ℕ) × (new.bytes ≡ Some now) × Relates all now)
+Leaves old new Relates = IfKnown old.bytes (λ all. (now : List ℕ) × (new.bytes ≡ Some now) × Relates all now)
 
 -- bytes that were told are told still, and in this relation to what they were; bytes that weren't told aren't
 abbrev pub BecomesBytes : (List ℕ → List ℕ → Type 0) → Option (List ℕ) → Option (List ℕ) → Type 0
@@ -22,7 +22,7 @@ Becomes old new Relates = BecomesBytes Relates old.bytes new.bytes
 -- At any moment from one state to the next, and at the end, the bytes are in this relation to those at the start.
 pub record AtAnyMoment (old new : FlashState) (past since : ℕ → List ℕ → Type 0) (Relates : List ℕ → List ℕ → Type 0) : Type 0 where
   pub leaves : Leaves old new Relates
-  pub elapses : Elapses old.moments new.moments past since (λ found. WhereTold old.bytes (λ all. Relates all found))
+  pub elapses : Elapses old.moments new.moments past since (λ found. IfKnown old.bytes (λ all. Relates all found))
 
 -- the flash is used: nothing changed but its bytes, the moment and the counts of faults, which don't fall
 pub record OnlyUses (old new : FlashState) : Type 0 where

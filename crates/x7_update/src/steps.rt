@@ -1,6 +1,6 @@
 //! The steps of an update, in their order: look, close, write, read back, open.
 ghost use Rattle.std.specs.Prelude.{◌≡◌, ◌+◌, ◌≤◌, ℕ, List, true, length, IfErr, OnOk, OnErr, option_map};
-ghost use Rattle.x7_words.specs.Flash.{OnlyReads, OnlyWrites, WhereTold, WriteFails};
+ghost use Rattle.x7_words.specs.Flash.{OnlyReads, OnlyWrites, IfKnown, WriteFails};
 ghost use Rattle.x7_update.specs.After.{ClosesTo, IsAfter, MayBeLeft, switched};
 ghost use Rattle.x7_update.specs.Layout.{HasLayout, IsFree, open_word};
 ghost use Rattle.x7_update.specs.Refused.{CanBeUpdated, HasCause, IsEarly};
@@ -20,7 +20,7 @@ use x7_words::{Failed, Flash, SECTOR};
 fn close_opened<F: Flash>(flash: &mut F, slots: Slots) -> Result<(), Failed>
     requires attached { (F.state flash.old).attached ≡ true }
     requires fits { Fits (F.state flash.old).extent slots }
-    requires finds { WhereTold (F.state flash.old).bytes (λ all. Finds (length all) all slots) }
+    requires finds { IfKnown (F.state flash.old).bytes (λ all. Finds (length all) all slots) }
     ensures closed { OnOk result (Becomes (F.state flash.old) (F.state flash.new) ClosesTo) }
     ensures any_moment { AtAnyMoment (F.state flash.old) (F.state flash.new) (F.found_since flash.old) (F.found_since flash.new)
         Replacing }
@@ -37,7 +37,7 @@ fn close_opened<F: Flash>(flash: &mut F, slots: Slots) -> Result<(), Failed>
 fn replace<F: Flash>(flash: &mut F, slots: Slots, stream: &[u8]) -> Result<(), Failed>
     requires attached { (F.state flash.old).attached ≡ true }
     requires fits { Fits (F.state flash.old).extent slots }
-    requires finds { WhereTold (F.state flash.old).bytes (λ all. Finds (length all) all slots) }
+    requires finds { IfKnown (F.state flash.old).bytes (λ all. Finds (length all) all slots) }
     requires stream { slots.update + length stream.now ≤ (F.state flash.old).extent }
     ensures replaced { OnOk result (Becomes (F.state flash.old) (F.state flash.new) (Replaced slots.update stream.now)) }
     ensures any_moment { AtAnyMoment (F.state flash.old) (F.state flash.new) (F.found_since flash.old) (F.found_since flash.new)
@@ -59,8 +59,8 @@ fn finish<F: Flash>(
     requires attached { (F.state flash.old).attached ≡ true }
     requires fits { Fits (F.state flash.old).extent slots }
     requires buffer { length buffer.old ≡ 65536 }
-    requires written { WhereTold (F.state flash.old).bytes (HasWanted slots.update stream.now) }
-    requires free { WhereTold (F.state flash.old).bytes (λ all. IsFree all slots.next) }
+    requires written { IfKnown (F.state flash.old).bytes (HasWanted slots.update stream.now) }
+    requires free { IfKnown (F.state flash.old).bytes (λ all. IsFree all slots.next) }
     ensures opened { OnOk result ((F.state flash.new).bytes ≡ option_map (switched slots.next open_word) (F.state flash.old).bytes) }
     ensures any_moment { AtAnyMoment (F.state flash.old) (F.state flash.new) (F.found_since flash.old) (F.found_since flash.new)
         (Opening slots.next) }
@@ -82,7 +82,7 @@ fn finish<F: Flash>(
 fn take_steps<F: Flash>(alloc: Global, flash: &mut F, stream: &[u8]) -> Result<(), UpdateFault>
     requires { (F.state flash.old).attached ≡ true }
     ensures updated { OnOk result (Becomes (F.state flash.old) (F.state flash.new) (IsAfter stream.now)) }
-    ensures layout { OnOk result (WhereTold (F.state flash.old).bytes HasLayout) }
+    ensures layout { OnOk result (IfKnown (F.state flash.old).bytes HasLayout) }
     ensures any_moment { AtAnyMoment (F.state flash.old) (F.state flash.new) (F.found_since flash.old) (F.found_since flash.new)
         (MayBeLeft stream.now) }
     ensures refused { IfErr result (HasCause stream.now (F.state flash.old) (F.state flash.new)) }
@@ -116,9 +116,9 @@ fn take_steps<F: Flash>(alloc: Global, flash: &mut F, stream: &[u8]) -> Result<(
 pub fn update<F: Flash>(alloc: Global, flash: &mut F, stream: &[u8]) -> Result<(), UpdateFault>
     requires { (F.state flash.old).attached ≡ true }
     ensures updated { OnOk result (Becomes (F.state flash.old) (F.state flash.new) (IsAfter stream.now)) }
-    ensures layout { OnOk result (WhereTold (F.state flash.old).bytes HasLayout) }
+    ensures layout { OnOk result (IfKnown (F.state flash.old).bytes HasLayout) }
     ensures found { (found : List ℕ) → F.found_since flash.new (F.state flash.old).moments found →
-        WhereTold (F.state flash.old).bytes (λ all. MayBeLeft stream.now all found) }
+        IfKnown (F.state flash.old).bytes (λ all. MayBeLeft stream.now all found) }
     ensures any_moment { AtAnyMoment (F.state flash.old) (F.state flash.new) (F.found_since flash.old) (F.found_since flash.new)
         (MayBeLeft stream.now) }
     ensures refused { IfErr result (HasCause stream.now (F.state flash.old) (F.state flash.new)) }

@@ -1,6 +1,6 @@
 //! What was written is read back and compared.
 ghost use Rattle.std.specs.Prelude.{◌≡◌, ◌+◌, ◌*◌, ◌%◌, ◌<◌, ◌≤◌, ◌^◌, ℕ, true, length, IfErr};
-ghost use Rattle.x7_words.specs.Flash.{OnlyReads, WhereTold};
+ghost use Rattle.x7_words.specs.Flash.{OnlyReads, IfKnown};
 ghost use Rattle.x7_update.specs.Layout.{IsOpen};
 ghost use Rattle.x7_update.specs.Writing.{EndFails, HasWanted, IsWrong, wanted_at};
 
@@ -51,7 +51,7 @@ pub(crate) fn verify_stream<F: Flash>(
     requires limit { (F.state flash.old).extent ≤ 134217728 }
     requires place { update % 65536 ≡ 0 }
     requires buffer { length buffer.old ≡ 65536 }
-    requires written { WhereTold (F.state flash.old).bytes (HasWanted update stream.now) }
+    requires written { IfKnown (F.state flash.old).bytes (HasWanted update stream.now) }
     ensures fault { IfErr result (EndFails (F.state flash.old) (F.state flash.new)) }
     ensures only { OnlyReads (F.state flash.old) (F.state flash.new) (F.found_since flash.old) (F.found_since flash.new) }
 {
@@ -77,7 +77,7 @@ fn verify_sector<F: Flash>(
     requires within { sector * 65536 + 65536 ≤ (F.state flash.old).extent }
     requires place { update ≤ sector * 65536 }
     requires buffer { length buffer.old ≡ 65536 }
-    requires written { WhereTold (F.state flash.old).bytes (HasWanted update stream.now) }
+    requires written { IfKnown (F.state flash.old).bytes (HasWanted update stream.now) }
     ensures fault { IfErr result (EndFails (F.state flash.old) (F.state flash.new)) }
     ensures only { OnlyReads (F.state flash.old) (F.state flash.new) (F.found_since flash.old) (F.found_since flash.new) }
     ensures buffer { length buffer.new ≡ 65536 }
@@ -94,7 +94,7 @@ pub(crate) fn verify_switch<F: Flash>(flash: &mut F, slot: u64) -> Result<(), Up
     requires attached { (F.state flash.old).attached ≡ true }
     requires slot { slot < 2048 }
     requires within { 32 * slot + 4 ≤ (F.state flash.old).extent }
-    requires opened { WhereTold (F.state flash.old).bytes (λ all. IsOpen all slot) }
+    requires opened { IfKnown (F.state flash.old).bytes (λ all. IsOpen all slot) }
     ensures fault { IfErr result (EndFails (F.state flash.old) (F.state flash.new)) }
     ensures only { OnlyReads (F.state flash.old) (F.state flash.new) (F.found_since flash.old) (F.found_since flash.new) }
 {

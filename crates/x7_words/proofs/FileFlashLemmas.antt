@@ -6,7 +6,7 @@ use Rattle.std.specs.List.{concat}
 use Rattle.x7_words.specs.Count.{HasRisen, raised}
 use Rattle.x7_words.specs.Flash.{Elapses, OnlyReads, OnlyWrites, Unattached, Unwritten}
 use Rattle.x7_words.proofs.CountLemmas.{raised_risen}
-use Rattle.x7_words.specs.Files.{Clears, ClearsAt, ClearsPieces, IsExtent, RealFlash, Tells, after_opening, size_told}
+use Rattle.x7_words.specs.Files.{Clears, ClearsAt, ClearsPieces, IsExtent, RealFlash, Tells, after_opening, known_flash}
 use Rattle.x7_words.specs.declared.input.Failed.{Failed as FailedCall}
 use Rattle.x7_words.specs.declared.input.SelectFault.{SelectFault}
 use Rattle.x7_words.specs.declared.input.SelectFault.TheVariants.{Missing, Failed}
@@ -29,7 +29,7 @@ attached-err old new (Ok _) e = tt
 attached-err old new (Err _) e = ap (λ f. is_some f.file) e
 
 -- an attach that is not Ok counts what it answers
-pub attached-refused : {F : Type 0} → (old new : RealFlash F) (answer : Result (Unit {0}) SelectFault) → new ≡ after_opening old answer new → IfErr answer (Unattached (size_told old) (size_told new))
+pub attached-refused : {F : Type 0} → (old new : RealFlash F) (answer : Result (Unit {0}) SelectFault) → new ≡ after_opening old answer new → IfErr answer (Unattached (known_flash old) (known_flash new))
 attached-refused old new (Ok _) e = tt
 attached-refused old new (Err Missing) e = raised_risen old.absences new.absences (ap (λ f. f.absences) e)
 attached-refused old new (Err Failed) e = raised_risen old.faults new.faults (ap (λ f. f.faults) e)
@@ -51,13 +51,13 @@ pub quiet_read_at : {F : Type 0} → (old new : RealFlash F) (file : Option F) (
 quiet_read_at old new file (Ok _) e = ap (λ f. f.faults) e
 quiet_read_at old new file (Err _) e = tt
 
--- of a read nothing is told
+-- of a read nothing is known
 pub untold_read_at : (answer : Result (Unit {0}) FailedCall) → OnOk answer (Unit {0})
 untold_read_at (Ok _) = tt
 untold_read_at (Err _) = tt
 
 -- a call that writes nothing leaves all that may be found
-pub untold_unwritten : {F : Type 0} → (old new : RealFlash F) → new.write_faults ≡ old.write_faults → Unwritten (size_told old) (size_told new) (λ moment found. Unit {0}) (λ moment found. Unit {0})
+pub untold_unwritten : {F : Type 0} → (old new : RealFlash F) → new.write_faults ≡ old.write_faults → Unwritten (known_flash old) (known_flash new) (λ moment found. Unit {0}) (λ moment found. Unit {0})
 untold_unwritten old new e = record { write_faults = e; moments = refl; nothing_else = λ moment found since. tt; keeps = λ moment found since. tt }
 
 -- a read leaves all but the file and the count of faults
@@ -68,7 +68,7 @@ read_keeps part same old new file (Err _) o e = ap part e ∙ same old file (rai
 
 pub only_reads : {F : Type 0} → (old new : RealFlash F) (answer : Result (Unit {0}) FailedCall) → is_some old.file ≡ true → is_some new.file ≡ true
     → OnOk answer (new ≡ record old { file = new.file }) → OnErr answer (new ≡ record old { file = new.file; faults = raised old.faults }) → old.faults ≤ new.faults
-    → OnlyReads (size_told old) (size_told new) (λ moment found. Unit {0}) (λ moment found. Unit {0})
+    → OnlyReads (known_flash old) (known_flash new) (λ moment found. Unit {0}) (λ moment found. Unit {0})
 only_reads old new answer was is o e rises = record {
   bytes = refl;
   extent = read_keeps (λ f. f.extent) (λ f file n. refl) old new new.file answer o e;
@@ -117,7 +117,7 @@ write_keeps part same old new file (Err _) o e = ap part e ∙ same old file (ra
 
 pub only_writes : {F : Type 0} → (old new : RealFlash F) (answer : Result (Unit {0}) FailedCall) → is_some old.file ≡ true → is_some new.file ≡ true
     → OnOk answer (new ≡ record old { file = new.file }) → OnErr answer (new ≡ record old { file = new.file; write_faults = raised old.write_faults }) → old.write_faults ≤ new.write_faults
-    → OnlyWrites (size_told old) (size_told new)
+    → OnlyWrites (known_flash old) (known_flash new)
 only_writes old new answer was is o e rises = record {
   extent = write_keeps (λ f. f.extent) (λ f file n. refl) old new new.file answer o e;
   attached = is ∙ sym was;
@@ -127,7 +127,7 @@ only_writes old new answer was is o e rises = record {
   write_faults = rises;
 }
 
--- of a write nothing is told
+-- of a write nothing is known
 pub untold_written : (answer : Result (Unit {0}) FailedCall) (known : Option (List ℕ)) → OnOk answer (known ≡ known)
 untold_written (Ok _) known = refl
 untold_written (Err _) known = tt
@@ -136,6 +136,6 @@ pub untold_torn : (answer : Result (Unit {0}) FailedCall) → OnErr answer (Unit
 untold_torn (Ok _) = tt
 untold_torn (Err _) = tt
 
--- anything may be found of what isn't told, at any time
+-- anything may be found of what isn't known, at any time
 pub untold_passes : Elapses 0 0 (λ moment found. Unit {0}) (λ moment found. Unit {0}) (λ found. Unit {0})
 untold_passes = record { later = omega arith; nothing_else = λ moment found le since. inl tt; keeps = λ moment found le since. tt }

@@ -5,18 +5,18 @@ use Rattle.std.specs.declared.io.ErrorKind.{ErrorKind}
 use Rattle.x7_words.specs.Count.{added, raised}
 use Rattle.x7_words.specs.Input.{Asks, Fails, Opens, Refuses, Takes}
 use Rattle.x7_words.proofs.CountLemmas.{raised_risen}
-use Rattle.x7_words.specs.Files.{RealInputs, after_open, told_of}
+use Rattle.x7_words.specs.Files.{RealInputs, after_open, known_inputs}
 use Rattle.x7_words.specs.declared.input.Failed.{Failed as FailedRead}
 use Rattle.x7_words.specs.declared.input.SelectFault.{SelectFault}
 use Rattle.x7_words.specs.declared.input.SelectFault.TheVariants.{Missing, Failed}
 
--- an open that is Ok selects, and of a rest that is never told nothing is said
-pub opened-ok : (old new : RealInputs) (rest : Option (List ℕ)) (refusal : Option ErrorKind) (name : List ℕ) (answer : Result (Unit {0}) SelectFault) → new ≡ after_open old rest refusal answer → OnOk answer (Opens (told_of old) name (told_of new))
+-- an open that is Ok selects, and of a rest that is never known nothing is said
+pub opened-ok : (old new : RealInputs) (rest : Option (List ℕ)) (refusal : Option ErrorKind) (name : List ℕ) (answer : Result (Unit {0}) SelectFault) → new ≡ after_open old rest refusal answer → OnOk answer (Opens (known_inputs old) name (known_inputs new))
 opened-ok old new rest refusal name (Ok _) e = record { selected = ap (λ f. f.selected) e; found = tt }
 opened-ok old new rest refusal name (Err fault) e = tt
 
 -- an open that is not Ok counts what it answers
-pub opened-refused : (old new : RealInputs) (rest : Option (List ℕ)) (refusal : Option ErrorKind) (name : List ℕ) (answer : Result (Unit {0}) SelectFault) → new ≡ after_open old rest refusal answer → IfErr answer (Refuses (told_of old) name (told_of new))
+pub opened-refused : (old new : RealInputs) (rest : Option (List ℕ)) (refusal : Option ErrorKind) (name : List ℕ) (answer : Result (Unit {0}) SelectFault) → new ≡ after_open old rest refusal answer → IfErr answer (Refuses (known_inputs old) name (known_inputs new))
 opened-refused old new rest refusal name (Ok _) e = tt
 opened-refused old new rest refusal name (Err Missing) e = inr (raised_risen old.absences new.absences (ap (λ f. f.absences) e))
 opened-refused old new rest refusal name (Err Failed) e = raised_risen old.faults new.faults (ap (λ f. f.faults) e)
@@ -28,7 +28,7 @@ opened-err old new rest refusal (Err Missing) e = ap (λ f. f.selected) e
 opened-err old new rest refusal (Err Failed) e = ap (λ f. f.selected) e
 
 -- a read that fails counts a fault
-pub failed_read : (old new : RealInputs) (answer : Result ℕ FailedRead) → OnErr answer (new ≡ record old { selected = false; rest = None; faults = raised old.faults }) → OnErr answer (Fails (told_of old) (told_of new))
+pub failed_read : (old new : RealInputs) (answer : Result ℕ FailedRead) → OnErr answer (new ≡ record old { selected = false; rest = None; faults = raised old.faults }) → OnErr answer (Fails (known_inputs old) (known_inputs new))
 failed_read old new (Ok _) e = tt
 failed_read old new (Err _) e = raised_risen old.faults new.faults (ap (λ f. f.faults) e)
 
@@ -38,14 +38,14 @@ read_err old new (Ok _) e = tt
 read_err old new (Err _) e = ap (λ f. f.selected) e
 
 -- whatever an open answers, nothing was given since
-pub opened-asks : (old new : RealInputs) (rest : Option (List ℕ)) (refusal : Option ErrorKind) (name : List ℕ) (answer : Result (Unit {0}) SelectFault) → new ≡ after_open old rest refusal answer → Asks name (told_of new)
+pub opened-asks : (old new : RealInputs) (rest : Option (List ℕ)) (refusal : Option ErrorKind) (name : List ℕ) (answer : Result (Unit {0}) SelectFault) → new ≡ after_open old rest refusal answer → Asks name (known_inputs new)
 opened-asks old new rest refusal name (Ok _) e = record { asked = tt; given = ap (λ f. f.given) e }
 opened-asks old new rest refusal name (Err Missing) e = record { asked = tt; given = ap (λ f. f.given) e }
 opened-asks old new rest refusal name (Err Failed) e = record { asked = tt; given = ap (λ f. f.given) e }
 
--- a read that is Ok leaves the file selected, and of a rest that is never told nothing is said
+-- a read that is Ok leaves the file selected, and of a rest that is never known nothing is said
 pub read_ok : (old new : RealInputs) (buf : List ℕ) (answer : Result ℕ FailedRead) → old.selected ≡ true → IfOk answer (λ n. n ≤ length buf) → IfOk answer (λ n. new ≡ record old { rest = new.rest; given = added old.given n })
-    → IfOk answer (λ n. Takes (told_of old) (take n buf) (told_of new))
+    → IfOk answer (λ n. Takes (known_inputs old) (take n buf) (known_inputs new))
 read_ok old new buf (Ok n) s h e = record {
   selected = ap (λ f. f.selected) e ∙ s;
   taken = refl;
@@ -63,7 +63,7 @@ pub read_absences : (old new : RealInputs) (answer : Result ℕ FailedRead) → 
 read_absences old new (Ok _) o e = let same : new.absences ≡ old.absences = ap (λ f. f.absences) o in omega arith
 read_absences old new (Err _) o e = let same : new.absences ≡ old.absences = ap (λ f. f.absences) e in omega arith
 
--- of a read into a buffer nothing is told but its count
+-- of a read into a buffer nothing is known but its count
 pub untold_read : (answer : Result ℕ FailedRead) (length : ℕ) → IfOk answer (λ n. n ≡ 0 → 0 < length → Unit {0})
 untold_read (Ok n) length = λ _ _. tt
 untold_read (Err _) length = tt

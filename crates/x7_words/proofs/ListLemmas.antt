@@ -18,14 +18,14 @@ same_end (x ∷ xs) [] cs ds l e = absurd (omega (arith, ap length e, length-app
 same_end (x ∷ xs) (y ∷ ys) cs ds l e = same_end xs ys cs ds l (let rest : xs ++ cs ≡ ys ++ ds = cc in rest)
 
 -- two lists that begin with as many elements begin with the same
-pub same_front : (xs ys cs ds : List ℕ) → length xs ≡ length ys → xs ++ cs ≡ ys ++ ds → xs ≡ ys
-same_front [] [] cs ds l e = refl
-same_front [] (y ∷ ys) cs ds l e = absurd (omega (arith, l))
-same_front (x ∷ xs) [] cs ds l e = absurd (omega (arith, l))
-same_front (x ∷ xs) (y ∷ ys) cs ds l e =
+pub same_prefix : (xs ys cs ds : List ℕ) → length xs ≡ length ys → xs ++ cs ≡ ys ++ ds → xs ≡ ys
+same_prefix [] [] cs ds l e = refl
+same_prefix [] (y ∷ ys) cs ds l e = absurd (omega (arith, l))
+same_prefix (x ∷ xs) [] cs ds l e = absurd (omega (arith, l))
+same_prefix (x ∷ xs) (y ∷ ys) cs ds l e =
     let head : x ≡ y = cc in
     let tail : xs ++ cs ≡ ys ++ ds = cc in
-    let rest : xs ≡ ys = same_front xs ys cs ds (omega (arith, l)) tail in cc
+    let rest : xs ≡ ys = same_prefix xs ys cs ds (omega (arith, l)) tail in cc
 
 cons_front : (x y : ℕ) (xs ys m : List ℕ) → x ≡ y → ys ≡ xs ++ m → y ∷ ys ≡ x ∷ (xs ++ m)
 cons_front x y xs ys m h t = cc

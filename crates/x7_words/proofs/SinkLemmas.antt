@@ -2,15 +2,15 @@
 use Rattle.std.proofs.Common.{◌≡◌, ℕ, List, [], ◌∷◌, ◌++◌, ◌+◌, ◌<◌, take, drop, length, Option, None, Some, refl, ap, append_assoc, append-nil, sym, ◌∙◌, arith, inr, flat_map, zero, suc, get_or}
 use Rattle.std.proofs.Math.Seq.{take-add}
 use Rattle.std.proofs.lemmas.List.{take-append-drop}
-use Rattle.x7_words.specs.Sink.{appended, Counts, PutsAll, PutsFront, PutsSome, SinkFails, SinkState, Tells}
+use Rattle.x7_words.specs.Sink.{appended, Counts, PutsAll, PutsPrefix, PutsSome, SinkFails, SinkState, Tells}
 
 -- nothing more leaves what was written
-pub appended-nil : (told : Option (List ℕ)) → appended told [] ≡ told
+pub appended-nil : (known : Option (List ℕ)) → appended known [] ≡ known
 appended-nil None = refl
 appended-nil (Some old) = ap Some (append-nil old)
 
 -- two pieces one after the other are the joined piece
-pub appended-appended : (told : Option (List ℕ)) (a b : List ℕ) → appended (appended told a) b ≡ appended told (a ++ b)
+pub appended-appended : (known : Option (List ℕ)) (a b : List ℕ) → appended (appended known a) b ≡ appended known (a ++ b)
 appended-appended None a b = refl
 appended-appended (Some old) a b = ap Some (append_assoc old a b)
 
@@ -20,11 +20,11 @@ written_more first mid last text at k p q =
     rw (q, p, appended-appended, take-add at k text) refl
 
 -- a front of a text by its length
-pub puts_front : (first last : Option (List ℕ)) (text : List ℕ) (at : ℕ) → last ≡ appended first (take at text) → PutsFront first text last
+pub puts_front : (first last : Option (List ℕ)) (text : List ℕ) (at : ℕ) → last ≡ appended first (take at text) → PutsPrefix first text last
 puts_front first last text at p = (take at text, (drop at text, sym (take-append-drop at text), p))
 
 -- some pieces whole and a front of the next are a front of all
-pub front_more : (first mid last : Option (List ℕ)) (a b c : List ℕ) → mid ≡ appended first a → PutsFront mid b last → PutsFront first (a ++ (b ++ c)) last
+pub front_more : (first mid last : Option (List ℕ)) (a b c : List ℕ) → mid ≡ appended first a → PutsPrefix mid b last → PutsPrefix first (a ++ (b ++ c)) last
 front_more first mid last a b c p (front, (back, split, put)) =
     (a ++ front, (back ++ c, rw (split, append_assoc, append_assoc) refl, rw (put, p, appended-appended) refl))
 

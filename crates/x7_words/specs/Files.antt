@@ -1,4 +1,4 @@
--- What is told of the real inputs and sinks (this project's choice).
+-- What is known of the real inputs and sinks (this project's choice).
 use Rattle.std.specs.Prelude.{◌≡◌, ◌↔◌, ◌+◌, ◌<◌, ℕ, Bool, true, false, List, [], ◌∷◌, length, take, bit_and, Option, None, Some, IfSome, is_some, Result, Ok, Err}
 use Rattle.std.specs.Io.KnownBytes.{Appends, Consumes, IsAtEnd, Keeps}
 use Rattle.std.specs.List.{concat}
@@ -40,9 +40,9 @@ pub record RealInputs : Type 0 where
   -- the absences counted; the last u64 stays
   pub absences : ℕ
 
--- what is told of files as inputs: nothing of what they hold
-abbrev pub told_of : RealInputs → InputsState
-told_of f = record {
+-- what is known of files as inputs: nothing of what they hold
+abbrev pub known_inputs : RealInputs → InputsState
+known_inputs f = record {
   contents = None;
   selected = f.selected;
   rest = None;
@@ -148,9 +148,9 @@ pub record RealFlash (F : Type 0) : Type 0 where
   -- the faults of writes counted; the last u64 stays
   pub write_faults : ℕ
 
--- what is told of a file as a flash: its size, and nothing of what it holds
-abbrev pub size_told : {F : Type 0} → RealFlash F → FlashState
-size_told f = record {
+-- what is known of a file as a flash: its size, and nothing of what it holds
+abbrev pub known_flash : {F : Type 0} → RealFlash F → FlashState
+known_flash f = record {
   bytes = None;
   extent = f.extent;
   attached = is_some f.file;

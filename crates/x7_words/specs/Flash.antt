@@ -1,4 +1,4 @@
--- A flash's bytes, which may be told or not, and what a write does to them (this project's choice).
+-- A flash's bytes, which may be known or not, and what a write does to them (this project's choice).
 use Rattle.std.specs.Prelude.{◌≡◌, ◌≤◌, ◌<◌, ◌^◌, ◌+◌, ◌*◌, ◌⊎◌, ℕ, Bool, IsTrue, List, [], ◌∷◌, length, get_or, replicate, slice_range, bit_and, Option, None, Some}
 use Rattle.std.specs.Int.{bit_at}
 use Rattle.std.specs.List.{splice}
@@ -16,7 +16,7 @@ flash_limit = 134217728
 
 -- what a flash has come to
 pub record FlashState : Type 0 where
-  -- its bytes, where they are told
+  -- its bytes, where they are known
   pub bytes : Option (List ℕ)
   -- the number of its bytes
   pub extent : ℕ
@@ -33,14 +33,14 @@ pub record FlashState : Type 0 where
   -- the present moment, as a number that doesn't fall
   pub moments : ℕ
 
--- where the bytes are told, this holds of them
-abbrev pub WhereTold : Option (List ℕ) → (List ℕ → Type 0) → Type 0
-WhereTold None P = Unit {0}
-WhereTold (Some bytes) P = P bytes
+-- where the bytes are known, this holds of them
+abbrev pub IfKnown : Option (List ℕ) → (List ℕ → Type 0) → Type 0
+IfKnown None P = Unit {0}
+IfKnown (Some bytes) P = P bytes
 
--- the extent is the number of bytes, where they are told
+-- the extent is the number of bytes, where they are known
 abbrev pub IsSized : FlashState → Type 0
-IsSized state = WhereTold state.bytes (λ all. state.extent ≡ length all)
+IsSized state = IfKnown state.bytes (λ all. state.extent ≡ length all)
 
 -- ---- attaching and reading
 
@@ -122,14 +122,14 @@ pub record IsTorn (place : ℕ) (target old found : List ℕ) : Type 0 where
       (bit_at (get_or found (place + i) 0) bit ≡ bit_at (get_or old (place + i) 0) bit)
       ⊎ (bit_at (get_or found (place + i) 0) bit ≡ bit_at (get_or target i 0) bit)
 
--- where the bytes were told before a write that failed, they are told after it, and torn
+-- where the bytes were known before a write that failed, they are known after it, and torn
 abbrev pub TornFrom : ℕ → (List ℕ → List ℕ) → Option (List ℕ) → Option (List ℕ) → Type 0
 TornFrom place target None new = Unit {0}
 TornFrom place target (Some old) new = (now : List ℕ) × (new ≡ Some now) × IsTorn place (target old) old now
 
--- where the bytes were told before a write, this may be found within it
+-- where the bytes were known before a write, this may be found within it
 abbrev pub WithinWrite : ℕ → (List ℕ → List ℕ) → Option (List ℕ) → List ℕ → Type 0
-WithinWrite place target told found = WhereTold told (λ old. IsTorn place (target old) old found)
+WithinWrite place target known found = IfKnown known (λ old. IsTorn place (target old) old found)
 
 -- Time goes on: what may be found after a stop since some moment is what might have been found before, or this.
 pub record Elapses (before now : ℕ) (past since : ℕ → List ℕ → Type 0) (within : List ℕ → Type 0) : Type 0 where

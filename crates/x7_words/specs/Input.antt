@@ -1,4 +1,4 @@
--- Inputs by name, where their bytes may be told or not (this project's choice).
+-- Inputs by name, where their bytes may be known or not (this project's choice).
 use Rattle.std.specs.Prelude.{◌≡◌, ℕ, Bool, true, List, [], ◌++◌, ◌+◌, ◌≤◌, ◌<◌, ◌^◌, ◌⊎◌, length, Option, None, Some, IfSome}
 use Rattle.x7_words.specs.Count.{HasRisen}
 use Rattle.x7_words.specs.declared.input.SelectFault.{SelectFault}
@@ -6,11 +6,11 @@ use Rattle.x7_words.specs.declared.input.SelectFault.TheVariants.{Missing, Faile
 
 -- what inputs have come to
 pub record InputsState : Type 0 where
-  -- the bytes under each name, where they are told: none for a name that the map lacks
+  -- the bytes under each name, where they are known: none for a name that the map lacks
   pub contents : Option (List ℕ → Option (List ℕ))
   -- whether an input is selected
   pub selected : Bool
-  -- what is left of the selected input, where that is told
+  -- what is left of the selected input, where that is known
   pub rest : Option (List ℕ)
   -- the name of the last select, where it is kept
   pub asked : Option (List ℕ)
@@ -21,22 +21,22 @@ pub record InputsState : Type 0 where
   -- how often a name was missing
   pub absences : ℕ
 
--- the rest is all that the name has, where the map is told
+-- the rest is all that the name has, where the map is known
 abbrev pub Selects : Option (List ℕ → Option (List ℕ)) → List ℕ → Option (List ℕ) → Type 0
 Selects None name rest = Unit {0}
 Selects (Some map) name rest = (bytes : List ℕ) × (map name ≡ Some bytes) × (rest ≡ Some bytes)
 
--- the map is told and has no such name
+-- the map is known and has no such name
 abbrev pub Lacks : Option (List ℕ → Option (List ℕ)) → List ℕ → Type 0
 Lacks None name = ⊥
 Lacks (Some map) name = map name ≡ None
 
--- the told bytes with further ones before them
+-- the known bytes with further ones before them
 abbrev pub preceded : List ℕ → Option (List ℕ) → Option (List ℕ)
 preceded bytes None = None
 preceded bytes (Some rest) = Some (bytes ++ rest)
 
--- a rest that is told is empty
+-- a rest that is known is empty
 abbrev pub AtEnd : Option (List ℕ) → Type 0
 AtEnd None = Unit {0}
 AtEnd (Some rest) = rest ≡ []
@@ -55,7 +55,7 @@ Fits state = (state.faults < 2 ^ 64) × (state.absences < 2 ^ 64)
 abbrev pub Fails : InputsState → InputsState → Type 0
 Fails old new = HasRisen old.faults new.faults
 
--- the name is missing: it has no bytes where they are told, or the count of absences rose
+-- the name is missing: it has no bytes where they are known, or the count of absences rose
 abbrev pub Misses : InputsState → List ℕ → InputsState → Type 0
 Misses old name new = Lacks old.contents name ⊎ HasRisen old.absences new.absences
 

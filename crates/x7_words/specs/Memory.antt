@@ -54,9 +54,9 @@ abbrev pub bytes_under : List (List ℕ × List ℕ) → List ℕ → Option (Li
 bytes_under [] name = None
 bytes_under (entry ∷ entries) name = if bytes_eq entry.0 name then Some entry.1 else bytes_under entries name
 
--- what is told of the inputs: all
-abbrev pub told_of : InputsInMemory → InputsState
-told_of m = record {
+-- what is known of the inputs: all
+abbrev pub known_inputs : InputsInMemory → InputsState
+known_inputs m = record {
   contents = Some (bytes_under m.entries);
   selected = is_some m.rest;
   rest = m.rest;

@@ -1,22 +1,22 @@
--- Bytes that are written one after the other, where they may be told or not (this project's choice).
+-- Bytes that are written one after the other, where they may be known or not (this project's choice).
 use Rattle.std.specs.Prelude.{◌≡◌, ℕ, List, ◌++◌, ◌≤◌, ◌<◌, ◌^◌, Option, None, Some, ◌⊎◌}
 use Rattle.x7_words.specs.Count.{HasRisen}
 
 -- what a sink has come to
 pub record SinkState : Type 0 where
-  -- the bytes written so far, where they are told
+  -- the bytes written so far, where they are known
   pub written : Option (List ℕ)
   -- how often a write has failed
   pub faults : ℕ
 
--- the told bytes with further ones at their end
+-- the known bytes with further ones at their end
 abbrev pub appended : Option (List ℕ) → List ℕ → Option (List ℕ)
 appended None bytes = None
 appended (Some old) bytes = Some (old ++ bytes)
 
--- a front of the bytes was put at the end of what was told
-abbrev pub PutsFront : Option (List ℕ) → List ℕ → Option (List ℕ) → Type 0
-PutsFront old bytes new = (front : List ℕ) × ((back : List ℕ) × (bytes ≡ front ++ back) × (new ≡ appended old front))
+-- a front of the bytes was put at the end of what was known
+abbrev pub PutsPrefix : Option (List ℕ) → List ℕ → Option (List ℕ) → Type 0
+PutsPrefix old bytes new = (front : List ℕ) × ((back : List ℕ) × (bytes ≡ front ++ back) × (new ≡ appended old front))
 
 -- the whole text was put at the end
 abbrev pub PutsAll : SinkState → List ℕ → SinkState → Type 0
@@ -24,7 +24,7 @@ PutsAll old text new = new.written ≡ appended old.written text
 
 -- a front of the text was put at the end
 abbrev pub PutsSome : SinkState → List ℕ → SinkState → Type 0
-PutsSome old text new = PutsFront old.written text new.written
+PutsSome old text new = PutsPrefix old.written text new.written
 
 -- the sink failed, which its count of faults tells
 abbrev pub SinkFails : SinkState → SinkState → Type 0

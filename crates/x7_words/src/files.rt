@@ -2,7 +2,7 @@
 ghost use Rattle.std.specs.Prelude.{◌≡◌, ◌<◌, ◌≤◌, ◌^◌, ◌↔◌, length, take, None, Some, true, false, IfErr, IfOk, OnOk, OnErr};
 ghost use Rattle.std.specs.Io.KnownBytes.{Appends, Keeps, ReadConsumes, WriteAppends};
 ghost use Rattle.x7_words.specs.Count.{added, raised};
-ghost use Rattle.x7_words.specs.Files.{after_open, told_of, faults_after, missing_after, Gives, RefusedFor};
+ghost use Rattle.x7_words.specs.Files.{after_open, known_inputs, faults_after, missing_after, Gives, RefusedFor};
 
 mod flash;
 
@@ -99,7 +99,7 @@ impl<'r, R: Files> FileInputs<'r, R> {
 }
 
 impl<'r, R: Files> Inputs for FileInputs<'r, R> {
-    ghost state = { told_of };
+    ghost state = { known_inputs };
 
     fn select(&mut self, name: &str) -> Result<(), SelectFault>
         ensures after { self.new ≡ after_open self.old self.new.rest self.new.refusal result }

@@ -1,6 +1,6 @@
 //! A flash that is read, erased and programmed at places.
 ghost use Rattle.std.specs.Prelude.{◌≡◌, ℕ, List, ◌+◌, ◌*◌, ◌<◌, ◌≤◌, ◌^◌, length, Some, true, false, IfErr, OnOk, OnErr, slice_range, option_map};
-ghost use Rattle.x7_words.specs.Flash.{AsksFor, Elapses, FlashFails, FlashFits, FlashState, FlashStays, IsSized, OnlyReads, OnlyWrites, TornFrom, Unattached, WhereTold, WithinWrite, WriteFails, cleared, erased, erased_sector, programmed};
+ghost use Rattle.x7_words.specs.Flash.{AsksFor, Elapses, FlashFails, FlashFits, FlashState, FlashStays, IsSized, OnlyReads, OnlyWrites, TornFrom, Unattached, IfKnown, WithinWrite, WriteFails, cleared, erased, erased_sector, programmed};
 
 use crate::input::{Failed, SelectFault};
 
@@ -45,7 +45,7 @@ pub trait Flash {
     fn read_at(&mut self, place: u64, buf: &mut [u8]) -> Result<(), Failed>
         requires attached { (state self.old).attached ≡ true }
         requires within { place + length buf.old ≤ (state self.old).extent }
-        ensures read { OnOk result (WhereTold (state self.old).bytes
+        ensures read { OnOk result (IfKnown (state self.old).bytes
             (λ all. buf.new ≡ slice_range all place (place + length buf.old))) }
         ensures length { length buf.new ≡ length buf.old }
         ensures quiet { OnOk result ((state self.new).faults ≡ (state self.old).faults) }
@@ -85,7 +85,7 @@ pub trait Flash {
         ensures sized { IsSized (state self.new) }
         ensures fits { (state self.new).write_faults < 2 ^ 64 };
 
-    /// Where the bytes are told, the size is their number.
+    /// Where the bytes are known, the size is their number.
     ghost counted: { (flash : Self) → IsSized (state flash) };
 
     /// After a stop now, or at the end of any time up to now, the flash's bytes may be found.
@@ -94,5 +94,5 @@ pub trait Flash {
 
     /// After a stop now nothing else is found.
     ghost only_now: { (flash : Self) (found : List ℕ) → found_since flash (state flash).moments found
-        → WhereTold (state flash).bytes (λ all. found ≡ all) };
+        → IfKnown (state flash).bytes (λ all. found ≡ all) };
 }

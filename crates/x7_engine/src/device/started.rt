@@ -5,12 +5,12 @@ ghost use Rattle.x7_part.specs.Part.{PartData};
 ghost use Rattle.x7_engine.specs.UntilRead.{RoomBefore};
 ghost use Rattle.x7_engine.specs.Phases.{soonest};
 ghost use Rattle.x7_engine.specs.ReadBuffer.{with_words};
-ghost use Rattle.x7_engine.specs.Standing.{DeviceStandsFor, HasStopped, NoWordDue, fed_more, fed_of, told_of};
+ghost use Rattle.x7_engine.specs.Standing.{DeviceStandsFor, HasStopped, NoWordDue, fed_more, fed_of, reads_given};
 ghost use Rattle.x7_engine.specs.State.{state_of, stop_in};
 ghost use Rattle.x7_engine.specs.UntilStarted.{AnswersUntil, HasNotBegun, NoneStarted, has_started, says_started, taken_until, CommandsLast};
 ghost use Rattle.x7_engine.specs.declared.kept.Kept.{Kept as KeptData};
 ghost use Rattle.x7_engine.specs.declared.until_started.UntilStarted.TheVariants as until;
-ghost use Rattle.x7_engine.specs.Past.{AnswersUntilFor, OfPast, Takes, TellsNext, TellsNone, later, part_until, started_at, state_at, stop_at, told_at};
+ghost use Rattle.x7_engine.specs.Past.{AnswersUntilFor, OfPast, Takes, TellsNext, TellsNone, later, part_until, started_at, state_at, stop_at, reads_given_at};
 
 use super::{Device, stopped};
 use crate::fed::Fed;
@@ -90,7 +90,7 @@ impl Device {
         ensures started { OfPast self.old (λ p. NoWordDue self.new → says_started result ≡ started_at (later p (part_until piece.now result))) }
         ensures answer { AnswersUntilFor self.old self.new (part_until piece.now result) read.new result }
         ensures reads { TellsNext self.old self.new (part_until piece.now result) read.old read.new }
-        ensures room { OfPast self.old (λ p. RoomBefore p piece.now (taken_until (length piece.now) result) (told_at self.old p) read.old) }
+        ensures room { OfPast self.old (λ p. RoomBefore p piece.now (taken_until (length piece.now) result) (reads_given_at self.old p) read.old) }
         ensures stopped { OfPast self.old (λ p. IsSome (stop_at p) → (self.new ≡ self.old) × (read.new ≡ read.old) × (taken_until (length piece.now) result ≡ 0)) }
         ensures stays { HasStopped self.old → (self.new ≡ self.old) × (read.new ≡ read.old) × (taken_until (length piece.now) result ≡ 0) }
     {

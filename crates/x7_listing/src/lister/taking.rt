@@ -2,9 +2,9 @@
 ghost use Rattle.std.specs.Prelude.{◌≡◌, ℕ, ◌+◌, ◌*◌, ◌≤◌, ◌<◌, List, ◌++◌, OnOk, OnErr, true, if◌then◌else◌, length, min, take, vec_len, vec_capacity};
 ghost use Rattle.x7_packets.specs.Cutting.{CutterState};
 ghost use Rattle.x7_packets.specs.Reading.{Place, Session, tail_of};
-ghost use Rattle.x7_packets.specs.Run.{cut_of, FitsRun, told_bytes};
+ghost use Rattle.x7_packets.specs.Run.{cut_of, FitsRun, bytes_of_run};
 ghost use Rattle.x7_listing.specs.Listing.{reading_text};
-ghost use Rattle.x7_listing.specs.Pens.{PenToldWhole, lister_with};
+ghost use Rattle.x7_listing.specs.Pens.{PenHasListedAll, lister_with};
 ghost use Rattle.x7_listing.specs.Taking.{TakesNext};
 
 use super::Lister;
@@ -28,7 +28,7 @@ fn cut_of<'b>(run: Run<'b>) -> Cut<'b>
 
 /// How many bytes a run tells.
 fn told_len(run: Run) -> usize
-    ensures { result ≡ length (told_bytes run.entry) }
+    ensures { result ≡ length (bytes_of_run run.entry) }
 {
     match run {
         Run::Skip(bytes) => bytes.len(),
@@ -66,7 +66,7 @@ fn tail_len(pen: Pen) -> usize
 /// Appends what is left at the end of a stream, whose tail the pen holds.
 fn put_last(text: &mut Vec<u8>, pen: Pen)
     requires room { vec_len text.old + 64 ≤ vec_capacity text.old }
-    ensures told { (given before : List ℕ) (sessions : List Session) (place : Place) → PenToldWhole pen (given ++ text.old.items) before sessions place
+    ensures listed { (given before : List ℕ) (sessions : List Session) (place : Place) → PenHasListedAll pen (given ++ text.old.items) before sessions place
         → (pen.synced ≡ true → take pen.count pen.held ≡ tail_of place) → given ++ text.new.items ≡ before ++ reading_text sessions place }
 {
     put_end(text, pen, &pen.held[..tail_len(pen)]);
@@ -75,7 +75,7 @@ fn put_last(text: &mut Vec<u8>, pen: Pen)
 /// Appends what the next run of a stream adds.
 fn put_next(text: &mut Vec<u8>, pen: Pen, run: Run) -> Pen
     requires run { FitsRun run }
-    requires room { vec_len text.old + (64 + 3 * length (told_bytes run)) ≤ vec_capacity text.old }
+    requires room { vec_len text.old + (64 + 3 * length (bytes_of_run run)) ≤ vec_capacity text.old }
     ensures takes { (cutter : CutterState) → TakesNext run.entry (lister_with cutter pen text.old.items) (lister_with cutter result text.new.items) }
 {
     match run {

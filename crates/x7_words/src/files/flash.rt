@@ -3,7 +3,7 @@ ghost use Rattle.std.specs.Prelude.{◌≡◌, ◌+◌, ◌*◌, ◌<◌, ◌≤
 ghost use Rattle.std.specs.Io.KnownBytes.{Consumes};
 ghost use Rattle.std.specs.Io.Seek.{MovesTo};
 ghost use Rattle.x7_words.specs.Count.{raised};
-ghost use Rattle.x7_words.specs.Files.{after_opening, file_tells, size_told, Clears, ClearsAt, EndsAt, IsExtent, ReadsAt, RefusedFor, WhileOpen, WritesAt};
+ghost use Rattle.x7_words.specs.Files.{after_opening, file_tells, known_flash, Clears, ClearsAt, EndsAt, IsExtent, ReadsAt, RefusedFor, WhileOpen, WritesAt};
 ghost use Rattle.x7_words.specs.Flash.{erased_sector, zip_with};
 
 use super::count_refusal;
@@ -184,7 +184,7 @@ impl<'r, R: Files> FileFlash<'r, R> {
 }
 
 impl<'r, R: Files> Flash for FileFlash<'r, R> {
-    ghost state = { size_told };
+    ghost state = { known_flash };
 
     ghost found_since = { λ _ _ _. Unit {0} };
 

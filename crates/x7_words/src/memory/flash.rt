@@ -18,7 +18,7 @@ struct Torn {
     pattern: u8,
 }
 
-/// A flash in memory under one name, told whole.
+/// A flash in memory under one name, known whole.
 ///
 /// Each attach, read, erase and program has the next number, from 1, and those that are to fail fail.
 #[derive(Drop)]

@@ -1,7 +1,7 @@
 //! Inputs in memory.
 ghost use Rattle.std.specs.Prelude.{◌≡◌, [], ◌<◌, ◌≤◌, ◌^◌, take, drop, length, Some, None, true, is_some, is_err, OnOk, OnErr, IfOk};
 ghost use Rattle.x7_words.specs.Input.{preceded, AtEnd};
-ghost use Rattle.x7_words.specs.Memory.{next_fails, planned, bytes_under, no_calls, after_put, select_answer, after_select, read_count, after_read, told_of};
+ghost use Rattle.x7_words.specs.Memory.{next_fails, planned, bytes_under, no_calls, after_put, select_answer, after_select, read_count, after_read, known_inputs};
 
 use crate::count::next_count;
 use crate::input::{Failed, Inputs, NoMemory, SelectFault};
@@ -10,7 +10,7 @@ use crate::memory::put::{Put, left_at, place_of};
 use std::alloc::Global;
 use std::marker::Model;
 
-/// Inputs in memory, told whole: what was put under each name last is what a select of it gives.
+/// Inputs in memory, known whole: what was put under each name last is what a select of it gives.
 ///
 /// Each select and each read has the next number, from 1, and those that are to fail fail.
 #[derive(Drop)]
@@ -98,7 +98,7 @@ impl MemoryInputs {
 }
 
 impl Inputs for MemoryInputs {
-    ghost state = { told_of };
+    ghost state = { known_inputs };
 
     fn select(&mut self, name: &str) -> Result<(), SelectFault>
         ensures answer { result ≡ select_answer self.old name.now }

@@ -9,7 +9,7 @@ use crate::sink::Sink;
 use std::alloc::Global;
 use std::marker::Model;
 
-/// A sink in memory with a fixed room, told whole.
+/// A sink in memory with a fixed room, known whole.
 ///
 /// Each write has the next number, from 1, and those that are to fail fail.
 #[derive(Drop)]

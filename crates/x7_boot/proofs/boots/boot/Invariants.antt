@@ -1,5 +1,5 @@
 use Rattle.std.proofs.Common.{◌≡◌, ◌-◌, ◌<◌, ◌≤◌, false}
-use Rattle.x7_words.specs.Flash.{OnlyReads, WhereTold}
+use Rattle.x7_words.specs.Flash.{OnlyReads, IfKnown}
 use Rattle.x7_words.specs.Word.{AreBytes}
 use Rattle.x7_regs.specs.declared.boot_status.Kind.TheVariants.{Bench}
 use Rattle.x7_engine.specs.Kept.{is_fallback}
@@ -13,7 +13,7 @@ abbrev pub invariant-attempts : goal.invariant-attempts
 invariant-attempts g l =
     let f = g.F.Flash in
     record {
-      led : WhereTold (f.state l.fn.flash).bytes (λ all. AreBytes all → Led l.fn.part all l.keep l.address l.attempts.items l.number);
+      led : IfKnown (f.state l.fn.flash).bytes (λ all. AreBytes all → Led l.fn.part all l.keep l.address l.attempts.items l.number);
       leaves : Leaves l.last_address (f.state l.fn.flash).bytes l.device;
       part : l.device.part ≡ l.fn.part;
       boots : l.keep.kind ≡ Bench → ⊥;

@@ -1,5 +1,5 @@
 use Rattle.std.proofs.Common.{◌≡◌, ℕ, subst, ◌+◌, ◌/◌, ◌<◌, false, length, sym, refl, ◌∙◌, arith, true}
-use Rattle.x7_words.specs.Flash.{WhereTold}
+use Rattle.x7_words.specs.Flash.{IfKnown}
 use Rattle.x7_words.proofs.FlashLemmas.{reads_at, reads_on}
 use Rattle.x7_boot.specs.Pages.{page_size}
 use Rattle.x7_boot.proofs.PageLemmas.{from_limited, loaded_from, pages_of, reaches}
@@ -22,7 +22,7 @@ pub returns-then-at-size-clause-tried : goal.returns-then-at-size-clause-tried
 returns-then-at-size-clause-tried g c =
     let f = c.pages.invariant.feeds in
     known_out c.args.device.now.part c.args.keep c.args.address (g.F.Flash.state c.args.flash.now).bytes c.pages.device c.run_out.new.device c.pages.at c.size-size.result c.run_out.result f c.if-at-size.true
-    (subst (λ (n : ℕ). WhereTold (g.F.Flash.state c.args.flash.now).bytes (λ all. n ≡ length all)) (sym c.size-size.ensures.extent) c.size-size.ensures.sized) (c.run_out.ensures.stands c.args.device.now.part c.args.keep f.bytes f.stands) c.run_out.ensures.ending
+    (subst (λ (n : ℕ). IfKnown (g.F.Flash.state c.args.flash.now).bytes (λ all. n ≡ length all)) (sym c.size-size.ensures.extent) c.size-size.ensures.sized) (c.run_out.ensures.stands c.args.device.now.part c.args.keep f.bytes f.stands) c.run_out.ensures.ending
 
 pub pages-preserved : goal.pages-preserved
 pages-preserved g c =

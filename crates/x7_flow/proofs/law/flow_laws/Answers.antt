@@ -5,8 +5,8 @@ use Rattle.x7_flow.proofs.law.flow_laws.Goals as goal
 pub returns-clause-sound : goal.returns-clause-sound
 returns-clause-sound c = flow_sound
 
-pub returns-clause-landed : goal.returns-clause-landed
-returns-clause-landed c = landed_grows
+pub returns-clause-written_frames : goal.returns-clause-written_frames
+returns-clause-written_frames c = landed_grows
 
 pub returns-clause-settings : goal.returns-clause-settings
 returns-clause-settings c = settings_more

@@ -43,7 +43,7 @@ loop-taken-preserved c =
       room = omega (arith, long, less, calls, ap (λ (k : CutterState). length k.kept) same, ap (λ (t : Vec ℕ Global). vec_len t) text, ap (λ (t : Vec ℕ Global). vec_capacity t) text, c.cut-run.ensures.within, c.cut-run.ensures.forward, c.loop-taken.invariant.room, c.put_run-now.ensures.len, c.put_run-now.ensures.room);
       tells = λ given before bytes s.
           took _ _ _ _ _ _ _ _ _ _ _ _ _ given before bytes c.args.piece.now
-          (told_as c.loop-taken.cutter c.take_equal.new.cutter c.loop-taken.text c.take_equal.new.text _ _ _ given before _ (c.in_default-take_equal.ensures.none ∙ c.in_default.ensures.none) (c.in_default-take_equal.ensures.same ∙ c.in_default.ensures.same) (c.loop-taken.invariant.tells given before bytes s)) c.cut-run.ensures.forward c.cut-run.ensures.adds c.cut-run.ensures.run (c.put_run-now.ensures.told given);
+          (told_as c.loop-taken.cutter c.take_equal.new.cutter c.loop-taken.text c.take_equal.new.text _ _ _ given before _ (c.in_default-take_equal.ensures.none ∙ c.in_default.ensures.none) (c.in_default-take_equal.ensures.same ∙ c.in_default.ensures.same) (c.loop-taken.invariant.tells given before bytes s)) c.cut-run.ensures.forward c.cut-run.ensures.adds c.cut-run.ensures.run (c.put_run-now.ensures.listed given);
     }
 
 pub loop-taken-preserved-in-Some : goal.loop-taken-preserved-in-Some
@@ -56,7 +56,7 @@ loop-taken-preserved-in-Some c =
       tells = λ given before bytes s.
           subst (Tells c.take_short.new.cutter c.in-Some.taken.pen.synced c.in-Some.taken.pen.line (take c.in-Some.taken.pen.count c.in-Some.taken.pen.held) c.take_short.new.text.items given before)
           (seam c.args.piece.now bytes _ c.loop-taken.at c.in-Some.taken.size c.loop-taken.invariant.within refl)
-          (c.in-Some.ensures.told given before (bytes ++ take c.loop-taken.at c.args.piece.now) (c.loop-taken.invariant.tells given before bytes s));
+          (c.in-Some.ensures.listed given before (bytes ++ take c.loop-taken.at c.args.piece.now) (c.loop-taken.invariant.tells given before bytes s));
     }
 
 pub loop-taken-preserved-in-Some-take_equal : goal.loop-taken-preserved-in-Some-take_equal
@@ -71,6 +71,6 @@ loop-taken-preserved-in-Some-take_equal c =
       tells = λ given before bytes s.
           subst (Tells c.take_equal.new.cutter c.in-Some-take_equal.taken.pen.synced c.in-Some-take_equal.taken.pen.line (take c.in-Some-take_equal.taken.pen.count c.in-Some-take_equal.taken.pen.held) c.take_equal.new.text.items given before)
           (seam c.args.piece.now bytes _ c.loop-taken.at c.in-Some-take_equal.taken.size c.loop-taken.invariant.within refl)
-          (c.in-Some-take_equal.ensures.told given before (bytes ++ take c.loop-taken.at c.args.piece.now)
+          (c.in-Some-take_equal.ensures.listed given before (bytes ++ take c.loop-taken.at c.args.piece.now)
           (told_as c.loop-taken.cutter c.take_short.new.cutter c.loop-taken.text c.take_short.new.text _ _ _ given before _ same text (c.loop-taken.invariant.tells given before bytes s)));
     }

@@ -7,5 +7,5 @@ loop-byte-preserved c = record {
   gap = c.hold-now.ensures.gap;
   len = omega arith;
   room = omega arith;
-  told = λ given start gap g. gap_step _ start _ _ gap c.args.bytes.now _ c.loop-byte-test.true (c.hold-now.ensures.told given start _ (c.loop-byte.invariant.told given start gap g));
+  listed = λ given start gap g. gap_step _ start _ _ gap c.args.bytes.now _ c.loop-byte-test.true (c.hold-now.ensures.listed given start _ (c.loop-byte.invariant.listed given start gap g));
 }

@@ -2,7 +2,7 @@ use Rattle.std.proofs.Common.{◌≡◌, [], ◌∷◌, ap, sym, ◌∙◌, arit
 use Rattle.x7_text.proofs.AppendsLemmas.{appends_as}
 use Rattle.x7_words.specs.Word.{words_of_bytes}
 use Rattle.x7_packets.specs.Packet.{payload_steps}
-use Rattle.x7_listing.specs.Telling.{words_told}
+use Rattle.x7_listing.specs.Telling.{open_words}
 use Rattle.x7_listing.proofs.GapLemmas.{body_word}
 use Rattle.x7_listing.proofs.SessionLemmas.{data_place, data_told, is_data}
 use Rattle.x7_listing.proofs.pen.put_body.Goals as goal
@@ -10,7 +10,7 @@ use Rattle.x7_listing.proofs.pen.put_body.Goals as goal
 pub returns-then-register-number-clause-appends : goal.returns-then-register-number-clause-appends
 returns-then-register-number-clause-appends c =
     let one : words_of_bytes c.args.body.now ≡ c.word_of.result ∷ [] = body_word c.args.body.now c.word_of.result (omega (arith, c.word_of.type_inv)) (c.requires.one (c.if-register-number.true ∙ c.number.ensures.value)) c.word_of.ensures.back in
-    appends_as _ _ _ _ _ _ c.put_payload.ensures.appends (ap (λ ws. words_told c.args.in_line (payload_steps c.args.register ws)) (sym one)) (omega arith)
+    appends_as _ _ _ _ _ _ c.put_payload.ensures.appends (ap (λ ws. open_words c.args.in_line (payload_steps c.args.register ws)) (sym one)) (omega arith)
 
 pub returns-clause-count : goal.returns-clause-count
 returns-clause-count c = c.put_words.ensures.count ∙ sym (data_place c.args.register c.args.in_line (words_of_bytes c.args.body.now) (is_data c.args.register (λ e. c.if-register-number.false (e ∙ sym c.number.ensures.value))))

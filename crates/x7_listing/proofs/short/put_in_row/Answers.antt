@@ -14,5 +14,5 @@ returns-clause-count c = first_words_count c.args.bytes.now c.args.count c.told-
 pub returns-clause-text : goal.returns-clause-text
 returns-clause-text c =
     let few : c.args.count < 8 = omega (arith, c.requires.few, c.if-count-eq8.false) in
-    c.put_front.ensures.text
+    c.put_prefix.ensures.text
     ∙ ap (λ (t : List ℕ). take c.args.len c.args.sheet.now ++ t) (first_words [] c.data_line-line.result c.data_line-line.result (take (4 + 9 * c.args.count) c.data_line-line.result) c.args.bytes.now (4 + 9 * c.args.count) c.args.count c.requires.some few c.told-bytes c.data_line-line.ensures (omega arith) refl refl)

@@ -28,5 +28,5 @@ loop-len-preserved c =
       tells = λ given before bytes s.
           subst (Tells c.take_next.new.cutter c.in-Some.next.pen.synced c.in-Some.next.pen.line (take c.in-Some.next.pen.count c.in-Some.next.pen.held) (c.args.text.now.items ++ take c.in-Some.next.len c.take_next.new.sheet) given before)
           (seam c.args.rest.now bytes _ c.loop-len.at c.in-Some.next.size c.loop-len.invariant.within refl)
-          (c.in-Some.ensures.told c.args.text.now.items given before (bytes ++ take c.loop-len.at c.args.rest.now) (c.loop-len.invariant.tells given before bytes s));
+          (c.in-Some.ensures.listed c.args.text.now.items given before (bytes ++ take c.loop-len.at c.args.rest.now) (c.loop-len.invariant.tells given before bytes s));
     }

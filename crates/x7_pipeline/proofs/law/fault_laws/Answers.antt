@@ -8,8 +8,8 @@ returns-clause-address c = λ part far. (has_address part far, address_has part 
 pub returns-clause-overrun : goal.returns-clause-overrun
 returns-clause-overrun c = overrun_is
 
-pub returns-clause-landed : goal.returns-clause-landed
-returns-clause-landed c = refused_landed
+pub returns-clause-written_frames : goal.returns-clause-written_frames
+returns-clause-written_frames c = refused_landed
 
 pub returns-clause-far : goal.returns-clause-far
 returns-clause-far c = refused_far

@@ -1,10 +1,10 @@
 use Rattle.std.proofs.Common.{◌≡◌}
-use Rattle.x7_planner.specs.Telling.{HasTold, calls_left}
+use Rattle.x7_planner.specs.Telling.{HasGiven, calls_left}
 use Rattle.x7_planner.proofs.whole.put_all.Given as goal
 
 abbrev pub invariant-loop : goal.invariant-loop
 invariant-loop l = record {
-  told : HasTold l.stream l.out.items;
+  given : HasGiven l.stream l.out.items;
   part : l.stream.part ≡ l.fn.stream.part;
   plan : l.stream.plan ≡ l.fn.stream.plan;
 }

@@ -1,6 +1,6 @@
 use Rattle.std.proofs.Common.{◌≡◌, ℕ, ◌+◌, ◌-◌, ◌≤◌, ◌⊎◌, List, [], ◌∷◌, ◌++◌, Option, Some, Ok, Err, drop, subst, take, length, length-append, append-nil, length-drop, length-take-le, take_all, refl, sym, ap, ◌∙◌, inl, inr, arith}
 use Rattle.std.proofs.lemmas.Result.{on_ok_weaker}
-use Rattle.x7_words.specs.Sink.{SinkFails, appended, PutsFront}
+use Rattle.x7_words.specs.Sink.{SinkFails, appended, PutsPrefix}
 use Rattle.x7_words.specs.Input.{preceded, Selects}
 use Rattle.x7_words.specs.Word.{AreBytes}
 use Rattle.x7_words.proofs.InputLemmas.{stays_on}
@@ -43,8 +43,8 @@ returns-in-Err-read_beginning g c = λ before after.
     (unfronted old.inputs (i.state c.open.new.inputs) new.inputs old.flash.bytes stream (SinkFails old.out new.out) old.out.written event c.open.ensures.inputs c.in-Ok.ensures.ok.found c.open.ensures.asks c.in-Err-read_beginning.ensures.err)
     (stays_near event stream old new (unfronted_near old.inputs.contents stream new.inputs.rest old.out.written new.out.written (i.state c.open.new.inputs) new.inputs stream event refl c.in-Ok.ensures.ok.found c.open.ensures.asks c.in-Err-read_beginning.ensures.err))
 
-pub returns-in-Err-put_front : goal.returns-in-Err-put_front
-returns-in-Err-put_front g c = λ before after.
+pub returns-in-Err-put_beginning : goal.returns-in-Err-put_beginning
+returns-in-Err-put_beginning g c = λ before after.
     let i = g.I.Inputs in
     let o = g.O.Sink in
     let contents = (i.state c.args.inputs.now).contents in
@@ -63,18 +63,18 @@ returns-in-Err-put_front g c = λ before after.
     let rest = (i.state c.read_beginning.new.inputs).rest in
     let sel : Selects contents stream (preceded taken rest) = subst (λ r. Selects contents stream r) f.reads.takes.taken c.in-Ok.ensures.ok.found in
     let goes : (left : List ℕ) → MayFollow last left → stream_listing (taken ++ left) ≡ Ok (line ++ listing_of (sent ++ left)) = λ left m. f.begins left m ∙ ap (λ (l : List ℕ). Ok (l ++ listing_of (drop start taken ++ left))) (sym c.deref.ensures.value) ∙ ap (λ (s : List ℕ). Ok (line ++ listing_of (s ++ left))) (sym cut) in
-    let now = (o.state c.put_front.new.out).written in
-    let Full : Type 0 = SinkFails (o.state c.args.out.now) (o.state c.put_front.new.out) in
-    let r = event_of c.in-Err-put_front.refusal in
+    let now = (o.state c.put_beginning.new.out).written in
+    let Full : Type 0 = SinkFails (o.state c.args.out.now) (o.state c.put_beginning.new.out) in
+    let r = event_of c.in-Err-put_beginning.refusal in
     let flash = before.flash.bytes in
-    let end : (r ≡ no_memory) ⊎ ((r ≡ write_fault) × SinkFails (o.state c.args.out.now) (o.state c.put_front.new.out)) → Ended (with_inputs contents flash) C stream Full old now (Err r)
+    let end : (r ≡ no_memory) ⊎ ((r ≡ write_fault) × SinkFails (o.state c.args.out.now) (o.state c.put_beginning.new.out)) → Ended (with_inputs contents flash) C stream Full old now (Err r)
     = elim [
-      | inl h ↦ ends_same (with_inputs contents flash) C stream Full old now r no_memory h (out_of_memory contents flash C stream taken rest Full old now sel (front_here taken line sent last old now c.put_front.ensures.fits goes c.in-Err-put_front.ensures.err))
-      | inr h ↦ ends_same (with_inputs contents flash) C stream Full old now r write_fault h.0 (front_failed contents flash C stream taken line sent rest last Full old now sel f.end h.1 c.put_front.ensures.fits goes c.in-Err-put_front.ensures.err)
+      | inl h ↦ ends_same (with_inputs contents flash) C stream Full old now r no_memory h (out_of_memory contents flash C stream taken rest Full old now sel (front_here taken line sent last old now c.put_beginning.ensures.fits goes c.in-Err-put_beginning.ensures.err))
+      | inr h ↦ ends_same (with_inputs contents flash) C stream Full old now r write_fault h.0 (front_failed contents flash C stream taken line sent rest last Full old now sel f.end h.1 c.put_beginning.ensures.fits goes c.in-Err-put_beginning.ensures.err)
     ] in
-    let put = c.in-Err-put_front.ensures.err [] (subst AreBytes (sym (append-nil _)) c.put_front.ensures.fits) in
-    let near = unwritten_near contents stream rest old now _ given r (front_near contents stream taken rest old now sel f.few (longer_front old now _ put)) c.in-Err-put_front.ensures.why in
-    list_ends stream (record before { inputs = i.state c.args.inputs.now; out = o.state c.args.out.now }) (record after { inputs = i.state c.read_beginning.new.inputs; out = o.state c.put_front.new.out }) (Err r) (end c.in-Err-put_front.ensures.why) (stays_near r stream (record before { inputs = i.state c.args.inputs.now; out = o.state c.args.out.now }) (record after { inputs = i.state c.read_beginning.new.inputs; out = o.state c.put_front.new.out }) near)
+    let put = c.in-Err-put_beginning.ensures.err [] (subst AreBytes (sym (append-nil _)) c.put_beginning.ensures.fits) in
+    let near = unwritten_near contents stream rest old now _ given r (front_near contents stream taken rest old now sel f.few (longer_front old now _ put)) c.in-Err-put_beginning.ensures.why in
+    list_ends stream (record before { inputs = i.state c.args.inputs.now; out = o.state c.args.out.now }) (record after { inputs = i.state c.read_beginning.new.inputs; out = o.state c.put_beginning.new.out }) (Err r) (end c.in-Err-put_beginning.ensures.why) (stays_near r stream (record before { inputs = i.state c.args.inputs.now; out = o.state c.args.out.now }) (record after { inputs = i.state c.read_beginning.new.inputs; out = o.state c.put_beginning.new.out }) near)
 
 pub returns-then-front : goal.returns-then-front
 returns-then-front g c = λ before after.
@@ -98,25 +98,25 @@ returns-then-front g c = λ before after.
     let goes : (left : List ℕ) → MayFollow last left → stream_listing (taken ++ left) ≡ Ok (line ++ listing_of (sent ++ left)) = λ left m. f.begins left m ∙ ap (λ (l : List ℕ). Ok (l ++ listing_of (drop start taken ++ left))) (sym c.deref.ensures.value) ∙ ap (λ (s : List ℕ). Ok (line ++ listing_of (s ++ left))) (sym cut) in
     let now = (o.state c.put_end.new.out).written in
     let Full : Type 0 = SinkFails (o.state c.args.out.now) (o.state c.put_end.new.out) in
-    let lists : Lists c.put_front.new.lister (appended old line) (o.state c.put_front.new.out).written sent = c.in-Ok-put_front.ensures.ok in
+    let lists : Lists c.put_beginning.new.lister (appended old line) (o.state c.put_beginning.new.out).written sent = c.in-Ok-put_beginning.ensures.ok in
     let same = stream_whole taken line sent (goes [] (λ l. refl)) in
     let flash = before.flash.bytes in
     let ok = on_ok_weaker c.put_end.result (λ h. (line ++ listing_of sent, listed_whole contents flash C stream taken (line ++ listing_of sent) rest Full old now sel (f.end c.if-front.true) same (omega (arith, f.few)) (line_then old now line (listing_of sent) (h (appended old line) sent lists)))) c.put_end.ensures.ok in
-    let err = both_err c.put_end.result (λ r. (first : Option (List ℕ)) (bytes : List ℕ) → Lists c.put_front.new.lister first (o.state c.put_front.new.out).written bytes → PutsFront first (listing_of bytes) now)
-    (λ r. (event_of r ≡ no_memory) ⊎ ((event_of r ≡ write_fault) × SinkFails (o.state c.put_front.new.out) (o.state c.put_end.new.out)))
+    let err = both_err c.put_end.result (λ r. (first : Option (List ℕ)) (bytes : List ℕ) → Lists c.put_beginning.new.lister first (o.state c.put_beginning.new.out).written bytes → PutsPrefix first (listing_of bytes) now)
+    (λ r. (event_of r ≡ no_memory) ⊎ ((event_of r ≡ write_fault) × SinkFails (o.state c.put_beginning.new.out) (o.state c.put_end.new.out)))
     (λ r. Ended (with_inputs contents flash) C stream Full old now (Err (event_of r)))
     (λ r p w.
     let front : PutsListed taken old now = (line ++ listing_of sent, (same, line_front old now line (listing_of sent) (p (appended old line) sent lists))) in
-    let end : (event_of r ≡ no_memory) ⊎ ((event_of r ≡ write_fault) × SinkFails (o.state c.put_front.new.out) (o.state c.put_end.new.out)) → Ended (with_inputs contents flash) C stream Full old now (Err (event_of r))
+    let end : (event_of r ≡ no_memory) ⊎ ((event_of r ≡ write_fault) × SinkFails (o.state c.put_beginning.new.out) (o.state c.put_end.new.out)) → Ended (with_inputs contents flash) C stream Full old now (Err (event_of r))
     = elim [
       | inl h ↦ ends_same (with_inputs contents flash) C stream Full old now (event_of r) no_memory h (out_of_memory contents flash C stream taken rest Full old now sel front)
       | inr h ↦
-          let risen = risen_from (o.state c.args.out.now).faults (o.state c.put_front.new.out).faults (o.state c.put_end.new.out).faults c.put_front.ensures.counts.faults h.1 in
+          let risen = risen_from (o.state c.args.out.now).faults (o.state c.put_beginning.new.out).faults (o.state c.put_end.new.out).faults c.put_beginning.ensures.counts.faults h.1 in
           ends_same (with_inputs contents flash) C stream Full old now (event_of r) write_fault h.0 (end_failed contents flash C stream taken rest Full old now sel (f.end c.if-front.true) risen front)
     ] in
     end w)
     c.put_end.ensures.err c.put_end.ensures.why in
-    let longer = longer_twice old (o.state c.put_front.new.out).written now (lists_longer c.put_front.new.lister old (o.state c.put_front.new.out).written _ _ lists) c.put_end.ensures.longer in
+    let longer = longer_twice old (o.state c.put_beginning.new.out).written now (lists_longer c.put_beginning.new.lister old (o.state c.put_beginning.new.out).written _ _ lists) c.put_end.ensures.longer in
     let near = err_weaker c.put_end.result (λ r w. stays_near (event_of r) stream (record before { inputs = i.state c.args.inputs.now; out = o.state c.args.out.now }) (record after { inputs = i.state c.read_beginning.new.inputs; out = o.state c.put_end.new.out }) (unwritten_near contents stream rest old now _ given (event_of r) (front_near contents stream taken rest old now sel f.few longer) w)) c.put_end.ensures.why in
     list_seen stream (record before { inputs = i.state c.args.inputs.now; out = o.state c.args.out.now }) (record after { inputs = i.state c.read_beginning.new.inputs; out = o.state c.put_end.new.out }) c.put_end.result ok err near
 
@@ -160,7 +160,7 @@ returns-in-Err-put_turn g c = λ before after.
           ends_same (with_inputs contents flash) C stream Full old now r no_memory h.0 (out_of_memory contents flash C stream taken (i.state c.loop-turn.inputs).rest Full old now v.told.1.0 front2)
       | inr h ↦
           let risen = risen_from (o.state c.args.out.now).faults (o.state c.loop-turn.out).faults (o.state c.put_turn.new.out).faults v.written h.1 in
-          let err : (left : List ℕ) → AreBytes (t.sent ++ (piece ++ left)) → PutsFront (appended old t.line) (listing_of (t.sent ++ (piece ++ left))) now
+          let err : (left : List ℕ) → AreBytes (t.sent ++ (piece ++ left)) → PutsPrefix (appended old t.line) (listing_of (t.sent ++ (piece ++ left))) now
           = λ left fits. c.in-Err-put_turn.ensures.err (appended old t.line) t.sent left t.lists fits in
           ends_same (with_inputs contents flash) C stream Full old now r write_fault h.0
           (write_failed contents flash C stream taken piece piece c.loop-turn.lister (i.state c.next_turn.new.inputs).rest Full old (o.state c.loop-turn.out).written now refl sel risen t c.put_turn.ensures.fits err)
@@ -197,7 +197,7 @@ returns-then-turn g c = λ before after.
     let same = stream_whole (taken ++ piece) t.line (t.sent ++ piece) (goes []) in
     let flash = before.flash.bytes in
     let ok = on_ok_weaker c.put_end-then-turn.result (λ h. (text, listed_whole contents flash C stream (taken ++ piece) text (i.state c.next_turn.new.inputs).rest Full old now sel end same short (line_then old now t.line (listing_of (t.sent ++ piece)) (h (appended old t.line) (t.sent ++ piece) lists)))) c.put_end-then-turn.ensures.ok in
-    let err = both_err c.put_end-then-turn.result (λ r. (first : Option (List ℕ)) (bytes : List ℕ) → Lists c.put_turn.new.lister first (o.state c.put_turn.new.out).written bytes → PutsFront first (listing_of bytes) now)
+    let err = both_err c.put_end-then-turn.result (λ r. (first : Option (List ℕ)) (bytes : List ℕ) → Lists c.put_turn.new.lister first (o.state c.put_turn.new.out).written bytes → PutsPrefix first (listing_of bytes) now)
     (λ r. (event_of r ≡ no_memory) ⊎ ((event_of r ≡ write_fault) × SinkFails (o.state c.put_turn.new.out) (o.state c.put_end-then-turn.new.out)))
     (λ r. Ended (with_inputs contents flash) C stream Full old now (Err (event_of r)))
     (λ r p w.

@@ -1,6 +1,6 @@
 use Rattle.std.proofs.Common.{◌≤◌, ◌-◌, ℕ, Bool, List, [], ◌∷◌, drop, length, take, Option, Some, Err, subst, sym, ◌∙◌}
 use Rattle.std.specs.Prelude.{IsTrue}
-use Rattle.x7_words.specs.Flash.{WhereTold}
+use Rattle.x7_words.specs.Flash.{IfKnown}
 use Rattle.x7_boot.specs.Image.{flash_limit}
 use Rattle.x7_update.specs.After.{IsAfter}
 use Rattle.x7_update.specs.Layout.{HasLayout}
@@ -33,7 +33,7 @@ returns-in-Err-read_stream-clause-ends g c = λ before after out.
     let old : Outside = record before { inputs = g.I.Inputs.state c.args.inputs.now; flash = first } in
     let new : Outside = record after { inputs = g.I.Inputs.state c.read_stream.new.inputs; flash = mid } in
     let event = event_of c.in-Err-read_stream.refusal in
-    let within = subst (λ (o : Option (List ℕ)). WhereTold o (λ all. length all ≤ flash_limit)) same c.in-Ok.ensures.within in
+    let within = subst (λ (o : Option (List ℕ)). IfKnown o (λ all. length all ≤ flash_limit)) same c.in-Ok.ensures.within in
     refused_ends c.args.name.now c.args.stream.now old new event out
     (unread_over c.args.name.now c.args.stream.now old new event within (c.in-Err-read_stream.ensures.due first.bytes)) (keeps_all event.reason first mid same)
 
@@ -48,9 +48,9 @@ returns-in-Ok-update-clause-ends g c = λ before after out.
     let same = c.open_flash.ensures.stays.bytes in
     let old : Outside = record before { inputs = i.state c.args.inputs.now; flash = first } in
     let new : Outside = record after { inputs = i.state c.read_stream.new.inputs; flash = last } in
-    let within = subst (λ (o : Option (List ℕ)). WhereTold o (λ all. length all ≤ flash_limit)) same c.in-Ok.ensures.within in
+    let within = subst (λ (o : Option (List ℕ)). IfKnown o (λ all. length all ≤ flash_limit)) same c.in-Ok.ensures.within in
     let has = data_given (with_inputs old.inputs.contents first.bytes) (CameIn (step_over (stream ∷ []) old.inputs new.inputs)) stream (data_from read) bytes (c.in-Ok-read_stream.ensures.due first.bytes) (rest_of c.deref.result.now read.bytes.items read.start c.deref.ensures.value) in
-    let layout = subst (λ (o : Option (List ℕ)). WhereTold o HasLayout) same c.in-Ok-update.ensures.layout in
+    let layout = subst (λ (o : Option (List ℕ)). IfKnown o HasLayout) same c.in-Ok-update.ensures.layout in
     let becomes = subst (λ (o : Option (List ℕ)). BecomesBytes (IsAfter bytes) o last.bytes) same c.in-Ok-update.ensures.updated in
     done_ends c.args.name.now stream bytes old new out within has layout becomes
 
@@ -79,7 +79,7 @@ returns-clause-ends g c = λ before after out.
     let stays = c.open_flash.ensures.stays in
     let old : Outside = record before { inputs = i.state c.args.inputs.now; flash = first } in
     let new : Outside = record after { inputs = i.state c.read_stream.new.inputs; flash = last } in
-    let within = subst (λ (o : Option (List ℕ)). WhereTold o (λ all. length all ≤ flash_limit)) stays.bytes c.in-Ok.ensures.within in
+    let within = subst (λ (o : Option (List ℕ)). IfKnown o (λ all. length all ≤ flash_limit)) stays.bytes c.in-Ok.ensures.within in
     let has = data_given (with_inputs old.inputs.contents first.bytes) (CameIn (step_over (stream ∷ []) old.inputs new.inputs)) stream (data_from read) bytes (c.in-Ok-read_stream.ensures.due first.bytes) (rest_of c.deref.result.now read.bytes.items read.start c.deref.ensures.value) in
     let asked = subst (λ (names : List ℕ → Bool). IsTrue (names name)) (sym c.update.ensures.only.names) c.open_flash.ensures.asks.asked in
     let cause = cause_from bytes first mid last c.in-Err-update.fault stays.bytes stays.unwritten.write_faults stays.faults c.in-Err-update.ensures.refused in

@@ -1,5 +1,5 @@
 use Rattle.std.proofs.Common.{◌≡◌, ◌+◌, ◌≤◌, ℕ, List, Some, length, refl, sym, ◌∙◌, arith}
-use Rattle.x7_words.specs.Flash.{WhereTold}
+use Rattle.x7_words.specs.Flash.{IfKnown}
 use Rattle.x7_update.specs.After.{MayBeLeft, untouched}
 use Rattle.x7_update.specs.Layout.{HasLayout, IsFree}
 use Rattle.x7_update.specs.Slots.{Finds}
@@ -14,7 +14,7 @@ returns-in-Err-clause-refused g c = c.in-Err.ensures.fault c.args.stream.now
 pub returns-clause-layout : goal.returns-clause-layout
 returns-clause-layout g c =
     let told = (g.F.Flash.state c.args.flash.now).bytes in
-    on_ok (WhereTold told HasLayout) c.finish.result
+    on_ok (IfKnown told HasLayout) c.finish.result
     (told_map told (λ all. Finds (length all) all c.in-Ok-find_slots.slots) HasLayout (λ all e finds. record { size = finds.sized; slots = finds.has }) c.in-Ok-find_slots.ensures.finds)
 
 pub finish-requires-clause-written : goal.finish-requires-clause-written

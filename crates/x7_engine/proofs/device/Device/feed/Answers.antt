@@ -4,7 +4,7 @@ use Rattle.x7_engine.specs.UntilRead.{RoomBefore}
 use Rattle.x7_engine.specs.declared.fed.Fed.{Fed}
 use Rattle.x7_engine.specs.declared.stop.Stop.{Stop}
 use Rattle.x7_engine.specs.ReadBuffer.{with_words}
-use Rattle.x7_engine.specs.Standing.{Answers, DeviceStandsFor, DeviceState, NoWordDue, fed_by, taken_in, told_of}
+use Rattle.x7_engine.specs.Standing.{Answers, DeviceStandsFor, DeviceState, NoWordDue, fed_by, taken_in, reads_given}
 use Rattle.x7_engine.specs.Stops.{stopped_at}
 use Rattle.x7_engine.proofs.FeedLemmas.{answers_stop, now_told, read_here, stands_on, taken_by_stop, words_none}
 use Rattle.x7_engine.proofs.UntilReadLemmas.{room_read_on}
@@ -18,7 +18,7 @@ runs-init c = record {
   taken = omega arith;
   fits = omega (arith, c.requires);
   stands = λ part kept wrapped bytes s. subst (λ (b : List ℕ). DeviceStandsFor part kept wrapped c.args.self.now b) (sym (append-nil bytes)) s;
-  reads = λ part kept wrapped bytes s. ([], words_none c.args.read.now, ap (told_of part kept c.args.self.now) (append-nil bytes) ∙ sym (append-nil (told_of part kept c.args.self.now bytes)));
+  reads = λ part kept wrapped bytes s. ([], words_none c.args.read.now, ap (reads_given part kept c.args.self.now) (append-nil bytes) ∙ sym (append-nil (reads_given part kept c.args.self.now bytes)));
   first = λ part kept wrapped bytes s k l. absurd (omega (arith, l));
   stopped = λ e. (refl, refl, refl);
 }
@@ -41,13 +41,13 @@ returns-in-Some-clause-reads c = λ part kept wrapped bytes s.
     let piece : List ℕ = c.args.piece.now in
     let count : taken_in (length piece) c.stopped.result ≡ c.runs.at = ap (taken_in (length piece)) c.stopped.ensures ∙ taken_by_stop c.in-Some.stop (length piece) c.runs.at in
     let told = c.runs.invariant.reads part kept wrapped bytes s in
-    (told.0, told.1, ap (λ (k : ℕ). told_of part kept c.runs.self (bytes ++ take k piece)) count ∙ told.2)
+    (told.0, told.1, ap (λ (k : ℕ). reads_given part kept c.runs.self (bytes ++ take k piece)) count ∙ told.2)
 
 pub returns-in-Some-clause-first : goal.returns-in-Some-clause-first
 returns-in-Some-clause-first c = λ part kept wrapped bytes s.
     let piece : List ℕ = c.args.piece.now in
     let count : taken_in (length piece) c.stopped.result ≡ c.runs.at = ap (taken_in (length piece)) c.stopped.ensures ∙ taken_by_stop c.in-Some.stop (length piece) c.runs.at in
-    subst (λ (k : ℕ). RoomBefore (record { part = part; kept = kept; wrapped = wrapped; bytes = bytes }) piece k (told_of part kept c.args.self.now bytes) c.args.read.now) (sym count) (c.runs.invariant.first part kept wrapped bytes s)
+    subst (λ (k : ℕ). RoomBefore (record { part = part; kept = kept; wrapped = wrapped; bytes = bytes }) piece k (reads_given part kept c.args.self.now bytes) c.args.read.now) (sym count) (c.runs.invariant.first part kept wrapped bytes s)
 
 pub returns-then-not-give-clause-stands : goal.returns-then-not-give-clause-stands
 returns-then-not-give-clause-stands c = λ part kept wrapped bytes s.
@@ -56,18 +56,18 @@ returns-then-not-give-clause-stands c = λ part kept wrapped bytes s.
 pub returns-then-not-give-clause-reads : goal.returns-then-not-give-clause-reads
 returns-then-not-give-clause-reads c = λ part kept wrapped bytes s.
     let taken : List ℕ = bytes ++ take c.runs.at c.args.piece.now in
-    now_told part kept wrapped c.runs.self c.give.new.self c.args.read.now c.runs.read c.give.new.read taken (told_of part kept c.args.self.now bytes)
+    now_told part kept wrapped c.runs.self c.give.new.self c.args.read.now c.runs.read c.give.new.read taken (reads_given part kept c.args.self.now bytes)
     (c.give.ensures.given part kept wrapped taken (c.runs.invariant.stands part kept wrapped bytes s)) (c.runs.invariant.reads part kept wrapped bytes s)
 
 pub returns-then-turn-clause-first : goal.returns-then-turn-clause-first
 returns-then-turn-clause-first c = λ part kept wrapped bytes s.
-    subst (λ (k : ℕ). RoomBefore (record { part = part; kept = kept; wrapped = wrapped; bytes = bytes }) c.args.piece.now k (told_of part kept c.args.self.now bytes) c.args.read.now) (c.turn.ensures.used_up c.if-turn.true).0 (
+    subst (λ (k : ℕ). RoomBefore (record { part = part; kept = kept; wrapped = wrapped; bytes = bytes }) c.args.piece.now k (reads_given part kept c.args.self.now bytes) c.args.read.now) (c.turn.ensures.used_up c.if-turn.true).0 (
     let taken : List ℕ = bytes ++ take c.runs.at c.args.piece.now in
     let gives = c.give.ensures.given part kept wrapped taken (c.runs.invariant.stands part kept wrapped bytes s) in
     let due : NoWordDue c.give.new.self = c.give.ensures.none_left.0 c.if-not-give.false in
-    room_read_on part kept wrapped c.give.new.self c.turn.new.self c.args.read.now c.give.new.read bytes c.args.piece.now (told_of part kept c.args.self.now bytes) c.runs.at c.turn.new.at c.turn.ensures.forward c.turn.ensures.within
+    room_read_on part kept wrapped c.give.new.self c.turn.new.self c.args.read.now c.give.new.read bytes c.args.piece.now (reads_given part kept c.args.self.now bytes) c.runs.at c.turn.new.at c.turn.ensures.forward c.turn.ensures.within
     c.give.ensures.going due gives.stands (c.turn.ensures.stands part kept wrapped taken gives.stands) (c.turn.ensures.commands part kept wrapped taken gives.stands) c.holds_few.ensures
-    (now_told part kept wrapped c.runs.self c.give.new.self c.args.read.now c.runs.read c.give.new.read taken (told_of part kept c.args.self.now bytes) gives (c.runs.invariant.reads part kept wrapped bytes s))
+    (now_told part kept wrapped c.runs.self c.give.new.self c.args.read.now c.runs.read c.give.new.read taken (reads_given part kept c.args.self.now bytes) gives (c.runs.invariant.reads part kept wrapped bytes s))
     (c.runs.invariant.first part kept wrapped bytes s))
 
 pub returns-then-turn-clause-stands : goal.returns-then-turn-clause-stands
@@ -89,10 +89,10 @@ pub returns-then-turn-clause-reads : goal.returns-then-turn-clause-reads
 returns-then-turn-clause-reads c = λ part kept wrapped bytes s.
     let piece : List ℕ = c.args.piece.now in
     let used = c.turn.ensures.used_up c.if-turn.true in
-    let told : (more : List ℕ) × (c.give.new.read ≡ with_words c.args.read.now more) × (told_of part kept c.turn.new.self (bytes ++ take c.turn.new.at piece) ≡ told_of part kept c.args.self.now bytes ++ more) =
-    read_here part kept wrapped c.runs.self c.give.new.self c.turn.new.self c.args.read.now c.runs.read c.give.new.read bytes piece (told_of part kept c.args.self.now bytes) c.runs.at c.turn.new.at
+    let told : (more : List ℕ) × (c.give.new.read ≡ with_words c.args.read.now more) × (reads_given part kept c.turn.new.self (bytes ++ take c.turn.new.at piece) ≡ reads_given part kept c.args.self.now bytes ++ more) =
+    read_here part kept wrapped c.runs.self c.give.new.self c.turn.new.self c.args.read.now c.runs.read c.give.new.read bytes piece (reads_given part kept c.args.self.now bytes) c.runs.at c.turn.new.at
     (c.give.ensures.given part kept wrapped (bytes ++ take c.runs.at piece) (c.runs.invariant.stands part kept wrapped bytes s)) c.turn.ensures.forward (c.turn.ensures.told part kept wrapped) (c.runs.invariant.reads part kept wrapped bytes s) in
-    (told.0, told.1, ap (λ (k : ℕ). told_of part kept c.turn.new.self (bytes ++ take k piece)) (sym used.0) ∙ told.2)
+    (told.0, told.1, ap (λ (k : ℕ). reads_given part kept c.turn.new.self (bytes ++ take k piece)) (sym used.0) ∙ told.2)
 
 pub runs-preserved : goal.runs-preserved
 runs-preserved c =
@@ -108,15 +108,15 @@ runs-preserved c =
           stands_on part kept wrapped c.give.new.self c.turn.new.self bytes piece c.runs.at c.turn.new.at c.turn.ensures.forward (c.turn.ensures.stands part kept wrapped)
           (c.give.ensures.given part kept wrapped (bytes ++ take c.runs.at piece) (c.runs.invariant.stands part kept wrapped bytes s)).stands;
       reads = λ part kept wrapped bytes s.
-          read_here part kept wrapped c.runs.self c.give.new.self c.turn.new.self c.args.read.now c.runs.read c.give.new.read bytes piece (told_of part kept c.args.self.now bytes) c.runs.at c.turn.new.at
+          read_here part kept wrapped c.runs.self c.give.new.self c.turn.new.self c.args.read.now c.runs.read c.give.new.read bytes piece (reads_given part kept c.args.self.now bytes) c.runs.at c.turn.new.at
           (c.give.ensures.given part kept wrapped (bytes ++ take c.runs.at piece) (c.runs.invariant.stands part kept wrapped bytes s)) c.turn.ensures.forward (c.turn.ensures.told part kept wrapped) (c.runs.invariant.reads part kept wrapped bytes s);
       first = λ part kept wrapped bytes s. (
           let taken : List ℕ = bytes ++ take c.runs.at c.args.piece.now in
           let gives = c.give.ensures.given part kept wrapped taken (c.runs.invariant.stands part kept wrapped bytes s) in
           let due : NoWordDue c.give.new.self = c.give.ensures.none_left.0 c.if-not-give.false in
-          room_read_on part kept wrapped c.give.new.self c.turn.new.self c.args.read.now c.give.new.read bytes c.args.piece.now (told_of part kept c.args.self.now bytes) c.runs.at c.turn.new.at c.turn.ensures.forward c.turn.ensures.within
+          room_read_on part kept wrapped c.give.new.self c.turn.new.self c.args.read.now c.give.new.read bytes c.args.piece.now (reads_given part kept c.args.self.now bytes) c.runs.at c.turn.new.at c.turn.ensures.forward c.turn.ensures.within
           c.give.ensures.going due gives.stands (c.turn.ensures.stands part kept wrapped taken gives.stands) (c.turn.ensures.commands part kept wrapped taken gives.stands) c.holds_few.ensures
-          (now_told part kept wrapped c.runs.self c.give.new.self c.args.read.now c.runs.read c.give.new.read taken (told_of part kept c.args.self.now bytes) gives (c.runs.invariant.reads part kept wrapped bytes s))
+          (now_told part kept wrapped c.runs.self c.give.new.self c.args.read.now c.runs.read c.give.new.read taken (reads_given part kept c.args.self.now bytes) gives (c.runs.invariant.reads part kept wrapped bytes s))
           (c.runs.invariant.first part kept wrapped bytes s));
       stopped = λ e. absurd (let none : true ≡ false = sym e ∙ ap (λ (d : DeviceState). is_some d.registers.stop) (sym (c.runs.invariant.stopped e).0) ∙ sym (ap (λ (o : Option Stop). is_some o) c.in_default.ensures) in cc);
     }

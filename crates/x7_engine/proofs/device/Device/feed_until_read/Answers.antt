@@ -2,7 +2,7 @@ use Rattle.std.proofs.Common.{◌≡◌, ◌+◌, ◌++◌, ℕ, true, false, Op
 use Rattle.std.specs.Option.{is_some}
 use Rattle.x7_engine.specs.declared.fed.Fed.{Fed}
 use Rattle.x7_engine.specs.declared.stop.Stop.{Stop}
-use Rattle.x7_engine.specs.Standing.{Answers, DeviceStandsFor, DeviceState, NoWordDue, fed_by, fed_more, taken_in, told_of}
+use Rattle.x7_engine.specs.Standing.{Answers, DeviceStandsFor, DeviceState, NoWordDue, fed_by, fed_more, taken_in, reads_given}
 use Rattle.x7_engine.specs.Stops.{stopped_at}
 use Rattle.x7_engine.specs.UntilRead.{ReadBefore, no_room}
 use Rattle.x7_engine.proofs.FeedLemmas.{answers_stop, stands_on, taken_by_stop, told_on}
@@ -17,7 +17,7 @@ runs-init c = record {
   taken = omega arith;
   fits = omega (arith, c.requires);
   stands = λ part kept wrapped bytes s. subst (λ (b : List ℕ). DeviceStandsFor part kept wrapped c.args.self.now b) (sym (append-nil bytes)) s;
-  told = λ part kept wrapped bytes s. ap (told_of part kept c.args.self.now) (append-nil bytes);
+  told = λ part kept wrapped bytes s. ap (reads_given part kept c.args.self.now) (append-nil bytes);
   first = λ part kept wrapped bytes s k l. absurd (omega (arith, l));
   stopped = λ e. (refl, refl);
 }
@@ -46,11 +46,11 @@ returns-in-Some-clause-stands c = λ part kept wrapped bytes s.
 
 pub returns-in-Some-clause-told : goal.returns-in-Some-clause-told
 returns-in-Some-clause-told c = λ part kept wrapped bytes s.
-    ap (λ (k : ℕ). told_of part kept c.runs.self (bytes ++ take k c.args.piece.now)) (stop_count c) ∙ c.runs.invariant.told part kept wrapped bytes s
+    ap (λ (k : ℕ). reads_given part kept c.runs.self (bytes ++ take k c.args.piece.now)) (stop_count c) ∙ c.runs.invariant.told part kept wrapped bytes s
 
 pub returns-in-Some-clause-first : goal.returns-in-Some-clause-first
 returns-in-Some-clause-first c = λ part kept wrapped bytes s.
-    subst (λ (k : ℕ). ReadBefore (record { part = part; kept = kept; wrapped = wrapped; bytes = bytes }) c.args.piece.now k (told_of part kept c.args.self.now bytes)) (sym (stop_count c)) (c.runs.invariant.first part kept wrapped bytes s)
+    subst (λ (k : ℕ). ReadBefore (record { part = part; kept = kept; wrapped = wrapped; bytes = bytes }) c.args.piece.now k (reads_given part kept c.args.self.now bytes)) (sym (stop_count c)) (c.runs.invariant.first part kept wrapped bytes s)
 
 -- ---- a turn
 
@@ -77,17 +77,17 @@ returns-then-turn-clause-answer c = λ part kept wrapped bytes s.
 pub returns-then-turn-clause-told : goal.returns-then-turn-clause-told
 returns-then-turn-clause-told c = λ part kept wrapped bytes s.
     let used = c.turn.ensures.used_up c.if-turn.true in
-    ap (λ (k : ℕ). told_of part kept c.turn.new.self (bytes ++ take k c.args.piece.now)) (sym used.0) ∙ (told_on part kept wrapped c.runs.self c.turn.new.self bytes c.args.piece.now c.runs.at c.turn.new.at c.turn.ensures.forward (c.turn.ensures.told part kept wrapped) (c.runs.invariant.stands part kept wrapped bytes s)
+    ap (λ (k : ℕ). reads_given part kept c.turn.new.self (bytes ++ take k c.args.piece.now)) (sym used.0) ∙ (told_on part kept wrapped c.runs.self c.turn.new.self bytes c.args.piece.now c.runs.at c.turn.new.at c.turn.ensures.forward (c.turn.ensures.told part kept wrapped) (c.runs.invariant.stands part kept wrapped bytes s)
     ∙ c.runs.invariant.told part kept wrapped bytes s)
 
 pub returns-then-turn-clause-first : goal.returns-then-turn-clause-first
 returns-then-turn-clause-first c = λ part kept wrapped bytes s.
     let used = c.turn.ensures.used_up c.if-turn.true in
-    subst (λ (k : ℕ). ReadBefore (record { part = part; kept = kept; wrapped = wrapped; bytes = bytes }) c.args.piece.now k (told_of part kept c.args.self.now bytes)) used.0 (
+    subst (λ (k : ℕ). ReadBefore (record { part = part; kept = kept; wrapped = wrapped; bytes = bytes }) c.args.piece.now k (reads_given part kept c.args.self.now bytes)) used.0 (
     let taken : List ℕ = bytes ++ take c.runs.at c.args.piece.now in
     let here : DeviceStandsFor part kept wrapped c.runs.self taken = c.runs.invariant.stands part kept wrapped bytes s in
     let due : NoWordDue c.runs.self = grind (arith, c.has_word_due.ensures, c.if-has_word_due.false) in
-    none_read_on part kept wrapped c.runs.self c.turn.new.self bytes c.args.piece.now (told_of part kept c.args.self.now bytes) c.runs.at c.turn.new.at c.turn.ensures.forward c.turn.ensures.within (sym c.in_default.ensures) due
+    none_read_on part kept wrapped c.runs.self c.turn.new.self bytes c.args.piece.now (reads_given part kept c.args.self.now bytes) c.runs.at c.turn.new.at c.turn.ensures.forward c.turn.ensures.within (sym c.in_default.ensures) due
     here (c.turn.ensures.stands part kept wrapped taken here) (c.turn.ensures.commands part kept wrapped taken here) (c.runs.invariant.told part kept wrapped bytes s) (c.runs.invariant.first part kept wrapped bytes s))
 
 pub runs-preserved : goal.runs-preserved
@@ -107,7 +107,7 @@ runs-preserved c =
           let taken : List ℕ = bytes ++ take c.runs.at c.args.piece.now in
           let here : DeviceStandsFor part kept wrapped c.runs.self taken = c.runs.invariant.stands part kept wrapped bytes s in
           let due : NoWordDue c.runs.self = grind (arith, c.has_word_due.ensures, c.if-has_word_due.false) in
-          none_read_on part kept wrapped c.runs.self c.turn.new.self bytes c.args.piece.now (told_of part kept c.args.self.now bytes) c.runs.at c.turn.new.at c.turn.ensures.forward c.turn.ensures.within (sym c.in_default.ensures) due
+          none_read_on part kept wrapped c.runs.self c.turn.new.self bytes c.args.piece.now (reads_given part kept c.args.self.now bytes) c.runs.at c.turn.new.at c.turn.ensures.forward c.turn.ensures.within (sym c.in_default.ensures) due
           here (c.turn.ensures.stands part kept wrapped taken here) (c.turn.ensures.commands part kept wrapped taken here) (c.runs.invariant.told part kept wrapped bytes s) (c.runs.invariant.first part kept wrapped bytes s));
       stopped = λ e. absurd (let none : true ≡ false = sym e ∙ ap (λ (d : DeviceState). is_some d.registers.stop) (sym (c.runs.invariant.stopped e).0) ∙ sym (ap (λ (o : Option Stop). is_some o) c.in_default.ensures) in cc);
     }

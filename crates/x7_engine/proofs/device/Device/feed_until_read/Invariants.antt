@@ -3,7 +3,7 @@ use Rattle.std.specs.Option.{is_some}
 use Rattle.x7_packets.specs.Cutting.{calls_left}
 use Rattle.x7_part.specs.Part.{PartData}
 use Rattle.x7_engine.specs.declared.kept.Kept.{Kept}
-use Rattle.x7_engine.specs.Standing.{DeviceStandsFor, fed_more, fed_of, told_of}
+use Rattle.x7_engine.specs.Standing.{DeviceStandsFor, fed_more, fed_of, reads_given}
 use Rattle.x7_engine.specs.UntilRead.{ReadBefore}
 use Rattle.x7_engine.proofs.device.Device.feed_until_read.Given as goal
 
@@ -16,9 +16,9 @@ invariant-runs l = record {
   fits : l.self.taken + (length l.piece - l.at) ≤ 2 ^ 63;
   stands : (part : PartData) (kept : Kept) (wrapped : Bool) (bytes : List ℕ) → DeviceStandsFor part kept wrapped l.initial.self bytes → DeviceStandsFor part kept wrapped l.self (bytes ++ take l.at l.piece);
   told : (part : PartData) (kept : Kept) (wrapped : Bool) (bytes : List ℕ) → DeviceStandsFor part kept wrapped l.initial.self bytes
-      → told_of part kept l.self (bytes ++ take l.at l.piece) ≡ told_of part kept l.initial.self bytes;
+      → reads_given part kept l.self (bytes ++ take l.at l.piece) ≡ reads_given part kept l.initial.self bytes;
   first : (part : PartData) (kept : Kept) (wrapped : Bool) (bytes : List ℕ) → DeviceStandsFor part kept wrapped l.initial.self bytes
-      → ReadBefore (record { part = part; kept = kept; wrapped = wrapped; bytes = bytes }) l.piece l.at (told_of part kept l.initial.self bytes);
+      → ReadBefore (record { part = part; kept = kept; wrapped = wrapped; bytes = bytes }) l.piece l.at (reads_given part kept l.initial.self bytes);
   stopped : is_some l.initial.self.registers.stop ≡ true → (l.self ≡ l.initial.self) × (l.at ≡ 0);
 }
 

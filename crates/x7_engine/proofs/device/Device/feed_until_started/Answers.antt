@@ -4,7 +4,7 @@ use Rattle.x7_engine.specs.UntilRead.{RoomBefore}
 use Rattle.x7_engine.specs.declared.fed.Fed.TheVariants as fed
 use Rattle.x7_engine.specs.declared.stop.Stop.{Stop}
 use Rattle.x7_engine.specs.ReadBuffer.{with_words}
-use Rattle.x7_engine.specs.Standing.{Answers, DeviceStandsFor, DeviceState, NoWordDue, taken_in, told_of}
+use Rattle.x7_engine.specs.Standing.{Answers, DeviceStandsFor, DeviceState, NoWordDue, taken_in, reads_given}
 use Rattle.x7_engine.specs.Stops.{stopped_at}
 use Rattle.x7_engine.specs.UntilStarted.{AnswersUntil, NoneStarted, has_started, says_started, taken_until}
 use Rattle.x7_engine.proofs.FeedLemmas.{answers_stop, now_told, read_here, stands_on, taken_by_stop, words_none}
@@ -21,7 +21,7 @@ runs-init c = record {
   fits = omega (arith, c.requires);
   stands = λ part kept wrapped bytes s. subst (λ (b : List ℕ). DeviceStandsFor part kept wrapped c.args.self.now b) (sym (append-nil bytes)) s;
   first = λ part kept wrapped bytes s k l. absurd (omega (arith, l));
-  reads = λ part kept wrapped bytes s. ([], words_none c.args.read.now, ap (told_of part kept c.args.self.now) (append-nil bytes) ∙ sym (append-nil (told_of part kept c.args.self.now bytes)));
+  reads = λ part kept wrapped bytes s. ([], words_none c.args.read.now, ap (reads_given part kept c.args.self.now) (append-nil bytes) ∙ sym (append-nil (reads_given part kept c.args.self.now bytes)));
   room = λ part kept wrapped bytes s k l. absurd (omega (arith, l));
   stopped = λ e. (refl, refl, refl);
 }
@@ -59,11 +59,11 @@ returns-in-Some-clause-answer c = λ part kept wrapped bytes s.
 pub returns-in-Some-clause-reads : goal.returns-in-Some-clause-reads
 returns-in-Some-clause-reads c = λ part kept wrapped bytes s.
     let told = c.runs.invariant.reads part kept wrapped bytes s in
-    (told.0, told.1, ap (λ (k : ℕ). told_of part kept c.runs.self (bytes ++ take k c.args.piece.now)) (stop_count c) ∙ told.2)
+    (told.0, told.1, ap (λ (k : ℕ). reads_given part kept c.runs.self (bytes ++ take k c.args.piece.now)) (stop_count c) ∙ told.2)
 
 pub returns-in-Some-clause-room : goal.returns-in-Some-clause-room
 returns-in-Some-clause-room c = λ part kept wrapped bytes s.
-    subst (λ (k : ℕ). RoomBefore (record { part = part; kept = kept; wrapped = wrapped; bytes = bytes }) c.args.piece.now k (told_of part kept c.args.self.now bytes) c.args.read.now) (sym (stop_count c)) (c.runs.invariant.room part kept wrapped bytes s)
+    subst (λ (k : ℕ). RoomBefore (record { part = part; kept = kept; wrapped = wrapped; bytes = bytes }) c.args.piece.now k (reads_given part kept c.args.self.now bytes) c.args.read.now) (sym (stop_count c)) (c.runs.invariant.room part kept wrapped bytes s)
 
 -- ---- words due
 
@@ -74,7 +74,7 @@ returns-then-not-give-clause-stands c = λ part kept wrapped bytes s.
 pub returns-then-not-give-clause-reads : goal.returns-then-not-give-clause-reads
 returns-then-not-give-clause-reads c = λ part kept wrapped bytes s.
     let taken : List ℕ = bytes ++ take c.runs.at c.args.piece.now in
-    now_told part kept wrapped c.runs.self c.give.new.self c.args.read.now c.runs.read c.give.new.read taken (told_of part kept c.args.self.now bytes)
+    now_told part kept wrapped c.runs.self c.give.new.self c.args.read.now c.runs.read c.give.new.read taken (reads_given part kept c.args.self.now bytes)
     (c.give.ensures.given part kept wrapped taken (c.runs.invariant.stands part kept wrapped bytes s)) (c.runs.invariant.reads part kept wrapped bytes s)
 
 -- ---- startup has ended
@@ -91,7 +91,7 @@ returns-then-started-clause-started c = λ part kept wrapped bytes s due.
 pub returns-then-started-clause-reads : goal.returns-then-started-clause-reads
 returns-then-started-clause-reads c = λ part kept wrapped bytes s.
     let taken : List ℕ = bytes ++ take c.runs.at c.args.piece.now in
-    now_told part kept wrapped c.runs.self c.give.new.self c.args.read.now c.runs.read c.give.new.read taken (told_of part kept c.args.self.now bytes)
+    now_told part kept wrapped c.runs.self c.give.new.self c.args.read.now c.runs.read c.give.new.read taken (reads_given part kept c.args.self.now bytes)
     (c.give.ensures.given part kept wrapped taken (c.runs.invariant.stands part kept wrapped bytes s)) (c.runs.invariant.reads part kept wrapped bytes s)
 
 -- ---- the piece is used up
@@ -153,23 +153,23 @@ returns-then-turn_until_started-clause-reads c = λ part kept wrapped bytes s.
     let at : ℕ = c.turn_until_started.new.at in
     let used = c.turn_until_started.ensures.used_up c.if-turn_until_started.true in
     let count : taken_until (length piece) c.answer-then-turn_until_started.result ≡ at = count_is c.answer-then-turn_until_started.result c.started-then-turn_until_started.result fed.All (length piece) at c.answer-then-turn_until_started.ensures (sym used.0) in
-    let told : (more : List ℕ) × (c.give.new.read ≡ with_words c.args.read.now more) × (told_of part kept c.turn_until_started.new.self (bytes ++ take at piece) ≡ told_of part kept c.args.self.now bytes ++ more) =
-    read_here part kept wrapped c.runs.self c.give.new.self c.turn_until_started.new.self c.args.read.now c.runs.read c.give.new.read bytes piece (told_of part kept c.args.self.now bytes) c.runs.at at
+    let told : (more : List ℕ) × (c.give.new.read ≡ with_words c.args.read.now more) × (reads_given part kept c.turn_until_started.new.self (bytes ++ take at piece) ≡ reads_given part kept c.args.self.now bytes ++ more) =
+    read_here part kept wrapped c.runs.self c.give.new.self c.turn_until_started.new.self c.args.read.now c.runs.read c.give.new.read bytes piece (reads_given part kept c.args.self.now bytes) c.runs.at at
     (c.give.ensures.given part kept wrapped (bytes ++ take c.runs.at piece) (c.runs.invariant.stands part kept wrapped bytes s)) c.turn_until_started.ensures.forward (c.turn_until_started.ensures.told part kept wrapped) (c.runs.invariant.reads part kept wrapped bytes s) in
-    (told.0, told.1, ap (λ (k : ℕ). told_of part kept c.turn_until_started.new.self (bytes ++ take k piece)) count ∙ told.2)
+    (told.0, told.1, ap (λ (k : ℕ). reads_given part kept c.turn_until_started.new.self (bytes ++ take k piece)) count ∙ told.2)
 
 pub returns-then-turn_until_started-clause-room : goal.returns-then-turn_until_started-clause-room
 returns-then-turn_until_started-clause-room c = λ part kept wrapped bytes s.
     let piece : List ℕ = c.args.piece.now in
     let used = c.turn_until_started.ensures.used_up c.if-turn_until_started.true in
     let count : taken_until (length piece) c.answer-then-turn_until_started.result ≡ c.turn_until_started.new.at = count_is c.answer-then-turn_until_started.result c.started-then-turn_until_started.result fed.All (length piece) c.turn_until_started.new.at c.answer-then-turn_until_started.ensures (sym used.0) in
-    subst (λ (k : ℕ). RoomBefore (record { part = part; kept = kept; wrapped = wrapped; bytes = bytes }) piece k (told_of part kept c.args.self.now bytes) c.args.read.now) (sym count) (
+    subst (λ (k : ℕ). RoomBefore (record { part = part; kept = kept; wrapped = wrapped; bytes = bytes }) piece k (reads_given part kept c.args.self.now bytes) c.args.read.now) (sym count) (
     let taken : List ℕ = bytes ++ take c.runs.at c.args.piece.now in
     let gives = c.give.ensures.given part kept wrapped taken (c.runs.invariant.stands part kept wrapped bytes s) in
     let due : NoWordDue c.give.new.self = c.give.ensures.none_left.0 c.if-not-give.false in
-    room_read_on part kept wrapped c.give.new.self c.turn_until_started.new.self c.args.read.now c.give.new.read bytes c.args.piece.now (told_of part kept c.args.self.now bytes) c.runs.at c.turn_until_started.new.at c.turn_until_started.ensures.forward c.turn_until_started.ensures.within
+    room_read_on part kept wrapped c.give.new.self c.turn_until_started.new.self c.args.read.now c.give.new.read bytes c.args.piece.now (reads_given part kept c.args.self.now bytes) c.runs.at c.turn_until_started.new.at c.turn_until_started.ensures.forward c.turn_until_started.ensures.within
     c.give.ensures.going due gives.stands (c.turn_until_started.ensures.stands part kept wrapped taken gives.stands) (c.turn_until_started.ensures.commands part kept wrapped taken gives.stands) c.holds_few.ensures
-    (now_told part kept wrapped c.runs.self c.give.new.self c.args.read.now c.runs.read c.give.new.read taken (told_of part kept c.args.self.now bytes) gives (c.runs.invariant.reads part kept wrapped bytes s))
+    (now_told part kept wrapped c.runs.self c.give.new.self c.args.read.now c.runs.read c.give.new.read taken (reads_given part kept c.args.self.now bytes) gives (c.runs.invariant.reads part kept wrapped bytes s))
     (c.runs.invariant.room part kept wrapped bytes s))
 
 -- ---- a turn more
@@ -194,15 +194,15 @@ runs-preserved c =
           let not : has_started part kept taken ≡ false = sym (c.started-in-runs.ensures part kept wrapped taken given.stands) ∙ c.if-started.false in
           none_on part kept bytes piece c.runs.at at c.turn_until_started.ensures.forward (c.runs.invariant.first part kept wrapped bytes s) (c.turn_until_started.ensures.first part kept wrapped taken given.stands not);
       reads = λ part kept wrapped bytes s.
-          read_here part kept wrapped c.runs.self c.give.new.self c.turn_until_started.new.self c.args.read.now c.runs.read c.give.new.read bytes piece (told_of part kept c.args.self.now bytes) c.runs.at at
+          read_here part kept wrapped c.runs.self c.give.new.self c.turn_until_started.new.self c.args.read.now c.runs.read c.give.new.read bytes piece (reads_given part kept c.args.self.now bytes) c.runs.at at
           (c.give.ensures.given part kept wrapped (bytes ++ take c.runs.at piece) (c.runs.invariant.stands part kept wrapped bytes s)) c.turn_until_started.ensures.forward (c.turn_until_started.ensures.told part kept wrapped) (c.runs.invariant.reads part kept wrapped bytes s);
       room = λ part kept wrapped bytes s. (
           let taken : List ℕ = bytes ++ take c.runs.at c.args.piece.now in
           let gives = c.give.ensures.given part kept wrapped taken (c.runs.invariant.stands part kept wrapped bytes s) in
           let due : NoWordDue c.give.new.self = c.give.ensures.none_left.0 c.if-not-give.false in
-          room_read_on part kept wrapped c.give.new.self c.turn_until_started.new.self c.args.read.now c.give.new.read bytes c.args.piece.now (told_of part kept c.args.self.now bytes) c.runs.at c.turn_until_started.new.at c.turn_until_started.ensures.forward c.turn_until_started.ensures.within
+          room_read_on part kept wrapped c.give.new.self c.turn_until_started.new.self c.args.read.now c.give.new.read bytes c.args.piece.now (reads_given part kept c.args.self.now bytes) c.runs.at c.turn_until_started.new.at c.turn_until_started.ensures.forward c.turn_until_started.ensures.within
           c.give.ensures.going due gives.stands (c.turn_until_started.ensures.stands part kept wrapped taken gives.stands) (c.turn_until_started.ensures.commands part kept wrapped taken gives.stands) c.holds_few.ensures
-          (now_told part kept wrapped c.runs.self c.give.new.self c.args.read.now c.runs.read c.give.new.read taken (told_of part kept c.args.self.now bytes) gives (c.runs.invariant.reads part kept wrapped bytes s))
+          (now_told part kept wrapped c.runs.self c.give.new.self c.args.read.now c.runs.read c.give.new.read taken (reads_given part kept c.args.self.now bytes) gives (c.runs.invariant.reads part kept wrapped bytes s))
           (c.runs.invariant.room part kept wrapped bytes s));
       stopped = λ e. absurd (let none : true ≡ false = sym e ∙ ap (λ (d : DeviceState). is_some d.registers.stop) (sym (c.runs.invariant.stopped e).0) ∙ sym (ap (λ (o : Option Stop). is_some o) c.in_default.ensures) in cc);
     }

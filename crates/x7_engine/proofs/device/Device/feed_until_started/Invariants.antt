@@ -5,7 +5,7 @@ use Rattle.x7_part.specs.Part.{PartData}
 use Rattle.x7_engine.specs.UntilRead.{RoomBefore}
 use Rattle.x7_engine.specs.declared.kept.Kept.{Kept}
 use Rattle.x7_engine.specs.ReadBuffer.{with_words}
-use Rattle.x7_engine.specs.Standing.{DeviceStandsFor, fed_more, fed_of, told_of}
+use Rattle.x7_engine.specs.Standing.{DeviceStandsFor, fed_more, fed_of, reads_given}
 use Rattle.x7_engine.specs.UntilStarted.{NoneStarted}
 use Rattle.x7_engine.proofs.device.Device.feed_until_started.Given as goal
 
@@ -19,9 +19,9 @@ invariant-runs l = record {
   stands : (part : PartData) (kept : Kept) (wrapped : Bool) (bytes : List ℕ) → DeviceStandsFor part kept wrapped l.initial.self bytes → DeviceStandsFor part kept wrapped l.self (bytes ++ take l.at l.piece);
   first : (part : PartData) (kept : Kept) (wrapped : Bool) (bytes : List ℕ) → DeviceStandsFor part kept wrapped l.initial.self bytes → NoneStarted part kept bytes l.piece l.at;
   reads : (part : PartData) (kept : Kept) (wrapped : Bool) (bytes : List ℕ) → DeviceStandsFor part kept wrapped l.initial.self bytes
-      → (more : List ℕ) × (l.read ≡ with_words l.initial.read more) × (told_of part kept l.self (bytes ++ take l.at l.piece) ≡ told_of part kept l.initial.self bytes ++ more);
+      → (more : List ℕ) × (l.read ≡ with_words l.initial.read more) × (reads_given part kept l.self (bytes ++ take l.at l.piece) ≡ reads_given part kept l.initial.self bytes ++ more);
   room : (part : PartData) (kept : Kept) (wrapped : Bool) (bytes : List ℕ) → DeviceStandsFor part kept wrapped l.initial.self bytes
-      → RoomBefore (record { part = part; kept = kept; wrapped = wrapped; bytes = bytes }) l.piece l.at (told_of part kept l.initial.self bytes) l.initial.read;
+      → RoomBefore (record { part = part; kept = kept; wrapped = wrapped; bytes = bytes }) l.piece l.at (reads_given part kept l.initial.self bytes) l.initial.read;
   stopped : is_some l.initial.self.registers.stop ≡ true → (l.self ≡ l.initial.self) × (l.read ≡ l.initial.read) × (l.at ≡ 0);
 }
 

@@ -1,6 +1,6 @@
 use Rattle.std.proofs.Common.{◌≡◌, ◌++◌, ℕ, List, sym, ap, subst, ◌∙◌, append_assoc}
 use Rattle.x7_packets.specs.Cutting.{between}
-use Rattle.x7_engine.specs.Standing.{DeviceStandsFor, told_of}
+use Rattle.x7_engine.specs.Standing.{DeviceStandsFor, reads_given}
 use Rattle.x7_engine.specs.UntilStarted.{CommandsLast}
 use Rattle.x7_engine.proofs.PassLemmas.{between_join}
 use Rattle.x7_engine.proofs.UntilLemmas.{quiet_commands, then_commands}
@@ -20,7 +20,7 @@ returns-clause-stands c = λ part kept wrapped bytes s.
 
 pub returns-clause-told : goal.returns-clause-told
 returns-clause-told c = λ part kept wrapped bytes s.
-    ap (told_of part kept c.take_run.new.self) (sym (joined c bytes))
+    ap (reads_given part kept c.take_run.new.self) (sym (joined c bytes))
     ∙ c.take_run.ensures.told part kept wrapped (bytes ++ between c.args.piece.now c.args.at.now c.pass_nops.new.at) (c.pass_nops.ensures.stands part kept wrapped bytes s)
     ∙ c.pass_nops.ensures.told part kept wrapped bytes s
 

@@ -11,10 +11,10 @@ returns-clause-ok c = λ given before bytes s.
     let P : List ℕ → Type 0 = λ x. Tells c.self.inside.cutter c.self.inside.pen.synced c.self.inside.pen.line (take c.self.inside.pen.count c.self.inside.pen.held) x given before bytes in
     let t : P c.reserve.new.self.items = subst P (sym c.reserve.ensures.items) r.tells in
     let listing : List ℕ = reading_text t.sessions t.at in
-    let told : given ++ c.put_end.new.text.items ≡ before ++ listing = c.put_end.ensures.told given before t.sessions t.at (record { bytes = bytes; reading = t.cut.reading; mode = _; told = t.told; not_due = r.ready }) (c.kept.ensures.tail bytes t.sessions t.at t.cut) in
+    let listed : given ++ c.put_end.new.text.items ≡ before ++ listing = c.put_end.ensures.listed given before t.sessions t.at (record { bytes = bytes; reading = t.cut.reading; mode = _; listed = t.listed; not_due = r.ready }) (c.kept.ensures.tail bytes t.sessions t.at t.cut) in
     record {
       listing = listing;
       is = record { sessions = t.sessions; place = t.at; reading = t.cut.reading; is = refl };
-      told = told;
-      stands = begins _ _ _ _ _ given (before ++ listing) c.new-self-inside.ensures c.new_pen-self-inside.ensures.gap c.new_pen-self-inside.ensures.line c.new_pen-self-inside.ensures.held told (not_due _ c.new-self-inside.ensures);
+      listed = listed;
+      stands = begins _ _ _ _ _ given (before ++ listing) c.new-self-inside.ensures c.new_pen-self-inside.ensures.gap c.new_pen-self-inside.ensures.line c.new_pen-self-inside.ensures.held listed (not_due _ c.new-self-inside.ensures);
     }

@@ -1,11 +1,11 @@
 use Rattle.std.proofs.Common.{◌<◌, ap, take, ◌∙◌}
 use Rattle.x7_words.proofs.ListLemmas.{all_from_places}
-use Rattle.x7_text.proofs.reading.front_of_hex.Goals as goal
+use Rattle.x7_text.proofs.reading.prefix_of_hex.Goals as goal
 
 pub returns : goal.returns
 returns c = record {
-  within = c.same_front.ensures.within;
+  within = c.same_prefix.ensures.within;
   long = c.bytes_of_digits-bytes.ensures.long;
   fit = all_from_places (λ b. b < 256) c.bytes_of_digits-bytes.result (λ k l. c.bytes_of_digits-bytes.ensures.fit k);
-  digits = c.same_front.ensures.same ∙ ap (take c.same_front.result) c.hex_of_block.ensures;
+  digits = c.same_prefix.ensures.same ∙ ap (take c.same_prefix.result) c.hex_of_block.ensures;
 }

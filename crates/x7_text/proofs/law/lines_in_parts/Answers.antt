@@ -1,5 +1,5 @@
 use Rattle.x7_text.proofs.LineLemmas.{open_text-append, in_line_after-append}
-use Rattle.x7_text.proofs.law.told_in_parts.Goals as goal
+use Rattle.x7_text.proofs.law.lines_in_parts.Goals as goal
 
 pub returns-clause-text : goal.returns-clause-text
 returns-clause-text c = open_text-append

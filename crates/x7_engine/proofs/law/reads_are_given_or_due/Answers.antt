@@ -3,7 +3,7 @@ use Rattle.x7_engine.specs.Standing.{due_of}
 use Rattle.x7_engine.specs.State.{history_taken}
 use Rattle.x7_engine.proofs.DeviceLemmas.{told_by}
 use Rattle.x7_engine.proofs.FrameLemmas.{none_left}
-use Rattle.x7_engine.proofs.law.reads_are_told_or_due.Goals as goal
+use Rattle.x7_engine.proofs.law.reads_are_given_or_due.Goals as goal
 
 pub returns-clause-all : goal.returns-clause-all
 returns-clause-all c = λ d part kept wrapped bytes s.

@@ -3,7 +3,7 @@ use Rattle.std.proofs.lemmas.Result.{on_ok_weaker}
 use Rattle.x7_words.specs.Sink.{appended}
 use Rattle.x7_forms.proofs.ResultLemmas.{err_weaker, from_ok}
 use Rattle.x7_tool.proofs.TurnLemmas.{begins_behind, line_front, line_part}
-use Rattle.x7_tool.proofs.list.put_front.Goals as goal
+use Rattle.x7_tool.proofs.list.put_beginning.Goals as goal
 
 pub returns-then-is_err-clause-err : goal.returns-then-is_err-clause-err
 returns-then-is_err-clause-err g c = λ rest fits. line_part (g.O.Sink.state c.args.out.now).written (g.O.Sink.state c.write_all.new.sink).written c.args.line.now _ c.write_all.ensures.front

@@ -1,5 +1,5 @@
 use Rattle.x7_text.proofs.LineLemmas.{bytes_closed, data_closed}
-use Rattle.x7_text.proofs.law.told_one_by_one.Goals as goal
+use Rattle.x7_text.proofs.law.lines_one_by_one.Goals as goal
 
 pub returns-clause-words : goal.returns-clause-words
 returns-clause-words c = data_closed
