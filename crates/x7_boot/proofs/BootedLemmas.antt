@@ -8,7 +8,7 @@ use Rattle.x7_regs.specs.declared.boot_status.Kind.{Kind}
 use Rattle.x7_engine.specs.Kept.{is_fallback}
 use Rattle.x7_engine.specs.Standing.{DeviceState}
 use Rattle.x7_engine.specs.declared.kept.Kept.{Kept}
-use Rattle.x7_boot.specs.Attempt.{IsDeviceOf, Trial, Tries}
+use Rattle.x7_boot.specs.Attempt.{IsDeviceOf, Trial, Tries, attempt_at}
 use Rattle.x7_boot.specs.Boot.{IsBoot, Led, LeadsTo, next_by, tried}
 use Rattle.x7_boot.specs.declared.attempt.Ending.{Ending}
 use Rattle.x7_boot.specs.declared.boots.BootEnd.{BootEnd}
@@ -29,7 +29,7 @@ one_more : (older : List Trial) (t : Trial) (attempts : List Tried) (next : Trie
 one_more older t attempts next e f =
     ap (λ (a : List Tried). a ++ next ∷ []) e ∙ ap (λ (x : Tried). reverse (map tried older) ++ x ∷ []) f ∙ sym (reverse-append (tried t ∷ []) (map tried older))
 
-tried_is : (part : PartData) (kept : Kept) (address : ℕ) (all : List ℕ) (d : DeviceState) (ending : Ending) (tries : Tries part kept address all d ending) → record { kind = kept.kind; address = address; ending = ending } ≡ tried tries.trial
+tried_is : (part : PartData) (kept : Kept) (address : ℕ) (all : List ℕ) (d : DeviceState) (ending : Ending) (tries : Tries (attempt_at part kept address) all d ending) → record { kind = kept.kind; address = address; ending = ending } ≡ tried tries.trial
 tried_is part kept address all d ending tries =
     let e : tries.trial.kept ≡ kept = tries.kept_is in
     let f : tries.trial.address ≡ address = tries.address_is in
@@ -39,7 +39,7 @@ tried_is part kept address all d ending tries =
     ∙ ap (λ (n : Ending). record { kind = kept.kind; address = address; ending = n }) g)
 
 -- the attempts with one more, by the table
-leads_on : (part : PartData) (kept : Kept) (address : ℕ) (all : List ℕ) (d : DeviceState) (ending : Ending) (attempts : List Tried) (number : ℕ) (next : Next) (led : Led part all kept address attempts number) (tries : Tries part kept address all d ending)
+leads_on : (part : PartData) (kept : Kept) (address : ℕ) (all : List ℕ) (d : DeviceState) (ending : Ending) (attempts : List Tried) (number : ℕ) (next : Next) (led : Led (attempt_at part kept address) all attempts number) (tries : Tries (attempt_at part kept address) all d ending)
     → ((t : Trial) → IsDeviceOf part d t → t.kept.kind ≡ kept.kind → next ≡ next_by part (number + 1) t ending) → LeadsTo part all (tries.trial ∷ led.older) next
 leads_on part kept address all d ending attempts number next led tries table =
     let t : Trial = tries.trial in
@@ -53,9 +53,9 @@ leads_on part kept address all d ending attempts number next led tries table =
       here ∙ sym (ap (λ (n : ℕ). next_by part (n + 1) t t.ending) c ∙ ap (λ (x : Ending). next_by part (number + 1) t x) g),
     )
 
-pub led_on : (part : PartData) (kept kept_now : Kept) (address address_now : ℕ) (all : List ℕ) (d : DeviceState) (ending : Ending) (attempts : List Tried) (number : ℕ) (next : Next) → Led part all kept address attempts number → Tries part kept address all d ending
+pub led_on : (part : PartData) (kept kept_now : Kept) (address address_now : ℕ) (all : List ℕ) (d : DeviceState) (ending : Ending) (attempts : List Tried) (number : ℕ) (next : Next) → Led (attempt_at part kept address) all attempts number → Tries (attempt_at part kept address) all d ending
     → ((t : Trial) → IsDeviceOf part d t → t.kept.kind ≡ kept.kind → next ≡ next_by part (number + 1) t ending) → next ≡ Again kept_now address_now
-    → Led part all kept_now address_now (attempts ++ record { kind = kept.kind; address = address; ending = ending } ∷ []) (number + 1)
+    → Led (attempt_at part kept_now address_now) all (attempts ++ record { kind = kept.kind; address = address; ending = ending } ∷ []) (number + 1)
 led_on part kept kept_now address address_now all d ending attempts number next led tries table is = record {
   older = tries.trial ∷ led.older;
   leads = subst (λ (n : Next). LeadsTo part all (tries.trial ∷ led.older) n) is (leads_on part kept address all d ending attempts number next led tries table);
@@ -63,7 +63,7 @@ led_on part kept kept_now address address_now all d ending attempts number next 
   count = let c : length led.older ≡ number = led.count in omega (arith, c);
 }
 
-pub led_ends : (part : PartData) (kept : Kept) (address : ℕ) (all : List ℕ) (d : DeviceState) (ending : Ending) (attempts : List Tried) (number : ℕ) (next : Next) (end : BootEnd) → Led part all kept address attempts number → Tries part kept address all d ending
+pub led_ends : (part : PartData) (kept : Kept) (address : ℕ) (all : List ℕ) (d : DeviceState) (ending : Ending) (attempts : List Tried) (number : ℕ) (next : Next) (end : BootEnd) → Led (attempt_at part kept address) all attempts number → Tries (attempt_at part kept address) all d ending
     → ((t : Trial) → IsDeviceOf part d t → t.kept.kind ≡ kept.kind → next ≡ next_by part (number + 1) t ending) → next ≡ Ends end
     → IsBoot part all (record { attempts = attempts ++ record { kind = kept.kind; address = address; ending = ending } ∷ []; end = end; device = d })
 led_ends part kept address all d ending attempts number next end led tries table is = record {
@@ -85,24 +85,24 @@ abbrev pub told_as : Kept → ℕ → Ending → Tried
 told_as kept address ending = record { kind = kept.kind; address = address; ending = ending }
 
 pub led_next : (part old_part : PartData) (kept kept_now : Kept) (address address_now : ℕ) (known told : Option (List ℕ)) (d : DeviceState) (ending : Ending) (attempts now : List Tried) (number : ℕ) (next : Next)
-    → told ≡ known → old_part ≡ part → IfKnown known (λ all. AreBytes all → Led part all kept address attempts number) → IfKnown told (λ all. AreBytes all → Tries old_part kept address all d ending)
+    → told ≡ known → old_part ≡ part → IfKnown known (λ all. AreBytes all → Led (attempt_at part kept address) all attempts number) → IfKnown told (λ all. AreBytes all → Tries (attempt_at old_part kept address) all d ending)
     → ByTable d kept (number + 1) ending next → next ≡ Again kept_now address_now → now ≡ attempts ++ told_as kept address ending ∷ []
-    → IfKnown known (λ all. AreBytes all → Led part all kept_now address_now now (number + 1))
+    → IfKnown known (λ all. AreBytes all → Led (attempt_at part kept_now address_now) all now (number + 1))
 led_next part old_part kept kept_now address address_now known told d ending attempts now number next same e led tries table is items =
-    let here : IfKnown known (λ all. AreBytes all → Tries part kept address all d ending) =
-    subst (λ (p : PartData). IfKnown known (λ all. AreBytes all → Tries p kept address all d ending)) e (subst (λ (k : Option (List ℕ)). IfKnown k (λ all. AreBytes all → Tries old_part kept address all d ending)) same tries) in
-    where_on known (λ all. AreBytes all → Led part all kept address attempts number) (λ all. AreBytes all → Tries part kept address all d ending) (λ all. AreBytes all → Led part all kept_now address_now now (number + 1))
-    (λ all l t fits. subst (λ (a : List Tried). Led part all kept_now address_now a (number + 1)) (sym items)
+    let here : IfKnown known (λ all. AreBytes all → Tries (attempt_at part kept address) all d ending) =
+    subst (λ (p : PartData). IfKnown known (λ all. AreBytes all → Tries (attempt_at p kept address) all d ending)) e (subst (λ (k : Option (List ℕ)). IfKnown k (λ all. AreBytes all → Tries (attempt_at old_part kept address) all d ending)) same tries) in
+    where_on known (λ all. AreBytes all → Led (attempt_at part kept address) all attempts number) (λ all. AreBytes all → Tries (attempt_at part kept address) all d ending) (λ all. AreBytes all → Led (attempt_at part kept_now address_now) all now (number + 1))
+    (λ all l t fits. subst (λ (a : List Tried). Led (attempt_at part kept_now address_now) all a (number + 1)) (sym items)
     (led_on part kept kept_now address address_now all d ending attempts number next (l fits) (t fits) (table part) is)) led here
 
 pub boot_ends : (part old_part : PartData) (kept : Kept) (address : ℕ) (known told : Option (List ℕ)) (d : DeviceState) (ending : Ending) (attempts now : List Tried) (number : ℕ) (next : Next) (end : BootEnd)
-    → told ≡ known → old_part ≡ part → IfKnown known (λ all. AreBytes all → Led part all kept address attempts number) → IfKnown told (λ all. AreBytes all → Tries old_part kept address all d ending)
+    → told ≡ known → old_part ≡ part → IfKnown known (λ all. AreBytes all → Led (attempt_at part kept address) all attempts number) → IfKnown told (λ all. AreBytes all → Tries (attempt_at old_part kept address) all d ending)
     → ByTable d kept (number + 1) ending next → next ≡ Ends end → now ≡ attempts ++ told_as kept address ending ∷ []
     → IfKnown known (λ all. AreBytes all → IsBoot part all (record { attempts = now; end = end; device = d }))
 boot_ends part old_part kept address known told d ending attempts now number next end same e led tries table is items =
-    let here : IfKnown known (λ all. AreBytes all → Tries part kept address all d ending) =
-    subst (λ (p : PartData). IfKnown known (λ all. AreBytes all → Tries p kept address all d ending)) e (subst (λ (k : Option (List ℕ)). IfKnown k (λ all. AreBytes all → Tries old_part kept address all d ending)) same tries) in
-    where_on known (λ all. AreBytes all → Led part all kept address attempts number) (λ all. AreBytes all → Tries part kept address all d ending) (λ all. AreBytes all → IsBoot part all (record { attempts = now; end = end; device = d }))
+    let here : IfKnown known (λ all. AreBytes all → Tries (attempt_at part kept address) all d ending) =
+    subst (λ (p : PartData). IfKnown known (λ all. AreBytes all → Tries (attempt_at p kept address) all d ending)) e (subst (λ (k : Option (List ℕ)). IfKnown k (λ all. AreBytes all → Tries (attempt_at old_part kept address) all d ending)) same tries) in
+    where_on known (λ all. AreBytes all → Led (attempt_at part kept address) all attempts number) (λ all. AreBytes all → Tries (attempt_at part kept address) all d ending) (λ all. AreBytes all → IsBoot part all (record { attempts = now; end = end; device = d }))
     (λ all l t fits. subst (λ (a : List Tried). IsBoot part all (record { attempts = a; end = end; device = d })) (sym items)
     (led_ends part kept address all d ending attempts number next end (l fits) (t fits) (table part) is)) led here
 

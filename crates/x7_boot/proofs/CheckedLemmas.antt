@@ -1,18 +1,17 @@
 -- An attempt that started made its checks.
-use Rattle.std.proofs.Common.{◌≡◌, ◌==◌, ◌+◌, ◌<◌, inl, inr, ℕ, Bool, true, false, List, ◌∷◌, drop, take, length, Option, None, Some, refl, ap, sym, subst, ◌∙◌, take-append-drop, arith}
+use Rattle.std.proofs.Common.{◌≡◌, ◌==◌, ◌+◌, ◌<◌, inl, inr, ℕ, Bool, true, false, List, ◌∷◌, drop, take, length, Option, None, Some, refl, ap, sym, subst, ◌∙◌, take-append-drop}
 use Rattle.std.specs.Prelude.{if◌then◌else◌, nat_le, ◌||◌}
-use Rattle.std.proofs.lemmas.Bool.Decides.{nat_tests}
 use Rattle.x7_words.specs.Word.{AreBytes}
 use Rattle.x7_words.proofs.ListLemmas.{all_back, all_front, all_take}
 use Rattle.x7_packets.specs.History.{Write}
 use Rattle.x7_part.specs.Part.{PartData}
 use Rattle.x7_engine.specs.Kept.{is_fallback}
-use Rattle.x7_engine.specs.State.{line_by, state_of, stop_in, taken_of}
+use Rattle.x7_engine.specs.State.{why_of, state_of, stop_in, taken_of}
 use Rattle.x7_engine.specs.Values.{cause_of}
 use Rattle.x7_engine.specs.declared.kept.Kept.{Kept}
 use Rattle.x7_engine.specs.declared.stop.Stop.{Stop}
 use Rattle.x7_engine.specs.declared.stop.Stop.TheVariants as stop
-use Rattle.x7_engine.proofs.CheckedLemmas.{check_equals, idcode_matches, lines_before, phase_started}
+use Rattle.x7_engine.proofs.CheckedLemmas.{check_equals, idcode_matches, none_before, phase_started}
 use Rattle.x7_regs.specs.declared.boot_status.Cause.{Cause}
 use Rattle.x7_boot.specs.Attempt.{IsTrial, Trial, ending_at, ending_by, failed_by}
 use Rattle.x7_boot.specs.Boot.{LeadsToEnd, end_state, forbids_fallback, next_by}
@@ -39,13 +38,13 @@ starts_by true o e = refl
 starts_by false o e = absurd (no_stop_starts o e)
 
 started_late : (part : PartData) (kept : Kept) (bytes : List ℕ) → ending_at part kept bytes ≡ Some ending.Started → 0 < (state_of part kept false bytes).phase
-started_late part kept bytes e = seven_late (state_of part kept false bytes).phase (starts_by ((state_of part kept false bytes).phase == 7) (line_by (stop_in part kept bytes)) e)
+started_late part kept bytes e = seven_late (state_of part kept false bytes).phase (starts_by ((state_of part kept false bytes).phase == 7) (why_of (stop_in part kept bytes)) e)
 
 pub checked : (part : PartData) (kept : Kept) (wrapped : Bool) (bytes : List ℕ) → AreBytes bytes → 0 < (state_of part kept wrapped bytes).phase → HasChecked part kept bytes
 checked part kept wrapped bytes fits late = record {
   started = phase_started part kept wrapped bytes fits late;
-  checks = λ w place older s l. check_equals part kept older w (lines_before part kept bytes (Write 0 w) place older fits s l);
-  idcodes = λ w place older s l. idcode_matches part kept older w (lines_before part kept bytes (Write 12 w) place older fits s l);
+  checks = λ w place older s l. check_equals part kept older w (none_before part kept bytes (Write 0 w) place older fits s l);
+  idcodes = λ w place older s l. idcode_matches part kept older w (none_before part kept bytes (Write 12 w) place older fits s l);
 }
 
 -- the bytes of an attempt are those of the flash

@@ -1,5 +1,5 @@
 -- Every flash leads a boot to an end: an attempt comes to an end, and after sixteen attempts and a fallback there is none.
-use Rattle.std.proofs.Common.{◌≡◌, ◌+◌, ◌<◌, ◌≤◌, ◌⊎◌, inl, inr, ℕ, zero, suc, Bool, true, false, if◌then◌else◌, List, [], ◌∷◌, drop, take, length, Option, None, Some, refl, ap, sym, subst, ◌∙◌, take-append-drop, arith}
+use Rattle.std.proofs.Common.{◌≡◌, ◌+◌, ◌<◌, ◌⊎◌, inl, inr, ℕ, zero, suc, Bool, true, false, if◌then◌else◌, List, [], ◌∷◌, drop, take, length, Option, None, Some, refl, ap, sym, subst, ◌∙◌, take-append-drop, arith}
 use Rattle.std.specs.Prelude.{nat_le, ◌||◌}
 use Rattle.std.proofs.lemmas.Bool.Decides.{nat_tests}
 use Rattle.std.proofs.lemmas.List.{length-take}
@@ -8,7 +8,7 @@ use Rattle.x7_regs.specs.declared.boot_status.Cause.TheVariants.{Wrap}
 use Rattle.x7_engine.specs.Kept.{is_fallback}
 use Rattle.x7_engine.specs.State.{taken_of}
 use Rattle.x7_engine.specs.declared.kept.Kept.{Kept}
-use Rattle.x7_boot.specs.Attempt.{EndsFirst, IsTrial, RunsOut, Trial, ending_at}
+use Rattle.x7_boot.specs.Attempt.{IsTrial, Trial, ending_at}
 use Rattle.x7_boot.specs.Boot.{HasBoot, LeadsTo, at_power, end_state, forbids_fallback, next_by}
 use Rattle.x7_boot.specs.declared.attempt.Ending.{Ending}
 use Rattle.x7_boot.specs.declared.attempt.Ending.TheVariants as ending

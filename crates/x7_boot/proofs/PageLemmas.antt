@@ -81,10 +81,10 @@ page_of_block known extent number count index start stop block bytes b l f m g e
           (omega (arith, end, last)) goes;
     }
 
-pub pages_split : (known : Option (List ℕ)) (extent number count index stop : ℕ) (cache new : LruCache ℕ (Vec ℕ Global)) (page : Vec ℕ Global) (block lent front : List ℕ) → new ≡ lru_cache (put_entries nat_eq cache (number + index) page) cache.cap
-    → page.items ≡ front ++ slice_range lent (index * page_size) stop → front ≡ [] → lent ≡ block → stop ≡ min (index * page_size + page_size) (length block) → index * page_size < length block
+pub pages_split : (known : Option (List ℕ)) (extent number count index stop : ℕ) (cache new : LruCache ℕ (Vec ℕ Global)) (page : Vec ℕ Global) (block lent prefix : List ℕ) → new ≡ lru_cache (put_entries nat_eq cache (number + index) page) cache.cap
+    → page.items ≡ prefix ++ slice_range lent (index * page_size) stop → prefix ≡ [] → lent ≡ block → stop ≡ min (index * page_size + page_size) (length block) → index * page_size < length block
     → IsBlock known extent number count block → index < count → ArePages known extent cache.entries → ArePages known extent new.entries
-pages_split known extent number count index stop cache new page block lent front e f g h m l b i are =
+pages_split known extent number count index stop cache new page block lent prefix e f g h m l b i are =
     let bytes : page.items ≡ slice_range block (index * page_size) stop = f ∙ ap (λ (x : List ℕ). x ++ slice_range lent (index * page_size) stop) g ∙ ap (λ (x : List ℕ). slice_range x (index * page_size) stop) h in
     subst (λ (k : LruCache ℕ (Vec ℕ Global)). ArePages known extent k.entries) (sym e)
     (pages_put known extent cache (number + index) page are (page_of_block known extent number count index (index * page_size) stop block page.items b i refl l m bytes))

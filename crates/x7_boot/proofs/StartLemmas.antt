@@ -3,12 +3,12 @@ use Rattle.std.proofs.Common.{◌≡◌, ◌==◌, ◌<◌, ◌⊎◌, inl, inr,
 use Rattle.std.specs.Prelude.{nat_lt}
 use Rattle.std.proofs.lemmas.Bool.Decides.{nat_tests}
 use Rattle.x7_words.specs.Word.{AreBytes}
-use Rattle.x7_words.proofs.ListLemmas.{all_front, all_take}
+use Rattle.x7_words.proofs.ListLemmas.{all_take}
 use Rattle.x7_packets.specs.History.{Entry, History, executes, history_of, until}
 use Rattle.x7_packets.proofs.GrowthLemmas.{front_of}
 use Rattle.x7_part.specs.Part.{PartData}
 use Rattle.x7_engine.specs.Checked.{HasStarted}
-use Rattle.x7_engine.specs.State.{history_by, history_taken, last_counted, line_by, state_of, stop_in, taken_of}
+use Rattle.x7_engine.specs.State.{history_by, history_taken, last_counted, why_of, state_of, stop_in, taken_of}
 use Rattle.x7_engine.specs.Stops.{Stopped}
 use Rattle.x7_engine.specs.declared.kept.Kept.{Kept}
 use Rattle.x7_engine.proofs.CheckedLemmas.{phase_started}
@@ -52,7 +52,7 @@ never_taken part kept bytes never = by (stop_in part kept bytes)
   where
     by : (o : Option Stopped) → NeverStarts (history_by o (history_of bytes))
     by None = never
-    by (Some s) = never_until (last_counted s.line s.place) (history_of bytes) never
+    by (Some s) = never_until (last_counted s.why s.place) (history_of bytes) never
 
 -- startup hasn't begun
 phase_none : (part : PartData) (kept : Kept) (wrapped : Bool) (bytes : List ℕ) → AreBytes bytes → NeverStarts (history_of bytes) → 0 < (state_of part kept wrapped bytes).phase → ⊥
@@ -91,7 +91,7 @@ front_goes part kept k bytes fits none = by (stop_in part kept (take k bytes)) r
 
 -- neither phase 7 nor a stop
 pub goes_on : (part : PartData) (kept : Kept) (bytes : List ℕ) → ((state_of part kept false bytes).phase == 7) ≡ false → stop_in part kept bytes ≡ None → ending_at part kept bytes ≡ None
-goes_on part kept bytes early none = ends_by_stop part kept bytes early ∙ ap (λ (o : Option Stopped). ending_by (line_by o)) none
+goes_on part kept bytes early none = ends_by_stop part kept bytes early ∙ ap (λ (o : Option Stopped). ending_by (why_of o)) none
 
 -- nothing ends an attempt at fewer bytes, where startup begins nowhere and those have no stop
 pub front_open : (part : PartData) (kept : Kept) (k : ℕ) (bytes : List ℕ) → AreBytes bytes → NeverStarts (history_of bytes) → stop_in part kept (take k bytes) ≡ None → ending_at part kept (take k bytes) ≡ None

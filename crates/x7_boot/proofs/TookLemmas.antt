@@ -12,11 +12,11 @@ use Rattle.x7_regs.specs.declared.boot_status.Cause.{Cause}
 use Rattle.x7_engine.specs.Values.{cause_of}
 use Rattle.x7_engine.specs.ReadBuffer.{IsFullBy, ReadBufState}
 use Rattle.x7_engine.specs.Standing.{Answers, DeviceState, DeviceStandsFor, NoWordDue, taken_in}
-use Rattle.x7_engine.specs.State.{line_by, state_of, stop_in}
+use Rattle.x7_engine.specs.State.{why_of, state_of, stop_in}
 use Rattle.x7_engine.specs.Stops.{Stopped, fault_of}
 use Rattle.x7_engine.specs.UntilStarted.{AnswersUntil, NoneStarted, has_started, says_started, taken_until}
 use Rattle.x7_engine.proofs.UntilLemmas.{going_before}
-use Rattle.x7_boot.specs.Attempt.{ending_at, ending_by, failed_by, IsReady, step_by, StepsTo, Took}
+use Rattle.x7_boot.specs.Attempt.{ending_at, ending_by, failed_by, IsReady, step_by, StepsTo, Took, past_of}
 use Rattle.x7_boot.specs.declared.attempt.Ending.{Ending}
 use Rattle.x7_boot.specs.declared.attempt.Ending.TheVariants.{Started}
 use Rattle.x7_boot.specs.declared.attempt.Step.{Step}
@@ -31,10 +31,10 @@ other : (b : Bool) (x y : Option Ending) → b ≡ false → (if b then x else y
 other b x y e = ap (λ (c : Bool). if c then x else y) e
 
 pub ends_started : (part : PartData) (kept : Kept) (bytes : List ℕ) → ((state_of part kept false bytes).phase == 7) ≡ true → ending_at part kept bytes ≡ Some Started
-ends_started part kept bytes e = chosen ((state_of part kept false bytes).phase == 7) (Some Started) (ending_by (line_by (stop_in part kept bytes))) e
+ends_started part kept bytes e = chosen ((state_of part kept false bytes).phase == 7) (Some Started) (ending_by (why_of (stop_in part kept bytes))) e
 
-pub ends_by_stop : (part : PartData) (kept : Kept) (bytes : List ℕ) → ((state_of part kept false bytes).phase == 7) ≡ false → ending_at part kept bytes ≡ ending_by (line_by (stop_in part kept bytes))
-ends_by_stop part kept bytes e = other ((state_of part kept false bytes).phase == 7) (Some Started) (ending_by (line_by (stop_in part kept bytes))) e
+pub ends_by_stop : (part : PartData) (kept : Kept) (bytes : List ℕ) → ((state_of part kept false bytes).phase == 7) ≡ false → ending_at part kept bytes ≡ ending_by (why_of (stop_in part kept bytes))
+ends_by_stop part kept bytes e = other ((state_of part kept false bytes).phase == 7) (Some Started) (ending_by (why_of (stop_in part kept bytes))) e
 
 -- ---- nothing earlier
 
@@ -42,11 +42,11 @@ none_yet : (part : PartData) (kept : Kept) (d : DeviceState) (bytes page : List 
     → (k : ℕ) → k < n → ending_at part kept (bytes ++ take k page) ≡ None
 none_yet part kept d bytes page n s within first k l =
     let rest : List ℕ = drop k (take n page) in
-    let front : take n page ≡ take k page ++ rest = sym (take-append-drop k (take n page)) ∙ ap (λ (x : List ℕ). x ++ rest) (take-take k n page (omega (arith, l))) in
+    let prefix : take n page ≡ take k page ++ rest = sym (take-append-drop k (take n page)) ∙ ap (λ (x : List ℕ). x ++ rest) (take-take k n page (omega (arith, l))) in
     let some : length rest ≡ n - k = length-drop k (take n page) ∙ ap (λ (x : ℕ). x - k) (length-take-le n page within) in
-    let joined : bytes ++ take n page ≡ (bytes ++ take k page) ++ rest = ap (λ (x : List ℕ). bytes ++ x) front ∙ sym (append_assoc bytes (take k page) rest) in
+    let joined : bytes ++ take n page ≡ (bytes ++ take k page) ++ rest = ap (λ (x : List ℕ). bytes ++ x) prefix ∙ sym (append_assoc bytes (take k page) rest) in
     let going : stop_in part kept (bytes ++ take k page) ≡ None = going_before part kept false d (bytes ++ take k page) rest (subst (DeviceStandsFor part kept false d) joined s) (omega (arith, some, l)) in
-    ends_by_stop part kept (bytes ++ take k page) (first k l) ∙ ap (λ (o : Option Stopped). ending_by (line_by o)) going
+    ends_by_stop part kept (bytes ++ take k page) (first k l) ∙ ap (λ (o : Option Stopped). ending_by (why_of o)) going
 
 -- ---- what a feed does
 
@@ -62,14 +62,14 @@ failed_at f cause e = ap failed_by (sym e)
 
 -- what it does to an attempt in which startup hasn't ended by then
 steps_to : (part : PartData) (kept : Kept) (d : DeviceState) (bytes : List ℕ) (read : ReadBufState) (answer : Fed) (cause : Option Cause) → read.most ≡ None
-    → Answers part kept d bytes read answer → has_started part kept bytes ≡ false → cause ≡ cause_of (fault_of (line_by (stop_in part kept bytes))) false
+    → Answers part kept d bytes read answer → has_started part kept bytes ≡ false → cause ≡ cause_of (fault_of (why_of (stop_in part kept bytes))) false
     → StepsTo part kept bytes (step_by answer cause)
-steps_to part kept d bytes read fed.All cause dropping a e f = (a.0, ends_by_stop part kept bytes e ∙ ap (λ (o : Option Stopped). ending_by (line_by o)) a.0)
-steps_to part kept d bytes read (fed.Iprog n) cause dropping a e f = ends_by_stop part kept bytes e ∙ ap (λ (o : Option Stopped). ending_by (line_by o)) a.0
+steps_to part kept d bytes read fed.All cause dropping a e f = (a.0, ends_by_stop part kept bytes e ∙ ap (λ (o : Option Stopped). ending_by (why_of o)) a.0)
+steps_to part kept d bytes read (fed.Iprog n) cause dropping a e f = ends_by_stop part kept bytes e ∙ ap (λ (o : Option Stopped). ending_by (why_of o)) a.0
 steps_to part kept d bytes read (fed.ReadFull n) cause dropping a e f = absurd (subst (λ (m : Option ℕ). IsFullBy m (length read.words)) dropping a.2)
-steps_to part kept d bytes read (fed.Stopped n) (Some cause) dropping a e f = ends_by_stop part kept bytes e ∙ ap (λ (o : Option Stopped). ending_by (line_by o)) a.1 ∙ failed_at a.0 (Some cause) (f ∙ ap (λ (o : Option Stopped). cause_of (fault_of (line_by o)) false) a.1)
+steps_to part kept d bytes read (fed.Stopped n) (Some cause) dropping a e f = ends_by_stop part kept bytes e ∙ ap (λ (o : Option Stopped). ending_by (why_of o)) a.1 ∙ failed_at a.0 (Some cause) (f ∙ ap (λ (o : Option Stopped). cause_of (fault_of (why_of o)) false) a.1)
 steps_to part kept d bytes read (fed.Stopped n) None dropping a e f =
-    (subst (λ (o : Option Stopped). IsSome o) (sym a.1) refl, ends_by_stop part kept bytes e ∙ ap (λ (o : Option Stopped). ending_by (line_by o)) a.1 ∙ failed_at a.0 None (f ∙ ap (λ (o : Option Stopped). cause_of (fault_of (line_by o)) false) a.1))
+    (subst (λ (o : Option Stopped). IsSome o) (sym a.1) refl, ends_by_stop part kept bytes e ∙ ap (λ (o : Option Stopped). ending_by (why_of o)) a.1 ∙ failed_at a.0 None (f ∙ ap (λ (o : Option Stopped). cause_of (fault_of (why_of o)) false) a.1))
 
 -- it goes on only where all was taken
 goes_all : (part : PartData) (kept : Kept) (d : DeviceState) (bytes : List ℕ) (read : ReadBufState) (answer : Fed) (cause : Option Cause) (length : ℕ) → read.most ≡ None → Answers part kept d bytes read answer → step_by answer cause ≡ Goes
@@ -92,7 +92,7 @@ due_until part kept d bytes read (until.Started n) dropping a = a
 due_until part kept d bytes read (until.Fed answer) dropping a = none_due part kept d bytes read answer dropping a
 
 steps_until : (part : PartData) (kept : Kept) (d : DeviceState) (bytes : List ℕ) (read : ReadBufState) (answer : UntilStarted) (cause : Option Cause) → read.most ≡ None → AnswersUntil part kept d bytes read answer
-    → says_started answer ≡ has_started part kept bytes → cause ≡ cause_of (fault_of (line_by (stop_in part kept bytes))) false → StepsTo part kept bytes (step_until answer cause)
+    → says_started answer ≡ has_started part kept bytes → cause ≡ cause_of (fault_of (why_of (stop_in part kept bytes))) false → StepsTo part kept bytes (step_until answer cause)
 steps_until part kept d bytes read (until.Started n) cause dropping a e f = ends_started part kept bytes (sym e)
 steps_until part kept d bytes read (until.Fed answer) cause dropping a e f = steps_to part kept d bytes read answer cause dropping a (sym e) f
 
@@ -105,7 +105,7 @@ all_until part kept d bytes read (until.Fed answer) cause length dropping a e = 
 pub page_took : (part : PartData) (kept : Kept) (d : DeviceState) (bytes page : List ℕ) (read : ReadBufState) (answer : UntilStarted) (cause : Option Cause)
     → (let n : ℕ = taken_until (length page) answer in let all : List ℕ = bytes ++ take n page in
     n ≤ length page → DeviceStandsFor part kept false d all → NoneStarted part kept bytes page n → read.most ≡ None → AnswersUntil part kept d all read answer
-    → (NoWordDue d → says_started answer ≡ has_started part kept all) → cause ≡ cause_of (fault_of (line_by (stop_in part kept all))) false → Took part kept d bytes page (step_until answer cause))
+    → (NoWordDue d → says_started answer ≡ has_started part kept all) → cause ≡ cause_of (fault_of (why_of (stop_in part kept all))) false → Took (past_of part kept bytes) d page (step_until answer cause))
 page_took part kept d bytes page read answer cause within s first dropping a started f =
     let n : ℕ = taken_until (length page) answer in
     let due : NoWordDue d = due_until part kept d (bytes ++ take n page) read answer dropping a in

@@ -17,13 +17,13 @@ use Rattle.x7_engine.specs.declared.stop.Stop.TheVariants as stop
 use Rattle.x7_engine.specs.FirstGap.{IsInFirstGap}
 use Rattle.x7_engine.specs.Kept.{is_fallback}
 use Rattle.x7_engine.specs.Standing.{DeviceState, DeviceStandsFor, MayWrap, NoWordDue}
-use Rattle.x7_engine.specs.State.{line_by, state_of, stop_in, taken_of, taken_by}
+use Rattle.x7_engine.specs.State.{why_of, state_of, stop_in, taken_of, taken_by}
 use Rattle.x7_engine.specs.Stops.{Stopped, fault_of, stopped_at}
 use Rattle.x7_engine.specs.Values.{cause_of}
 use Rattle.x7_engine.proofs.BootLemmas.{may_wrap, none_due_at_first}
 use Rattle.x7_engine.proofs.GapLemmas.{fewer_ask_nothing, gap_goes_on, gap_phase}
 use Rattle.x7_engine.proofs.StateLemmas.{stop_is_final-state, stop_is_final-stop}
-use Rattle.x7_boot.specs.Attempt.{Feeds, IsReady, Leaves, NoneBefore, StepsTo, Took, Trial, Tries, ending_at, ending_by, failed_by}
+use Rattle.x7_boot.specs.Attempt.{Feeds, IsReady, Leaves, NoneBefore, StepsTo, Took, Trial, Tries, attempt_at, ending_at, ending_by, failed_by, past_of}
 use Rattle.x7_boot.specs.Image.{flash_limit}
 use Rattle.x7_boot.specs.declared.attempt.Ending.{Ending}
 use Rattle.x7_boot.specs.declared.attempt.Ending.TheVariants.{Started, Iprog, Failed}
@@ -42,7 +42,7 @@ not_started part kept bytes none = by ((state_of part kept false bytes).phase ==
     by false e = e
     by true e = let some : ending_at part kept bytes ≡ Some Started = ends_started part kept bytes e in cc
 
-no_ending : (part : PartData) (kept : Kept) (bytes : List ℕ) → ending_at part kept bytes ≡ None → ending_by (line_by (stop_in part kept bytes)) ≡ None
+no_ending : (part : PartData) (kept : Kept) (bytes : List ℕ) → ending_at part kept bytes ≡ None → ending_by (why_of (stop_in part kept bytes)) ≡ None
 no_ending part kept bytes none = sym (ends_by_stop part kept bytes (not_started part kept bytes none)) ∙ none
 
 -- what ends no attempt is no cause of a failure
@@ -61,8 +61,8 @@ not_left o e f = let some : ending_by o ≡ Some Iprog = ap ending_by f in cc
 -- so the flash may end
 pub ends_here : (part : PartData) (kept : Kept) (d : DeviceState) (bytes : List ℕ) → (kept.kind ≡ Bench → ⊥) → DeviceStandsFor part kept false d bytes → ending_at part kept bytes ≡ None → NoWordDue d → MayWrap d
 ends_here part kept d bytes boots s none due =
-    let o : ending_by (line_by (stop_in part kept bytes)) ≡ None = no_ending part kept bytes none in
-    may_wrap part kept false d bytes s boots (not_started part kept bytes none) (no_cause (line_by (stop_in part kept bytes)) o) (not_left (line_by (stop_in part kept bytes)) o) due
+    let o : ending_by (why_of (stop_in part kept bytes)) ≡ None = no_ending part kept bytes none in
+    may_wrap part kept false d bytes s boots (not_started part kept bytes none) (no_cause (why_of (stop_in part kept bytes)) o) (not_left (why_of (stop_in part kept bytes)) o) due
 
 -- ---- how it begins, and goes on
 
@@ -73,7 +73,7 @@ none_at_first part kept = refl
 empty_range : (all : List ℕ) (at : ℕ) → [] ≡ slice_range all at at
 empty_range all at = let e : at - at ≡ 0 = omega arith in sym (ap (λ (n : ℕ). take n (drop at all)) e)
 
-pub feeds_first : (part : PartData) (kept : Kept) (address : ℕ) (known : Option (List ℕ)) (d : DeviceState) → DeviceStandsFor part kept false d [] → Feeds part kept address known d address
+pub feeds_first : (part : PartData) (kept : Kept) (address : ℕ) (known : Option (List ℕ)) (d : DeviceState) → DeviceStandsFor part kept false d [] → Feeds (attempt_at part kept address) known d address
 feeds_first part kept address known d s = record {
   bytes = [];
   stands = s;
@@ -86,7 +86,7 @@ feeds_first part kept address known d s = record {
   none = λ k l. absurd (omega (arith, l));
 }
 
-pub feeds_ready : (part : PartData) (kept : Kept) (address : ℕ) (known : Option (List ℕ)) (d : DeviceState) (at more : ℕ) → at + more ≤ 2 ^ 63 → Feeds part kept address known d at → IsReady d more
+pub feeds_ready : (part : PartData) (kept : Kept) (address : ℕ) (known : Option (List ℕ)) (d : DeviceState) (at more : ℕ) → at + more ≤ 2 ^ 63 → Feeds (attempt_at part kept address) known d at → IsReady d more
 feeds_ready part kept address known d at more l f = record {
   part = part;
   kept = kept;
@@ -124,8 +124,8 @@ joined_told : (known : Option (List ℕ)) (bytes page : List ℕ) (a b c : ℕ) 
 joined_told None bytes page a b c l m e f = tt
 joined_told (Some all) bytes page a b c l m e f = ap (λ (x : List ℕ). x ++ page) e ∙ ap (λ (x : List ℕ). slice_range all a b ++ x) f ∙ ranges_join all a b c l m
 
-pub feeds_on : (part : PartData) (kept : Kept) (address : ℕ) (known : Option (List ℕ)) (d new : DeviceState) (page : List ℕ) (at end : ℕ) (step : Step) → at + length page ≡ end → end ≤ flash_limit → (f : Feeds part kept address known d at)
-    → IfKnown known (λ all. page ≡ slice_range all at end) → Took part kept new f.bytes page step → step ≡ Goes → Feeds part kept address known new end
+pub feeds_on : (part : PartData) (kept : Kept) (address : ℕ) (known : Option (List ℕ)) (d new : DeviceState) (page : List ℕ) (at end : ℕ) (step : Step) → at + length page ≡ end → end ≤ flash_limit → (f : Feeds (attempt_at part kept address) known d at)
+    → IfKnown known (λ all. page ≡ slice_range all at end) → Took (past_of part kept f.bytes) new page step → step ≡ Goes → Feeds (attempt_at part kept address) known new end
 feeds_on part kept address known d new page at end step sum limit f told t goes =
     let whole : t.count ≡ length page = t.all goes in
     let all : take t.count page ≡ page = ap (λ (n : ℕ). take n page) whole ∙ take_all (length page) page (omega arith) in
@@ -162,8 +162,8 @@ none_of part kept from bytes rest e none k l =
     subst (λ (b : List ℕ). ending_at part kept b ≡ None) (sym (ap (take k) e ∙ take-append-le k bytes rest (omega (arith, l)))) (none k l)
 
 -- the attempt of a page that ends it
-pub tries_ended : (part : PartData) (kept : Kept) (address : ℕ) (all : List ℕ) (d new : DeviceState) (page : List ℕ) (at end : ℕ) (step : Step) (e : Ending) → at ≤ end → (f : Feeds part kept address (Some all) d at)
-    → page ≡ slice_range all at end → Took part kept new f.bytes page step → step ≡ Ends e → Tries part kept address all new e
+pub tries_ended : (part : PartData) (kept : Kept) (address : ℕ) (all : List ℕ) (d new : DeviceState) (page : List ℕ) (at end : ℕ) (step : Step) (e : Ending) → at ≤ end → (f : Feeds (attempt_at part kept address) (Some all) d at)
+    → page ≡ slice_range all at end → Took (past_of part kept f.bytes) new page step → step ≡ Ends e → Tries (attempt_at part kept address) all new e
 tries_ended part kept address all d new page at end step e order f told t is =
     let bytes : List ℕ = f.bytes ++ take t.count page in
     let count : address + length f.bytes ≡ at = f.count in
@@ -190,14 +190,14 @@ stays_open part kept bytes more fits some none = by (stop_in part kept bytes) re
         let later : stop_in part kept (bytes ++ more) ≡ Some s = stop_is_final-stop part kept bytes more s fits e in
         let same : state_of part kept false (bytes ++ more) ≡ state_of part kept false bytes = stop_is_final-state part kept false bytes more s fits e in
         let no : ((state_of part kept false (bytes ++ more)).phase == 7) ≡ false = ap (λ (r : Regs). r.phase == 7) same ∙ not_started part kept bytes none in
-        ends_by_stop part kept (bytes ++ more) no ∙ ap (λ (o : Option Stopped). ending_by (line_by o)) (later ∙ sym e) ∙ no_ending part kept bytes none
+        ends_by_stop part kept (bytes ++ more) no ∙ ap (λ (o : Option Stopped). ending_by (why_of o)) (later ∙ sym e) ∙ no_ending part kept bytes none
 
 stop_at_last : (part : PartData) (kept : Kept) (d : DeviceState) (bytes : List ℕ) → DeviceStandsFor part kept false d bytes → (s : Stopped) → stop_in part kept bytes ≡ Some s → s.place ≡ length bytes
 stop_at_last part kept d bytes stands s e = by d.registers.stop (sym e ∙ stands.stop_is)
   where
     by : (o : Option Stop) → Some s ≡ stopped_at (length bytes) o → s.place ≡ length bytes
     by None f = cc
-    by (Some line) f = cc
+    by (Some why) f = cc
 
 none_stopped : (part : PartData) (kept : Kept) (from bytes rest : List ℕ) → from ≡ bytes ++ rest → AreBytes (bytes ++ rest) → IsSome (stop_in part kept bytes) → ending_at part kept bytes ≡ None
     → ((k : ℕ) → k < length bytes → ending_at part kept (take k bytes) ≡ None) → NoneBefore part kept from (suc (length from))
@@ -224,8 +224,8 @@ taken_stopped part kept d from bytes rest e fits stands some = by (stop_in part 
         sym (ap (λ (n : ℕ). take n from) count ∙ ap (take (length bytes)) e ∙ take-append_seam bytes rest)
 
 -- the attempt of a page in which the device stopped, where the flash has ended for it
-pub tries_stopped : (part : PartData) (kept : Kept) (address : ℕ) (all : List ℕ) (d new wrapped : DeviceState) (page : List ℕ) (at end : ℕ) (step : Step) → AreBytes all → at ≤ end → (f : Feeds part kept address (Some all) d at)
-    → page ≡ slice_range all at end → (t : Took part kept new f.bytes page step) → step ≡ Stops → DeviceStandsFor part kept true wrapped (f.bytes ++ take t.count page) → Tries part kept address all wrapped (Failed Wrap)
+pub tries_stopped : (part : PartData) (kept : Kept) (address : ℕ) (all : List ℕ) (d new wrapped : DeviceState) (page : List ℕ) (at end : ℕ) (step : Step) → AreBytes all → at ≤ end → (f : Feeds (attempt_at part kept address) (Some all) d at)
+    → page ≡ slice_range all at end → (t : Took (past_of part kept f.bytes) new page step) → step ≡ Stops → DeviceStandsFor part kept true wrapped (f.bytes ++ take t.count page) → Tries (attempt_at part kept address) all wrapped (Failed Wrap)
 tries_stopped part kept address all d new wrapped page at end step fits order f told t is w =
     let bytes : List ℕ = f.bytes ++ take t.count page in
     let count : address + length f.bytes ≡ at = f.count in
@@ -248,8 +248,8 @@ tries_stopped part kept address all d new wrapped page at end step fits order f 
     }
 
 -- the attempt that took all bytes of the flash
-pub tries_out : (part : PartData) (kept : Kept) (address : ℕ) (all : List ℕ) (d wrapped : DeviceState) (at : ℕ) → (f : Feeds part kept address (Some all) d at) → length all ≤ at
-    → DeviceStandsFor part kept true wrapped f.bytes → Tries part kept address all wrapped (Failed Wrap)
+pub tries_out : (part : PartData) (kept : Kept) (address : ℕ) (all : List ℕ) (d wrapped : DeviceState) (at : ℕ) → (f : Feeds (attempt_at part kept address) (Some all) d at) → length all ≤ at
+    → DeviceStandsFor part kept true wrapped f.bytes → Tries (attempt_at part kept address) all wrapped (Failed Wrap)
 tries_out part kept address all d wrapped at f past w =
     let from : List ℕ = drop address all in
     let left : length from ≡ length all - address = length-drop address all in
@@ -278,26 +278,26 @@ tries_out part kept address all d wrapped at f past w =
 
 -- ---- the same where the bytes of the flash are known or not
 
-pub known_out : (part : PartData) (kept : Kept) (address : ℕ) (known : Option (List ℕ)) (d wrapped : DeviceState) (at size : ℕ) (e : Ending) → (f : Feeds part kept address known d at) → size ≤ at
-    → IfKnown known (λ all. size ≡ length all) → DeviceStandsFor part kept true wrapped f.bytes → e ≡ Failed Wrap → IfKnown known (λ all. AreBytes all → Tries part kept address all wrapped e)
+pub known_out : (part : PartData) (kept : Kept) (address : ℕ) (known : Option (List ℕ)) (d wrapped : DeviceState) (at size : ℕ) (e : Ending) → (f : Feeds (attempt_at part kept address) known d at) → size ≤ at
+    → IfKnown known (λ all. size ≡ length all) → DeviceStandsFor part kept true wrapped f.bytes → e ≡ Failed Wrap → IfKnown known (λ all. AreBytes all → Tries (attempt_at part kept address) all wrapped e)
 known_out part kept address None d wrapped at size e f past told w is = tt
 known_out part kept address (Some all) d wrapped at size e f past told w is =
-    λ fits. subst (λ (x : Ending). Tries part kept address all wrapped x) (sym is) (tries_out part kept address all d wrapped at f (omega (arith, past, told)) w)
+    λ fits. subst (λ (x : Ending). Tries (attempt_at part kept address) all wrapped x) (sym is) (tries_out part kept address all d wrapped at f (omega (arith, past, told)) w)
 
-pub known_ended : (part : PartData) (kept : Kept) (address : ℕ) (known : Option (List ℕ)) (d new : DeviceState) (page : List ℕ) (at : ℕ) (step : Step) (e : Ending) → (f : Feeds part kept address known d at)
-    → IfKnown known (λ all. page ≡ slice_range all at (at + length page)) → Took part kept new f.bytes page step → step ≡ Ends e → IfKnown known (λ all. AreBytes all → Tries part kept address all new e)
+pub known_ended : (part : PartData) (kept : Kept) (address : ℕ) (known : Option (List ℕ)) (d new : DeviceState) (page : List ℕ) (at : ℕ) (step : Step) (e : Ending) → (f : Feeds (attempt_at part kept address) known d at)
+    → IfKnown known (λ all. page ≡ slice_range all at (at + length page)) → Took (past_of part kept f.bytes) new page step → step ≡ Ends e → IfKnown known (λ all. AreBytes all → Tries (attempt_at part kept address) all new e)
 known_ended part kept address None d new page at step e f told t is = tt
 known_ended part kept address (Some all) d new page at step e f told t is = λ fits. tries_ended part kept address all d new page at (at + length page) step e (omega arith) f told t is
 
-pub known_stopped : (part : PartData) (kept : Kept) (address : ℕ) (known : Option (List ℕ)) (d new wrapped : DeviceState) (page : List ℕ) (at : ℕ) (step : Step) (e : Ending) → (f : Feeds part kept address known d at)
-    → IfKnown known (λ all. page ≡ slice_range all at (at + length page)) → (t : Took part kept new f.bytes page step) → step ≡ Stops → DeviceStandsFor part kept true wrapped (f.bytes ++ take t.count page) → e ≡ Failed Wrap
-    → IfKnown known (λ all. AreBytes all → Tries part kept address all wrapped e)
+pub known_stopped : (part : PartData) (kept : Kept) (address : ℕ) (known : Option (List ℕ)) (d new wrapped : DeviceState) (page : List ℕ) (at : ℕ) (step : Step) (e : Ending) → (f : Feeds (attempt_at part kept address) known d at)
+    → IfKnown known (λ all. page ≡ slice_range all at (at + length page)) → (t : Took (past_of part kept f.bytes) new page step) → step ≡ Stops → DeviceStandsFor part kept true wrapped (f.bytes ++ take t.count page) → e ≡ Failed Wrap
+    → IfKnown known (λ all. AreBytes all → Tries (attempt_at part kept address) all wrapped e)
 known_stopped part kept address None d new wrapped page at step e f told t is w failed = tt
 known_stopped part kept address (Some all) d new wrapped page at step e f told t is w failed =
-    λ fits. subst (λ (x : Ending). Tries part kept address all wrapped x) (sym failed) (tries_stopped part kept address all d new wrapped page at (at + length page) step fits (omega arith) f told t is w)
+    λ fits. subst (λ (x : Ending). Tries (attempt_at part kept address) all wrapped x) (sym failed) (tries_stopped part kept address all d new wrapped page at (at + length page) step fits (omega arith) f told t is w)
 
 -- a device that stopped, where the flash may end
-pub stops_here : (part : PartData) (kept : Kept) (d : DeviceState) (bytes page : List ℕ) (step : Step) → (kept.kind ≡ Bench → ⊥) → Took part kept d bytes page step → step ≡ Stops → MayWrap d
+pub stops_here : (part : PartData) (kept : Kept) (d : DeviceState) (bytes page : List ℕ) (step : Step) → (kept.kind ≡ Bench → ⊥) → Took (past_of part kept bytes) d page step → step ≡ Stops → MayWrap d
 stops_here part kept d bytes page step boots t is =
     let steps : StepsTo part kept (bytes ++ take t.count page) Stops = subst (λ (s : Step). StepsTo part kept (bytes ++ take t.count page) s) is t.steps in
     ends_here part kept d (bytes ++ take t.count page) boots t.stands steps.1 t.due
@@ -308,12 +308,12 @@ stops_here part kept d bytes page step boots t is =
 gap_open : (part : PartData) (kept : Kept) (bytes : List ℕ) → is_fallback kept.kind ≡ true → history_of bytes ≡ [] → ending_at part kept bytes ≡ None
 gap_open part kept bytes e f =
     let phase : ((state_of part kept false bytes).phase == 7) ≡ false = ap (λ (n : ℕ). n == 7) (gap_phase part kept false bytes e f) in
-    ends_by_stop part kept bytes phase ∙ ap (λ (o : Option Stopped). ending_by (line_by o)) (gap_goes_on part kept bytes e f)
+    ends_by_stop part kept bytes phase ∙ ap (λ (o : Option Stopped). ending_by (why_of o)) (gap_goes_on part kept bytes e f)
 
 -- the device of the attempt before, reset to a fallback over the same bytes, as if they had been fed again
 pub feeds_gap : (keep : Kept) (address taken : ℕ) (known : Option (List ℕ)) (d new : DeviceState) → (l : Leaves address known d) → IsInFirstGap d → is_fallback keep.kind ≡ true → taken ≡ d.taken
     → ((part : PartData) (kept : Kept) (wrapped : Bool) (bytes : List ℕ) → DeviceStandsFor part kept wrapped d bytes → DeviceStandsFor part keep false new bytes) → NoWordDue new
-    → Feeds d.part keep address known new (address + taken)
+    → Feeds (attempt_at d.part keep address) known new (address + taken)
 feeds_gap keep address taken known d new l gap fallback count again due =
     let nothing : history_of l.bytes ≡ [] = (gap l.part l.kept l.wrapped l.bytes l.stands).nothing in
     let here : l.part ≡ d.part = sym l.stands.part_is in
@@ -332,7 +332,7 @@ feeds_gap keep address taken known d new l gap fallback count again due =
     }
 
 -- so does one where the flash has ended
-pub leaves_out : (part : PartData) (kept : Kept) (address : ℕ) (known : Option (List ℕ)) (d new : DeviceState) (at : ℕ) → (f : Feeds part kept address known d at) → DeviceStandsFor part kept true new f.bytes → Leaves address known new
+pub leaves_out : (part : PartData) (kept : Kept) (address : ℕ) (known : Option (List ℕ)) (d new : DeviceState) (at : ℕ) → (f : Feeds (attempt_at part kept address) known d at) → DeviceStandsFor part kept true new f.bytes → Leaves address known new
 leaves_out part kept address known d new at f s = record {
   part = part;
   kept = kept;
@@ -351,8 +351,8 @@ front_told (Some all) page at n l e =
     ap (take n) e ∙ ap (λ (m : ℕ). take n (take m (drop at all))) long ∙ take-take n (length page) (drop at all) l ∙ sym (ap (λ (m : ℕ). take m (drop at all)) short)
 
 -- and one that took bytes of a page
-pub leaves_page : (part : PartData) (kept : Kept) (wrapped : Bool) (address : ℕ) (known : Option (List ℕ)) (d new last : DeviceState) (page : List ℕ) (at : ℕ) (step : Step) → (f : Feeds part kept address known d at)
-    → IfKnown known (λ all. page ≡ slice_range all at (at + length page)) → at + length page ≤ flash_limit → (t : Took part kept new f.bytes page step) → DeviceStandsFor part kept wrapped last (f.bytes ++ take t.count page) → Leaves address known last
+pub leaves_page : (part : PartData) (kept : Kept) (wrapped : Bool) (address : ℕ) (known : Option (List ℕ)) (d new last : DeviceState) (page : List ℕ) (at : ℕ) (step : Step) → (f : Feeds (attempt_at part kept address) known d at)
+    → IfKnown known (λ all. page ≡ slice_range all at (at + length page)) → at + length page ≤ flash_limit → (t : Took (past_of part kept f.bytes) new page step) → DeviceStandsFor part kept wrapped last (f.bytes ++ take t.count page) → Leaves address known last
 leaves_page part kept wrapped address known d new last page at step f told limit t s =
     let count : address + length f.bytes ≡ at = f.count in
     let within : t.count ≤ length page = t.within in

@@ -5,8 +5,9 @@ use Rattle.x7_words.specs.Flash.{IfKnown}
 use Rattle.x7_part.specs.Part.{PartData}
 use Rattle.x7_regs.specs.declared.boot_status.Cause.{Cause}
 use Rattle.x7_regs.specs.declared.boot_status.Cause.TheVariants.{Wrap}
+use Rattle.x7_engine.specs.Past.{HasPast, Past, later}
 use Rattle.x7_engine.specs.Standing.{DeviceState, DeviceStandsFor, NoWordDue}
-use Rattle.x7_engine.specs.State.{line_by, state_of, stop_in, taken_of}
+use Rattle.x7_engine.specs.State.{why_of, state_of, stop_in, taken_of}
 use Rattle.x7_engine.specs.Stops.{fault_of}
 use Rattle.x7_engine.specs.Values.{cause_of}
 use Rattle.x7_engine.specs.declared.fed.Fed.{Fed}
@@ -27,12 +28,12 @@ failed_by (Some cause) = Some (Failed cause)
 -- what a stop ends an attempt by: an obeyed IPROG, or a fault Id, Crc or Watchdog; another fault doesn't end it
 abbrev pub ending_by : Option Stop → Option Ending
 ending_by (Some stop.Iprog) = Some Iprog
-ending_by line = failed_by (cause_of (fault_of line) false)
+ending_by why = failed_by (cause_of (fault_of why) false)
 
 -- what ends an attempt at these bytes, if anything does; phase 7 comes first
 abbrev pub ending_at : PartData → Kept → List ℕ → Option Ending
 ending_at part kept bytes =
-    if (state_of part kept false bytes).phase == 7 then Some Started else ending_by (line_by (stop_in part kept bytes))
+    if (state_of part kept false bytes).phase == 7 then Some Started else ending_by (why_of (stop_in part kept bytes))
 
 -- an attempt: what its device kept over the reset, its address, the bytes that the device took, whether the flash ended first, and what ended it
 pub record Trial : Type 0 where
@@ -83,21 +84,25 @@ StepsTo part kept bytes Goes = (stop_in part kept bytes ≡ None) × (ending_at 
 StepsTo part kept bytes (Ends e) = ending_at part kept bytes ≡ Some e
 StepsTo part kept bytes Stops = IsSome (stop_in part kept bytes) × (ending_at part kept bytes ≡ None)
 
--- a device took bytes of a piece: all of it where the attempt goes on
-pub record Took (part : PartData) (kept : Kept) (d : DeviceState) (bytes piece : List ℕ) (step : Step) : Type 0 where
+-- the past of a device in an attempt in which the flash has not ended
+abbrev pub past_of : PartData → Kept → List ℕ → Past
+past_of part kept bytes = record { part = part; kept = kept; wrapped = false; bytes = bytes }
+
+-- a device with this past took bytes of a piece: all of it where the attempt goes on
+pub record Took (p : Past) (d : DeviceState) (piece : List ℕ) (step : Step) : Type 0 where
   pub count : ℕ
   pub within : count ≤ length piece
   pub all : step ≡ Goes → count ≡ length piece
-  pub stands : DeviceStandsFor part kept false d (bytes ++ take count piece)
+  pub stands : HasPast d (later p (take count piece))
   pub due : NoWordDue d
-  pub steps : StepsTo part kept (bytes ++ take count piece) step
-  pub none : (k : ℕ) → k < count → ending_at part kept (bytes ++ take k piece) ≡ None
+  pub steps : StepsTo p.part p.kept (p.bytes ++ take count piece) step
+  pub none : (k : ℕ) → k < count → ending_at p.part p.kept (p.bytes ++ take k piece) ≡ None
 
 -- whatever bytes the device had taken, without a stop and in an attempt that nothing had ended: it took bytes of a page
 abbrev pub TakesPage : DeviceState → List ℕ → Step → DeviceState → Type 0
 TakesPage old page step new =
     (part : PartData) (kept : Kept) (bytes : List ℕ) → DeviceStandsFor part kept false old bytes → stop_in part kept bytes ≡ None → ending_at part kept bytes ≡ None
-    → Took part kept new bytes page step
+    → Took (past_of part kept bytes) new page step
 
 -- a device in an attempt that nothing has ended, with room in the count for so many bytes more
 pub record IsReady (d : DeviceState) (more : ℕ) : Type 0 where
@@ -109,26 +114,35 @@ pub record IsReady (d : DeviceState) (more : ℕ) : Type 0 where
   pub open_end : ending_at part kept bytes ≡ None
   pub fits : length bytes + more ≤ 2 ^ 63
 
--- an attempt with this kept, at this address, over a flash of these bytes, ended so and left the device
-pub record Tries (part : PartData) (kept : Kept) (address : ℕ) (flash : List ℕ) (d : DeviceState) (ending : Ending) : Type 0 where
+-- how an attempt begins: its device's part, what the device kept over the reset, and the address in the flash
+pub record Attempting : Type 0 where
+  pub part : PartData
+  pub kept : Kept
+  pub address : ℕ
+
+abbrev pub attempt_at : PartData → Kept → ℕ → Attempting
+attempt_at part kept address = record { part = part; kept = kept; address = address }
+
+-- an attempt that began so, over a flash of these bytes, ended so and left the device
+pub record Tries (a : Attempting) (flash : List ℕ) (d : DeviceState) (ending : Ending) : Type 0 where
   pub trial : Trial
-  pub is : IsTrial part flash trial
-  pub kept_is : trial.kept ≡ kept
-  pub address_is : trial.address ≡ address
+  pub is : IsTrial a.part flash trial
+  pub kept_is : trial.kept ≡ a.kept
+  pub address_is : trial.address ≡ a.address
   pub ending_is : trial.ending ≡ ending
-  pub device : IsDeviceOf part d trial
+  pub device : IsDeviceOf a.part d trial
 
 -- an attempt that took the bytes of a flash from its address to a place, where they are told, and that nothing has ended
-pub record Feeds (part : PartData) (kept : Kept) (address : ℕ) (known : Option (List ℕ)) (d : DeviceState) (at : ℕ) : Type 0 where
+pub record Feeds (a : Attempting) (known : Option (List ℕ)) (d : DeviceState) (at : ℕ) : Type 0 where
   pub bytes : List ℕ
-  pub stands : DeviceStandsFor part kept false d bytes
-  pub going : stop_in part kept bytes ≡ None
-  pub open_end : ending_at part kept bytes ≡ None
+  pub stands : DeviceStandsFor a.part a.kept false d bytes
+  pub going : stop_in a.part a.kept bytes ≡ None
+  pub open_end : ending_at a.part a.kept bytes ≡ None
   pub due : NoWordDue d
-  pub count : address + length bytes ≡ at
+  pub count : a.address + length bytes ≡ at
   pub few : length bytes ≤ flash_limit
-  pub read : IfKnown known (λ all. bytes ≡ slice_range all address at)
-  pub none : (k : ℕ) → k < length bytes → ending_at part kept (take k bytes) ≡ None
+  pub read : IfKnown known (λ all. bytes ≡ slice_range all a.address at)
+  pub none : (k : ℕ) → k < length bytes → ending_at a.part a.kept (take k bytes) ≡ None
 
 -- an attempt left a device that stands for the bytes of a flash from an address on, as many as it took, where they are told
 pub record Leaves (address : ℕ) (known : Option (List ℕ)) (d : DeviceState) : Type 0 where

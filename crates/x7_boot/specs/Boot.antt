@@ -14,7 +14,7 @@ use Rattle.x7_engine.specs.Standing.{DeviceState}
 use Rattle.x7_engine.specs.State.{kept_after, state_of}
 use Rattle.x7_engine.specs.declared.kept.Kept.{Kept}
 use Rattle.x7_engine.specs.declared.regs.Regs.{Regs}
-use Rattle.x7_boot.specs.Attempt.{IsDeviceOf, IsTrial, Trial}
+use Rattle.x7_boot.specs.Attempt.{Attempting, IsDeviceOf, IsTrial, Trial}
 use Rattle.x7_boot.specs.declared.attempt.Ending.{Ending}
 use Rattle.x7_boot.specs.declared.attempt.Ending.TheVariants as ending
 use Rattle.x7_boot.specs.declared.boots.BootEnd.{BootEnd}
@@ -82,8 +82,8 @@ pub record IsBoot (part : PartData) (flash : List ℕ) (b : BootedState) : Type 
   pub device : IsDeviceOf part b.device last
 
 -- a flash has led through these attempts, so many, to this one
-pub record Led (part : PartData) (flash : List ℕ) (kept : Kept) (address : ℕ) (attempts : List Tried) (number : ℕ) : Type 0 where
+pub record Led (a : Attempting) (flash : List ℕ) (attempts : List Tried) (number : ℕ) : Type 0 where
   pub older : List Trial
-  pub leads : LeadsTo part flash older (Again kept address)
+  pub leads : LeadsTo a.part flash older (Again a.kept a.address)
   pub tried_are : attempts ≡ reverse (map tried older)
   pub count : length older ≡ number

@@ -9,7 +9,7 @@ ghost use Rattle.x7_engine.specs.FirstGap.{IsInFirstGap};
 ghost use Rattle.x7_engine.specs.Kept.{is_fallback};
 ghost use Rattle.x7_engine.specs.declared.kept.Kept.{Kept as KeptData};
 ghost use Rattle.x7_engine.specs.Standing.{DeviceStandsFor, MayWrap, NoWordDue, with_wrap};
-ghost use Rattle.x7_boot.specs.Attempt.{Feeds, Leaves, Tries};
+ghost use Rattle.x7_boot.specs.Attempt.{Feeds, Leaves, Tries, attempt_at};
 ghost use Rattle.x7_boot.specs.Image.{flash_limit};
 ghost use Rattle.x7_boot.specs.Pages.{ArePages};
 ghost use Rattle.x7_boot.specs.declared.attempt.Ending.TheVariants as ending;
@@ -55,7 +55,7 @@ fn takes_the_gap_again(device: &Device, kind: Kind, address: u32, last_address: 
 /// or behind a gap that it took from there on in the attempt before.
 fn begin(device: &mut Device, keep: Kept, address: u32, last_address: u32) -> u64
     requires few { device.old.taken ≤ flash_limit }
-    ensures { (known : Option (List ℕ)) → Leaves last_address known device.old → Feeds device.old.part keep address known device.new result }
+    ensures { (known : Option (List ℕ)) → Leaves last_address known device.old → Feeds (attempt_at device.old.part keep address) known device.new result }
 {
     if takes_the_gap_again(device, keep.kind, address, last_address) {
         device.reset_in_gap(keep);
@@ -81,7 +81,7 @@ pub(crate) fn try_once<F: Flash>(
     requires left { Leaves last_address (F.state flash.old).bytes device.old }
     requires pages { ArePages (F.state flash.old).bytes (F.state flash.old).extent pages.old.pages.entries }
     ensures pages { ArePages (F.state flash.old).bytes (F.state flash.old).extent pages.new.pages.entries }
-    ensures tried { IfOk result (λ ending. IfKnown (F.state flash.old).bytes (λ all. AreBytes all → Tries device.old.part keep address all device.new ending)) }
+    ensures tried { IfOk result (λ ending. IfKnown (F.state flash.old).bytes (λ all. AreBytes all → Tries (attempt_at device.old.part keep address) all device.new ending)) }
     ensures leaves { IfOk result (λ _. Leaves address (F.state flash.old).bytes device.new) }
     ensures part { IfOk result (λ ending. device.new.part ≡ device.old.part) }
     ensures due { IfOk result (λ ending. NoWordDue device.new) }

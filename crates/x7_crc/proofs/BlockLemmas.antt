@@ -134,10 +134,10 @@ words_by_blocks (suc n) bs h =
     ∙ ap (λ x. words_of_bytes (take 16 bs) ++ flat_map words_of_bytes (first_chunks 16 n (drop 16 bs)) ++ words_of_bytes x) (drop-drop (n * 16) 16 bs ∙ ap (λ k. drop k bs) (let k : 16 + n * 16 ≡ suc n * 16 = omega arith in k))
 
 -- the check of a slice, its blocks first
-pub blocks_and_rest : (v register front whole n : ℕ) (bs : List ℕ) → v < 2 ^ 32 → n * 16 ≤ length bs →
-    front ≡ check_after v (writes_to register (flat_map words_of_bytes (first_chunks 16 n bs))) →
-    whole ≡ check_after front (writes_to register (words_of_bytes (drop (n * 16) bs))) → whole ≡ check_after v (writes_to register (words_of_bytes bs))
-blocks_and_rest v register front whole n bs h l e f =
+pub blocks_and_rest : (v register prefix whole n : ℕ) (bs : List ℕ) → v < 2 ^ 32 → n * 16 ≤ length bs →
+    prefix ≡ check_after v (writes_to register (flat_map words_of_bytes (first_chunks 16 n bs))) →
+    whole ≡ check_after prefix (writes_to register (words_of_bytes (drop (n * 16) bs))) → whole ≡ check_after v (writes_to register (words_of_bytes bs))
+blocks_and_rest v register prefix whole n bs h l e f =
     let a = flat_map words_of_bytes (first_chunks 16 n bs) in
     let b = words_of_bytes (drop (n * 16) bs) in
     f ∙ ap (λ x. check_after x (writes_to register b)) e
@@ -152,10 +152,10 @@ pub block_taken : (v register i next whole : ℕ) (blocks : List (List ℕ)) →
 block_taken v register i next whole blocks h k e g =
     let a = words_of_bytes (get_or blocks i []) in
     let b = flat_map words_of_bytes (drop (i + 1) blocks) in
-    let front : flat_map words_of_bytes (drop i blocks) ≡ a ++ b = rw (add-one, drop-cons blocks i []) refl in
+    let prefix : flat_map words_of_bytes (drop i blocks) ≡ a ++ b = rw (add-one, drop-cons blocks i []) refl in
     ap (λ x. check_after x (writes_to register b)) e
     ∙ sym (check_after-append v (writes_to register a) (writes_to register b) h)
-    ∙ ap (check_after v) (sym (map-append (λ word. (register, word)) a b) ∙ ap (writes_to register) (sym front)) ∙ g
+    ∙ ap (check_after v) (sym (map-append (λ word. (register, word)) a b) ∙ ap (writes_to register) (sym prefix)) ∙ g
 
 pub blocks_end : (v register i whole : ℕ) (blocks : List (List ℕ)) → v < 2 ^ 32 → length blocks ≤ i →
     check_after v (writes_to register (flat_map words_of_bytes (drop i blocks))) ≡ whole → v ≡ whole

@@ -86,8 +86,8 @@ check_after_next : (v register i : ℕ) (chunks : List (List ℕ)) → v < 2 ^ 3
 check_after_next v register i chunks h k =
     let w : ℕ = word_of_bytes (get_or chunks i []) in
     let rest : List (ℕ × ℕ) = writes_to register (map word_of_bytes (drop (i + 1) chunks)) in
-    let front : writes_to register (map word_of_bytes (drop i chunks)) ≡ (register, w) ∷ rest = rw (add-one, drop-cons chunks i []) refl in
-    ap (check_after v) front ∙ check_after-append v ((register, w) ∷ []) rest h
+    let prefix : writes_to register (map word_of_bytes (drop i chunks)) ≡ (register, w) ∷ rest = rw (add-one, drop-cons chunks i []) refl in
+    ap (check_after v) prefix ∙ check_after-append v ((register, w) ∷ []) rest h
 
 -- one chunk more
 pub chunk_taken : (v register i word next whole : ℕ) (chunks : List (List ℕ)) → v < 2 ^ 32 → i < length chunks →

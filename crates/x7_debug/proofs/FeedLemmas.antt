@@ -31,13 +31,13 @@ taken-within part kept bytes fits = by (stop_in part kept bytes) refl
     by (Some s) e = omega (arith, taken-stopped part kept bytes s e, (stop_place part kept bytes s fits e).1)
 
 -- a front that the device took, where it goes on behind it or has stopped at its end
-all-part : (part : PartData) (kept : Kept) (front : List ℕ) → stop_in part kept front ≡ None → front ≡ take (taken_of part kept front) front
-all-part part kept front e = sym (ap (λ (n : ℕ). take n front) (taken-all part kept front e) ∙ take-length front)
+all-part : (part : PartData) (kept : Kept) (prefix : List ℕ) → stop_in part kept prefix ≡ None → prefix ≡ take (taken_of part kept prefix) prefix
+all-part part kept prefix e = sym (ap (λ (n : ℕ). take n prefix) (taken-all part kept prefix e) ∙ take-length prefix)
 
-stopped-part : (part : PartData) (kept : Kept) (front rest : List ℕ) (s : Stopped) → AreBytes (front ++ rest) → stop_in part kept front ≡ Some s → s.place ≡ length front → front ≡ take (taken_of part kept (front ++ rest)) (front ++ rest)
-stopped-part part kept front rest s fits e place =
-    let taken : taken_of part kept (front ++ rest) ≡ length front = taken-stopped part kept (front ++ rest) s (stop_is_final-stop part kept front rest s fits e) ∙ place in
-    sym (ap (λ (n : ℕ). take n (front ++ rest)) taken ∙ take-append_seam front rest)
+stopped-part : (part : PartData) (kept : Kept) (prefix rest : List ℕ) (s : Stopped) → AreBytes (prefix ++ rest) → stop_in part kept prefix ≡ Some s → s.place ≡ length prefix → prefix ≡ take (taken_of part kept (prefix ++ rest)) (prefix ++ rest)
+stopped-part part kept prefix rest s fits e place =
+    let taken : taken_of part kept (prefix ++ rest) ≡ length prefix = taken-stopped part kept (prefix ++ rest) s (stop_is_final-stop part kept prefix rest s fits e) ∙ place in
+    sym (ap (λ (n : ℕ). take n (prefix ++ rest)) taken ∙ take-append_seam prefix rest)
 
 module _ (part : PartData) (kept : Kept) (wrapped : Bool) (bytes piece : List ℕ) (d : DeviceState) where
   at-stop : (n : ℕ) (s : Stopped) → AreBytes (bytes ++ piece) → DeviceStandsFor part kept wrapped d (bytes ++ take n piece) → stop_in part kept (bytes ++ take n piece) ≡ Some s → s.place ≡ length (bytes ++ take n piece)

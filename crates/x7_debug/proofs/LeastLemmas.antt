@@ -9,7 +9,7 @@ use Rattle.x7_packets.specs.Reading.{is_synced as ends_synced}
 use Rattle.x7_part.specs.Part.{PartData}
 use Rattle.x7_engine.specs.declared.stop.Stop.{Stop as Line}
 use Rattle.x7_engine.specs.Kept.{on_the_bench}
-use Rattle.x7_engine.specs.State.{end_by, line_by, stop_in}
+use Rattle.x7_engine.specs.State.{end_by, why_of, stop_in}
 use Rattle.x7_engine.specs.Stops.{Stopped}
 use Rattle.x7_engine.proofs.StateLemmas.{stop_is_final-stop, stop_place}
 use Rattle.x7_debug.specs.declared.order.Stop.TheVariants as stop
@@ -42,7 +42,7 @@ going o true wbstar e = ap (λ (x : Option Line). has_stopped (end_by x true wbs
 going o false wbstar e = ap (λ (x : Option Line). has_stopped (end_by x false wbstar)) e
 
 not-stopped : (part : PartData) (stream : List ℕ) (n : ℕ) → AreBytes stream → n < last_of part stream → holds_at part stream stop.Stopped n ≡ false
-not-stopped part stream n fits lt = going (line_by (stop_in part on_the_bench (take n stream))) (ends_synced (reading_of (take n stream)).place) _ (ap line_by (none-before part stream n fits lt))
+not-stopped part stream n fits lt = going (why_of (stop_in part on_the_bench (take n stream))) (ends_synced (reading_of (take n stream)).place) _ (ap why_of (none-before part stream n fits lt))
 
 pub until-stopped : (part : PartData) (stream : List ℕ) (at : ℕ) → AreBytes stream → at ≤ last_of part stream → until_of part stream stop.Stopped at ≡ last_of part stream
 until-stopped part stream at fits le = by (holds_at part stream stop.Stopped (last_of part stream)) refl

@@ -76,11 +76,11 @@ one-list (a ∷ ps) (b ∷ bs) f g e =
     cc
 
 -- a line that is no order's isn't among those of orders
-none-among : (ps : List Order) (front back : List (List ℕ)) (bad : List ℕ) → AllByRecursion FitsOrder ps → IsNoOrder bad → map order_text ps ≡ front ++ bad ∷ back → ⊥
+none-among : (ps : List Order) (prefix back : List (List ℕ)) (bad : List ℕ) → AllByRecursion FitsOrder ps → IsNoOrder bad → map order_text ps ≡ prefix ++ bad ∷ back → ⊥
 none-among [] [] back bad f n e = absurd cc
-none-among [] (x ∷ front) back bad f n e = absurd cc
+none-among [] (x ∷ prefix) back bad f n e = absurd cc
 none-among (a ∷ ps) [] back bad f n e = let is : bad ≡ order_text a = cc in n.no_order a f.0 is
-none-among (a ∷ ps) (x ∷ front) back bad f n e = let rest : map order_text ps ≡ front ++ bad ∷ back = cc in none-among ps front back bad f.1 n rest
+none-among (a ∷ ps) (x ∷ prefix) back bad f n e = let rest : map order_text ps ≡ prefix ++ bad ∷ back = cc in none-among ps prefix back bad f.1 n rest
 
 -- a bad line keeps its place among those that have a meaning
 bad-stays : (before after : List (List ℕ)) (bad : List ℕ) → IsNoOrder bad → filter has_meaning (before ++ bad ∷ after) ≡ filter has_meaning before ++ bad ∷ filter has_meaning after

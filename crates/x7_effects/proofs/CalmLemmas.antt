@@ -1,11 +1,11 @@
--- A history that grows where no watchdog runs and no access comes to a line.
+-- A history that grows where no watchdog runs and no access stops a device.
 use Rattle.std.proofs.Common.{◌≡◌, ◌&&◌, ◌+◌, ◌-◌, ◌≤◌, ℕ, false, not, None, ◌∷◌, ap, ◌∙◌, arith, subst}
 use Rattle.x7_packets.specs.History.{Access, History, entry}
 use Rattle.x7_part.specs.Part.{PartData}
 use Rattle.x7_engine.specs.declared.kept.Kept.{Kept}
 use Rattle.x7_engine.specs.Clock.{newest_place}
 use Rattle.x7_engine.specs.Kept.{is_fallback}
-use Rattle.x7_engine.specs.Stops.{line_at, stop_of, stopped_at}
+use Rattle.x7_engine.specs.Stops.{why_at, stop_of, stopped_at}
 use Rattle.x7_engine.specs.Watching.{timer_held, turns_on}
 use Rattle.x7_engine.proofs.ClockLemmas.{stop_of-access}
 use Rattle.x7_engine.proofs.RestLemmas.{stop_on}
@@ -29,9 +29,9 @@ calm_bytes part kept h n m l c =
       newest = omega (arith, l, c.newest);
     }
 
--- an access that comes to no line, and leaves the watchdog off
+-- an access that stops nothing, and leaves the watchdog off
 pub calm_access : (part : PartData) (kept : Kept) (h : History) (access : Access) (n place : ℕ) → n ≤ place → IsCalm part kept h n
-    → line_at part kept h access ≡ None → IsOff kept (entry access place ∷ h) → IsCalm part kept (entry access place ∷ h) place
+    → why_at part kept h access ≡ None → IsOff kept (entry access place ∷ h) → IsCalm part kept (entry access place ∷ h) place
 calm_access part kept h access n place l c none off =
     let before : IsCalm part kept h place = calm_bytes part kept h n place l c in
     record {

@@ -1,20 +1,14 @@
 -- The running check of items that are entered.
-use Rattle.std.proofs.Common.{◌≡◌, ℕ, ◌+◌, ◌*◌, ◌%◌, ◌^◌, ◌<◌, ◌==◌, Bool, true, false, if◌then◌else◌, List, [], ◌∷◌, ◌++◌, Some, length, refl, ap, sym, subst, ◌∙◌, arith, lit<}
+use Rattle.std.proofs.Common.{◌≡◌, ℕ, ◌+◌, ◌*◌, ◌%◌, ◌^◌, ◌<◌, ◌==◌, Bool, true, false, if◌then◌else◌, List, [], ◌∷◌, ◌++◌, length, refl, ap, sym, ◌∙◌, arith, lit<}
 use Rattle.std.proofs.lemmas.Bool.Decides.{nat_tests}
 use Rattle.x7_packets.specs.History as access
 use Rattle.x7_packets.specs.History.{History, entry, command_held, last_word, history_of, entered, entered_all}
-use Rattle.x7_packets.specs.declared.header.Step.{Step}
-use Rattle.x7_packets.specs.declared.header.Step.TheVariants as step
 use Rattle.x7_packets.specs.RunningCheck.{RegisterWrite, open_writes, clears}
 use Rattle.x7_crc.specs.RunningCheck.{check_after, check_of, writes_to}
-use Rattle.x7_crc.specs.OpenWrites.{in_order, running_check}
+use Rattle.x7_crc.specs.OpenWrites.{in_order}
 use Rattle.x7_crc.proofs.CheckLemmas.{check_after-none, check_after_fits, check_after-append, check_of-more}
-use Rattle.x7_effects.proofs.Items.{Item, desync, closed, Noop, Dummy, Write, WriteLong, Read, ReadLong, item_words, IsItem, AreItems, writes_entered, item_entered, items_entered, MayLead, opened, bytes_of_words}
-use Rattle.x7_effects.proofs.Checking.{Checking, clears_by, after_write, after_writes, after_item, after_items, checking_of, at_first, ClearFirst, Piece, Put, Check, piece_item, with_checks, IsPiece, ArePieces, register_written}
-use Rattle.x7_effects.proofs.StreamLemmas.{opened_history, appended_history, items_entered-append}
-use Rattle.x7_words.specs.Word.{AreBytes}
-use Rattle.x7_packets.specs.ByHand.{reading_of}
-use Rattle.x7_packets.specs.Appended.{MayFollow}
+use Rattle.x7_effects.proofs.Items.{Item, Noop, Dummy, Write, WriteLong, Read, ReadLong, item_words, IsItem, AreItems, writes_entered, item_entered, items_entered}
+use Rattle.x7_effects.proofs.Checking.{Checking, clears_by, after_write, after_writes, after_item, after_items, checking_of, Piece, Put, Check, piece_item, with_checks, IsPiece, ArePieces}
 
 checking_is : (c d : Checking) → c.check ≡ d.check → c.held ≡ d.held → c ≡ d
 checking_is c d e f = ap (λ (x : ℕ). record { check = x; held = c.held }) e ∙ ap (λ (x : ℕ). record { check = d.check; held = x }) f

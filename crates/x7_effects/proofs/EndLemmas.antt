@@ -13,8 +13,8 @@ use Rattle.x7_flow.specs.Controls.{ctl0_held, forbids_reading}
 use Rattle.x7_flow.specs.FrameMemory.{memory_of}
 use Rattle.x7_engine.specs.declared.kept.Kept.{Kept}
 use Rattle.x7_engine.specs.Rest.{AtRest}
-use Rattle.x7_engine.specs.Startup.{phase_by, phase_of, startup_progress}
-use Rattle.x7_engine.specs.State.{history_by, memory_in, reads_of, state_of, stop_in, taken_by}
+use Rattle.x7_engine.specs.Startup.{phase_of}
+use Rattle.x7_engine.specs.State.{history_by, memory_in, reads_of, state_of, stop_in}
 use Rattle.x7_engine.specs.Values.{read_out}
 use Rattle.x7_engine.proofs.UntilLemmas.{phase_going}
 use Rattle.x7_effects.proofs.Items.{Write, item_entered}
@@ -22,7 +22,7 @@ use Rattle.x7_effects.proofs.Checking.{ArePieces, Check, ClearFirst, Piece, Put,
 use Rattle.x7_effects.proofs.Items as item
 use Rattle.x7_effects.proofs.Streams.{command, one, stream_of}
 use Rattle.x7_effects.proofs.FormLemmas.{stream_ends}
-use Rattle.x7_effects.proofs.GoingLemmas.{IsGoing, check_line, eq_itself, going_bytes, idcode_line, quiet_rcrc, written}
+use Rattle.x7_effects.proofs.GoingLemmas.{IsGoing, check_passes, eq_itself, going_bytes, idcode_passes, quiet_rcrc, written}
 use Rattle.x7_effects.proofs.RestingLemmas.{rests, stream_count, stream_history}
 use Rattle.x7_effects.proofs.StillLemmas.{still_phase}
 use Rattle.x7_effects.proofs.WalkLemmas.{IsReady, going_one, quiet_one}
@@ -43,7 +43,7 @@ ready_begin part kept phase h n g c =
     let first : History = entry (access.Write 4 7) (n + 4 + 4 + 4) ∷ h in
     let rcrc : IsGoing part kept phase first (n + 4 + 8) = going_one part kept phase h (n + 4) 4 7 (quiet_rcrc h) refl refl g.calm.off (going_bytes part kept phase h n (n + 4) (omega arith) g) in
     let second : IsGoing part kept phase (item_entered (n + 4 + 8 + 4) (Write 12 (part.idcode ∷ [])) first) (n + 4 + 8 + 4 + 8) =
-    going_one part kept phase first (n + 4 + 8 + 4) 12 part.idcode (record { start = refl; shutdown = refl; desync = refl }) (idcode_line part kept first) refl rcrc.calm.off
+    going_one part kept phase first (n + 4 + 8 + 4) 12 part.idcode (record { start = refl; shutdown = refl; desync = refl }) (idcode_passes part kept first) refl rcrc.calm.off
     (going_bytes part kept phase first (n + 4 + 8) (n + 4 + 8 + 4) (omega arith) rcrc) in
     record {
       going = second;
@@ -55,7 +55,7 @@ ready_begin part kept phase h n g c =
 -- the check
 pub ready_check : (part : PartData) (kept : Kept) (phase : ℕ) (h : History) (n : ℕ) (m : FrameMap) → IsReady part kept phase h n m → IsReady part kept phase (written n (Check ∷ []) h) (n + 8) m
 ready_check part kept phase h n m r = record {
-  going = going_one part kept phase h n 0 _ (record { start = refl; shutdown = refl; desync = refl }) (check_line part kept h) refl r.going.calm.off r.going;
+  going = going_one part kept phase h n 0 _ (record { start = refl; shutdown = refl; desync = refl }) (check_passes part kept h) refl r.going.calm.off r.going;
   matched = r.matched;
   allows = r.allows;
   memory = quiet_one part h (access.Write 0 _) (n + 4 + 4) m refl r.memory;

@@ -21,7 +21,7 @@ use Rattle.x7_part.specs.Slots.{addresses_among, slots, slots_in}
 use Rattle.x7_part.specs.declared.slot.Slot.{Slot}
 use Rattle.x7_part.specs.declared.slot.Slot.TheVariants.{Frame, Pad, End}
 use Rattle.x7_memory.specs.FrameMap.{FrameMap, or_else, AreSame}
-use Rattle.x7_memory.specs.Frames.{frame_at, zeros, zero_frames}
+use Rattle.x7_memory.specs.Frames.{zeros, zero_frames}
 use Rattle.x7_memory.specs.Planned.{PlanRow, PlanData, planned, planned_addresses, IsPlan, total}
 use Rattle.x7_memory.proofs.FrameLemmas.{among_none}
 use Rattle.x7_memory.proofs.MapLemmas.{zeros_at, unnamed_none}

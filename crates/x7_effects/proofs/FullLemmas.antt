@@ -25,19 +25,19 @@ use Rattle.x7_engine.specs.declared.kept.Kept.{Kept}
 use Rattle.x7_engine.specs.Registers.{is_pending}
 use Rattle.x7_engine.specs.Rest.{AtRest}
 use Rattle.x7_engine.specs.Startup.{phase_by, phase_of}
-use Rattle.x7_engine.specs.Stops.{access_line, asks_decryption, has_dec, line_at, or_else, stop_of, stopped_at}
+use Rattle.x7_engine.specs.Stops.{why_by_access, asks_decryption, has_dec, why_at, or_else, stop_of, stopped_at}
 use Rattle.x7_engine.proofs.MaskLemmas.{bit_step}
 use Rattle.x7_effects.proofs.Items as item
 use Rattle.x7_effects.proofs.Items.{WriteLong, Write, item_entered, writes_entered}
 use Rattle.x7_effects.proofs.Checking.{Check, Piece, Put, piece_length, pieces_length}
 use Rattle.x7_effects.proofs.Frames.{frames_at, joined}
-use Rattle.x7_effects.specs.Played.{PlaysFull}
+use Rattle.x7_effects.specs.Played.{PlaysFull, resting_after}
 use Rattle.x7_effects.proofs.Streams.{command, full_pieces, full_stream, one, stream_of}
 use Rattle.x7_effects.proofs.CalmLemmas.{IsCalm, calm_access, calm_bytes}
 use Rattle.x7_effects.proofs.EndLemmas.{HasPlayed, played, ready_check}
 use Rattle.x7_effects.proofs.FormLemmas.{frames_long, full_clears, full_fits}
 use Rattle.x7_effects.proofs.FrameLemmas.{whole_over}
-use Rattle.x7_effects.proofs.GoingLemmas.{IsGoing, IsQuiet, check_line, ctl0_line, eq_itself, going_bytes, idcode_line, line_none, quiet_call, start_line, still_none_pending, written}
+use Rattle.x7_effects.proofs.GoingLemmas.{IsGoing, IsQuiet, check_passes, ctl0_passes, eq_itself, going_bytes, idcode_passes, why_none, quiet_call, start_passes, still_none_pending, written}
 use Rattle.x7_flow.proofs.InsideLemmas.{memory_has}
 use Rattle.x7_effects.proofs.PartialLemmas.{have_words}
 use Rattle.x7_effects.proofs.PlanLemmas.{target}
@@ -53,15 +53,15 @@ both_none : {A : Type 0} (a b : Option A) → or_else a b ≡ None → (a ≡ No
 both_none None b e = (refl, e)
 both_none (Some x) b e = absurd (cc)
 
-no_line : (part : PartData) (kept : Kept) (h : History) (a : Access) (place : ℕ) → stopped_at place (line_at part kept h a) ≡ None → line_at part kept h a ≡ None
-no_line part kept h a place e = elim (line_at part kept h a) as (λ o. stopped_at place o ≡ None → o ≡ None) [ None ↦ λ e. refl | Some x ↦ λ e. absurd (cc) ] e
+no_why : (part : PartData) (kept : Kept) (h : History) (a : Access) (place : ℕ) → stopped_at place (why_at part kept h a) ≡ None → why_at part kept h a ≡ None
+no_why part kept h a place e = elim (why_at part kept h a) as (λ o. stopped_at place o ≡ None → o ≡ None) [ None ↦ λ e. refl | Some x ↦ λ e. absurd (cc) ] e
 
 second_test : {A : Type 0} (a b : Bool) (s t : A) (x : Option A) → (if a then Some s else if b then Some t else x) ≡ None → b ≡ false
 second_test true b s t x e = absurd (cc)
 second_test false true s t x e = absurd (cc)
 second_test false false s t x e = refl
 
-asks_none : (part : PartData) (kept : Kept) (h : History) (r w : ℕ) → access_line part kept h (access.Write r w) ≡ None → asks_decryption h r w ≡ false
+asks_none : (part : PartData) (kept : Kept) (h : History) (r w : ℕ) → why_by_access part kept h (access.Write r w) ≡ None → asks_decryption h r w ≡ false
 asks_none part kept h r w e = second_test (r == 0 && not (w == running_check h)) (asks_decryption h r w) _ _ _ e
 
 either_none : (a b c : Bool) → (a || (b && c)) ≡ false → b ≡ true → c ≡ false
@@ -69,7 +69,7 @@ either_none true b c e f = absurd (cc)
 either_none false true c e f = e
 either_none false false c e f = absurd (cc)
 
-dec_step : (part : PartData) (kept : Kept) (h : History) (a : Access) → has_dec (ctl0_held h) ≡ false → access_line part kept h a ≡ None → has_dec (masked_word 5 (mask_held h) a (ctl0_held h)) ≡ false
+dec_step : (part : PartData) (kept : Kept) (h : History) (a : Access) → has_dec (ctl0_held h) ≡ false → why_by_access part kept h a ≡ None → has_dec (masked_word 5 (mask_held h) a (ctl0_held h)) ≡ false
 dec_step part kept h (access.Read r n) d e = d
 dec_step part kept h (access.Bad w) d e = d
 dec_step part kept h (access.Write r w) d e = by (r == 5) refl
@@ -82,8 +82,8 @@ no_dec : (part : PartData) (kept : Kept) (h : History) (n : ℕ) → stop_of par
 no_dec part kept [] n s = refl
 no_dec part kept (e ∷ h) n s =
     let parts = both_none (stop_of part kept h e.place) _ s in
-    let line : line_at part kept h e.access ≡ None = no_line part kept h e.access e.place (both_none (stopped_at e.place (line_at part kept h e.access)) _ parts.1).0 in
-    dec_step part kept h e.access (no_dec part kept h e.place parts.0) (both_none (access_line part kept h e.access) _ line).0
+    let why : why_at part kept h e.access ≡ None = no_why part kept h e.access e.place (both_none (stopped_at e.place (why_at part kept h e.access)) _ parts.1).0 in
+    dec_step part kept h e.access (no_dec part kept h e.place parts.0) (both_none (why_by_access part kept h e.access) _ why).0
 
 -- ---- the bits of CTL0 that a full stream leaves as they were
 
@@ -124,8 +124,8 @@ pub shut_down : (part : PartData) (kept : Kept) (phase : ℕ) (h : History) (n :
 shut_down part kept phase h n g =
     let a : History = entry (access.Write 4 11) (n + 4 + 4 + 4) ∷ h in
     let b : History = entry (access.Write 4 7) (n + 4 + 8 + 4 + 4) ∷ a in
-    let first : IsCalm part kept a (n + 4 + 4 + 4) = calm_access part kept h (access.Write 4 11) n (n + 4 + 4 + 4) (omega arith) g.calm (line_none part kept h (access.Write 4 11) refl refl) g.calm.off in
-    let second : IsCalm part kept b (n + 4 + 8 + 4 + 4) = calm_access part kept a (access.Write 4 7) (n + 4 + 4 + 4) (n + 4 + 8 + 4 + 4) (omega arith) first (line_none part kept a (access.Write 4 7) refl refl) g.calm.off in
+    let first : IsCalm part kept a (n + 4 + 4 + 4) = calm_access part kept h (access.Write 4 11) n (n + 4 + 4 + 4) (omega arith) g.calm (why_none part kept h (access.Write 4 11) refl refl) g.calm.off in
+    let second : IsCalm part kept b (n + 4 + 8 + 4 + 4) = calm_access part kept a (access.Write 4 7) (n + 4 + 4 + 4) (n + 4 + 8 + 4 + 4) (omega arith) first (why_none part kept a (access.Write 4 7) refl refl) g.calm.off in
     going_bytes part kept 0 b (n + 4 + 8 + 4 + 4) (n + 4 + 8 + 8) (omega arith) (record {
       calm = second;
       still = inl (startup_dropped a (access.Write 4 7) (n + 4 + 8 + 4 + 4) refl, refl);
@@ -144,10 +144,10 @@ settings_ready part kept phase h n m g same s d =
     let b : History = entry (access.Write 9 0x02003FE5) (n + 4 + 8 + 4 + 4) ∷ a in
     let c : History = entry (access.Write 6 0x501) (n + 4 + 8 + 8 + 4 + 4) ∷ b in
     let e : History = entry (access.Write 5 0x101) (n + 4 + 8 + 8 + 8 + 4 + 4) ∷ c in
-    let one_a : IsGoing part kept phase a (n + 4 + 8) = going_one part kept phase h (n + 4) 12 part.idcode (quiet h 12 part.idcode refl refl) (idcode_line part kept h) refl g.calm.off (going_bytes part kept phase h n (n + 4) (omega arith) g) in
+    let one_a : IsGoing part kept phase a (n + 4 + 8) = going_one part kept phase h (n + 4) 12 part.idcode (quiet h 12 part.idcode refl refl) (idcode_passes part kept h) refl g.calm.off (going_bytes part kept phase h n (n + 4) (omega arith) g) in
     let one_b : IsGoing part kept phase b (n + 4 + 8 + 8) = going_one part kept phase a (n + 4 + 8) 9 0x02003FE5 (quiet a 9 0x02003FE5 refl refl) refl refl one_a.calm.off one_a in
     let one_c : IsGoing part kept phase c (n + 4 + 8 + 8 + 8) = going_one part kept phase b (n + 4 + 8 + 8) 6 0x501 (quiet b 6 0x501 refl refl) refl refl one_b.calm.off one_b in
-    let one_e : IsGoing part kept phase e (n + 4 + 8 + 8 + 8 + 8) = going_one part kept phase c (n + 4 + 8 + 8 + 8) 5 0x101 (quiet c 5 0x101 refl refl) (ctl0_line part kept c 0x101 (dec_stays (ctl0_held h) d)) refl one_c.calm.off one_c in
+    let one_e : IsGoing part kept phase e (n + 4 + 8 + 8 + 8 + 8) = going_one part kept phase c (n + 4 + 8 + 8 + 8) 5 0x101 (quiet c 5 0x101 refl refl) (ctl0_passes part kept c 0x101 (dec_stays (ctl0_held h) d)) refl one_c.calm.off one_c in
     record {
       going = one_e;
       matched = rw (eq_itself (part.idcode % 2 ^ 28)) refl;
@@ -172,15 +172,15 @@ starts part kept h n noops g m o few =
     let lfrm : IsGoing part kept 0 a (n + 8) = going_one part kept 0 h n 4 3 (record { start = refl; shutdown = refl; desync = refl }) refl refl g.calm.off g in
     let at_b : ℕ = n + 8 + 4 + 4 in
     let before : IsGoing part kept 0 a at_b = going_bytes part kept 0 a (n + 8) at_b (omega arith) lfrm in
-    let calm_b : IsCalm part kept b at_b = calm_access part kept a (access.Write 4 5) at_b at_b (omega arith) before.calm (line_none part kept a (access.Write 4 5) (start_line part kept a m) refl) before.calm.off in
+    let calm_b : IsCalm part kept b at_b = calm_access part kept a (access.Write 4 5) at_b at_b (omega arith) before.calm (why_none part kept a (access.Write 4 5) (start_passes part kept a m) refl) before.calm.off in
     let armed : HasStartup b at_b true NotBegun = startup_armed a (access.Write 4 5) at_b false NotBegun refl (idle_startup part a at_b before.still) in
     let pending_b : is_pending b ≡ false = still_none_pending a (access.Write 4 5) at_b before.pending refl in
     let at_c : ℕ = n + 8 + 8 + 4 + 4 in
-    let calm_c : IsCalm part kept c at_c = calm_access part kept b (access.Write 0 check) at_b at_c (omega arith) calm_b (line_none part kept b (access.Write 0 check) (check_line part kept b) refl) calm_b.off in
+    let calm_c : IsCalm part kept c at_c = calm_access part kept b (access.Write 0 check) at_b at_c (omega arith) calm_b (why_none part kept b (access.Write 0 check) (check_passes part kept b) refl) calm_b.off in
     let armed_c : HasStartup c at_c true NotBegun = startup_none b (access.Write 0 check) at_c true NotBegun (quiet_call b (access.Write 0 check) pending_b (quiet b 0 check refl refl)) (startup_bytes b at_b at_c true NotBegun calm_b.newest (omega arith) armed) in
     let pending_c : is_pending c ≡ false = still_none_pending b (access.Write 0 check) at_c pending_b refl in
     let at_d : ℕ = n + 8 + 8 + 8 + 8 in
-    let calm_d : IsCalm part kept d at_d = calm_access part kept c (access.Write 4 13) at_c at_d (omega arith) calm_c (line_none part kept c (access.Write 4 13) refl refl) calm_c.off in
+    let calm_d : IsCalm part kept d at_d = calm_access part kept c (access.Write 4 13) at_c at_d (omega arith) calm_c (why_none part kept c (access.Write 4 13) refl refl) calm_c.off in
     let begun : HasStartup d at_d false (Begun (last_word 9 0 c) 0) = startup_desynced c (access.Write 4 13) at_d (last_word 9 0 c) true NotBegun refl (startup_bytes c at_c at_d true NotBegun calm_c.newest (omega arith) armed_c) in
     let end : ℕ = at_d + 4 * noops in
     let later : HasStartup d end false (further (end - at_d) (Begun (last_word 9 0 c) 0)) = startup_bytes d at_d end false (Begun (last_word 9 0 c) 0) calm_d.newest (omega arith) begun in
@@ -199,7 +199,7 @@ first_in [] l = absurd (omega arith)
 first_in (far ∷ fars) l = (0, omega arith, refl)
 
 pub full_plays : (part : PartData) (kept : Kept) (bytes : List ℕ) (plan : PlanData) → AreBytes bytes → AtRest part kept bytes → IsPart part → IsPlan plan → plan.width ≡ frame_words part
-    → ((far : ℕ) → Contains (planned_addresses plan.rows) far → Contains (addresses_in part) far) → PlaysFull part kept bytes (full_stream part plan) plan
+    → ((far : ℕ) → Contains (planned_addresses plan.rows) far → Contains (addresses_in part) far) → PlaysFull (resting_after part kept bytes) (full_stream part plan) plan
 full_plays part kept bytes plan f r is p e within =
     let h : History = history_of bytes in
     let n : ℕ = length bytes + 36 in

@@ -11,7 +11,7 @@ use Rattle.x7_flow.specs.Controls.{ctl0_held, is_matched, mask_held, masked_word
 use Rattle.x7_engine.specs.Registers.{clears_check, is_pending, takes_shutdown}
 use Rattle.x7_engine.specs.Startup.{startup_call}
 use Rattle.x7_flow.specs.Flow.{frame_fault}
-use Rattle.x7_engine.specs.Stops.{access_line, frame_line, has_dec, line_at, or_else}
+use Rattle.x7_engine.specs.Stops.{why_by_access, why_by_frames, has_dec, why_at, or_else}
 use Rattle.x7_effects.proofs.Items.{Item, item_words, items_entered, item_entered}
 use Rattle.x7_effects.proofs.Checking.{Checking, Piece, checking_of, piece_item, piece_length, pieces_length, with_checks}
 use Rattle.x7_effects.proofs.CheckingLemmas.{item_checked}
@@ -76,7 +76,7 @@ pub still_none_pending : (h : History) (access : Access) (place : ℕ) → is_pe
 still_none_pending h access place e f = pending_by (clears_check h access) (executes 11 h access) (is_pending h) f e
 
 pub going_access : (part : PartData) (kept : Kept) (phase : ℕ) (h : History) (access : Access) (n place : ℕ) → n ≤ place → IsGoing part kept phase h n
-    → IsQuiet h access → line_at part kept h access ≡ None → IsOff kept (entry access place ∷ h) → IsGoing part kept phase (entry access place ∷ h) place
+    → IsQuiet h access → why_at part kept h access ≡ None → IsOff kept (entry access place ∷ h) → IsGoing part kept phase (entry access place ∷ h) place
 going_access part kept phase h access n place l g q none off =
     let before : IsGoing part kept phase h place = going_bytes part kept phase h n place l g in
     record {
@@ -90,7 +90,7 @@ desync_call : (h : History) → startup_call h (access.Write 4 13) ≡ call.Desy
 desync_call h = refl
 
 pub going_desync : (part : PartData) (kept : Kept) (phase : ℕ) (h : History) (n place : ℕ) → n ≤ place → IsGoing part kept phase h n
-    → line_at part kept h (access.Write 4 13) ≡ None → IsGoing part kept phase (entry (access.Write 4 13) place ∷ h) place
+    → why_at part kept h (access.Write 4 13) ≡ None → IsGoing part kept phase (entry (access.Write 4 13) place ∷ h) place
 going_desync part kept phase h n place l g none =
     let before : IsGoing part kept phase h place = going_bytes part kept phase h n place l g in
     record {
@@ -108,30 +108,30 @@ quiet_far h far held e a b c d = record { start = rw (e, c, d) a; shutdown = rw 
 
 -- ---- lines that no access of a stream comes to
 
--- no line of the registers, and no fault of the frames
-pub line_none : (part : PartData) (kept : Kept) (h : History) (access : Access) → access_line part kept h access ≡ None → frame_fault part h access ≡ None → line_at part kept h access ≡ None
-line_none part kept h access e f = ap (λ o. or_else o (frame_line (frame_fault part h access))) e ∙ ap frame_line f
+-- no stop by the registers, and no fault of the frames
+pub why_none : (part : PartData) (kept : Kept) (h : History) (access : Access) → why_by_access part kept h access ≡ None → frame_fault part h access ≡ None → why_at part kept h access ≡ None
+why_none part kept h access e f = ap (λ o. or_else o (why_by_frames (frame_fault part h access))) e ∙ ap why_by_frames f
 
-pub far_line : (part : PartData) (kept : Kept) (h : History) (far held : ℕ) → command_held h ≡ held → (held == 5) ≡ false → (held == 13) ≡ false → (held == 15) ≡ false → access_line part kept h (access.Write 1 far) ≡ None
-far_line part kept h far held e a b c = rw (e, b, c, a) refl
+pub far_passes : (part : PartData) (kept : Kept) (h : History) (far held : ℕ) → command_held h ≡ held → (held == 5) ≡ false → (held == 13) ≡ false → (held == 15) ≡ false → why_by_access part kept h (access.Write 1 far) ≡ None
+far_passes part kept h far held e a b c = rw (e, b, c, a) refl
 
 pub eq_itself : (n : ℕ) → (n == n) ≡ true
 eq_itself n = grind arith
 
-pub idcode_line : (part : PartData) (kept : Kept) (h : History) → access_line part kept h (access.Write 12 part.idcode) ≡ None
-idcode_line part kept h = rw (eq_itself (part.idcode % 2 ^ 28)) refl
+pub idcode_passes : (part : PartData) (kept : Kept) (h : History) → why_by_access part kept h (access.Write 12 part.idcode) ≡ None
+idcode_passes part kept h = rw (eq_itself (part.idcode % 2 ^ 28)) refl
 
-pub check_line : (part : PartData) (kept : Kept) (h : History) → access_line part kept h (access.Write 0 (running_check h)) ≡ None
-check_line part kept h = rw (eq_itself (running_check h)) refl
+pub check_passes : (part : PartData) (kept : Kept) (h : History) → why_by_access part kept h (access.Write 0 (running_check h)) ≡ None
+check_passes part kept h = rw (eq_itself (running_check h)) refl
 
-pub data_line : (part : PartData) (kept : Kept) (h : History) (w : ℕ) → is_matched part.idcode h ≡ true → access_line part kept h (access.Write 2 w) ≡ None
-data_line part kept h w m = rw m refl
+pub data_passes : (part : PartData) (kept : Kept) (h : History) (w : ℕ) → is_matched part.idcode h ≡ true → why_by_access part kept h (access.Write 2 w) ≡ None
+data_passes part kept h w m = rw m refl
 
-pub copy_line : (part : PartData) (kept : Kept) (h : History) (w : ℕ) → is_matched part.idcode h ≡ true → access_line part kept h (access.Write 10 w) ≡ None
-copy_line part kept h w m = rw m refl
+pub copy_passes : (part : PartData) (kept : Kept) (h : History) (w : ℕ) → is_matched part.idcode h ≡ true → why_by_access part kept h (access.Write 10 w) ≡ None
+copy_passes part kept h w m = rw m refl
 
-pub start_line : (part : PartData) (kept : Kept) (h : History) → is_matched part.idcode h ≡ true → access_line part kept h (access.Write 4 5) ≡ None
-start_line part kept h m = rw m refl
+pub start_passes : (part : PartData) (kept : Kept) (h : History) → is_matched part.idcode h ≡ true → why_by_access part kept h (access.Write 4 5) ≡ None
+start_passes part kept h m = rw m refl
 
-pub ctl0_line : (part : PartData) (kept : Kept) (h : History) (w : ℕ) → has_dec (masked_word 5 (mask_held h) (access.Write 5 w) (ctl0_held h)) ≡ false → access_line part kept h (access.Write 5 w) ≡ None
-ctl0_line part kept h w e = rw e refl
+pub ctl0_passes : (part : PartData) (kept : Kept) (h : History) (w : ℕ) → has_dec (masked_word 5 (mask_held h) (access.Write 5 w) (ctl0_held h)) ≡ false → why_by_access part kept h (access.Write 5 w) ≡ None
+ctl0_passes part kept h w e = rw e refl

@@ -4,12 +4,11 @@ use Rattle.std.specs.Prelude.{Contains, All}
 use Rattle.std.specs.List.{AllByRecursion}
 use Rattle.std.proofs.Math.Nat.{mul-le-mul_left}
 use Rattle.std.proofs.lemmas.Bool.{cases_eq, eqb-true}
-use Rattle.std.proofs.lemmas.List.Elements.{All-head, All-tail, All-nil, All-cons}
 use Rattle.std.proofs.lemmas.List.{length-replicate}
 use Rattle.x7_planner.proofs.RunLemmas.{all_rows, others_all, others_fewer}
 use Rattle.x7_words.specs.Word.{AreWords}
 use Rattle.x7_words.proofs.ListLemmas.{all-append, all_front, all_back}
-use Rattle.x7_part.specs.AddressOrder.{addresses_in, Rises, risen, rise}
+use Rattle.x7_part.specs.AddressOrder.{addresses_in, Rises}
 use Rattle.x7_part.specs.Part.{PartData, frame_words}
 use Rattle.x7_part.specs.PartRange.{IsPart}
 use Rattle.x7_part.specs.Slots.{addresses_among, slots_in, from}
@@ -24,7 +23,7 @@ use Rattle.x7_planner.proofs.FewLemmas.{rises_in, rises_rest, by_rows}
 use Rattle.x7_effects.proofs.Frames.{joined, AreWide, zero_frame, row_frames}
 use Rattle.x7_planner.specs.Partial.{Copies, Rows}
 use Rattle.x7_effects.proofs.Streams.{HaveWords, IsStretch, AreStretches}
-use Rattle.x7_planner.specs.Partial.{with_content, is_shared, leads_group, groups_led, others, is_frame, follows, with_row, runs_of, stretches_of, same_words}
+use Rattle.x7_planner.specs.Partial.{with_content, leads_group, groups_led, others, is_frame, follows, with_row, runs_of, stretches_of, same_words}
 use Rattle.x7_effects.proofs.Groups.{IsPlaced, LandsAs, plan_pieces}
 use Rattle.x7_flow.proofs.StreamLemmas.{whole_cut}
 use Rattle.x7_effects.proofs.FrameLemmas.{rows_land}

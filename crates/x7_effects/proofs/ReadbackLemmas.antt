@@ -31,16 +31,16 @@ use Rattle.x7_engine.specs.declared.kept.Kept.{Kept}
 use Rattle.x7_engine.specs.Rest.{AtRest}
 use Rattle.x7_engine.specs.Startup.{phase_of}
 use Rattle.x7_engine.specs.State.{reads_of}
-use Rattle.x7_engine.specs.Stops.{line_at}
+use Rattle.x7_engine.specs.Stops.{why_at}
 use Rattle.x7_engine.specs.Values.{answer_of, read_out, read_value, words_read}
 use Rattle.x7_engine.proofs.UntilLemmas.{phase_going}
 use Rattle.x7_effects.proofs.Checking.{Piece, pieces_length}
-use Rattle.x7_effects.specs.Played.{PlaysRead, slot_words, words_along}
+use Rattle.x7_effects.specs.Played.{PlaysRead, resting_after, slot_words, words_along}
 use Rattle.x7_effects.proofs.Streams.{read_pieces, read_stream, stream_of}
 use Rattle.x7_effects.proofs.EndLemmas.{HasPlayed, memory_all, played, reads_all}
 use Rattle.x7_effects.proofs.FormLemmas.{read_clears, read_fits}
 use Rattle.x7_effects.proofs.FrameLemmas.{address_small}
-use Rattle.x7_effects.proofs.GoingLemmas.{IsGoing, far_line, going_access, going_bytes, line_none, quiet_far, quiet_rcrc}
+use Rattle.x7_effects.proofs.GoingLemmas.{IsGoing, far_passes, going_access, going_bytes, why_none, quiet_far, quiet_rcrc}
 use Rattle.x7_flow.proofs.InsideLemmas.{memory_has}
 use Rattle.x7_effects.proofs.PlanLemmas.{target}
 use Rattle.x7_effects.proofs.ReadLemmas as reading
@@ -78,7 +78,7 @@ gives part h count some e f = let none : (count == 0) ≡ false = grind (arith, 
 read_none : (part : PartData) (h : History) (count : ℕ) → reads_frame_data h (access.Read 3 count) ≡ true → has_frame_at part (base_of part h) ≡ true → frame_fault part h (access.Read 3 count) ≡ None
 read_none part h count t a = ap (λ (b : Bool). fault_by part (if b then Reads count else Other) (flow_of part h)) t ∙ no_fault part (base_of part h) count a
 
-read_answer : (part : PartData) (kept : Kept) (h : History) (count place : ℕ) → reads_frame_data h (access.Read 3 count) ≡ true → line_at part kept h (access.Read 3 count) ≡ None → answer_of part kept h (access.Read 3 count) place ≡ frames_read part h count
+read_answer : (part : PartData) (kept : Kept) (h : History) (count place : ℕ) → reads_frame_data h (access.Read 3 count) ≡ true → why_at part kept h (access.Read 3 count) ≡ None → answer_of part kept h (access.Read 3 count) place ≡ frames_read part h count
 read_answer part kept h count place t e =
     ap (λ o. if is_some o then [] else words_read (course_at part kept h place) 3 count) e
     ∙ ap (λ (b : Bool). if b then frames_read part h count else replicate count (read_value (course_at part kept h place) 3)) t
@@ -97,7 +97,7 @@ read_room part far n is h l =
 -- ---- played
 
 pub read_plays : (part : PartData) (kept : Kept) (bytes : List ℕ) (far n : ℕ) → AreBytes bytes → AtRest part kept bytes → IsPart part → Contains (addresses_in part) far → n ≤ length (slots_from part far)
-    → PlaysRead part kept bytes (read_stream part far n) far n
+    → PlaysRead (resting_after part kept bytes) (read_stream part far n) far n
 read_plays part kept bytes far n f r is has l =
     let h : History = history_of bytes in
     let place : ℕ = length bytes + 36 in
@@ -115,12 +115,12 @@ read_plays part kept bytes far n f r is has l =
     going_one part kept phase a (place + 4 + 8 + 4) 4 4 (record { start = refl; shutdown = refl; desync = refl }) refl refl cleared.calm.off (going_bytes part kept phase a (place + 4 + 8) (place + 4 + 8 + 4) (omega arith) cleared) in
     let at : ℕ = place + 4 + 8 + 4 + 8 + 8 in
     let c : History = entry (access.Write 1 far) (place + 4 + 8 + 4 + 8 + 4 + 4) ∷ b in
-    let loaded : IsGoing part kept phase c at = going_one part kept phase b (place + 4 + 8 + 4 + 8) 1 far (quiet_far b far 4 refl refl refl refl refl) (far_line part kept b far 4 refl refl refl refl) refl ordered.calm.off ordered in
+    let loaded : IsGoing part kept phase c at = going_one part kept phase b (place + 4 + 8 + 4 + 8) 1 far (quiet_far b far 4 refl refl refl refl refl) (far_passes part kept b far 4 refl refl refl refl) refl ordered.calm.off ordered in
     let flow = flow_more part (entry (access.Write 1 far) (place + 4 + 8 + 4 + 8 + 4 + 4)) b in
     let base : base_of part c ≡ far = ap (λ (x : Flow). x.base) flow ∙ t.0 in
     let given : given_of part c ≡ 0 = ap (λ (x : Flow). x.given) flow in
     let asks : reads_frame_data c (access.Read 3 count) ≡ true = gives part c count some refl r.sbits in
-    let none : line_at part kept c (access.Read 3 count) ≡ None = line_none part kept c (access.Read 3 count) refl (read_none part c count asks (ap (has_frame_at part) base ∙ t.1)) in
+    let none : why_at part kept c (access.Read 3 count) ≡ None = why_none part kept c (access.Read 3 count) refl (read_none part c count asks (ap (has_frame_at part) base ∙ t.1)) in
     let d : History = entry (access.Read 3 count) (at + 8) ∷ c in
     let read : IsGoing part kept phase d (at + 8) = going_access part kept phase c (access.Read 3 count) at (at + 8) (omega arith) loaded (record { start = refl; shutdown = refl; desync = refl }) none loaded.calm.off in
     let same : AreSame (memory_of part c) (memory_of part h) =

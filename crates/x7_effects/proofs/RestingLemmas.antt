@@ -22,7 +22,7 @@ use Rattle.x7_effects.proofs.Items.{items_entered}
 use Rattle.x7_effects.proofs.Checking.{ArePieces, ClearFirst, Piece, at_first, checking_of, pieces_length, with_checks}
 use Rattle.x7_effects.proofs.Streams.{stream_of}
 use Rattle.x7_effects.proofs.FormLemmas.{last_is, pieces_long, stream_appended, stream_length}
-use Rattle.x7_effects.proofs.GoingLemmas.{IsGoing, going_bytes, going_desync, line_none, written, written_is}
+use Rattle.x7_effects.proofs.GoingLemmas.{IsGoing, going_bytes, going_desync, why_none, written, written_is}
 use Rattle.x7_effects.proofs.StillLemmas.{IsStill, disarmed, never_armed, still_rests}
 
 -- ---- the beginning
@@ -97,4 +97,4 @@ rests part kept phase bytes h n e l s g c =
 pub going_closed : (part : PartData) (kept : Kept) (phase : ℕ) (h : History) (n noops : ℕ) → IsGoing part kept phase h n → IsGoing part kept phase (entry (access.Write 4 13) (n + 8) ∷ h) (n + 8 + 4 * noops)
 going_closed part kept phase h n noops g =
     going_bytes part kept phase (entry (access.Write 4 13) (n + 8) ∷ h) (n + 8) (n + 8 + 4 * noops) (omega arith)
-    (going_desync part kept phase h n (n + 8) (omega arith) g (line_none part kept h (access.Write 4 13) refl refl))
+    (going_desync part kept phase h n (n + 8) (omega arith) g (why_none part kept h (access.Write 4 13) refl refl))

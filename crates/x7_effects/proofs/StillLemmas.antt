@@ -3,7 +3,7 @@ use Rattle.std.proofs.Common.{◌≡◌, ◌/◌, ◌+◌, ◌-◌, ◌≤◌, �
 use Rattle.x7_packets.specs.History.{Access, History, entry}
 use Rattle.x7_part.specs.Part.{PartData}
 use Rattle.x7_startup.specs.Arrivals.{IsPhase, arrival, wait_of}
-use Rattle.x7_startup.specs.Calls.{Begun, Call, NotBegun, Progress, is_armed, progress_of, since_taking}
+use Rattle.x7_startup.specs.Calls.{Begun, Call, NotBegun, StartupProgress, is_armed, progress_of, since_taking}
 use Rattle.x7_startup.specs.Calls as call
 use Rattle.x7_startup.proofs.CallLemmas.{first_place, further, is_armed-arm, is_armed-bytes, is_armed-desync, is_armed-drop, progress_arm, progress_bytes, progress_desync, progress_drop}
 use Rattle.x7_startup.proofs.PhaseLemmas.{one_phase}
@@ -13,11 +13,11 @@ use Rattle.x7_engine.proofs.ClockLemmas.{last_of, phase_rises, startup_entered, 
 use Rattle.x7_engine.proofs.StartupLemmas.{phase_is}
 
 -- whether startup is armed after n bytes, and how far it is
-pub record HasStartup (h : History) (n : ℕ) (armed : Bool) (progress : Progress) : Type 0 where
+pub record HasStartup (h : History) (n : ℕ) (armed : Bool) (progress : StartupProgress) : Type 0 where
   pub armed_is : is_armed false (since_taking (startup_calls h n)) ≡ armed
   pub progress_is : startup_progress h n ≡ progress
 
-pub startup_bytes : (h : History) (n m : ℕ) (armed : Bool) (progress : Progress) → newest_place h ≤ n → n ≤ m → HasStartup h n armed progress → HasStartup h m armed (further (m - n) progress)
+pub startup_bytes : (h : History) (n m : ℕ) (armed : Bool) (progress : StartupProgress) → newest_place h ≤ n → n ≤ m → HasStartup h n armed progress → HasStartup h m armed (further (m - n) progress)
 startup_bytes h n m armed progress l k s =
     let sum : n + (m - n) ≡ m = omega (arith, k) in
     subst (λ (x : ℕ). HasStartup h x armed (further (m - n) progress)) sum (record {
@@ -33,7 +33,7 @@ armed_by : (h : History) (place : ℕ) (armed b : Bool) (calls : List Call) → 
 armed_by h place armed b calls e f = ap (λ (t : List Call). is_armed false (since_taking t)) e ∙ f
 
 -- an access that asks nothing of startup
-pub startup_none : (h : History) (access : Access) (place : ℕ) (armed : Bool) (progress : Progress) → startup_call h access ≡ [] → HasStartup h place armed progress → HasStartup (entry access place ∷ h) place armed progress
+pub startup_none : (h : History) (access : Access) (place : ℕ) (armed : Bool) (progress : StartupProgress) → startup_call h access ≡ [] → HasStartup h place armed progress → HasStartup (entry access place ∷ h) place armed progress
 startup_none h access place armed progress e s =
     let same : startup_calls (entry access place ∷ h) place ≡ startup_calls h place = entered_by h access place [] e ∙ append-nil (startup_calls h place) in
     record {
@@ -42,7 +42,7 @@ startup_none h access place armed progress e s =
     }
 
 -- START
-pub startup_armed : (h : History) (access : Access) (place : ℕ) (armed : Bool) (progress : Progress) → startup_call h access ≡ call.Arm ∷ [] → HasStartup h place armed progress → HasStartup (entry access place ∷ h) place true progress
+pub startup_armed : (h : History) (access : Access) (place : ℕ) (armed : Bool) (progress : StartupProgress) → startup_call h access ≡ call.Arm ∷ [] → HasStartup h place armed progress → HasStartup (entry access place ∷ h) place true progress
 startup_armed h access place armed progress e s =
     let calls : startup_calls (entry access place ∷ h) place ≡ startup_calls h place ++ call.Arm ∷ [] = entered_by h access place (call.Arm ∷ []) e in
     record {
@@ -60,14 +60,14 @@ startup_dropped h access place e =
     }
 
 -- DESYNC
-pub startup_desynced : (h : History) (access : Access) (place cor0 : ℕ) (armed : Bool) (progress : Progress) → startup_call h access ≡ call.Desync cor0 ∷ [] → HasStartup h place armed progress
+pub startup_desynced : (h : History) (access : Access) (place cor0 : ℕ) (armed : Bool) (progress : StartupProgress) → startup_call h access ≡ call.Desync cor0 ∷ [] → HasStartup h place armed progress
     → HasStartup (entry access place ∷ h) place false (first_place progress armed cor0)
 startup_desynced h access place cor0 armed progress e s =
     let calls : startup_calls (entry access place ∷ h) place ≡ startup_calls h place ++ call.Desync cor0 ∷ [] = entered_by h access place (call.Desync cor0 ∷ []) e in
     record {
       armed_is = ap (λ (t : List Call). is_armed false (since_taking t)) calls ∙ is_armed-desync (startup_calls h place) cor0;
       progress_is = ap progress_of calls ∙ progress_desync (startup_calls h place) cor0
-          ∙ ap (λ (p : Progress). first_place p (is_armed false (since_taking (startup_calls h place))) cor0) s.progress_is
+          ∙ ap (λ (p : StartupProgress). first_place p (is_armed false (since_taking (startup_calls h place))) cor0) s.progress_is
           ∙ ap (λ (b : Bool). first_place progress b cor0) s.armed_is;
     }
 
@@ -112,7 +112,7 @@ still_none part phase h access place e (inr s) =
     let same : startup_calls (entry access place ∷ h) place ≡ startup_calls h place = entered_by h access place [] e ∙ append-nil (startup_calls h place) in
     inr (ap (λ (t : List Call). phase_by part (progress_of t)) same ∙ s.0, s.1)
 
-goes_on : (part : PartData) (progress : Progress) (armed : Bool) (cor0 : ℕ) → phase_by part progress ≡ 7 → phase_by part (first_place progress armed cor0) ≡ 7
+goes_on : (part : PartData) (progress : StartupProgress) (armed : Bool) (cor0 : ℕ) → phase_by part progress ≡ 7 → phase_by part (first_place progress armed cor0) ≡ 7
 goes_on part NotBegun armed cor0 e = absurd (omega (arith, e))
 goes_on part (Begun c bytes) armed cor0 e = e
 

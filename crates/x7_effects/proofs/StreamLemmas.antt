@@ -1,5 +1,5 @@
 -- The reading and the history of what a planner writes.
-use Rattle.std.proofs.Common.{◌≡◌, ℕ, zero, suc, ◌+◌, ◌*◌, ◌<◌, false, inl, List, [], ◌∷◌, ◌++◌, Option, None, length, replicate, refl, ap, sym, ◌∙◌, append_assoc, append-nil, arith, length-append}
+use Rattle.std.proofs.Common.{◌≡◌, ℕ, zero, suc, ◌+◌, ◌*◌, ◌<◌, false, List, [], ◌∷◌, ◌++◌, Option, None, length, replicate, refl, ap, sym, ◌∙◌, append_assoc, append-nil, arith, length-append}
 use Rattle.std.proofs.lemmas.Grind.{flat_map-append}
 use Rattle.std.specs.List.{flat_map}
 use Rattle.x7_words.specs.Word.{AreBytes, bytes_of_word}
@@ -15,7 +15,7 @@ use Rattle.x7_packets.specs.History.{History, entry, entered_all, history, histo
 use Rattle.x7_packets.proofs.PacketLemmas.{each_more, ended-more}
 use Rattle.x7_packets.proofs.ByHandLemmas.{reading_is}
 use Rattle.x7_packets.proofs.HistoryLemmas.{entered_all-append, history_is}
-use Rattle.x7_packets.specs.Appended.{BeginsWithDummy, LacksFirst, MayFollow, gap_of, moved}
+use Rattle.x7_packets.specs.Appended.{LacksFirst, MayFollow, moved}
 use Rattle.x7_effects.proofs.Items.{Item, Noop, Dummy, Write, WriteLong, Read, ReadLong, item_words, items_words, AreItems, writes_entered, item_entered, items_entered, desync, write_header, sync_word, bytes_of_words, opened, closed, MayLead, bus_width_head}
 use Rattle.x7_packets.proofs.SeamLemmas.{none_without_first, first_without}
 use Rattle.x7_packets.proofs.AppendedLemmas.{history_after, ends_after}

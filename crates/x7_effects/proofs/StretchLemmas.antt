@@ -34,7 +34,7 @@ use Rattle.x7_effects.proofs.Streams.{command, copy_pieces, one, stretch_pieces,
 use Rattle.x7_planner.specs.Partial as stretch
 use Rattle.x7_planner.specs.Partial.{pairs_of}
 use Rattle.x7_effects.proofs.Groups.{LandsAs, put_stretches}
-use Rattle.x7_effects.proofs.GoingLemmas.{IsGoing, copy_line, far_line, quiet_far, written, written_append}
+use Rattle.x7_effects.proofs.GoingLemmas.{IsGoing, copy_passes, far_passes, quiet_far, written, written_append}
 use Rattle.x7_effects.proofs.WalkLemmas.{HasWritten, IsLoaded, IsReady, allows_writing, going_one, loaded_words, put_same, quiet_one, ready_load}
 
 -- ---- copies
@@ -76,7 +76,7 @@ copy_one part kept phase far words h n m c t =
     let place : ℕ = n + 4 + 4 in
     let g : History = entry (access.Write 1 far) place ∷ h in
     let first : IsGoing part kept phase g (n + 8) =
-    going_one part kept phase h n 1 far (quiet_far h far 2 c.held_is refl refl refl refl) (far_line part kept h far 2 c.held_is refl refl refl) refl c.ready.going.calm.off c.ready.going in
+    going_one part kept phase h n 1 far (quiet_far h far 2 c.held_is refl refl refl refl) (far_passes part kept h far 2 c.held_is refl refl refl) refl c.ready.going.calm.off c.ready.going in
     let allowed : takes_copies (settings_of part.idcode h) ≡ true = rw (c.ready.matched, allows_writing (ctl0_held h) c.ready.allows) refl in
     let loaded = flow_more part (entry (access.Write 1 far) place) h in
     let base : base_of part g ≡ far = ap (λ (f : Flow). f.base) loaded ∙ t.0 in
@@ -87,7 +87,7 @@ copy_one part kept phase far words h n m c t =
     ap (λ (b : Bool). fault_by part (if b then Copies else Other) (flow_of part g)) allowed
     ∙ copy_none part (flow_of part g).command (base_of part g) words (source_of part g) mfw source (ap (has_frame_at part) base ∙ t.1) in
     let second : IsGoing part kept phase (item_entered (n + 8) (Write 10 (0 ∷ [])) g) (n + 8 + 8) =
-    going_one part kept phase g (n + 8) 10 0 (record { start = refl; shutdown = refl; desync = refl }) (copy_line part kept g 0 c.ready.matched) fault first.calm.off first in
+    going_one part kept phase g (n + 8) 10 0 (record { start = refl; shutdown = refl; desync = refl }) (copy_passes part kept g 0 c.ready.matched) fault first.calm.off first in
     let puts : AreSame (memory_of part (item_entered (n + 8) (Write 10 (0 ∷ [])) g)) (put_over (record { far = loaded_base part far; words = words } ∷ []) (memory_of part h)) =
     copies_put part h far place (n + 8 + 4) 0 [] words allowed (ap (λ (k : ℕ). is_mfw (command_with k)) c.held_is ∙ mfw_with 2) c.source_is (ap (has_frame_at part) t.0 ∙ t.1) in
     let keeps = copies_keep part h far place (n + 8 + 4) (0 ∷ []) in

@@ -22,22 +22,22 @@ use Rattle.x7_flow.proofs.FlowLemmas.{flow_more}
 use Rattle.x7_flow.proofs.ManyLemmas.{words_settings}
 use Rattle.x7_flow.proofs.QuietLemmas.{quiet_memory}
 use Rattle.x7_engine.specs.declared.kept.Kept.{Kept}
-use Rattle.x7_engine.specs.Stops.{access_line}
+use Rattle.x7_engine.specs.Stops.{why_by_access}
 use Rattle.x7_effects.proofs.Items.{Write, WriteLong, item_entered, writes_entered}
 use Rattle.x7_effects.proofs.Checking.{Put, piece_length}
 use Rattle.x7_effects.proofs.Streams.{command, one}
 use Rattle.x7_effects.proofs.CalmLemmas.{IsOff}
 use Rattle.x7_flow.proofs.RoomLemmas.{words_memory, words_none, words_run}
-use Rattle.x7_effects.proofs.GoingLemmas.{IsGoing, IsQuiet, data_line, far_line, going_access, going_bytes, line_none, quiet_far, written}
+use Rattle.x7_effects.proofs.GoingLemmas.{IsGoing, IsQuiet, data_passes, far_passes, going_access, going_bytes, why_none, quiet_far, written}
 use Rattle.x7_effects.proofs.ItemLemmas.{payload_enters}
 
 -- ---- one word written to a register
 
-pub going_one : (part : PartData) (kept : Kept) (phase : ℕ) (h : History) (n r w : ℕ) → IsQuiet h (access.Write r w) → access_line part kept h (access.Write r w) ≡ None → frame_fault part h (access.Write r w) ≡ None
+pub going_one : (part : PartData) (kept : Kept) (phase : ℕ) (h : History) (n r w : ℕ) → IsQuiet h (access.Write r w) → why_by_access part kept h (access.Write r w) ≡ None → frame_fault part h (access.Write r w) ≡ None
     → IsOff kept (entry (access.Write r w) (n + 4 + 4) ∷ h) → IsGoing part kept phase h n → IsGoing part kept phase (item_entered n (Write r (w ∷ [])) h) (n + 8)
-going_one part kept phase h n r w q line fault off g =
+going_one part kept phase h n r w q why fault off g =
     going_bytes part kept phase (entry (access.Write r w) (n + 4 + 4) ∷ h) (n + 4 + 4) (n + 8) (omega arith)
-    (going_access part kept phase h (access.Write r w) n (n + 4 + 4) (omega arith) g q (line_none part kept h (access.Write r w) line fault) off)
+    (going_access part kept phase h (access.Write r w) n (n + 4 + 4) (omega arith) g q (why_none part kept h (access.Write r w) why fault) off)
 
 same_then : (l m n : FrameMap) → AreSame l m → AreSame m n → AreSame l n
 same_then l m n a b far = a far ∙ b far
@@ -54,7 +54,7 @@ going_words part kept phase h p [] m none g = going_bytes part kept phase h p (p
 going_words part kept phase h p (w ∷ ws) m none g =
     let here : IsGoing part kept phase (entry (access.Write 2 w) (p + 4) ∷ h) (p + 4) =
     going_access part kept phase h (access.Write 2 w) p (p + 4) (omega arith) g (record { start = refl; shutdown = refl; desync = refl })
-    (line_none part kept h (access.Write 2 w) (data_line part kept h w m) none.0) g.calm.off in
+    (why_none part kept h (access.Write 2 w) (data_passes part kept h w m) none.0) g.calm.off in
     let end : p + 4 + 4 * length ws ≡ p + 4 * length (w ∷ ws) = omega arith in
     subst (λ (k : ℕ). IsGoing part kept phase (writes_entered (p + 4) 2 ws (entry (access.Write 2 w) (p + 4) ∷ h)) k) end
     (going_words part kept phase (entry (access.Write 2 w) (p + 4) ∷ h) (p + 4) ws m none.1 here)
@@ -99,7 +99,7 @@ ready_load part kept phase far h n m r s =
     let g : History = entry (access.Write 4 1) (n + 4 + 4) ∷ h in
     let first : IsGoing part kept phase g (n + 8) = going_one part kept phase h n 4 1 (record { start = refl; shutdown = refl; desync = refl }) refl refl r.going.calm.off r.going in
     let second : IsGoing part kept phase (item_entered (n + 8) (Write 1 (far ∷ [])) g) (n + 8 + 8) =
-    going_one part kept phase g (n + 8) 1 far (quiet_far g far 1 refl refl refl refl refl) (far_line part kept g far 1 refl refl refl refl) refl first.calm.off first in
+    going_one part kept phase g (n + 8) 1 far (quiet_far g far 1 refl refl refl refl refl) (far_passes part kept g far 1 refl refl refl refl) refl first.calm.off first in
     let loaded = flow_more part (entry (access.Write 1 far) (n + 8 + 4 + 4)) g in
     record {
       ready = record {

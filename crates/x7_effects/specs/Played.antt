@@ -16,11 +16,20 @@ use Rattle.x7_planner.specs.Full.{full_stream}
 use Rattle.x7_planner.specs.Partial.{partial_stream}
 use Rattle.x7_planner.specs.Readback.{read_stream}
 
--- a device of a part is at rest after these bytes
-pub record Rests (part : PartData) (kept : Kept) (bytes : List ℕ) : Type 0 where
-  pub fits : AreBytes bytes
-  pub at_rest : AtRest part kept bytes
-  pub is_part : IsPart part
+-- a device that a stream is played on: its part, what its reset kept, and the bytes that it took since then
+pub record Resting : Type 0 where
+  pub part : PartData
+  pub kept : Kept
+  pub bytes : List ℕ
+
+abbrev pub resting_after : PartData → Kept → List ℕ → Resting
+resting_after part kept bytes = record { part = part; kept = kept; bytes = bytes }
+
+-- it is at rest
+pub record Rests (r : Resting) : Type 0 where
+  pub fits : AreBytes r.bytes
+  pub at_rest : AtRest r.part r.kept r.bytes
+  pub is_part : IsPart r.part
 
 -- a device of a part at rest after these bytes, and a plan whose stream is played on it
 pub record Playing : Type 0 where
@@ -31,7 +40,7 @@ pub record Playing : Type 0 where
 
 -- it is at rest so, and the plan is one for the part
 pub record CanPlay (p : Playing) : Type 0 where
-  pub rests : Rests p.part p.kept p.bytes
+  pub rests : Rests (resting_after p.part p.kept p.bytes)
   pub plan_is : IsPlanFor p.part p.plan
 
 -- the bytes with the full and with the partial stream of the plan behind them
@@ -56,38 +65,38 @@ abbrev pub words_along : PartData → FrameMap → ℕ → ℕ → List ℕ
 words_along part memory far n = replicate (frame_words part) 0 ++ flat_map (slot_words part memory) (take n (slots_from part far))
 
 -- After a full stream the memory is the plan over zeros and startup has ended. It reads nothing out, there is no stop, and the device is at rest again.
-pub record PlaysFull (part : PartData) (kept : Kept) (bytes stream : List ℕ) (plan : PlanData) : Type 0 where
-  pub memory : AreSame (memory_in part kept (bytes ++ stream)) (total part plan)
-  pub phase : (wrapped : Bool) → (state_of part kept wrapped (bytes ++ stream)).phase ≡ 7
-  pub reads : reads_of part kept (bytes ++ stream) ≡ reads_of part kept bytes
-  pub rests : AtRest part kept (bytes ++ stream)
+pub record PlaysFull (r : Resting) (stream : List ℕ) (plan : PlanData) : Type 0 where
+  pub memory : AreSame (memory_in r.part r.kept (r.bytes ++ stream)) (total r.part plan)
+  pub phase : (wrapped : Bool) → (state_of r.part r.kept wrapped (r.bytes ++ stream)).phase ≡ 7
+  pub reads : reads_of r.part r.kept (r.bytes ++ stream) ≡ reads_of r.part r.kept r.bytes
+  pub rests : AtRest r.part r.kept (r.bytes ++ stream)
 
 -- After a partial stream the memory is that before it, overridden by the plan, and the phase stays. It reads nothing out, there is no stop, and the device is at rest again.
-pub record PlaysPartial (part : PartData) (kept : Kept) (bytes stream : List ℕ) (plan : PlanData) : Type 0 where
-  pub memory : AreSame (memory_in part kept (bytes ++ stream)) (override (memory_in part kept bytes) (planned plan.rows))
-  pub phase : (wrapped : Bool) → (state_of part kept wrapped (bytes ++ stream)).phase ≡ (state_of part kept wrapped bytes).phase
-  pub reads : reads_of part kept (bytes ++ stream) ≡ reads_of part kept bytes
-  pub rests : AtRest part kept (bytes ++ stream)
+pub record PlaysPartial (r : Resting) (stream : List ℕ) (plan : PlanData) : Type 0 where
+  pub memory : AreSame (memory_in r.part r.kept (r.bytes ++ stream)) (override (memory_in r.part r.kept r.bytes) (planned plan.rows))
+  pub phase : (wrapped : Bool) → (state_of r.part r.kept wrapped (r.bytes ++ stream)).phase ≡ (state_of r.part r.kept wrapped r.bytes).phase
+  pub reads : reads_of r.part r.kept (r.bytes ++ stream) ≡ reads_of r.part r.kept r.bytes
+  pub rests : AtRest r.part r.kept (r.bytes ++ stream)
 
 -- A read stream reads out the words of n slots from an address on; memory and phase stay. There is no stop, and the device is at rest again.
-pub record PlaysRead (part : PartData) (kept : Kept) (bytes stream : List ℕ) (far n : ℕ) : Type 0 where
-  pub reads : reads_of part kept (bytes ++ stream) ≡ reads_of part kept bytes ++ words_along part (memory_in part kept bytes) far n
-  pub memory : AreSame (memory_in part kept (bytes ++ stream)) (memory_in part kept bytes)
-  pub phase : (wrapped : Bool) → (state_of part kept wrapped (bytes ++ stream)).phase ≡ (state_of part kept wrapped bytes).phase
-  pub rests : AtRest part kept (bytes ++ stream)
+pub record PlaysRead (r : Resting) (stream : List ℕ) (far n : ℕ) : Type 0 where
+  pub reads : reads_of r.part r.kept (r.bytes ++ stream) ≡ reads_of r.part r.kept r.bytes ++ words_along r.part (memory_in r.part r.kept r.bytes) far n
+  pub memory : AreSame (memory_in r.part r.kept (r.bytes ++ stream)) (memory_in r.part r.kept r.bytes)
+  pub phase : (wrapped : Bool) → (state_of r.part r.kept wrapped (r.bytes ++ stream)).phase ≡ (state_of r.part r.kept wrapped r.bytes).phase
+  pub rests : AtRest r.part r.kept (r.bytes ++ stream)
 
 -- ---- streams one after another
 
--- The read stream of n slots from an address on, behind streams that left this memory over these bytes and read nothing out: it reads that memory out, and leaves it.
-pub record ReadsBack (part : PartData) (kept : Kept) (bytes written : List ℕ) (memory : FrameMap) (far n : ℕ) : Type 0 where
-  pub reads : reads_of part kept (written ++ read_stream part far n) ≡ reads_of part kept bytes ++ words_along part memory far n
-  pub same : AreSame (memory_in part kept (written ++ read_stream part far n)) memory
-  pub phase : (wrapped : Bool) → (state_of part kept wrapped (written ++ read_stream part far n)).phase ≡ (state_of part kept wrapped written).phase
-  pub rests : AtRest part kept (written ++ read_stream part far n)
+-- The read stream of n slots from an address on, behind the device's bytes and those of streams that left this memory and read nothing out: it reads that memory out, and leaves it.
+pub record ReadsBack (r : Resting) (written : List ℕ) (memory : FrameMap) (far n : ℕ) : Type 0 where
+  pub reads : reads_of r.part r.kept (written ++ read_stream r.part far n) ≡ reads_of r.part r.kept r.bytes ++ words_along r.part memory far n
+  pub same : AreSame (memory_in r.part r.kept (written ++ read_stream r.part far n)) memory
+  pub phase : (wrapped : Bool) → (state_of r.part r.kept wrapped (written ++ read_stream r.part far n)).phase ≡ (state_of r.part r.kept wrapped written).phase
+  pub rests : AtRest r.part r.kept (written ++ read_stream r.part far n)
 
 -- the same of bytes that were played
 abbrev pub ReadsBackAfter : Playing → List ℕ → FrameMap → ℕ → ℕ → Type 0
-ReadsBackAfter p written memory far n = ReadsBack p.part p.kept p.bytes written memory far n
+ReadsBackAfter p written memory far n = ReadsBack (resting_after p.part p.kept p.bytes) written memory far n
 
 -- After a full stream and a partial one the memory is the later plan over the earlier one over zeros, and startup has ended.
 pub record PlaysBoth (part : PartData) (kept : Kept) (bytes : List ℕ) (plan later : PlanData) : Type 0 where

@@ -1,33 +1,26 @@
 //! What planned streams do on a device at rest. The functions do nothing: their contracts are the laws.
 ghost use Rattle.std.specs.Prelude.{◌≡◌, ◌++◌, ℕ, List, []};
 ghost use Rattle.x7_planner.specs.Partial.{AreLongest, WritesOnce, joined_runs, pairs_in, partial_stream, runs_of, stretches_of};
-ghost use Rattle.x7_effects.specs.Played.{CanPlay, changed_memory, with_full, with_partial, Playing, PlaysBoth, PlaysFull, PlaysPartial, PlaysRead, ReadsBackAfter, Rests};
+ghost use Rattle.x7_effects.specs.Played.{CanPlay, changed_memory, with_full, with_partial, Playing, PlaysBoth, PlaysFull, PlaysPartial, PlaysRead, ReadsBackAfter, Resting, resting_after, Rests};
 ghost use Rattle.x7_engine.specs.Kept.{on_the_bench};
-ghost use Rattle.x7_engine.specs.Rest.{AtRest};
-ghost use Rattle.x7_engine.specs.State.{memory_in};
-ghost use Rattle.x7_engine.specs.declared.kept.Kept.{Kept};
-ghost use Rattle.x7_memory.specs.FrameMap.{override};
 ghost use Rattle.x7_memory.specs.Planned.{AreInOrder, IsPlanFor, PlanData, PlanRow, planned, total};
 ghost use Rattle.x7_part.specs.Part.{PartData};
 ghost use Rattle.x7_part.specs.PartRange.{IsPart};
 ghost use Rattle.x7_planner.specs.Full.{full_stream};
 ghost use Rattle.x7_planner.specs.Readback.{read_stream};
 ghost use Rattle.x7_planner.specs.Refusals.{CanRead};
-ghost use Rattle.x7_words.specs.Word.{AreBytes};
 
 /// After any bytes at rest the full stream of a plan at addresses of the part leaves the plan over zeros and ends startup,
 /// without a stop, and the device is at rest again; so also on a new device.
 pub fn full_streams_play()
-    ensures plays { (part : PartData) (kept : Kept) (bytes : List ℕ) (plan : PlanData) → Rests part kept bytes → IsPlanFor part plan
-        → PlaysFull part kept bytes (full_stream part plan) plan }
-    ensures new { (part : PartData) (plan : PlanData) → IsPart part → IsPlanFor part plan → PlaysFull part on_the_bench [] (full_stream part plan) plan }
+    ensures plays { (r : Resting) (plan : PlanData) → Rests r → IsPlanFor r.part plan → PlaysFull r (full_stream r.part plan) plan }
+    ensures new { (part : PartData) (plan : PlanData) → IsPart part → IsPlanFor part plan → PlaysFull (resting_after part on_the_bench []) (full_stream part plan) plan }
 {}
 
 /// After any bytes at rest the partial stream of a plan at addresses of the part overrides the memory by just the plan; the
 /// phase stays, there is no stop, and the device is at rest again.
 pub fn partial_streams_play()
-    ensures { (part : PartData) (kept : Kept) (bytes : List ℕ) (plan : PlanData) → Rests part kept bytes → IsPlanFor part plan
-        → PlaysPartial part kept bytes (partial_stream part plan.rows) plan }
+    ensures { (r : Resting) (plan : PlanData) → Rests r → IsPlanFor r.part plan → PlaysPartial r (partial_stream r.part plan.rows) plan }
 {}
 
 /// The groups and runs of a plan write each of its rows once, with its frame, and no other address. Runs are their rows in
@@ -41,8 +34,7 @@ pub fn partial_streams_write_once()
 /// After any bytes at rest the read stream of n slots from an address on reads out a frame of zeros and the frames along
 /// these slots; memory and phase stay, there is no stop, and the device is at rest again.
 pub fn read_streams_play()
-    ensures { (part : PartData) (kept : Kept) (bytes : List ℕ) (address n : ℕ) → Rests part kept bytes → CanRead part address n
-        → PlaysRead part kept bytes (read_stream part address n) address n }
+    ensures { (r : Resting) (address n : ℕ) → Rests r → CanRead r.part address n → PlaysRead r (read_stream r.part address n) address n }
 {}
 
 /// Streams one after another, from a device at rest on: a read stream behind a full one reads the plan over zeros back, and

@@ -2,7 +2,7 @@
 use Rattle.std.proofs.Common.{◌≡◌, ◌||◌, ◌+◌, ◌-◌, ◌≤◌, inl, inr, ◌↔◌, IsTrue, ℕ, Bool, true, false, if◌then◌else◌, Option, None, Some, List, [], ◌∷◌, ◌++◌, refl, ap, sym, subst, ◌∙◌, append-nil, arith}
 use Rattle.x7_packets.specs.History.{Entry, History, Placed, executes, last_word}
 use Rattle.x7_packets.proofs.GrowthLemmas.{placed_within}
-use Rattle.x7_startup.specs.Calls.{Begun, Call, NotBegun, Progress, is_armed, progress_of, since_taking}
+use Rattle.x7_startup.specs.Calls.{Begun, Call, NotBegun, StartupProgress, is_armed, progress_of, since_taking}
 use Rattle.x7_startup.specs.Calls as call
 use Rattle.x7_startup.proofs.CallLemmas.{first_place, further, is_armed-arm, is_armed-bytes, is_armed-desync, is_armed-drop, progress_arm, progress_bytes, progress_desync, progress_drop}
 use Rattle.x7_engine.specs.Registers.{takes_shutdown}
@@ -37,7 +37,7 @@ abbrev begun_in : History → Option Beginning
 begun_in [] = None
 begun_in (e ∷ h) = begun_by (takes_shutdown h e.access) (executes 13 h e.access) (armed_in h) (begun_in h) (record { cor0 = last_word 9 0 h; place = e.place })
 
-abbrev progress_by : Option Beginning → ℕ → Progress
+abbrev progress_by : Option Beginning → ℕ → StartupProgress
 progress_by None n = NotBegun
 progress_by (Some b) n = Begun b.cor0 (n - b.place)
 
@@ -84,7 +84,7 @@ after_call h e a o s = by (executes 5 h e.access) (takes_shutdown h e.access) (e
     same a o s = subst (λ (t : List Call). AfterCall t a o e.place) (sym (append-nil calls)) s
 
     began : (a : Bool) (o : Option Beginning) → AfterCall calls a o e.place → first_place (progress_of calls) (is_armed false (since_taking calls)) now.cor0 ≡ progress_by (or_now o a now) e.place
-    began a o s = ap (λ (p : Progress). first_place p (is_armed false (since_taking calls)) now.cor0) s.progress_is ∙ ap (λ (b : Bool). first_place (progress_by o e.place) b now.cor0) s.armed_is ∙ at_once a o
+    began a o s = ap (λ (p : StartupProgress). first_place p (is_armed false (since_taking calls)) now.cor0) s.progress_is ∙ ap (λ (b : Bool). first_place (progress_by o e.place) b now.cor0) s.armed_is ∙ at_once a o
       where
         at_once : (a : Bool) (o : Option Beginning) → first_place (progress_by o e.place) a now.cor0 ≡ progress_by (or_now o a now) e.place
         at_once a (Some b) = refl

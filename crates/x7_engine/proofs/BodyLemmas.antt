@@ -72,14 +72,14 @@ pub word_after : (part : PartData) (kept : Kept) (old new : RegistersState) (reg
     → RegistersStandFor part kept old (entered_all n (payload_steps register (take i ws)) h) (n + taken)
     → RegistersStandFor part kept new (until (counted_in new.stop m) (entered_all n (payload_steps register ws) h)) m
 word_after part kept old new register n i w left taken m ws h e l t k r f s =
-    let front : History = entered_all n (payload_steps register (take i ws)) h in
+    let prefix : History = entered_all n (payload_steps register (take i ws)) h in
     let here : n + taken + (4 - left) ≡ m = omega (arith, k, r) in
-    let one : RegistersStandFor part kept new (until (counted_in new.stop m) (entry (Write register w) (n + taken + 4) ∷ front)) m =
-    subst (λ (x : ℕ). RegistersStandFor part kept new (until (counted_in new.stop x) (entry (Write register w) (n + taken + 4) ∷ front)) x) here (f front (n + taken) (omega arith) s) in
+    let one : RegistersStandFor part kept new (until (counted_in new.stop m) (entry (Write register w) (n + taken + 4) ∷ prefix)) m =
+    subst (λ (x : ℕ). RegistersStandFor part kept new (until (counted_in new.stop x) (entry (Write register w) (n + taken + 4) ∷ prefix)) x) here (f prefix (n + taken) (omega arith) s) in
     let steps : length (payload_steps register ws) ≡ length ws = length-map ws _ in
     let some : i + 1 ≤ length (payload_steps register ws) = omega (arith, steps, l) in
     let behind : counted_in new.stop m < n + 4 * (i + 1) + 4 = omega (arith, counted_within new.stop m, r, t) in
-    let all : until (counted_in new.stop m) (entered_all n (payload_steps register ws) h) ≡ until (counted_in new.stop m) (entry (Write register w) (n + taken + 4) ∷ front) =
+    let all : until (counted_in new.stop m) (entered_all n (payload_steps register ws) h) ≡ until (counted_in new.stop m) (entry (Write register w) (n + taken + 4) ∷ prefix) =
     front_until n (i + 1) (counted_in new.stop m) (payload_steps register ws) h some behind
     ∙ ap (λ t. until (counted_in new.stop m) (entered_all n t h)) (take-map _ (i + 1) ws)
     ∙ ap (until (counted_in new.stop m)) (sym (word_entered register n i w taken ws h e l t)) in
@@ -91,14 +91,14 @@ pub word_on : (part : PartData) (kept : Kept) (old new : RegistersState) (regist
     → RegistersStandFor part kept old (entered_all n (payload_steps register (take i ws)) h) (n + taken)
     → RegistersStandFor part kept new (entered_all n (payload_steps register (take (i + 1) ws)) h) m
 word_on part kept old new register n i w left taken m ws h e l t k r g f s =
-    let front : History = entered_all n (payload_steps register (take i ws)) h in
+    let prefix : History = entered_all n (payload_steps register (take i ws)) h in
     let here : n + taken + (4 - left) ≡ m = omega (arith, k, r) in
     let last : n + taken + 4 ≤ m = omega (arith, k, r) in
-    let one : RegistersStandFor part kept new (until (counted_in new.stop m) (entry (Write register w) (n + taken + 4) ∷ front)) m =
-    subst (λ (x : ℕ). RegistersStandFor part kept new (until (counted_in new.stop x) (entry (Write register w) (n + taken + 4) ∷ front)) x) here (f front (n + taken) (omega arith) s) in
-    let all : until (counted_in new.stop m) (entry (Write register w) (n + taken + 4) ∷ front) ≡ entered_all n (payload_steps register (take (i + 1) ws)) h =
-    ap (λ (o : Option Stop). until (counted_in o m) (entry (Write register w) (n + taken + 4) ∷ front)) g
-    ∙ ap (λ (b : Bool). if b then until m front else entry (Write register w) (n + taken + 4) ∷ front) (le-ltb m (n + taken + 4) last)
+    let one : RegistersStandFor part kept new (until (counted_in new.stop m) (entry (Write register w) (n + taken + 4) ∷ prefix)) m =
+    subst (λ (x : ℕ). RegistersStandFor part kept new (until (counted_in new.stop x) (entry (Write register w) (n + taken + 4) ∷ prefix)) x) here (f prefix (n + taken) (omega arith) s) in
+    let all : until (counted_in new.stop m) (entry (Write register w) (n + taken + 4) ∷ prefix) ≡ entered_all n (payload_steps register (take (i + 1) ws)) h =
+    ap (λ (o : Option Stop). until (counted_in o m) (entry (Write register w) (n + taken + 4) ∷ prefix)) g
+    ∙ ap (λ (b : Bool). if b then until m prefix else entry (Write register w) (n + taken + 4) ∷ prefix) (le-ltb m (n + taken + 4) last)
     ∙ word_entered register n i w taken ws h e l t in
     subst (λ (x : History). RegistersStandFor part kept new x m) all one
 

@@ -10,25 +10,25 @@ use Rattle.x7_engine.specs.declared.due.Due.{Due}
 use Rattle.x7_engine.specs.declared.due.Due.TheVariants as due
 use Rattle.x7_engine.specs.Standing.{DeviceState, DeviceStandsFor, MayWrap, NoWordDue, due_count, words_left}
 use Rattle.x7_engine.specs.Startup.{phase_of}
-use Rattle.x7_engine.specs.State.{history_taken, line_by, state_of, stop_in}
+use Rattle.x7_engine.specs.State.{history_taken, why_of, state_of, stop_in}
 use Rattle.x7_engine.specs.Stops.{fault_of}
 use Rattle.x7_engine.specs.Values.{cause_of}
 use Rattle.x7_engine.proofs.ClockLemmas.{phase_by_clock}
-use Rattle.x7_engine.proofs.StateLemmas.{line_is, taken_is}
+use Rattle.x7_engine.proofs.StateLemmas.{why_is, taken_is}
 
 pub may_wrap : (part : PartData) (kept : Kept) (wrapped : Bool) (d : DeviceState) (bytes : List ℕ) → DeviceStandsFor part kept wrapped d bytes → (kept.kind ≡ Bench → ⊥)
-    → ((state_of part kept wrapped bytes).phase == 7) ≡ false → cause_of (fault_of (line_by (stop_in part kept bytes))) false ≡ None
-    → (line_by (stop_in part kept bytes) ≡ Some stop.Iprog → ⊥) → NoWordDue d → MayWrap d
+    → ((state_of part kept wrapped bytes).phase == 7) ≡ false → cause_of (fault_of (why_of (stop_in part kept bytes))) false ≡ None
+    → (why_of (stop_in part kept bytes) ≡ Some stop.Iprog → ⊥) → NoWordDue d → MayWrap d
 may_wrap part kept wrapped d bytes s boots not_started not_failed not_left none =
     let h : History = history_taken part kept bytes in
     let phase : d.registers.clock.startup.phase ≡ phase_of part h (length bytes) = phase_by_clock part h (length bytes) d.registers.clock.startup.phase s.registers_are.clock.startup.stores.phase_is in
     let all : phase_of part h (length bytes) ≡ (state_of part kept wrapped bytes).phase = ap (phase_of part h) (sym (taken_is part kept wrapped d bytes s)) in
-    let line : line_by (stop_in part kept bytes) ≡ d.registers.stop = line_is part kept wrapped d bytes s in
+    let why : why_of (stop_in part kept bytes) ≡ d.registers.stop = why_is part kept wrapped d bytes s in
     record {
       boots = λ e. boots (sym s.registers_are.kind ∙ e);
       not_started = ap (λ (p : ℕ). p == 7) (phase ∙ all) ∙ not_started;
-      not_failed = ap (λ (o : Option Stop). cause_of (fault_of o) false) (sym line) ∙ not_failed;
-      not_left = λ e. not_left (line ∙ e);
+      not_failed = ap (λ (o : Option Stop). cause_of (fault_of o) false) (sym why) ∙ not_failed;
+      not_left = λ e. not_left (why ∙ e);
       none_due = none;
     }
 

@@ -4,7 +4,7 @@ use Rattle.std.proofs.lemmas.Bool.Decides.{nat_tests}
 use Rattle.std.proofs.lemmas.List.{replicate-append-replicate}
 use Rattle.x7_packets.specs.History.{Access, Bad, History, Read, Write, command_held, entry, executed_by, executes, last_word, written}
 use Rattle.x7_part.specs.Part.{PartData}
-use Rattle.x7_startup.specs.Calls.{Begun, Call, IsPhaseOf, NotBegun, Progress, StandsFor, Stored, progress_of}
+use Rattle.x7_startup.specs.Calls.{Begun, Call, IsPhaseOf, NotBegun, StartupProgress, StandsFor, Stored, progress_of}
 use Rattle.x7_startup.specs.Calls as call
 use Rattle.x7_startup.specs.Count.{Fires, Reload, Watch, WatchCall, Watched, WatchesFor, bytes_alike, count_of, is_on, timer_after, timer_value_of}
 use Rattle.x7_startup.proofs.CallLemmas.{idle_stands, one_phase_after, phase_never_falls}
@@ -15,7 +15,7 @@ use Rattle.x7_engine.specs.Clock.{AreAlike, ClockState, IsClock, Ticks, newest_p
 use Rattle.x7_engine.specs.Kept.{is_fallback}
 use Rattle.x7_engine.specs.Registers.{takes_shutdown}
 use Rattle.x7_engine.specs.Startup.{has_ended, phase_by, phase_of, startup_call, startup_calls, startup_progress}
-use Rattle.x7_engine.specs.Stops.{line_at, or_else, stop_of, stopped_at, stopped_by_watchdog, Stopped}
+use Rattle.x7_engine.specs.Stops.{why_at, or_else, stop_of, stopped_at, stopped_by_watchdog, Stopped}
 use Rattle.x7_engine.specs.Watching.{fired_or, fires, first_firing, timer_held, watch_call, watch_calls, watched_bytes}
 use Rattle.x7_engine.proofs.StartupLemmas.{phase_is}
 
@@ -24,11 +24,11 @@ use Rattle.x7_engine.proofs.StartupLemmas.{phase_is}
 pub startup_more : (h : History) (n k : ℕ) → newest_place h ≤ n → startup_calls h (n + k) ≡ startup_calls h n ++ replicate k call.Byte
 startup_more [] n k l = sym (replicate-append-replicate n k call.Byte)
 startup_more (e ∷ h) n k l =
-    let front : List Call = startup_calls h e.place ++ startup_call h e.access in
+    let prefix : List Call = startup_calls h e.place ++ startup_call h e.access in
     let count : n + k - e.place ≡ n - e.place + k = omega (arith, l) in
-    ap (λ (m : ℕ). front ++ replicate m call.Byte) count
-    ∙ ap (λ t. front ++ t) (sym (replicate-append-replicate (n - e.place) k call.Byte))
-    ∙ sym (append_assoc front (replicate (n - e.place) call.Byte) (replicate k call.Byte))
+    ap (λ (m : ℕ). prefix ++ replicate m call.Byte) count
+    ∙ ap (λ t. prefix ++ t) (sym (replicate-append-replicate (n - e.place) k call.Byte))
+    ∙ sym (append_assoc prefix (replicate (n - e.place) call.Byte) (replicate k call.Byte))
 
 watched_more : (part : PartData) (h : History) (from a b : ℕ) → watched_bytes part h from (a + b) ≡ watched_bytes part h from a ++ watched_bytes part h (from + a) b
 watched_more part h from a zero =
@@ -45,13 +45,13 @@ watched_more part h from a (suc b) =
 pub watch_more : (part : PartData) (h : History) (n k : ℕ) → newest_place h ≤ n → watch_calls part h (n + k) ≡ watch_calls part h n ++ watched_bytes part h n k
 watch_more part [] n k l = let first : 0 + n ≡ n = omega arith in watched_more part [] 0 n k ∙ ap (λ (m : ℕ). watched_bytes part [] 0 n ++ watched_bytes part [] m k) first
 watch_more part (e ∷ h) n k l =
-    let front : List WatchCall = watch_calls part h e.place ++ watch_call h e.access in
+    let prefix : List WatchCall = watch_calls part h e.place ++ watch_call h e.access in
     let count : n + k - e.place ≡ n - e.place + k = omega (arith, l) in
     let place : e.place + (n - e.place) ≡ n = omega (arith, l) in
-    ap (λ (m : ℕ). front ++ watched_bytes part (e ∷ h) e.place m) count
-    ∙ ap (λ t. front ++ t) (watched_more part (e ∷ h) e.place (n - e.place) k)
-    ∙ ap (λ (m : ℕ). front ++ (watched_bytes part (e ∷ h) e.place (n - e.place) ++ watched_bytes part (e ∷ h) m k)) place
-    ∙ sym (append_assoc front (watched_bytes part (e ∷ h) e.place (n - e.place)) (watched_bytes part (e ∷ h) n k))
+    ap (λ (m : ℕ). prefix ++ watched_bytes part (e ∷ h) e.place m) count
+    ∙ ap (λ t. prefix ++ t) (watched_more part (e ∷ h) e.place (n - e.place) k)
+    ∙ ap (λ (m : ℕ). prefix ++ (watched_bytes part (e ∷ h) e.place (n - e.place) ++ watched_bytes part (e ∷ h) m k)) place
+    ∙ sym (append_assoc prefix (watched_bytes part (e ∷ h) e.place (n - e.place)) (watched_bytes part (e ∷ h) n k))
 
 -- ---- the firings of bytes more
 
@@ -94,21 +94,21 @@ stop_more_bytes part kept (e ∷ h) n k l =
     let count : n + k - e.place ≡ n - e.place + k = omega (arith, l) in
     let place : e.place + (n - e.place) ≡ n = omega (arith, l) in
     let before : Option Stopped = stop_of part kept h e.place in
-    let line : Option Stopped = stopped_at e.place (line_at part kept h e.access) in
+    let why : Option Stopped = stopped_at e.place (why_at part kept h e.access) in
     let first : Option ℕ = first_firing part kept (e ∷ h) e.place (n - e.place) in
-    ap (λ (m : ℕ). or_else before (or_else line (stopped_by_watchdog (first_firing part kept (e ∷ h) e.place m)))) count
-    ∙ ap (λ (o : Option ℕ). or_else before (or_else line (stopped_by_watchdog o)))
+    ap (λ (m : ℕ). or_else before (or_else why (stopped_by_watchdog (first_firing part kept (e ∷ h) e.place m)))) count
+    ∙ ap (λ (o : Option ℕ). or_else before (or_else why (stopped_by_watchdog o)))
     (firing_more part kept (e ∷ h) e.place (n - e.place) k ∙ ap (λ (m : ℕ). or_else first (first_firing part kept (e ∷ h) m k)) place)
-    ∙ ap (λ (o : Option Stopped). or_else before (or_else line o)) (watchdog_or first (first_firing part kept (e ∷ h) n k))
-    ∙ or_assoc before line (stopped_by_watchdog first) (stopped_by_watchdog (first_firing part kept (e ∷ h) n k))
+    ∙ ap (λ (o : Option Stopped). or_else before (or_else why o)) (watchdog_or first (first_firing part kept (e ∷ h) n k))
+    ∙ or_assoc before why (stopped_by_watchdog first) (stopped_by_watchdog (first_firing part kept (e ∷ h) n k))
 
 -- the stop at the place of an access more
-pub stop_of-access : (part : PartData) (kept : Kept) (h : History) (access : Access) (place : ℕ) → stop_of part kept h place ≡ None → stop_of part kept (entry access place ∷ h) place ≡ stopped_at place (line_at part kept h access)
+pub stop_of-access : (part : PartData) (kept : Kept) (h : History) (access : Access) (place : ℕ) → stop_of part kept h place ≡ None → stop_of part kept (entry access place ∷ h) place ≡ stopped_at place (why_at part kept h access)
 stop_of-access part kept h access place e =
     let none : place - place ≡ 0 = omega arith in
-    ap (λ (o : Option Stopped). or_else o (or_else (stopped_at place (line_at part kept h access)) (stopped_by_watchdog (first_firing part kept (entry access place ∷ h) place (place - place))))) e
-    ∙ ap (λ (m : ℕ). or_else (stopped_at place (line_at part kept h access)) (stopped_by_watchdog (first_firing part kept (entry access place ∷ h) place m))) none
-    ∙ or_none (stopped_at place (line_at part kept h access))
+    ap (λ (o : Option Stopped). or_else o (or_else (stopped_at place (why_at part kept h access)) (stopped_by_watchdog (first_firing part kept (entry access place ∷ h) place (place - place))))) e
+    ∙ ap (λ (m : ℕ). or_else (stopped_at place (why_at part kept h access)) (stopped_by_watchdog (first_firing part kept (entry access place ∷ h) place m))) none
+    ∙ or_none (stopped_at place (why_at part kept h access))
 
 -- ---- an access more
 
@@ -261,7 +261,7 @@ phase_rises part h n k l =
     phase_never_falls part.lock part.matched (startup_calls h n) k (phase_of part h n) (phase_of part h (n + k)) (phase_is part (startup_progress h n))
     (subst (λ t. IsPhaseOf part.lock part.matched (progress_of t) (phase_of part h (n + k))) (startup_more h n k l) (phase_is part (startup_progress h (n + k))))
 
-pub last_of : (part : PartData) (p : Progress) → phase_by part p ≤ 7
+pub last_of : (part : PartData) (p : StartupProgress) → phase_by part p ≤ 7
 last_of part NotBegun = omega arith
 last_of part (Begun cor0 bytes) = (phase_is part (Begun cor0 bytes)).last
 

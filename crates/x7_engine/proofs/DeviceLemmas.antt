@@ -107,7 +107,7 @@ pub turned : (part : PartData) (kept : Kept) (wrapped : Bool) (d e : DeviceState
     → read_out part kept (until (counted_in e.registers.stop (n + (count - left))) (entered_all from (run_steps run) h))
     ≡ read_out part kept h ++ words_left part (until (counted_in e.registers.stop (n + (count - left))) (entered_all from (run_steps run) h)) e.registers.due)
     → count ≡ length cut → cut ≡ more ++ rest → length rest ≡ left → IsRun run → IsLent d.cutter room run
-    → (e.registers.stop ≡ None → left ≡ 0) → ((line : Stop) → e.registers.stop ≡ Some line → due_count e.registers.due ≡ 0) → e.part ≡ d.part → e.wrapped ≡ d.wrapped → e.taken ≡ d.taken + length more
+    → (e.registers.stop ≡ None → left ≡ 0) → ((why : Stop) → e.registers.stop ≡ Some why → due_count e.registers.due ≡ 0) → e.part ≡ d.part → e.wrapped ≡ d.wrapped → e.taken ≡ d.taken + length more
     → DeviceStandsFor part kept wrapped e (bytes ++ more) × (reads_of part kept (bytes ++ more) ≡ reads_of part kept bytes ++ words_left part (history_taken part kept (bytes ++ more)) e.registers.due)
 turned part kept wrapped d e bytes cut more rest run count left room s going went stands reads k j l r i g q p y t =
     let none : stop_in part kept bytes ≡ None = s.stop_is ∙ ap (stopped_at (length bytes)) going in
@@ -123,16 +123,16 @@ turned part kept wrapped d e bytes cut more rest run count left room s going wen
     let here : AreBytes (bytes ++ more) = all_front (λ b. b < 256) (bytes ++ more) rest fits in
     let m : ℕ = length (bytes ++ more) in
     let count_is : length bytes + (count - left) ≡ m = omega (arith, k, ap length j, length-append more rest, l, length-append bytes more) in
-    let front : history_of (bytes ++ more) ≡ until m all = sym (front_of (bytes ++ more) rest fits) ∙ ap (until m) (ap history_of joined ∙ whole) in
+    let prefix : history_of (bytes ++ more) ≡ until m all = sym (front_of (bytes ++ more) rest fits) ∙ ap (until m) (ap history_of joined ∙ whole) in
     let placed : Placed (length (bytes ++ cut)) all = subst (λ (h : History). Placed (length (bytes ++ cut)) h) whole (placed_of (bytes ++ cut) w.stands.reading.fits) in
     let ends : EndsWords run from (length bytes) count = subst (λ (x : ℕ). EndsWords run from (length bytes) x) (sym k) (ends_words d.cutter e.cutter bytes cut cutter.sessions cutter.place run room cutter.stands w r i) in
     let counted : History = until (counted_in e.registers.stop m) all in
     let after : RegistersStandFor part kept e.registers counted m =
     subst (λ (x : ℕ). RegistersStandFor part kept e.registers (until (counted_in e.registers.stop x) all) x) count_is (stands (history_of bytes) from (length bytes) ends before) in
     let stops : stop_in part kept (bytes ++ more) ≡ stopped_at m e.registers.stop =
-    ap (λ (x : History). stop_of part kept x m) front ∙ stop_until part kept e.registers.stop (length (bytes ++ cut)) m all placed after.stop in
+    ap (λ (x : History). stop_of part kept x m) prefix ∙ stop_until part kept e.registers.stop (length (bytes ++ cut)) m all placed after.stop in
     let new : history_taken part kept (bytes ++ more) ≡ counted =
-    ap (λ (o : Option Stopped). history_by o (history_of (bytes ++ more))) stops ∙ ap (history_by (stopped_at m e.registers.stop)) front ∙ history_until e.registers.stop m all in
+    ap (λ (o : Option Stopped). history_by o (history_of (bytes ++ more))) stops ∙ ap (history_by (stopped_at m e.registers.stop)) prefix ∙ history_until e.registers.stop m all in
     let first : read_out part kept (until (counted_in e.registers.stop (length bytes + (count - left))) all)
     ≡ reads_of part kept bytes ++ words_left part (until (counted_in e.registers.stop (length bytes + (count - left))) all) e.registers.due =
     reads (history_of bytes) from (length bytes) ends before

@@ -39,7 +39,7 @@ given part kept wrapped d r bytes old new going on s g =
         registers_are = g.stands;
         cutter_is = λ o. s.cutter_is going;
         due_are = record { told = told ++ g.more; all = all };
-        at_rest = λ line q. absurd (none-some _ (sym on ∙ q));
+        at_rest = λ why q. absurd (none-some _ (sym on ∙ q));
       };
     }
 
@@ -100,11 +100,11 @@ read_here part kept wrapped old new next first read last bytes piece told from t
     (now.0, now.1, told_on part kept wrapped new next bytes piece from to f t g.stands ∙ now.2)
 
 -- what is answered for a stop
-pub taken_by_stop : (line : Stop) (n at : ℕ) → taken_in n (fed_by line at) ≡ at
+pub taken_by_stop : (why : Stop) (n at : ℕ) → taken_in n (fed_by why at) ≡ at
 taken_by_stop (stop.Fault f) n at = refl
 taken_by_stop stop.Iprog n at = refl
 
-pub answers_stop : (part : PartData) (kept : Kept) (wrapped : Bool) (d : DeviceState) (bytes : List ℕ) (read : ReadBufState) (line : Stop) (at : ℕ) → DeviceStandsFor part kept wrapped d bytes → Some line ≡ d.registers.stop → Answers part kept d bytes read (fed_by line at)
+pub answers_stop : (part : PartData) (kept : Kept) (wrapped : Bool) (d : DeviceState) (bytes : List ℕ) (read : ReadBufState) (why : Stop) (at : ℕ) → DeviceStandsFor part kept wrapped d bytes → Some why ≡ d.registers.stop → Answers part kept d bytes read (fed_by why at)
 answers_stop part kept wrapped d bytes read (stop.Fault f) at s e = (f, s.stop_is ∙ ap (stopped_at (length bytes)) (sym e), s.at_rest (stop.Fault f) (sym e))
 answers_stop part kept wrapped d bytes read stop.Iprog at s e = (s.stop_is ∙ ap (stopped_at (length bytes)) (sym e), s.at_rest stop.Iprog (sym e))
 

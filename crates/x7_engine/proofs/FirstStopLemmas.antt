@@ -12,9 +12,9 @@ use Rattle.x7_engine.specs.declared.fault.Fault.TheVariants as fault
 use Rattle.x7_engine.specs.declared.kept.Kept.{Kept}
 use Rattle.x7_engine.specs.declared.stop.Stop.{Stop}
 use Rattle.x7_engine.specs.declared.stop.Stop.TheVariants as stop
-use Rattle.x7_engine.specs.FirstStop.{IsFirstStop, line_at_byte, newest_line}
+use Rattle.x7_engine.specs.FirstStop.{IsFirstStop, why_at_byte, why_at_newest}
 use Rattle.x7_engine.specs.State.{stop_in}
-use Rattle.x7_engine.specs.Stops.{Stopped, line_at, or_else, stop_of, stopped_at, stopped_by_watchdog}
+use Rattle.x7_engine.specs.Stops.{Stopped, why_at, or_else, stop_of, stopped_at, stopped_by_watchdog}
 use Rattle.x7_engine.specs.Watching.{fired_or, fires, first_firing}
 use Rattle.x7_engine.proofs.ClockLemmas.{stop_more_bytes, or_none}
 use Rattle.x7_engine.proofs.TurnLemmas.{newest_within}
@@ -35,19 +35,19 @@ or_assoc : {A : Type 0} (a b c : Option A) → or_else (or_else a b) c ≡ or_el
 or_assoc (Some x) b c = refl
 or_assoc None b c = refl
 
--- the line of the watchdog, and of an access
-abbrev line_by_fire : Bool → Option Stop → Option Stop
-line_by_fire b line = if b then Some (stop.Fault fault.Watchdog) else line
+-- why a byte stops a device: by the watchdog, or by an access
+abbrev why_by_fire : Bool → Option Stop → Option Stop
+why_by_fire b why = if b then Some (stop.Fault fault.Watchdog) else why
 
-fired_line : (b : Bool) (n : ℕ) (line : Option Stop) → or_else (stopped_by_watchdog (fired_or None b n)) (stopped_at n line) ≡ stopped_at n (line_by_fire b line)
-fired_line true n line = refl
-fired_line false n line = refl
+fired_why : (b : Bool) (n : ℕ) (why : Option Stop) → or_else (stopped_by_watchdog (fired_or None b n)) (stopped_at n why) ≡ stopped_at n (why_by_fire b why)
+fired_why true n why = refl
+fired_why false n why = refl
 
-none_newest : (part : PartData) (kept : Kept) (n : ℕ) (h : History) → Placed n h → newest_line part kept h (suc n) ≡ None
+none_newest : (part : PartData) (kept : Kept) (n : ℕ) (h : History) → Placed n h → why_at_newest part kept h (suc n) ≡ None
 none_newest part kept n [] p = refl
 none_newest part kept n (e ∷ h) p = let not_here : (e.place == suc n) ≡ false = grind (arith, nat_tests, p.1) in rw not_here refl
 
-some_newest : (part : PartData) (kept : Kept) (n : ℕ) (h : History) (access : Access) → newest_line part kept (entry access n ∷ h) n ≡ line_at part kept h access
+some_newest : (part : PartData) (kept : Kept) (n : ℕ) (h : History) (access : Access) → why_at_newest part kept (entry access n ∷ h) n ≡ why_at part kept h access
 some_newest part kept n h access = let here : (n == n) ≡ true = grind (arith, nat_tests) in rw here refl
 
 -- the stop up to the byte itself, before its access
@@ -59,84 +59,84 @@ fired_next part kept h n p =
     ∙ ap (λ (m : ℕ). or_else (stop_of part kept h n) (stopped_by_watchdog (fired_or None (fires part kept h m) m))) here
 
 -- the stop with the access of the byte
-fired_entered : (part : PartData) (kept : Kept) (h : History) (n : ℕ) (access : Access) → stop_of part kept (entry access n ∷ h) n ≡ or_else (stop_of part kept h n) (stopped_at n (line_at part kept h access))
+fired_entered : (part : PartData) (kept : Kept) (h : History) (n : ℕ) (access : Access) → stop_of part kept (entry access n ∷ h) n ≡ or_else (stop_of part kept h n) (stopped_at n (why_at part kept h access))
 fired_entered part kept h n access =
     let none : n - n ≡ 0 = omega arith in
-    ap (λ (m : ℕ). or_else (stop_of part kept h n) (or_else (stopped_at n (line_at part kept h access)) (stopped_by_watchdog (first_firing part kept (entry access n ∷ h) n m)))) none
-    ∙ ap (or_else (stop_of part kept h n)) (or_none (stopped_at n (line_at part kept h access)))
+    ap (λ (m : ℕ). or_else (stop_of part kept h n) (or_else (stopped_at n (why_at part kept h access)) (stopped_by_watchdog (first_firing part kept (entry access n ∷ h) n m)))) none
+    ∙ ap (or_else (stop_of part kept h n)) (or_none (stopped_at n (why_at part kept h access)))
 
 stop_next : (part : PartData) (kept : Kept) (h g : History) (n : ℕ) → Placed n h → OneMore (suc n) h g
-    → stop_of part kept g (suc n) ≡ or_else (stop_of part kept h n) (stopped_at (suc n) (line_by_fire (fires part kept h (suc n)) (newest_line part kept g (suc n))))
+    → stop_of part kept g (suc n) ≡ or_else (stop_of part kept h n) (stopped_at (suc n) (why_by_fire (fires part kept h (suc n)) (why_at_newest part kept g (suc n))))
 stop_next part kept h g n p (inl e) =
     let fired : Bool = fires part kept h (suc n) in
     ap (λ (x : History). stop_of part kept x (suc n)) e
     ∙ fired_next part kept h n p
-    ∙ ap (or_else (stop_of part kept h n)) (sym (or_none (stopped_by_watchdog (fired_or None fired (suc n)))) ∙ fired_line fired (suc n) None)
-    ∙ ap (λ (o : Option Stop). or_else (stop_of part kept h n) (stopped_at (suc n) (line_by_fire fired o))) (sym (ap (λ (x : History). newest_line part kept x (suc n)) e ∙ none_newest part kept n h p))
+    ∙ ap (or_else (stop_of part kept h n)) (sym (or_none (stopped_by_watchdog (fired_or None fired (suc n)))) ∙ fired_why fired (suc n) None)
+    ∙ ap (λ (o : Option Stop). or_else (stop_of part kept h n) (stopped_at (suc n) (why_by_fire fired o))) (sym (ap (λ (x : History). why_at_newest part kept x (suc n)) e ∙ none_newest part kept n h p))
 stop_next part kept h g n p (inr more) =
     let access : Access = more.0 in
     let fired : Bool = fires part kept h (suc n) in
     ap (λ (x : History). stop_of part kept x (suc n)) more.1
     ∙ fired_entered part kept h (suc n) access
-    ∙ ap (λ (o : Option Stopped). or_else o (stopped_at (suc n) (line_at part kept h access))) (fired_next part kept h n p)
-    ∙ or_assoc (stop_of part kept h n) (stopped_by_watchdog (fired_or None fired (suc n))) (stopped_at (suc n) (line_at part kept h access))
-    ∙ ap (or_else (stop_of part kept h n)) (fired_line fired (suc n) (line_at part kept h access))
-    ∙ ap (λ (o : Option Stop). or_else (stop_of part kept h n) (stopped_at (suc n) (line_by_fire fired o))) (sym (ap (λ (x : History). newest_line part kept x (suc n)) more.1 ∙ some_newest part kept (suc n) h access))
+    ∙ ap (λ (o : Option Stopped). or_else o (stopped_at (suc n) (why_at part kept h access))) (fired_next part kept h n p)
+    ∙ or_assoc (stop_of part kept h n) (stopped_by_watchdog (fired_or None fired (suc n))) (stopped_at (suc n) (why_at part kept h access))
+    ∙ ap (or_else (stop_of part kept h n)) (fired_why fired (suc n) (why_at part kept h access))
+    ∙ ap (λ (o : Option Stop). or_else (stop_of part kept h n) (stopped_at (suc n) (why_by_fire fired o))) (sym (ap (λ (x : History). why_at_newest part kept x (suc n)) more.1 ∙ some_newest part kept (suc n) h access))
 
--- ---- the first of a row of lines
+-- ---- the first of a row of stops
 
 abbrev IsRow : (ℕ → Option Stopped) → (ℕ → Option Stop) → ℕ → Type 0
-IsRow stops lines most = (stops 0 ≡ None) × ((n : ℕ) → n < most → stops (suc n) ≡ or_else (stops n) (stopped_at (suc n) (lines (suc n))))
+IsRow stops whys most = (stops 0 ≡ None) × ((n : ℕ) → n < most → stops (suc n) ≡ or_else (stops n) (stopped_at (suc n) (whys (suc n))))
 
-record IsLeast (lines : ℕ → Option Stop) (most : ℕ) (s : Stopped) : Type 0 where
+record IsLeast (whys : ℕ → Option Stop) (most : ℕ) (s : Stopped) : Type 0 where
   some : 0 < s.place
   within : s.place ≤ most
-  holds : lines s.place ≡ Some s.line
-  none_earlier : (n : ℕ) → 0 < n → n < s.place → lines n ≡ None
+  holds : whys s.place ≡ Some s.why
+  none_earlier : (n : ℕ) → 0 < n → n < s.place → whys n ≡ None
 
 abbrev AreNone : (ℕ → Option Stop) → ℕ → Type 0
-AreNone lines most = (n : ℕ) → 0 < n → n ≤ most → lines n ≡ None
+AreNone whys most = (n : ℕ) → 0 < n → n ≤ most → whys n ≡ None
 
-none_more : (lines : ℕ → Option Stop) (n : ℕ) → AreNone lines n → lines (suc n) ≡ None → AreNone lines (suc n)
-none_more lines n f e m some few = elim (m == suc n) as (λ b. (m == suc n) ≡ b → lines m ≡ None) [
-  | true ↦ λ q. let same : m ≡ suc n = grind (arith, nat_tests, q) in ap lines same ∙ e
+none_more : (whys : ℕ → Option Stop) (n : ℕ) → AreNone whys n → whys (suc n) ≡ None → AreNone whys (suc n)
+none_more whys n f e m some few = elim (m == suc n) as (λ b. (m == suc n) ≡ b → whys m ≡ None) [
+  | true ↦ λ q. let same : m ≡ suc n = grind (arith, nat_tests, q) in ap whys same ∙ e
   | false ↦ λ q. f m some (let less : m ≤ n = grind (arith, nat_tests, q, few) in less)
 ] refl
 
 -- of a row that is none up to here, and of one that is some
 abbrev Found : (ℕ → Option Stop) → ℕ → Option Stopped → Type 0
-Found lines n None = AreNone lines n
-Found lines n (Some s) = IsLeast lines n s
+Found whys n None = AreNone whys n
+Found whys n (Some s) = IsLeast whys n s
 
-found_more : (lines : ℕ → Option Stop) (n : ℕ) (o : Option Stopped) (line : Option Stop) → lines (suc n) ≡ line → Found lines n o → Found lines (suc n) (or_else o (stopped_at (suc n) line))
-found_more lines n (Some s) line e f = record { some = f.some; within = omega (arith, f.within); holds = f.holds; none_earlier = f.none_earlier }
-found_more lines n None None e f = none_more lines n f e
-found_more lines n None (Some line) e f = record { some = omega arith; within = omega arith; holds = e; none_earlier = λ m some less. f m some (omega (arith, less)) }
+found_more : (whys : ℕ → Option Stop) (n : ℕ) (o : Option Stopped) (why : Option Stop) → whys (suc n) ≡ why → Found whys n o → Found whys (suc n) (or_else o (stopped_at (suc n) why))
+found_more whys n (Some s) why e f = record { some = f.some; within = omega (arith, f.within); holds = f.holds; none_earlier = f.none_earlier }
+found_more whys n None None e f = none_more whys n f e
+found_more whys n None (Some why) e f = record { some = omega arith; within = omega arith; holds = e; none_earlier = λ m some less. f m some (omega (arith, less)) }
 
-found : (stops : ℕ → Option Stopped) (lines : ℕ → Option Stop) (most n : ℕ) → IsRow stops lines most → n ≤ most → Found lines n (stops n)
-found stops lines most zero r l = subst (λ (o : Option Stopped). Found lines 0 o) (sym r.0) (λ m some few. absurd (omega (arith, some, few)))
-found stops lines most (suc n) r l =
-    subst (λ (o : Option Stopped). Found lines (suc n) o) (sym (r.1 n (omega (arith, l))))
-    (found_more lines n (stops n) (lines (suc n)) refl (found stops lines most n r (omega (arith, l))))
+found : (stops : ℕ → Option Stopped) (whys : ℕ → Option Stop) (most n : ℕ) → IsRow stops whys most → n ≤ most → Found whys n (stops n)
+found stops whys most zero r l = subst (λ (o : Option Stopped). Found whys 0 o) (sym r.0) (λ m some few. absurd (omega (arith, some, few)))
+found stops whys most (suc n) r l =
+    subst (λ (o : Option Stopped). Found whys (suc n) o) (sym (r.1 n (omega (arith, l))))
+    (found_more whys n (stops n) (whys (suc n)) refl (found stops whys most n r (omega (arith, l))))
 
 place_of : Option Stopped → ℕ
 place_of None = 0
 place_of (Some s) = s.place
 
 -- two that are least are one
-one_least : (lines : ℕ → Option Stop) (most : ℕ) (o : Option Stopped) (s : Stopped) → Found lines most o → IsLeast lines most s → o ≡ Some s
-one_least lines most None s f i = absurd (let no : Some s.line ≡ None = sym i.holds ∙ f s.place i.some i.within in cc)
-one_least lines most (Some t) s f i = by (t.place == s.place) refl
+one_least : (whys : ℕ → Option Stop) (most : ℕ) (o : Option Stopped) (s : Stopped) → Found whys most o → IsLeast whys most s → o ≡ Some s
+one_least whys most None s f i = absurd (let no : Some s.why ≡ None = sym i.holds ∙ f s.place i.some i.within in cc)
+one_least whys most (Some t) s f i = by (t.place == s.place) refl
   where
     by : (b : Bool) → (t.place == s.place) ≡ b → Some t ≡ Some s
     by true q =
         let place : t.place ≡ s.place = grind (arith, nat_tests, q) in
-        let same : Some t.line ≡ Some s.line = sym f.holds ∙ ap lines place ∙ i.holds in
-        let line : t.line ≡ s.line = cc in
-        ap Some (λ j. record { place = place j; line = line j })
+        let same : Some t.why ≡ Some s.why = sym f.holds ∙ ap whys place ∙ i.holds in
+        let why : t.why ≡ s.why = cc in
+        ap Some (λ j. record { place = place j; why = why j })
     by false q = absurd (elim (less_or_more t.place s.place q) [
-      | inl l ↦ (let no : Some t.line ≡ None = sym f.holds ∙ i.none_earlier t.place f.some l in cc)
-      | inr l ↦ (let no : Some s.line ≡ None = sym i.holds ∙ f.none_earlier s.place i.some l in cc)
+      | inl l ↦ (let no : Some t.why ≡ None = sym f.holds ∙ i.none_earlier t.place f.some l in cc)
+      | inr l ↦ (let no : Some s.why ≡ None = sym i.holds ∙ f.none_earlier s.place i.some l in cc)
     ])
       where
         less_or_more : (a b : ℕ) → (a == b) ≡ false → (a < b) ⊎ (b < a)
@@ -156,7 +156,7 @@ one_more bytes n fits l =
       subst (λ (m : ℕ). OneMore m (history_of b) (history_of (take (suc n) bytes))) one (subst (λ (t : List ℕ). OneMore (length b + 1) (history_of b) (history_of t)) (sym more.1) (byte_enters b more.0 fits_more)),
     )
 
-row_of : (part : PartData) (kept : Kept) (bytes : List ℕ) → AreBytes bytes → IsRow (λ n. stop_in part kept (take n bytes)) (line_at_byte part kept bytes) (length bytes)
+row_of : (part : PartData) (kept : Kept) (bytes : List ℕ) → AreBytes bytes → IsRow (λ n. stop_in part kept (take n bytes)) (why_at_byte part kept bytes) (length bytes)
 row_of part kept bytes fits = (
   refl,
   λ n l.
@@ -167,23 +167,23 @@ row_of part kept bytes fits = (
       let before : suc n - 1 ≡ n = omega arith in
       ap (stop_of part kept (history_of (take (suc n) bytes))) whole
       ∙ stop_next part kept (history_of b) (history_of (take (suc n) bytes)) n more.0 more.1
-      ∙ ap (λ (m : ℕ). or_else (stop_of part kept (history_of b) m) (stopped_at (suc n) (line_by_fire (fires part kept (history_of b) (suc n)) (newest_line part kept (history_of (take (suc n) bytes)) (suc n))))) (sym count)
-      ∙ ap (λ (m : ℕ). or_else (stop_in part kept b) (stopped_at (suc n) (line_by_fire (fires part kept (history_of (take m bytes)) (suc n)) (newest_line part kept (history_of (take (suc n) bytes)) (suc n))))) (sym before),
+      ∙ ap (λ (m : ℕ). or_else (stop_of part kept (history_of b) m) (stopped_at (suc n) (why_by_fire (fires part kept (history_of b) (suc n)) (why_at_newest part kept (history_of (take (suc n) bytes)) (suc n))))) (sym count)
+      ∙ ap (λ (m : ℕ). or_else (stop_in part kept b) (stopped_at (suc n) (why_by_fire (fires part kept (history_of (take m bytes)) (suc n)) (why_at_newest part kept (history_of (take (suc n) bytes)) (suc n))))) (sym before),
 )
 
-found_in : (part : PartData) (kept : Kept) (bytes : List ℕ) → AreBytes bytes → Found (line_at_byte part kept bytes) (length bytes) (stop_in part kept bytes)
+found_in : (part : PartData) (kept : Kept) (bytes : List ℕ) → AreBytes bytes → Found (why_at_byte part kept bytes) (length bytes) (stop_in part kept bytes)
 found_in part kept bytes fits =
-    subst (λ (t : List ℕ). Found (line_at_byte part kept bytes) (length bytes) (stop_in part kept t)) (take-length bytes)
-    (found (λ n. stop_in part kept (take n bytes)) (line_at_byte part kept bytes) (length bytes) (length bytes) (row_of part kept bytes fits) (omega arith))
+    subst (λ (t : List ℕ). Found (why_at_byte part kept bytes) (length bytes) (stop_in part kept t)) (take-length bytes)
+    (found (λ n. stop_in part kept (take n bytes)) (why_at_byte part kept bytes) (length bytes) (length bytes) (row_of part kept bytes fits) (omega arith))
 
 pub stop_is_first : (part : PartData) (kept : Kept) (bytes : List ℕ) (s : Stopped) → AreBytes bytes → stop_in part kept bytes ≡ Some s → IsFirstStop part kept bytes s
 stop_is_first part kept bytes s fits e =
-    let f : IsLeast (line_at_byte part kept bytes) (length bytes) s = subst (λ (o : Option Stopped). Found (line_at_byte part kept bytes) (length bytes) o) e (found_in part kept bytes fits) in
+    let f : IsLeast (why_at_byte part kept bytes) (length bytes) s = subst (λ (o : Option Stopped). Found (why_at_byte part kept bytes) (length bytes) o) e (found_in part kept bytes fits) in
     record { some = f.some; within = f.within; holds = f.holds; none_earlier = f.none_earlier }
 
 pub first_is_stop : (part : PartData) (kept : Kept) (bytes : List ℕ) (s : Stopped) → AreBytes bytes → IsFirstStop part kept bytes s → stop_in part kept bytes ≡ Some s
 first_is_stop part kept bytes s fits f =
-    one_least (line_at_byte part kept bytes) (length bytes) (stop_in part kept bytes) s (found_in part kept bytes fits) (record { some = f.some; within = f.within; holds = f.holds; none_earlier = f.none_earlier })
+    one_least (why_at_byte part kept bytes) (length bytes) (stop_in part kept bytes) s (found_in part kept bytes fits) (record { some = f.some; within = f.within; holds = f.holds; none_earlier = f.none_earlier })
 
-pub no_stop_none : (part : PartData) (kept : Kept) (bytes : List ℕ) (n : ℕ) → AreBytes bytes → stop_in part kept bytes ≡ None → 0 < n → n ≤ length bytes → line_at_byte part kept bytes n ≡ None
-no_stop_none part kept bytes n fits e = subst (λ (o : Option Stopped). Found (line_at_byte part kept bytes) (length bytes) o) e (found_in part kept bytes fits) n
+pub no_stop_none : (part : PartData) (kept : Kept) (bytes : List ℕ) (n : ℕ) → AreBytes bytes → stop_in part kept bytes ≡ None → 0 < n → n ≤ length bytes → why_at_byte part kept bytes n ≡ None
+no_stop_none part kept bytes n fits e = subst (λ (o : Option Stopped). Found (why_at_byte part kept bytes) (length bytes) o) e (found_in part kept bytes fits) n

@@ -33,33 +33,33 @@ use Rattle.x7_engine.specs.declared.stop.Stop.{Stop}
 use Rattle.x7_engine.specs.declared.stop.Stop.TheVariants as stop
 use Rattle.x7_engine.specs.Kept.{is_fallback}
 use Rattle.x7_engine.specs.Standing.{FramesAre, due_count, frames_among, frames_due, frames_history, is_refusal, older, words_left}
-use Rattle.x7_engine.specs.Stops.{access_line, asks_decryption, frame_line, line_at, needs_match, or_else, stop_by, write_line}
+use Rattle.x7_engine.specs.Stops.{why_by_access, asks_decryption, why_by_frames, why_at, needs_match, or_else, stop_by, why_by_write}
 use Rattle.x7_engine.specs.Values.{value_of, value_owing}
 use Rattle.x7_engine.proofs.PlainLemmas.{IsPlain, plain_asks}
 
 -- ---- the history that the frames stand for
 
 -- frames that stand for a history are its frames, where no access was refused
-pub frames_at : (part : PartData) (f : FramesState) (line : Option Stop) (h : History) (due : ℕ) → is_refusal line ≡ false → FramesStandFor part f h due → FramesAre part f line h due
-frames_at part f line h due e s =
-    let same : frames_history line h ≡ h = ap (λ (b : Bool). if b then older h else h) e in
+pub frames_at : (part : PartData) (f : FramesState) (why : Option Stop) (h : History) (due : ℕ) → is_refusal why ≡ false → FramesStandFor part f h due → FramesAre part f why h due
+frames_at part f why h due e s =
+    let same : frames_history why h ≡ h = ap (λ (b : Bool). if b then older h else h) e in
     record {
       stands = subst (λ (x : History). FramesStandFor part f x due) (sym same) s;
       memory_same = λ far. ap (λ (x : History). memory_of part x far) same;
       far_same = ap (λ (x : History). far_in part (less due (flow_of part x))) same;
     }
 
-pub frames_of : (part : PartData) (f : FramesState) (line : Option Stop) (h : History) (due : ℕ) → is_refusal line ≡ false → FramesAre part f line h due → FramesStandFor part f h due
-frames_of part f line h due e s =
-    let same : frames_history line h ≡ h = ap (λ (b : Bool). if b then older h else h) e in
+pub frames_of : (part : PartData) (f : FramesState) (why : Option Stop) (h : History) (due : ℕ) → is_refusal why ≡ false → FramesAre part f why h due → FramesStandFor part f h due
+frames_of part f why h due e s =
+    let same : frames_history why h ≡ h = ap (λ (b : Bool). if b then older h else h) e in
     subst (λ (x : History). FramesStandFor part f x due) same s.stands
 
 -- a device that goes on has refused nothing
-pub goes_on : (line : Option Stop) → line ≡ None → is_refusal line ≡ false
-goes_on line e = ap is_refusal e
+pub goes_on : (why : Option Stop) → why ≡ None → is_refusal why ≡ false
+goes_on why e = ap is_refusal e
 
 -- nor has one that the watchdog stopped
-pub ticks_on : (line : Option Stop) (P : Type 0) → ((l : Stop) → line ≡ Some l → (l ≡ stop.Fault fault.Watchdog) × P) → is_refusal line ≡ false
+pub ticks_on : (why : Option Stop) (P : Type 0) → ((l : Stop) → why ≡ Some l → (l ≡ stop.Fault fault.Watchdog) × P) → is_refusal why ≡ false
 ticks_on None P f = refl
 ticks_on (Some l) P f = ap (λ (x : Stop). is_refusal (Some x)) (f l refl).0
 
@@ -106,51 +106,51 @@ value_now part kept f h n reg.Far = ap (far_in part) (sym (no_less (flow_of part
 value_now part kept f h n r = refl
 
 -- where no word is due and no access was refused
-pub standing_frames : (part : PartData) (f : FramesState) (line : Option Stop) (h : History) (d : Due) → line ≡ None → due_count d ≡ 0 → FramesAre part f line h (frames_due d) → FramesStandFor part f h 0
-standing_frames part f line h d e z s = frames_of part f line h 0 (goes_on line e) (subst (λ (n : ℕ). FramesAre part f line h n) (none_frames d z) s)
+pub standing_frames : (part : PartData) (f : FramesState) (why : Option Stop) (h : History) (d : Due) → why ≡ None → due_count d ≡ 0 → FramesAre part f why h (frames_due d) → FramesStandFor part f h 0
+standing_frames part f why h d e z s = frames_of part f why h 0 (goes_on why e) (subst (λ (n : ℕ). FramesAre part f why h n) (none_frames d z) s)
 
-pub frames_none_at : (part : PartData) (f : FramesState) (line : Option Stop) (h : History) (d : Due) → is_refusal line ≡ false → due_count d ≡ 0 → FramesStandFor part f h 0 → FramesAre part f line h (frames_due d)
-frames_none_at part f line h d e z s = subst (λ (n : ℕ). FramesAre part f line h n) (sym (none_frames d z)) (frames_at part f line h 0 e s)
+pub frames_none_at : (part : PartData) (f : FramesState) (why : Option Stop) (h : History) (d : Due) → is_refusal why ≡ false → due_count d ≡ 0 → FramesStandFor part f h 0 → FramesAre part f why h (frames_due d)
+frames_none_at part f why h d e z s = subst (λ (n : ℕ). FramesAre part f why h n) (sym (none_frames d z)) (frames_at part f why h 0 e s)
 
-pub frames_none : (part : PartData) (f : FramesState) (line : Option Stop) (h : History) (d : Due) → line ≡ None → due_count d ≡ 0 → FramesStandFor part f h 0 → FramesAre part f line h (frames_due d)
-frames_none part f line h d e z s = subst (λ (n : ℕ). FramesAre part f line h n) (sym (none_frames d z)) (frames_at part f line h 0 (goes_on line e) s)
+pub frames_none : (part : PartData) (f : FramesState) (why : Option Stop) (h : History) (d : Due) → why ≡ None → due_count d ≡ 0 → FramesStandFor part f h 0 → FramesAre part f why h (frames_due d)
+frames_none part f why h d e z s = subst (λ (n : ℕ). FramesAre part f why h n) (sym (none_frames d z)) (frames_at part f why h 0 (goes_on why e) s)
 
--- ---- the line of an access is one alone
+-- ---- an access stops a device by one thing alone
 
-pub line_fdri : (part : PartData) (kept : Kept) (h : History) (w : ℕ) → is_matched part.idcode h ≡ true → write_line part kept h 2 w ≡ None
-line_fdri part kept h w t = rw t refl
+pub why_fdri : (part : PartData) (kept : Kept) (h : History) (w : ℕ) → is_matched part.idcode h ≡ true → why_by_write part kept h 2 w ≡ None
+why_fdri part kept h w t = rw t refl
 
-line_mfwr : (part : PartData) (kept : Kept) (h : History) (w : ℕ) → is_matched part.idcode h ≡ true → write_line part kept h 10 w ≡ None
-line_mfwr part kept h w t = rw t refl
+why_mfwr : (part : PartData) (kept : Kept) (h : History) (w : ℕ) → is_matched part.idcode h ≡ true → why_by_write part kept h 10 w ≡ None
+why_mfwr part kept h w t = rw t refl
 
--- an access that the frames refuse comes to no other line
-pub one_line : (part : PartData) (kept : Kept) (h : History) (access : Access) (fault : RunFault) → frame_fault part h access ≡ Some fault → access_line part kept h access ≡ None
-one_line part kept h (Read r count) fault e = refl
-one_line part kept h (Bad w) fault e = absurd (none-some _ e)
-one_line part kept h (Write r w) fault e = by (r == 1) (r == 4) (r == 2 && takes_frames (settings_of part.idcode h)) (r == 10 && takes_copies (settings_of part.idcode h)) e at_fdri at_mfwr
+-- an access that the frames refuse stops it by nothing else
+pub one_why : (part : PartData) (kept : Kept) (h : History) (access : Access) (fault : RunFault) → frame_fault part h access ≡ Some fault → why_by_access part kept h access ≡ None
+one_why part kept h (Read r count) fault e = refl
+one_why part kept h (Bad w) fault e = absurd (none-some _ e)
+one_why part kept h (Write r w) fault e = by (r == 1) (r == 4) (r == 2 && takes_frames (settings_of part.idcode h)) (r == 10 && takes_copies (settings_of part.idcode h)) e at_fdri at_mfwr
   where
-    at_fdri : (r == 2 && takes_frames (settings_of part.idcode h)) ≡ true → write_line part kept h r w ≡ None
+    at_fdri : (r == 2 && takes_frames (settings_of part.idcode h)) ≡ true → why_by_write part kept h r w ≡ None
     at_fdri t =
         let p = and_parts (r == 2) (takes_frames (settings_of part.idcode h)) t in
         let m = and_parts (is_matched part.idcode h) _ p.1 in
-        subst (λ (n : ℕ). write_line part kept h n w ≡ None) (sym (eqb-true r 2 p.0)) (line_fdri part kept h w m.0)
+        subst (λ (n : ℕ). why_by_write part kept h n w ≡ None) (sym (eqb-true r 2 p.0)) (why_fdri part kept h w m.0)
 
-    at_mfwr : (r == 10 && takes_copies (settings_of part.idcode h)) ≡ true → write_line part kept h r w ≡ None
+    at_mfwr : (r == 10 && takes_copies (settings_of part.idcode h)) ≡ true → why_by_write part kept h r w ≡ None
     at_mfwr t =
         let p = and_parts (r == 10) (takes_copies (settings_of part.idcode h)) t in
         let m = and_parts (is_matched part.idcode h) _ p.1 in
-        subst (λ (n : ℕ). write_line part kept h n w ≡ None) (sym (eqb-true r 10 p.0)) (line_mfwr part kept h w m.0)
+        subst (λ (n : ℕ). why_by_write part kept h n w ≡ None) (sym (eqb-true r 10 p.0)) (why_mfwr part kept h w m.0)
 
     by : (far cmd fdri mfwr : Bool) → fault_by part (if far then Load w else if cmd then Order (command_by w) else if fdri then Word w else if mfwr then Copies else Other) (flow_of part h) ≡ Some fault →
-        (fdri ≡ true → write_line part kept h r w ≡ None) → (mfwr ≡ true → write_line part kept h r w ≡ None) → write_line part kept h r w ≡ None
+        (fdri ≡ true → why_by_write part kept h r w ≡ None) → (mfwr ≡ true → why_by_write part kept h r w ≡ None) → why_by_write part kept h r w ≡ None
     by true cmd fdri mfwr e p q = absurd (none-some _ e)
     by false true fdri mfwr e p q = absurd (none-some _ e)
     by false false true mfwr e p q = p refl
     by false false false true e p q = q refl
     by false false false false e p q = absurd (none-some _ e)
 
--- and by its register alone it comes to no line of the frames
-no_refusal : (part : PartData) (kept : Kept) (h : History) (access : Access) → is_refusal (access_line part kept h access) ≡ false
+-- and by its register alone it gives no refusal of the frames
+no_refusal : (part : PartData) (kept : Kept) (h : History) (access : Access) → is_refusal (why_by_access part kept h access) ≡ false
 no_refusal part kept h (Read r count) = refl
 no_refusal part kept h (Bad w) = refl
 no_refusal part kept h (Write r w) =
@@ -172,8 +172,8 @@ no_refusal part kept h (Write r w) =
 -- ---- one access more
 
 -- a refused one leaves the frames as they are
-pub refused : (part : PartData) (f : FramesState) (h : History) (e : Entry) (why : RunFault) → frame_fault part h e.access ≡ Some why → FramesStandFor part f h 0 → FramesAre part f (Some (stop_by why)) (e ∷ h) 0
-refused part f h e why r s = by why r
+pub refused : (part : PartData) (f : FramesState) (h : History) (e : Entry) (refusal : RunFault) → frame_fault part h e.access ≡ Some refusal → FramesStandFor part f h 0 → FramesAre part f (Some (stop_by refusal)) (e ∷ h) 0
+refused part f h e refusal r s = by refusal r
   where
     far : (fault : RunFault) → frame_fault part h e.access ≡ Some fault → far_in part (less 0 (flow_of part h)) ≡ far_in part (less 0 (flow_of part (e ∷ h)))
     far fault r = sym (ap (far_in part) (no_less (flow_of part h))) ∙ sym (refused_far_read part e h fault r) ∙ ap (far_in part) (no_less (flow_of part (e ∷ h)))
@@ -183,33 +183,33 @@ refused part f h e why r s = by why r
     by Overrun r = record { stands = s; memory_same = λ x. sym (refused_memory part e h Overrun r x); far_same = far Overrun r }
     by Multi r = record { stands = s; memory_same = λ x. sym (refused_memory part e h Multi r x); far_same = far Multi r }
 
--- after an access, by the line that it comes to
-pub access_frames : (part : PartData) (kept : Kept) (f g : FramesState) (h : History) (e : Entry) (line now : Option Stop) (result : Option RunFault) → FramesStandFor part f h 0
-    → AfterAccess part g h e result → result ≡ frame_fault part h e.access → line ≡ access_line part kept h e.access → now ≡ or_else line (frame_line result) → FramesAre part g now (e ∷ h) 0
-access_frames part kept f g h e line now None s after r l n =
-    let same : now ≡ line = n ∙ alone line in
+-- after an access, by why it stops the device
+pub access_frames : (part : PartData) (kept : Kept) (f g : FramesState) (h : History) (e : Entry) (why now : Option Stop) (result : Option RunFault) → FramesStandFor part f h 0
+    → AfterAccess part g h e result → result ≡ frame_fault part h e.access → why ≡ why_by_access part kept h e.access → now ≡ or_else why (why_by_frames result) → FramesAre part g now (e ∷ h) 0
+access_frames part kept f g h e why now None s after r l n =
+    let same : now ≡ why = n ∙ alone why in
     frames_at part g now (e ∷ h) 0 (ap is_refusal (same ∙ l) ∙ no_refusal part kept h e.access) after
   where
     alone : (o : Option Stop) → or_else o None ≡ o
     alone None = refl
     alone (Some x) = refl
-access_frames part kept f g h e line now (Some why) s after r l n =
-    let none : line ≡ None = l ∙ one_line part kept h e.access why (sym r) in
-    let same : now ≡ Some (stop_by why) = n ∙ ap (λ (o : Option Stop). or_else o (Some (stop_by why))) none in
-    subst (λ (o : Option Stop). FramesAre part g o (e ∷ h) 0) (sym same) (refused part g h e why (sym r) after)
+access_frames part kept f g h e why now (Some refusal) s after r l n =
+    let none : why ≡ None = l ∙ one_why part kept h e.access refusal (sym r) in
+    let same : now ≡ Some (stop_by refusal) = n ∙ ap (λ (o : Option Stop). or_else o (Some (stop_by refusal))) none in
+    subst (λ (o : Option Stop). FramesAre part g o (e ∷ h) 0) (sym same) (refused part g h e refusal (sym r) after)
 
--- the line of an access
-pub line_is : (part : PartData) (kept : Kept) (h : History) (access : Access) (line now : Option Stop) (result : Option RunFault) → result ≡ frame_fault part h access → line ≡ access_line part kept h access → now ≡ or_else line (frame_line result)
-    → now ≡ line_at part kept h access
-line_is part kept h access line now result r l n = n ∙ ap (λ (o : Option Stop). or_else o (frame_line result)) l ∙ ap (λ (o : Option RunFault). or_else (access_line part kept h access) (frame_line o)) r
+-- why an access stops a device
+pub why_is : (part : PartData) (kept : Kept) (h : History) (access : Access) (why now : Option Stop) (result : Option RunFault) → result ≡ frame_fault part h access → why ≡ why_by_access part kept h access → now ≡ or_else why (why_by_frames result)
+    → now ≡ why_at part kept h access
+why_is part kept h access why now result r l n = n ∙ ap (λ (o : Option Stop). or_else o (why_by_frames result)) l ∙ ap (λ (o : Option RunFault). or_else (why_by_access part kept h access) (why_by_frames o)) r
 
 -- words of a register without an effect ask nothing of the frames
 pub plain_frames : (part : PartData) (f : FramesState) (register n : ℕ) (ws : List ℕ) (h : History) → IsPlain register → FramesStandFor part f h 0 → FramesStandFor part f (entered_all n (payload_steps register ws) h) 0
 plain_frames part f register n ws h p s =
     kept_all (λ (x : History). FramesStandFor part f x 0) register (λ (x : History) (w place : ℕ) (t : FramesStandFor part f x 0). other_access part f x (entry (Write register w) place) (plain_asks part.idcode x register w p) t) n ws h s
 
-pub plain_are : (part : PartData) (f : FramesState) (line : Option Stop) (register n : ℕ) (ws : List ℕ) (h : History) (d : Due) → IsPlain register → is_refusal line ≡ false → due_count d ≡ 0 → FramesAre part f line h (frames_due d)
-    → FramesAre part f line (entered_all n (payload_steps register ws) h) (frames_due d)
-plain_are part f line register n ws h d p e z s =
-    let now : FramesStandFor part f h 0 = frames_of part f line h 0 e (subst (λ (k : ℕ). FramesAre part f line h k) (none_frames d z) s) in
-    subst (λ (k : ℕ). FramesAre part f line (entered_all n (payload_steps register ws) h) k) (sym (none_frames d z)) (frames_at part f line (entered_all n (payload_steps register ws) h) 0 e (plain_frames part f register n ws h p now))
+pub plain_are : (part : PartData) (f : FramesState) (why : Option Stop) (register n : ℕ) (ws : List ℕ) (h : History) (d : Due) → IsPlain register → is_refusal why ≡ false → due_count d ≡ 0 → FramesAre part f why h (frames_due d)
+    → FramesAre part f why (entered_all n (payload_steps register ws) h) (frames_due d)
+plain_are part f why register n ws h d p e z s =
+    let now : FramesStandFor part f h 0 = frames_of part f why h 0 e (subst (λ (k : ℕ). FramesAre part f why h k) (none_frames d z) s) in
+    subst (λ (k : ℕ). FramesAre part f why (entered_all n (payload_steps register ws) h) k) (sym (none_frames d z)) (frames_at part f why (entered_all n (payload_steps register ws) h) 0 e (plain_frames part f register n ws h p now))

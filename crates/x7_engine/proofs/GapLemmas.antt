@@ -136,5 +136,5 @@ gap_again part kept keep wrapped d e bytes left s g fallback registers all part_
       registers_are = subst (λ (h : History). RegistersStandFor part keep e.registers h (length bytes)) (sym same) here;
       cutter_is = λ _. subst (λ (c : CutterState). IsCutterOf c bytes) (sym cutter) (s.cutter_is (gap_going part kept wrapped d bytes s g.no_stop));
       due_are = record { told = []; all = ap (read_out part keep) same ∙ sym (ap (words_left part (history_taken part keep bytes)) none_due) };
-      at_rest = λ line q. ap due_count none_due;
+      at_rest = λ why q. ap due_count none_due;
     }

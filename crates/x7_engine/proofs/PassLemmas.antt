@@ -37,7 +37,7 @@ pub passed : (part : PartData) (kept : Kept) (wrapped : Bool) (d e : DeviceState
     → ((sessions : List Session) (place : Place) → CutterStandsFor d.cutter bytes sessions place → Idles d.cutter (bytes ++ cut) sessions place)
     → ((h : History) (n : ℕ) → RegistersStandFor part kept d.registers h n → RegistersStandFor part kept e.registers h (n + (count - left)))
     → count ≡ length cut → cut ≡ more ++ rest → length rest ≡ left → (e.registers.stop ≡ None → left ≡ 0)
-    → ((line : Stop) → e.registers.stop ≡ Some line → (line ≡ stop.Fault fault.Watchdog) × (left < count))
+    → ((why : Stop) → e.registers.stop ≡ Some why → (why ≡ stop.Fault fault.Watchdog) × (left < count))
     → e.cutter ≡ d.cutter → e.part ≡ d.part → e.wrapped ≡ d.wrapped → e.taken ≡ d.taken + length more → due_count e.registers.due ≡ 0
     → DeviceStandsFor part kept wrapped e (bytes ++ more) × (reads_of part kept (bytes ++ more) ≡ reads_of part kept bytes) × (history_of (bytes ++ more) ≡ history_of bytes)
 passed part kept wrapped d e bytes cut more rest count left s going quiet idles stands k j l g f c p y t due =
@@ -54,16 +54,16 @@ passed part kept wrapped d e bytes cut more rest count left s going quiet idles 
     let m : ℕ = length (bytes ++ more) in
     let count_is : length bytes + (count - left) ≡ m = omega (arith, k, ap length j, length-append more rest, l, length-append bytes more) in
     let placed : Placed (length bytes) h = placed_of bytes (all_front (λ b. b < 256) bytes more here) in
-    let front : history_of (bytes ++ more) ≡ h =
+    let prefix : history_of (bytes ++ more) ≡ h =
     sym (front_of (bytes ++ more) rest fits) ∙ ap (until m) (ap history_of joined ∙ whole)
     ∙ until_placed m h (placed_within (length bytes) m h (omega (arith, length-append bytes more)) placed) in
     let after : RegistersStandFor part kept e.registers h m = subst (λ (x : ℕ). RegistersStandFor part kept e.registers h x) count_is (stands h (length bytes) before) in
-    let stops : stop_in part kept (bytes ++ more) ≡ stopped_at m e.registers.stop = ap (λ (x : History). stop_of part kept x m) front ∙ after.stop in
+    let stops : stop_in part kept (bytes ++ more) ≡ stopped_at m e.registers.stop = ap (λ (x : History). stop_of part kept x m) prefix ∙ after.stop in
     let all : until (counted_in e.registers.stop m) h ≡ h =
     subst (λ (x : ℕ). until (counted_in e.registers.stop x) h ≡ h) count_is (quiet_until e.registers.stop (length bytes) count left h f placed) in
     let new : history_taken part kept (bytes ++ more) ≡ h =
     ap (λ o. history_by o (history_of (bytes ++ more))) stops
-    ∙ ap (history_by (stopped_at m e.registers.stop)) (front ∙ sym (until_placed m h (placed_within (length bytes) m h (omega (arith, length-append bytes more)) placed)))
+    ∙ ap (history_by (stopped_at m e.registers.stop)) (prefix ∙ sym (until_placed m h (placed_within (length bytes) m h (omega (arith, length-append bytes more)) placed)))
     ∙ history_until e.registers.stop m h ∙ all in
     let told : reads_of part kept (bytes ++ more) ≡ reads_of part kept bytes = ap (read_out part kept) new ∙ ap (read_out part kept) (sym old) in (
       record {
@@ -80,10 +80,10 @@ passed part kept wrapped d e bytes cut more rest count left s going quiet idles 
               (subst (λ (x : List ℕ). CutterStandsFor d.cutter (bytes ++ x) cutter.sessions i.new_place) (sym (no_rest cut more rest j (l ∙ g o))) i.stands);
         };
         due_are = record { told = reads_of part kept bytes; all = told ∙ none_due (reads_of part kept bytes) part (history_taken part kept (bytes ++ more)) e.registers.due due };
-        at_rest = λ line o. due;
+        at_rest = λ why o. due;
       },
       told,
-      front,
+      prefix,
     )
 
 -- the words told stay where none is due before or after

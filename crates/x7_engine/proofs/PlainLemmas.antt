@@ -28,7 +28,7 @@ use Rattle.x7_engine.specs.Registers.{ghigh_after, has_effect, has_ghigh, clears
 use Rattle.x7_engine.specs.Standing.{AreControls, ControlsState, counted_in}
 use Rattle.x7_engine.specs.Startup.{has_ended, phase_by, startup_call, startup_calls}
 use Rattle.x7_engine.specs.State.{last_counted}
-use Rattle.x7_engine.specs.Stops.{access_line, frame_line, line_at, or_else, stop_of, stopped_at, stopped_by_watchdog}
+use Rattle.x7_engine.specs.Stops.{why_by_access, why_by_frames, why_at, or_else, stop_of, stopped_at, stopped_by_watchdog}
 use Rattle.x7_engine.specs.Watching.{fired_or, fires, first_firing, timer_held, watch_call, watch_calls, watched_bytes}
 use Rattle.x7_engine.proofs.ClockLemmas.{startup_entered, startup_more, stop_more_bytes, watch_entered, watch_more}
 use Rattle.x7_engine.proofs.TurnLemmas.{front_until, newest_within}
@@ -91,7 +91,7 @@ quiet_is register e =
 pub fdri_quiet : IsQuiet 2
 fdri_quiet = record { crc = refl; far = refl; cmd = refl; ctl0 = refl; lout = refl; idcode = refl; timer = refl; ctl1 = refl }
 
--- its words execute no command, clear no check and come to no line
+-- its words execute no command, clear no check and stop nothing
 pub executes_none : (held register w : ℕ) → IsQuiet register → executed_by held (Write register w) ≡ None
 executes_none held register w p = rw (p.cmd, p.far) refl
 
@@ -102,13 +102,13 @@ clears_none h register w p = rw (executes_none (command_held h) register w p, p.
 pub plain_asks : (idcode : ℕ) (h : History) (register w : ℕ) → IsPlain register → asks idcode h (Write register w) ≡ Other
 plain_asks idcode h register w p = let q = p.quiet in rw (q.far, q.cmd, p.fdri, p.mfwr) refl
 
-own_none : (part : PartData) (kept : Kept) (h : History) (register w : ℕ) → IsPlain register → access_line part kept h (Write register w) ≡ None
+own_none : (part : PartData) (kept : Kept) (h : History) (register w : ℕ) → IsPlain register → why_by_access part kept h (Write register w) ≡ None
 own_none part kept h register w p = let q = p.quiet in rw (executes_none (command_held h) register w q, q.crc, p.fdri, q.cmd, q.ctl0, p.mfwr, p.cbc, q.idcode) refl
 
-pub line_none : (part : PartData) (kept : Kept) (h : History) (register w : ℕ) → IsPlain register → None ≡ line_at part kept h (Write register w)
-line_none part kept h register w p =
-    sym (ap (λ (o : Option Stop). or_else o (frame_line (frame_fault part h (Write register w)))) (own_none part kept h register w p)
-    ∙ ap (λ (a : Asked). frame_line (fault_by part a (flow_of part h))) (plain_asks part.idcode h register w p))
+pub why_none : (part : PartData) (kept : Kept) (h : History) (register w : ℕ) → IsPlain register → None ≡ why_at part kept h (Write register w)
+why_none part kept h register w p =
+    sym (ap (λ (o : Option Stop). or_else o (why_by_frames (frame_fault part h (Write register w)))) (own_none part kept h register w p)
+    ∙ ap (λ (a : Asked). why_by_frames (fault_by part a (flow_of part h))) (plain_asks part.idcode h register w p))
 
 -- the flags stay
 pub record AreFlags (idcode : ℕ) (matched pending ghigh iprog : Bool) (h : History) : Type 0 where
@@ -147,10 +147,10 @@ clock_plain part kept c h register w place p s =
     clock_other part kept c h (Write register w) place start watch s
 
 -- the last of the words is the one that is held
-pub word_held-all : (kept : Kept) (r register n last : ℕ) (front : List ℕ) (h : History) → word_held kept r (entered_all n (payload_steps register (front ++ last ∷ [])) h) ≡ (if register == r then last else word_held kept r h)
+pub word_held-all : (kept : Kept) (r register n last : ℕ) (prefix : List ℕ) (h : History) → word_held kept r (entered_all n (payload_steps register (prefix ++ last ∷ [])) h) ≡ (if register == r then last else word_held kept r h)
 word_held-all kept r register n last [] h = refl
-word_held-all kept r register n last (x ∷ front) h =
-    word_held-all kept r register (n + 4) last front (entry (Write register x) (n + 4) ∷ h)
+word_held-all kept r register n last (x ∷ prefix) h =
+    word_held-all kept r register (n + 4) last prefix (entry (Write register x) (n + 4) ∷ h)
     ∙ elim (register == r) as (λ b. (if b then last else if b then x else word_held kept r h) ≡ (if b then last else word_held kept r h)) [ true ↦ refl | false ↦ refl ]
 
 -- the chunks up to the last one, and the last one
@@ -227,7 +227,7 @@ plain_firing part kept h register w place (suc count) p l =
     ap (λ (o : Option ℕ). fired_or o (fires part kept (entry (Write register w) place ∷ h) (place + count + 1)) (place + count + 1)) (plain_firing part kept h register w place count p l)
     ∙ ap (λ (b : Bool). fired_or (first_firing part kept h place count) b (place + count + 1)) (plain_fires part kept h register w place (place + count + 1) p l (omega arith))
 
-plain_stop : (part : PartData) (kept : Kept) (h : History) (register w place m : ℕ) → IsQuiet register → line_at part kept h (Write register w) ≡ None → newest_place h ≤ place → place ≤ m → stop_of part kept (entry (Write register w) place ∷ h) m ≡ stop_of part kept h m
+plain_stop : (part : PartData) (kept : Kept) (h : History) (register w place m : ℕ) → IsQuiet register → why_at part kept h (Write register w) ≡ None → newest_place h ≤ place → place ≤ m → stop_of part kept (entry (Write register w) place ∷ h) m ≡ stop_of part kept h m
 plain_stop part kept h register w place m p none l k =
     let sum : place + (m - place) ≡ m = omega (arith, k) in
     ap (λ (o : Option Stop). or_else (stop_of part kept h place) (or_else (stopped_at place o) (stopped_by_watchdog (first_firing part kept (entry (Write register w) place ∷ h) place (m - place))))) none
@@ -241,16 +241,16 @@ pub record Clocked (part : PartData) (kept : Kept) (c : ClockState) (d : Option 
   pub clock : IsClock part kept c h m
   pub stop : stop_of part kept h m ≡ stopped_at m d
 
--- words that come to no line, each behind those before it
-abbrev pub NoLines : PartData → Kept → ℕ → ℕ → List ℕ → History → Type 0
-NoLines part kept register n [] h = Unit {0}
-NoLines part kept register n (w ∷ ws) h = (line_at part kept h (Write register w) ≡ None) × NoLines part kept register (n + 4) ws (entry (Write register w) (n + 4) ∷ h)
+-- words that stop nothing, each behind those before it
+abbrev pub NoneStop : PartData → Kept → ℕ → ℕ → List ℕ → History → Type 0
+NoneStop part kept register n [] h = Unit {0}
+NoneStop part kept register n (w ∷ ws) h = (why_at part kept h (Write register w) ≡ None) × NoneStop part kept register (n + 4) ws (entry (Write register w) (n + 4) ∷ h)
 
-pub plain_lines : (part : PartData) (kept : Kept) (register n : ℕ) (ws : List ℕ) (h : History) → IsPlain register → NoLines part kept register n ws h
-plain_lines part kept register n [] h p = tt
-plain_lines part kept register n (w ∷ ws) h p = (sym (line_none part kept h register w p), plain_lines part kept register (n + 4) ws (entry (Write register w) (n + 4) ∷ h) p)
+pub plain_none : (part : PartData) (kept : Kept) (register n : ℕ) (ws : List ℕ) (h : History) → IsPlain register → NoneStop part kept register n ws h
+plain_none part kept register n [] h p = tt
+plain_none part kept register n (w ∷ ws) h p = (sym (why_none part kept h register w p), plain_none part kept register (n + 4) ws (entry (Write register w) (n + 4) ∷ h) p)
 
-clocked_more : (part : PartData) (kept : Kept) (c : ClockState) (d : Option Stop) (h : History) (n m register w : ℕ) → IsQuiet register → line_at part kept h (Write register w) ≡ None → n + 4 ≤ m → Clocked part kept c d h n m → Clocked part kept c d (entry (Write register w) (n + 4) ∷ h) (n + 4) m
+clocked_more : (part : PartData) (kept : Kept) (c : ClockState) (d : Option Stop) (h : History) (n m register w : ℕ) → IsQuiet register → why_at part kept h (Write register w) ≡ None → n + 4 ≤ m → Clocked part kept c d h n m → Clocked part kept c d (entry (Write register w) (n + 4) ∷ h) (n + 4) m
 clocked_more part kept c d h n m register w p none l s =
     let before : newest_place h ≤ n + 4 = omega (arith, newest_within n h s.places) in
     record {
@@ -262,7 +262,7 @@ clocked_more part kept c d h n m register w p none l s =
       stop = plain_stop part kept h register w (n + 4) m p none before l ∙ s.stop;
     }
 
-pub clocked_all : (part : PartData) (kept : Kept) (c : ClockState) (d : Option Stop) (register n m : ℕ) (ws : List ℕ) (h : History) → IsQuiet register → NoLines part kept register n ws h → n + 4 * length ws ≤ m → Clocked part kept c d h n m
+pub clocked_all : (part : PartData) (kept : Kept) (c : ClockState) (d : Option Stop) (register n m : ℕ) (ws : List ℕ) (h : History) → IsQuiet register → NoneStop part kept register n ws h → n + 4 * length ws ≤ m → Clocked part kept c d h n m
     → Clocked part kept c d (entered_all n (payload_steps register ws) h) (n + 4 * length ws) m
 clocked_all part kept c d register n m [] h p none l s = let same : n ≡ n + 0 = omega arith in subst (λ (k : ℕ). Clocked part kept c d h k m) same s
 clocked_all part kept c d register n m (w ∷ ws) h p none l s =
@@ -295,8 +295,8 @@ words_front (suc k) bytes = ap (λ (n : ℕ). words_of_bytes (take n bytes)) nex
     by (a ∷ b ∷ c ∷ d ∷ rest) f = ap (λ t. word_of_bytes (a ∷ b ∷ c ∷ d ∷ []) ∷ t) (f rest)
 
 -- the byte up to which words count, behind some bytes
-pub counted_behind : (d : Option Stop) (n count left : ℕ) → ((line : Stop) → d ≡ Some line → (line ≡ stop.Fault fault.Watchdog) × (left < count)) → counted_in d (n + (count - left)) ≡ n + counted_in d (count - left)
+pub counted_behind : (d : Option Stop) (n count left : ℕ) → ((why : Stop) → d ≡ Some why → (why ≡ stop.Fault fault.Watchdog) × (left < count)) → counted_in d (n + (count - left)) ≡ n + counted_in d (count - left)
 counted_behind None n count left f = refl
-counted_behind (Some line) n count left f =
-    let w : (line ≡ stop.Fault fault.Watchdog) × (left < count) = f line refl in
+counted_behind (Some why) n count left f =
+    let w : (why ≡ stop.Fault fault.Watchdog) × (left < count) = f why refl in
     ap (λ (l : Stop). last_counted l (n + (count - left))) w.0 ∙ omega (arith, w.1) ∙ sym (ap (λ (l : Stop). n + last_counted l (count - left)) w.0)

@@ -10,7 +10,7 @@ use Rattle.x7_part.specs.Part.{PartData}
 use Rattle.x7_engine.specs.declared.kept.Kept.{Kept}
 use Rattle.x7_engine.specs.declared.stop.Stop.{Stop}
 use Rattle.x7_engine.specs.State.{history_by, history_taken, last_counted, reads_of, stop_in}
-use Rattle.x7_engine.specs.Stops.{Stopped, line_at, or_else, stop_of, stopped_at, stopped_by_watchdog}
+use Rattle.x7_engine.specs.Stops.{Stopped, why_at, or_else, stop_of, stopped_at, stopped_by_watchdog}
 use Rattle.x7_engine.specs.Values.{answer_of, read_out}
 use Rattle.x7_engine.specs.Watching.{fired_or, fires, first_firing}
 use Rattle.x7_engine.proofs.StateLemmas.{stop_is_final-reads, parts_none, counted_most}
@@ -56,20 +56,20 @@ stop_behind part kept [] first n s l none e =
     omega (arith, less)
 stop_behind part kept (x ∷ h) first n s l none e =
     let parts = parts_none (stop_of part kept h x.place) _ none in
-    let lines = parts_none (stopped_at x.place (line_at part kept h x.access)) _ parts.1 in
-    let here : or_else (stopped_at x.place (line_at part kept h x.access)) (stopped_by_watchdog (first_firing part kept (x ∷ h) x.place (n - x.place))) ≡ Some s = ap (λ (o : Option Stopped). or_else o (or_else (stopped_at x.place (line_at part kept h x.access)) (stopped_by_watchdog (first_firing part kept (x ∷ h) x.place (n - x.place))))) (sym parts.0) ∙ e in
-    let fired : stopped_by_watchdog (first_firing part kept (x ∷ h) x.place (n - x.place)) ≡ Some s = ap (λ (o : Option Stopped). or_else o (stopped_by_watchdog (first_firing part kept (x ∷ h) x.place (n - x.place)))) (sym lines.0) ∙ here in
-    let less : x.place + (first - x.place) < s.place = watchdog_behind part kept (x ∷ h) x.place (first - x.place) (n - x.place) s (omega (arith, l)) lines.1 fired in
+    let own = parts_none (stopped_at x.place (why_at part kept h x.access)) _ parts.1 in
+    let here : or_else (stopped_at x.place (why_at part kept h x.access)) (stopped_by_watchdog (first_firing part kept (x ∷ h) x.place (n - x.place))) ≡ Some s = ap (λ (o : Option Stopped). or_else o (or_else (stopped_at x.place (why_at part kept h x.access)) (stopped_by_watchdog (first_firing part kept (x ∷ h) x.place (n - x.place))))) (sym parts.0) ∙ e in
+    let fired : stopped_by_watchdog (first_firing part kept (x ∷ h) x.place (n - x.place)) ≡ Some s = ap (λ (o : Option Stopped). or_else o (stopped_by_watchdog (first_firing part kept (x ∷ h) x.place (n - x.place)))) (sym own.0) ∙ here in
+    let less : x.place + (first - x.place) < s.place = watchdog_behind part kept (x ∷ h) x.place (first - x.place) (n - x.place) s (omega (arith, l)) own.1 fired in
     omega (arith, less)
 
 newer_stop : (part : PartData) (kept : Kept) (newer h : History) (first most n : ℕ) (s : Stopped) → AllAfter first most newer → first ≤ n → stop_of part kept h first ≡ None → stop_of part kept (newer ++ h) n ≡ Some s → first < s.place
 newer_stop part kept [] h first most n s a l none e = stop_behind part kept h first n s l none e
 newer_stop part kept (x ∷ newer) h first most n s a l none e =
-    by (stop_of part kept (newer ++ h) x.place) (line_at part kept (newer ++ h) x.access) refl (newer_stop part kept newer h first most x.place s a.2 (omega (arith, a.0)) none) e
+    by (stop_of part kept (newer ++ h) x.place) (why_at part kept (newer ++ h) x.access) refl (newer_stop part kept newer h first most x.place s a.2 (omega (arith, a.0)) none) e
   where
-    by : (o : Option Stopped) (line : Option Stop) → stop_of part kept (newer ++ h) x.place ≡ o → (stop_of part kept (newer ++ h) x.place ≡ Some s → first < s.place)
-        → or_else o (or_else (stopped_at x.place line) (stopped_by_watchdog (first_firing part kept (x ∷ (newer ++ h)) x.place (n - x.place)))) ≡ Some s → first < s.place
-    by (Some q) line p before g = before (p ∙ g)
+    by : (o : Option Stopped) (why : Option Stop) → stop_of part kept (newer ++ h) x.place ≡ o → (stop_of part kept (newer ++ h) x.place ≡ Some s → first < s.place)
+        → or_else o (or_else (stopped_at x.place why) (stopped_by_watchdog (first_firing part kept (x ∷ (newer ++ h)) x.place (n - x.place)))) ≡ Some s → first < s.place
+    by (Some q) why p before g = before (p ∙ g)
     by None (Some q) p before g =
         let place : x.place ≡ s.place = ap place_of g in
         omega (arith, place, a.0)
@@ -121,8 +121,8 @@ reads_on part kept bytes more fits all none =
         let long : length bytes ≤ length (bytes ++ more) = omega (arith, length-append bytes more) in
         let at : stop_of part kept (newer ++ history_of bytes) (length (bytes ++ more)) ≡ Some t = ap (λ (x : History). stop_of part kept x (length (bytes ++ more))) (sym e) ∙ s in
         let behind : length bytes < t.place = newer_stop part kept newer (history_of bytes) (length bytes) (length (bytes ++ more)) (length (bytes ++ more)) t a long none at in
-        let front = until_front (length bytes) (length (bytes ++ more)) (last_counted t.line t.place) newer (history_of bytes) (placed_of bytes fits) (counted_most t.line t.place (length bytes) behind) in
-        (front.0, ap (λ (o : Option Stopped). history_by o (history_of (bytes ++ more))) s ∙ ap (λ (x : History). until (last_counted t.line t.place) x) e ∙ front.1)
+        let prefix = until_front (length bytes) (length (bytes ++ more)) (last_counted t.why t.place) newer (history_of bytes) (placed_of bytes fits) (counted_most t.why t.place (length bytes) behind) in
+        (prefix.0, ap (λ (o : Option Stopped). history_by o (history_of (bytes ++ more))) s ∙ ap (λ (x : History). until (last_counted t.why t.place) x) e ∙ prefix.1)
 
 pub reads_grow : (part : PartData) (kept : Kept) (bytes more : List ℕ) → AreBytes (bytes ++ more) → (rest : List ℕ) × (reads_of part kept (bytes ++ more) ≡ reads_of part kept bytes ++ rest)
 reads_grow part kept bytes more all = by (stop_in part kept bytes) refl

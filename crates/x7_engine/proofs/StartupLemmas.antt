@@ -4,7 +4,7 @@ use Rattle.std.proofs.lemmas.Bool.Decides.{nat_tests}
 use Rattle.std.specs.Prelude.{nat_le}
 use Rattle.x7_part.specs.Part.{PartData}
 use Rattle.x7_startup.specs.Arrivals.{IsPhase, arrival, wait_of}
-use Rattle.x7_startup.specs.Calls.{Begun, IsPhaseOf, NotBegun, Progress}
+use Rattle.x7_startup.specs.Calls.{Begun, IsPhaseOf, NotBegun, StartupProgress}
 use Rattle.x7_engine.specs.Startup.{greatest_begun, phase_at, phase_by}
 
 -- ---- the phase is the greatest that has begun
@@ -38,6 +38,6 @@ phase_is_greatest wait ticks =
     let g = greatest_is wait ticks 7 in
     record { last = g.0; begun = g.1; greatest = g.2 }
 
-pub phase_is : (part : PartData) (p : Progress) → IsPhaseOf part.lock part.matched p (phase_by part p)
+pub phase_is : (part : PartData) (p : StartupProgress) → IsPhaseOf part.lock part.matched p (phase_by part p)
 phase_is part NotBegun = refl
 phase_is part (Begun cor0 bytes) = phase_is_greatest (wait_of part.lock part.matched cor0) (bytes / 4)

@@ -17,22 +17,22 @@ use Rattle.x7_engine.specs.Standing.{DeviceStandsFor, DeviceState}
 use Rattle.x7_flow.specs.Flow.{Flow, far_in, flow_of}
 use Rattle.x7_flow.specs.FrameMemory.{memory_of}
 use Rattle.x7_flow.proofs.StandingLemmas.{no_less}
-use Rattle.x7_engine.specs.State.{history_by, history_taken, last_counted, line_by, reads_of, state_by, state_of, stop_in, taken_by, taken_of, memory_in, state_owing}
-use Rattle.x7_engine.specs.Stops.{Stopped, line_at, or_else, stop_of, stopped_at, stopped_by_watchdog}
+use Rattle.x7_engine.specs.State.{history_by, history_taken, last_counted, why_of, reads_of, state_by, state_of, stop_in, taken_by, taken_of, memory_in, state_owing}
+use Rattle.x7_engine.specs.Stops.{Stopped, why_at, or_else, stop_of, stopped_at, stopped_by_watchdog}
 use Rattle.x7_engine.specs.Watching.{fired_or, fires, first_firing}
 use Rattle.x7_engine.specs.Values.{read_out}
 
-line_at_end : (n : ℕ) (d : Option Stop) → line_by (stopped_at n d) ≡ d
-line_at_end n None = refl
-line_at_end n (Some line) = refl
+why_at_end : (n : ℕ) (d : Option Stop) → why_of (stopped_at n d) ≡ d
+why_at_end n None = refl
+why_at_end n (Some why) = refl
 
 taken_at_end : (n : ℕ) (d : Option Stop) → taken_by (stopped_at n d) n ≡ n
 taken_at_end n None = refl
-taken_at_end n (Some line) = refl
+taken_at_end n (Some why) = refl
 
--- the line that the bytes come to is the device's
-pub line_is : (part : PartData) (kept : Kept) (wrapped : Bool) (d : DeviceState) (bytes : List ℕ) → DeviceStandsFor part kept wrapped d bytes → line_by (stop_in part kept bytes) ≡ d.registers.stop
-line_is part kept wrapped d bytes s = ap line_by s.stop_is ∙ line_at_end (length bytes) d.registers.stop
+-- why the bytes stop a device is what the device holds
+pub why_is : (part : PartData) (kept : Kept) (wrapped : Bool) (d : DeviceState) (bytes : List ℕ) → DeviceStandsFor part kept wrapped d bytes → why_of (stop_in part kept bytes) ≡ d.registers.stop
+why_is part kept wrapped d bytes s = ap why_of s.stop_is ∙ why_at_end (length bytes) d.registers.stop
 
 -- all bytes are taken
 pub taken_is : (part : PartData) (kept : Kept) (wrapped : Bool) (d : DeviceState) (bytes : List ℕ) → DeviceStandsFor part kept wrapped d bytes → taken_of part kept bytes ≡ length bytes
@@ -64,16 +64,16 @@ watchdog_later part kept h from n m s l e = by_firing (first_firing part kept h 
         let sum : m ≡ n + (m - n) = omega arith in
         ap stopped_by_watchdog (ap (first_firing part kept h from) sum ∙ firing_later part kept h from n (m - n) place f) ∙ g
 
--- the later of two lines that may hold
-later_line : (first line : Option Stopped) (now next : Option Stopped) (s : Stopped) → (now ≡ Some s → next ≡ Some s) → or_else first (or_else line now) ≡ Some s → or_else first (or_else line next) ≡ Some s
-later_line (Some x) line now next s f e = e
-later_line None (Some x) now next s f e = e
-later_line None None now next s f e = f e
+-- the later of two stops
+later_why : (first why : Option Stopped) (now next : Option Stopped) (s : Stopped) → (now ≡ Some s → next ≡ Some s) → or_else first (or_else why now) ≡ Some s → or_else first (or_else why next) ≡ Some s
+later_why (Some x) why now next s f e = e
+later_why None (Some x) now next s f e = e
+later_why None None now next s f e = f e
 
 stop_later : (part : PartData) (kept : Kept) (h : History) (n m : ℕ) (s : Stopped) → n ≤ m → stop_of part kept h n ≡ Some s → stop_of part kept h m ≡ Some s
 stop_later part kept [] n m s l e = watchdog_later part kept [] 0 n m s l e
 stop_later part kept (x ∷ h) n m s l e =
-    later_line (stop_of part kept h x.place) (stopped_at x.place (line_at part kept h x.access)) _ _ s
+    later_why (stop_of part kept h x.place) (stopped_at x.place (why_at part kept h x.access)) _ _ s
     (watchdog_later part kept (x ∷ h) x.place (n - x.place) (m - x.place) s (omega arith)) e
 
 -- newer accesses leave a stop
@@ -81,7 +81,7 @@ stop_stays_behind : (part : PartData) (kept : Kept) (newer h : History) (n k m :
 stop_stays_behind part kept [] h n k m s a l e = stop_later part kept h n m s l e
 stop_stays_behind part kept (x ∷ newer) h n k m s a l e =
     let before : stop_of part kept (newer ++ h) x.place ≡ Some s = stop_stays_behind part kept newer h n k x.place s a.2 (omega (arith, a.0)) e in
-    ap (λ (o : Option Stopped). or_else o (or_else (stopped_at x.place (line_at part kept (newer ++ h) x.access)) (stopped_by_watchdog (first_firing part kept (x ∷ (newer ++ h)) x.place (m - x.place))))) before
+    ap (λ (o : Option Stopped). or_else o (or_else (stopped_at x.place (why_at part kept (newer ++ h) x.access)) (stopped_by_watchdog (first_firing part kept (x ∷ (newer ++ h)) x.place (m - x.place))))) before
 
 -- the first stop of bytes is that of further bytes too
 pub stop_is_final-stop : (part : PartData) (kept : Kept) (bytes more : List ℕ) (s : Stopped) → AreBytes (bytes ++ more) → stop_in part kept bytes ≡ Some s → stop_in part kept (bytes ++ more) ≡ Some s
@@ -111,11 +111,11 @@ watchdog_within part kept h from count n s e l = by_firing (first_firing part ke
         let p : place ≡ s.place = cc in
         (omega (arith, w.0), omega (arith, w.1))
 
-some_line : (place : ℕ) (o : Option Stop) (s : Stopped) → stopped_at place o ≡ Some s → s.place ≡ place
-some_line place None s e = absurd cc
-some_line place (Some line) s e = cc
+some_why : (place : ℕ) (o : Option Stop) (s : Stopped) → stopped_at place o ≡ Some s → s.place ≡ place
+some_why place None s e = absurd cc
+some_why place (Some why) s e = cc
 
--- which of three lines holds
+-- which of three stops comes
 of_three : {A : Type 0} (a b c : Option A) (x : A) (P : Type 0) → (a ≡ Some x → P) → (b ≡ Some x → P) → (c ≡ Some x → P) → or_else a (or_else b c) ≡ Some x → P
 of_three (Some y) b c x P f g h e = f e
 of_three None (Some y) c x P f g h e = g e
@@ -124,16 +124,16 @@ of_three None None c x P f g h e = h e
 stop_within : (part : PartData) (kept : Kept) (h : History) (n : ℕ) (s : Stopped) → Placed n h → stop_of part kept h n ≡ Some s → (0 < s.place) × (s.place ≤ n)
 stop_within part kept [] n s p e = watchdog_within part kept [] 0 n n s e (omega arith)
 stop_within part kept (x ∷ h) n s p e =
-    of_three (stop_of part kept h x.place) (stopped_at x.place (line_at part kept h x.access)) (stopped_by_watchdog (first_firing part kept (x ∷ h) x.place (n - x.place))) s ((0 < s.place) × (s.place ≤ n))
+    of_three (stop_of part kept h x.place) (stopped_at x.place (why_at part kept h x.access)) (stopped_by_watchdog (first_firing part kept (x ∷ h) x.place (n - x.place))) s ((0 < s.place) × (s.place ≤ n))
     (λ f. let w : (0 < s.place) × (s.place ≤ x.place) = stop_within part kept h x.place s (placed_within (x.place - 1) x.place h (omega arith) p.2) f in (w.0, omega (arith, w.1, p.1)))
-    (λ f. let w : s.place ≡ x.place = some_line x.place (line_at part kept h x.access) s f in (omega (arith, p.0), omega (arith, p.1)))
+    (λ f. let w : s.place ≡ x.place = some_why x.place (why_at part kept h x.access) s f in (omega (arith, p.0), omega (arith, p.1)))
     (λ f. watchdog_within part kept (x ∷ h) x.place (n - x.place) n s f (omega (arith, p.1)))
     e
 
 pub stop_place : (part : PartData) (kept : Kept) (bytes : List ℕ) (s : Stopped) → AreBytes bytes → stop_in part kept bytes ≡ Some s → (0 < s.place) × (s.place ≤ length bytes)
 stop_place part kept bytes s f e = stop_within part kept (history_of bytes) (length bytes) s (placed_of bytes f) e
 
-pub counted_least : (line : Stop) (place : ℕ) → last_counted line place ≤ place
+pub counted_least : (why : Stop) (place : ℕ) → last_counted why place ≤ place
 counted_least (stop.Fault (fault.Packet w)) place = omega arith
 counted_least (stop.Fault (fault.Id want got)) place = omega arith
 counted_least (stop.Fault (fault.Crc want got)) place = omega arith
@@ -153,10 +153,10 @@ behind_it n k m (x ∷ newer) h a l = ap (λ (b : Bool). if b then until k (newe
 history_final : (part : PartData) (kept : Kept) (bytes more : List ℕ) (s : Stopped) → AreBytes (bytes ++ more) → stop_in part kept bytes ≡ Some s → history_taken part kept (bytes ++ more) ≡ history_taken part kept bytes
 history_final part kept bytes more s f e =
     let n : IsLater (length bytes) (history_of bytes) (bytes ++ more) = newer_of bytes more f in
-    let least : last_counted s.line s.place ≤ length bytes = omega (arith, counted_least s.line s.place, (stop_place part kept bytes s (all_front (λ b. b < 256) bytes more f) e).1) in
+    let least : last_counted s.why s.place ≤ length bytes = omega (arith, counted_least s.why s.place, (stop_place part kept bytes s (all_front (λ b. b < 256) bytes more f) e).1) in
     ap (λ (o : Option Stopped). history_by o (history_of (bytes ++ more))) (stop_is_final-stop part kept bytes more s f e)
-    ∙ ap (until (last_counted s.line s.place)) n.1
-    ∙ behind_it (length bytes) (last_counted s.line s.place) (length (bytes ++ more)) n.0 (history_of bytes) n.2 least
+    ∙ ap (until (last_counted s.why s.place)) n.1
+    ∙ behind_it (length bytes) (last_counted s.why s.place) (length (bytes ++ more)) n.0 (history_of bytes) n.2 least
     ∙ sym (ap (λ (o : Option Stopped). history_by o (history_of bytes)) e)
 
 pub stop_is_final-reads : (part : PartData) (kept : Kept) (bytes more : List ℕ) (s : Stopped) → AreBytes (bytes ++ more) → stop_in part kept bytes ≡ Some s → reads_of part kept (bytes ++ more) ≡ reads_of part kept bytes
@@ -166,7 +166,7 @@ pub stop_is_final-memory : (part : PartData) (kept : Kept) (bytes more : List �
 stop_is_final-memory part kept bytes more s f e = ap (memory_of part) (history_final part kept bytes more s f e)
 
 -- behind a stop it doesn't matter whether the bytes end in a session
-stopped_state : (part : PartData) (kept : Kept) (wrapped : Bool) (line : Stop) (h : History) (n : ℕ) (a b : Bool) → state_by (course_at part kept h n) wrapped (Some line) a ≡ state_by (course_at part kept h n) wrapped (Some line) b
+stopped_state : (part : PartData) (kept : Kept) (wrapped : Bool) (why : Stop) (h : History) (n : ℕ) (a b : Bool) → state_by (course_at part kept h n) wrapped (Some why) a ≡ state_by (course_at part kept h n) wrapped (Some why) b
 stopped_state part kept wrapped (stop.Fault f) h n a b = refl
 stopped_state part kept wrapped stop.Iprog h n a b = refl
 
@@ -174,10 +174,10 @@ pub stop_is_final-state : (part : PartData) (kept : Kept) (wrapped : Bool) (byte
 stop_is_final-state part kept wrapped bytes more s f e =
     let later : stop_in part kept (bytes ++ more) ≡ Some s = stop_is_final-stop part kept bytes more s f e in
     let session : Bool = is_synced (reading_of (bytes ++ more)).place in
-    ap (λ (o : Option Stopped). state_by (course_at part kept (history_taken part kept (bytes ++ more)) (taken_by o (length (bytes ++ more)))) wrapped (line_by o) session) later
-    ∙ ap (λ (h : History). state_by (course_at part kept h s.place) wrapped (Some s.line) session) (history_final part kept bytes more s f e)
-    ∙ stopped_state part kept wrapped s.line (history_taken part kept bytes) s.place session (is_synced (reading_of bytes).place)
-    ∙ sym (ap (λ (o : Option Stopped). state_by (course_at part kept (history_taken part kept bytes) (taken_by o (length bytes))) wrapped (line_by o) (is_synced (reading_of bytes).place)) e)
+    ap (λ (o : Option Stopped). state_by (course_at part kept (history_taken part kept (bytes ++ more)) (taken_by o (length (bytes ++ more)))) wrapped (why_of o) session) later
+    ∙ ap (λ (h : History). state_by (course_at part kept h s.place) wrapped (Some s.why) session) (history_final part kept bytes more s f e)
+    ∙ stopped_state part kept wrapped s.why (history_taken part kept bytes) s.place session (is_synced (reading_of bytes).place)
+    ∙ sym (ap (λ (o : Option Stopped). state_by (course_at part kept (history_taken part kept bytes) (taken_by o (length bytes))) wrapped (why_of o) (is_synced (reading_of bytes).place)) e)
 
 -- no bytes before the place of a stop have one
 pub no_stop_before : (part : PartData) (kept : Kept) (bytes more : List ℕ) (s : Stopped) → AreBytes (bytes ++ more) → stop_in part kept (bytes ++ more) ≡ Some s → length bytes < s.place → stop_in part kept bytes ≡ None
@@ -190,7 +190,7 @@ no_stop_before part kept bytes more s f e l = by_stop (stop_in part kept bytes) 
         absurd (omega (arith, (stop_place part kept bytes t (all_front (λ b. b < 256) bytes more f) g).1, ap (λ (x : Stopped). x.place) same, l))
 
 -- the last byte that counts is none of those before the last one
-pub counted_most : (line : Stop) (place n : ℕ) → n < place → n ≤ last_counted line place
+pub counted_most : (why : Stop) (place n : ℕ) → n < place → n ≤ last_counted why place
 counted_most (stop.Fault (fault.Packet w)) place n l = omega (arith, l)
 counted_most (stop.Fault (fault.Id want got)) place n l = omega (arith, l)
 counted_most (stop.Fault (fault.Crc want got)) place n l = omega (arith, l)

@@ -20,7 +20,7 @@ use Rattle.x7_engine.specs.declared.stop.Stop.TheVariants as stop
 use Rattle.x7_engine.specs.Clock.{ClockState, Ticks, newest_place}
 use Rattle.x7_engine.specs.Standing.{FramesAre, IsNext, RegistersStandFor, RegistersState, counted_in, frames_due}
 use Rattle.x7_engine.specs.State.{history_by, last_counted}
-use Rattle.x7_engine.specs.Stops.{Stopped, line_at, or_else, stop_of, stopped_at, stopped_by_watchdog}
+use Rattle.x7_engine.specs.Stops.{Stopped, why_at, or_else, stop_of, stopped_at, stopped_by_watchdog}
 use Rattle.x7_engine.specs.Values.{read_out}
 use Rattle.x7_engine.specs.Watching.{first_firing}
 use Rattle.x7_engine.proofs.ClockLemmas.{firing_more, stop_more_bytes}
@@ -67,12 +67,12 @@ until_until k m (e ∷ h) l = by (until_until k m h l) (nat_lt m e.place) refl
 
 pub counted_within : (d : Option Stop) (n : ℕ) → counted_in d n ≤ n
 counted_within None n = omega arith
-counted_within (Some line) n = counted_least line n
+counted_within (Some why) n = counted_least why n
 
 -- the history taken, where the stop comes at the last byte
 pub history_until : (d : Option Stop) (m : ℕ) (h : History) → history_by (stopped_at m d) (until m h) ≡ until (counted_in d m) h
 history_until None m h = refl
-history_until (Some line) m h = until_until (last_counted line m) m h (counted_least line m)
+history_until (Some why) m h = until_until (last_counted why m) m h (counted_least why m)
 
 -- the access at the last byte doesn't matter for a stop that comes before it
 stop_at_last : (part : PartData) (kept : Kept) (k m : ℕ) (h : History) (s : Stopped) → Placed k h → stop_of part kept (until (m - 1) h) m ≡ Some s → stop_of part kept (until m h) m ≡ Some s
@@ -89,7 +89,7 @@ stop_at_last part kept k m (x ∷ h) s p e = by (λ q. stop_at_last part kept (x
         let here : m ≡ x.place = omega (arith, a, b, p.0) in
         let all : until (m - 1) h ≡ h = until_placed (m - 1) h (placed_within (x.place - 1) (m - 1) h (omega (arith, here)) p.2) in
         let before : stop_of part kept h x.place ≡ Some s = ap (stop_of part kept h) (sym here) ∙ sym (ap (λ (t : History). stop_of part kept t m) all) ∙ e in
-        ap (λ (o : Option Stopped). or_else o (or_else (stopped_at x.place (line_at part kept h x.access)) (stopped_by_watchdog (first_firing part kept (x ∷ h) x.place (m - x.place))))) before
+        ap (λ (o : Option Stopped). or_else o (or_else (stopped_at x.place (why_at part kept h x.access)) (stopped_by_watchdog (first_firing part kept (x ∷ h) x.place (m - x.place))))) before
 
 pub stop_until : (part : PartData) (kept : Kept) (d : Option Stop) (k m : ℕ) (h : History) → Placed k h → stop_of part kept (until (counted_in d m) h) m ≡ stopped_at m d → stop_of part kept (until m h) m ≡ stopped_at m d
 stop_until part kept None k m h p e = e
@@ -100,7 +100,7 @@ stop_until part kept (Some (stop.Fault (fault.Address far))) k m h p e = e
 stop_until part kept (Some (stop.Fault fault.Overrun)) k m h p e = e
 stop_until part kept (Some (stop.Fault fault.Multi)) k m h p e = e
 stop_until part kept (Some (stop.Fault fault.Encrypted)) k m h p e = e
-stop_until part kept (Some (stop.Fault fault.Watchdog)) k m h p e = stop_at_last part kept k m h (record { place = m; line = stop.Fault fault.Watchdog }) p e
+stop_until part kept (Some (stop.Fault fault.Watchdog)) k m h p e = stop_at_last part kept k m h (record { place = m; why = stop.Fault fault.Watchdog }) p e
 stop_until part kept (Some stop.Iprog) k m h p e = e
 
 -- ---- registers, bytes more
@@ -175,11 +175,11 @@ pub all_counted : (part : PartData) (kept : Kept) (d : RegistersState) (h : Hist
 all_counted part kept d h m e s = subst (λ (t : History). RegistersStandFor part kept d t m) (sym (ap (λ (k : ℕ). until k h) e ∙ until_placed m h s.places)) s
 
 -- at a firing the word that ends there, or behind it, is none
-pub fired_until : (d : Option Stop) (n count left : ℕ) (s : Step) (h : History) → is_some d ≡ true → ((line : Stop) → d ≡ Some line → (line ≡ stop.Fault fault.Watchdog) × (left < count)) → Placed n h
+pub fired_until : (d : Option Stop) (n count left : ℕ) (s : Step) (h : History) → is_some d ≡ true → ((why : Stop) → d ≡ Some why → (why ≡ stop.Fault fault.Watchdog) × (left < count)) → Placed n h
     → until (counted_in d (n + (count - left))) (entered (n + count) s h) ≡ h
 fired_until None n count left s h e f p = absurd cc
-fired_until (Some line) n count left s h e f p =
-    let w : (line ≡ stop.Fault fault.Watchdog) × (left < count) = f line refl in
+fired_until (Some why) n count left s h e f p =
+    let w : (why ≡ stop.Fault fault.Watchdog) × (left < count) = f why refl in
     ap (λ (l : Stop). until (last_counted l (n + (count - left))) (entered (n + count) s h)) w.0
     ∙ step_until n (n + (count - left) - 1) (n + count) s h p (omega (arith, w.1)) (omega (arith, w.1))
 
@@ -235,9 +235,9 @@ counted_more (Some (stop.Fault fault.Watchdog)) n k l = omega (arith, l)
 counted_more (Some stop.Iprog) n k l = omega arith
 
 -- bytes without a word leave all accesses
-pub quiet_until : (d : Option Stop) (n count left : ℕ) (h : History) → ((line : Stop) → d ≡ Some line → (line ≡ stop.Fault fault.Watchdog) × (left < count)) → Placed n h → until (counted_in d (n + (count - left))) h ≡ h
+pub quiet_until : (d : Option Stop) (n count left : ℕ) (h : History) → ((why : Stop) → d ≡ Some why → (why ≡ stop.Fault fault.Watchdog) × (left < count)) → Placed n h → until (counted_in d (n + (count - left))) h ≡ h
 quiet_until None n count left h f p = until_placed (n + (count - left)) h (placed_within n (n + (count - left)) h (omega arith) p)
-quiet_until (Some line) n count left h f p =
-    let w : (line ≡ stop.Fault fault.Watchdog) × (left < count) = f line refl in
+quiet_until (Some why) n count left h f p =
+    let w : (why ≡ stop.Fault fault.Watchdog) × (left < count) = f why refl in
     ap (λ (l : Stop). until (last_counted l (n + (count - left))) h) w.0
     ∙ until_placed (n + (count - left) - 1) h (placed_within n (n + (count - left) - 1) h (omega (arith, w.1)) p)

@@ -39,24 +39,24 @@ until_one n k h g l p (inr one) = subst (λ (x : History). OneEntry h (until k x
     by true = inl (until_placed k h (placed_within n k h l p))
     by false = inr (one.0, refl)
 
-taken_one : (part : PartData) (kept : Kept) (bytes more : List ℕ) (line : Option Stop) → AreBytes (bytes ++ more) → length more ≤ 4 → 0 < length more → stop_in part kept (bytes ++ more) ≡ stopped_at (length (bytes ++ more)) line
+taken_one : (part : PartData) (kept : Kept) (bytes more : List ℕ) (why : Option Stop) → AreBytes (bytes ++ more) → length more ≤ 4 → 0 < length more → stop_in part kept (bytes ++ more) ≡ stopped_at (length (bytes ++ more)) why
     → OneEntry (history_of bytes) (history_taken part kept (bytes ++ more))
 taken_one part kept bytes more None f few some e = subst (OneEntry (history_of bytes)) (sym (going_taken part kept (bytes ++ more) e)) (enter_once bytes more f few)
-taken_one part kept bytes more (Some line) f few some e =
+taken_one part kept bytes more (Some why) f few some e =
     let place : ℕ = length (bytes ++ more) in
     let long : place ≡ length bytes + length more = length-append bytes more in
     subst (OneEntry (history_of bytes)) (sym (ap (λ (o : Option Stopped). history_by o (history_of (bytes ++ more))) e))
-    (until_one (length bytes) (last_counted line place) (history_of bytes) (history_of (bytes ++ more)) (counted_most line place (length bytes) (omega (arith, long, some))) (placed_of bytes (all_front (λ b. b < 256) bytes more f))
+    (until_one (length bytes) (last_counted why place) (history_of bytes) (history_of (bytes ++ more)) (counted_most why place (length bytes) (omega (arith, long, some))) (placed_of bytes (all_front (λ b. b < 256) bytes more f))
     (enter_once bytes more f few))
 
 -- a device that went on had no stop
-no_stop : (part : PartData) (kept : Kept) (bytes more : List ℕ) (now line : Option Stop) → AreBytes (bytes ++ more) → 0 < length more → stop_in part kept bytes ≡ stopped_at (length bytes) now → stop_in part kept (bytes ++ more) ≡ stopped_at (length (bytes ++ more)) line
+no_stop : (part : PartData) (kept : Kept) (bytes more : List ℕ) (now why : Option Stop) → AreBytes (bytes ++ more) → 0 < length more → stop_in part kept bytes ≡ stopped_at (length bytes) now → stop_in part kept (bytes ++ more) ≡ stopped_at (length (bytes ++ more)) why
     → now ≡ None
-no_stop part kept bytes more None line f some e g = refl
-no_stop part kept bytes more (Some now) line f some e g = by line g
+no_stop part kept bytes more None why f some e g = refl
+no_stop part kept bytes more (Some now) why f some e g = by why g
   where
     at : Stopped
-    at = record { place = length bytes; line = now }
+    at = record { place = length bytes; why = now }
 
     final : stop_in part kept (bytes ++ more) ≡ Some at
     final = stop_is_final-stop part kept bytes more at f e
@@ -65,7 +65,7 @@ no_stop part kept bytes more (Some now) line f some e g = by line g
     place_of None = 0
     place_of (Some s) = s.place
 
-    by : (line : Option Stop) → stop_in part kept (bytes ++ more) ≡ stopped_at (length (bytes ++ more)) line → Some now ≡ None
+    by : (why : Option Stop) → stop_in part kept (bytes ++ more) ≡ stopped_at (length (bytes ++ more)) why → Some now ≡ None
     by None g = absurd (let no : Some at ≡ None = sym final ∙ g in cc)
     by (Some later) g = absurd (let same : length bytes ≡ length (bytes ++ more) = ap (λ (o : Option Stopped). place_of o) (sym final ∙ g) in omega (arith, same, length-append bytes more, some))
 

@@ -17,7 +17,7 @@ use Rattle.x7_packets.specs.Reading.{Place, Session}
 use Rattle.x7_packets.proofs.GrowthLemmas.{front_of, placed_of, placed_within, until_placed}
 use Rattle.x7_packets.proofs.HistoryLemmas.{cut_enters, kept_all, next_word-is}
 use Rattle.x7_part.specs.Part.{PartData}
-use Rattle.x7_startup.specs.Calls.{Call, Arm, Desync, DropBack, Progress, NotBegun, Begun, StandsFor, cor0_of, progress_of}
+use Rattle.x7_startup.specs.Calls.{Call, Arm, Desync, DropBack, StartupProgress, NotBegun, Begun, StandsFor, cor0_of, progress_of}
 use Rattle.x7_startup.proofs.CallLemmas.{further, progress_arm, progress_bytes, progress_drop}
 use Rattle.x7_engine.specs.declared.fed.Fed.{Fed}
 use Rattle.x7_engine.specs.declared.kept.Kept.{Kept}
@@ -59,10 +59,10 @@ no_command (Read r n) e = absurd e
 no_command (Bad w) e = absurd e
 
 -- bytes begin none
-bytes_begin_none : (k : ℕ) (p : Progress) → p ≡ NotBegun → further k p ≡ NotBegun
+bytes_begin_none : (k : ℕ) (p : StartupProgress) → p ≡ NotBegun → further k p ≡ NotBegun
 bytes_begin_none k p e = ap (further k) e
 
-none_before_bytes : (k : ℕ) (p : Progress) → further k p ≡ NotBegun → p ≡ NotBegun
+none_before_bytes : (k : ℕ) (p : StartupProgress) → further k p ≡ NotBegun → p ≡ NotBegun
 none_before_bytes k NotBegun e = refl
 none_before_bytes k (Begun c m) e = absurd (cc)
 
@@ -142,12 +142,12 @@ run_commands c n bytes cut sessions place run left s w r i = λ k l.
     let fits : AreBytes ((bytes ++ take k cut) ++ drop k cut) = subst AreBytes (sym joined) w.stands.reading.fits in
     let here : AreBytes bytes = all_front (λ b. b < 256) bytes cut w.stands.reading.fits in
     let m : ℕ = length (bytes ++ take k cut) in
-    let front : history_of (bytes ++ take k cut) ≡ until m all = sym (front_of (bytes ++ take k cut) (drop k cut) fits) ∙ ap (until m) (ap history_of joined ∙ whole) in
+    let prefix : history_of (bytes ++ take k cut) ≡ until m all = sym (front_of (bytes ++ take k cut) (drop k cut) fits) ∙ ap (until m) (ap history_of joined ∙ whole) in
     let few : length (take k cut) ≡ k = length-take-le k cut (omega (arith, l)) in
     let count : m ≡ length bytes + k = omega (arith, length-append bytes (take k cut), few) in
     let q : IsQuieter (history_of bytes) (until m all) =
     quieter_run run from (length bytes) (length cut) m (history_of bytes) (placed_of bytes here) (omega (arith, count)) (omega (arith, count, l)) r (ends_words c n bytes cut sessions place run left s w r i) in
-    (q.0, front ∙ q.1, q.2)
+    (q.0, prefix ∙ q.1, q.2)
 
 -- the front of such bytes
 pub front_commands : (bytes cut more rest : List ℕ) → cut ≡ more ++ rest → CommandsLast bytes cut → CommandsLast bytes more
@@ -167,15 +167,15 @@ quiet_commands bytes more fits e = λ k l.
     let joined : (bytes ++ take k more) ++ drop k more ≡ bytes ++ more = append_assoc bytes (take k more) (drop k more) ∙ ap (λ (t : List ℕ). bytes ++ t) (take-append-drop k more) in
     let here : AreBytes bytes = all_front (λ b. b < 256) bytes more fits in
     let m : ℕ = length (bytes ++ take k more) in
-    let front : history_of (bytes ++ take k more) ≡ until m (history_of bytes) =
+    let prefix : history_of (bytes ++ take k more) ≡ until m (history_of bytes) =
     sym (front_of (bytes ++ take k more) (drop k more) (subst AreBytes (sym joined) fits)) ∙ ap (until m) (ap history_of joined ∙ e) in
-    ([], front ∙ until_placed m (history_of bytes) (placed_within (length bytes) m (history_of bytes) (omega (arith, length-append bytes (take k more))) (placed_of bytes here)), tt)
+    ([], prefix ∙ until_placed m (history_of bytes) (placed_within (length bytes) m (history_of bytes) (omega (arith, length-append bytes (take k more))) (placed_of bytes here)), tt)
 
 -- and then bytes of a run
 pub then_commands : (bytes quiet more : List ℕ) → AreBytes (bytes ++ quiet) → history_of (bytes ++ quiet) ≡ history_of bytes → CommandsLast (bytes ++ quiet) more → CommandsLast bytes (quiet ++ more)
 then_commands bytes quiet more fits e f = λ k l. elim (cases_lt k (length quiet)) [
   | inl before ↦
-      let same : take k (quiet ++ more) ≡ take k quiet = ap (take k) refl ∙ front k before in
+      let same : take k (quiet ++ more) ≡ take k quiet = ap (take k) refl ∙ prefix k before in
       subst (λ (t : List ℕ). IsQuieter (history_of bytes) (history_of (bytes ++ t))) (sym same) (quiet_commands bytes quiet fits e k before)
   | inr behind ↦
       let j : ℕ = k - length quiet in
@@ -187,8 +187,8 @@ then_commands bytes quiet more fits e f = λ k l. elim (cases_lt k (length quiet
       (q.0, ap history_of (sym place) ∙ q.1 ∙ ap (λ (h : History). q.0 ++ h) e, q.2)
 ]
   where
-    front : (k : ℕ) → k < length quiet → take k (quiet ++ more) ≡ take k quiet
-    front k l = let all : take (length quiet) (quiet ++ more) ≡ quiet = take-append_seam quiet more in sym (take-take k (length quiet) (quiet ++ more) (omega (arith, l))) ∙ ap (take k) all
+    prefix : (k : ℕ) → k < length quiet → take k (quiet ++ more) ≡ take k quiet
+    prefix k l = let all : take (length quiet) (quiet ++ more) ≡ quiet = take-append_seam quiet more in sym (take-take k (length quiet) (quiet ++ more) (omega (arith, l))) ∙ ap (take k) all
 
     drop_past : (a b : List ℕ) → drop (length a) (a ++ b) ≡ b
     drop_past [] b = refl
@@ -212,7 +212,7 @@ going_before part kept wrapped d bytes more s some = by (stop_in part kept bytes
   where
     at_last : (o : Option Stop) (t : Stopped) → stopped_at (length (bytes ++ more)) o ≡ Some t → t.place ≡ length (bytes ++ more)
     at_last None t e = absurd (cc)
-    at_last (Some line) t e = cc
+    at_last (Some why) t e = cc
 
     by : (o : Option Stopped) → stop_in part kept bytes ≡ o → stop_in part kept bytes ≡ None
     by None e = e
@@ -231,31 +231,31 @@ not_seven p l e = grind arith
 pub none_started : (part : PartData) (kept : Kept) (wrapped : Bool) (d : DeviceState) (bytes more : List ℕ) → stop_in part kept bytes ≡ None → DeviceStandsFor part kept wrapped d (bytes ++ more) → has_started part kept bytes ≡ false
     → CommandsLast bytes more → HasNotBegun part kept bytes ⊎ (length more ≤ soonest (state_of part kept wrapped bytes).phase) → NoneStarted part kept bytes more (length more)
 none_started part kept wrapped d bytes more going s not f b = λ k l.
-    let front : List ℕ = take k more in
-    let few : length front ≡ k = length-take-le k more (omega (arith, l)) in
+    let prefix : List ℕ = take k more in
+    let few : length prefix ≡ k = length-take-le k more (omega (arith, l)) in
     let left : length (drop k more) ≡ length more - k = length-drop k more in
-    let joined : (bytes ++ front) ++ drop k more ≡ bytes ++ more = append_assoc bytes front (drop k more) ∙ ap (λ (t : List ℕ). bytes ++ t) (take-append-drop k more) in
-    let all : DeviceStandsFor part kept wrapped d ((bytes ++ front) ++ drop k more) = subst (DeviceStandsFor part kept wrapped d) (sym joined) s in
-    let none : stop_in part kept (bytes ++ front) ≡ None = going_before part kept wrapped d (bytes ++ front) (drop k more) all (omega (arith, left, l)) in
-    let fits : AreBytes (bytes ++ front) = all_front (λ b. b < 256) (bytes ++ front) (drop k more) all.fits in
-    let now : (state_of part kept false (bytes ++ front)).phase ≡ phase_of part (history_of (bytes ++ front)) (length (bytes ++ front)) = phase_going part kept false (bytes ++ front) none in
-    let low : phase_of part (history_of (bytes ++ front)) (length (bytes ++ front)) < 7 = elim b [
+    let joined : (bytes ++ prefix) ++ drop k more ≡ bytes ++ more = append_assoc bytes prefix (drop k more) ∙ ap (λ (t : List ℕ). bytes ++ t) (take-append-drop k more) in
+    let all : DeviceStandsFor part kept wrapped d ((bytes ++ prefix) ++ drop k more) = subst (DeviceStandsFor part kept wrapped d) (sym joined) s in
+    let none : stop_in part kept (bytes ++ prefix) ≡ None = going_before part kept wrapped d (bytes ++ prefix) (drop k more) all (omega (arith, left, l)) in
+    let fits : AreBytes (bytes ++ prefix) = all_front (λ b. b < 256) (bytes ++ prefix) (drop k more) all.fits in
+    let now : (state_of part kept false (bytes ++ prefix)).phase ≡ phase_of part (history_of (bytes ++ prefix)) (length (bytes ++ prefix)) = phase_going part kept false (bytes ++ prefix) none in
+    let low : phase_of part (history_of (bytes ++ prefix)) (length (bytes ++ prefix)) < 7 = elim b [
       | inl unbegun ↦
           let first : startup_progress (history_of bytes) (length bytes) ≡ NotBegun = subst (λ (o : Option Stopped). startup_progress (history_by o (history_of bytes)) (taken_by o (length bytes)) ≡ NotBegun) going unbegun in
           let q = f k l in
-          let still : startup_progress (history_of (bytes ++ front)) (length (bytes ++ front)) ≡ NotBegun =
-          ap (λ (h : History). startup_progress h (length (bytes ++ front))) q.1
-          ∙ unbegun_later q.0 (history_of bytes) q.2 (λ n. unbegun_at_any (history_of bytes) (length bytes) n first) (length (bytes ++ front)) in
-          let zero_is : phase_of part (history_of (bytes ++ front)) (length (bytes ++ front)) ≡ 0 = ap (phase_by part) still in
+          let still : startup_progress (history_of (bytes ++ prefix)) (length (bytes ++ prefix)) ≡ NotBegun =
+          ap (λ (h : History). startup_progress h (length (bytes ++ prefix))) q.1
+          ∙ unbegun_later q.0 (history_of bytes) q.2 (λ n. unbegun_at_any (history_of bytes) (length bytes) n first) (length (bytes ++ prefix)) in
+          let zero_is : phase_of part (history_of (bytes ++ prefix)) (length (bytes ++ prefix)) ≡ 0 = ap (phase_by part) still in
           omega (arith, zero_is)
       | inr soon ↦
-          let later : phase_of part (history_of (bytes ++ front)) (length (bytes ++ front)) ≤ phase_of part (history_of bytes) (length bytes) + (length front + 3) / 4 = phase_later part bytes front fits in
+          let later : phase_of part (history_of (bytes ++ prefix)) (length (bytes ++ prefix)) ≤ phase_of part (history_of bytes) (length bytes) + (length prefix + 3) / 4 = phase_later part bytes prefix fits in
           let first : (state_of part kept wrapped bytes).phase ≡ phase_of part (history_of bytes) (length bytes) = phase_going part kept wrapped bytes going in
           let most : (state_of part kept false bytes).phase ≤ 7 = last_of part (startup_progress (history_taken part kept bytes) (taken_of part kept bytes)) in
           let below : (state_of part kept wrapped bytes).phase < 7 = not_seven (state_of part kept false bytes).phase most not in
           omega (arith, later, first, below, few, soon, l)
     ] in
-    below_seven (state_of part kept false (bytes ++ front)).phase (subst (λ (p : ℕ). p < 7) (sym now) low)
+    below_seven (state_of part kept false (bytes ++ prefix)).phase (subst (λ (p : ℕ). p < 7) (sym now) low)
 
 -- ---- turns of a piece
 
@@ -316,7 +316,7 @@ unbegun part kept wrapped d bytes s e =
     subst (λ (k : ℕ). StandsFor part.lock part.matched d.registers.clock.startup (startup_calls (history_taken part kept bytes) k)) (sym (taken_is part kept wrapped d bytes s)) s.registers_are.clock.startup in
     by (startup_progress (history_taken part kept bytes) n) (ap is_some (sym stands.stores.begun_is) ∙ e)
   where
-    by : (p : Progress) → is_some (cor0_of p) ≡ false → p ≡ NotBegun
+    by : (p : StartupProgress) → is_some (cor0_of p) ≡ false → p ≡ NotBegun
     by NotBegun f = refl
     by (Begun c m) f = absurd (cc)
 

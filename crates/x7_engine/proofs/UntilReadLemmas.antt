@@ -35,13 +35,13 @@ reads_going part kept bytes none = ap (λ (o : Option Stopped). read_out part ke
 turn_reads_none : (part : PartData) (kept : Kept) (wrapped : Bool) (d e : DeviceState) (bytes more : List ℕ) → d.registers.stop ≡ None → DeviceStandsFor part kept wrapped d bytes → DeviceStandsFor part kept wrapped e (bytes ++ more) → CommandsLast bytes more
     → (k : ℕ) → k < length more → reads_of part kept (bytes ++ take k more) ≡ reads_of part kept bytes
 turn_reads_none part kept wrapped d e bytes more going s after f k l =
-    let front : List ℕ = take k more in
-    let joined : (bytes ++ front) ++ drop k more ≡ bytes ++ more = append_assoc bytes front (drop k more) ∙ ap (λ (t : List ℕ). bytes ++ t) (take-append-drop k more) in
-    let all : DeviceStandsFor part kept wrapped e ((bytes ++ front) ++ drop k more) = subst (DeviceStandsFor part kept wrapped e) (sym joined) after in
-    let none : stop_in part kept (bytes ++ front) ≡ None = going_before part kept wrapped e (bytes ++ front) (drop k more) all (omega (arith, length-drop k more, l)) in
+    let prefix : List ℕ = take k more in
+    let joined : (bytes ++ prefix) ++ drop k more ≡ bytes ++ more = append_assoc bytes prefix (drop k more) ∙ ap (λ (t : List ℕ). bytes ++ t) (take-append-drop k more) in
+    let all : DeviceStandsFor part kept wrapped e ((bytes ++ prefix) ++ drop k more) = subst (DeviceStandsFor part kept wrapped e) (sym joined) after in
+    let none : stop_in part kept (bytes ++ prefix) ≡ None = going_before part kept wrapped e (bytes ++ prefix) (drop k more) all (omega (arith, length-drop k more, l)) in
     let before : stop_in part kept bytes ≡ None = s.stop_is ∙ ap (stopped_at (length bytes)) going in
     let q = f k l in
-    reads_going part kept (bytes ++ front) none ∙ ap (read_out part kept) q.1 ∙ writes_read_none part kept q.0 (history_of bytes) q.2 ∙ sym (reads_going part kept bytes before)
+    reads_going part kept (bytes ++ prefix) none ∙ ap (read_out part kept) q.1 ∙ writes_read_none part kept q.0 (history_of bytes) q.2 ∙ sym (reads_going part kept bytes before)
 
 -- in a turn of a piece, at each byte but its last, the words read out are those told
 turn_piece : (part : PartData) (kept : Kept) (wrapped : Bool) (d e : DeviceState) (bytes piece : List ℕ) (from to k : ℕ) → from ≤ to → to ≤ length piece → d.registers.stop ≡ None → NoWordDue d

@@ -12,7 +12,7 @@ use Rattle.x7_engine.specs.declared.fault.Fault.TheVariants as fault
 use Rattle.x7_engine.specs.declared.kept.Kept.{Kept}
 use Rattle.x7_engine.specs.Kept.{is_fallback}
 use Rattle.x7_engine.specs.Registers.{wrote_iprog}
-use Rattle.x7_engine.specs.State.{history_taken, line_by, state_of, stop_in}
+use Rattle.x7_engine.specs.State.{history_taken, why_of, state_of, stop_in}
 use Rattle.x7_engine.specs.Stops.{fault_of}
 use Rattle.x7_engine.specs.Values.{cause_of}
 
@@ -47,6 +47,6 @@ shows kind f ignored before boots e =
 pub wrap_alone : (part : PartData) (kept : Kept) (bytes : List ℕ) → state_of part kept true bytes ≡ record (state_of part kept false bytes) { bootsts = (state_of part kept true bytes).bootsts }
 wrap_alone part kept bytes = refl
 
-pub wrap_bit : (part : PartData) (kept : Kept) (bytes : List ℕ) → (kept.kind ≡ Bench → ⊥) → cause_of (fault_of (line_by (stop_in part kept bytes))) false ≡ None
+pub wrap_bit : (part : PartData) (kept : Kept) (bytes : List ℕ) → (kept.kind ≡ Bench → ⊥) → cause_of (fault_of (why_of (stop_in part kept bytes))) false ≡ None
     → (state_of part kept true bytes).bootsts ≡ (state_of part kept false bytes).bootsts + 2 ^ 6
-wrap_bit part kept bytes boots e = shows kept.kind (fault_of (line_by (stop_in part kept bytes))) (is_fallback kept.kind && wrote_iprog (history_taken part kept bytes)) kept.before boots e
+wrap_bit part kept bytes boots e = shows kept.kind (fault_of (why_of (stop_in part kept bytes))) (is_fallback kept.kind && wrote_iprog (history_taken part kept bytes)) kept.before boots e

@@ -57,12 +57,12 @@ written_one c n bytes rest register w cutter one =
 -- none of the bytes but the last ends an access
 written_last : (bytes more : List ℕ) (register w : ℕ) → length more ≡ 8 → AreBytes (bytes ++ more) → Placed (length bytes) (history_of bytes) → history_of (bytes ++ more) ≡ entry (Write register w) (length bytes + 8) ∷ history_of bytes → CommandsLast bytes more
 written_last bytes more register w count fits placed longer = λ k l.
-    let front : List ℕ = bytes ++ take k more in
-    let joined : front ++ drop k more ≡ bytes ++ more = append_assoc bytes (take k more) (drop k more) ∙ ap (λ (t : List ℕ). bytes ++ t) (take-append-drop k more) in
-    let few : length front ≡ length bytes + k = omega (arith, length-append bytes (take k more), length-take-le k more (omega (arith, l))) in (
+    let prefix : List ℕ = bytes ++ take k more in
+    let joined : prefix ++ drop k more ≡ bytes ++ more = append_assoc bytes (take k more) (drop k more) ∙ ap (λ (t : List ℕ). bytes ++ t) (take-append-drop k more) in
+    let few : length prefix ≡ length bytes + k = omega (arith, length-append bytes (take k more), length-take-le k more (omega (arith, l))) in (
       [],
-      sym (front_of front (drop k more) (subst AreBytes (sym joined) fits)) ∙ ap (until (length front)) (ap history_of joined ∙ longer)
-          ∙ step_until (length bytes) (length front) (length bytes + 8) (step.Payload register w) (history_of bytes) placed (omega (arith, few)) (omega (arith, few, l, count)),
+      sym (front_of prefix (drop k more) (subst AreBytes (sym joined) fits)) ∙ ap (until (length prefix)) (ap history_of joined ∙ longer)
+          ∙ step_until (length bytes) (length prefix) (length bytes + 8) (step.Payload register w) (history_of bytes) placed (omega (arith, few)) (omega (arith, few, l, count)),
       tt,
     )
 
@@ -103,7 +103,7 @@ write_taken part kept wrapped d e bytes rest register w s going begun limit one 
         registers_are = subst (λ (x : History). RegistersStandFor part kept e.registers x (length all)) (sym taken) here;
         cutter_is = λ o. is.cutter;
         due_are = record { told = reads_of part kept bytes; all = told ∙ none_due (reads_of part kept bytes) part (history_taken part kept all) e.registers.due due };
-        at_rest = λ line o. due;
+        at_rest = λ why o. due;
       },
       told,
       written_last bytes (take 8 rest) register w eight is.fits before.places is.history,

@@ -15,7 +15,7 @@ use Rattle.x7_engine.specs.declared.regs.Regs.{Regs}
 use Rattle.x7_engine.specs.declared.until_started.UntilStarted.{UntilStarted}
 use Rattle.x7_engine.specs.ReadBuffer.{ReadBufState, with_words}
 use Rattle.x7_engine.specs.Standing.{Answers, DeviceStandsFor, DeviceState, due_of, taken_in, reads_given}
-use Rattle.x7_engine.specs.State.{history_taken, line_by, memory_in, reads_of, state_of, stop_in, taken_of}
+use Rattle.x7_engine.specs.State.{history_taken, why_of, memory_in, reads_of, state_of, stop_in, taken_of}
 use Rattle.x7_engine.specs.Stops.{Stopped, fault_of}
 use Rattle.x7_engine.specs.UntilStarted.{AnswersUntil, has_started, taken_until}
 
@@ -37,7 +37,7 @@ HasPast d p = DeviceStandsFor p.part p.kept p.wrapped d p.bytes
 abbrev pub OfPast : DeviceState → (Past → Type 0) → Type 0
 OfPast d Fact = (part : PartData) (kept : Kept) (wrapped : Bool) (bytes : List ℕ) → DeviceStandsFor part kept wrapped d bytes → Fact (record { part = part; kept = kept; wrapped = wrapped; bytes = bytes })
 
--- the state, the stop, the words read out, the memory, the history of the bytes taken and their number, the words told, those still due, and whether startup has ended
+-- the state, the stop, the words read out, the memory, the history of the bytes taken and their number, the words given, those still due, and whether startup has ended
 abbrev pub state_at : Past → Regs
 state_at p = state_of p.part p.kept p.wrapped p.bytes
 
@@ -69,11 +69,11 @@ started_at p = has_started p.part p.kept p.bytes
 
 -- the cause of a fallback that bytes come to
 abbrev pub cause_in : PartData → Kept → List ℕ → Option Cause
-cause_in part kept bytes = cause_of (fault_of (line_by (stop_in part kept bytes))) false
+cause_in part kept bytes = cause_of (fault_of (why_of (stop_in part kept bytes))) false
 
 -- an attempt of a boot
-abbrev pub IsBoot : Kept → Type 0
-IsBoot kept = kept.kind ≡ Bench → ⊥
+abbrev pub IsAttempt : Kept → Type 0
+IsAttempt kept = kept.kind ≡ Bench → ⊥
 
 -- the device stopped, and then more bytes came
 pub record HasStoppedBefore (p : Past) (more : List ℕ) (s : Stopped) : Type 0 where
@@ -88,10 +88,10 @@ pub record StandsBefore (p : Past) (access : Access) (place : ℕ) (older : Hist
 
 -- a boot goes on: it hasn't started, and neither a fault that a fallback follows nor an IPROG ended it
 pub record BootGoesOn (p : Past) : Type 0 where
-  pub boots : IsBoot p.kept
+  pub boots : IsAttempt p.kept
   pub not_started : ((state_at p).phase == 7) ≡ false
   pub not_failed : cause_in p.part p.kept p.bytes ≡ None
-  pub not_left : line_by (stop_at p) ≡ Some stop.Iprog → ⊥
+  pub not_left : why_of (stop_at p) ≡ Some stop.Iprog → ⊥
 
 -- ---- what a call does that takes bytes
 
@@ -99,13 +99,13 @@ pub record BootGoesOn (p : Past) : Type 0 where
 abbrev pub Takes : DeviceState → DeviceState → List ℕ → Type 0
 Takes old new more = OfPast old (λ p. HasPast new (later p more))
 
--- it takes them, and tells no word
-abbrev pub TellsNone : DeviceState → DeviceState → List ℕ → Type 0
-TellsNone old new more = OfPast old (λ p. reads_given_at new (later p more) ≡ reads_given_at old p)
+-- it takes them, and gives no word
+abbrev pub GivesNone : DeviceState → DeviceState → List ℕ → Type 0
+GivesNone old new more = OfPast old (λ p. reads_given_at new (later p more) ≡ reads_given_at old p)
 
 -- it takes them, and the buffer gets the next words that they read out
-abbrev pub TellsNext : DeviceState → DeviceState → List ℕ → ReadBufState → ReadBufState → Type 0
-TellsNext old new more before after = OfPast old (λ p. (words : List ℕ) × (after ≡ with_words before words) × (reads_given_at new (later p more) ≡ reads_given_at old p ++ words))
+abbrev pub GivesNext : DeviceState → DeviceState → List ℕ → ReadBufState → ReadBufState → Type 0
+GivesNext old new more before after = OfPast old (λ p. (words : List ℕ) × (after ≡ with_words before words) × (reads_given_at new (later p more) ≡ reads_given_at old p ++ words))
 
 -- it takes them, and answers so
 abbrev pub AnswersFor : DeviceState → DeviceState → List ℕ → ReadBufState → Fed → Type 0

@@ -104,13 +104,13 @@ older (e ∷ h) = h
 
 -- what the frames stand for: a refused access changes nothing of them
 abbrev pub frames_history : Option Stop → History → History
-frames_history line h = if is_refusal line then older h else h
+frames_history why h = if is_refusal why then older h else h
 
 -- The frames are those of a history, of whose last read so many words are due. Where the last access was refused, they stand for the history before it; memory and FAR are the same with and without it.
-pub record FramesAre (part : PartData) (f : FramesState) (line : Option Stop) (h : History) (due : ℕ) : Type 0 where
-  pub stands : FramesStandFor part f (frames_history line h) due
-  pub memory_same : AreSame (memory_of part (frames_history line h)) (memory_of part h)
-  pub far_same : far_in part (less due (flow_of part (frames_history line h))) ≡ far_in part (less due (flow_of part h))
+pub record FramesAre (part : PartData) (f : FramesState) (why : Option Stop) (h : History) (due : ℕ) : Type 0 where
+  pub stands : FramesStandFor part f (frames_history why h) due
+  pub memory_same : AreSame (memory_of part (frames_history why h)) (memory_of part h)
+  pub far_same : far_in part (less due (flow_of part (frames_history why h))) ≡ far_in part (less due (flow_of part h))
 
 -- ---- registers
 
@@ -171,7 +171,7 @@ pub record RegistersStandFor (part : PartData) (kept : Kept) (d : RegistersState
 -- the last byte whose access counts, where n bytes are taken and this is the stop
 abbrev pub counted_in : Option Stop → ℕ → ℕ
 counted_in None n = n
-counted_in (Some line) n = last_counted line n
+counted_in (Some why) n = last_counted why n
 
 -- a step of a word in a header's place
 abbrev pub IsHeaderStep : Step → Type 0
@@ -258,7 +258,7 @@ pub record DeviceStandsFor (part : PartData) (kept : Kept) (wrapped : Bool) (d :
   pub registers_are : RegistersStandFor part kept d.registers (history_taken part kept bytes) (length bytes)
   pub cutter_is : d.registers.stop ≡ None → IsCutterOf d.cutter bytes
   pub due_are : AreDue part d.registers (history_taken part kept bytes) (reads_of part kept bytes)
-  pub at_rest : (line : Stop) → d.registers.stop ≡ Some line → due_count d.registers.due ≡ 0
+  pub at_rest : (why : Stop) → d.registers.stop ≡ Some why → due_count d.registers.due ≡ 0
 
 -- the words read out so far, without those that are still due
 abbrev pub reads_given : PartData → Kept → DeviceState → List ℕ → List ℕ
@@ -282,6 +282,6 @@ fed_by stop.Iprog at = fed.Iprog at
 
 abbrev pub Answers : PartData → Kept → DeviceState → List ℕ → ReadBufState → Fed → Type 0
 Answers part kept d bytes read fed.All = (stop_in part kept bytes ≡ None) × NoWordDue d
-Answers part kept d bytes read (fed.Stopped n) = (f : Fault) × (stop_in part kept bytes ≡ Some (record { place = length bytes; line = stop.Fault f })) × NoWordDue d
-Answers part kept d bytes read (fed.Iprog n) = (stop_in part kept bytes ≡ Some (record { place = length bytes; line = stop.Iprog })) × NoWordDue d
+Answers part kept d bytes read (fed.Stopped n) = (f : Fault) × (stop_in part kept bytes ≡ Some (record { place = length bytes; why = stop.Fault f })) × NoWordDue d
+Answers part kept d bytes read (fed.Iprog n) = (stop_in part kept bytes ≡ Some (record { place = length bytes; why = stop.Iprog })) × NoWordDue d
 Answers part kept d bytes read (fed.ReadFull n) = (stop_in part kept bytes ≡ None) × (0 < due_count d.registers.due) × IsFull read

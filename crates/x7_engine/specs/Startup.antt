@@ -7,7 +7,7 @@ use Rattle.x7_regs.specs.declared.register.Reg.TheVariants.{Cor0}
 use Rattle.x7_regs.specs.Command.{code_of}
 use Rattle.x7_regs.specs.Register.{number_of}
 use Rattle.x7_startup.specs.Arrivals.{arrival, wait_of}
-use Rattle.x7_startup.specs.Calls.{Call, Progress, NotBegun, Begun, progress_of}
+use Rattle.x7_startup.specs.Calls.{Call, StartupProgress, NotBegun, Begun, progress_of}
 use Rattle.x7_startup.specs.Calls as call
 use Rattle.x7_engine.specs.Registers.{takes_shutdown}
 
@@ -24,7 +24,7 @@ startup_calls [] n = replicate n call.Byte
 startup_calls (e ∷ h) n = startup_calls h e.place ++ startup_call h e.access ++ replicate (n - e.place) call.Byte
 
 -- how far startup is
-abbrev pub startup_progress : History → ℕ → Progress
+abbrev pub startup_progress : History → ℕ → StartupProgress
 startup_progress h n = progress_of (startup_calls h n)
 
 -- the greatest phase, up to the last one given, that has begun after so many ticks
@@ -36,7 +36,7 @@ greatest_begun wait ticks (suc p) = if nat_le (arrival wait (suc p)) ticks then 
 unfoldable pub phase_at : (ℕ → ℕ) → ℕ → ℕ
 phase_at wait ticks = greatest_begun wait ticks 7
 
-abbrev pub phase_by : PartData → Progress → ℕ
+abbrev pub phase_by : PartData → StartupProgress → ℕ
 phase_by part NotBegun = 0
 phase_by part (Begun cor0 bytes) = phase_at (wait_of part.lock part.matched cor0) (bytes / 4)
 

@@ -41,12 +41,12 @@ last_counted _ place = place
 
 abbrev pub history_by : Option Stopped → History → History
 history_by None h = h
-history_by (Some s) h = until (last_counted s.line s.place) h
+history_by (Some s) h = until (last_counted s.why s.place) h
 
--- the line of a stop
-abbrev pub line_by : Option Stopped → Option Stop
-line_by None = None
-line_by (Some s) = Some s.line
+-- why a stop came
+abbrev pub why_of : Option Stopped → Option Stop
+why_of None = None
+why_of (Some s) = Some s.why
 
 -- where the bytes taken end; an obeyed IPROG shows WBSTAR
 abbrev pub end_by : Option Stop → Bool → ℕ → End
@@ -56,26 +56,26 @@ end_by (Some stop.Iprog) synced wbstar = at_end.Iprog wbstar
 
 -- the state in the course of a device, with this stop
 abbrev pub state_by : Course → Bool → Option Stop → Bool → Regs
-state_by c wrapped line synced = record {
+state_by c wrapped why synced = record {
   taken = c.taken;
-  end = end_by line synced (word_held c.kept (number_of Wbstar) c.history);
+  end = end_by why synced (word_held c.kept (number_of Wbstar) c.history);
   phase = phase_by c.part (startup_progress c.history c.taken);
   lines = lines_by c.part (startup_progress c.history c.taken);
-  crc = value_of c wrapped (fault_of line) Crc;
-  far = value_of c wrapped (fault_of line) Far;
-  cmd = value_of c wrapped (fault_of line) Cmd;
-  ctl0 = value_of c wrapped (fault_of line) Ctl0;
-  mask = value_of c wrapped (fault_of line) Mask;
-  stat = value_of c wrapped (fault_of line) Stat;
-  cor0 = value_of c wrapped (fault_of line) Cor0;
-  idcode = value_of c wrapped (fault_of line) Idcode;
-  axss = value_of c wrapped (fault_of line) Axss;
-  cor1 = value_of c wrapped (fault_of line) Cor1;
-  wbstar = value_of c wrapped (fault_of line) Wbstar;
-  timer = value_of c wrapped (fault_of line) Timer;
-  bootsts = value_of c wrapped (fault_of line) Bootsts;
-  ctl1 = value_of c wrapped (fault_of line) Ctl1;
-  bspi = value_of c wrapped (fault_of line) Bspi;
+  crc = value_of c wrapped (fault_of why) Crc;
+  far = value_of c wrapped (fault_of why) Far;
+  cmd = value_of c wrapped (fault_of why) Cmd;
+  ctl0 = value_of c wrapped (fault_of why) Ctl0;
+  mask = value_of c wrapped (fault_of why) Mask;
+  stat = value_of c wrapped (fault_of why) Stat;
+  cor0 = value_of c wrapped (fault_of why) Cor0;
+  idcode = value_of c wrapped (fault_of why) Idcode;
+  axss = value_of c wrapped (fault_of why) Axss;
+  cor1 = value_of c wrapped (fault_of why) Cor1;
+  wbstar = value_of c wrapped (fault_of why) Wbstar;
+  timer = value_of c wrapped (fault_of why) Timer;
+  bootsts = value_of c wrapped (fault_of why) Bootsts;
+  ctl1 = value_of c wrapped (fault_of why) Ctl1;
+  bspi = value_of c wrapped (fault_of why) Bspi;
 }
 
 -- how many of the bytes are taken, and the history of those
@@ -92,7 +92,7 @@ course_in part kept bytes = course_at part kept (history_taken part kept bytes) 
 -- the state of a device after these bytes, whose attempt the end of the flash has wrapped or not
 abbrev pub state_of : PartData → Kept → Bool → List ℕ → Regs
 state_of part kept wrapped bytes =
-    state_by (course_in part kept bytes) wrapped (line_by (stop_in part kept bytes)) (is_synced (reading_of bytes).place)
+    state_by (course_in part kept bytes) wrapped (why_of (stop_in part kept bytes)) (is_synced (reading_of bytes).place)
 
 -- what BOOTSTS shows
 abbrev pub bootsts_in : PartData → Kept → Bool → List ℕ → ℕ
@@ -100,7 +100,7 @@ bootsts_in part kept wrapped bytes = (state_of part kept wrapped bytes).bootsts
 
 -- the present boot attempt, with what it failed by
 abbrev pub attempt_in : PartData → Kept → Bool → List ℕ → Attempt
-attempt_in part kept wrapped bytes = attempt_of kept wrapped (fault_of (line_by (stop_in part kept bytes))) (history_taken part kept bytes)
+attempt_in part kept wrapped bytes = attempt_of kept wrapped (fault_of (why_of (stop_in part kept bytes))) (history_taken part kept bytes)
 
 -- what a next attempt of this kind keeps: WBSTAR, TIMER and BSPI as they are, and this attempt as the one before
 abbrev pub kept_after : PartData → Kept → Bool → List ℕ → Kind → Kept

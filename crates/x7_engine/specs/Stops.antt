@@ -1,4 +1,4 @@
--- What stops a device (UG470, configuration registers; the order of the lines is this project's choice).
+-- What stops a device (UG470, configuration registers; the order in which they are looked at is this project's choice).
 use Rattle.std.specs.Prelude.{ℕ, ◌-◌, ◌%◌, ◌^◌, ◌==◌, ◌&&◌, ◌||◌, Bool, not, if◌then◌else◌, [], ◌∷◌, Option, None, Some}
 use Rattle.x7_words.specs.Word.{field_of}
 use Rattle.x7_packets.specs.History.{Access, Write, Read, Bad, History, executes}
@@ -38,34 +38,34 @@ asks_decryption h register w =
 abbrev pub needs_match : History → ℕ → ℕ → Bool
 needs_match h register w = register == number_of reg.Fdri || (register == number_of reg.Mfwr || executes (code_of command.Start) h (Write register w))
 
--- the line that a word written after this history comes to
-abbrev pub write_line : PartData → Kept → History → ℕ → ℕ → Option Stop
-write_line part kept h register w =
+-- why a word written after this history stops a device, where it does
+abbrev pub why_by_write : PartData → Kept → History → ℕ → ℕ → Option Stop
+why_by_write part kept h register w =
     if register == number_of reg.Crc && not (w == running_check h) then Some (stop.Fault (fault.Crc (running_check h) w)) else
     if asks_decryption h register w then Some (stop.Fault fault.Encrypted) else
     if register == number_of reg.Idcode && not (same_idcode part.idcode w) then Some (stop.Fault (fault.Id part.idcode w)) else
     if needs_match h register w && not (is_matched part.idcode h) then Some (stop.Fault (fault.Id part.idcode 0)) else
     if register == number_of reg.Cmd && (w % 2 ^ 5 == code_of command.Iprog && not (is_fallback kept.kind)) then Some stop.Iprog else None
 
--- the line that an access after this history comes to
-abbrev pub access_line : PartData → Kept → History → Access → Option Stop
-access_line part kept h (Write register w) = write_line part kept h register w
-access_line part kept h (Read register count) = None
-access_line part kept h (Bad w) = Some (stop.Fault (fault.Packet w))
+-- why an access after this history does, the frames left out
+abbrev pub why_by_access : PartData → Kept → History → Access → Option Stop
+why_by_access part kept h (Write register w) = why_by_write part kept h register w
+why_by_access part kept h (Read register count) = None
+why_by_access part kept h (Bad w) = Some (stop.Fault (fault.Packet w))
 
--- the line of a refused word, copy or read of frame data
+-- the stop by a refused word, copy or read of frame data
 abbrev pub stop_by : RunFault → Stop
 stop_by (run.Address far) = stop.Fault (fault.Address far)
 stop_by run.Overrun = stop.Fault fault.Overrun
 stop_by run.Multi = stop.Fault fault.Multi
 
-abbrev pub frame_line : Option RunFault → Option Stop
-frame_line None = None
-frame_line (Some fault) = Some (stop_by fault)
+abbrev pub why_by_frames : Option RunFault → Option Stop
+why_by_frames None = None
+why_by_frames (Some fault) = Some (stop_by fault)
 
--- the line that holds at an access after this history
-abbrev pub line_at : PartData → Kept → History → Access → Option Stop
-line_at part kept h access = or_else (access_line part kept h access) (frame_line (frame_fault part h access))
+-- why an access after this history stops a device, where it does
+abbrev pub why_at : PartData → Kept → History → Access → Option Stop
+why_at part kept h access = or_else (why_by_access part kept h access) (why_by_frames (frame_fault part h access))
 
 -- the fault of a stop
 abbrev pub fault_in : Stop → Option Fault
@@ -74,24 +74,24 @@ fault_in stop.Iprog = None
 
 abbrev pub fault_of : Option Stop → Option Fault
 fault_of None = None
-fault_of (Some line) = fault_in line
+fault_of (Some why) = fault_in why
 
--- a stop, and the number of bytes taken then
+-- the number of bytes taken at a stop, and why it came
 pub record Stopped : Type 0 where
   pub place : ℕ
-  pub line : Stop
+  pub why : Stop
 
 abbrev pub stopped_at : ℕ → Option Stop → Option Stopped
 stopped_at place None = None
-stopped_at place (Some line) = Some (record { place = place; line = line })
+stopped_at place (Some why) = Some (record { place = place; why = why })
 
 abbrev pub stopped_by_watchdog : Option ℕ → Option Stopped
 stopped_by_watchdog None = None
-stopped_by_watchdog (Some place) = Some (record { place = place; line = stop.Fault fault.Watchdog })
+stopped_by_watchdog (Some place) = Some (record { place = place; why = stop.Fault fault.Watchdog })
 
 -- The first stop of a history with so many bytes taken. At each byte the watchdog comes before the access that ends there.
 abbrev pub stop_of : PartData → Kept → History → ℕ → Option Stopped
 stop_of part kept [] n = stopped_by_watchdog (first_firing part kept [] 0 n)
 stop_of part kept (e ∷ h) n =
     or_else (stop_of part kept h e.place)
-    (or_else (stopped_at e.place (line_at part kept h e.access)) (stopped_by_watchdog (first_firing part kept (e ∷ h) e.place (n - e.place))))
+    (or_else (stopped_at e.place (why_at part kept h e.access)) (stopped_by_watchdog (first_firing part kept (e ∷ h) e.place (n - e.place))))

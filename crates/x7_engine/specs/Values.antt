@@ -12,7 +12,7 @@ use Rattle.x7_regs.specs.declared.boot_status.Cause.TheVariants as cause
 use Rattle.x7_regs.specs.declared.register.Reg.{Reg}
 use Rattle.x7_regs.specs.declared.register.Reg.TheVariants.{Crc, Far, Fdri, Fdro, Cmd, Ctl0, Mask, Stat, Lout, Cor0, Mfwr, Cbc, Idcode, Axss, Cor1, Wbstar, Timer, Bootsts, Ctl1, Bspi}
 use Rattle.x7_regs.specs.declared.status.StatParts.{StatParts}
-use Rattle.x7_startup.specs.Calls.{Progress, cor0_of, ticks_of}
+use Rattle.x7_startup.specs.Calls.{StartupProgress, cor0_of, ticks_of}
 use Rattle.x7_startup.specs.Lines.{done_line, gts_line, gwe_line}
 use Rattle.x7_startup.specs.declared.lines.Lines.{Lines}
 use Rattle.x7_flow.specs.FrameAccess.{reads_frame_data}
@@ -26,7 +26,7 @@ use Rattle.x7_engine.specs.Kept.{is_fallback}
 use Rattle.x7_flow.specs.Controls.{ctl0_held, mask_held, masked}
 use Rattle.x7_engine.specs.Registers.{has_ghigh, word_held, wrote_iprog}
 use Rattle.x7_engine.specs.Startup.{phase_by, startup_progress}
-use Rattle.x7_engine.specs.Stops.{line_at}
+use Rattle.x7_engine.specs.Stops.{why_at}
 
 -- which fault a device has
 abbrev pub is_crc_fault : Option Fault → Bool
@@ -38,7 +38,7 @@ is_id_fault (Some (fault.Id want got)) = true
 is_id_fault _ = false
 
 -- the lines, by how far startup is
-abbrev pub lines_by : PartData → Progress → Lines
+abbrev pub lines_by : PartData → StartupProgress → Lines
 lines_by part p = record {
   done = done_line (cor0_of p) (phase_by part p);
   gts = gts_line (cor0_of p) (phase_by part p);
@@ -46,7 +46,7 @@ lines_by part p = record {
 }
 
 -- what STAT tells, by how far startup is
-abbrev pub stat_parts : PartData → Option Fault → Progress → Bool → StatParts
+abbrev pub stat_parts : PartData → Option Fault → StartupProgress → Bool → StatParts
 stat_parts part fault p ghigh = record {
   crc_error = is_crc_fault fault;
   lock = nat_le part.lock (ticks_of p);
@@ -126,7 +126,7 @@ words_read c register count =
 -- the words that an access after this history reads out
 abbrev pub answer_of : PartData → Kept → History → Access → ℕ → List ℕ
 answer_of part kept h (Write register w) n = []
-answer_of part kept h (Read register count) n = if is_some (line_at part kept h (Read register count)) then [] else words_read (course_at part kept h n) register count
+answer_of part kept h (Read register count) n = if is_some (why_at part kept h (Read register count)) then [] else words_read (course_at part kept h n) register count
 answer_of part kept h (Bad w) n = []
 
 -- all words that a history reads out, in order

@@ -10,13 +10,13 @@ ghost use Rattle.x7_engine.specs.Kept.{on_the_bench};
 ghost use Rattle.x7_engine.specs.Readout.{Gives};
 ghost use Rattle.x7_engine.specs.ReadBuffer.{IsFull, with_words};
 ghost use Rattle.x7_engine.specs.Standing.{Answers, DeviceStandsFor, MayWrap, NoWordDue, due_count, fed_by, fed_more, fed_of, frames_due, taken_in, reads_given, with_wrap};
-ghost use Rattle.x7_engine.specs.State.{attempt_in, end_by, kept_after, line_by, memory_in, state_of, state_owing, stop_in};
+ghost use Rattle.x7_engine.specs.State.{attempt_in, end_by, kept_after, why_of, memory_in, state_of, state_owing, stop_in};
 ghost use Rattle.x7_engine.specs.Stops.{fault_of};
 ghost use Rattle.x7_engine.specs.UntilStarted.{CommandsLast};
 ghost use Rattle.x7_engine.specs.Values.{cause_of};
 ghost use Rattle.x7_engine.specs.declared.fault.Fault.{Fault as FaultData};
 ghost use Rattle.x7_engine.specs.declared.kept.Kept.{Kept as KeptData};
-ghost use Rattle.x7_engine.specs.Past.{AnswersFor, OfPast, Takes, TellsNext, TellsNone, part_taken, state_at, stop_at, reads_given_at};
+ghost use Rattle.x7_engine.specs.Past.{AnswersFor, OfPast, Takes, GivesNext, GivesNone, part_taken, state_at, stop_at, reads_given_at};
 
 mod boot;
 mod gap;
@@ -240,7 +240,7 @@ impl Device {
         ensures due { NoWordDue self.new }
         ensures cutter { self.new.cutter ≡ self.old.cutter }
         ensures stands { Takes self.old self.new (between piece.now at.old at.new) }
-        ensures told { TellsNone self.old self.new (between piece.now at.old at.new) }
+        ensures silent { GivesNone self.old self.new (between piece.now at.old at.new) }
         ensures quiet { OfPast self.old (λ p. history_of (p.bytes ++ between piece.now at.old at.new) ≡ history_of p.bytes) }
     {
         let count = self.cutter.nops(&piece[*at..]);
@@ -263,7 +263,7 @@ impl Device {
         ensures part { self.new.part ≡ self.old.part }
         ensures fed { fed_of self.new ≡ fed_more self.old (at.new - at.old) }
         ensures stands { Takes self.old self.new (between piece.now at.old at.new) }
-        ensures told { TellsNone self.old self.new (between piece.now at.old at.new) }
+        ensures silent { GivesNone self.old self.new (between piece.now at.old at.new) }
         ensures commands { OfPast self.old (λ p. CommandsLast p.bytes (between piece.now at.old at.new)) }
         ensures used_up { IsTrue result → (at.new ≡ length piece.now) × (self.new.registers.stop ≡ None) × NoWordDue self.new }
         ensures goes { result ≡ false → self.new.registers.stop ≡ None
@@ -294,7 +294,7 @@ impl Device {
         ensures fed { fed_of self.new ≡ fed_more self.old (at.new - at.old) }
         ensures due { NoWordDue self.new }
         ensures stands { IsTrue result → Takes self.old self.new (between piece.now at.old at.new) }
-        ensures told { IsTrue result → TellsNone self.old self.new (between piece.now at.old at.new) }
+        ensures silent { IsTrue result → GivesNone self.old self.new (between piece.now at.old at.new) }
         ensures commands { IsTrue result → OfPast self.old (λ p. CommandsLast p.bytes (between piece.now at.old at.new)) }
     {
         if !self.registers.clock.is_idle() {
@@ -323,7 +323,7 @@ impl Device {
         ensures part { self.new.part ≡ self.old.part }
         ensures fed { fed_of self.new ≡ fed_more self.old (at.new - at.old) }
         ensures stands { Takes self.old self.new (between piece.now at.old at.new) }
-        ensures told { TellsNone self.old self.new (between piece.now at.old at.new) }
+        ensures silent { GivesNone self.old self.new (between piece.now at.old at.new) }
         ensures commands { OfPast self.old (λ p. CommandsLast p.bytes (between piece.now at.old at.new)) }
         ensures used_up { IsTrue result → (at.new ≡ length piece.now) × (self.new.registers.stop ≡ None) × NoWordDue self.new }
         ensures goes { result ≡ false → self.new.registers.stop ≡ None
@@ -349,7 +349,7 @@ impl Device {
         ensures part { self.new.part ≡ self.old.part }
         ensures fed { fed_of self.new ≡ fed_more self.old (at.new - at.old) }
         ensures stands { Takes self.old self.new (between piece.now at.old at.new) }
-        ensures told { TellsNone self.old self.new (between piece.now at.old at.new) }
+        ensures silent { GivesNone self.old self.new (between piece.now at.old at.new) }
         ensures commands { OfPast self.old (λ p. CommandsLast p.bytes (between piece.now at.old at.new)) }
         ensures used_up { IsTrue result → (at.new ≡ length piece.now) × (self.new.registers.stop ≡ None) × NoWordDue self.new }
         ensures goes { result ≡ false → self.new.registers.stop ≡ None
@@ -372,10 +372,10 @@ impl Device {
         ensures fed { fed_of self.new ≡ fed_more self.old (taken_in (length piece.now) result) }
         ensures stands { Takes self.old self.new (part_taken piece.now result) }
         ensures answer { AnswersFor self.old self.new (part_taken piece.now result) read.new result }
-        ensures reads { TellsNext self.old self.new (part_taken piece.now result) read.old read.new }
+        ensures reads { GivesNext self.old self.new (part_taken piece.now result) read.old read.new }
         ensures first { OfPast self.old (λ p. RoomBefore p piece.now (taken_in (length piece.now) result) (reads_given_at self.old p) read.old) }
         ensures stopped { OfPast self.old (λ p. IsSome (stop_at p) → (self.new ≡ self.old) × (read.new ≡ read.old) × (taken_in (length piece.now) result ≡ 0)) }
-        ensures stays { (line : Stop) → self.old.registers.stop ≡ Some line → (self.new ≡ self.old) × (read.new ≡ read.old) × (result ≡ fed_by line 0) }
+        ensures stays { (why : Stop) → self.old.registers.stop ≡ Some why → (self.new ≡ self.old) × (read.new ≡ read.old) × (result ≡ fed_by why 0) }
     {
         let mut at = 0;
         'runs: loop {
@@ -451,7 +451,7 @@ impl Device {
 
     /// The fault that stopped the device.
     pub fn fault(&self) -> Option<Fault>
-        ensures { OfPast self.now (λ p. result ≡ fault_of (line_by (stop_at p))) }
+        ensures { OfPast self.now (λ p. result ≡ fault_of (why_of (stop_at p))) }
     {
         match self.registers.stop() {
             Some(Stop::Fault(fault)) => Some(fault),

@@ -9,17 +9,17 @@ ghost use Rattle.x7_startup.specs.Calls.{Begun, IsPhaseOf};
 ghost use Rattle.x7_crc.specs.OpenWrites.{running_check};
 ghost use Rattle.x7_engine.specs.Checked.{HasStarted};
 ghost use Rattle.x7_engine.specs.Kept.{is_fallback, on_the_bench};
-ghost use Rattle.x7_engine.specs.FirstStop.{IsFirstStop, line_at_byte};
+ghost use Rattle.x7_engine.specs.FirstStop.{IsFirstStop, why_at_byte};
 ghost use Rattle.x7_flow.specs.Controls.{masked, same_idcode};
 ghost use Rattle.x7_flow.specs.Standing.{word_to};
 ghost use Rattle.x7_engine.specs.Registers.{HasMaskedBits, cor0_held, has_ghigh, clears_check, is_pending, takes_shutdown};
-ghost use Rattle.x7_engine.specs.Past.{HasStoppedBefore, IsBoot, OfPast, Past, StandsBefore, cause_in, due_at, history_at, later, memory_at, reads_at, state_at, stop_at, taken_at, reads_given_at};
+ghost use Rattle.x7_engine.specs.Past.{HasStoppedBefore, IsAttempt, OfPast, Past, StandsBefore, cause_in, due_at, history_at, later, memory_at, reads_at, state_at, stop_at, taken_at, reads_given_at};
 ghost use Rattle.x7_engine.specs.Rest.{AtRest, GoesOn};
 ghost use Rattle.x7_engine.specs.Sequence.{Begins, HasGhigh, IsPending};
 ghost use Rattle.x7_engine.specs.Standing.{DeviceState, NoWordDue};
 ghost use Rattle.x7_engine.specs.Startup.{phase_of, startup_progress};
 ghost use Rattle.x7_engine.specs.State.{reads_of, state_of, stop_in, bootsts_in};
-ghost use Rattle.x7_engine.specs.Stops.{Stopped, line_at};
+ghost use Rattle.x7_engine.specs.Stops.{Stopped, why_at};
 ghost use Rattle.x7_engine.specs.Timeout.{before_byte, fires_at};
 ghost use Rattle.x7_engine.specs.Watching.{fires};
 ghost use Rattle.x7_engine.specs.declared.kept.Kept.{Kept};
@@ -60,12 +60,12 @@ pub fn startup_begins()
     ensures found { (h : History) (n : ℕ) → Placed n h → (b : Begins h) → startup_progress h n ≡ Begun (cor0_held b.older) (n - b.desync.place) }
 {}
 
-/// A stop is the first one: at its place a line holds, and at no byte before it; and where there is none, no line holds.
+/// A stop is the first one: its byte stops the device, and no byte before it; and where there is none, no byte does.
 pub fn stops_are_first()
     ensures first { (part : PartData) (kept : Kept) (bytes : List ℕ) (s : Stopped) → AreBytes bytes → stop_in part kept bytes ≡ Some s → IsFirstStop part kept bytes s }
     ensures found { (part : PartData) (kept : Kept) (bytes : List ℕ) (s : Stopped) → AreBytes bytes → IsFirstStop part kept bytes s → stop_in part kept bytes ≡ Some s }
     ensures none { (part : PartData) (kept : Kept) (bytes : List ℕ) (n : ℕ) → AreBytes bytes → stop_in part kept bytes ≡ None → 0 < n → n ≤ length bytes
-        → line_at_byte part kept bytes n ≡ None }
+        → why_at_byte part kept bytes n ≡ None }
 {}
 
 /// The watchdog fires at a byte that has it on, where four times TIMER's value of the bytes behind the last load had it on.
@@ -79,7 +79,7 @@ pub fn checks_before_startup()
     ensures started { (p : Past) → AreBytes p.bytes → 0 < (state_at p).phase → HasStarted p.part.idcode (history_at p) (taken_at p) }
     ensures checks { (p : Past) (w place : ℕ) (older : History) → StandsBefore p (word_to Crc w) place older → w ≡ running_check older }
     ensures idcodes { (p : Past) (w place : ℕ) (older : History) → StandsBefore p (word_to Idcode w) place older → IsTrue (same_idcode p.part.idcode w) }
-    ensures lines { (p : Past) (access : Access) (place : ℕ) (older : History) → StandsBefore p access place older → line_at p.part p.kept older access ≡ None }
+    ensures none { (p : Past) (access : Access) (place : ℕ) (older : History) → StandsBefore p access place older → why_at p.part p.kept older access ≡ None }
 {}
 
 /// A device at rest stays so over bytes without a sync word, which enter no access; and a new one is at rest.
@@ -89,7 +89,7 @@ pub fn rest_lasts()
     ensures new { (part : PartData) → AtRest part on_the_bench [] }
 {}
 
-/// The words read out are those told, and then those that are still due.
+/// The words read out are those given, and then those that are still due.
 pub fn reads_are_given_or_due()
     ensures all { (d : DeviceState) → OfPast d (λ p. reads_given_at d p ++ due_at d p ≡ reads_at p) }
     ensures none { (d : DeviceState) (p : Past) → NoWordDue d → due_at d p ≡ [] }
@@ -104,7 +104,7 @@ pub fn reads_grow()
 /// wrap bit.
 pub fn wraps_show_in_bootsts()
     ensures alone { (part : PartData) (kept : Kept) (bytes : List ℕ) → state_of part kept true bytes ≡ record (state_of part kept false bytes) { bootsts = (state_of part kept true bytes).bootsts } }
-    ensures bit { (part : PartData) (kept : Kept) (bytes : List ℕ) → IsBoot kept → cause_in part kept bytes ≡ None
+    ensures bit { (part : PartData) (kept : Kept) (bytes : List ℕ) → IsAttempt kept → cause_in part kept bytes ≡ None
         → bootsts_in part kept true bytes ≡ bootsts_in part kept false bytes + 2 ^ 6 }
 {}
 

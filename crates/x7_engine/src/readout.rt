@@ -58,7 +58,7 @@ impl Registers {
         requires none_due { due_count self.old.due ≡ 0 }
         requires frames { FramesFit part.now self.old.frames }
         requires some { 0 < count }
-        ensures at_rest { (line : Stop) → self.new.stop ≡ Some line → due_count self.new.due ≡ 0 }
+        ensures at_rest { (why : Stop) → self.new.stop ≡ Some why → due_count self.new.due ≡ 0 }
         ensures counts { (n : ℕ) → counted_in self.new.stop n ≡ n }
         ensures frames { self.new.frames ≡ self.old.frames }
         ensures stands { EntersAt (change_of part.now self.old self.new) (read_entered register count) }

@@ -11,7 +11,7 @@ ghost use Rattle.x7_engine.specs.Kept.{is_fallback};
 ghost use Rattle.x7_engine.specs.Registers.{executed_after, has_effect};
 ghost use Rattle.x7_engine.specs.Standing.{counted_in, due_count};
 ghost use Rattle.x7_engine.specs.State.{last_counted};
-ghost use Rattle.x7_engine.specs.Stops.{access_line, frame_line, or_else, stop_by};
+ghost use Rattle.x7_engine.specs.Stops.{why_by_access, why_by_frames, or_else, stop_by};
 ghost use Rattle.x7_engine.specs.declared.kept.Kept.{Kept as KeptData};
 ghost use Rattle.x7_engine.specs.Entering.{AreRead, change_of, Enters, EntersAt, EntersIf, OfHistory, ReadsIf, RunEnters, RunReads, step_entered, up_to_stop, word_entered, words_entered};
 
@@ -96,7 +96,7 @@ fn is_a_fallback(kind: Kind) -> bool
     }
 }
 
-/// The line of a refused word, copy or read of frame data.
+/// The stop by a refused word, copy or read of frame data.
 pub(crate) fn stop_of_refused(fault: RunFault) -> Stop
     ensures value { result ≡ stop_by fault }
     ensures counts { (n : ℕ) → last_counted result n ≡ n }
@@ -108,13 +108,13 @@ pub(crate) fn stop_of_refused(fault: RunFault) -> Stop
     }
 }
 
-/// The line that a written word comes to, by that of its register and by why the frames refuse it.
-fn first_line(line: Option<Stop>, refused: Option<RunFault>) -> Option<Stop>
-    ensures value { result ≡ or_else line (frame_line refused) }
-    ensures counts { (n : ℕ) → counted_in line n ≡ n → counted_in result n ≡ n }
+/// Why a written word stops the device: by its register, or else because the frames refuse it.
+fn first_of(why: Option<Stop>, refused: Option<RunFault>) -> Option<Stop>
+    ensures value { result ≡ or_else why (why_by_frames refused) }
+    ensures counts { (n : ℕ) → counted_in why n ≡ n → counted_in result n ≡ n }
 {
-    match (line, refused) {
-        (Some(line), _) => Some(line),
+    match (why, refused) {
+        (Some(why), _) => Some(why),
         (None, Some(fault)) => Some(stop_of_refused(fault)),
         (None, None) => None,
     }
@@ -201,9 +201,9 @@ impl Registers {
         }
     }
 
-    /// The line that a written word comes to by its register alone, which executes a command or none.
-    fn line_of(&self, idcode: u32, reg: Reg, word: u32, executed: Option<u8>) -> Option<Stop>
-        ensures value { (part : PartData) → idcode ≡ part.idcode → OfHistory part (registers_in self.now) (λ kept h n. executed ≡ executed_after h reg word → result ≡ access_line part kept h (word_to reg word)) }
+    /// Why a written word, which executes a command or none, stops the device by its register alone.
+    fn why_of_write(&self, idcode: u32, reg: Reg, word: u32, executed: Option<u8>) -> Option<Stop>
+        ensures value { (part : PartData) → idcode ≡ part.idcode → OfHistory part (registers_in self.now) (λ kept h n. executed ≡ executed_after h reg word → result ≡ why_by_access part kept h (word_to reg word)) }
         ensures counts { (n : ℕ) → counted_in result n ≡ n }
     {
         let Progress { check, matched, .. } = self.progress;
@@ -246,7 +246,7 @@ impl Registers {
         let idcode = part.idcode();
         let settings = self.settings();
         let executed = executed(settings.held, reg, word);
-        let line = self.line_of(idcode, reg, word, executed);
+        let why = self.why_of_write(idcode, reg, word, executed);
         let taken = self.progress.takes(reg, word, executed);
         let mask = self.words.held(Reg::Mask);
         let cor0 = self.words.held(Reg::Cor0);
@@ -255,7 +255,7 @@ impl Registers {
         self.words.write(reg.number(), word);
         self.clock.write(executed, taken, cor0, reg, word);
         let refused = self.frames.write(settings, reg, word, part);
-        self.stop = first_line(line, refused);
+        self.stop = first_of(why, refused);
     }
 
     /// Takes a word written to a register without an effect beside the check.
@@ -298,7 +298,7 @@ impl Registers {
         ensures within { result ≤ count }
         ensures goes_on { self.new.stop ≡ None → result ≡ 0 }
         ensures some { 0 < count → result < count }
-        ensures fired { (line : Stop) → self.new.stop ≡ Some line → (line ≡ Stop.Fault Fault.Watchdog) × (result < count) }
+        ensures fired { (why : Stop) → self.new.stop ≡ Some why → (why ≡ Stop.Fault Fault.Watchdog) × (result < count) }
         ensures due { self.new.due ≡ self.old.due }
         ensures frames { self.new.frames ≡ self.old.frames }
         ensures stands { Enters (change_of part.now self.old self.new) (λ n h. h) (count - result) }
@@ -350,9 +350,9 @@ impl Registers {
         let left = self.tick(part, bytes.len());
         let taken = bytes.len() - left;
         let whole = counted(self.stop, taken) / 4 * 4;
-        let front = &bytes[..whole];
-        self.progress.pass_all(register, front);
-        self.words.pass_all(register, front);
+        let prefix = &bytes[..whole];
+        self.progress.pass_all(register, prefix);
+        self.words.pass_all(register, prefix);
         taken
     }
 
@@ -374,10 +374,10 @@ impl Registers {
         let before = self.clock.before_firing(part, bytes.len()) / 4 * 4;
         let (count, refused) = self.frames.write_words(settings, &bytes[..before], part);
         let taken = taken_of(count, refused) * 4;
-        let front = &bytes[..taken];
+        let prefix = &bytes[..taken];
         let _ = self.clock.bytes(part, taken);
-        self.progress.pass_all(2, front);
-        self.words.pass_all(2, front);
+        self.progress.pass_all(2, prefix);
+        self.words.pass_all(2, prefix);
         taken
     }
 
@@ -453,7 +453,7 @@ impl Registers {
         requires none_due { due_count self.old.due ≡ 0 }
         requires frames { FramesFit part.now self.old.frames }
         requires header { IsHeaderStep step }
-        ensures at_rest { (line : Stop) → self.new.stop ≡ Some line → due_count self.new.due ≡ 0 }
+        ensures at_rest { (why : Stop) → self.new.stop ≡ Some why → due_count self.new.due ≡ 0 }
         ensures counts { (n : ℕ) → counted_in self.new.stop n ≡ n }
         ensures frames { FramesFit part.now self.new.frames }
         ensures stands { EntersAt (change_of part.now self.old self.new) (λ place h. entered place step h) }
@@ -475,7 +475,7 @@ impl Registers {
         requires header { IsHeaderStep step }
         ensures within { result ≤ count }
         ensures goes_on { self.new.stop ≡ None → result ≡ 0 }
-        ensures at_rest { (line : Stop) → self.new.stop ≡ Some line → due_count self.new.due ≡ 0 }
+        ensures at_rest { (why : Stop) → self.new.stop ≡ Some why → due_count self.new.due ≡ 0 }
         ensures frames { FramesFit part.now self.new.frames }
         ensures stands { EntersIf (0 < count) (change_of part.now self.old self.new)
             (up_to_stop (registers_in self.new) (step_entered step count) (count - result)) (count - result) }
@@ -501,7 +501,7 @@ impl Registers {
         ensures within { result ≤ count }
         ensures goes_on { self.new.stop ≡ None → result ≡ 0 }
         ensures quiet { TellsNothing run.entry → due_count self.new.due ≡ 0 }
-        ensures at_rest { (line : Stop) → self.new.stop ≡ Some line → due_count self.new.due ≡ 0 }
+        ensures at_rest { (why : Stop) → self.new.stop ≡ Some why → due_count self.new.due ≡ 0 }
         ensures frames { FramesFit part.now self.new.frames }
         ensures stands { RunEnters run.entry count (change_of part.now self.old self.new) (count - result) }
         ensures reads { RunReads run.entry count (change_of part.now self.old self.new) (count - result) }

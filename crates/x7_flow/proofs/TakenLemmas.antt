@@ -19,7 +19,7 @@ use Rattle.x7_flow.specs.Settings.{settings_of, takes_frames}
 use Rattle.x7_flow.specs.Flow.{Flow, asks, base_of, fault_by, flow_of, frame_fault, run_of}
 use Rattle.x7_flow.specs.FrameMemory.{memory_of}
 use Rattle.x7_flow.specs.Standing.{AreFramesAfter, Did, FramesStandFor, FramesState, HasFlow, less}
-use Rattle.x7_flow.specs.Words.{EndsBy, NoneRefused, WordsTaken, with_words}
+use Rattle.x7_flow.specs.Words.{EndsBy, NoneRefused, WordsTaken, with_frame_data}
 use Rattle.x7_flow.proofs.StandingLemmas.{did_other, no_less, one_more, same_flow}
 use Rattle.x7_flow.proofs.ManyLemmas.{word_asked, word_flow, words_flow, words_land}
 
@@ -30,20 +30,20 @@ word_fault part h w t = ap (λ (a : Asked). fault_by part a (flow_of part h)) (w
 
 -- how words written in order part
 record Parted (part : PartData) (n : ℕ) (h : History) (words : List ℕ) (w : Written) : Type 0 where
-  front : List ℕ
+  prefix : List ℕ
   rest : List ℕ
-  words_are : words ≡ front ++ rest
-  none_refused : NoneRefused part n front h
-  run_is : w.run ≡ onto front (run_of part h)
-  end : EndsBy part (with_words n front h) rest (length front) w.count w.fault
+  words_are : words ≡ prefix ++ rest
+  none_refused : NoneRefused part n prefix h
+  run_is : w.run ≡ onto prefix (run_of part h)
+  end : EndsBy part (with_frame_data n prefix h) rest (length prefix) w.count w.fault
 
-one_counted : (part : PartData) (h : History) (rest front : List ℕ) (w count : ℕ) (fault : Option RunFault) → EndsBy part h rest (length front) count fault → EndsBy part h rest (length (w ∷ front)) (1 + count) fault
-one_counted part h rest front w count None e = let same = e.1 in (e.0, omega arith)
-one_counted part h rest front w count (Some fault) e = let same = e.4 in (e.0, e.1, e.2, e.3, omega arith)
+one_counted : (part : PartData) (h : History) (rest prefix : List ℕ) (w count : ℕ) (fault : Option RunFault) → EndsBy part h rest (length prefix) count fault → EndsBy part h rest (length (w ∷ prefix)) (1 + count) fault
+one_counted part h rest prefix w count None e = let same = e.1 in (e.0, omega arith)
+one_counted part h rest prefix w count (Some fault) e = let same = e.4 in (e.0, e.1, e.2, e.3, omega arith)
 
 parted : (part : PartData) (n : ℕ) (words : List ℕ) (h : History) → takes_frames (settings_of part.idcode h) ≡ true → Parted part n h words (written part (base_of part h) (run_of part h) words)
 unfolding written NoneRefused
-parted part n [] h t = record { front = []; rest = []; words_are = refl; none_refused = tt; run_is = refl; end = (refl, refl) }
+parted part n [] h t = record { prefix = []; rest = []; words_are = refl; none_refused = tt; run_is = refl; end = (refl, refl) }
 parted part n (w ∷ words) h t =
     by (write_fault part (base_of part h) (run_of part h)) refl
     (subst (λ (f : Flow). Parted part (n + 4) (entry (Write 2 w) (n + 4) ∷ h) words (written part f.base f.run words)) (word_flow part w (n + 4) h t) (parted part (n + 4) words (entry (Write 2 w) (n + 4) ∷ h) t))
@@ -56,7 +56,7 @@ parted part n (w ∷ words) h t =
 
     by : (o : Option RunFault) → write_fault part (base_of part h) (run_of part h) ≡ o → Parted part (n + 4) now words later → Parted part n h (w ∷ words) (one_written o (run_of part h) later)
     by (Some fault) e more = record {
-      front = [];
+      prefix = [];
       rest = w ∷ words;
       words_are = refl;
       none_refused = tt;
@@ -64,12 +64,12 @@ parted part n (w ∷ words) h t =
       end = (w, words, refl, word_fault part h w t ∙ e, refl);
     }
     by None e more = record {
-      front = w ∷ more.front;
+      prefix = w ∷ more.prefix;
       rest = more.rest;
       words_are = ap (λ ws. w ∷ ws) more.words_are;
       none_refused = (word_fault part h w t ∙ e, more.none_refused);
-      run_is = more.run_is ∙ ap (λ (f : Flow). onto more.front f.run) (word_flow part w (n + 4) h t);
-      end = one_counted part (with_words (n + 4) more.front now) more.rest more.front w later.count later.fault more.end;
+      run_is = more.run_is ∙ ap (λ (f : Flow). onto more.prefix f.run) (word_flow part w (n + 4) h t);
+      end = one_counted part (with_frame_data (n + 4) more.prefix now) more.rest more.prefix w later.count later.fault more.end;
     }
 
 -- ---- the pipeline and the memory
@@ -92,21 +92,21 @@ words_taken part p q old new words count n fault h stands lands counted faulty t
     let has : HasFlow part p f = same_flow part p (less 0 f) f (sym (no_less f)) are.flow in
     let w : Written = written part f.base f.run words in
     let parts : Parted part n h words w = parted part n words h t in
-    let end : History = with_words n parts.front h in
-    let flow : flow_of part end ≡ record f { run = onto parts.front f.run } = words_flow part n parts.front h t in
-    let reached : StandsFor part q f.command f.base (onto parts.front f.run) f.source f.given =
+    let end : History = with_frame_data n parts.prefix h in
+    let flow : flow_of part end ≡ record f { run = onto parts.prefix f.run } = words_flow part n parts.prefix h t in
+    let reached : StandsFor part q f.command f.base (onto parts.prefix f.run) f.source f.given =
     subst (λ (run : List ℕ). StandsFor part q f.command f.base run f.source f.given) parts.run_is (stands f.command f.base f.run f.source f.given has.stands) in
-    let grown : Lands part f.base f.run (onto parts.front f.run) (frame_at part old) (frame_at part new) =
+    let grown : Lands part f.base f.run (onto parts.prefix f.run) (frame_at part old) (frame_at part new) =
     subst (λ (run : List ℕ). Lands part f.base f.run run (frame_at part old) (frame_at part new)) parts.run_is (lands f.command f.base f.run f.source f.given has.stands) in
     record {
-      taken = parts.front;
+      taken = parts.prefix;
       rest = parts.rest;
       words_are = parts.words_are;
       none_refused = parts.none_refused;
       end = rw (counted f.command f.base f.run f.source f.given has.stands, faulty f.command f.base f.run f.source f.given has.stands) parts.end;
       stands = record {
-        flow = same_flow part q (record f { run = onto parts.front f.run }) (less 0 (flow_of part end)) (sym flow ∙ no_less (flow_of part end)) (record { stands = reached; nowhere = has.nowhere });
-        memory = lands_alike part f.base f.run (onto parts.front f.run) (frame_at part old) (frame_at part new) (memory_of part h) (memory_of part end) grown (words_land part n parts.front h t) are.memory;
+        flow = same_flow part q (record f { run = onto parts.prefix f.run }) (less 0 (flow_of part end)) (sym flow ∙ no_less (flow_of part end)) (record { stands = reached; nowhere = has.nowhere });
+        memory = lands_alike part f.base f.run (onto parts.prefix f.run) (frame_at part old) (frame_at part new) (memory_of part h) (memory_of part end) grown (words_land part n parts.prefix h t) are.memory;
         due_given = omega arith;
       };
     }
@@ -124,7 +124,7 @@ unfolding NoneRefused
 none_refused part n [] h t = tt
 none_refused part n (w ∷ ws) h t = (ap (λ (a : Asked). fault_by part a (flow_of part h)) (unasked part h w t), none_refused part (n + 4) ws (entry (Write 2 w) (n + 4) ∷ h) t)
 
-still_stand : (part : PartData) (f : FramesState) (n : ℕ) (ws : List ℕ) (h : History) → takes_frames (settings_of part.idcode h) ≡ false → FramesStandFor part f h 0 → FramesStandFor part f (with_words n ws h) 0
+still_stand : (part : PartData) (f : FramesState) (n : ℕ) (ws : List ℕ) (h : History) → takes_frames (settings_of part.idcode h) ≡ false → FramesStandFor part f h 0 → FramesStandFor part f (with_frame_data n ws h) 0
 still_stand part f n [] h t s = s
 still_stand part f n (w ∷ ws) h t s = still_stand part f (n + 4) ws (entry (Write 2 w) (n + 4) ∷ h) t (other_access part f h (entry (Write 2 w) (n + 4)) (unasked part h w t) s)
 

@@ -13,7 +13,7 @@ use Rattle.x7_pipeline.specs.Runs.{onto}
 use Rattle.x7_flow.specs.Settings.{settings_of, takes_copies, takes_frames}
 use Rattle.x7_flow.specs.Flow.{run_of, source_of}
 use Rattle.x7_flow.specs.Later.{after_load, has_mfw}
-use Rattle.x7_flow.specs.Words.{with_copies, with_words}
+use Rattle.x7_flow.specs.Words.{with_copies, with_frame_data}
 
 -- the word of FAR and its place, the place where the words of FDRI begin, and their frames: some, and the last one, which stays in the buffer
 pub record FrameWrite : Type 0 where
@@ -36,7 +36,7 @@ AreWhole part frames = AllByRecursion (λ frame. length frame ≡ frame_words pa
 
 -- a history with the write behind it
 abbrev pub with_frames : FrameWrite → History → History
-with_frames x h = with_words x.place (words_of_frames (all_frames x)) (after_load x.far x.far_place h)
+with_frames x h = with_frame_data x.place (words_of_frames (all_frames x)) (after_load x.far x.far_place h)
 
 -- where its frames land: at the slots from its address on, all but the last
 abbrev pub placed : PartData → FrameWrite → List PlanRow

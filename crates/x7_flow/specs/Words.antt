@@ -13,8 +13,8 @@ use Rattle.x7_flow.specs.Settings.{TakesFrames}
 use Rattle.x7_flow.specs.Standing.{AreFramesAfter, FramesStandFor, FramesState}
 
 -- the history with words written to FDRI, the first of which begins at byte n
-abbrev pub with_words : ℕ → List ℕ → History → History
-with_words n ws h = entered_all n (payload_steps (number_of reg.Fdri) ws) h
+abbrev pub with_frame_data : ℕ → List ℕ → History → History
+with_frame_data n ws h = entered_all n (payload_steps (number_of reg.Fdri) ws) h
 
 -- the history with words written to MFWR
 abbrev pub with_copies : ℕ → List ℕ → History → History
@@ -41,8 +41,8 @@ pub record WordsTaken (part : PartData) (f : FramesState) (n : ℕ) (h : History
   pub rest : List ℕ
   pub words_are : words ≡ taken ++ rest
   pub none_refused : NoneRefused part n taken h
-  pub end : EndsBy part (with_words n taken h) rest (length taken) count fault
-  pub stands : FramesStandFor part f (with_words n taken h) 0
+  pub end : EndsBy part (with_frame_data n taken h) rest (length taken) count fault
+  pub stands : FramesStandFor part f (with_frame_data n taken h) 0
 
 -- what holds of a history after which words of FDRI go to the memory, and that a pipeline and frames stand for with no word due
 abbrev pub OfTaking : PartData → PipelineData → List (List ℕ) → (History → Type 0) → Type 0

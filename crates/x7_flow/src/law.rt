@@ -28,7 +28,7 @@ ghost use Rattle.x7_flow.specs.Settings.{Settings, TakesFrames, settings_after, 
 ghost use Rattle.x7_flow.specs.Sound.{IsSound};
 ghost use Rattle.x7_flow.specs.Standing.{FramesDid, FramesFit, FramesStandFor, FramesState, ReadsData, ReadsFrames, ReadsMore, flow_read, frames_map, frames_read, less, read_of, words_due, written_to};
 ghost use Rattle.x7_flow.specs.Stretches.{ends_of, is_boundary, overridden};
-ghost use Rattle.x7_flow.specs.Words.{HasRoomFor, NoneRefused, with_copies, with_words};
+ghost use Rattle.x7_flow.specs.Words.{HasRoomFor, NoneRefused, with_copies, with_frame_data};
 
 /// A flow has what its settings say.
 pub fn flow_laws()
@@ -94,12 +94,12 @@ pub fn fault_laws()
 
 /// Many words of frame data at once, behind a history and in one that goes on.
 pub fn many_laws()
-    ensures settings { (idcode n : ℕ) (ws : List ℕ) (h : History) → settings_of idcode (with_words n ws h) ≡ settings_of idcode h }
-    ensures flow { (part : PartData) (n : ℕ) (ws : List ℕ) (h : History) → TakesFrames part h → flow_of part (with_words n ws h) ≡ after_words ws (flow_of part h) }
+    ensures settings { (idcode n : ℕ) (ws : List ℕ) (h : History) → settings_of idcode (with_frame_data n ws h) ≡ settings_of idcode h }
+    ensures flow { (part : PartData) (n : ℕ) (ws : List ℕ) (h : History) → TakesFrames part h → flow_of part (with_frame_data n ws h) ≡ after_words ws (flow_of part h) }
     ensures lands { (part : PartData) (n : ℕ) (ws : List ℕ) (h : History) → TakesFrames part h →
-        LandsAt part (flow_of part h) ws (memory_of part h) (memory_of part (with_words n ws h)) }
+        LandsAt part (flow_of part h) ws (memory_of part h) (memory_of part (with_frame_data n ws h)) }
     ensures pairs { (x : Start) (n : ℕ) (ws : List ℕ) (later : History) → BeginsRun x later →
-        pairs_on x (with_words n ws later) ≡ written_frames x.part (flow_on x later).base (onto ws []) ++ pairs_on x later }
+        pairs_on x (with_frame_data n ws later) ≡ written_frames x.part (flow_on x later).base (onto ws []) ++ pairs_on x later }
 {}
 
 /// A history that goes on in two parts, and behind a load under another command than MFW.
@@ -151,7 +151,7 @@ pub fn memory_has_frames()
 pub fn words_have_room()
     ensures none { (part : PartData) (n : ℕ) (ws : List ℕ) (h : History) → TakesFrames part h → HasAddress part h → HasRoomFor part h ws → NoneRefused part n ws h }
     ensures memory { (part : PartData) (n : ℕ) (ws : List ℕ) (h : History) → TakesFrames part h → run_of part h ≡ [] →
-        MemoryGets part (with_words n ws h) h (written_frames part (base_of part h) (onto ws [])) }
+        MemoryGets part (with_frame_data n ws h) h (written_frames part (base_of part h) (onto ws [])) }
 {}
 
 /// What is kept of frames without a word due leads back from the same history, and from one with one access more.

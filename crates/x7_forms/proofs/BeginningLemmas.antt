@@ -93,18 +93,18 @@ joined_taken old mid new a b c d e f g h = e ∙ ap (preceded a) f ∙ preceded-
 
 -- these bytes judge a header, whatever follows
 abbrev Judge : List ℕ → Type 0
-Judge front = (rest : List ℕ) (place : ℕ) → header_at (front ++ rest) ≡ Err (header.Cut place) → ⊥
+Judge prefix = (rest : List ℕ) (place : ℕ) → header_at (prefix ++ rest) ≡ Err (header.Cut place) → ⊥
 
 -- bytes that waited for so many are not judged before the last of them
-judged_before : (old piece front more : List ℕ) (n : ℕ) (b : Bool) → nat_le (length front) (length old) ≡ b → HeaderWaits old n → 0 < n → length piece ≤ n → old ++ piece ≡ front ++ more → 0 < length more → Judge front → ⊥
-judged_before old piece front more n true l w p k e m j =
-    let s = shorter_front front old more piece (leb-true _ _ l) (sym e) in
+judged_before : (old piece prefix more : List ℕ) (n : ℕ) (b : Bool) → nat_le (length prefix) (length old) ≡ b → HeaderWaits old n → 0 < n → length piece ≤ n → old ++ piece ≡ prefix ++ more → 0 < length more → Judge prefix → ⊥
+judged_before old piece prefix more n true l w p k e m j =
+    let s = shorter_front prefix old more piece (leb-true _ _ l) (sym e) in
     j s.0 (length (old ++ [])) (ap header_at (sym s.1 ∙ sym (append-nil old)) ∙ w [] p)
-judged_before old piece front more n false l w p k e m j =
-    let less : length old ≤ length front = grind (arith, l) in
-    let s = shorter_front old front piece more less e in
-    let long : length s.0 < n = omega (arith, k, m, ap length e, ap length s.1, length-append old piece, length-append front more, length-append old s.0) in
-    j [] (length (old ++ s.0)) (ap header_at (append-nil front ∙ s.1) ∙ w s.0 long)
+judged_before old piece prefix more n false l w p k e m j =
+    let less : length old ≤ length prefix = grind (arith, l) in
+    let s = shorter_front old prefix piece more less e in
+    let long : length s.0 < n = omega (arith, k, m, ap length e, ap length s.1, length-append old piece, length-append prefix more, length-append old s.0) in
+    j [] (length (old ++ s.0)) (ap header_at (append-nil prefix ∙ s.1) ∙ w s.0 long)
 
 header_judges : (x : Contents) → HaveHeader x → Judge (header_bytes x)
 header_judges x h rest place e = ok_not_err (x, length (header_bytes x)) (header.Cut place) (sym (header_again x rest h) ∙ e)
@@ -124,11 +124,11 @@ pub record IsPiece (old piece bytes : List ℕ) (n : ℕ) : Type 0 where
   pub waits : EndsInHeader old → HeaderWaits old n
 
 -- what such bytes begin with is no shorter where it judges
-first_judged : (old piece bytes front more : List ℕ) (n : ℕ) → IsPiece old piece bytes n → 13 ≤ length front → bytes ≡ front ++ more → Judge front → more ≡ []
-first_judged old piece bytes front [] n p l e j = refl
-first_judged old piece bytes front (x ∷ more) n p l e j = elim p.waiting [
-  | inl none ↦ absurd (omega (arith, l, p.short, p.fixed, ap length none, ap length p.joined, ap length e, length-append old piece, length-append front (x ∷ more)))
-  | inr inside ↦ absurd (judged_before old piece front (x ∷ more) n (nat_le (length front) (length old)) refl (p.waits inside) p.some p.short (sym p.joined ∙ e) (omega arith) j)
+first_judged : (old piece bytes prefix more : List ℕ) (n : ℕ) → IsPiece old piece bytes n → 13 ≤ length prefix → bytes ≡ prefix ++ more → Judge prefix → more ≡ []
+first_judged old piece bytes prefix [] n p l e j = refl
+first_judged old piece bytes prefix (x ∷ more) n p l e j = elim p.waiting [
+  | inl none ↦ absurd (omega (arith, l, p.short, p.fixed, ap length none, ap length p.joined, ap length e, length-append old piece, length-append prefix (x ∷ more)))
+  | inr inside ↦ absurd (judged_before old piece prefix (x ∷ more) n (nat_le (length prefix) (length old)) refl (p.waits inside) p.some p.short (sym p.joined ∙ e) (omega arith) j)
 ]
 
 fixed_long : (after : List ℕ) → 13 ≤ length (fixed_bytes ++ after)
@@ -145,23 +145,23 @@ holds_few old piece bytes n start p (inr (zero, raw)) = elim p.waiting [
 
 -- the bytes up to a wrong letter, which judge a header
 record LetterFront (bytes : List ℕ) (place : ℕ) : Type 0 where
-  front : List ℕ
+  prefix : List ℕ
   more : List ℕ
-  parts : bytes ≡ front ++ more
-  size : length front ≡ place + 1
-  long : 13 ≤ length front
-  judges : Judge front
+  parts : bytes ≡ prefix ++ more
+  size : length prefix ≡ place + 1
+  long : 13 ≤ length prefix
+  judges : Judge prefix
 
 letter_front : (bytes : List ℕ) (place : ℕ) → HasOtherLetterAt bytes place → LetterFront bytes place
 letter_front bytes place h =
     let o : HasOtherLetter layout h.0 (length bytes - place) = h.3 in
     let before = fields_bytes o.done o.contents in
     let after = before ++ o.other ∷ [] in
-    let front = fixed_bytes ++ after in
-    let e : bytes ≡ front ++ o.rest = h.1 ∙ ap (λ b. fixed_bytes ++ b) (o.bytes_are ∙ sym (append_assoc before (o.other ∷ []) o.rest)) ∙ sym (append_assoc fixed_bytes after o.rest) in
-    let all : length bytes ≡ length front + length o.rest = omega (arith, ap length e, length-append front o.rest) in
-    let at : length front ≡ place + 1 = omega (arith, all, h.2, o.left_is) in
-    let there : HasOtherLetterAt front place = (
+    let prefix = fixed_bytes ++ after in
+    let e : bytes ≡ prefix ++ o.rest = h.1 ∙ ap (λ b. fixed_bytes ++ b) (o.bytes_are ∙ sym (append_assoc before (o.other ∷ []) o.rest)) ∙ sym (append_assoc fixed_bytes after o.rest) in
+    let all : length bytes ≡ length prefix + length o.rest = omega (arith, ap length e, length-append prefix o.rest) in
+    let at : length prefix ≡ place + 1 = omega (arith, all, h.2, o.left_is) in
+    let there : HasOtherLetterAt prefix place = (
       after,
       refl,
       omega (arith, at),
@@ -179,27 +179,27 @@ letter_front bytes place h =
         differs = o.differs;
       },
     ) in
-    record { front = front; more = o.rest; parts = e; size = at; long = fixed_long after; judges = letter_judges front place there }
+    record { prefix = prefix; more = o.rest; parts = e; size = at; long = fixed_long after; judges = letter_judges prefix place there }
 
 pub refused_soon : (old piece bytes : List ℕ) (n place : ℕ) → IsPiece old piece bytes n → RefusedAt bytes place → length bytes ≤ place + 1
 refused_soon old piece bytes n place p (inl e) = omega (arith, e)
 refused_soon old piece bytes n place p (inr h) =
     let f = letter_front bytes place h in
-    let none = first_judged old piece bytes f.front f.more n p f.long f.parts f.judges in
-    omega (arith, f.size, ap length f.parts, ap length none, length-append f.front f.more)
+    let none = first_judged old piece bytes f.prefix f.more n p f.long f.parts f.judges in
+    omega (arith, f.size, ap length f.parts, ap length none, length-append f.prefix f.more)
 
 -- ---- a fault before the header is judged
 
 -- what judges a header goes on behind bytes that wait for so many, up to the last of them at least
-judged_late : (old rest front more : List ℕ) (n : ℕ) (b : Bool) → nat_le (length front) (length old) ≡ b → HeaderWaits old n → 0 < n → old ++ rest ≡ front ++ more → Judge front → length front < length old + n → ⊥
-judged_late old rest front more n true l w p e j k =
-    let s = shorter_front front old more rest (leb-true _ _ l) (sym e) in
+judged_late : (old rest prefix more : List ℕ) (n : ℕ) (b : Bool) → nat_le (length prefix) (length old) ≡ b → HeaderWaits old n → 0 < n → old ++ rest ≡ prefix ++ more → Judge prefix → length prefix < length old + n → ⊥
+judged_late old rest prefix more n true l w p e j k =
+    let s = shorter_front prefix old more rest (leb-true _ _ l) (sym e) in
     j s.0 (length (old ++ [])) (ap header_at (sym s.1 ∙ sym (append-nil old)) ∙ w [] p)
-judged_late old rest front more n false l w p e j k =
-    let less : length old ≤ length front = grind (arith, l) in
-    let s = shorter_front old front rest more less e in
+judged_late old rest prefix more n false l w p e j k =
+    let less : length old ≤ length prefix = grind (arith, l) in
+    let s = shorter_front old prefix rest more less e in
     let long : length s.0 < n = omega (arith, k, ap length s.1, length-append old s.0) in
-    j [] (length (old ++ s.0)) (ap header_at (append-nil front ∙ s.1) ∙ w s.0 long)
+    j [] (length (old ++ s.0)) (ap header_at (append-nil prefix ∙ s.1) ∙ w s.0 long)
 
 -- a wrong letter stands no earlier than the last byte that was asked for
 pub letter_late : (old rest all : List ℕ) (n place : ℕ) → 0 < n → all ≡ old → (length all < 13 → length all + n ≡ 13) → (EndsInHeader all → HeaderWaits all n) → (0 < length old → EndsInHeader old)
@@ -216,7 +216,7 @@ letter_late (x ∷ old) rest all n place some e fixed waits waiting h =
     by true l f w = leb-true _ _ l
     by false l f w =
         let less : place + 1 < length (x ∷ old) + n = grind (arith, l) in
-        absurd (judged_late (x ∷ old) rest f.front f.more n (nat_le (length f.front) (length (x ∷ old))) refl w some f.parts f.judges (omega (arith, f.size, less)))
+        absurd (judged_late (x ∷ old) rest f.prefix f.more n (nat_le (length f.prefix) (length (x ∷ old))) refl w some f.parts f.judges (omega (arith, f.size, less)))
 
 -- none was given where the bytes before are those that were read, and fewer than so many more were given
 pub none_given : (old mid new : InputsState) (bytes all : List ℕ) (n count : ℕ) → 0 < n → count ≤ n → all ≡ bytes → (length all < 13 → length all + n ≡ 13) → (EndsInHeader all → HeaderWaits all n) → (0 < length bytes → EndsInHeader bytes)

@@ -13,7 +13,7 @@ use Rattle.x7_engine.specs.Stops.{Stopped}
 use Rattle.x7_forms.specs.Known.{Known, part_by, reads_limit, Mishap}
 use Rattle.x7_part.specs.PartFile.{part_in}
 use Rattle.x7_forms.specs.Play.{IsPlayed, emptied, part_event}
-use Rattle.x7_forms.specs.Step.{IsCaused, IsPossible}
+use Rattle.x7_forms.specs.Step.{IsCaused}
 use Rattle.x7_forms.proofs.ReadLemmas.{works}
 use Rattle.x7_engine.proofs.ReadsLemmas.{reads_grow}
 use Rattle.x7_engine.proofs.StateLemmas.{stop_is_final-memory, stop_is_final-reads, stop_is_final-state, stop_is_final-stop}

@@ -22,7 +22,10 @@ use Rattle.x7_forms.specs.Event.{Event, bad_input, missing, no_memory, read_faul
 use Rattle.x7_forms.specs.Known.{Absent, Broken, Failing, Found, Held, Known, Lacking, Mishap, StreamRead, and_so, broken_at, data_by, data_in, data_of, found, known_of, mishap_event, part_by, part_limit, part_of, put_before, read_of, spoiled, spoiled_name, taken_whole, whole_in, with_inputs, with_mishap}
 use Rattle.x7_forms.specs.Turn.{Breaks, IsAt, Reads, Unopened, Unread, UnreadRest}
 use Rattle.x7_forms.proofs.HeadLemmas.{data_more}
-use Rattle.x7_forms.specs.Step.{Among, AnswersAs, AnswersBy, CameIn, DueBy, FailsAmong, IsCaused, IsCausedBy, IsDecided, IsDue, IsFromOutside, IsPossible, LacksAmong, step_over}
+use Rattle.x7_forms.specs.Step.{Among, AnswersAs, AnswersBy, CameIn, DueBy, FailsAmong, IsCaused, IsCausedBy, IsDecided, IsDue, IsFromOutside, IsNoPart, IsOneUnplayed, IsPossible, IsUnplayed, IsUnread, LacksAmong, step_over}
+use Rattle.x7_forms.specs.Play.{part_event}
+use Rattle.x7_part.specs.declared.fault.PartFault.{PartFault}
+use Rattle.x7_part.specs.declared.fault.PartFault.TheVariants as part
 use Rattle.std.proofs.Math.Seq.{take-append-add}
 
 -- ---- what was taken
@@ -162,9 +165,9 @@ pub before_none : (more : Result (List ℕ) Event) → put_before [] more ≡ mo
 before_none (Ok more) = refl
 before_none (Err event) = refl
 
-before_before : (front bytes : List ℕ) (more : Result (List ℕ) Event) → put_before front (put_before bytes more) ≡ put_before (front ++ bytes) more
-before_before front bytes (Ok more) = ap Ok (sym (append_assoc front bytes more))
-before_before front bytes (Err event) = refl
+before_before : (prefix bytes : List ℕ) (more : Result (List ℕ) Event) → put_before prefix (put_before bytes more) ≡ put_before (prefix ++ bytes) more
+before_before prefix bytes (Ok more) = ap Ok (sym (append_assoc prefix bytes more))
+before_before prefix bytes (Err event) = refl
 
 -- what is due for the streams that are left, after what was read, with so much room left; a mishap of a name changes nothing of it, or is the event
 pub record RestsIn (t : Known) (names : List (List ℕ)) (limit : ℕ) (left : List (List ℕ)) (room : ℕ) (whole : List ℕ) : Type 0 where
@@ -245,8 +248,8 @@ came_in some all old mid new a s (Lacking name) h = lacks_in some all old mid ne
 
 left_at : {X : Type 0} (f : X → List ℕ) (ss : List X) (k : ℕ) (s : X) → k < length ss → s ≡ get_or ss k s → map f (drop k ss) ≡ f s ∷ map f (drop (suc k) ss)
 left_at f ss k s h e =
-    let front : f (get_or ss k s) ≡ f s = ap f (sym e) in
-    rw (drop-cons ss k s) (ap (λ x. x ∷ map f (drop (suc k) ss)) front)
+    let prefix : f (get_or ss k s) ≡ f s = ap f (sym e) in
+    rw (drop-cons ss k s) (ap (λ x. x ∷ map f (drop (suc k) ss)) prefix)
 
 -- a stream that ended the command
 pub stream_err : {X : Type 0} (f : X → List ℕ) (old mid new : InputsState) (flash : Option (List ℕ)) (ss : List X) (k limit room : ℕ) (s : X) (name whole : List ℕ) (event : Event)
@@ -599,3 +602,40 @@ after_by A B (Some t) C due a Next got (inr h) (inr q) = inr (q.1, subst (λ (r 
 pub answers_by : (A B : Type 0) (names : List (List ℕ)) (old new : InputsState) (due : Known → Result A Event) (a : A) (Next : Result A Event → Result B Event → Type 0) (got : Result B Event) → AnswersAs {A = A} (step_over names old new) due (Ok a)
     → (got ≡ Err no_memory) ⊎ (IsPossible got × IsDecided got × Next (Ok a) got) → AnswersBy {A = B} (step_over names old new) (λ t end. Next (due t) end) got
 answers_by A B names old new due a Next got h q flash = after_by A B (with_inputs old.contents flash) (CameIn (step_over names old new)) due a Next got (h flash) q
+
+-- ---- why an input isn't read, whatever it holds
+
+pub unopened_unread : (old new : InputsState) (name : List ℕ) (event : Event) → Unopened old name new event → IsUnread name event
+unopened_unread old new name event (inl h, s) = inr (inl h.0)
+unopened_unread old new name event (inr h, s) = inr (inr (inl h.0))
+
+pub turn_unread : (old new : InputsState) (name : List ℕ) (left : ℕ) (event : Event) → Unread old name new left event → IsUnread name event
+turn_unread old new name left event (inl h) = inr (inr (inl h.0))
+turn_unread old new name left event (inr h) = inr (inr (inr h.0))
+
+pub want_unread : (old new : InputsState) (name : List ℕ) (limit : ℕ) (event : Event) → (event ≡ no_memory) ⊎ UnreadRest old name new limit event → IsUnread name event
+want_unread old new name limit event (inl e) = inl e
+want_unread old new name limit event (inr h) = turn_unread old new name limit event h.0
+
+-- a header that is refused
+refused_by : (name bytes : List ℕ) (read : Result (Contents × ℕ) HeaderFault) (event : Event) → Err event ≡ data_by name bytes read → (place : ℕ) × (event ≡ bad_input name (input.Byte place))
+refused_by name bytes (Ok head) event e = absurd (cc)
+refused_by name bytes (Err header.Raw) event e = absurd (cc)
+refused_by name bytes (Err (header.Cut place)) event e = (place, cc)
+refused_by name bytes (Err (header.Field place)) event e = (place, cc)
+
+pub header_refused : (name bytes : List ℕ) (event : Event) → Err event ≡ data_in name bytes → IsUnplayed name event
+header_refused name bytes event e = inr (refused_by name bytes (header_at bytes) event e)
+
+-- a part file that gives no part
+pub no_part : (name : List ℕ) (fault : PartFault) (event : Event) → event ≡ part_event name fault → IsNoPart name event
+no_part name part.NoMemory event e = inl (inl e)
+no_part name part.Toml event e = inr (part.Toml, e)
+no_part name (part.Key which) event e = inr (part.Key which, e)
+no_part name (part.Range which) event e = inr (part.Range which, e)
+no_part name (part.SameRow row) event e = inr (part.SameRow row, e)
+no_part name (part.TooMany frames) event e = inr (part.TooMany frames, e)
+
+-- a stream of several
+pub one_unplayed : {X : Type 0} (f : X → List ℕ) (ss : List X) (k : ℕ) (s : X) (name : List ℕ) (event : Event) → k < length ss → s ≡ get_or ss k s → name ≡ f s → IsUnplayed name event → IsOneUnplayed (map f ss) event
+one_unplayed f ss k s name event h e nm u = inr (name, (rw nm (among_at f ss k s h e), u))

@@ -1,4 +1,4 @@
--- What is known of the inputs and of a flash, and what steps over it come to: reading an input, a part file or a stream, and playing streams (this project's choice).
+-- What is known of the inputs and of a flash, and what steps over it come to: reading an input, a part file, a stream, or streams one after the other (this project's choice).
 use Rattle.std.specs.Prelude.{ℕ, List, [], ◌∷◌, ◌++◌, ◌-◌, Option, None, Some, Result, Ok, Err, Bool, if◌then◌else◌, drop, length, nat_lt, take}
 use Rattle.std.specs.Str.{bytes_eq}
 use Rattle.x7_header.specs.Header.{Contents}

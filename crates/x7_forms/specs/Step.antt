@@ -3,7 +3,9 @@ use Rattle.std.specs.Prelude.{◌≡◌, ℕ, Bool, false, List, [], ◌∷◌, 
 use Rattle.x7_words.specs.Count.{HasRisen}
 use Rattle.x7_words.specs.Input.{InputsState}
 use Rattle.x7_forms.specs.declared.refusal.Refusal.{Refusal}
-use Rattle.x7_forms.specs.Event.{Event, Cause, Absence, Contents, cause_of, no_memory}
+use Rattle.x7_part.specs.declared.fault.PartFault.{PartFault}
+use Rattle.x7_forms.specs.declared.bad_input.InputFault.TheVariants as input
+use Rattle.x7_forms.specs.Event.{Event, Cause, Absence, Contents, bad_input, bad_part, cause_of, missing, no_memory, read_fault, too_large}
 use Rattle.x7_forms.specs.Known.{Failing, Known, Lacking, Mishap, StreamRead, data_of, mishap_event, read_of, stream_limit, whole_in, with_inputs, with_mishap}
 use Rattle.x7_forms.specs.Message.{event_of}
 
@@ -75,7 +77,7 @@ abbrev pub IsDecided : {A : Type 0} → Result A Event → Type 0
 IsDecided (Ok a) = Unit {0}
 IsDecided (Err event) = DecidedBy (cause_of event)
 
--- what contents that are not known may come to
+-- what contents that are not known may come to: an event that lies in them; which name it has, and which reason, a step says by a clause of its own
 abbrev pub PossibleBy : Cause → Type 0
 PossibleBy Contents = Unit {0}
 PossibleBy _ = ⊥
@@ -104,6 +106,24 @@ AnswersBy step Due got = (flash : Option (List ℕ)) → IsCausedBy (with_inputs
 -- the same where a function of what is known says what is due
 abbrev pub AnswersAs : {A : Type 0} → InputStep → (Known → Result A Event) → Result A Event → Type 0
 AnswersAs step due got = AnswersBy step (λ known end. due known ≡ end) got
+
+-- ---- why a step came to nothing, whatever the inputs hold
+
+-- an input of this name isn't read: want of memory, it isn't there, it failed, or it is over its limit
+abbrev pub IsUnread : List ℕ → Event → Type 0
+IsUnread name event = (event ≡ no_memory) ⊎ ((event ≡ missing name) ⊎ ((event ≡ read_fault name) ⊎ (event ≡ too_large name)))
+
+-- the same of a part file, which may give no part
+abbrev pub IsNoPart : List ℕ → Event → Type 0
+IsNoPart name event = IsUnread name event ⊎ ((fault : PartFault) × (event ≡ bad_part name fault))
+
+-- the same of a stream, whose header may be refused
+abbrev pub IsUnplayed : List ℕ → Event → Type 0
+IsUnplayed name event = IsUnread name event ⊎ ((place : ℕ) × (event ≡ bad_input name (input.Byte place)))
+
+-- want of memory, or one of these streams isn't read
+abbrev pub IsOneUnplayed : List (List ℕ) → Event → Type 0
+IsOneUnplayed names event = (event ≡ no_memory) ⊎ ((name : List ℕ) × (Among names name × IsUnplayed name event))
 
 -- ---- steps that read
 

@@ -1,5 +1,5 @@
 //! A device that plays bytes piece by piece, and the words that it reads out.
-ghost use Rattle.std.specs.Prelude.{◌≡◌, ◌++◌, ◌+◌, ◌<◌, ◌≤◌, ℕ, List, [], true, false, Ok, Err, length, vec_capacity, vec_len, IfOk, OnErr, OnOk};
+ghost use Rattle.std.specs.Prelude.{◌≡◌, ◌++◌, ◌+◌, ◌<◌, ◌≤◌, ℕ, List, [], true, false, Ok, Err, length, vec_capacity, vec_len, IfOk, IsOk, OnErr, OnOk};
 ghost use Rattle.x7_part.specs.Part.{PartData};
 ghost use Rattle.x7_forms.specs.Play.{HasPlayed, MayPlay, MayPlayBy, PlaysOn, emptied, FeedsOn, FeedsPrefix, OfPrefix, PlaysPrefix, play_state};
 
@@ -90,12 +90,13 @@ impl Player {
         })
     }
 
-    /// Plays the bytes of a piece, up to one that stops the device. Where more words than the limit were read out, nothing
-    /// more is played. After an error the device has taken some first bytes of the piece, and has the words that these read
-    /// out but for those that are still due.
+    /// Plays the bytes of a piece, up to one that stops the device. A player that is over plays nothing and stays as it is.
+    /// After an error the device has taken some first bytes of the piece, and has the words that these read out but for those
+    /// that are still due.
     pub fn play(&mut self, piece: &[u8]) -> Result<(), NoMemory>
         requires { MayPlay self.old (length piece.now) }
         ensures ok { OnOk result (PlaysOn self.old self.new piece.now) }
+        ensures over { self.old.over ≡ true → IsOk result × (self.new ≡ self.old) }
         ensures prefix { OnErr result (OfPrefix piece.now (PlaysPrefix self.old self.new)) }
         ensures not_over { OnErr result (self.new.over ≡ false) }
         ensures buffer { OnErr result (self.new.buffer ≡ emptied) }

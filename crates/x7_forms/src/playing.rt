@@ -1,4 +1,4 @@
-//! The command `play`.
+//! Reading a part file, and playing the data of streams while they are read.
 ghost use Rattle.std.specs.Prelude.{◌≡◌, ℕ, List, [], ◌∷◌, ◌++◌, ◌+◌, ◌<◌, ◌≤◌, ◌⊎◌, true, length, map, string_bytes, Ok, Err, IfErr, IfOk};
 ghost use Rattle.x7_words.specs.Input.{AtEnd, Stays};
 ghost use Rattle.x7_forms.specs.Message.{event_of};
@@ -6,7 +6,7 @@ ghost use Rattle.x7_forms.specs.Event.{no_memory};
 ghost use Rattle.x7_forms.specs.Known.{part_of as part_due};
 ghost use Rattle.x7_forms.specs.Play.{HasPlayed, MayPlay, PlaysOn, part_event, PlaysStream};
 ghost use Rattle.x7_forms.specs.Turn.{ReadsRest, UnreadRest};
-ghost use Rattle.x7_forms.specs.Step.{AnswersAs, seen, ReadsStream, ReadsStreams, step_over};
+ghost use Rattle.x7_forms.specs.Step.{AnswersAs, IsNoPart, IsOneUnplayed, IsUnplayed, seen, ReadsStream, ReadsStreams, step_over};
 
 use crate::player::Player;
 use crate::read::{STREAM_LIMIT, data_start, next_turn, open, read_whole, skip_rest};
@@ -42,6 +42,7 @@ pub fn read_part<'w, I: Inputs>(
 ) -> Result<Part, Refusal<'w>>
     ensures due { AnswersAs (step_over (name.now ∷ []) (I.state inputs.old) (I.state inputs.new))
         (λ known. part_due known name.now) (seen (λ part. part) result) }
+    ensures named { IfErr result (λ r. IsNoPart name.now (event_of r)) }
     ensures inputs { Stays (I.state inputs.old) (I.state inputs.new) }
 {
     let text = match read_whole(alloc, inputs, name, PART_LIMIT) {
@@ -105,6 +106,7 @@ fn play_stream<'w, I: Inputs>(
     requires may { MayPlay player.old limit }
     ensures ok { IfOk result (λ left. PlaysStream limit left (PlaysOn player.old player.new) (ReadsStream (I.state inputs.old) (I.state inputs.new) limit name.now)) }
     ensures err { IfErr result (λ r. ReadsStream (I.state inputs.old) (I.state inputs.new) limit name.now (Err (event_of r))) }
+    ensures named { IfErr result (λ r. IsUnplayed name.now (event_of r)) }
     ensures length { length piece.new ≡ length piece.old }
     ensures inputs { Stays (I.state inputs.old) (I.state inputs.new) }
 {
@@ -141,6 +143,7 @@ pub fn play_streams<'w, I: Inputs>(
 ) -> Result<Player, Refusal<'w>>
     ensures ok { IfOk result (λ player. (bytes : List ℕ) × HasPlayed part.now bytes player × ReadsStreams (I.state inputs.old) (I.state inputs.new) (map string_bytes streams.now) (Ok bytes)) }
     ensures err { IfErr result (λ r. ReadsStreams (I.state inputs.old) (I.state inputs.new) (map string_bytes streams.now) (Err (event_of r))) }
+    ensures named { IfErr result (λ r. IsOneUnplayed (map string_bytes streams.now) (event_of r)) }
     ensures inputs { Stays (I.state inputs.old) (I.state inputs.new) }
 {
     let Ok(mut player) = Player::new(alloc, part) else {

@@ -6,7 +6,7 @@ ghost use Rattle.x7_forms.specs.Message.{event_of};
 ghost use Rattle.x7_forms.specs.Event.{no_memory, read_fault, too_large};
 ghost use Rattle.x7_forms.specs.Known.{data_in};
 ghost use Rattle.x7_forms.specs.Turn.{Breaks, ReadsRest, Unopened, Unread, UnreadRest};
-ghost use Rattle.x7_forms.specs.Step.{ReadsWhole, seen};
+ghost use Rattle.x7_forms.specs.Step.{IsUnread, ReadsWhole, seen};
 
 use crate::bad_input::InputFault;
 use crate::refusal::{Refusal, Why};
@@ -169,6 +169,7 @@ pub fn read_whole<'w, I: Inputs>(
     limit: usize,
 ) -> Result<Vec<u8>, Refusal<'w>>
     ensures due { ReadsWhole (I.state inputs.old) (I.state inputs.new) limit name.now (seen (λ whole. whole.items) result) }
+    ensures named { IfErr result (λ r. IsUnread name.now (event_of r)) }
     ensures within { IfOk result (λ whole. vec_len whole ≤ limit) }
     ensures inputs { Stays (I.state inputs.old) (I.state inputs.new) }
 {

@@ -94,8 +94,8 @@ pairs-long (a ∷ b ∷ cs) bytes e = by (λ xs f. pairs-long cs xs f) (byte_of 
 
 -- bytes before others that may be none
 pub behind : List ℕ → Option (List ℕ) → Option (List ℕ)
-behind front None = None
-behind front (Some bytes) = Some (front ++ bytes)
+behind prefix None = None
+behind prefix (Some bytes) = Some (prefix ++ bytes)
 
 behind-none : (o : Option (List ℕ)) → o ≡ behind [] o
 unfolding behind
@@ -163,6 +163,6 @@ unfolding behind
 block-read ds old new read blocks k d e h n at fits was now =
     let here : take 64 (drop (64 * k) ds) ≡ flat_map hex_byte read =
     sym (ap (λ (t : List (List ℕ)). get_or t k d) e ∙ chunk-at 64 (length ds / 64) k ds d (omega (arith, h, n))) ∙ at in
-    let front : take (64 * (k + 1)) ds ≡ take (64 * k) ds ++ take 64 (drop (64 * k) ds) = ap (λ (j : ℕ). take j ds) (let j : 64 * (k + 1) ≡ 64 * k + 64 = omega arith in j) ∙ take-add (64 * k) 64 ds in
-    ap pairs (front ∙ ap (λ (t : List ℕ). take (64 * k) ds ++ t) here) ∙ pairs-on (take (64 * k) ds) (flat_map hex_byte read) (take (32 * k) old) was ∙ ap (behind (take (32 * k) old)) (pairs-back read fits)
+    let prefix : take (64 * (k + 1)) ds ≡ take (64 * k) ds ++ take 64 (drop (64 * k) ds) = ap (λ (j : ℕ). take j ds) (let j : 64 * (k + 1) ≡ 64 * k + 64 = omega arith in j) ∙ take-add (64 * k) 64 ds in
+    ap pairs (prefix ∙ ap (λ (t : List ℕ). take (64 * k) ds ++ t) here) ∙ pairs-on (take (64 * k) ds) (flat_map hex_byte read) (take (32 * k) old) was ∙ ap (behind (take (32 * k) old)) (pairs-back read fits)
     ∙ ap Some (sym now ∙ ap (λ (j : ℕ). take j new) (let j : 32 * k + 32 ≡ 32 * (k + 1) = omega arith in j))

@@ -59,20 +59,20 @@ record Parts (width : ℕ) (first second : List (List ℕ)) (rows : List PlanRow
   before : List PlanRow
   after : List PlanRow
   joined : rows ≡ before ++ after
-  front : AreLines width first before
+  prefix : AreLines width first before
   back : AreLines width second after
 
 parts : (width : ℕ) (first second all : List (List ℕ)) (rows : List PlanRow) → all ≡ first ++ second → AreLines width all rows → Parts width first second rows
-parts width [] second all rows e l = record { before = []; after = rows; joined = refl; front = no_line width; back = subst (λ a. AreLines width a rows) e l }
+parts width [] second all rows e l = record { before = []; after = rows; joined = refl; prefix = no_line width; back = subst (λ a. AreLines width a rows) e l }
 parts width (t ∷ ts) second _ _ e (no_line w) = absurd cc
 parts width (t ∷ ts) second _ _ e (no_frame w s ss rows f more) =
     let head : s ≡ t = cc in let tail : ss ≡ ts ++ second = cc in
     let p = parts width ts second ss rows tail more in
-    record { before = p.before; after = p.after; joined = p.joined; front = no_frame width t ts p.before (ap means_nothing (sym head) ∙ f) p.front; back = p.back }
+    record { before = p.before; after = p.after; joined = p.joined; prefix = no_frame width t ts p.before (ap means_nothing (sym head) ∙ f) p.prefix; back = p.back }
 parts width (t ∷ ts) second _ _ e (frame w s ss row rows is more) =
     let head : s ≡ t = cc in let tail : ss ≡ ts ++ second = cc in
     let p = parts width ts second ss rows tail more in
-    record { before = row ∷ p.before; after = p.after; joined = ap (λ x. row ∷ x) p.joined; front = frame width t ts row p.before (subst (λ l. IsFrameLine width l row) head is) p.front; back = p.back }
+    record { before = row ∷ p.before; after = p.after; joined = ap (λ x. row ∷ x) p.joined; prefix = frame width t ts row p.before (subst (λ l. IsFrameLine width l row) head is) p.prefix; back = p.back }
 
 first-line : (width : ℕ) (line : List ℕ) (more all : List (List ℕ)) (rows : List PlanRow) → all ≡ line ∷ more → AreLines width all rows
     → (means_nothing line ≡ true) ⊎ ((row : PlanRow) × (rest : List PlanRow) × (rows ≡ row ∷ rest) × IsFrameLine width line row)
@@ -87,7 +87,7 @@ module _ (part : PartData) (before after : List (List ℕ)) (line : List ℕ) (r
   in_parts = parts (frame_words part) before (line ∷ after) (before ++ line ∷ after) all refl whole.read
 
   same-rows : in_parts.before ≡ rows
-  same-rows = one-rows (frame_words part) before before in_parts.before rows refl in_parts.front good.read
+  same-rows = one-rows (frame_words part) before before in_parts.before rows refl in_parts.prefix good.read
 
   -- the line means nothing, or its row is behind the others
   next-row : (means_nothing line ≡ true) ⊎ ((row : PlanRow) × (rest : List PlanRow) × (all ≡ rows ++ row ∷ rest) × IsFrameLine (frame_words part) line row)

@@ -8,9 +8,9 @@ use Rattle.x7_frames.specs.FramesText.{frame_line}
 pub line-put : (old r1 p1 p2 p3 r2 w last a b c d e : List ℕ) → r1 ≡ old → p1 ≡ r1 ++ a → p2 ≡ p1 ++ b → p3 ≡ p2 ++ c → r2 ≡ p3 → w ≡ r2 ++ d → last ≡ w ++ e
     → last ≡ old ++ ((a ++ (b ++ c)) ++ (d ++ e))
 line-put old r1 p1 p2 p3 r2 w last a b c d e h1 h2 h3 h4 h5 h6 h7 =
-    let front : r2 ≡ old ++ (a ++ (b ++ c)) =
+    let prefix : r2 ≡ old ++ (a ++ (b ++ c)) =
     h5 ∙ h4 ∙ ap (λ t. t ++ c) (h3 ∙ ap (λ t. t ++ b) (h2 ∙ ap (λ t. t ++ a) h1)) ∙ append_assoc (old ++ a) b c ∙ append_assoc old a (b ++ c) in
-    h7 ∙ ap (λ t. t ++ e) (h6 ∙ ap (λ t. t ++ d) front) ∙ append_assoc (old ++ (a ++ (b ++ c))) d e ∙ append_assoc old (a ++ (b ++ c)) (d ++ e)
+    h7 ∙ ap (λ t. t ++ e) (h6 ∙ ap (λ t. t ++ d) prefix) ∙ append_assoc (old ++ (a ++ (b ++ c))) d e ∙ append_assoc old (a ++ (b ++ c)) (d ++ e)
 
 pub row-put : (rows : List PlanRow) (i : ℕ) (row : PlanRow) (old new : List ℕ) → i < length rows → get_or rows i row ≡ row → old ≡ flat_map frame_line (take i rows) → new ≡ old ++ frame_line row
     → new ≡ flat_map frame_line (take (i + 1) rows)

@@ -14,8 +14,8 @@ use Rattle.x7_engine.specs.State.{reads_of, stop_in}
 use Rattle.x7_engine.specs.UntilRead.{ReadBefore, no_room}
 use Rattle.x7_engine.proofs.ReadsLemmas.{reads_grow}
 use Rattle.x7_jtag.specs.Port.{words_read}
-use Rattle.x7_jtag.specs.Queue.{Queue, dropped, in_turn, most_held, offered, waits, with_room}
-use Rattle.x7_jtag.specs.Tap.{Holds, QueueStandsFor, QueueState, Stands, Took, given_by, words_taken}
+use Rattle.x7_jtag.specs.Queue.{Queue, dropped, in_turn, most_held, offered, waits, with_room, queue_of}
+use Rattle.x7_jtag.specs.Tap.{Holds, QueueStandsFor, QueueState, Took, given_by, words_taken}
 use Rattle.x7_jtag.proofs.TookLemmas.{reads-took, taken-all, took-more}
 
 -- ---- bytes offered while no word waits
@@ -36,7 +36,7 @@ fold-given reads given held (x ∷ xs) out f =
     ∙ fold-given reads (given ++ x ∷ []) held xs out (λ k l. ap (λ (g : List ℕ). waits reads g out) (append_assoc given (x ∷ []) (take k xs)) ∙ f (suc k) (omega (arith, l)))
     ∙ ap (λ (g : List ℕ). record { given = g; held = held; out = out }) (append_assoc given (x ∷ []) xs)
 
-fold-stands : (part : PartData) (n : QueueState) (e : DeviceState) (q : Queue) (xs : List ℕ) → ((k : ℕ) → k < length xs → waits (words_read part) (q.given ++ take k xs) q.out ≡ false) → Stands part n e (q.given ++ xs) q.held q.out
+fold-stands : (part : PartData) (n : QueueState) (e : DeviceState) (q : Queue) (xs : List ℕ) → ((k : ℕ) → k < length xs → waits (words_read part) (q.given ++ take k xs) q.out ≡ false) → QueueStandsFor part n e (queue_of (q.given ++ xs) q.held q.out)
     → QueueStandsFor part n e (fold (offered (words_read part)) q xs)
 fold-stands part n e q xs f s = subst (QueueStandsFor part n e) (sym (fold-given (words_read part) q.given q.held xs q.out f)) s
 
@@ -53,17 +53,17 @@ module _ (part : PartData) (given bytes piece : List ℕ) (t : ℕ) where
   took-piece : (count : ℕ) → AreBytes piece → t ≤ count → count ≤ length piece → Took part given bytes → (IsSome (stop_in part on_the_bench bytes) → t ≡ 0) → IsSome (stop_in part on_the_bench (bytes ++ take t piece)) ⊎ (t ≡ count)
       → Took part (given ++ take count piece) (bytes ++ take t piece)
   took-piece count f l m took z over =
-      let front : List ℕ = take count piece in
-      let same : take t front ≡ take t piece = take-take t count piece l in
-      let long : length front ≡ count = length-take-le count piece m in
-      let ends : IsSome (stop_in part on_the_bench (bytes ++ take t front)) ⊎ (t ≡ length front) = elim over [
+      let prefix : List ℕ = take count piece in
+      let same : take t prefix ≡ take t piece = take-take t count piece l in
+      let long : length prefix ≡ count = length-take-le count piece m in
+      let ends : IsSome (stop_in part on_the_bench (bytes ++ take t prefix)) ⊎ (t ≡ length prefix) = elim over [
         | inl s ↦ inl (subst (λ (x : List ℕ). IsSome (stop_in part on_the_bench (bytes ++ x))) (sym same) s)
         | inr e ↦ inr (e ∙ sym long)
       ] in
-      subst (λ (x : List ℕ). Took part (given ++ front) (bytes ++ x)) same (took-more part given bytes front t (front-bytes count piece f) took z ends)
+      subst (λ (x : List ℕ). Took part (given ++ prefix) (bytes ++ x)) same (took-more part given bytes prefix t (front-bytes count piece f) took z ends)
 
-  holds-piece : (k : QueueState) (d e : DeviceState) (held : List ℕ) (out count : ℕ) → (h : Holds part k d given held out) → h.bytes ≡ bytes → k.left ≡ 0 → Took part (given ++ take count piece) (bytes ++ take t piece)
-      → DeviceStandsFor part on_the_bench false e (bytes ++ take t piece) → words_taken part e (bytes ++ take t piece) ≡ words_taken part d bytes → Holds part k e (given ++ take count piece) held out
+  holds-piece : (k : QueueState) (d e : DeviceState) (held : List ℕ) (out count : ℕ) → (h : Holds part k d (queue_of given held out)) → h.bytes ≡ bytes → k.left ≡ 0 → Took part (given ++ take count piece) (bytes ++ take t piece)
+      → DeviceStandsFor part on_the_bench false e (bytes ++ take t piece) → words_taken part e (bytes ++ take t piece) ≡ words_taken part d bytes → Holds part k e (queue_of (given ++ take count piece) held out)
   holds-piece k d e held out count h is z took stands same = record {
     bytes = bytes ++ take t piece;
     took = took;
@@ -72,7 +72,7 @@ module _ (part : PartData) (given bytes piece : List ℕ) (t : ℕ) where
     held_fits = h.held_fits;
     out_is = omega (arith, h.out_is, ap length same, ap (λ (b : List ℕ). length (words_taken part d b)) is);
     left_is = h.left_is;
-    front = [];
+    prefix = [];
     word_is = λ m. absurd (omega (arith, m, z));
   }
 
@@ -104,7 +104,7 @@ given-is part given bytes n t z l = by t.over
 
 -- what is to be shown of a piece of which so many bytes are given
 record Given (part : PartData) (k : QueueState) (d e : DeviceState) (q : Queue) (piece : List ℕ) (count : ℕ) : Type 0 where
-  pub holds : Holds part k e (q.given ++ take count piece) q.held q.out
+  pub holds : Holds part k e (queue_of (q.given ++ take count piece) q.held q.out)
   pub quiet : (i : ℕ) → i < length (take count piece) → waits (words_read part) (q.given ++ take i (take count piece)) q.out ≡ false
 
 module _ (part : PartData) (k : QueueState) (d e : DeviceState) (q : Queue) (piece : List ℕ) where
@@ -112,7 +112,7 @@ module _ (part : PartData) (k : QueueState) (d e : DeviceState) (q : Queue) (pie
       → NoWordDue e → IsSome (stop_in part on_the_bench (s.holds.bytes ++ take t piece)) ⊎ (t ≡ length piece)
       → words_taken part e (s.holds.bytes ++ take t piece) ≡ words_taken part d s.holds.bytes → (IsSome (stop_in part on_the_bench s.holds.bytes) → t ≡ 0) → Given part k d e q piece (length piece)
   given-whole t s z f l stands due over same stopped =
-      let h : Holds part k d q.given q.held q.out = s.holds in
+      let h : Holds part k d q = s.holds in
       let took : Took part (q.given ++ take (length piece) piece) (h.bytes ++ take t piece) = took-piece part q.given h.bytes piece t (length piece) f l (omega arith) h.took stopped over in
       record {
         holds = holds-piece part q.given h.bytes piece t k d e q.held q.out (length piece) h refl z took stands same;
@@ -124,7 +124,7 @@ module _ (part : PartData) (k : QueueState) (d e : DeviceState) (q : Queue) (pie
       → words_taken part e (s.holds.bytes ++ take n piece) ≡ words_taken part d s.holds.bytes → (IsSome (stop_in part on_the_bench s.holds.bytes) → n ≡ 0)
       → ReadBefore (record { part = part; kept = on_the_bench; wrapped = false; bytes = s.holds.bytes }) piece n (words_taken part d s.holds.bytes) → Given part k d e q piece n
   given-front n s z f l stands same stopped before =
-      let h : Holds part k d q.given q.held q.out = s.holds in
+      let h : Holds part k d q = s.holds in
       let took : Took part (q.given ++ take n piece) (h.bytes ++ take n piece) = took-piece part q.given h.bytes piece n n f (omega arith) l h.took stopped (inr refl) in
       let long : length (take n piece) ≡ n = length-take-le n piece l in
       record {
@@ -153,12 +153,12 @@ pub gives : (part : PartData) (k n : QueueState) (d e g : DeviceState) (q : Queu
     → words_taken part e (s.holds.bytes ++ take (taken_in (length piece) f) piece) ≡ words_taken part d s.holds.bytes
     → ReadBefore (record { part = part; kept = on_the_bench; wrapped = false; bytes = s.holds.bytes }) piece (taken_in (length piece) f) (words_taken part d s.holds.bytes)
     → (IsSome (stop_in part on_the_bench s.holds.bytes) → (e ≡ d) × (taken_in (length piece) f ≡ 0)) → count ≡ given_by f (length piece)
-    → ((given held : List ℕ) (out : ℕ) → Holds part k e given held out → Stands part n g (given ++ []) held out)
+    → ((given held : List ℕ) (out : ℕ) → Holds part k e (queue_of given held out) → QueueStandsFor part n g (queue_of (given ++ []) held out))
     → QueueStandsFor part n g (fold (offered (words_read part)) q (take count piece))
 gives part k n d e g q piece f count s z b l stands a same before stopped is next =
     let m : ℕ = given_by f (length piece) in
     let given : Given part k d e q piece m = given-by part k d e q piece f s z b l stands a same before (λ x. (stopped x).1) in
-    let all : Stands part n g (q.given ++ take m piece) q.held q.out = subst (λ (x : List ℕ). Stands part n g x q.held q.out) (append-nil (q.given ++ take m piece)) (next (q.given ++ take m piece) q.held q.out given.holds) in
+    let all : QueueStandsFor part n g (queue_of (q.given ++ take m piece) q.held q.out) = subst (λ (x : List ℕ). QueueStandsFor part n g (queue_of x q.held q.out)) (append-nil (q.given ++ take m piece)) (next (q.given ++ take m piece) q.held q.out given.holds) in
     subst (λ (c : ℕ). QueueStandsFor part n g (fold (offered (words_read part)) q (take c piece))) (sym is) (fold-stands part n g q (take m piece) given.quiet all)
 
 -- no more bytes are given than the device took and the piece has

@@ -16,7 +16,8 @@ use Rattle.x7_engine.proofs.StateLemmas.{stop_is_final-stop}
 use Rattle.x7_jtag.specs.Port.{port_after, words_read}
 use Rattle.x7_jtag.specs.Shown.{bytes_taken, state_shown}
 use Rattle.x7_jtag.specs.States.{Clock}
-use Rattle.x7_jtag.specs.Tap.{Holds, Stands, TapStandsFor, TapState, Took, words_taken, QueueState}
+use Rattle.x7_jtag.specs.Queue.{queue_of}
+use Rattle.x7_jtag.specs.Tap.{Holds, TapStandsFor, TapState, Took, words_taken, QueueState, QueueStandsFor}
 use Rattle.x7_jtag.proofs.TookLemmas.{reads-took}
 
 place-of : (n : ℕ) (line : Option Stop) (s : Stopped) → stopped_at n line ≡ Some s → s.place ≡ n
@@ -44,13 +45,13 @@ took-first part given bytes d t s = took-by part given bytes d t s (stop_in part
 pub device-is : (part : PartData) (t : TapState) (d : DeviceState) (cs : List Clock) → TapStandsFor part t d cs
     → DeviceStandsFor part on_the_bench false d (take (taken_of part on_the_bench (port_after part cs).queue.given) (port_after part cs).queue.given)
 device-is part t d cs s =
-    let h : Holds part t.queue d (port_after part cs).queue.given (port_after part cs).queue.held (port_after part cs).queue.out = s.queue_is.holds in
+    let h : Holds part t.queue d (port_after part cs).queue = s.queue_is.holds in
     subst (DeviceStandsFor part on_the_bench false d) (took-first part (port_after part cs).queue.given h.bytes d h.took h.device) h.device
 
 -- the words due are those after the word whose bits go out
-due-by : (part : PartData) (k : QueueState) (d : DeviceState) (given held : List ℕ) (out : ℕ) → Stands part k d given held out → due_count d.registers.due ≡ length (words_read part given) - (out / 32 + 1)
+due-by : (part : PartData) (k : QueueState) (d : DeviceState) (given held : List ℕ) (out : ℕ) → QueueStandsFor part k d (queue_of given held out) → due_count d.registers.due ≡ length (words_read part given) - (out / 32 + 1)
 due-by part k d given held out s =
-    let h : Holds part k d given held out = s.holds in
+    let h : Holds part k d (queue_of given held out) = s.holds in
     let reads : List ℕ = reads_of part on_the_bench h.bytes in
     let left : List ℕ = words_left part (history_taken part on_the_bench h.bytes) d.registers.due in
     let count : length reads ≡ length h.device.due_are.told + due_count d.registers.due = ap length h.device.due_are.all ∙ length-append h.device.due_are.told left ∙ ap (λ n. length h.device.due_are.told + n) (length_left part (history_taken part on_the_bench h.bytes) d.registers.due) in

@@ -43,9 +43,9 @@ give_held-sound : (reads : List ℕ → List ℕ) → Grows reads → (given hs 
 give_held-sound reads g given [] out r w f = record { within = w; room = r; waiting = λ p. absurd (omega (arith, p)); fits = f }
 give_held-sound reads g given (h ∷ hs) out r w f =
     let all : AreBytes ((given ++ h ∷ []) ++ hs) = subst AreBytes (sym (append_assoc given (h ∷ []) hs)) f in
-    let front : AreBytes (given ++ h ∷ []) = all_front (λ b. b < 256) (given ++ h ∷ []) hs all in
+    let prefix : AreBytes (given ++ h ∷ []) = all_front (λ b. b < 256) (given ++ h ∷ []) hs all in
     give_held-by reads given h hs out (give_held reads (given ++ h ∷ []) hs out) (waits reads given out) refl r w f
-    (give_held-sound reads g (given ++ h ∷ []) hs out (omega (arith, r)) (omega (arith, w, more-read reads g given (h ∷ []) front)) all)
+    (give_held-sound reads g (given ++ h ∷ []) hs out (omega (arith, r)) (omega (arith, w, more-read reads g given (h ∷ []) prefix)) all)
 
 -- with room for a byte that should be held
 record Roomy (reads : List ℕ → List ℕ) (q : Queue) : Type 0 where
@@ -79,8 +79,8 @@ turn-by reads g q x true l e s = record {
   fits = subst AreBytes (append_assoc q.given q.held (x ∷ [])) (all-append (λ b. b < 256) (q.given ++ q.held) (x ∷ []) s.sound.fits (one-byte x l));
 }
 turn-by reads g q x false l e s =
-    let front : AreBytes q.given = all_front (λ b. b < 256) q.given q.held s.sound.fits in
-    let more : AreBytes (q.given ++ x ∷ []) = all-append (λ b. b < 256) q.given (x ∷ []) front (one-byte x l) in
+    let prefix : AreBytes q.given = all_front (λ b. b < 256) q.given q.held s.sound.fits in
+    let more : AreBytes (q.given ++ x ∷ []) = all-append (λ b. b < 256) q.given (x ∷ []) prefix (one-byte x l) in
     let held : q.held ≡ [] = none-held reads q s.sound e in
     record {
       within = omega (arith, s.sound.within, more-read reads g q.given (x ∷ []) more);

@@ -119,10 +119,10 @@ clocks-size part p (c ∷ cs) =
 -- so its device took no more, with the bytes held
 pub held-short : (part : PartData) (t : TapState) (d : DeviceState) (cs : List Clock) → TapStandsFor part t d cs → d.taken + length t.queue.held ≤ length cs
 held-short part t d cs s =
-    let h : Holds part t.queue d (port_after part cs).queue.given (port_after part cs).queue.held (port_after part cs).queue.out = s.queue_is.holds in
+    let h : Holds part t.queue d (port_after part cs).queue = s.queue_is.holds in
     omega (arith, h.device.taken_is, ap length h.took.parts, length-append h.bytes h.took.rest, ap length h.held_is, clocks-size part new_port cs)
 
 pub taken-short : (part : PartData) (t : TapState) (d : DeviceState) (cs : List Clock) → TapStandsFor part t d cs → d.taken ≤ length cs
 taken-short part t d cs s =
-    let h : Holds part t.queue d (port_after part cs).queue.given (port_after part cs).queue.held (port_after part cs).queue.out = s.queue_is.holds in
+    let h : Holds part t.queue d (port_after part cs).queue = s.queue_is.holds in
     omega (arith, h.device.taken_is, ap length h.took.parts, length-append h.bytes h.took.rest, clocks-size part new_port cs)

@@ -11,9 +11,9 @@ module _ (xs : List ℕ) (k at n : ℕ) where
 
   copied-long : k ≤ at → at + n ≤ length xs → length copied ≡ k + n
   copied-long l w =
-      let front : length (take k xs) ≡ k = length-take-le k xs (omega (arith, l, w)) in
+      let prefix : length (take k xs) ≡ k = length-take-le k xs (omega (arith, l, w)) in
       let part : length (take n (drop at xs)) ≡ n = length-take-le n (drop at xs) (omega (arith, w, length-drop at xs)) in
-      omega (arith, length-append (take k xs) (take n (drop at xs)), front, part)
+      omega (arith, length-append (take k xs) (take n (drop at xs)), prefix, part)
 
   shape : copy_within xs at (at + n) k ≡ copied ++ drop (k + n) xs
   shape = let count : at + n - at ≡ n = omega arith in ap (λ (m : ℕ). take k xs ++ take m (drop at xs) ++ drop (k + m) xs) count

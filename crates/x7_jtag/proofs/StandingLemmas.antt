@@ -15,19 +15,19 @@ use Rattle.x7_engine.specs.Standing.{Answers, DeviceStandsFor, DeviceState, NoWo
 use Rattle.x7_engine.specs.State.{history_taken, reads_of, stop_in}
 use Rattle.x7_engine.proofs.FrameLemmas.{length_left}
 use Rattle.x7_jtag.specs.Port.{words_read}
-use Rattle.x7_jtag.specs.Queue.{Queue, bits_read, bit_shown, dropped, empty, in_turn, most_held, give_held, shifted_out, waits, with_room, word_bit}
-use Rattle.x7_jtag.specs.Tap.{Holds, QueueStandsFor, QueueState, Stands, Took, words_taken, with_words}
+use Rattle.x7_jtag.specs.Queue.{Queue, bits_read, bit_shown, dropped, empty, in_turn, most_held, give_held, shifted_out, waits, with_room, word_bit, queue_of}
+use Rattle.x7_jtag.specs.Tap.{Holds, QueueStandsFor, QueueState, Took, words_taken, with_word_taken}
 use Rattle.x7_jtag.proofs.TookLemmas.{goes-on, goes-on-dropping, none-given, reads-took, taken-all, taken-few, taken-first, took-more}
 
 -- ---- what waits
 
-pub none-waits : (part : PartData) (k : QueueState) (d : DeviceState) (given held : List ℕ) (out : ℕ) → Stands part k d given held out → k.left ≡ 0 → waits (words_read part) given out ≡ false
+pub none-waits : (part : PartData) (k : QueueState) (d : DeviceState) (given held : List ℕ) (out : ℕ) → QueueStandsFor part k d (queue_of given held out) → k.left ≡ 0 → waits (words_read part) given out ≡ false
 none-waits part k d given held out s z =
-    let h : Holds part k d given held out = s.holds in
+    let h : Holds part k d (queue_of given held out) = s.holds in
     let all : length (words_read part given) ≡ length (words_taken part d h.bytes) = ap length (reads-took part given h.bytes h.took) ∙ ap length (sym (taken-all part d h.bytes (s.none_due z))) in
     grind (arith, all, h.out_is, z)
 
-pub one-waits : (part : PartData) (k : QueueState) (d : DeviceState) (given held : List ℕ) (out : ℕ) → Holds part k d given held out → 0 < k.left → waits (words_read part) given out ≡ true
+pub one-waits : (part : PartData) (k : QueueState) (d : DeviceState) (given held : List ℕ) (out : ℕ) → Holds part k d (queue_of given held out) → 0 < k.left → waits (words_read part) given out ≡ true
 one-waits part k d given held out h l =
     let all : length (words_read part given) ≡ length (reads_of part on_the_bench h.bytes) = ap length (reads-took part given h.bytes h.took) in
     let few : length (words_taken part d h.bytes) ≤ length (reads_of part on_the_bench h.bytes) = taken-few part d h.bytes in
@@ -35,22 +35,22 @@ one-waits part k d given held out h l =
     grind (arith, more)
 
 -- the bit that is next
-seam : (front more words : List ℕ) (w n : ℕ) → n ≡ length front → words ≡ (front ++ w ∷ []) ++ more → slice_index words n ≡ w
-seam front more words w n e f =
-    ap₂ (λ (i : ℕ) (ws : List ℕ). slice_index ws i) e (f ∙ append_assoc front (w ∷ []) more) ∙ get_or-append_seam front w more 0
+seam : (prefix more words : List ℕ) (w n : ℕ) → n ≡ length prefix → words ≡ (prefix ++ w ∷ []) ++ more → slice_index words n ≡ w
+seam prefix more words w n e f =
+    ap₂ (λ (i : ℕ) (ws : List ℕ). slice_index ws i) e (f ∙ append_assoc prefix (w ∷ []) more) ∙ get_or-append_seam prefix w more 0
 
-pub bit-is : (part : PartData) (k : QueueState) (d : DeviceState) (given held : List ℕ) (out : ℕ) → Holds part k d given held out → 0 < k.left → word_bit (words_read part given) out ≡ (k.word / 2 ^ (k.left - 1) % 2 == 1)
+pub bit-is : (part : PartData) (k : QueueState) (d : DeviceState) (given held : List ℕ) (out : ℕ) → Holds part k d (queue_of given held out) → 0 < k.left → word_bit (words_read part given) out ≡ (k.word / 2 ^ (k.left - 1) % 2 == 1)
 bit-is part k d given held out h l =
     let first : (more : List ℕ) × (words_taken part d h.bytes ++ more ≡ reads_of part on_the_bench h.bytes) = taken-first part d h.bytes in
-    let all : words_read part given ≡ (h.front ++ k.word ∷ []) ++ first.0 = reads-took part given h.bytes h.took ∙ sym first.1 ∙ ap (λ t. t ++ first.0) (h.word_is l) in
-    let count : out + k.left ≡ 32 * (length h.front + 1) = omega (arith, h.out_is, ap length (h.word_is l), length-append h.front (k.word ∷ [])) in
-    let place : out / 32 ≡ length h.front = omega (arith, count, l, h.left_is) in
+    let all : words_read part given ≡ (h.prefix ++ k.word ∷ []) ++ first.0 = reads-took part given h.bytes h.took ∙ sym first.1 ∙ ap (λ t. t ++ first.0) (h.word_is l) in
+    let count : out + k.left ≡ 32 * (length h.prefix + 1) = omega (arith, h.out_is, ap length (h.word_is l), length-append h.prefix (k.word ∷ [])) in
+    let place : out / 32 ≡ length h.prefix = omega (arith, count, l, h.left_is) in
     let shift : 31 - out % 32 ≡ k.left - 1 = omega (arith, count, l, h.left_is) in
-    ap₂ (λ (w n : ℕ). w / 2 ^ n % 2 == 1) (seam h.front first.0 (words_read part given) k.word (out / 32) place all) shift
+    ap₂ (λ (w n : ℕ). w / 2 ^ n % 2 == 1) (seam h.prefix first.0 (words_read part given) k.word (out / 32) place all) shift
 
 -- ---- a bit more is out
 
-pub bit-out : (part : PartData) (k : QueueState) (d : DeviceState) (given held : List ℕ) (out : ℕ) → Holds part k d given held out → 0 < k.left → Holds part (record k { left = k.left - 1 }) d given held (out + 1)
+pub bit-out : (part : PartData) (k : QueueState) (d : DeviceState) (given held : List ℕ) (out : ℕ) → Holds part k d (queue_of given held out) → 0 < k.left → Holds part (record k { left = k.left - 1 }) d (queue_of given held (out + 1))
 bit-out part k d given held out h l = record {
   bytes = h.bytes;
   took = h.took;
@@ -59,16 +59,16 @@ bit-out part k d given held out h l = record {
   held_fits = h.held_fits;
   out_is = omega (arith, h.out_is, l);
   left_is = omega (arith, h.left_is);
-  front = h.front;
+  prefix = h.prefix;
   word_is = λ m. h.word_is l;
 }
 
 -- ---- a byte is held
 
-pub held-more : (part : PartData) (k n : QueueState) (d : DeviceState) (given held : List ℕ) (out x : ℕ) → x < 256 → n ≡ record k { held = k.held ++ x ∷ [] } → Stands part k d given held out → Stands part n d given (held ++ x ∷ []) out
+pub held-more : (part : PartData) (k n : QueueState) (d : DeviceState) (given held : List ℕ) (out x : ℕ) → x < 256 → n ≡ record k { held = k.held ++ x ∷ [] } → QueueStandsFor part k d (queue_of given held out) → QueueStandsFor part n d (queue_of given (held ++ x ∷ []) out)
 held-more part k n d given held out x f e s =
-    let h : Holds part k d given held out = s.holds in
-    let P : QueueState → Type 0 = λ q. Stands part q d given (held ++ x ∷ []) out in
+    let h : Holds part k d (queue_of given held out) = s.holds in
+    let P : QueueState → Type 0 = λ q. QueueStandsFor part q d (queue_of given (held ++ x ∷ []) out) in
     subst P (sym e) (record {
       holds = record {
         bytes = h.bytes;
@@ -78,17 +78,17 @@ held-more part k n d given held out x f e s =
         held_fits = all-append (λ b. b < 256) held (x ∷ []) h.held_fits (f, tt);
         out_is = h.out_is;
         left_is = h.left_is;
-        front = h.front;
+        prefix = h.prefix;
         word_is = h.word_is;
       };
       none_due = s.none_due;
     })
 
 -- the held bytes stand apart
-pub held-apart : (part : PartData) (k n : QueueState) (d : DeviceState) (given held : List ℕ) (out : ℕ) → n ≡ record k { held = [] } → Stands part k d given held out → Stands part n d given [] out
+pub held-apart : (part : PartData) (k n : QueueState) (d : DeviceState) (given held : List ℕ) (out : ℕ) → n ≡ record k { held = [] } → QueueStandsFor part k d (queue_of given held out) → QueueStandsFor part n d (queue_of given [] out)
 held-apart part k n d given held out e s =
-    let h : Holds part k d given held out = s.holds in
-    let P : QueueState → Type 0 = λ q. Stands part q d given [] out in
+    let h : Holds part k d (queue_of given held out) = s.holds in
+    let P : QueueState → Type 0 = λ q. QueueStandsFor part q d (queue_of given [] out) in
     subst P (sym e) (record {
       holds = record {
         bytes = h.bytes;
@@ -98,7 +98,7 @@ held-apart part k n d given held out e s =
         held_fits = tt;
         out_is = h.out_is;
         left_is = h.left_is;
-        front = h.front;
+        prefix = h.prefix;
         word_is = h.word_is;
       };
       none_due = s.none_due;
@@ -115,20 +115,20 @@ turn-by part k d q x b e s =
 pub turn-held : (part : PartData) (k n : QueueState) (d : DeviceState) (q : Queue) (x : ℕ) → x < 256 → 0 < k.left → n ≡ record k { held = k.held ++ x ∷ [] } → QueueStandsFor part k d q → QueueStandsFor part n d (in_turn (words_read part) q x)
 turn-held part k n d q x f l e s = turn-by part n d q x true (one-waits part k d q.given q.held q.out s.holds l) (held-more part k n d q.given q.held q.out x f e s)
 
-pub turn-given : (part : PartData) (k n : QueueState) (d e : DeviceState) (q : Queue) (x : ℕ) → k.left ≡ 0 → QueueStandsFor part k d q → Stands part n e (q.given ++ x ∷ []) q.held q.out → QueueStandsFor part n e (in_turn (words_read part) q x)
+pub turn-given : (part : PartData) (k n : QueueState) (d e : DeviceState) (q : Queue) (x : ℕ) → k.left ≡ 0 → QueueStandsFor part k d q → QueueStandsFor part n e (queue_of (q.given ++ x ∷ []) q.held q.out) → QueueStandsFor part n e (in_turn (words_read part) q x)
 turn-given part k n d e q x z s t = turn-by part n e q x false (none-waits part k d q.given q.held q.out s z) t
 
 -- ---- what the device was fed
 
-fed-by : (part : PartData) (k n : QueueState) (d e : DeviceState) (given held piece more : List ℕ) (out : ℕ) (read : ReadBufState) (f : Fed) → (h : Holds part k d given held out) → k.left ≡ 0 → AreBytes piece → length piece ≤ 1
+fed-by : (part : PartData) (k n : QueueState) (d e : DeviceState) (given held piece more : List ℕ) (out : ℕ) (read : ReadBufState) (f : Fed) → (h : Holds part k d (queue_of given held out)) → k.left ≡ 0 → AreBytes piece → length piece ≤ 1
     → (0 < length piece → NoWordDue d) → taken_in (length piece) f ≤ length piece
     → DeviceStandsFor part on_the_bench false e (h.bytes ++ take (taken_in (length piece) f) piece)
     → Answers part on_the_bench e (h.bytes ++ take (taken_in (length piece) f) piece) read f
     → words_taken part e (h.bytes ++ take (taken_in (length piece) f) piece) ≡ words_taken part d h.bytes ++ more
     → (IsSome (stop_in part on_the_bench h.bytes) → taken_in (length piece) f ≡ 0)
-    → read ≡ record { most = Some 1; words = more } → length more ≤ 1 → n ≡ with_words k more → Stands part n e (given ++ piece) held out
+    → read ≡ record { most = Some 1; words = more } → length more ≤ 1 → n ≡ with_word_taken k more → QueueStandsFor part n e (queue_of (given ++ piece) held out)
 fed-by part k n d e given held piece [] out read f h z fits few none w stands a grown stopped is l with =
-    let P : QueueState → Type 0 = λ q. Stands part q e (given ++ piece) held out in
+    let P : QueueState → Type 0 = λ q. QueueStandsFor part q e (queue_of (given ++ piece) held out) in
     let empty_read : IsFull read → ⊥ = λ u. absurd (let v : 0 ≡ 1 = subst IsFull is u in omega (arith, v)) in
     let new : List ℕ = h.bytes ++ take (taken_in (length piece) f) piece in
     subst P (sym with) (record {
@@ -140,13 +140,13 @@ fed-by part k n d e given held piece [] out read f h z fits few none w stands a 
         held_fits = h.held_fits;
         out_is = omega (arith, h.out_is, z, ap length grown, length-append (words_taken part d h.bytes) []);
         left_is = h.left_is;
-        front = [];
+        prefix = [];
         word_is = λ m. absurd (omega (arith, m, z));
       };
       none_due = λ m. none-given part e h.bytes piece read f a empty_read;
     })
 fed-by part k n d e given held piece (v ∷ []) out read f h z fits few none w stands a grown stopped is l with =
-    let P : QueueState → Type 0 = λ q. Stands part q e (given ++ piece) held out in
+    let P : QueueState → Type 0 = λ q. QueueStandsFor part q e (queue_of (given ++ piece) held out) in
     let new : List ℕ = h.bytes ++ take (taken_in (length piece) f) piece in
     subst P (sym with) (record {
       holds = record {
@@ -157,7 +157,7 @@ fed-by part k n d e given held piece (v ∷ []) out read f h z fits few none w s
         held_fits = h.held_fits;
         out_is = omega (arith, h.out_is, z, ap length grown, length-append (words_taken part d h.bytes) (v ∷ []));
         left_is = omega arith;
-        front = words_taken part d h.bytes;
+        prefix = words_taken part d h.bytes;
         word_is = λ m. grown;
       };
       none_due = λ m. absurd (omega (arith, m));
@@ -165,30 +165,30 @@ fed-by part k n d e given held piece (v ∷ []) out read f h z fits few none w s
 fed-by part k n d e given held piece (v ∷ u ∷ us) out read f h z fits few none w stands a grown stopped is l with = absurd (omega (arith, l))
 
 -- the same, where the buffer had no word before
-pub fed : (part : PartData) (k n : QueueState) (d e : DeviceState) (given held piece words : List ℕ) (out : ℕ) (old read : ReadBufState) (f : Fed) → (h : Holds part k d given held out) → k.left ≡ 0 → AreBytes piece → length piece ≤ 1
+pub fed : (part : PartData) (k n : QueueState) (d e : DeviceState) (given held piece words : List ℕ) (out : ℕ) (old read : ReadBufState) (f : Fed) → (h : Holds part k d (queue_of given held out)) → k.left ≡ 0 → AreBytes piece → length piece ≤ 1
     → (0 < length piece → NoWordDue d) → taken_in (length piece) f ≤ length piece
     → DeviceStandsFor part on_the_bench false e (h.bytes ++ take (taken_in (length piece) f) piece)
     → Answers part on_the_bench e (h.bytes ++ take (taken_in (length piece) f) piece) read f
     → ((more : List ℕ) × (read ≡ read_with old more) × (words_taken part e (h.bytes ++ take (taken_in (length piece) f) piece) ≡ words_taken part d h.bytes ++ more))
     → (IsSome (stop_in part on_the_bench h.bytes) → (e ≡ d) × (read ≡ old) × (taken_in (length piece) f ≡ 0))
-    → old ≡ record { most = Some 1; words = [] } → words ≡ read.words → HoldsFew read.most words → n ≡ with_words k words → Stands part n e (given ++ piece) held out
+    → old ≡ record { most = Some 1; words = [] } → words ≡ read.words → HoldsFew read.most words → n ≡ with_word_taken k words → QueueStandsFor part n e (queue_of (given ++ piece) held out)
 fed part k n d e given held piece words out old read f h z fits few none w stands a reads stopped is there holds with =
     let more : List ℕ = reads.0 in
     let all : read ≡ record { most = Some 1; words = more } = reads.1 ∙ ap (λ (b : ReadBufState). read_with b more) is in
     let same : words ≡ more = there ∙ ap (λ (b : ReadBufState). b.words) all in
     let count : length words ≤ 1 = subst (λ (m : Option ℕ). HoldsFew m words) (ap (λ (b : ReadBufState). b.most) all) holds in
-    fed-by part k n d e given held piece more out read f h z fits few none w stands a reads.2 (λ s. (stopped s).2) all (omega (arith, count, ap length same)) (with ∙ ap (with_words k) same)
+    fed-by part k n d e given held piece more out read f h z fits few none w stands a reads.2 (λ s. (stopped s).2) all (omega (arith, count, ap length same)) (with ∙ ap (with_word_taken k) same)
 
 -- ---- all that is held is given, and what is read of it dropped
 
-pub all-dropped : (part : PartData) (k n : QueueState) (d e : DeviceState) (given held piece : List ℕ) (out : ℕ) (old read : ReadBufState) (f : Fed) → (s : Stands part k d given held out) → piece ≡ k.held
+pub all-dropped : (part : PartData) (k n : QueueState) (d e : DeviceState) (given held piece : List ℕ) (out : ℕ) (old read : ReadBufState) (f : Fed) → (s : QueueStandsFor part k d (queue_of given held out)) → piece ≡ k.held
     → DeviceStandsFor part on_the_bench false e (s.holds.bytes ++ take (taken_in (length piece) f) piece)
     → Answers part on_the_bench e (s.holds.bytes ++ take (taken_in (length piece) f) piece) read f
     → ((more : List ℕ) × (read ≡ read_with old more) × (words_taken part e (s.holds.bytes ++ take (taken_in (length piece) f) piece) ≡ words_taken part d s.holds.bytes ++ more))
     → (IsSome (stop_in part on_the_bench s.holds.bytes) → (e ≡ d) × (read ≡ old) × (taken_in (length piece) f ≡ 0))
-    → old ≡ record { most = None; words = [] } → n ≡ record { held = []; word = k.word; left = 0 } → Stands part n e (given ++ held) [] (bits_read (words_read part) (given ++ held))
+    → old ≡ record { most = None; words = [] } → n ≡ record { held = []; word = k.word; left = 0 } → QueueStandsFor part n e (queue_of (given ++ held) [] (bits_read (words_read part) (given ++ held)))
 all-dropped part k n d e given held piece out old read f s there stands a reads stopped is with =
-    let h : Holds part k d given held out = s.holds in
+    let h : Holds part k d (queue_of given held out) = s.holds in
     let all : piece ≡ held = there ∙ h.held_is in
     let none : read.most ≡ None = ap (λ (b : ReadBufState). b.most) (reads.1 ∙ ap (λ (b : ReadBufState). read_with b reads.0) is) in
     let full : IsFull read → ⊥ = λ u. subst (λ (m : Option ℕ). IsFullBy m (length read.words)) none u in
@@ -198,7 +198,7 @@ all-dropped part k n d e given held piece out old read f s there stands a reads 
     let due : NoWordDue e = none-given part e h.bytes piece read f a full in
     let took_held : Took part (given ++ held) new = subst (λ p. Took part (given ++ p) new) all took in
     let whole : length (words_read part (given ++ held)) ≡ length (words_taken part e new) = ap length (reads-took part (given ++ held) new took_held) ∙ ap length (sym (taken-all part e new due)) in
-    let P : QueueState → Type 0 = λ q. Stands part q e (given ++ held) [] (bits_read (words_read part) (given ++ held)) in
+    let P : QueueState → Type 0 = λ q. QueueStandsFor part q e (queue_of (given ++ held) [] (bits_read (words_read part) (given ++ held))) in
     subst P (sym with) (record {
       holds = record {
         bytes = new;
@@ -208,7 +208,7 @@ all-dropped part k n d e given held piece out old read f s there stands a reads 
         held_fits = tt;
         out_is = omega (arith, whole);
         left_is = omega arith;
-        front = [];
+        prefix = [];
         word_is = λ m. absurd (omega (arith, m));
       };
       none_due = λ m. due;
@@ -260,17 +260,17 @@ shifts part k n d e q s l t =
     subst (λ (b : Bool). QueueStandsFor part n e (if b then give_held (words_read part) q.given q.held (q.out + 1) else q)) (sym (one-waits part k d q.given q.held q.out s.holds l)) t
 
 pub shifts-last : (part : PartData) (k m n : QueueState) (d e : DeviceState) (q : Queue) → QueueStandsFor part k d q → 0 < k.left → m ≡ record k { left = k.left - 1 }
-    → (Holds part m d q.given q.held (q.out + 1) → QueueStandsFor part n e (give_held (words_read part) q.given q.held (q.out + 1))) → QueueStandsFor part n e (shifted_out (words_read part) q)
+    → (Holds part m d (queue_of q.given q.held (q.out + 1)) → QueueStandsFor part n e (give_held (words_read part) q.given q.held (q.out + 1))) → QueueStandsFor part n e (shifted_out (words_read part) q)
 shifts-last part k m n d e q s l with next =
-    let P : QueueState → Type 0 = λ t. Holds part t d q.given q.held (q.out + 1) in
+    let P : QueueState → Type 0 = λ t. Holds part t d (queue_of q.given q.held (q.out + 1)) in
     shifts part k n d e q s l (next (subst P (sym with) (bit-out part k d q.given q.held q.out s.holds l)))
 
 pub shifts-inside : (part : PartData) (k n : QueueState) (d : DeviceState) (q : Queue) → QueueStandsFor part k d q → 0 < n.left → n ≡ record k { left = k.left - 1 } → QueueStandsFor part n d (shifted_out (words_read part) q)
 shifts-inside part k n d q s l with =
-    let P : QueueState → Type 0 = λ t. Holds part t d q.given q.held (q.out + 1) in
+    let P : QueueState → Type 0 = λ t. Holds part t d (queue_of q.given q.held (q.out + 1)) in
     let some : 0 < k.left = omega (arith, l, ap (λ (t : QueueState). t.left) with) in
-    let h : Holds part n d q.given q.held (q.out + 1) = subst P (sym with) (bit-out part k d q.given q.held q.out s.holds some) in
-    let t : Stands part n d q.given q.held (q.out + 1) = record { holds = h; none_due = λ z. absurd (omega (arith, z, l)) } in
+    let h : Holds part n d (queue_of q.given q.held (q.out + 1)) = subst P (sym with) (bit-out part k d q.given q.held q.out s.holds some) in
+    let t : QueueStandsFor part n d (queue_of q.given q.held (q.out + 1)) = record { holds = h; none_due = λ z. absurd (omega (arith, z, l)) } in
     shifts part k n d d q s some (subst (QueueStandsFor part n d) (sym (held-waits (words_read part) q.given q.held (q.out + 1) (one-waits part n d q.given q.held (q.out + 1) h l))) t)
 
 -- ---- room for a byte
@@ -293,7 +293,7 @@ overflow-is part k d q b s e = by k.left refl
         grind (arith, w, e, l, count)
 
 pub room-made : (part : PartData) (k n : QueueState) (d e : DeviceState) (q : Queue) (b : Bool) → QueueStandsFor part k d q → b ≡ (nat_lt 0 k.left && length k.held == 64) → b ≡ true
-    → Stands part n e (q.given ++ q.held) [] (bits_read (words_read part) (q.given ++ q.held)) → QueueStandsFor part n e (with_room (words_read part) q)
+    → QueueStandsFor part n e (queue_of (q.given ++ q.held) [] (bits_read (words_read part) (q.given ++ q.held))) → QueueStandsFor part n e (with_room (words_read part) q)
 room-made part k n d e q b s is t new = room-by part n e q true (overflow-is part k d q b s is ∙ t) new
 
 pub room-there : (part : PartData) (k : QueueState) (d : DeviceState) (q : Queue) (b : Bool) → QueueStandsFor part k d q → b ≡ (nat_lt 0 k.left && length k.held == 64) → b ≡ false → QueueStandsFor part k d (with_room (words_read part) q)
@@ -317,7 +317,7 @@ resets part n d e part_was s p h z =
         held_fits = tt;
         out_is = omega (arith, z, ap length (taken-all part e [] due), ap length (reads-none part));
         left_is = omega (arith, z);
-        front = [];
+        prefix = [];
         word_is = λ m. absurd (omega (arith, m, z));
       };
       none_due = λ m. due;
@@ -347,7 +347,7 @@ none-of : (xs : List ℕ) → length xs ≡ 0 → xs ≡ []
 none-of [] l = refl
 none-of (x ∷ xs) l = absurd (omega (arith, l))
 
-pub turns-end : (part : PartData) (k l n : QueueState) (d e : DeviceState) (given held all rest : List ℕ) (out : ℕ) → Stands part k d given held out → l ≡ record k { held = [] } → all ≡ k.held → length rest ≡ 0
+pub turns-end : (part : PartData) (k l n : QueueState) (d e : DeviceState) (given held all rest : List ℕ) (out : ℕ) → QueueStandsFor part k d (queue_of given held out) → l ≡ record k { held = [] } → all ≡ k.held → length rest ≡ 0
     → ((m : Queue) → QueueStandsFor part l d m → (p : Queue) × QueueStandsFor part n e p × (fold (in_turn (words_read part)) m all ≡ fold (in_turn (words_read part)) p rest))
     → QueueStandsFor part n e (give_held (words_read part) given held out)
 turns-end part k l n d e given held all rest out s apart whole none turns =

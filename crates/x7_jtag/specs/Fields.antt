@@ -52,17 +52,19 @@ put_field f field.Tdo ds = if is_none f.tdo then Some (record f { tdo = Some ds 
 put_field f field.Mask ds = if is_none f.mask then Some (record f { mask = Some ds }) else None
 put_field f field.Smask ds = if is_none f.smask then Some (record f { smask = Some ds }) else None
 
+-- after a field's name its brackets come next
 abbrev pub named_by : Fields → Option Field → Option Scanning
 named_by f None = None
 named_by f (Some k) = Some (record { at = Named k; fields = f })
 
+-- a field more, which has at least one digit
+abbrev pub closed_field : Fields → Field → List ℕ → Option Fields
+closed_field f k ds = if nat_lt 0 (length ds) then put_field f k ds else None
+
+-- after its brackets another may come
 abbrev pub closed_by : Option Fields → Option Scanning
 closed_by None = None
 closed_by (Some f) = Some (record { at = Between; fields = f })
-
--- a field more, which has a digit
-abbrev pub closed_field : Fields → Field → List ℕ → Option Fields
-closed_field f k ds = if nat_lt 0 (length ds) then put_field f k ds else None
 
 -- one mark more
 abbrev pub scan_step : At → Fields → Mark → Option Scanning
@@ -72,7 +74,7 @@ scan_step (Inside k ds) f (Word w) = if are_hex w then Some (record { at = Insid
 scan_step (Inside k ds) f Close = closed_by (closed_field f k ds)
 scan_step _ f _ = None
 
--- the fields of marks
+-- the fields, where the marks end between two of them
 abbrev pub done : At → Fields → Option Fields
 done Between f = Some f
 done (Named k) f = None
@@ -82,6 +84,7 @@ abbrev pub and_so : Option Scanning → (At → Fields → Option Fields) → Op
 and_so None next = None
 and_so (Some s) next = next s.at s.fields
 
+-- the fields of marks, by where they begin and the fields before them
 abbrev pub scan_from : At → Fields → List Mark → Option Fields
 scan_from at f [] = done at f
 scan_from at f (m ∷ ms) = and_so (scan_step at f m) (λ a g. scan_from a g ms)
@@ -115,6 +118,7 @@ abbrev pub bits_option : ℕ → Option (List ℕ) → Option (List Bool)
 bits_option n None = None
 bits_option n (Some ds) = Some (bits_of n ds)
 
+-- the scan of fields by the digits of TDI
 abbrev pub with_tdi : Bool → ℕ → Fields → Option (List ℕ) → Option Statement
 with_tdi ir n f None = None
 with_tdi ir n f (Some ds) = Some (statement.Scan ir (bits_of n ds) (bits_option n f.tdo) (bits_option n f.mask))
@@ -133,6 +137,7 @@ abbrev pub some_bits : Option ℕ → Option ℕ
 some_bits None = None
 some_bits (Some n) = if n == 0 then None else Some n
 
+-- the scan of so many bits, where that is a number of bits, by the marks after it
 abbrev pub scan_if : Bool → Option ℕ → List Mark → Option Statement
 scan_if ir None ms = None
 scan_if ir (Some n) ms = scan_by ir n (scan_from Between no_fields ms)

@@ -1,5 +1,5 @@
 -- Playing statements: their clocks, up to the first scan whose TDO differs from the wanted bits.
-use Rattle.std.specs.Prelude.{ℕ, zero, suc, ◌+◌, ◌&&◌, not, Bool, true, false, if◌then◌else◌, List, [], ◌∷◌, ◌++◌, length, take, map, fold, Option, Some, None, ◌≤◌, ◌^◌}
+use Rattle.std.specs.Prelude.{ℕ, zero, suc, ◌+◌, ◌-◌, ◌&&◌, not, Bool, true, false, if◌then◌else◌, List, [], ◌∷◌, ◌++◌, length, take, map, fold, Option, Some, None, ◌≡◌, ◌≤◌, ◌^◌}
 use Rattle.std.specs.List.{slice_get}
 use Rattle.x7_part.specs.Part.{PartData}
 use Rattle.x7_jtag.specs.declared.play.Differ.{Differ}
@@ -36,7 +36,7 @@ after_clocks part p cs = fold (clocked part) p cs
 abbrev pub shown_at : PartData → Port → List Bool → ℕ → Bool
 shown_at part p tdi i = tdo_of part (after_clocks part p (take i (shift_clocks tdi)))
 
--- the same of bits that may not be wanted
+-- whether the bit that is shown differs from the wanted one, where bits are wanted and bit i counts
 abbrev pub is_apart : Option (List Bool) → Option (List Bool) → ℕ → Bool → Bool
 is_apart None mask i shown = false
 is_apart (Some tdo) mask i shown = counts mask i && are_apart (bit_at tdo i) shown
@@ -51,24 +51,37 @@ abbrev pub least : (ℕ → Bool) → ℕ → ℕ → Option ℕ
 least holds from zero = None
 least holds from (suc n) = if holds from then Some from else least holds (from + 1) n
 
+-- the bits of a scan: those for TDI, those wanted on TDO, and which of these count
+pub record ScanBits : Type 0 where
+  pub tdi : List Bool
+  pub tdo : Option (List Bool)
+  pub mask : Option (List Bool)
+
+abbrev pub scan_bits : List Bool → Option (List Bool) → Option (List Bool) → ScanBits
+scan_bits tdi tdo mask = record { tdi = tdi; tdo = tdo; mask = mask }
+
 -- whether TDO differs at shift clock i from what is wanted
-abbrev pub differs_at : PartData → Port → List Bool → Option (List Bool) → Option (List Bool) → ℕ → Bool
-differs_at part p tdi tdo mask i = is_apart tdo mask i (shown_at part p tdi i)
+abbrev pub differs_at : PartData → Port → ScanBits → ℕ → Bool
+differs_at part p s i = is_apart s.tdo s.mask i (shown_at part p s.tdi i)
 
--- the least bit at which a scan differs
-abbrev pub shift_difference : PartData → Port → List Bool → Option (List Bool) → Option (List Bool) → Option ℕ
-shift_difference part p tdi tdo mask = least (differs_at part p tdi tdo mask) 0 (length tdi)
+-- the least bit from `first` on at which a scan differs, and the least of all
+abbrev pub difference_from : PartData → Port → ScanBits → ℕ → Option ℕ
+difference_from part p s first = least (differs_at part p s) first (length s.tdi - first)
 
--- the same of a statement, from the port before it
+abbrev pub shift_difference : PartData → Port → ScanBits → Option ℕ
+shift_difference part p s = least (differs_at part p s) 0 (length s.tdi)
+
+-- the least differing bit of a statement, by the port before it
 abbrev pub difference : PartData → Port → Statement → Option ℕ
-difference part p (statement.Scan ir tdi tdo mask) = shift_difference part (after_clocks part p (from_reset p.state ++ to_shift ir)) tdi tdo mask
+difference part p (statement.Scan ir tdi tdo mask) = shift_difference part (after_clocks part p (from_reset p.state ++ to_shift ir)) (scan_bits tdi tdo mask)
 difference part p _ = None
 
--- the first statement that differs, counted from n, with its least differing bit
+-- statement n with its bit, where it differs, and else what a later one comes to
 abbrev pub first_by : Option ℕ → ℕ → Option Differ → Option Differ
 first_by None n later = later
 first_by (Some bit) n later = Some (record { statement = n; bit = bit })
 
+-- the first of statements that differs, counted from n, with its least differing bit
 abbrev pub first_from : PartData → Port → ℕ → List Statement → Option Differ
 first_from part p n [] = None
 first_from part p n (s ∷ ss) = first_by (difference part p s) n (first_from part (after_clocks part p (clocks_of p.state s)) (n + 1) ss)
@@ -91,6 +104,20 @@ port_played part ss = port_after part (clocks_played ss (first_difference part s
 -- clocks that walk from state to state, by their TMS
 abbrev pub walk_clocks : List Bool → List Clock
 walk_clocks path = map (λ tms. clock tms false) path
+
+-- ---- what a step does to a tap and its device
+
+-- it makes these clocks, by the port before them
+abbrev pub Makes : TapState → DeviceState → TapState → DeviceState → (Port → List Clock) → Type 0
+Makes t d u e made = (part : PartData) (cs : List Clock) → TapStandsFor part t d cs → TapStandsFor part u e (cs ++ made (port_after part cs))
+
+-- it finds what is sought, by the port before it
+abbrev pub Finds : TapState → DeviceState → (PartData → Port → Option ℕ) → Option ℕ → Type 0
+Finds t d sought found = (part : PartData) (cs : List Clock) → TapStandsFor part t d cs → found ≡ sought part (port_after part cs)
+
+-- what holds of all clocks after which a tap and its device have made these
+abbrev pub HavingMade : TapState → DeviceState → List Clock → (PartData → List Clock → Type 0) → Type 0
+HavingMade t d made Fact = (part : PartData) (cs : List Clock) → TapStandsFor part t d (cs ++ made) → Fact part cs
 
 -- ---- what a tap and a device are ready for
 

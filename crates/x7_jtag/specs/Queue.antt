@@ -15,6 +15,13 @@ pub record Queue : Type 0 where
   pub held : List ℕ
   pub out : ℕ
 
+abbrev pub queue_of : List ℕ → List ℕ → ℕ → Queue
+queue_of given held out = record { given = given; held = held; out = out }
+
+-- a queue from which more bytes are given
+abbrev pub with_given : Queue → List ℕ → Queue
+with_given q more = record { given = q.given ++ more; held = q.held; out = q.out }
+
 -- the number of all bits of the words read out
 abbrev pub bits_read : (List ℕ → List ℕ) → List ℕ → ℕ
 bits_read reads given = 32 * length (reads given)

@@ -4,7 +4,7 @@ use Rattle.x7_part.specs.Part.{PartData}
 use Rattle.x7_engine.specs.declared.regs.Regs.{Regs}
 use Rattle.x7_engine.specs.Kept.{on_the_bench}
 use Rattle.x7_engine.specs.Standing.{frames_among}
-use Rattle.x7_engine.specs.State.{history_taken, line_by, memory_in, state_owing, stop_in, taken_of}
+use Rattle.x7_engine.specs.State.{history_taken, why_of, memory_in, state_owing, stop_in, taken_of}
 use Rattle.x7_engine.specs.Stops.{fault_of}
 use Rattle.x7_engine.specs.declared.fault.Fault.{Fault}
 use Rattle.x7_memory.specs.FrameMap.{FrameMap}
@@ -18,13 +18,17 @@ bytes_taken part p = take (taken_of part on_the_bench p.queue.given) p.queue.giv
 abbrev pub words_due : PartData → Port → ℕ
 words_due part p = length (words_read part p.queue.given) - (p.queue.out / 32 + 1)
 
--- its registers and the rest of its state; FAR counts the words of frame data that were taken of it
+-- its registers and the rest of its state, where so many words of frame data are due
+abbrev pub state_with : PartData → Port → ℕ → Regs
+state_with part p due = state_owing part on_the_bench false (bytes_taken part p) due
+
+-- the same; FAR counts the words of frame data that were taken of it
 abbrev pub state_shown : PartData → Port → Regs
-state_shown part p = state_owing part on_the_bench false (bytes_taken part p) (frames_among (history_taken part on_the_bench (bytes_taken part p)) (words_due part p))
+state_shown part p = state_with part p (frames_among (history_taken part on_the_bench (bytes_taken part p)) (words_due part p))
 
 -- the fault that stopped it
 abbrev pub fault_shown : PartData → Port → Option Fault
-fault_shown part p = fault_of (line_by (stop_in part on_the_bench (bytes_taken part p)))
+fault_shown part p = fault_of (why_of (stop_in part on_the_bench (bytes_taken part p)))
 
 -- its frames
 abbrev pub memory_shown : PartData → Port → FrameMap

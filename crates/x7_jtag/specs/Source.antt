@@ -1,6 +1,7 @@
 -- A text on its way (this project's choice).
-use Rattle.std.specs.Prelude.{ℕ, List}
-use Rattle.x7_jtag.specs.Pieces.{Piece, pieces}
+use Rattle.std.specs.Prelude.{ℕ, List, ◌∷◌, drop}
+use Rattle.x7_jtag.specs.Pieces.{Piece, mark_of, pieces, size_of}
+use Rattle.x7_jtag.specs.declared.token.Token.{Token}
 
 -- the bytes kept of what was read, and the rest with the line on which it begins
 pub record SourceState : Type 0 where
@@ -11,3 +12,10 @@ pub record SourceState : Type 0 where
 -- the pieces of the rest
 abbrev pub pieces_left : SourceState → List Piece
 pieces_left s = pieces s.line s.rest
+
+-- the pieces after a token that the rest begins with, and those from it on
+abbrev pub left_after : SourceState → Token → List Piece
+left_after s t = pieces s.line (drop (size_of t) s.rest)
+
+abbrev pub left_from : SourceState → Token → List Piece
+left_from s t = record { line = s.line; mark = mark_of t s.rest } ∷ left_after s t

@@ -7,6 +7,7 @@ use Rattle.x7_jtag.specs.declared.fields.Place.TheVariants as place
 use Rattle.x7_jtag.specs.declared.fields.Given.{Given}
 use Rattle.x7_jtag.specs.declared.fields.Scanner.{Scanner}
 
+-- the digits at a place among the bytes kept
 abbrev pub digits_in : List ℕ → Span → List ℕ
 digits_in kept s = take s.count (drop s.from kept)
 
@@ -14,6 +15,7 @@ abbrev pub digits_if : List ℕ → Option Span → Option (List ℕ)
 digits_if kept None = None
 digits_if kept (Some s) = Some (digits_in kept s)
 
+-- the fields of a scan whose digits are kept
 abbrev pub fields_of : List ℕ → Given → Fields
 fields_of kept g = record { tdi = digits_if kept g.tdi; tdo = digits_if kept g.tdo; mask = digits_if kept g.mask; smask = digits_if kept g.smask }
 
@@ -21,20 +23,22 @@ abbrev pub given_as : List ℕ → Option Given → Option Fields
 given_as kept None = None
 given_as kept (Some g) = Some (fields_of kept g)
 
+-- where a reader of a scan stands; inside brackets after the digits kept from a place on
 abbrev pub at_of : List ℕ → Place → At
 at_of kept place.Between = Between
 at_of kept (place.Named k) = Named k
 at_of kept (place.Inside k from) = Inside k (drop from kept)
 
+-- that, and the fields so far
 abbrev pub scanning_of : List ℕ → Option Scanner → Option Scanning
 scanning_of kept None = None
 scanning_of kept (Some s) = Some (record { at = at_of kept s.place; fields = fields_of kept s.given })
 
 -- ---- what is kept stays
 
--- the first are the front of the second
+-- the second begins with the first
 abbrev pub IsPrefix : List ℕ → List ℕ → Type 0
-IsPrefix front all = take (length front) all ≡ front
+IsPrefix prefix all = take (length prefix) all ≡ prefix
 
 -- where digits end
 abbrev pub end_of : Span → ℕ

@@ -12,6 +12,7 @@ use Rattle.x7_jtag.specs.declared.stored.StoredScan.{StoredScan}
 use Rattle.x7_jtag.specs.declared.stored.Stored.{Stored}
 use Rattle.x7_jtag.specs.declared.stored.Stored.TheVariants as stored
 
+-- the statement of words alone
 abbrev pub asked_by : Action → Statement
 asked_by action.Reset = statement.Reset
 asked_by action.Idle = statement.Idle
@@ -22,9 +23,11 @@ abbrev pub asked_if : Option Action → Option Statement
 asked_if None = None
 asked_if (Some a) = Some (asked_by a)
 
+-- the scan whose digits are kept, each field as so many bits
 abbrev pub scan_in : List ℕ → StoredScan → Statement
 scan_in kept s = statement.Scan s.ir (bits_of s.count (digits_in kept s.tdi)) (bits_option s.count (digits_if kept s.tdo)) (bits_option s.count (digits_if kept s.mask))
 
+-- a statement, the digits of whose scan are kept
 abbrev pub statement_in : List ℕ → Stored → Statement
 statement_in kept (stored.Words a) = asked_by a
 statement_in kept (stored.Scan s) = scan_in kept s

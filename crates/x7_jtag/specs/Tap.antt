@@ -23,9 +23,9 @@ pub record QueueState : Type 0 where
   pub left : ℕ
 
 -- the next word taken, where the device gave one
-abbrev pub with_words : QueueState → List ℕ → QueueState
-with_words k [] = k
-with_words k (w ∷ ws) = record { held = k.held; word = w; left = 32 }
+abbrev pub with_word_taken : QueueState → List ℕ → QueueState
+with_word_taken k [] = k
+with_word_taken k (w ∷ ws) = record { held = k.held; word = w; left = 32 }
 
 -- the stored values of a tap
 pub record TapState : Type 0 where
@@ -51,25 +51,22 @@ given_by _ count = count
 abbrev pub words_taken : PartData → DeviceState → List ℕ → List ℕ
 words_taken part d bytes = reads_given part on_the_bench d bytes
 
--- a queue and its device stand for bytes given, bytes held and bits that are out, where a word may be due though none waits
-pub record Holds (part : PartData) (k : QueueState) (d : DeviceState) (given held : List ℕ) (out : ℕ) : Type 0 where
+-- a queue and its device stand for one of a port, where a word may be due though none waits
+pub record Holds (part : PartData) (k : QueueState) (d : DeviceState) (q : Queue) : Type 0 where
   pub bytes : List ℕ
-  pub took : Took part given bytes
+  pub took : Took part q.given bytes
   pub device : DeviceStandsFor part on_the_bench false d bytes
-  pub held_is : k.held ≡ held
-  pub held_fits : AreBytes held
-  pub out_is : out + k.left ≡ 32 * length (words_taken part d bytes)
+  pub held_is : k.held ≡ q.held
+  pub held_fits : AreBytes q.held
+  pub out_is : q.out + k.left ≡ 32 * length (words_taken part d bytes)
   pub left_is : k.left ≤ 32
-  pub front : List ℕ
-  pub word_is : 0 < k.left → words_taken part d bytes ≡ front ++ k.word ∷ []
+  pub prefix : List ℕ
+  pub word_is : 0 < k.left → words_taken part d bytes ≡ prefix ++ k.word ∷ []
 
 -- the next word is taken of the device as soon as the last bit of the one before has gone out
-pub record Stands (part : PartData) (k : QueueState) (d : DeviceState) (given held : List ℕ) (out : ℕ) : Type 0 where
-  pub holds : Holds part k d given held out
+pub record QueueStandsFor (part : PartData) (k : QueueState) (d : DeviceState) (q : Queue) : Type 0 where
+  pub holds : Holds part k d q
   pub none_due : k.left ≡ 0 → NoWordDue d
-
-abbrev pub QueueStandsFor : PartData → QueueState → DeviceState → Queue → Type 0
-QueueStandsFor part k d q = Stands part k d q.given q.held q.out
 
 -- a tap and its device stand for a port
 pub record StandsForPort (part : PartData) (t : TapState) (d : DeviceState) (p : Port) : Type 0 where
@@ -82,6 +79,10 @@ pub record StandsForPort (part : PartData) (t : TapState) (d : DeviceState) (p :
 -- a tap and its device were new before these clocks
 abbrev pub TapStandsFor : PartData → TapState → DeviceState → List Clock → Type 0
 TapStandsFor part t d cs = StandsForPort part t d (port_after part cs)
+
+-- what holds of each device and of the port that it and a tap stand for
+abbrev pub OfEachPort : (PartData → DeviceState → Port → Type 0) → Type 0
+OfEachPort Fact = (part : PartData) (t : TapState) (d : DeviceState) (cs : List Clock) → TapStandsFor part t d cs → Fact part d (port_after part cs)
 
 -- the next bit is the first of a byte for the device
 pub record TakesBytes (t : TapState) : Type 0 where

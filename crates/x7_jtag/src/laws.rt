@@ -2,22 +2,21 @@
 ghost use Rattle.std.specs.Prelude.{◌≡◌, ◌≤◌, ◌<◌, ◌/◌, ◌%◌, ◌^◌, ◌==◌, ℕ, Bool, false, true, List, [], ◌∷◌, Result};
 ghost use Rattle.x7_part.specs.Part.{PartData};
 ghost use Rattle.x7_engine.specs.Kept.{on_the_bench};
-ghost use Rattle.x7_engine.specs.Standing.{DeviceStandsFor, DeviceState, due_count, frames_due};
-ghost use Rattle.x7_engine.specs.State.{state_owing};
+ghost use Rattle.x7_engine.specs.Standing.{DeviceStandsFor, due_count, frames_due};
 ghost use Rattle.x7_jtag.specs.Bits.{bit_of};
 ghost use Rattle.x7_jtag.specs.Fields.{are_hex, value_of, width};
 ghost use Rattle.x7_jtag.specs.Events.{events_of};
 ghost use Rattle.x7_jtag.specs.Port.{new_port, port_after, words_read};
 ghost use Rattle.x7_jtag.specs.Queue.{Sound, queue_after};
-ghost use Rattle.x7_jtag.specs.Shown.{bytes_taken, state_shown, words_due};
+ghost use Rattle.x7_jtag.specs.Shown.{bytes_taken, state_shown, state_with, words_due};
 ghost use Rattle.x7_jtag.specs.Svf.{IsSvfOf};
-ghost use Rattle.x7_jtag.specs.Tap.{TapStandsFor, TapState};
+ghost use Rattle.x7_jtag.specs.Tap.{OfEachPort};
 ghost use Rattle.x7_jtag.specs.States.{Clock, state_after, one, test_logic_reset};
 ghost use Rattle.x7_jtag.specs.declared.fault.SvfFault.{SvfFault};
 ghost use Rattle.x7_jtag.specs.declared.state.State.{State};
 ghost use Rattle.x7_jtag.specs.declared.statement.Statement.{Statement};
 
-/// A text comes to one thing: its statements, or the line of the first that is none.
+/// A text comes to at most one thing: its statements, or the line of the first that is none.
 pub fn one_svf()
     ensures { (text : List ℕ) (a b : Result (List Statement) SvfFault) → IsSvfOf text a → IsSvfOf text b → a ≡ b }
 {}
@@ -30,12 +29,9 @@ pub fn five_ones_reset()
 /// The device of a tap took the bytes that its port gives, or those up to its stop; the words due are those after the one
 /// whose bits go out; and its state is that of these bytes, where FAR counts the words that were taken.
 pub fn devices_take_what_is_given()
-    ensures taken { (part : PartData) (t : TapState) (d : DeviceState) (cs : List Clock) → TapStandsFor part t d cs
-        → DeviceStandsFor part on_the_bench false d (bytes_taken part (port_after part cs)) }
-    ensures due { (part : PartData) (t : TapState) (d : DeviceState) (cs : List Clock) → TapStandsFor part t d cs
-        → due_count d.registers.due ≡ words_due part (port_after part cs) }
-    ensures shows { (part : PartData) (t : TapState) (d : DeviceState) (cs : List Clock) → TapStandsFor part t d cs
-        → state_owing part on_the_bench false (bytes_taken part (port_after part cs)) (frames_due d.registers.due) ≡ state_shown part (port_after part cs) }
+    ensures taken { OfEachPort (λ part d p. DeviceStandsFor part on_the_bench false d (bytes_taken part p)) }
+    ensures due { OfEachPort (λ part d p. due_count d.registers.due ≡ words_due part p) }
+    ensures shows { OfEachPort (λ part d p. state_with part p (frames_due d.registers.due) ≡ state_shown part p) }
 {}
 
 /// After any clocks a port has no more bits out than were read out, holds at most 64 bytes, and holds them only while a word

@@ -4,8 +4,8 @@ ghost use Rattle.std.specs.List.{fold};
 ghost use Rattle.x7_part.specs.Part.{PartData};
 ghost use Rattle.x7_engine.specs.Standing.{NoWordDue};
 ghost use Rattle.x7_jtag.specs.Port.{words_read};
-ghost use Rattle.x7_jtag.specs.Queue.{Queue as QueueData, bit_shown, bits_read, empty, in_turn, offered, give_held as give_held_by, shifted_out, with_room};
-ghost use Rattle.x7_jtag.specs.Tap.{Holds, QueueStandsFor, Stands, given_by, with_words};
+ghost use Rattle.x7_jtag.specs.Queue.{Queue as QueueData, bit_shown, dropped, empty, in_turn, offered, give_held as give_held_by, shifted_out, with_given, with_room};
+ghost use Rattle.x7_jtag.specs.Tap.{Holds, QueueStandsFor, given_by, with_word_taken};
 
 use crate::held::Held;
 use std::marker::Model;
@@ -55,7 +55,7 @@ impl Queue {
 
     /// Keeps the word that the device gave, where it gave one.
     fn keep(&mut self, words: &[u32])
-        ensures { self.new ≡ with_words self.old words.now }
+        ensures { self.new ≡ with_word_taken self.old words.now }
     {
         if let [word, ..] = words {
             self.word = *word;
@@ -70,8 +70,8 @@ impl Queue {
         requires fits { device.old.taken + length piece.now ≤ 2 ^ 63 }
         ensures taken { device.new.taken ≤ device.old.taken + length piece.now }
         ensures held { self.new.held ≡ self.old.held }
-        ensures stands { (part : PartData) (given held : List ℕ) (out : ℕ) → Holds part self.old device.old given held out → (0 < length piece.now → NoWordDue device.old)
-            → Stands part self.new device.new (given ++ piece.now) held out }
+        ensures stands { (part : PartData) (q : QueueData) → Holds part self.old device.old q → (0 < length piece.now → NoWordDue device.old)
+            → QueueStandsFor part self.new device.new (with_given q piece.now) }
     {
         let mut read = ReadBuf::one();
         device.feed(piece, &mut read);
@@ -100,8 +100,7 @@ impl Queue {
         ensures taken { device.new.taken ≤ device.old.taken + length self.old.held }
         ensures held { self.new.held ≡ [] }
         ensures none_waits { self.new.left ≡ 0 }
-        ensures stands { (part : PartData) (given held : List ℕ) (out : ℕ) → Stands part self.old device.old given held out
-            → Stands part self.new device.new (given ++ held) [] (bits_read (words_read part) (given ++ held)) }
+        ensures stands { (part : PartData) (q : QueueData) → QueueStandsFor part self.old device.old q → QueueStandsFor part self.new device.new (dropped (words_read part) q) }
     {
         let mut read = ReadBuf::dropping();
         device.feed(self.held.bytes(), &mut read);
@@ -187,8 +186,7 @@ impl Queue {
     /// Gives held bytes in order until a word waits.
     fn give_held(&mut self, device: &mut Device)
         requires fits { device.old.taken + 64 ≤ 2 ^ 63 }
-        ensures stands { (part : PartData) (given held : List ℕ) (out : ℕ) → Stands part self.old device.old given held out
-            → QueueStandsFor part self.new device.new (give_held_by (words_read part) given held out) }
+        ensures stands { (part : PartData) (q : QueueData) → QueueStandsFor part self.old device.old q → QueueStandsFor part self.new device.new (give_held_by (words_read part) q.given q.held q.out) }
     {
         let held = mem::replace(&mut self.held, Held::new());
         let mut rest = held.bytes();
@@ -212,8 +210,8 @@ impl Queue {
     fn refill(&mut self, device: &mut Device)
         requires none_waits { self.old.left ≡ 0 }
         requires fits { device.old.taken + 64 ≤ 2 ^ 63 }
-        ensures stands { (part : PartData) (given held : List ℕ) (out : ℕ) → Holds part self.old device.old given held out
-            → QueueStandsFor part self.new device.new (give_held_by (words_read part) given held out) }
+        ensures stands { (part : PartData) (q : QueueData) → Holds part self.old device.old q
+            → QueueStandsFor part self.new device.new (give_held_by (words_read part) q.given q.held q.out) }
     {
         self.feed(&[], device);
         self.give_held(device);

@@ -177,7 +177,7 @@ fn scan_count(source: &mut Source) -> Option<u32>
 fn scan(source: &mut Source, ir: bool) -> Option<Stored>
     ensures is { stored_if source.new.kept result ≡ scan_of ir (statement_marks source.old.rest) }
     ensures within { IfSome result (IsStoredWithin (length source.new.kept)) }
-    ensures front { IsPrefix source.old.kept source.new.kept }
+    ensures prefix { IsPrefix source.old.kept source.new.kept }
     ensures after { IfSome result (λ s. pieces_after (pieces_left source.old) ≡ pieces_after (pieces_left source.new)) }
     ensures passed { IfSome result (λ s. length source.new.rest ≤ length source.old.rest) }
 {
@@ -191,7 +191,7 @@ pub(crate) fn statement(source: &mut Source, size: usize) -> Option<Stored>
     requires { size ≤ length source.old.rest }
     ensures is { stored_if source.new.kept result ≡ statement_by (take size source.old.rest) (statement_marks (drop size source.old.rest)) }
     ensures within { IfSome result (IsStoredWithin (length source.new.kept)) }
-    ensures front { IsPrefix source.old.kept source.new.kept }
+    ensures prefix { IsPrefix source.old.kept source.new.kept }
     ensures after { IfSome result (λ s. pieces_after (pieces source.old.line (drop size source.old.rest)) ≡ pieces_after (pieces_left source.new)) }
     ensures passed { IfSome result (λ s. length source.new.rest + size ≤ length source.old.rest) }
 {

@@ -1,7 +1,7 @@
 //! The next word, bracket or end of a text without comments.
 ghost use Rattle.std.specs.Prelude.{◌≡◌, ◌+◌, ◌<◌, ◌≤◌, ◌∷◌, [], ℕ, List, true, false, length, MatchOption, IfSome, IfNone, Some, None, slice_index, drop, take};
 ghost use Rattle.x7_jtag.specs.Pieces.{byte_mark, is_blank, is_word_byte, mark_of, Piece, pieces, size_of, Word};
-ghost use Rattle.x7_jtag.specs.Source.{pieces_left};
+ghost use Rattle.x7_jtag.specs.Source.{left_after, left_from, pieces_left};
 ghost use Rattle.x7_jtag.specs.Svf.{pieces_after, statement_marks};
 
 use crate::source::Source;
@@ -97,7 +97,7 @@ fn skip_blanks(source: &mut Source)
 /// The piece that comes next, behind blanks, which are passed; none where the text ends.
 pub(crate) fn next(source: &mut Source) -> Option<Token>
     ensures is { MatchOption result (pieces_left source.old ≡ [])
-        (λ t. pieces_left source.old ≡ record { line = source.new.line; mark = mark_of t source.new.rest } ∷ pieces source.new.line (drop (size_of t) source.new.rest)) }
+        (λ t. pieces_left source.old ≡ left_from source.new t) }
     ensures same { pieces_left source.old ≡ pieces_left source.new }
     ensures some { IfSome result (λ t. 0 < size_of t) }
     ensures within { IfSome result (λ t. size_of t ≤ length source.new.rest) }
@@ -118,7 +118,7 @@ pub(crate) fn next_within(source: &mut Source) -> Option<Token>
     ensures is { MatchOption result (statement_marks source.old.rest ≡ [])
         (λ t. statement_marks source.old.rest ≡ mark_of t source.new.rest ∷ statement_marks (drop (size_of t) source.new.rest)) }
     ensures ends { IfNone result (pieces_after (pieces_left source.old) ≡ pieces_after (pieces_left source.new)) }
-    ensures goes_on { IfSome result (λ t. pieces_after (pieces_left source.old) ≡ pieces_after (pieces source.new.line (drop (size_of t) source.new.rest))) }
+    ensures goes_on { IfSome result (λ t. pieces_after (pieces_left source.old) ≡ pieces_after (left_after source.new t)) }
     ensures some { IfSome result (λ t. 0 < size_of t) }
     ensures within { IfSome result (λ t. size_of t ≤ length source.new.rest) }
     ensures kept { source.new.kept ≡ source.old.kept }

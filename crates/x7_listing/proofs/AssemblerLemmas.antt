@@ -185,18 +185,18 @@ completes a b text line whole held free is clear count reads fits s = record {
 
 -- a piece in two parts
 module _ (a b c : AssemblerState) (piece rest : List ℕ) (f : TakesPrefix a b piece rest) where
-  whole-piece : (text : List ℕ) → (text ++ f.front) ++ rest ≡ text ++ piece
-  whole-piece text = append_assoc text f.front rest ∙ ap (λ t. text ++ t) (sym f.split_is)
+  whole-piece : (text : List ℕ) → (text ++ f.prefix) ++ rest ≡ text ++ piece
+  whole-piece text = append_assoc text f.prefix rest ∙ ap (λ t. text ++ t) (sym f.split_is)
 
-  front-stands : (text : List ℕ) → length (text ++ piece) < 2 ^ 63 → AssemblerStandsFor a text → AssemblerStandsFor b (text ++ f.front)
-  front-stands text fits s = f.takes text (omega (arith, fits, ap length (whole-piece text), length-append (text ++ f.front) rest)) s
+  front-stands : (text : List ℕ) → length (text ++ piece) < 2 ^ 63 → AssemblerStandsFor a text → AssemblerStandsFor b (text ++ f.prefix)
+  front-stands text fits s = f.takes text (omega (arith, fits, ap length (whole-piece text), length-append (text ++ f.prefix) rest)) s
 
   pub takes-twice : (b.begun ≡ true → b.held ≡ [] → TakesPiece b c rest) → TakesPiece a c piece
-  takes-twice h = λ text fits s. subst (λ t. AssemblerStandsFor c t) (whole-piece text) (h f.begun f.clear (text ++ f.front) (subst (λ t. length t < 2 ^ 63) (sym (whole-piece text)) fits) (front-stands text fits s))
+  takes-twice h = λ text fits s. subst (λ t. AssemblerStandsFor c t) (whole-piece text) (h f.begun f.clear (text ++ f.prefix) (subst (λ t. length t < 2 ^ 63) (sym (whole-piece text)) fits) (front-stands text fits s))
 
   pub fails-behind : (fault : AsmFault) → FailsIn b rest fault → FailsIn a piece fault
   fails-behind fault (inl none) = inl none
-  fails-behind fault (inr h) = inr (λ text more fits s. subst (λ t. IsAsm (t ++ more) (Err fault)) (whole-piece text) (h (text ++ f.front) more (subst (λ t. length t < 2 ^ 63) (sym (whole-piece text)) fits) (front-stands text fits s)))
+  fails-behind fault (inr h) = inr (λ text more fits s. subst (λ t. IsAsm (t ++ more) (Err fault)) (whole-piece text) (h (text ++ f.prefix) more (subst (λ t. length t < 2 ^ 63) (sym (whole-piece text)) fits) (front-stands text fits s)))
 
 -- what is known of the result of a text's last line
 pub ok-weaker : {A E : Type 0} → {P Q : A → Type 0} → (r : Result A E) → ((a : A) → P a → Q a) → IfOk r P → IfOk r Q

@@ -68,8 +68,8 @@ front-stays start a true t old new h r = (ap (take start) r.3 ∙ take-append-le
 front-stays start a false t old new h r = (ap (take start) r.1, omega (arith, h, ap length r.1))
 
 -- what texts come to behind those of a header, or of none
-pub close-ok : (all others : List (List ℕ)) (front out : List ℕ) (start first : ℕ) → start ≡ length front → Opens all others front first → Assembles (67108864 - start) others (drop start out) → take start out ≡ front → AreHeadedAsm all (Ok out)
-close-ok all others front out start first n (inl h) a same = inl (record {
+pub close-ok : (all others : List (List ℕ)) (prefix out : List ℕ) (start first : ℕ) → start ≡ length prefix → Opens all others prefix first → Assembles (67108864 - start) others (drop start out) → take start out ≡ prefix → AreHeadedAsm all (Ok out)
+close-ok all others prefix out start first n (inl h) a same = inl (record {
   header = h.header;
   held = h.held;
   others = others;
@@ -80,14 +80,14 @@ close-ok all others front out start first n (inl h) a same = inl (record {
     is = ap Ok (sym (take-append-drop start out) ∙ ap (λ t. t ++ drop start out) (same ∙ h.are));
   };
 })
-close-ok all others front out start first n (inr p) a same =
+close-ok all others prefix out start first n (inr p) a same =
     let zero : start ≡ 0 = n ∙ ap length p.are in
     let is : drop start out ≡ out = ap (λ (k : ℕ). drop k out) zero in
     let b : Assembles 67108864 others (drop start out) = subst (λ (k : ℕ). Assembles (67108864 - k) others (drop start out)) zero a in
     inr (p.no_head, subst (λ (t : List (List ℕ)). Assembles 67108864 t out) (sym p.texts) (subst (Assembles 67108864 others) is b))
 
-pub close-bad : (all others : List (List ℕ)) (front : List ℕ) (start first m n : ℕ) → start ≡ length front → Opens all others front first → IsBad (67108864 - start) others m → n ≡ first + m → AreHeadedAsm all (Err (fault.Line n))
-close-bad all others front start first m n s (inl h) b e =
+pub close-bad : (all others : List (List ℕ)) (prefix : List ℕ) (start first m n : ℕ) → start ≡ length prefix → Opens all others prefix first → IsBad (67108864 - start) others m → n ≡ first + m → AreHeadedAsm all (Err (fault.Line n))
+close-bad all others prefix start first m n s (inl h) b e =
     let one : n ≡ m + 1 = omega (arith, e, h.one) in
     inl (record {
       header = h.header;
@@ -96,14 +96,14 @@ close-bad all others front start first m n s (inl h) b e =
       texts = h.texts;
       follows = record { rest = Err (fault.Line m); lines = subst (λ (k : ℕ). IsBad (67108864 - k) others m) (s ∙ ap length h.are) b; is = ap (λ (k : ℕ). Err (fault.Line k)) one };
     })
-close-bad all others front start first m n s (inr p) b e =
+close-bad all others prefix start first m n s (inr p) b e =
     let zero : start ≡ 0 = s ∙ ap length p.are in
     let same : m ≡ n = omega (arith, e, p.none) in
     let c : IsBad 67108864 others m = subst (λ (k : ℕ). IsBad (67108864 - k) others m) zero b in
     inr (p.no_head, subst (λ (t : List (List ℕ)). IsBad 67108864 t n) (sym p.texts) (subst (IsBad 67108864 others) same c))
 
-pub close-long : (all others : List (List ℕ)) (front : List ℕ) (start first m n : ℕ) → start ≡ length front → Opens all others front first → IsTooLong (67108864 - start) others m → n ≡ first + m → AreHeadedAsm all (Err (fault.TooLong n))
-close-long all others front start first m n s (inl h) b e =
+pub close-long : (all others : List (List ℕ)) (prefix : List ℕ) (start first m n : ℕ) → start ≡ length prefix → Opens all others prefix first → IsTooLong (67108864 - start) others m → n ≡ first + m → AreHeadedAsm all (Err (fault.TooLong n))
+close-long all others prefix start first m n s (inl h) b e =
     let one : n ≡ m + 1 = omega (arith, e, h.one) in
     inl (record {
       header = h.header;
@@ -112,7 +112,7 @@ close-long all others front start first m n s (inl h) b e =
       texts = h.texts;
       follows = record { rest = Err (fault.TooLong m); lines = subst (λ (k : ℕ). IsTooLong (67108864 - k) others m) (s ∙ ap length h.are) b; is = ap (λ (k : ℕ). Err (fault.TooLong k)) one };
     })
-close-long all others front start first m n s (inr p) b e =
+close-long all others prefix start first m n s (inr p) b e =
     let zero : start ≡ 0 = s ∙ ap length p.are in
     let same : m ≡ n = omega (arith, e, p.none) in
     let c : IsTooLong 67108864 others m = subst (λ (k : ℕ). IsTooLong (67108864 - k) others m) zero b in

@@ -13,7 +13,9 @@ use Rattle.x7_packets.specs.AtOnce.{EndsGap, short_head, Takes, write_head, Writ
 use Rattle.x7_packets.specs.SyncWord.{sync_bytes}
 use Rattle.x7_packets.specs.Cutting.{CutterState, IsRun, Went}
 use Rattle.x7_packets.specs.Nops.{equal_bytes, nop_word}
+use Rattle.x7_packets.specs.Mode.{Mode}
 use Rattle.x7_packets.specs.Packet.{payload_steps, register_of}
+use Rattle.x7_packets.specs.Reading.{Place, Searching, Synced}
 use Rattle.x7_packets.specs.declared.cutter.Cut.{Cut}
 use Rattle.x7_packets.specs.declared.cutter.Cut.TheVariants.{Body, Head, Skip, Sync, Word}
 use Rattle.x7_packets.specs.declared.header.Step.{Step}
@@ -26,7 +28,8 @@ use Rattle.x7_regs.specs.Register.{reg_name}
 use Rattle.x7_listing.specs.declared.line.HeadLine.TheVariants.{Write}
 use Rattle.x7_listing.specs.AtOnce.{AreRows, command_lines, equal_lines, nop_lines, row_text, zero_lines, write_line, write_name, write_start}
 use Rattle.x7_listing.specs.HeadLine.{best_line, command_line, head_text, line_text}
-use Rattle.x7_listing.specs.Telling.{GapListed, Tells, words_place, open_words, Writes}
+use Rattle.x7_listing.specs.Listing.{session_text}
+use Rattle.x7_listing.specs.Telling.{GapListed, HasListedAt, Tells, words_place, open_words, Writes}
 use Rattle.x7_listing.proofs.GapLemmas.{told_more}
 use Rattle.x7_listing.proofs.RunLemmas.{by_body, by_head, by_skip, by_sync, by_word}
 use Rattle.x7_listing.proofs.SessionLemmas.{data_told, is_data}
@@ -246,3 +249,20 @@ pub seam : (piece bytes taken : List ℕ) (at k : ℕ) → at ≤ length piece �
 seam piece bytes taken at k h e =
     let rest : take (length piece - at) (drop at piece) ≡ drop at piece = take_all (length piece - at) (drop at piece) (omega (arith, length-drop at piece)) in
     append_assoc bytes (take at piece) taken ∙ ap (λ t. bytes ++ t) (ap (λ t. take at piece ++ t) (sym e ∙ ap (take k) rest) ∙ sym (take-add at k piece))
+
+-- in a session it does not matter which bytes of a gap are held
+any_held : (line : ℕ) (held h2 all start : List ℕ) (place : Place) (m : Mode) → HasListedAt true line held all start place m → HasListedAt true line h2 all start place m
+any_held line held h2 all start (Searching gap) m h = h
+any_held line held h2 all start (Synced gap packets tail) m h = h
+
+pub in_line_told : (c : CutterState) (synced s2 : Bool) (line l2 : ℕ) (held h2 text given before bytes : List ℕ) → synced ≡ true → s2 ≡ true → l2 ≡ line
+    → Tells c synced line held text given before bytes → Tells c s2 l2 h2 text given before bytes
+in_line_told c synced s2 line l2 held h2 text given before bytes a b e t =
+    let u : Tells c true line held text given before bytes = subst (λ (k : Bool). Tells c k line held text given before bytes) a t in
+    let one : Tells c true line h2 text given before bytes = record {
+      sessions = u.sessions;
+      at = u.at;
+      cut = u.cut;
+      listed = any_held line held h2 (given ++ text) (before ++ flat_map session_text u.sessions) u.at c.mode u.listed;
+    } in
+    subst (λ (k : Bool). Tells c k l2 h2 text given before bytes) (sym b) (subst (λ (k : ℕ). Tells c true k h2 text given before bytes) (sym e) one)

@@ -117,11 +117,11 @@ few_held l given before bytes s =
 -- a sync word is not listed yet: it stands in the gap's bytes, of which all but those that are held are listed
 due_long : (all start : List ℕ) (line : ℕ) (held gap : List ℕ) → GapListed all start line held (gap ++ sync_bytes) → length start + length (gap ++ sync_bytes) ≤ length all + 4
 due_long all start line held gap t =
-    omega (arith, ap length t.split, length-append t.front held, t.few, ap length t.listed, length-append start (open_text 32 (codes "bytes ") hex_byte 0 t.front), bytes_long 0 t.front)
+    omega (arith, ap length t.split, length-append t.prefix held, t.few, ap length t.listed, length-append start (open_text 32 (codes "bytes ") hex_byte 0 t.prefix), bytes_long 0 t.prefix)
 
 told_long : (synced : Bool) (line : ℕ) (held all start : List ℕ) (place : Place) (m : Mode) → HasListedAt synced line held all start place m → IsPlace place → length start + length (place_bytes place) ≤ length all + 4
 told_long false line held all start (Searching gap) m t p =
-    omega (arith, ap length t.split, length-append t.front held, t.few, ap length t.listed, length-append start (open_text 32 (codes "bytes ") hex_byte 0 t.front), bytes_long 0 t.front)
+    omega (arith, ap length t.split, length-append t.prefix held, t.few, ap length t.listed, length-append start (open_text 32 (codes "bytes ") hex_byte 0 t.prefix), bytes_long 0 t.prefix)
 told_long false line held all start (Synced gap packets tail) m t p =
     let bytes : place_bytes (Synced gap packets tail) ≡ gap ++ sync_bytes = rw (t.1, t.2) (append-nil (gap ++ sync_bytes ++ []) ∙ append-nil (gap ++ sync_bytes)) in
     omega (arith, due_long all start line held gap t.3, ap length bytes)

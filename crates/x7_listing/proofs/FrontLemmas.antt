@@ -1,4 +1,4 @@
--- What was listed of bytes is a front of the listing of every longer list of bytes.
+-- What was listed of bytes is a prefix of the listing of every longer list of bytes.
 use Rattle.std.proofs.Common.{◌≡◌, ℕ, ◌+◌, ◌-◌, ◌<◌, ◌≤◌, Bool, true, false, if◌then◌else◌, List, [], ◌∷◌, ◌++◌, inl, inr, Option, None, length, take, drop, refl, ap, sym, subst, ◌∙◌, append_assoc, append-nil, arith, length-append, take-add, take-append-drop, codes, flat_map}
 use Rattle.std.proofs.lemmas.List.{take-append-le}
 use Rattle.std.proofs.lemmas.List.Sums.{fold-append}
@@ -120,7 +120,7 @@ words_more packets w =
 words_over : (packets : List Packet) → EachPacket None packets → Front (W packets) (flat_map packet_text packets)
 words_over packets each = (close (words_place 0 (flat_map stepped packets)), sym (session_closed None 0 packets each))
 
--- a session's words listed are a front of its lines
+-- a session's words listed are a prefix of its lines
 pub session_over : (gap : List ℕ) (packets : List Packet) → EachPacket None packets → Front (sure_session gap packets) (packets_text gap packets)
 session_over gap packets each = front_behind (bytes_text gap ++ codes "sync\n") (W packets) (flat_map packet_text packets) (words_over packets each)
 
@@ -180,7 +180,7 @@ one_goes_on bytes byte f =
     subst (λ (x : Reading). IsReading (bytes ++ byte ∷ []) x.sessions x.place) (reading_more bytes byte) (reading_is_found (bytes ++ byte ∷ []) f) in
     subst (λ (x : Reading). Front (sure_of r) (sure_of x)) (sym (reading_more bytes byte)) (byte_goes_on r.sessions r.place (bytes ++ byte ∷ []) byte is)
 
--- the sure text of bytes is a front of that of those bytes with any further ones
+-- the sure text of bytes is a prefix of that of those bytes with any further ones
 pub sure_goes_on : (bytes rest : List ℕ) → AreBytes (bytes ++ rest) → Front (sure_text bytes) (sure_text (bytes ++ rest))
 sure_goes_on bytes [] f = subst (λ t. Front (sure_text bytes) (sure_text t)) (sym (append-nil bytes)) (front_self (sure_text bytes))
 sure_goes_on bytes (byte ∷ rest) f =
@@ -191,7 +191,7 @@ sure_goes_on bytes (byte ∷ rest) f =
     subst (λ t. Front (sure_text bytes) (sure_text t)) (sym all)
     (front_then (sure_text bytes) (sure_text (bytes ++ byte ∷ [])) (sure_text ((bytes ++ byte ∷ []) ++ rest)) one more)
 
--- the sure text at a place is a front of the place's lines
+-- the sure text at a place is a prefix of the place's lines
 place_over : (bytes : List ℕ) (sessions : List Session) (place : Place) → IsReading bytes sessions place → Front (sure_place place) (place_text place)
 place_over bytes sessions (Searching gap) is =
     let k : ℕ = length gap - 4 in
@@ -200,25 +200,25 @@ place_over bytes sessions (Searching gap) is =
 place_over bytes sessions (Synced gap packets tail) is =
     front_then (sure_session gap packets) (packets_text gap packets) (packets_text gap packets ++ bytes_text tail) (session_over gap packets is.ends.1) (bytes_text tail, refl)
 
--- the sure text of bytes is a front of their listing
+-- the sure text of bytes is a prefix of their listing
 pub sure_over : (bytes : List ℕ) → AreBytes bytes → Front (sure_text bytes) (listing_of bytes)
 sure_over bytes f =
     let r : Reading = reading_of bytes in
     front_behind (flat_map session_text r.sessions) (sure_place r.place) (place_text r.place) (place_over bytes r.sessions r.place (reading_is_found bytes f))
 
 -- the bytes of a gap that are listed are those before the last four
-told_before : (front held gap : List ℕ) → gap ≡ front ++ held → length held ≡ 4 → before_last_four gap ≡ front
-told_before front held gap e four =
-    let n : length gap - 4 ≡ length front = omega (arith, ap length e, length-append front held) in
-    ap (λ k. take k gap) n ∙ ap (λ t. take (length front) t) e ∙ take-append_seam front held
+told_before : (prefix held gap : List ℕ) → gap ≡ prefix ++ held → length held ≡ 4 → before_last_four gap ≡ prefix
+told_before prefix held gap e four =
+    let n : length gap - 4 ≡ length prefix = omega (arith, ap length e, length-append prefix held) in
+    ap (λ k. take k gap) n ∙ ap (λ t. take (length prefix) t) e ∙ take-append_seam prefix held
 
 none_before : (gap : List ℕ) → length gap ≤ 4 → before_last_four gap ≡ []
 none_before gap few = let n : length gap - 4 ≡ 0 = omega arith in ap (λ k. take k gap) n
 
 gap_sure : (all start : List ℕ) (line : ℕ) (held gap : List ℕ) → GapListed all start line held gap → all ≡ start ++ B 0 (before_last_four gap)
 gap_sure all start line held gap g =
-    let same : before_last_four gap ≡ g.front = elim g.full [
-      | inl four ↦ told_before g.front held gap g.split four
+    let same : before_last_four gap ≡ g.prefix = elim g.full [
+      | inl four ↦ told_before g.prefix held gap g.split four
       | inr none ↦
           let is : gap ≡ held = g.split ∙ ap (λ t. t ++ held) none in
           let few : length gap ≤ 4 = omega (arith, ap length is, g.few) in
@@ -243,7 +243,7 @@ told_sure l given bytes s =
     place_sure l.synced l.line l.held (given ++ l.text) (flat_map session_text t.sessions) t.at l.cutter.mode s.ready t.listed
     ∙ ap (λ x. flat_map session_text x ++ sure_place t.at) e.0 ∙ ap (λ x. flat_map session_text (reading_of bytes).sessions ++ sure_place x) e.1
 
--- what a lister has listed of bytes is a front of the listing of those bytes with any further ones
+-- what a lister has listed of bytes is a prefix of the listing of those bytes with any further ones
 pub told_front : (l : ListerState) (given bytes rest : List ℕ) → ListerStandsFor l given [] bytes → AreBytes (bytes ++ rest) → (more : List ℕ) × (listing_of (bytes ++ rest) ≡ (given ++ l.text) ++ more)
 told_front l given bytes rest s f =
     let sure : List ℕ = sure_text bytes in
@@ -261,7 +261,7 @@ sure_behind l given before bytes s =
     told_behind l given before bytes s ∙ append_assoc before (flat_map session_text t.sessions) (sure_place t.at)
     ∙ ap (λ x. before ++ (flat_map session_text x ++ sure_place t.at)) e.0 ∙ ap (λ x. before ++ (flat_map session_text (reading_of bytes).sessions ++ sure_place x)) e.1
 
--- the listings before and what is listed of bytes are a front of those and the listing of the bytes with any further ones
+-- the listings before and what is listed of bytes are a prefix of those and the listing of the bytes with any further ones
 pub front_behind_others : (l : ListerState) (given before bytes rest : List ℕ) → ListerStandsFor l given before bytes → AreBytes (bytes ++ rest) → (more : List ℕ) × (before ++ listing_of (bytes ++ rest) ≡ (given ++ l.text) ++ more)
 front_behind_others l given before bytes rest s f =
     let sure : List ℕ = sure_text bytes in

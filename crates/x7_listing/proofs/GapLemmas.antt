@@ -13,17 +13,17 @@ abbrev B : ℕ → List ℕ → List ℕ
 B i xs = open_text 32 (codes "bytes ") hex_byte i xs
 
 pub fresh_gap : (all start : List ℕ) (gap : List ℕ) → gap ≡ [] → all ≡ start → GapListed all start 0 [] gap
-fresh_gap all start gap e f = record { front = []; split = e; listed = f ∙ sym (append-nil start); count = refl; full = inr refl; few = omega arith }
+fresh_gap all start gap e f = record { prefix = []; split = e; listed = f ∙ sym (append-nil start); count = refl; full = inr refl; few = omega arith }
 
--- bytes more of a gap: those held and a front of the new ones are listed, and four are held then
+-- bytes more of a gap: those held and a prefix of the new ones are listed, and four are held then
 pub told_more : (given old new start : List ℕ) (line line2 : ℕ) (held held2 gap more listed : List ℕ) → GapListed (given ++ old) start line held gap → held ++ more ≡ listed ++ held2 → length held2 ≡ 4
     → new ≡ old ++ B line listed → line2 ≡ in_line_after 32 line listed → GapListed (given ++ new) start line2 held2 (gap ++ more)
 told_more given old new start line line2 held held2 gap more listed g e four t n = record {
-  front = g.front ++ listed;
-  split = ap (λ t. t ++ more) g.split ∙ append_assoc g.front held more ∙ ap (λ t. g.front ++ t) e ∙ sym (append_assoc g.front listed held2);
-  listed = ap (λ t. given ++ t) t ∙ sym (append_assoc given old (B line listed)) ∙ ap (λ t. t ++ B line listed) g.listed ∙ append_assoc start (B 0 g.front) (B line listed)
-      ∙ ap (λ k. start ++ (B 0 g.front ++ B k listed)) g.count ∙ ap (λ t. start ++ t) (sym (open_text-append 32 (codes "bytes ") hex_byte 0 g.front listed));
-  count = n ∙ ap (λ k. in_line_after 32 k listed) g.count ∙ sym (in_line_after-append 32 0 g.front listed);
+  prefix = g.prefix ++ listed;
+  split = ap (λ t. t ++ more) g.split ∙ append_assoc g.prefix held more ∙ ap (λ t. g.prefix ++ t) e ∙ sym (append_assoc g.prefix listed held2);
+  listed = ap (λ t. given ++ t) t ∙ sym (append_assoc given old (B line listed)) ∙ ap (λ t. t ++ B line listed) g.listed ∙ append_assoc start (B 0 g.prefix) (B line listed)
+      ∙ ap (λ k. start ++ (B 0 g.prefix ++ B k listed)) g.count ∙ ap (λ t. start ++ t) (sym (open_text-append 32 (codes "bytes ") hex_byte 0 g.prefix listed));
+  count = n ∙ ap (λ k. in_line_after 32 k listed) g.count ∙ sym (in_line_after-append 32 0 g.prefix listed);
   full = inl four;
   few = omega arith;
 }

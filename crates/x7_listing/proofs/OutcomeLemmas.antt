@@ -135,8 +135,8 @@ same-asm limit texts (Err (fault.TooLong m)) (Err (fault.TooLong n)) h k = ap (�
 same-asm limit texts (Err (fault.TooLong m)) (Err fault.NoMemory) h k = absurd k
 same-asm limit texts (Err fault.NoMemory) b h k = absurd h
 
-same-follows : (front : List ℕ) (others : List (List ℕ)) (a b : Result (List ℕ) AsmFault) → Follows front others a → Follows front others b → a ≡ b
-same-follows front others a b h k = h.is ∙ ap (after_one_line front) (same-asm (asm_limit - length front) others h.rest k.rest h.lines k.lines) ∙ sym k.is
+same-follows : (prefix : List ℕ) (others : List (List ℕ)) (a b : Result (List ℕ) AsmFault) → Follows prefix others a → Follows prefix others b → a ≡ b
+same-follows prefix others a b h k = h.is ∙ ap (after_one_line prefix) (same-asm (asm_limit - length prefix) others h.rest k.rest h.lines k.lines) ∙ sym k.is
 
 same-headed : (texts : List (List ℕ)) (a b : Result (List ℕ) AsmFault) → IsHeaded texts a → IsHeaded texts b → a ≡ b
 same-headed texts a b h k =

@@ -16,7 +16,7 @@ left-over (d ∷ ds) [] rest a e = absurd cc
 left-over (d ∷ ds) (b ∷ bs) rest a e = let tails : flat_map hex_byte ds ++ rest ≡ flat_map hex_byte bs = cc in left-over ds bs rest a.1 tails
 
 -- an even number of digits at the front is digits of bytes
-front-of : (k : ℕ) (row more tail : List ℕ) → length row ≡ 2 * k → AreBytes tail → row ++ more ≡ flat_map hex_byte tail → (front : List ℕ) × AreBytes front × (row ≡ flat_map hex_byte front) × (length front ≡ k)
+front-of : (k : ℕ) (row more tail : List ℕ) → length row ≡ 2 * k → AreBytes tail → row ++ more ≡ flat_map hex_byte tail → (prefix : List ℕ) × AreBytes prefix × (row ≡ flat_map hex_byte prefix) × (length prefix ≡ k)
 front-of zero [] more tail h a e = ([], tt, refl, refl)
 front-of zero (r ∷ row) more tail h a e = absurd (omega (arith, h))
 front-of (suc k) [] more tail h a e = absurd (omega (arith, h))
@@ -32,12 +32,12 @@ nothing : (xs : List ℕ) → length xs ≡ 0 → xs ≡ []
 nothing [] h = refl
 nothing (x ∷ xs) h = absurd (omega (arith, h))
 
-module _ (digits done rest row more : List ℕ) (n : ℕ) (front : row ≡ take n rest) (back : more ≡ drop n rest) (most : n ≡ min (length rest) 64) (read : digits ≡ flat_map hex_byte done ++ rest) where
+module _ (digits done rest row more : List ℕ) (n : ℕ) (prefix : row ≡ take n rest) (back : more ≡ drop n rest) (most : n ≡ min (length rest) 64) (read : digits ≡ flat_map hex_byte done ++ rest) where
   whole : rest ≡ row ++ more
-  whole = sym (take-append-drop n rest) ∙ ap (λ t. t ++ drop n rest) (sym front) ∙ ap (λ t. row ++ t) (sym back)
+  whole = sym (take-append-drop n rest) ∙ ap (λ t. t ++ drop n rest) (sym prefix) ∙ ap (λ t. row ++ t) (sym back)
 
   long-row : length row ≡ n
-  long-row = ap length front ∙ length-take-le n rest (omega (arith, most))
+  long-row = ap length prefix ∙ length-take-le n rest (omega (arith, most))
 
   no-long : ((x : List ℕ) → IsByteRow x → row ≡ flat_map hex_byte x → ⊥) → n ≡ 64 → (tail : List ℕ) → AreBytes tail → rest ≡ flat_map hex_byte tail → ⊥
   no-long none e tail a is = let f = front-of 32 row more tail (long-row ∙ e) a (sym whole ∙ is) in none f.0 (f.1, omega (arith, f.3), omega (arith, f.3)) f.2

@@ -46,8 +46,8 @@ skip_told true line line2 held held2 all all2 before sessions new_sessions (Sear
     let start : List ℕ = before ++ flat_map session_text sessions in
     same_sessions false line2 held2 all2 before sessions new_sessions np new a.0 (skipped line2 held2 all2 start gap run sessions new_sessions np old new a m (g start gap (fresh_gap all start gap t.0 t.2)))
 
-gap_closed : (all start : List ℕ) (line : ℕ) (front : List ℕ) → all ≡ start ++ B 0 front → line ≡ in_line_after 32 0 front → all ++ close line ≡ start ++ bytes_text front
-gap_closed all start line front e n = ap (λ t. t ++ close line) e ∙ append_assoc start (B 0 front) (close line) ∙ ap (λ k. start ++ (B 0 front ++ close k)) n ∙ ap (λ t. start ++ t) (bytes_closed front)
+gap_closed : (all start : List ℕ) (line : ℕ) (prefix : List ℕ) → all ≡ start ++ B 0 prefix → line ≡ in_line_after 32 0 prefix → all ++ close line ≡ start ++ bytes_text prefix
+gap_closed all start line prefix e n = ap (λ t. t ++ close line) e ∙ append_assoc start (B 0 prefix) (close line) ∙ ap (λ k. start ++ (B 0 prefix ++ close k)) n ∙ ap (λ t. start ++ t) (bytes_closed prefix)
 
 -- where a gap ends with the sync word, its four bytes are those held
 found_gap : (all start : List ℕ) (line : ℕ) (held gap : List ℕ) → GapListed all start line held (gap ++ sync_bytes) → all ++ close line ≡ start ++ bytes_text gap
@@ -56,9 +56,9 @@ found_gap all start line held gap g =
       | inl a ↦ a
       | inr a ↦ let e : gap ++ sync_bytes ≡ held = g.split ∙ ap (λ t. t ++ held) a in omega (arith, ap length e, length-append gap sync_bytes, g.few)
     ] in
-    let long : length gap ≡ length g.front = omega (arith, ap length g.split, length-append gap sync_bytes, length-append g.front held, four) in
-    let same : gap ≡ g.front = same_prefix gap g.front sync_bytes held long g.split in
-    gap_closed all start line g.front g.listed g.count ∙ ap (λ t. start ++ bytes_text t) (sym same)
+    let long : length gap ≡ length g.prefix = omega (arith, ap length g.split, length-append gap sync_bytes, length-append g.prefix held, four) in
+    let same : gap ≡ g.prefix = same_prefix gap g.prefix sync_bytes held long g.split in
+    gap_closed all start line g.prefix g.listed g.count ∙ ap (λ t. start ++ bytes_text t) (sym same)
 
 pub sync_told : (synced : Bool) (line : ℕ) (held held2 all all2 before : List ℕ) (sessions new_sessions : List Session) (at np : Place) (old new : Mode)
     → HasListed synced line held all before sessions at old → Adds Sync sessions at new_sessions np → Turns Sync old new np → all2 ≡ all ++ close line ++ codes "sync\n" → HasListed true 0 held2 all2 before new_sessions np new
@@ -146,8 +146,8 @@ pub gap_ended : (all all2 before : List ℕ) (line : ℕ) (held bytes : List ℕ
 gap_ended all all2 before line held bytes sessions (Synced gap packets tail) m t d e = absurd (d t.0)
 gap_ended all all2 before line held bytes sessions (Searching gap) m t d e =
     let start : List ℕ = before ++ flat_map session_text sessions in
-    let listed : all ++ B line held ≡ start ++ B 0 gap = ap (λ t. t ++ B line held) t.listed ∙ append_assoc start (B 0 t.front) (B line held) ∙ ap (λ k. start ++ (B 0 t.front ++ B k held)) t.count ∙ ap (λ t. start ++ t) (sym (open_text-append 32 (codes "bytes ") hex_byte 0 t.front held)) ∙ ap (λ t. start ++ B 0 t) (sym t.split) in
-    let count : in_line_after 32 line held ≡ in_line_after 32 0 gap = ap (λ k. in_line_after 32 k held) t.count ∙ sym (in_line_after-append 32 0 t.front held) ∙ ap (in_line_after 32 0) (sym t.split) in
+    let listed : all ++ B line held ≡ start ++ B 0 gap = ap (λ t. t ++ B line held) t.listed ∙ append_assoc start (B 0 t.prefix) (B line held) ∙ ap (λ k. start ++ (B 0 t.prefix ++ B k held)) t.count ∙ ap (λ t. start ++ t) (sym (open_text-append 32 (codes "bytes ") hex_byte 0 t.prefix held)) ∙ ap (λ t. start ++ B 0 t) (sym t.split) in
+    let count : in_line_after 32 line held ≡ in_line_after 32 0 gap = ap (λ k. in_line_after 32 k held) t.count ∙ sym (in_line_after-append 32 0 t.prefix held) ∙ ap (in_line_after 32 0) (sym t.split) in
     e ∙ gap_closed (all ++ B line held) start (in_line_after 32 line held) gap listed count ∙ append_assoc before (flat_map session_text sessions) (bytes_text gap)
 
 -- the end of a listing in a session

@@ -75,7 +75,7 @@ pub goes-quick : (all : List (List ℕ)) (text rest out new more : List ℕ) (st
 goes-quick all text rest out new more start k n c checker t limit e g =
     let added : List ℕ = flat_map (bytes_of 0) t.lines in
     let body : drop start new ≡ drop start out ++ added = ap (drop start) t.appended ∙ drop-append-le start out added g.long in
-    let front : take start new ≡ take start out = ap (take start) t.appended ∙ take-append-le start out added g.long in
+    let prefix : take start new ≡ take start out = ap (take start) t.appended ∙ take-append-le start out added g.long in
     let size : length new ≡ length out + length added = ap length t.appended ∙ length-append out added in
     let texts : split (text ++ more) ≡ map text_of t.lines ++ split (rest ++ more) = ap (λ s. split (s ++ more)) t.text_is ∙ ap split (append_assoc (texts_of t.lines) rest more) ∙ texts-ahead t.lines (rest ++ more) t.fit t.listed in
     let now : drop start new ≡ assembled (g.went.lines ++ t.lines) = body ∙ ap (λ b. b ++ added) g.went.is ∙ sym (bytes-behind (assembled g.went.lines) t.lines t.listed) ∙ sym (fold-append with_line [] g.went.lines t.lines) in
@@ -89,7 +89,7 @@ goes-quick all text rest out new more start k n c checker t limit e g =
       long = omega (arith, size, g.long);
       short = g.short;
       keeps = still-keeps checker (drop start out) added (drop start new) body g.keeps;
-      opens = subst (λ (b : List ℕ). Opens all g.others b g.first) (sym front) g.opens;
+      opens = subst (λ (b : List ℕ). Opens all g.others b g.first) (sym prefix) g.opens;
       went = record {
         lines = g.went.lines ++ t.lines;
         begins = record {

@@ -150,10 +150,10 @@ place-stands : (p : Place) → AreBytes (place_bytes p) → IsPlace p → Stands
 place-stands (Searching gap) b i = gap-stands gap b
 place-stands (Synced gap ps tail) b i =
     let e : gap ++ sync_bytes ++ packet_bytes ps ++ tail ≡ gap ++ (sync_bytes ++ packet_bytes ps) ++ tail = ap (λ t. t ++ tail) (append_assoc gap sync_bytes (packet_bytes ps)) in
-    let front : AreBytes (gap ++ (sync_bytes ++ packet_bytes ps)) = all_front (λ x. x < 256) (gap ++ (sync_bytes ++ packet_bytes ps)) tail (subst (λ t. AreBytes t) e b) in
+    let prefix : AreBytes (gap ++ (sync_bytes ++ packet_bytes ps)) = all_front (λ x. x < 256) (gap ++ (sync_bytes ++ packet_bytes ps)) tail (subst (λ t. AreBytes t) e b) in
     stands-for (place_lines (Synced gap ps tail)) (gap ++ (sync_bytes ++ packet_bytes ps) ++ tail) (gap ++ sync_bytes ++ packet_bytes ps ++ tail) (sym e)
     (both-stand (packets_lines gap ps) (gap_lines tail) (gap ++ (sync_bytes ++ packet_bytes ps)) tail
-    (session-stands gap ps (all_front (λ x. x < 256) gap (sync_bytes ++ packet_bytes ps) front) (each_fits None ps i.1))
+    (session-stands gap ps (all_front (λ x. x < 256) gap (sync_bytes ++ packet_bytes ps) prefix) (each_fits None ps i.1))
     (gap-stands tail (all_back (λ x. x < 256) (gap ++ sync_bytes ++ packet_bytes ps) tail b)))
 
 pub reading-stands : (bytes : List ℕ) (ss : List Session) (p : Place) → IsReading bytes ss p → Stands (flat_map session_lines ss ++ place_lines p) bytes

@@ -129,8 +129,8 @@ due_is_told c Mode.Searching place tail at = omega arith
 due_is_told c Mode.Synced place tail at = omega arith
 due_is_told c Mode.Due (Searching gap) tail at = absurd at
 due_is_told c Mode.Due (Synced gap packets old) tail at =
-    let front : List ℕ = gap ++ sync_bytes in
-    omega (arith, length-append gap sync_bytes, length-append front (packet_bytes packets), length-append (front ++ packet_bytes packets) old)
+    let prefix : List ℕ = gap ++ sync_bytes in
+    omega (arith, length-append gap sync_bytes, length-append prefix (packet_bytes packets), length-append (prefix ++ packet_bytes packets) old)
 
 pub tells_none : (p : PacketsState) → ((bytes listed : List ℕ) × PacketsStandFor p bytes listed) → TellsEnough p 0
 tells_none p s = record {

@@ -20,23 +20,23 @@ pub record Went (limit : ℕ) (all left : List (List ℕ)) (bytes : List ℕ) (n
   pub count : n ≡ length lines
 
 -- a header's line stands first, which stands for the front's bytes, and the others follow it
-pub record OpensHeaded (all others : List (List ℕ)) (front : List ℕ) (n : ℕ) : Type 0 where
+pub record OpensHeaded (all others : List (List ℕ)) (prefix : List ℕ) (n : ℕ) : Type 0 where
   pub header : Contents
   pub held : IsHeld header
   pub texts : all ≡ bit_text header ∷ others
-  pub are : front ≡ header_bytes header
+  pub are : prefix ≡ header_bytes header
   pub one : n ≡ 1
 
 -- no header's line stands first
-pub record OpensPlain (all others : List (List ℕ)) (front : List ℕ) (n : ℕ) : Type 0 where
+pub record OpensPlain (all others : List (List ℕ)) (prefix : List ℕ) (n : ℕ) : Type 0 where
   pub no_head : HasNoHead all
   pub texts : all ≡ others
-  pub are : front ≡ []
+  pub are : prefix ≡ []
   pub none : n ≡ 0
 
 -- the texts behind n texts of a header
 abbrev pub Opens : List (List ℕ) → List (List ℕ) → List ℕ → ℕ → Type 0
-Opens all others front n = OpensHeaded all others front n ⊎ OpensPlain all others front n
+Opens all others prefix n = OpensHeaded all others prefix n ⊎ OpensPlain all others prefix n
 
 -- The texts are read but for those that are left: their bytes are these, those of lines from `start` on, whose check is kept.
 pub record Goes (all left : List (List ℕ)) (out : List ℕ) (start : ℕ) (checker : CheckerState) (count : ℕ) : Type 0 where
@@ -101,11 +101,11 @@ TakesPiece a b piece = (text : List ℕ) → length (text ++ piece) < 2 ^ 63 →
 
 -- a piece of which an assembler takes only the front, so that the first line is read and none is held
 pub record TakesPrefix (a b : AssemblerState) (piece rest : List ℕ) : Type 0 where
-  pub front : List ℕ
-  pub split_is : piece ≡ front ++ rest
+  pub prefix : List ℕ
+  pub split_is : piece ≡ prefix ++ rest
   pub begun : b.begun ≡ true
   pub clear : b.held ≡ []
-  pub takes : TakesPiece a b front
+  pub takes : TakesPiece a b prefix
 
 -- a fault in what an assembler holds or in a piece: that of the whole text, whatever follows
 abbrev pub FailsIn : AssemblerState → List ℕ → AsmFault → Type 0

@@ -61,16 +61,16 @@ asm_limit = 67108864
 
 -- an outcome with one line more before it, which stands for these bytes
 abbrev pub after_one_line : List ℕ → Result (List ℕ) AsmFault → Result (List ℕ) AsmFault
-after_one_line front (Ok bytes) = Ok (front ++ bytes)
-after_one_line front (Err (fault.Line n)) = Err (fault.Line (n + 1))
-after_one_line front (Err (fault.TooLong n)) = Err (fault.TooLong (n + 1))
-after_one_line front (Err fault.NoMemory) = Err fault.NoMemory
+after_one_line prefix (Ok bytes) = Ok (prefix ++ bytes)
+after_one_line prefix (Err (fault.Line n)) = Err (fault.Line (n + 1))
+after_one_line prefix (Err (fault.TooLong n)) = Err (fault.TooLong (n + 1))
+after_one_line prefix (Err fault.NoMemory) = Err fault.NoMemory
 
 -- the outcome of texts of lines behind a line that stands for these bytes
-pub record Follows (front : List ℕ) (others : List (List ℕ)) (outcome : Result (List ℕ) AsmFault) : Type 0 where
+pub record Follows (prefix : List ℕ) (others : List (List ℕ)) (outcome : Result (List ℕ) AsmFault) : Type 0 where
   pub rest : Result (List ℕ) AsmFault
-  pub lines : AreAsm (asm_limit - length front) others rest
-  pub is : outcome ≡ after_one_line front rest
+  pub lines : AreAsm (asm_limit - length prefix) others rest
+  pub is : outcome ≡ after_one_line prefix rest
 
 -- the first text is a header's line, and the others follow it; the check leaves the header out
 pub record IsHeaded (all : List (List ℕ)) (outcome : Result (List ℕ) AsmFault) : Type 0 where

@@ -43,11 +43,11 @@ words_place i (s ∷ ss) = words_place (word_next i s.1) ss
 
 -- the bytes of a gap are listed but for those that are held, which may yet be a sync word
 pub record GapListed (all start : List ℕ) (line : ℕ) (held gap : List ℕ) : Type 0 where
-  pub front : List ℕ
-  pub split : gap ≡ front ++ held
-  pub listed : all ≡ start ++ open_text 32 (codes "bytes ") hex_byte 0 front
-  pub count : line ≡ in_line_after 32 0 front
-  pub full : (length held ≡ 4) ⊎ (front ≡ [])
+  pub prefix : List ℕ
+  pub split : gap ≡ prefix ++ held
+  pub listed : all ≡ start ++ open_text 32 (codes "bytes ") hex_byte 0 prefix
+  pub count : line ≡ in_line_after 32 0 prefix
+  pub full : (length held ≡ 4) ⊎ (prefix ≡ [])
   pub few : length held ≤ 4
 
 -- the words of a session are listed, and the last line is open

@@ -19,7 +19,7 @@ pub fn one_listing()
     ensures { (bytes text other : List ℕ) → IsListing bytes text → IsListing bytes other → text ≡ other }
 {}
 
-/// What a lister has listed, behind the listings before, is a front of the listing of its bytes with any further ones.
+/// What a lister has listed, after the listings before, is a prefix of the listing of its bytes with any further ones.
 pub fn listed_is_a_prefix()
     ensures { (l : ListerState) (given before bytes rest : List ℕ) → ListerStandsFor l given before bytes → AreBytes (bytes ++ rest)
         → (more : List ℕ) × (before ++ listing_of (bytes ++ rest) ≡ given ++ l.text ++ more) }
@@ -68,7 +68,7 @@ pub fn header_line_is_its_own()
     ensures no_line { (x : Contents) (line : Line) → IsLine (bit_text x) line → ⊥ }
 {}
 
-/// A text assembles to one outcome.
+/// A text assembles to at most one outcome.
 pub fn one_outcome()
     ensures { (text : List ℕ) (a b : Result (List ℕ) AsmFault) → IsAsm text a → IsAsm text b → a ≡ b }
 {}

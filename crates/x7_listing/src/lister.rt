@@ -36,9 +36,9 @@ fn take_all(text: &mut Vec<u8>, cutter: &mut Cutter, pen: Pen, piece: &[u8]) -> 
             at += taken.size;
             continue;
         }
-        let mut behind = at;
-        let run = cutter.cut(piece, &mut behind);
-        at = behind;
+        let mut after = at;
+        let run = cutter.cut(piece, &mut after);
+        at = after;
         if let Cut::Need = run {
             return now;
         }

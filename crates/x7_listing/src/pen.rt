@@ -43,7 +43,7 @@ pub(crate) fn new_pen() -> Pen
     }
 }
 
-/// A pen in a gap: the same one, or a new one behind a session.
+/// A pen in a gap: the same one, or a new one after a session.
 fn in_gap(pen: Pen) -> Pen
     ensures gap { result.synced ≡ false }
     ensures line { result.line ≡ (if pen.synced then 0 else pen.line) }
@@ -135,17 +135,17 @@ fn hold_all(text: &mut Vec<u8>, pen: Pen, bytes: &[u8]) -> Pen
     if bytes.len() < 4 {
         return hold_each(text, pen, bytes);
     }
-    let front = bytes.len() - 4;
-    let behind = put_bytes(text, pen.line, &pen.held[..pen.count]);
-    let line = put_bytes(text, behind, &bytes[..front]);
+    let first = bytes.len() - 4;
+    let after = put_bytes(text, pen.line, &pen.held[..pen.count]);
+    let line = put_bytes(text, after, &bytes[..first]);
     Pen {
         synced: false,
         line,
         held: [
-            bytes[front],
-            bytes[front + 1],
-            bytes[front + 2],
-            bytes[front + 3],
+            bytes[first],
+            bytes[first + 1],
+            bytes[first + 2],
+            bytes[first + 3],
         ],
         count: 4,
     }

@@ -140,15 +140,15 @@ fn put_data(out: &mut Vec<u8>, text: &[u8]) -> Option<WholeLines>
     if text[76] != b'\n' || !is_data(text) || !has_spaces(text) {
         return None;
     }
-    let front = prefix_of_hex(&row_digits(text));
-    if front.digits != 64 {
+    let prefix = prefix_of_hex(&row_digits(text));
+    if prefix.digits != 64 {
         return None;
     }
-    put(out, &front.bytes);
+    put(out, &prefix.bytes);
     Some(WholeLines { size: 77, count: 1 })
 }
 
-/// Whether a text begins with the word of a `bytes` line and the space behind it.
+/// Whether a text begins with the word of a `bytes` line and the space after it.
 #[inline(always)]
 fn is_bytes(text: &[u8]) -> bool
     requires { 77 ≤ length text.now }
@@ -157,9 +157,9 @@ fn is_bytes(text: &[u8]) -> bool
     [text[0], text[1], text[2], text[3], text[4], text[5]] == *b"bytes "
 }
 
-/// The 64 bytes behind the first six.
+/// The 64 bytes after the first six.
 #[inline(always)]
-fn behind_word(text: &[u8]) -> [u8; 64]
+fn after_word(text: &[u8]) -> [u8; 64]
     requires { 77 ≤ length text.now }
     ensures { result ≡ take 64 (drop 6 text.now) }
 {
@@ -177,21 +177,21 @@ fn put_bytes(out: &mut Vec<u8>, text: &[u8]) -> Option<WholeLines>
     if !is_bytes(text) {
         return None;
     }
-    let front = prefix_of_hex(&behind_word(text));
-    let count = front.digits / 2;
-    if count == 0 || front.digits != 2 * count || text[6 + front.digits] != b'\n' {
+    let prefix = prefix_of_hex(&after_word(text));
+    let count = prefix.digits / 2;
+    if count == 0 || prefix.digits != 2 * count || text[6 + prefix.digits] != b'\n' {
         return None;
     }
     let end = out.len() + count;
-    put(out, &front.bytes);
+    put(out, &prefix.bytes);
     out.truncate(end);
     Some(WholeLines {
-        size: 7 + front.digits,
+        size: 7 + prefix.digits,
         count: 1,
     })
 }
 
-/// The place of the first of these bytes among 16, or one behind them.
+/// The place of the first of these bytes among 16, or one after them.
 #[inline(always)]
 fn place_of(byte: u8, bytes: u8x16) -> usize {
     bytes

@@ -1,22 +1,23 @@
 //! Short runs, listed at once on a sheet: writes of one word and of up to sixteen, a few no-ops, and a short gap with the sync
-//! word behind it.
-ghost use Rattle.std.specs.Prelude.{◌≡◌, ℕ, ◌+◌, ◌*◌, ◌<◌, ◌≤◌, true, List, [], ◌∷◌, ◌++◌, IfNone, IfSome, codes, decimal, length, take, vec_len, vec_capacity};
+//! word after it.
+ghost use Rattle.std.specs.Prelude.{◌≡◌, ℕ, ◌+◌, ◌*◌, ◌<◌, ◌≤◌, true, List, [], ◌∷◌, ◌++◌, IfNone, IfSome, IsTrue, codes, decimal, length, take, vec_len, vec_capacity};
 ghost use Rattle.x7_words.specs.Word.{words_of_bytes};
 ghost use Rattle.x7_packets.specs.AtOnce.{EndsGap, short_head, write_head, WritesFew, WritesOne};
 ghost use Rattle.x7_packets.specs.Cutting.{CutterState};
 ghost use Rattle.x7_packets.specs.Nops.{nop_bytes, nop_word};
 ghost use Rattle.x7_packets.specs.Packet.{payload_steps};
 ghost use Rattle.x7_text.specs.Row.{bytes_text, close, in_line_after, open_text, spaced};
-ghost use Rattle.x7_listing.specs.TakingAtOnce.{TakesAtOnce, TakesOnSheet};
+ghost use Rattle.x7_listing.specs.TakingAtOnce.{BeginsSheet, TakesAtOnce, TakesOnSheet};
 ghost use Rattle.x7_listing.specs.AtOnce.{command_lines};
 ghost use Rattle.x7_listing.specs.HeadLine.{head_text};
-ghost use Rattle.x7_listing.specs.Pens.{TakesHead, TellsAfter, TellsOn, lister_after, lister_with};
+ghost use Rattle.x7_listing.specs.Pens.{TakesHead, TellsAfter, TellsOn, lister_after, lister_with, session_after};
 ghost use Rattle.x7_listing.specs.Telling.{words_place, open_words};
 
 use crate::at_once::Taken;
 use crate::pen::{Pen, in_session, session_line};
 use crate::rows::{command_row, name_row, write_row};
 use crate::sheet::{SHEET, put_prefix, put_row, put_whole};
+use std::mem;
 use x7_packets::{Cutter, Step};
 use x7_regs::Reg;
 use x7_text::{bytes_line, data_line, hex_of_word, put};
@@ -292,6 +293,44 @@ fn put_gap(sheet: &mut [u8; SHEET], len: usize, pen: Pen, count: usize, rest: &[
     }
 }
 
+/// What begins a sheet: how many words stand in the open line behind it, how long its text is, and how many bytes of the piece it was.
+#[derive(Clone, Copy)]
+struct Begun {
+    line: usize,
+    len: usize,
+    size: usize,
+}
+
+/// Takes the writes of one word that come first, one after another, and puts what they add at a sheet's beginning, behind an open
+/// line of `line` words. It stands apart, and has the cutter to itself till its end, so that its loop stores nothing but text.
+#[inline(never)]
+fn take_writes(sheet: &mut [u8; SHEET], cutter: &mut Cutter, line: usize, rest: &[u8]) -> Begun
+    requires within { line < 8 }
+    ensures within { result.line < 8 }
+    ensures sheet { BeginsSheet cutter.old cutter.new rest.now result.size result.len }
+    ensures listed { TellsAfter (session_after cutter.old line []) (session_after cutter.new result.line (take result.len sheet.new)) (take result.size rest.now) }
+{
+    let mut own = mem::replace(cutter, Cutter::new());
+    let mut in_line = line;
+    let mut at = 0;
+    let mut len = 0;
+    while len <= SHEET - FREE {
+        let Some((register, w)) = own.take_write(&rest[at..]) else {
+            break;
+        };
+        let end = put_one_word(sheet, len, in_line, register, w);
+        in_line = end.line;
+        len = end.len;
+        at += 8;
+    }
+    *cutter = own;
+    Begun {
+        line: in_line,
+        len,
+        size: at,
+    }
+}
+
 /// Takes what comes next, where it is short, and puts what that adds.
 #[inline(always)]
 fn take_next(
@@ -329,7 +368,31 @@ fn take_next(
     Some(put_gap(sheet, len, pen, count, rest))
 }
 
-/// Takes the short runs that come next, one after another, and appends what they add, which is put on the sheet first.
+/// The first byte of a write's header whose reserved bits are 0.
+const WRITE: u8 = 0x30;
+
+/// The first byte of the no-op.
+const NO_OP: u8 = 0x20;
+
+/// Whether a short run may come next: behind a session, and in one where the next word may be a write or a no-op.
+#[inline(always)]
+fn may_come(cutter: &Cutter, pen: Pen, rest: &[u8]) -> bool
+    ensures session { IsTrue result → pen.synced ≡ true }
+{
+    if !pen.synced {
+        return false;
+    }
+    if !cutter.is_synced() {
+        return true;
+    }
+    let [first, ..] = rest else {
+        return false;
+    };
+    *first == WRITE || *first == NO_OP
+}
+
+/// Takes the short runs of a session that come next, one after another, and appends what they add, which is put on the sheet
+/// first: the writes of one word that come first, and then whatever is short.
 #[inline(always)]
 pub(crate) fn take_short(
     text: &mut Vec<u8>,
@@ -345,9 +408,13 @@ pub(crate) fn take_short(
     ensures same { IfNone result (text.new ≡ text.old) }
     ensures room { vec_capacity text.old ≤ vec_capacity text.new }
 {
-    let mut now = pen;
-    let mut at = 0;
-    let mut len = 0;
+    if !may_come(cutter, pen, rest) {
+        return None;
+    }
+    let begun = take_writes(sheet, cutter, session_line(pen), rest);
+    let mut now = in_session(begun.line);
+    let mut at = begun.size;
+    let mut len = begun.len;
     while len <= SHEET - FREE {
         let Some(next) = take_next(sheet, len, cutter, now, &rest[at..]) else {
             break;

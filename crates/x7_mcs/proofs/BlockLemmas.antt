@@ -49,9 +49,9 @@ in_two place rest bytes more e (inr z) =
     ∙ ap (λ t. row_lines place (rows 16 bytes) ++ t) (sym (nothing (place + length bytes) more z))
 
 module _ (first now : Option (List ℕ)) (flash : List ℕ) (place : ℕ) (rest bytes more block : List ℕ) (k : ℕ) (g : Goes first now flash place rest) (e : k ≡ min (length rest) 65536) (long : length more + k ≡ length rest)
-    (front : bytes ≡ take k rest) (back : more ≡ drop k rest) (size : length bytes ≡ k) (is : block ≡ row_lines place (rows 16 bytes)) where
+    (prefix : bytes ≡ take k rest) (back : more ≡ drop k rest) (size : length bytes ≡ k) (is : block ≡ row_lines place (rows 16 bytes)) where
   parts : rest ≡ bytes ++ more
-  parts = sym (take-append-drop k rest) ∙ ap (λ t. t ++ drop k rest) (sym front) ∙ ap (λ t. bytes ++ t) (sym back)
+  parts = sym (take-append-drop k rest) ∙ ap (λ t. t ++ drop k rest) (sym prefix) ∙ ap (λ t. bytes ++ t) (sym back)
 
   even : (length bytes % 16 ≡ 0) ⊎ (length more ≡ 0)
   even = elim (whole place (length rest) k (length more) e long) [

@@ -16,10 +16,10 @@ two-first [] pair more h e f = absurd (omega arith)
 two-first (x ∷ []) pair more h e f = absurd (omega arith)
 two-first (x ∷ y ∷ xs) pair more h e f = rw (e, f) refl
 
-module _ (digits rest pair more out : List ℕ) (o : Option ℕ) (long : 2 ≤ length rest) (front : pair ≡ take 2 rest) (back : more ≡ drop 2 rest)
+module _ (digits rest pair more out : List ℕ) (o : Option ℕ) (long : 2 ≤ length rest) (prefix : pair ≡ take 2 rest) (back : more ≡ drop 2 rest)
     (is : o ≡ byte_of (digit_of (get_or pair 0 0)) (digit_of (get_or pair 1 0))) (e : pairs digits ≡ ahead out (pairs rest)) where
   split-pairs : pairs digits ≡ ahead out (led o (pairs more))
-  split-pairs = e ∙ ap (λ t. ahead out (pairs t)) (two-first rest pair more long front back) ∙ ap (λ p. ahead out (led p (pairs more))) (sym is)
+  split-pairs = e ∙ ap (λ t. ahead out (pairs t)) (two-first rest pair more long prefix back) ∙ ap (λ p. ahead out (led p (pairs more))) (sym is)
 
   pub pair-more : (x : ℕ) (next : List ℕ) → o ≡ Some x → next ≡ out ++ x ∷ [] → pairs digits ≡ ahead next (pairs more)
   pair-more x next f g = split-pairs ∙ ap (λ p. ahead out (led p (pairs more))) f ∙ ahead-led out x (pairs more) ∙ ap (λ t. ahead t (pairs more)) (sym g)

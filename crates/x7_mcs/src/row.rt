@@ -86,7 +86,7 @@ pub(crate) fn row_line(address: u32, content: &[u8; 16]) -> [u8; 44]
     line
 }
 
-/// The eight bytes of a line behind its first.
+/// The eight bytes of a line after its first.
 #[inline(always)]
 fn fields_in(line: &[u8; 44]) -> [u8; 8]
     ensures { result ≡ chunk 1 8 line.now }

@@ -1,10 +1,10 @@
 //! One line more.
-ghost use Rattle.std.specs.Prelude.{true, ◌<◌, ◌+◌, ◌^◌, List, length, Some, Result, MatchResult, MatchOption};
+ghost use Rattle.std.specs.Prelude.{true, ◌<◌, ◌+◌, ◌^◌, List, length, Some, Result, MatchResult};
 ghost use Rattle.x7_mcs.specs.Record.{data_of, meaning_of};
 ghost use Rattle.x7_mcs.specs.Places.{DataRecord};
 ghost use Rattle.x7_mcs.specs.Flash.{Reading, after_data, after_line};
 ghost use Rattle.x7_mcs.specs.State.{Fails};
-ghost use Rattle.x7_mcs.specs.Images.{CameTo, GoesFrom, HoldsIn, after_record, reading_at};
+ghost use Rattle.x7_mcs.specs.Images.{ComesTo, GoesFrom, GoesOn, HoldsIn, after_record, reading_at};
 ghost use Rattle.x7_mcs.specs.declared.fault.McsFault.{McsFault};
 
 use crate::digits::put_pairs;
@@ -35,10 +35,7 @@ fn put_data(
 ) -> Result<Context, McsFault>
     requires content { length content.now < 256 }
     requires address { address < 2 ^ 16 }
-    ensures { (xs : List DataRecord) → HoldsIn image.old xs
-        → MatchResult result
-        (λ c. CameTo (after_data n (reading_at context xs) address content.now) c image.new)
-        (λ f. Fails (after_data n (reading_at context xs) address content.now) f) }
+    ensures { (xs : List DataRecord) → HoldsIn image.old xs → ComesTo result (after_data n (reading_at context xs) address content.now) image.new }
 {
     match put_content(image, n, context.base as usize + address as usize, content) {
         Ok(()) => Ok(context),
@@ -53,10 +50,7 @@ fn put_record(
     context: Context,
     bytes: &[u8],
 ) -> Result<Context, McsFault>
-    ensures { (xs : List DataRecord) → HoldsIn image.old xs
-        → MatchResult result
-        (λ c. CameTo (after_record n context xs bytes.now) c image.new)
-        (λ f. Fails (after_record n context xs bytes.now) f) }
+    ensures { (xs : List DataRecord) → HoldsIn image.old xs → ComesTo result (after_record n context xs bytes.now) image.new }
 {
     match meaning_of(n, context.ended, bytes) {
         Err(fault) => Err(fault),
@@ -81,10 +75,7 @@ fn put_line(
     context: Context,
     line: &[u8],
 ) -> Result<Context, McsFault>
-    ensures { (xs : List DataRecord) → HoldsIn image.old xs
-        → MatchResult result
-        (λ c. CameTo (after_line n (reading_at context xs) line.now) c image.new)
-        (λ f. Fails (after_line n (reading_at context xs) line.now) f) }
+    ensures { (xs : List DataRecord) → HoldsIn image.old xs → ComesTo result (after_line n (reading_at context xs) line.now) image.new }
 {
     if line.len() == 0 {
         return Ok(context);
@@ -122,12 +113,7 @@ pub(crate) fn take_line<'t>(
     context: Context,
     text: &'t [u8],
 ) -> Result<Taken<'t>, McsFault>
-    ensures { (whole : Result Reading McsFault) → GoesFrom whole text.now n context image.old
-        → MatchResult result
-        (λ t. MatchOption t.rest
-        (CameTo whole t.context image.new)
-        (λ rest. GoesFrom whole rest.now (n + 1) t.context image.new × (length rest.now < length text.now)))
-        (λ f. Fails whole f) }
+    ensures { (whole : Result Reading McsFault) → GoesFrom whole text.now n context image.old → MatchResult result (λ t. GoesOn whole text.now (n + 1) t image.new) (λ f. Fails whole f) }
 {
     if !context.ended
         && let Some((row, rest)) = first_row(text)

@@ -48,7 +48,7 @@ over_other w n p q ws new h i ne e f =
 
 pub over_length : (a : ℕ) (ws new : List ℕ) → a + length new ≤ length ws → length (take a ws ++ (new ++ drop (a + length new) ws)) ≡ length ws
 over_length a ws new h =
-    let front : length (take a ws) ≡ a = length-take-le a ws (omega arith) in
+    let prefix : length (take a ws) ≡ a = length-take-le a ws (omega arith) in
     let rest : length (drop (a + length new) ws) ≡ length ws - (a + length new) = length-drop (a + length new) ws in
     let back : length (new ++ drop (a + length new) ws) ≡ length new + length (drop (a + length new) ws) = length-append new (drop (a + length new) ws) in
     let all : length (take a ws ++ (new ++ drop (a + length new) ws)) ≡ length (take a ws) + length (new ++ drop (a + length new) ws) =

@@ -46,7 +46,7 @@ impl Draft {
         }
     }
 
-    /// Adds a frame behind the others.
+    /// Adds a frame after the others.
     pub fn push(&mut self, far: u32, words: &[u32]) -> Result<(), NoMemory>
         requires width { length words.now ≡ self.old.width }
         ensures added { OnOk result (self.new.rows ≡ self.old.rows ++ record { far = far; words = words.now } ∷ []) }

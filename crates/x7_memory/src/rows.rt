@@ -62,7 +62,7 @@ impl Rows {
         })
     }
 
-    /// Adds a row behind the others.
+    /// Adds a row after the others.
     pub(crate) fn push(&mut self, far: u32, words: &[u32]) -> Result<(), AllocError>
         requires width { length words.now ≡ self.old.width }
         ensures added { OnOk result (self.new.rows ≡ self.old.rows ++ record { far = far; words = words.now } ∷ []) }
@@ -72,7 +72,7 @@ impl Rows {
         self.insert(self.len(), far, words)
     }
 
-    /// Adds a row at a place, and moves those from there on behind it.
+    /// Adds a row at a place, and moves those from there on after it.
     pub(crate) fn insert(&mut self, place: usize, far: u32, words: &[u32]) -> Result<(), AllocError>
         requires place { place ≤ length self.old.rows }
         requires width { length words.now ≡ self.old.width }

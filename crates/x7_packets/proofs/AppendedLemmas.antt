@@ -31,25 +31,25 @@ joined a b gap ss [] (Searching g) f r s d = record {
   ends = none_parted gap g r.ends s.ends (parted_same gap b g s.joined d);
 }
 joined a b gap ss [] (Synced g packets tail) f r s d =
-    let front : List ℕ = flat_map session_bytes ss in
+    let prefix : List ℕ = flat_map session_bytes ss in
     let whole : b ≡ g ++ (sync_bytes ++ (packet_bytes packets ++ tail)) = s.joined ∙ simp append_assoc in
-    let regrouped : (front ++ gap) ++ (g ++ (sync_bytes ++ (packet_bytes packets ++ tail))) ≡ front ++ ((gap ++ g) ++ sync_bytes ++ packet_bytes packets ++ tail) = simp append_assoc in
+    let regrouped : (prefix ++ gap) ++ (g ++ (sync_bytes ++ (packet_bytes packets ++ tail))) ≡ prefix ++ ((gap ++ g) ++ sync_bytes ++ packet_bytes packets ++ tail) = simp append_assoc in
     record {
       fits = f;
-      joined = ap (λ t. t ++ b) r.joined ∙ ap (λ t. (front ++ gap) ++ t) whole ∙ regrouped;
+      joined = ap (λ t. t ++ b) r.joined ∙ ap (λ t. (prefix ++ gap) ++ t) whole ∙ regrouped;
       each = r.each;
       ends = (first_parted gap g r.ends s.ends.0 (parted_gap gap g (packet_bytes packets ++ tail) (parted_same gap b (g ++ (sync_bytes ++ (packet_bytes packets ++ tail))) whole d)), s.ends.1, s.ends.2, s.ends.3);
     }
 joined a b gap ss (t ∷ ts) q f r s d =
-    let front : List ℕ = flat_map session_bytes ss in
+    let prefix : List ℕ = flat_map session_bytes ss in
     let rest : List ℕ = packet_bytes t.packets ++ (flat_map session_bytes ts ++ place_bytes q) in
     let first : Session = record { gap = gap ++ t.gap; packets = t.packets } in
     let whole : b ≡ t.gap ++ (sync_bytes ++ rest) = s.joined ∙ simp append_assoc in
-    let regrouped : (front ++ gap) ++ (t.gap ++ (sync_bytes ++ rest)) ≡ (front ++ (session_bytes first ++ flat_map session_bytes ts)) ++ place_bytes q = simp append_assoc in
+    let regrouped : (prefix ++ gap) ++ (t.gap ++ (sync_bytes ++ rest)) ≡ (prefix ++ (session_bytes first ++ flat_map session_bytes ts)) ++ place_bytes q = simp append_assoc in
     let parted : (gap ≡ []) ⊎ BeginsWithDummy t.gap = parted_gap gap t.gap rest (parted_same gap b (t.gap ++ (sync_bytes ++ rest)) whole d) in
     record {
       fits = f;
-      joined = ap (λ t. t ++ b) r.joined ∙ ap (λ t. (front ++ gap) ++ t) whole ∙ regrouped
+      joined = ap (λ t. t ++ b) r.joined ∙ ap (λ t. (prefix ++ gap) ++ t) whole ∙ regrouped
           ∙ ap (λ t. t ++ place_bytes q) (sym (flat_map-append session_bytes ss (first ∷ ts)));
       each = all-append IsSession ss (first ∷ ts) r.each (record { first = first_parted gap t.gap r.ends s.each.0.first parted; packets = s.each.0.packets; ended = s.each.0.ended }, s.each.1);
       ends = s.ends;
@@ -69,15 +69,15 @@ by_place a b ss (Synced gap packets tail) f r e d = absurd (cc)
 pub read_after : (a b : List ℕ) → AreBytes (a ++ b) → MayFollow (reading_of a).place b → reading_of (a ++ b) ≡ after (reading_of a) (reading_of b)
 read_after a b f d = by_place a b (reading_of a).sessions (reading_of a).place f (reading_is_found a (all_front (λ x. x < 256) a b f)) d.searching d.apart
 
-synced_same : (before : List Session) (front : List ℕ) (ts : List Session) (q : Place) → is_synced (after_gap before front ts q).place ≡ is_synced q
-synced_same before front [] (Searching gap) = refl
-synced_same before front [] (Synced gap packets tail) = refl
-synced_same before front (t ∷ ts) q = refl
+synced_same : (before : List Session) (prefix : List ℕ) (ts : List Session) (q : Place) → is_synced (after_gap before prefix ts q).place ≡ is_synced q
+synced_same before prefix [] (Searching gap) = refl
+synced_same before prefix [] (Synced gap packets tail) = refl
+synced_same before prefix (t ∷ ts) q = refl
 
-tail_same : (before : List Session) (front : List ℕ) (ts : List Session) (q : Place) → tail_of (after_gap before front ts q).place ≡ tail_of q
-tail_same before front [] (Searching gap) = refl
-tail_same before front [] (Synced gap packets tail) = refl
-tail_same before front (t ∷ ts) q = refl
+tail_same : (before : List Session) (prefix : List ℕ) (ts : List Session) (q : Place) → tail_of (after_gap before prefix ts q).place ≡ tail_of q
+tail_same before prefix [] (Searching gap) = refl
+tail_same before prefix [] (Synced gap packets tail) = refl
+tail_same before prefix (t ∷ ts) q = refl
 
 pub ends_after : (a b : List ℕ) → AreBytes (a ++ b) → MayFollow (reading_of a).place b → is_synced (reading_of (a ++ b)).place ≡ is_synced (reading_of b).place
 ends_after a b f d = ap (λ (r : Reading). is_synced r.place) (read_after a b f d) ∙ synced_same (reading_of a).sessions (gap_of (reading_of a).place) (reading_of b).sessions (reading_of b).place
@@ -160,7 +160,7 @@ nothing_read bytes f n =
     let is : ([] ≡ (reading_of bytes).sessions) × (Searching bytes ≡ (reading_of bytes).place) = reading_is bytes [] (Searching bytes) (gap_reading bytes f n) in
     (sym (same_reading (record { sessions = []; place = Searching bytes }) (reading_of bytes) is.0 is.1), sym (history_is bytes [] (Searching bytes) (gap_reading bytes f n)))
 
--- further bytes of which a front of a dummy word is there
+-- further bytes of which a prefix of a dummy word is there
 short_prefix : (bytes s rest : List ℕ) → AreBytes bytes → is_synced (reading_of bytes).place ≡ false → s ++ rest ≡ 0xFF ∷ 0xFF ∷ 0xFF ∷ 0xFF ∷ [] → history_of (bytes ++ s) ≡ history_of bytes
 short_prefix bytes s rest b e d =
     let dummy : List ℕ = 0xFF ∷ 0xFF ∷ 0xFF ∷ 0xFF ∷ [] in
@@ -187,7 +187,7 @@ dummy_prefix bytes rest (suc (suc (suc (suc k)))) b f e =
     (all-append (λ x. x < 256) bytes (0xFF ∷ 0xFF ∷ 0xFF ∷ 0xFF ∷ take k rest) b (omega arith, (omega arith, (omega arith, (omega arith, all_take (λ x. x < 256) k rest f)))))
     (record { searching = e; apart = inr (take k rest, refl) })
 
--- the history of a front of further bytes
+-- the history of a prefix of further bytes
 pub prefixes_after : (a b : List ℕ) (k : ℕ) → AreBytes (a ++ b) → MayFollow (reading_of a).place b → history_of (a ++ take k b) ≡ moved (length a) (history_of (take k b)) ++ history_of a
 prefixes_after a b k f d = by_apart d.apart
   where

@@ -62,35 +62,35 @@ word_joined latest (p ∷ []) w = last_joined latest p w (nat_lt (length p.paylo
 word_joined latest (p ∷ q ∷ ps) w = ap (λ t. words p ++ t) (word_joined (latest_after latest p.step) (q ∷ ps) w) ∙ sym (append_assoc (words p) (flat_map words (q ∷ ps)) (w ∷ []))
 
 -- words behind those of packets that were found
-words_behind : (front back : List ℕ) (ps : List Packet) → AreWords back → ((more rest : List ℕ) (w : ℕ) → back ≡ more ++ w ∷ rest → ended (fold with_word ps more) ≡ false) → Packets front ps → Packets (front ++ back) (fold with_word ps back)
-words_behind front [] ps f o a = rw append-nil a
-words_behind front (w ∷ back) ps f o a =
-    let next : Packets (front ++ w ∷ []) (with_word ps w) = record { joined = ap (λ t. t ++ w ∷ []) a.joined ∙ sym (word_joined None ps w); each = word_each None ps w f.0 a.each (o [] back w refl) } in
-    let all : Packets ((front ++ w ∷ []) ++ back) (fold with_word (with_word ps w) back) = words_behind (front ++ w ∷ []) back (with_word ps w) f.1 (λ more rest x e. o (w ∷ more) rest x (ap (λ t. w ∷ t) e)) next in
+words_behind : (prefix back : List ℕ) (ps : List Packet) → AreWords back → ((more rest : List ℕ) (w : ℕ) → back ≡ more ++ w ∷ rest → ended (fold with_word ps more) ≡ false) → Packets prefix ps → Packets (prefix ++ back) (fold with_word ps back)
+words_behind prefix [] ps f o a = rw append-nil a
+words_behind prefix (w ∷ back) ps f o a =
+    let next : Packets (prefix ++ w ∷ []) (with_word ps w) = record { joined = ap (λ t. t ++ w ∷ []) a.joined ∙ sym (word_joined None ps w); each = word_each None ps w f.0 a.each (o [] back w refl) } in
+    let all : Packets ((prefix ++ w ∷ []) ++ back) (fold with_word (with_word ps w) back) = words_behind (prefix ++ w ∷ []) back (with_word ps w) f.1 (λ more rest x e. o (w ∷ more) rest x (ap (λ t. w ∷ t) e)) next in
     rw append_assoc at all
 
 pub packets_are_found : (ws : List ℕ) → AreWords ws → AreOfOneSession ws → Packets ws (packets_of ws)
 packets_are_found ws f o = words_behind [] ws [] f o (record { joined = refl; each = tt })
 
 -- the word that ends a session is the last of the words of packets
-goes_on : (ws front rest : List ℕ) (w : ℕ) (ps qs : List Packet) (b : Bool) → ended ps ≡ b → Packets ws qs → ws ≡ front ++ w ∷ rest → Packets front ps → ended ps ≡ false
-goes_on ws front rest w ps qs true t a e b = absurd (let none : w ∷ rest ≡ [] = after_end None ps qs (w ∷ rest) b.each t a.each (ap (λ xs. xs ++ w ∷ rest) (sym b.joined) ∙ sym e ∙ a.joined) in cc)
-goes_on ws front rest w ps qs false t a e b = t
+goes_on : (ws prefix rest : List ℕ) (w : ℕ) (ps qs : List Packet) (b : Bool) → ended ps ≡ b → Packets ws qs → ws ≡ prefix ++ w ∷ rest → Packets prefix ps → ended ps ≡ false
+goes_on ws prefix rest w ps qs true t a e b = absurd (let none : w ∷ rest ≡ [] = after_end None ps qs (w ∷ rest) b.each t a.each (ap (λ xs. xs ++ w ∷ rest) (sym b.joined) ∙ sym e ∙ a.joined) in cc)
+goes_on ws prefix rest w ps qs false t a e b = t
 
-none_early : (ws front back rest : List ℕ) (w : ℕ) (ps qs : List Packet) → Packets ws qs → ws ≡ front ++ (back ++ w ∷ rest) → AreWords back → Packets front ps → ended (fold with_word ps back) ≡ false
-none_early ws front [] rest w ps qs a e f b = goes_on ws front rest w ps qs (ended ps) refl a e b
-none_early ws front (x ∷ back) rest w ps qs a e f b =
-    let calm : ended ps ≡ false = goes_on ws front (back ++ w ∷ rest) x ps qs (ended ps) refl a e b in
-    let next : Packets (front ++ x ∷ []) (with_word ps x) = record { joined = ap (λ t. t ++ x ∷ []) b.joined ∙ sym (word_joined None ps x); each = word_each None ps x f.0 b.each calm } in
-    none_early ws (front ++ x ∷ []) back rest w (with_word ps x) qs a (e ∙ sym (append_assoc front (x ∷ []) (back ++ w ∷ rest))) f.1 next
+none_early : (ws prefix back rest : List ℕ) (w : ℕ) (ps qs : List Packet) → Packets ws qs → ws ≡ prefix ++ (back ++ w ∷ rest) → AreWords back → Packets prefix ps → ended (fold with_word ps back) ≡ false
+none_early ws prefix [] rest w ps qs a e f b = goes_on ws prefix rest w ps qs (ended ps) refl a e b
+none_early ws prefix (x ∷ back) rest w ps qs a e f b =
+    let calm : ended ps ≡ false = goes_on ws prefix (back ++ w ∷ rest) x ps qs (ended ps) refl a e b in
+    let next : Packets (prefix ++ x ∷ []) (with_word ps x) = record { joined = ap (λ t. t ++ x ∷ []) b.joined ∙ sym (word_joined None ps x); each = word_each None ps x f.0 b.each calm } in
+    none_early ws (prefix ++ x ∷ []) back rest w (with_word ps x) qs a (e ∙ sym (append_assoc prefix (x ∷ []) (back ++ w ∷ rest))) f.1 next
 
 words_of_packets_fit : (ws : List ℕ) (ps : List Packet) → Packets ws ps → AreWords ws
 words_of_packets_fit ws ps a = rw a.joined (each_fits None ps a.each)
 
 pub one_session : (ws : List ℕ) (ps : List Packet) → Packets ws ps → AreOfOneSession ws
-one_session ws ps a front back w e =
-    let fits : AreWords (front ++ w ∷ back) = rw e at (words_of_packets_fit ws ps a) in
-    none_early ws [] front back w [] ps a e (all_front (λ x. x < 2 ^ 32) front (w ∷ back) fits) (record { joined = refl; each = tt })
+one_session ws ps a prefix back w e =
+    let fits : AreWords (prefix ++ w ∷ back) = rw e at (words_of_packets_fit ws ps a) in
+    none_early ws [] prefix back w [] ps a e (all_front (λ x. x < 2 ^ 32) prefix (w ∷ back) fits) (record { joined = refl; each = tt })
 
 pub packets_are : (ws : List ℕ) (ps : List Packet) → Packets ws ps → ps ≡ packets_of ws
 packets_are ws ps a =
@@ -109,10 +109,10 @@ sync_is (a ∷ b ∷ c ∷ d ∷ x ∷ xs) e = absurd (cc)
 ends_with : (bytes : List ℕ) → is_sync (last_four bytes) ≡ true → bytes ≡ before_last_four bytes ++ sync_bytes
 ends_with bytes e = sym (take-append-drop (length bytes - 4) bytes) ∙ ap (λ t. before_last_four bytes ++ t) (sync_is (last_four bytes) e)
 
-last_are : (front : List ℕ) → last_four (front ++ sync_bytes) ≡ sync_bytes
-last_are front =
-    let n : length (front ++ sync_bytes) - 4 ≡ length front = omega (arith, length-append front sync_bytes) in
-    ap (λ k. drop k (front ++ sync_bytes)) n ∙ drop-append_seam front sync_bytes
+last_are : (prefix : List ℕ) → last_four (prefix ++ sync_bytes) ≡ sync_bytes
+last_are prefix =
+    let n : length (prefix ++ sync_bytes) - 4 ≡ length prefix = omega (arith, length-append prefix sync_bytes) in
+    ap (λ k. drop k (prefix ++ sync_bytes)) n ∙ drop-append_seam prefix sync_bytes
 
 ends_not : (bytes : List ℕ) → is_sync (last_four bytes) ≡ false → EndsWithSync bytes → ⊥
 ends_not bytes e w = let t : last_four bytes ≡ sync_bytes = ap last_four w.1 ∙ last_are w.0 in let u : is_sync (last_four bytes) ≡ true = ap is_sync t in cc
@@ -125,14 +125,14 @@ Reads bytes r = IsReading bytes r.sessions r.place
 gap_more : (sessions : List Session) (bytes gap : List ℕ) (byte : ℕ) (b : Bool) → is_sync (last_four (gap ++ byte ∷ [])) ≡ b → AreBytes (bytes ++ byte ∷ []) → IsReading bytes sessions (Searching gap)
     → IsReading (bytes ++ byte ∷ []) sessions (if b then Synced (before_last_four (gap ++ byte ∷ [])) [] [] else Searching (gap ++ byte ∷ []))
 gap_more sessions bytes gap byte true e f r =
-    let front : List ℕ = before_last_four (gap ++ byte ∷ []) in
-    let whole : gap ++ byte ∷ [] ≡ front ++ sync_bytes = ends_with (gap ++ byte ∷ []) e in
+    let prefix : List ℕ = before_last_four (gap ++ byte ∷ []) in
+    let whole : gap ++ byte ∷ [] ≡ prefix ++ sync_bytes = ends_with (gap ++ byte ∷ []) e in
     record {
       fits = f;
       joined = ap (λ t. t ++ byte ∷ []) r.joined ∙ append_assoc (flat_map session_bytes sessions) gap (byte ∷ [])
-          ∙ ap (λ t. flat_map session_bytes sessions ++ t) (whole ∙ sym (append-nil (front ++ sync_bytes)) ∙ sym (append-nil (front ++ sync_bytes ++ [])));
+          ∙ ap (λ t. flat_map session_bytes sessions ++ t) (whole ∙ sym (append-nil (prefix ++ sync_bytes)) ∙ sym (append-nil (prefix ++ sync_bytes ++ [])));
       each = r.each;
-      ends = (first_here gap front byte r.ends whole, tt, refl, omega arith);
+      ends = (first_here gap prefix byte r.ends whole, tt, refl, omega arith);
     }
 gap_more sessions bytes gap byte false e f r = record {
   fits = f;

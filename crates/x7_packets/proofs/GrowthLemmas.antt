@@ -69,9 +69,9 @@ session_enters bytes sessions gap (a ∷ b ∷ c ∷ []) packets x r =
 session_enters bytes sessions gap (a ∷ b ∷ c ∷ d ∷ tail) packets x r = inl refl
 
 -- a gap enters nothing, whether it ends with the sync word or not
-gap_enters : (sessions : List Session) (front gap : List ℕ) (b : Bool) → history sessions (if b then Synced front [] [] else Searching gap) ≡ entered_sessions 0 sessions []
-gap_enters sessions front gap true = refl
-gap_enters sessions front gap false = refl
+gap_enters : (sessions : List Session) (prefix gap : List ℕ) (b : Bool) → history sessions (if b then Synced prefix [] [] else Searching gap) ≡ entered_sessions 0 sessions []
+gap_enters sessions prefix gap true = refl
+gap_enters sessions prefix gap false = refl
 
 place_enters : (bytes : List ℕ) (sessions : List Session) (place : Place) (x : ℕ) → IsReading bytes sessions place
     → (let r : Reading = with_byte_at sessions place x in OneMore (length bytes + 1) (history sessions place) (history r.sessions r.place))

@@ -33,9 +33,9 @@ chunk_more bytes chunks i w x e l f n s =
 
 pub equal_taken : (k w : ℕ) (bytes : List ℕ) → AreBytes bytes → 4 * k ≤ length bytes → take k (words_of_bytes bytes) ≡ replicate k w → take (4 * k) bytes ≡ equal_bytes w k
 equal_taken k w bytes fits l e =
-    let front : List ℕ = take (4 * k) bytes in
-    let count : length front ≡ 4 * k = length-take-le (4 * k) bytes l in
-    sym (bytes-words front k (all_take (λ b. b < 256) (4 * k) bytes fits) count) ∙ ap (flat_map bytes_of_word) (words_taken k bytes l ∙ e)
+    let prefix : List ℕ = take (4 * k) bytes in
+    let count : length prefix ≡ 4 * k = length-take-le (4 * k) bytes l in
+    sym (bytes-words prefix k (all_take (λ b. b < 256) (4 * k) bytes fits) count) ∙ ap (flat_map bytes_of_word) (words_taken k bytes l ∙ e)
 
 -- ---- a machine in a header's place
 

@@ -20,9 +20,9 @@ history_in r = history r.sessions r.place
 abbrev Steps : Reading → Reading → Type 0
 Steps old new = ((history_in new ≡ history_in old) × (left_of new ≤ left_of old + 1)) ⊎ ((left_of old ≡ 3) × (left_of new ≡ 0))
 
-gap_steps : (sessions : List Session) (gap front more : List ℕ) (b : Bool) → Steps (record { sessions = sessions; place = Searching gap }) (record { sessions = sessions; place = if b then Synced front [] [] else Searching more })
-gap_steps sessions gap front more true = inl (refl, omega arith)
-gap_steps sessions gap front more false = inl (refl, omega arith)
+gap_steps : (sessions : List Session) (gap prefix more : List ℕ) (b : Bool) → Steps (record { sessions = sessions; place = Searching gap }) (record { sessions = sessions; place = if b then Synced prefix [] [] else Searching more })
+gap_steps sessions gap prefix more true = inl (refl, omega arith)
+gap_steps sessions gap prefix more false = inl (refl, omega arith)
 
 word_steps : (sessions : List Session) (gap : List ℕ) (all : List Packet) (b : Bool)
     → (let r : Reading = if b then record { sessions = sessions ++ record { gap = gap; packets = all } ∷ []; place = Searching [] } else record { sessions = sessions; place = Synced gap all [] } in left_of r ≡ 0)

@@ -41,12 +41,12 @@ all-top p q r s a b c d = subst (λ (t : Bool). 128 ≤ lane t q r s) (sym a) (s
 abbrev pub SyncLanes : List ℕ → ℕ → List ℕ → Type 0
 SyncLanes bytes at v = HasLanes v (λ k. lane (get_or bytes (at + k) 0 == 0xAA) (get_or bytes (at + 1 + k) 0 == 0x99) (get_or bytes (at + 2 + k) 0 == 0x55) (get_or bytes (at + 3 + k) 0 == 0x66))
 
-pub sync_lanes : (bytes : List ℕ) (at : ℕ) (l0 l1 l2 l3 e0 e1 e2 e3 front back all : List ℕ)
+pub sync_lanes : (bytes : List ℕ) (at : ℕ) (l0 l1 l2 l3 e0 e1 e2 e3 prefix back all : List ℕ)
     → HasLanes l0 (λ k. get_or bytes (at + k) 0) → HasLanes l1 (λ k. get_or bytes (at + 1 + k) 0) → HasLanes l2 (λ k. get_or bytes (at + 2 + k) 0) → HasLanes l3 (λ k. get_or bytes (at + 3 + k) 0)
     → HasLanes e0 (λ k. cond (get_or l0 k 0 == 0xAA) 255 0) → HasLanes e1 (λ k. cond (get_or l1 k 0 == 0x99) 255 0) → HasLanes e2 (λ k. cond (get_or l2 k 0 == 0x55) 255 0) → HasLanes e3 (λ k. cond (get_or l3 k 0 == 0x66) 255 0)
-    → HasLanes front (λ k. bit_and (get_or e0 k 0) (get_or e1 k 0)) → HasLanes back (λ k. bit_and (get_or e2 k 0) (get_or e3 k 0)) → HasLanes all (λ k. bit_and (get_or front k 0) (get_or back k 0))
+    → HasLanes prefix (λ k. bit_and (get_or e0 k 0) (get_or e1 k 0)) → HasLanes back (λ k. bit_and (get_or e2 k 0) (get_or e3 k 0)) → HasLanes all (λ k. bit_and (get_or prefix k 0) (get_or back k 0))
     → SyncLanes bytes at all
-sync_lanes bytes at l0 l1 l2 l3 e0 e1 e2 e3 front back all a0 a1 a2 a3 b0 b1 b2 b3 f g h = record {
+sync_lanes bytes at l0 l1 l2 l3 e0 e1 e2 e3 prefix back all a0 a1 a2 a3 b0 b1 b2 b3 f g h = record {
   long = h.long;
   each = λ k l.
       let one : (x : ℕ) (e v : List ℕ) (at : ℕ) → HasLanes v (λ j. get_or bytes (at + j) 0) → HasLanes e (λ j. cond (get_or v j 0 == x) 255 0) → get_or e k 0 ≡ cond (get_or bytes (at + k) 0 == x) 255 0 =

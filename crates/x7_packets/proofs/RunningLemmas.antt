@@ -81,7 +81,7 @@ record Same (c : Cut) (r : Run) : Type 0 where
   goes_on : is_last r ≡ false
 
 skip_alike : (a b : Bor (List ℕ)) (sessions new_sessions : List Session) (place new : Place) → b.now ≡ a.now → Adds (cut.Skip a) sessions place new_sessions new → Adds (cut.Skip b) sessions place new_sessions new
-skip_alike a b sessions ns (Searching gap) new e h = subst (λ t. (ns ≡ sessions) × ((new ≡ Searching (gap ++ t)) ⊎ ((front : List ℕ) × (gap ++ t ≡ front ++ sync_bytes) × (new ≡ Synced front [] [])))) (sym e) h
+skip_alike a b sessions ns (Searching gap) new e h = subst (λ t. (ns ≡ sessions) × ((new ≡ Searching (gap ++ t)) ⊎ ((prefix : List ℕ) × (gap ++ t ≡ prefix ++ sync_bytes) × (new ≡ Synced prefix [] [])))) (sym e) h
 skip_alike a b sessions ns (Synced gap packets tail) new e h = absurd h
 
 skip_turns : (a b : Bor (List ℕ)) (old new : Mode) (place : Place) → Turns (cut.Skip a) old new place → Turns (cut.Skip b) old new place

@@ -6,31 +6,31 @@ use Rattle.x7_packets.specs.SyncWord.{HasNoSync, IsBeforeSync, sync_bytes}
 use Rattle.x7_packets.specs.Appended.{BeginsWithDummy}
 use Rattle.x7_packets.specs.Appended.{LacksFirst}
 
--- a gap ends in a front of the sync word, and a dummy word follows
-seam : (gap front more rest back : List ℕ) → HasNoSync gap → gap ≡ front ++ more → sync_bytes ++ back ≡ more ++ 0xFF ∷ 0xFF ∷ 0xFF ∷ 0xFF ∷ rest → ⊥
-seam gap front [] rest back n g e = let h : ◌≡◌ {A = ℕ} 0xAA 0xFF = cc in omega (arith, h)
-seam gap front (x ∷ []) rest back n g e = let h : ◌≡◌ {A = ℕ} 0x99 0xFF = cc in omega (arith, h)
-seam gap front (x ∷ y ∷ []) rest back n g e = let h : ◌≡◌ {A = ℕ} 0x55 0xFF = cc in omega (arith, h)
-seam gap front (x ∷ y ∷ z ∷ []) rest back n g e = let h : ◌≡◌ {A = ℕ} 0x66 0xFF = cc in omega (arith, h)
-seam gap front (x ∷ y ∷ z ∷ u ∷ more) rest back n g e =
+-- a gap ends in a prefix of the sync word, and a dummy word follows
+seam : (gap prefix more rest back : List ℕ) → HasNoSync gap → gap ≡ prefix ++ more → sync_bytes ++ back ≡ more ++ 0xFF ∷ 0xFF ∷ 0xFF ∷ 0xFF ∷ rest → ⊥
+seam gap prefix [] rest back n g e = let h : ◌≡◌ {A = ℕ} 0xAA 0xFF = cc in omega (arith, h)
+seam gap prefix (x ∷ []) rest back n g e = let h : ◌≡◌ {A = ℕ} 0x99 0xFF = cc in omega (arith, h)
+seam gap prefix (x ∷ y ∷ []) rest back n g e = let h : ◌≡◌ {A = ℕ} 0x55 0xFF = cc in omega (arith, h)
+seam gap prefix (x ∷ y ∷ z ∷ []) rest back n g e = let h : ◌≡◌ {A = ℕ} 0x66 0xFF = cc in omega (arith, h)
+seam gap prefix (x ∷ y ∷ z ∷ u ∷ more) rest back n g e =
     let same : x ∷ y ∷ z ∷ u ∷ more ≡ sync_bytes ++ more = cc in
-    n.none front more (g ∙ ap (λ t. front ++ t) same ∙ sym (append_assoc front sync_bytes more))
+    n.none prefix more (g ∙ ap (λ t. prefix ++ t) same ∙ sym (append_assoc prefix sync_bytes more))
 
 -- the sync word of a gap and dummy words is that of the dummy words
-in_more : (gap more front back : List ℕ) → HasNoSync gap → BeginsWithDummy more → gap ++ more ≡ front ++ (sync_bytes ++ back) → (x : List ℕ) × (front ≡ gap ++ x) × (more ≡ x ++ (sync_bytes ++ back))
-in_more gap more front back n d e = elim (fronts_of gap front more (sync_bytes ++ back) e) [
-  | inl l ↦ (l.more, l.front, l.back)
-  | inr l ↦ absurd (seam gap front l.more d.0 back n l.front (l.back ∙ ap (λ t. l.more ++ t) d.1))
+in_more : (gap more prefix back : List ℕ) → HasNoSync gap → BeginsWithDummy more → gap ++ more ≡ prefix ++ (sync_bytes ++ back) → (x : List ℕ) × (prefix ≡ gap ++ x) × (more ≡ x ++ (sync_bytes ++ back))
+in_more gap more prefix back n d e = elim (fronts_of gap prefix more (sync_bytes ++ back) e) [
+  | inl l ↦ (l.more, l.prefix, l.back)
+  | inr l ↦ absurd (seam gap prefix l.more d.0 back n l.prefix (l.back ∙ ap (λ t. l.more ++ t) d.1))
 ]
 
 pub none_after : (gap more : List ℕ) → HasNoSync gap → HasNoSync more → BeginsWithDummy more → HasNoSync (gap ++ more)
-none_after gap more n m d = record { none = λ front back e. let r : (x : List ℕ) × (front ≡ gap ++ x) × (more ≡ x ++ (sync_bytes ++ back)) = in_more gap more front back n d (e ∙ append_assoc front sync_bytes back) in m.none r.0 back (r.2 ∙ sym (append_assoc r.0 sync_bytes back)) }
+none_after gap more n m d = record { none = λ prefix back e. let r : (x : List ℕ) × (prefix ≡ gap ++ x) × (more ≡ x ++ (sync_bytes ++ back)) = in_more gap more prefix back n d (e ∙ append_assoc prefix sync_bytes back) in m.none r.0 back (r.2 ∙ sym (append_assoc r.0 sync_bytes back)) }
 
 pub first_after : (gap more : List ℕ) → HasNoSync gap → IsBeforeSync more → BeginsWithDummy more → IsBeforeSync (gap ++ more)
 first_after gap more n m d = record {
-  first = λ front back e.
+  first = λ prefix back e.
       let dummy : BeginsWithDummy (more ++ sync_bytes) = (d.0 ++ sync_bytes, ap (λ t. t ++ sync_bytes) d.1) in
-      let r : (x : List ℕ) × (front ≡ gap ++ x) × (more ++ sync_bytes ≡ x ++ (sync_bytes ++ back)) = in_more gap (more ++ sync_bytes) front back n dummy (sym (append_assoc gap more sync_bytes) ∙ e ∙ append_assoc front sync_bytes back) in
+      let r : (x : List ℕ) × (prefix ≡ gap ++ x) × (more ++ sync_bytes ≡ x ++ (sync_bytes ++ back)) = in_more gap (more ++ sync_bytes) prefix back n dummy (sym (append_assoc gap more sync_bytes) ∙ e ∙ append_assoc prefix sync_bytes back) in
       m.first r.0 back (r.2 ∙ sym (append_assoc r.0 sync_bytes back));
 }
 
@@ -52,9 +52,9 @@ pub first_parted : (gap more : List ℕ) → HasNoSync gap → IsBeforeSync more
 first_parted gap more n m (inl e) = rw e m
 first_parted gap more n m (inr d) = first_after gap more n m d
 
-pub parted_gap : (gap front more : List ℕ) → (gap ≡ []) ⊎ BeginsWithDummy (front ++ (sync_bytes ++ more)) → (gap ≡ []) ⊎ BeginsWithDummy front
-parted_gap gap front more (inl e) = inl e
-parted_gap gap front more (inr d) = inr (dummy_gap front more d)
+pub parted_gap : (gap prefix more : List ℕ) → (gap ≡ []) ⊎ BeginsWithDummy (prefix ++ (sync_bytes ++ more)) → (gap ≡ []) ⊎ BeginsWithDummy prefix
+parted_gap gap prefix more (inl e) = inl e
+parted_gap gap prefix more (inr d) = inr (dummy_gap prefix more d)
 
 pub parted_same : (gap b c : List ℕ) → b ≡ c → (gap ≡ []) ⊎ BeginsWithDummy b → (gap ≡ []) ⊎ BeginsWithDummy c
 parted_same gap b c e (inl f) = inl f
@@ -63,28 +63,28 @@ parted_same gap b c e (inr d) = inr (d.0, sym e ∙ d.1)
 -- bytes without the sync word's first byte have no sync word
 pub none_without_first : (bytes : List ℕ) → LacksFirst bytes → HasNoSync bytes
 none_without_first bytes l = record {
-  none = λ front back e.
-      let all : LacksFirst ((front ++ sync_bytes) ++ back) = rw e at l in
-      let there : LacksFirst sync_bytes = all_back (λ b. (b == 0xAA) ≡ false) front sync_bytes (all_front (λ b. (b == 0xAA) ≡ false) (front ++ sync_bytes) back all) in
+  none = λ prefix back e.
+      let all : LacksFirst ((prefix ++ sync_bytes) ++ back) = rw e at l in
+      let there : LacksFirst sync_bytes = all_back (λ b. (b == 0xAA) ≡ false) prefix sync_bytes (all_front (λ b. (b == 0xAA) ≡ false) (prefix ++ sync_bytes) back all) in
       let no : true ≡ false = there.0 in cc;
 }
 
-no_first : (gap front back : List ℕ) → LacksFirst gap → gap ++ sync_bytes ≡ front ++ (sync_bytes ++ back) → back ≡ []
+no_first : (gap prefix back : List ℕ) → LacksFirst gap → gap ++ sync_bytes ≡ prefix ++ (sync_bytes ++ back) → back ≡ []
 no_first [] [] back l e = let r : sync_bytes ++ [] ≡ sync_bytes ++ back = e in cc
-no_first [] (x ∷ front) back l e = absurd (omega (arith, ap length e, length-append front (sync_bytes ++ back), length-append sync_bytes back))
+no_first [] (x ∷ prefix) back l e = absurd (omega (arith, ap length e, length-append prefix (sync_bytes ++ back), length-append sync_bytes back))
 no_first (g ∷ gap) [] back l e = absurd (let head : g ≡ 0xAA = cc in let no : (0xAA == 0xAA) ≡ false = rw head at l.0 in cc)
-no_first (g ∷ gap) (x ∷ front) back l e = no_first gap front back l.1 (let rest : gap ++ sync_bytes ≡ front ++ (sync_bytes ++ back) = cc in rest)
+no_first (g ∷ gap) (x ∷ prefix) back l e = no_first gap prefix back l.1 (let rest : gap ++ sync_bytes ≡ prefix ++ (sync_bytes ++ back) = cc in rest)
 
 -- nor do they, with the sync word after them, have another
 pub first_without : (gap : List ℕ) → LacksFirst gap → IsBeforeSync gap
-first_without gap l = record { first = λ front back e. no_first gap front back l (e ∙ append_assoc front sync_bytes back) }
+first_without gap l = record { first = λ prefix back e. no_first gap prefix back l (e ∙ append_assoc prefix sync_bytes back) }
 
 -- bytes without some byte of the sync word have no sync word
-pub none_without : (bytes front back : List ℕ) (x : ℕ) → sync_bytes ≡ front ++ x ∷ back → AllByRecursion (λ b. (b == x) ≡ false) bytes → HasNoSync bytes
-none_without bytes front back x s l = record {
+pub none_without : (bytes prefix back : List ℕ) (x : ℕ) → sync_bytes ≡ prefix ++ x ∷ back → AllByRecursion (λ b. (b == x) ≡ false) bytes → HasNoSync bytes
+none_without bytes prefix back x s l = record {
   none = λ f r e.
       let all : AllByRecursion (λ b. (b == x) ≡ false) ((f ++ sync_bytes) ++ r) = rw e at l in
       let word : AllByRecursion (λ b. (b == x) ≡ false) sync_bytes = all_back (λ b. (b == x) ≡ false) f sync_bytes (all_front (λ b. (b == x) ≡ false) (f ++ sync_bytes) r all) in
-      let there : AllByRecursion (λ b. (b == x) ≡ false) (x ∷ back) = all_back (λ b. (b == x) ≡ false) front (x ∷ back) (subst (AllByRecursion (λ b. (b == x) ≡ false)) s word) in
+      let there : AllByRecursion (λ b. (b == x) ≡ false) (x ∷ back) = all_back (λ b. (b == x) ≡ false) prefix (x ∷ back) (subst (AllByRecursion (λ b. (b == x) ≡ false)) s word) in
       let yes : (x == x) ≡ true = eq-eqb x x refl in let no : (x == x) ≡ false = there.0 in cc;
 }

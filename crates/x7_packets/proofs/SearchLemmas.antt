@@ -10,36 +10,36 @@ use Rattle.x7_packets.specs.Matching.{IsClear, IsFirstSync, LastThree, MatcherSt
 use Rattle.x7_packets.proofs.SyncLemmas.{ends_so, first_here, none_yet, took_one}
 
 -- bytes that begin with some and the sync word have the sync word there
-occurs : (bytes front back : List ℕ) → bytes ≡ front ++ (sync_bytes ++ back) → OccursAt bytes sync_bytes (length front)
-occurs bytes front back e =
-    OccursAt-from_part bytes sync_bytes (length front)
-    (omega (arith, ap length e, length-append front (sync_bytes ++ back), length-append sync_bytes back))
-    (ap (λ t. take 4 (drop (length front) t)) e ∙ ap (take 4) (drop_at front (sync_bytes ++ back) (length front) refl))
+occurs : (bytes prefix back : List ℕ) → bytes ≡ prefix ++ (sync_bytes ++ back) → OccursAt bytes sync_bytes (length prefix)
+occurs bytes prefix back e =
+    OccursAt-from_part bytes sync_bytes (length prefix)
+    (omega (arith, ap length e, length-append prefix (sync_bytes ++ back), length-append sync_bytes back))
+    (ap (λ t. take 4 (drop (length prefix) t)) e ∙ ap (take 4) (drop_at prefix (sync_bytes ++ back) (length prefix) refl))
 
--- a gap ends in a front of the sync word, and the piece goes on with the rest: the piece's first three bytes are enough to see it
-in_the_seam : (gap bytes front more back : List ℕ) → HasNoSync (gap ++ take 3 bytes) → gap ≡ front ++ more → sync_bytes ++ back ≡ more ++ bytes → 0 < length more → ⊥
-in_the_seam gap bytes front more back n e f s =
+-- a gap ends in a prefix of the sync word, and the piece goes on with the rest: the piece's first three bytes are enough to see it
+in_the_seam : (gap bytes prefix more back : List ℕ) → HasNoSync (gap ++ take 3 bytes) → gap ≡ prefix ++ more → sync_bytes ++ back ≡ more ++ bytes → 0 < length more → ⊥
+in_the_seam gap bytes prefix more back n e f s =
     let long : length sync_bytes ≤ length (more ++ take 3 bytes) = omega (arith, ap length f, length-append more (take 3 bytes), length-append more bytes, length-append sync_bytes back, length-take 3 bytes) in
     let whole : sync_bytes ++ back ≡ (more ++ take 3 bytes) ++ drop 3 bytes = f ∙ ap (λ t. more ++ t) (sym (take-append-drop 3 bytes)) ∙ sym (append_assoc more (take 3 bytes) (drop 3 bytes)) in
     let r : (m : List ℕ) × (more ++ take 3 bytes ≡ sync_bytes ++ m) = shorter_front sync_bytes (more ++ take 3 bytes) back (drop 3 bytes) long whole in
-    n.none front r.0 (ap (λ t. t ++ take 3 bytes) e ∙ append_assoc front more (take 3 bytes) ∙ ap (λ t. front ++ t) r.1 ∙ sym (append_assoc front sync_bytes r.0))
+    n.none prefix r.0 (ap (λ t. t ++ take 3 bytes) e ∙ append_assoc prefix more (take 3 bytes) ∙ ap (λ t. prefix ++ t) r.1 ∙ sym (append_assoc prefix sync_bytes r.0))
 
-nowhere : (gap bytes front back : List ℕ) → HasNoSync (gap ++ take 3 bytes) → ((k : ℕ) → OccursAt bytes sync_bytes k → ⊥) → gap ++ bytes ≡ front ++ (sync_bytes ++ back) → ⊥
-nowhere gap bytes front back n o e = elim (fronts_of gap front bytes (sync_bytes ++ back) e) [
+nowhere : (gap bytes prefix back : List ℕ) → HasNoSync (gap ++ take 3 bytes) → ((k : ℕ) → OccursAt bytes sync_bytes k → ⊥) → gap ++ bytes ≡ prefix ++ (sync_bytes ++ back) → ⊥
+nowhere gap bytes prefix back n o e = elim (fronts_of gap prefix bytes (sync_bytes ++ back) e) [
   | inl l ↦ o (length l.more) (occurs bytes l.more back l.back)
   | inr l ↦ seam l
 ]
   where
-    by_more : (more : List ℕ) → gap ≡ front ++ more → sync_bytes ++ back ≡ more ++ bytes → ⊥
+    by_more : (more : List ℕ) → gap ≡ prefix ++ more → sync_bytes ++ back ≡ more ++ bytes → ⊥
     by_more [] g b = o 0 (occurs bytes [] back (sym b))
-    by_more (x ∷ xs) g b = in_the_seam gap bytes front (x ∷ xs) back n g b (omega arith)
+    by_more (x ∷ xs) g b = in_the_seam gap bytes prefix (x ∷ xs) back n g b (omega arith)
 
-    seam : IsFront front gap (sync_bytes ++ back) bytes → ⊥
-    seam l = by_more l.more l.front l.back
+    seam : IsFront prefix gap (sync_bytes ++ back) bytes → ⊥
+    seam l = by_more l.more l.prefix l.back
 
 -- where neither the seam nor the piece has it, the sync word stands nowhere
 pub none_found : (gap bytes : List ℕ) → HasNoSync (gap ++ take 3 bytes) → ((k : ℕ) → OccursAt bytes sync_bytes k → ⊥) → HasNoSync (gap ++ bytes)
-none_found gap bytes n o = record { none = λ front back e. nowhere gap bytes front back n o (e ∙ append_assoc front sync_bytes back) }
+none_found gap bytes n o = record { none = λ prefix back e. nowhere gap bytes prefix back n o (e ∙ append_assoc prefix sync_bytes back) }
 
 -- the search byte by byte, one byte further
 pub passed : (gap bytes : List ℕ) (i : ℕ) → i < length bytes → gap ++ take (i + 1) bytes ≡ (gap ++ take i bytes) ++ get_or bytes i 0 ∷ []
@@ -58,13 +58,13 @@ pub none_near : (gap bytes : List ℕ) (near : ℕ) (r : Option ℕ) (m : LastTh
 none_near gap bytes near None m h e s =
     let parts : take near bytes ≡ take 3 bytes ++ drop 3 (take near bytes) = sym (take-append-drop 3 (take near bytes)) ∙ ap (λ t. t ++ drop 3 (take near bytes)) (take-take 3 near bytes h) in
     record {
-      none = λ front back w. s.0.none front (back ++ drop 3 (take near bytes)) (
+      none = λ prefix back w. s.0.none prefix (back ++ drop 3 (take near bytes)) (
           ap (λ t. gap ++ t) parts ∙ sym (append_assoc gap (take 3 bytes) (drop 3 (take near bytes)))
-          ∙ ap (λ t. t ++ drop 3 (take near bytes)) w ∙ append_assoc (front ++ sync_bytes) back (drop 3 (take near bytes)));
+          ∙ ap (λ t. t ++ drop 3 (take near bytes)) w ∙ append_assoc (prefix ++ sync_bytes) back (drop 3 (take near bytes)));
     }
 none_near gap bytes near (Some n) m h e s = absurd (cc)
 
--- the sync word stands in a front of the bytes as it stands in them
+-- the sync word stands in a prefix of the bytes as it stands in them
 occurs_in_front : (bytes : List ℕ) (n k : ℕ) → OccursAt (take n bytes) sync_bytes k → (k + 4 ≤ n) × OccursAt bytes sync_bytes k
 occurs_in_front bytes n k o =
     let within : k + 4 ≤ n = omega (arith, o.fits, length-take n bytes) in (
@@ -76,18 +76,18 @@ occurs_in_front bytes n k o =
     )
 
 -- the first place of the sync word in a piece
-pub found_in_piece : (gap bytes : List ℕ) (at : ℕ) → HasNoSync (gap ++ take 3 bytes) → OccursAt bytes sync_bytes at → ((k : ℕ) → 0 ≤ k → k < at → ¬ OccursAt bytes sync_bytes k) → (front : List ℕ) × (gap ++ take (at + 4) bytes ≡ front ++ sync_bytes) × IsBeforeSync front
+pub found_in_piece : (gap bytes : List ℕ) (at : ℕ) → HasNoSync (gap ++ take 3 bytes) → OccursAt bytes sync_bytes at → ((k : ℕ) → 0 ≤ k → k < at → ¬ OccursAt bytes sync_bytes k) → (prefix : List ℕ) × (gap ++ take (at + 4) bytes ≡ prefix ++ sync_bytes) × IsBeforeSync prefix
 found_in_piece gap bytes at n o before =
     let cut : List ℕ = take (at + 3) bytes in
     let same : take 3 cut ≡ take 3 bytes = take-take 3 (at + 3) bytes (omega arith) in
     let seam : HasNoSync (gap ++ take 3 cut) = rw same n in
     let none : (k : ℕ) → OccursAt cut sync_bytes k → ⊥ = λ k h. let g : (k + 4 ≤ at + 3) × OccursAt bytes sync_bytes k = occurs_in_front bytes (at + 3) k h in before k (omega arith) (omega (arith, g.0)) g.1 in
     let there : take (at + 4) bytes ≡ take at bytes ++ sync_bytes = take-add at 4 bytes ∙ ap (λ t. take at bytes ++ t) (OccursAt-part bytes sync_bytes at o) in
-    let front : List ℕ = gap ++ take at bytes in
-    let whole : gap ++ take (at + 4) bytes ≡ front ++ sync_bytes = ap (λ t. gap ++ t) there ∙ sym (append_assoc gap (take at bytes) sync_bytes) in
+    let prefix : List ℕ = gap ++ take at bytes in
+    let whole : gap ++ take (at + 4) bytes ≡ prefix ++ sync_bytes = ap (λ t. gap ++ t) there ∙ sym (append_assoc gap (take at bytes) sync_bytes) in
     let three : at + 3 + 1 ≡ at + 4 = omega arith in
-    let last : (gap ++ cut) ++ get_or bytes (at + 3) 0 ∷ [] ≡ front ++ sync_bytes = sym (passed gap bytes (at + 3) (omega (arith, o.fits))) ∙ ap (λ k. gap ++ take k bytes) three ∙ whole in
-    (front, whole, first_here (gap ++ cut) front (get_or bytes (at + 3) 0) (none_found gap cut seam none) last)
+    let last : (gap ++ cut) ++ get_or bytes (at + 3) 0 ∷ [] ≡ prefix ++ sync_bytes = sym (passed gap bytes (at + 3) (omega (arith, o.fits))) ∙ ap (λ k. gap ++ take k bytes) three ∙ whole in
+    (prefix, whole, first_here (gap ++ cut) prefix (get_or bytes (at + 3) 0) (none_found gap cut seam none) last)
 
 -- the last three of the bytes
 last_three : (bytes : List ℕ) (k : ℕ) → length bytes ≡ suc (suc (suc k)) → drop k bytes ≡ get_or bytes k 0 ∷ get_or bytes (suc k) 0 ∷ get_or bytes (suc (suc k)) 0 ∷ []
@@ -119,7 +119,7 @@ not_yet gap bytes i m false h n f s e = rw (passed gap bytes i h) (none_yet _ _ 
 -- the search byte by byte, at the byte that completes the sync word
 pub found_now : (gap bytes : List ℕ) (i : ℕ) (r : Bool) → i < length bytes → HasNoSync (gap ++ take i bytes)
     → (IsTrue r ↔ EndsWithSync ((gap ++ take i bytes) ++ get_or bytes i 0 ∷ [])) → r ≡ true
-    → (front : List ℕ) × (gap ++ take (i + 1) bytes ≡ front ++ sync_bytes) × IsBeforeSync front
+    → (prefix : List ℕ) × (gap ++ take (i + 1) bytes ≡ prefix ++ sync_bytes) × IsBeforeSync prefix
 found_now gap bytes i false h n f e = absurd (cc)
 found_now gap bytes i true h n f e = let l = f.0 refl in (l.0, passed gap bytes i h ∙ l.1, first_here _ l.0 _ n l.1)
 

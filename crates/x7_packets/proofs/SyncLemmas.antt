@@ -33,22 +33,22 @@ ends_so m bytes x s e = found_from bytes e.0 s.before _ _ _ x s.last e.1
 pub found : (m : LastThree) (x : ℕ) (r : Bool) → (IsTrue r ↔ (m.first ∷ m.second ∷ m.third ∷ x ∷ [] ≡ sync_bytes)) → (bytes : List ℕ) → MatcherStandsFor m bytes → IsTrue r ↔ EndsWithSync (bytes ++ x ∷ [])
 found m x r h bytes s = (λ t. found_to bytes s.before _ _ _ x (h.0 t) s.last, λ e. h.1 (found_from bytes e.0 s.before _ _ _ x s.last e.1))
 
--- the fronts of two lists that end in one element each
+-- the prefixes of two lists that end in one element each
 fronts : (xs ys : List ℕ) (x y : ℕ) → xs ++ x ∷ [] ≡ ys ++ y ∷ [] → xs ≡ ys
 fronts xs ys x y e = append_cancel_right xs ys (y ∷ []) (ap (λ t. xs ++ t) (sym (same_end xs ys (x ∷ []) (y ∷ []) refl e)) ∙ e)
 
 -- a sync word that comes with the last byte has nothing behind it
-pub at_the_end : (gap front back : List ℕ) (x : ℕ) → HasNoSync gap → gap ++ x ∷ [] ≡ front ++ sync_bytes ++ back → back ≡ []
-at_the_end gap front back x n e = elim (last_of back) [
+pub at_the_end : (gap prefix back : List ℕ) (x : ℕ) → HasNoSync gap → gap ++ x ∷ [] ≡ prefix ++ sync_bytes ++ back → back ≡ []
+at_the_end gap prefix back x n e = elim (last_of back) [
   | inl h ↦ h
-  | inr l ↦ absurd (n.none front l.0 (fronts gap (front ++ sync_bytes ++ l.0) x l.1 (e ∙ ap (λ t. front ++ sync_bytes ++ t) l.2 ∙ sym (append_assoc (front ++ sync_bytes) l.0 (l.1 ∷ [])))))
+  | inr l ↦ absurd (n.none prefix l.0 (fronts gap (prefix ++ sync_bytes ++ l.0) x l.1 (e ∙ ap (λ t. prefix ++ sync_bytes ++ t) l.2 ∙ sym (append_assoc (prefix ++ sync_bytes) l.0 (l.1 ∷ [])))))
 ]
 
 pub none_yet : (gap : List ℕ) (x : ℕ) → HasNoSync gap → (EndsWithSync (gap ++ x ∷ []) → ⊥) → HasNoSync (gap ++ x ∷ [])
-none_yet gap x n h = record { none = λ front back e. h (front, e ∙ ap (λ t. front ++ sync_bytes ++ t) (at_the_end gap front back x n e) ∙ append-nil (front ++ sync_bytes)) }
+none_yet gap x n h = record { none = λ prefix back e. h (prefix, e ∙ ap (λ t. prefix ++ sync_bytes ++ t) (at_the_end gap prefix back x n e) ∙ append-nil (prefix ++ sync_bytes)) }
 
-pub first_here : (gap front : List ℕ) (x : ℕ) → HasNoSync gap → gap ++ x ∷ [] ≡ front ++ sync_bytes → IsBeforeSync front
-first_here gap front x n h = record { first = λ f back e. at_the_end gap f back x n (h ∙ e) }
+pub first_here : (gap prefix : List ℕ) (x : ℕ) → HasNoSync gap → gap ++ x ∷ [] ≡ prefix ++ sync_bytes → IsBeforeSync prefix
+first_here gap prefix x n h = record { first = λ f back e. at_the_end gap f back x n (h ∙ e) }
 
 pub none_empty : HasNoSync []
-none_empty = record { none = λ front back e. omega (arith, ap length e, length-append (front ++ sync_bytes) back, length-append front sync_bytes) }
+none_empty = record { none = λ prefix back e. omega (arith, ap length e, length-append (prefix ++ sync_bytes) back, length-append prefix sync_bytes) }

@@ -37,7 +37,7 @@ header_opens m n ps w register count f a e z l d r =
       each = each_more None ps p a.whole i;
       grown = flat_map-last stepped ps p;
       end = ended-more ps p;
-      stands = inr (record { front = ps; last = p; split = refl; whole = a.whole; fits = (f, tt); means = means; count = count; is = ap (λ x. Open x count) (sym r); latest = l ∙ ap (λ x. Some x) (sym r); due = omega arith; more = omega arith; none_ends = tt });
+      stands = inr (record { prefix = ps; last = p; split = refl; whole = a.whole; fits = (f, tt); means = means; count = count; is = ap (λ x. Open x count) (sym r); latest = l ∙ ap (λ x. Some x) (sym r); due = omega arith; more = omega arith; none_ends = tt });
     }
 
 -- a packet with one payload word more
@@ -45,18 +45,18 @@ abbrev pub extended : Packet → ℕ → Packet
 extended p w = record { head = p.head; step = p.step; payload = p.payload ++ w ∷ [] }
 
 -- the stepped words of packets whose last has one payload word more
-pub stepped_more : (front : List Packet) (p : Packet) (w : ℕ) → flat_map stepped (front ++ extended p w ∷ []) ≡ flat_map stepped (front ++ p ∷ []) ++ (w, Payload (named_by p.step) w) ∷ []
-stepped_more front p w =
-    flat_map-last stepped front (extended p w)
-    ∙ ap (λ t. flat_map stepped front ++ (p.head, p.step) ∷ t) (map-append (λ x. (x, Payload (named_by p.step) x)) p.payload (w ∷ []))
-    ∙ sym (append_assoc (flat_map stepped front) (stepped p) ((w, Payload (named_by p.step) w) ∷ []))
-    ∙ ap (λ t. t ++ (w, Payload (named_by p.step) w) ∷ []) (sym (flat_map-last stepped front p))
+pub stepped_more : (prefix : List Packet) (p : Packet) (w : ℕ) → flat_map stepped (prefix ++ extended p w ∷ []) ≡ flat_map stepped (prefix ++ p ∷ []) ++ (w, Payload (named_by p.step) w) ∷ []
+stepped_more prefix p w =
+    flat_map-last stepped prefix (extended p w)
+    ∙ ap (λ t. flat_map stepped prefix ++ (p.head, p.step) ∷ t) (map-append (λ x. (x, Payload (named_by p.step) x)) p.payload (w ∷ []))
+    ∙ sym (append_assoc (flat_map stepped prefix) (stepped p) ((w, Payload (named_by p.step) w) ∷ []))
+    ∙ ap (λ t. t ++ (w, Payload (named_by p.step) w) ∷ []) (sym (flat_map-last stepped prefix p))
 
 -- the stepped words of an open payload with one word more
-open_more : (m : MachineState) (ps : List Packet) (w : ℕ) (a : InPayload m ps) → flat_map stepped (a.front ++ extended a.last w ∷ []) ≡ flat_map stepped ps ++ (w, Payload m.register w) ∷ []
+open_more : (m : MachineState) (ps : List Packet) (w : ℕ) (a : InPayload m ps) → flat_map stepped (a.prefix ++ extended a.last w ∷ []) ≡ flat_map stepped ps ++ (w, Payload m.register w) ∷ []
 open_more m ps w a =
     let same_register : named_by a.last.step ≡ m.register = ap named_by a.is in
-    stepped_more a.front a.last w ∙ ap (λ x. flat_map stepped (a.front ++ a.last ∷ []) ++ (w, Payload x w) ∷ []) same_register ∙ ap (λ x. flat_map stepped x ++ (w, Payload m.register w) ∷ []) (sym a.split)
+    stepped_more a.prefix a.last w ∙ ap (λ x. flat_map stepped (a.prefix ++ a.last ∷ []) ++ (w, Payload x w) ∷ []) same_register ∙ ap (λ x. flat_map stepped x ++ (w, Payload m.register w) ∷ []) (sym a.split)
 
 fits_more : (p : Packet) (w : ℕ) → AreWords (words p) → w < 2 ^ 32 → AreWords (words (extended p w))
 fits_more p w a f = all-append (λ x. x < 2 ^ 32) (words p) (w ∷ []) a (f, tt)
@@ -70,15 +70,15 @@ payload_goes m n ps w f a e r l d =
     let none : NoneEnds m.register p.payload = none_more m.register a.last.payload w a.none_ends e in
     let more : length p.payload ≡ length a.last.payload + 1 = length-append a.last.payload (w ∷ []) in
     let fits : AreWords (words p) = fits_more a.last w a.fits f in
-    let i : IsPacket (latest_of None a.front) p = record { fits = fits; means = a.means; most = omega (arith, a.more, a.due); goes_on = rw same_register (only_more m.register a.last.payload w a.none_ends) } in
+    let i : IsPacket (latest_of None a.prefix) p = record { fits = fits; means = a.means; most = omega (arith, a.more, a.due); goes_on = rw same_register (only_more m.register a.last.payload w a.none_ends) } in
     record {
-      packets = a.front ++ p ∷ [];
-      each = each_more None a.front p a.whole i;
+      packets = a.prefix ++ p ∷ [];
+      each = each_more None a.prefix p a.whole i;
       grown = open_more m ps w a;
-      end = ended-more a.front p ∙ ap (λ x. last_ends x p.payload) same_register ∙ last_ends-more m.register a.last.payload w;
+      end = ended-more a.prefix p ∙ ap (λ x. last_ends x p.payload) same_register ∙ last_ends-more m.register a.last.payload w;
       stands = rw e (elim (cases_eq n.due 0) [
-        | inl z ↦ inl (record { whole = whole_more None a.front p a.whole i (record { all = omega (arith, a.due); none_ends = rw same_register none }); latest = l ∙ a.latest ∙ sym (latest_more None a.front p ∙ ap (latest_after (latest_of None a.front)) a.is); due = z })
-        | inr z ↦ inr (record { front = a.front; last = p; split = refl; whole = a.whole; fits = fits; means = a.means; count = a.count; is = a.is ∙ ap (λ x. Open x a.count) (sym r); latest = l ∙ a.latest ∙ ap (λ x. Some x) (sym r); due = omega (arith, a.due); more = omega arith; none_ends = rw r none })
+        | inl z ↦ inl (record { whole = whole_more None a.prefix p a.whole i (record { all = omega (arith, a.due); none_ends = rw same_register none }); latest = l ∙ a.latest ∙ sym (latest_more None a.prefix p ∙ ap (latest_after (latest_of None a.prefix)) a.is); due = z })
+        | inr z ↦ inr (record { prefix = a.prefix; last = p; split = refl; whole = a.whole; fits = fits; means = a.means; count = a.count; is = a.is ∙ ap (λ x. Open x a.count) (sym r); latest = l ∙ a.latest ∙ ap (λ x. Some x) (sym r); due = omega (arith, a.due); more = omega arith; none_ends = rw r none })
       ]);
     }
 
@@ -89,12 +89,12 @@ payload_ends m n ps w f a e s =
     let same_register : named_by a.last.step ≡ m.register = ap named_by a.is in
     let same_count : count_of a.last.step ≡ a.count = ap count_of a.is in
     let more : length p.payload ≡ length a.last.payload + 1 = length-append a.last.payload (w ∷ []) in
-    let i : IsPacket (latest_of None a.front) p = record { fits = fits_more a.last w a.fits f; means = a.means; most = omega (arith, a.more, a.due); goes_on = rw same_register (only_more m.register a.last.payload w a.none_ends) } in
+    let i : IsPacket (latest_of None a.prefix) p = record { fits = fits_more a.last w a.fits f; means = a.means; most = omega (arith, a.more, a.due); goes_on = rw same_register (only_more m.register a.last.payload w a.none_ends) } in
     record {
-      packets = a.front ++ p ∷ [];
-      each = each_more None a.front p a.whole i;
+      packets = a.prefix ++ p ∷ [];
+      each = each_more None a.prefix p a.whole i;
       grown = open_more m ps w a;
-      end = ended-more a.front p ∙ ap (λ x. last_ends x p.payload) same_register ∙ last_ends-more m.register a.last.payload w;
+      end = ended-more a.prefix p ∙ ap (λ x. last_ends x p.payload) same_register ∙ last_ends-more m.register a.last.payload w;
       stands = rw e s;
     }
 

@@ -17,9 +17,9 @@ record Same (g h cs ds : List ℕ) : Type 0 where
 
 same_longer : (g h cs ds : List ℕ) → IsBeforeSync h → IsFront (g ++ sync_bytes) (h ++ sync_bytes) cs ds → Same g h cs ds
 same_longer g h cs ds f l =
-    let none : l.more ≡ [] = f.first g l.more l.front in
+    let none : l.more ≡ [] = f.first g l.more l.prefix in
     record {
-      gap = sym (append_cancel_right h g sync_bytes (l.front ∙ ap (λ t. g ++ sync_bytes ++ t) none ∙ append-nil (g ++ sync_bytes)));
+      gap = sym (append_cancel_right h g sync_bytes (l.prefix ∙ ap (λ t. g ++ sync_bytes ++ t) none ∙ append-nil (g ++ sync_bytes)));
       rest = l.back ∙ ap (λ t. t ++ ds) none;
     }
 
@@ -41,22 +41,22 @@ bytes_of_word-injective w v f g e =
 -- the words ws begin the words vs, and the bytes go on in the same way
 record WordsFront (ws vs cs ds : List ℕ) : Type 0 where
   more : List ℕ
-  front : vs ≡ ws ++ more
+  prefix : vs ≡ ws ++ more
   back : cs ≡ flat_map bytes_of_word more ++ ds
 
 cons_more : (w v : ℕ) (ws vs more : List ℕ) → w ≡ v → vs ≡ ws ++ more → v ∷ vs ≡ w ∷ (ws ++ more)
 cons_more w v ws vs more h t = cc
 
 words_fronts : (ws vs cs ds : List ℕ) → AreWords ws → AreWords vs → flat_map bytes_of_word ws ++ cs ≡ flat_map bytes_of_word vs ++ ds → WordsFront ws vs cs ds ⊎ WordsFront vs ws ds cs
-words_fronts [] vs cs ds f g e = inl (record { more = vs; front = refl; back = e })
-words_fronts (w ∷ ws) [] cs ds f g e = inr (record { more = w ∷ ws; front = refl; back = sym e })
+words_fronts [] vs cs ds f g e = inl (record { more = vs; prefix = refl; back = e })
+words_fronts (w ∷ ws) [] cs ds f g e = inr (record { more = w ∷ ws; prefix = refl; back = sym e })
 words_fronts (w ∷ ws) (v ∷ vs) cs ds f g e =
     let same : bytes_of_word w ≡ bytes_of_word v = cc in
     let head : w ≡ v = bytes_of_word-injective w v f.0 g.0 same in
     let tail : flat_map bytes_of_word ws ++ cs ≡ flat_map bytes_of_word vs ++ ds = cc in
     elim (words_fronts ws vs cs ds f.1 g.1 tail) [
-      | inl l ↦ inl (record { more = l.more; front = cons_more w v ws vs l.more head l.front; back = l.back })
-      | inr l ↦ inr (record { more = l.more; front = cons_more v w vs ws l.more (sym head) l.front; back = l.back })
+      | inl l ↦ inl (record { more = l.more; prefix = cons_more w v ws vs l.more head l.prefix; back = l.back })
+      | inr l ↦ inr (record { more = l.more; prefix = cons_more v w vs ws l.more (sym head) l.prefix; back = l.back })
     ]
 
 -- the words of packets are words
@@ -72,9 +72,9 @@ record SamePackets (ps qs : List Packet) (cs ds : List ℕ) : Type 0 where
 -- where the second's words go on behind those of a session that ended
 no_more : (ps qs : List Packet) (cs ds : List ℕ) → EachPacket None ps → ended ps ≡ true → EachPacket None qs → WordsFront (flat_map words ps) (flat_map words qs) cs ds → SamePackets ps qs cs ds
 no_more ps qs cs ds a d b l =
-    let none : l.more ≡ [] = after_end None ps qs l.more a d b (sym l.front) in
+    let none : l.more ≡ [] = after_end None ps qs l.more a d b (sym l.prefix) in
     record {
-      packets = one_list None ps qs a b (sym (l.front ∙ ap (λ t. flat_map words ps ++ t) none ∙ append-nil (flat_map words ps)));
+      packets = one_list None ps qs a b (sym (l.prefix ∙ ap (λ t. flat_map words ps ++ t) none ∙ append-nil (flat_map words ps)));
       rest = l.back ∙ ap (λ t. flat_map bytes_of_word t ++ ds) none;
     }
 
@@ -93,7 +93,7 @@ open_more : (ps qs : List Packet) (cs ds : List ℕ) → EachPacket None ps → 
 open_more ps qs cs ds a b h l =
     let none : l.more ≡ [] = few l.more cs ds l.back h in
     record {
-      packets = one_list None ps qs a b (sym (l.front ∙ ap (λ t. flat_map words ps ++ t) none ∙ append-nil (flat_map words ps)));
+      packets = one_list None ps qs a b (sym (l.prefix ∙ ap (λ t. flat_map words ps ++ t) none ∙ append-nil (flat_map words ps)));
       rest = l.back ∙ ap (λ t. flat_map bytes_of_word t ++ ds) none;
     }
 

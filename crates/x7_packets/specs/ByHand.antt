@@ -30,7 +30,7 @@ packets_of = fold with_word []
 
 -- the words are of one session at most: no word follows the one that ends it
 abbrev pub AreOfOneSession : List ℕ → Type 0
-AreOfOneSession ws = (front back : List ℕ) (w : ℕ) → ws ≡ front ++ w ∷ back → ended (packets_of front) ≡ false
+AreOfOneSession ws = (prefix back : List ℕ) (w : ℕ) → ws ≡ prefix ++ w ∷ back → ended (packets_of prefix) ≡ false
 
 -- these four bytes are the sync word
 abbrev pub is_sync : List ℕ → Bool

@@ -81,7 +81,7 @@ GoesOnBy more old new = GoesOnAt more old.sessions old.place new
 abbrev pub Adds : Cut → List Session → Place → List Session → Place → Type 0
 Adds Need sessions (Searching gap) new_sessions new = (new_sessions ≡ sessions) × (new ≡ Searching gap)
 Adds Need sessions (Synced gap packets tail) new_sessions new = (new_sessions ≡ sessions) × (more : List ℕ) × (new ≡ Synced gap packets (tail ++ more))
-Adds (Skip bytes) sessions (Searching gap) new_sessions new = (new_sessions ≡ sessions) × ((new ≡ Searching (gap ++ bytes.now)) ⊎ ((front : List ℕ) × (gap ++ bytes.now ≡ front ++ sync_bytes) × (new ≡ Synced front [] [])))
+Adds (Skip bytes) sessions (Searching gap) new_sessions new = (new_sessions ≡ sessions) × ((new ≡ Searching (gap ++ bytes.now)) ⊎ ((prefix : List ℕ) × (gap ++ bytes.now ≡ prefix ++ sync_bytes) × (new ≡ Synced prefix [] [])))
 Adds (Skip bytes) sessions (Synced gap packets tail) new_sessions new = ⊥
 Adds Sync sessions (Searching gap) new_sessions new = ⊥
 Adds Sync sessions (Synced gap packets tail) new_sessions new = (packets ≡ []) × (tail ≡ []) × (new_sessions ≡ sessions) × (new ≡ Synced gap [] [])

@@ -21,7 +21,7 @@ pub record MatcherStandsFor (m : LastThree) (bytes : List ℕ) : Type 0 where
 -- what a search through bytes behind a gap came to: no sync word in all of them, or the first one, which ends behind the first n of them
 abbrev pub Searched : List ℕ → List ℕ → Option ℕ → LastThree → Type 0
 Searched gap bytes None m = HasNoSync (gap ++ bytes) × MatcherStandsFor m (gap ++ bytes)
-Searched gap bytes (Some n) m = (front : List ℕ) × (gap ++ take n bytes ≡ front ++ sync_bytes) × IsBeforeSync front
+Searched gap bytes (Some n) m = (prefix : List ℕ) × (gap ++ take n bytes ≡ prefix ++ sync_bytes) × IsBeforeSync prefix
 
 -- the sync word stands at this place of the bytes, and at none before it
 pub record IsFirstSync (bytes : List ℕ) (at : ℕ) : Type 0 where

@@ -7,12 +7,12 @@ sync_bytes = 0xAA ∷ 0x99 ∷ 0x55 ∷ 0x66 ∷ []
 
 -- the list ends with the sync word
 abbrev pub EndsWithSync : List ℕ → Type 0
-EndsWithSync bytes = (front : List ℕ) × (bytes ≡ front ++ sync_bytes)
+EndsWithSync bytes = (prefix : List ℕ) × (bytes ≡ prefix ++ sync_bytes)
 
 -- the sync word stands nowhere in the bytes
 pub record HasNoSync (bytes : List ℕ) : Type 0 where
-  pub none : (front back : List ℕ) → bytes ≡ front ++ sync_bytes ++ back → ⊥
+  pub none : (prefix back : List ℕ) → bytes ≡ prefix ++ sync_bytes ++ back → ⊥
 
 -- in these bytes and the sync word behind them, the sync word stands only at the end
 pub record IsBeforeSync (gap : List ℕ) : Type 0 where
-  pub first : (front back : List ℕ) → gap ++ sync_bytes ≡ front ++ sync_bytes ++ back → back ≡ []
+  pub first : (prefix back : List ℕ) → gap ++ sync_bytes ≡ prefix ++ sync_bytes ++ back → back ≡ []

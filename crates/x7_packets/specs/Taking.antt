@@ -25,12 +25,12 @@ pub record AtHeader (m : MachineState) (ps : List Packet) : Type 0 where
 
 -- the last packet lacks payload words
 pub record InPayload (m : MachineState) (ps : List Packet) : Type 0 where
-  pub front : List Packet
+  pub prefix : List Packet
   pub last : Packet
-  pub split : ps ≡ front ++ last ∷ []
-  pub whole : AllWhole None front
+  pub split : ps ≡ prefix ++ last ∷ []
+  pub whole : AllWhole None prefix
   pub fits : AreWords (words last)
-  pub means : last.step ≡ meaning (latest_of None front) last.head
+  pub means : last.step ≡ meaning (latest_of None prefix) last.head
   pub count : ℕ
   pub is : last.step ≡ Open m.register count
   pub latest : m.latest ≡ Some m.register

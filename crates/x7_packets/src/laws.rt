@@ -56,7 +56,7 @@ pub fn words_after()
 /// Bytes of a gap, the sync word and bytes of no whole word enter nothing.
 pub fn nothing_enters()
     ensures gap { (sessions : List Session) (gap more : List ℕ) → history sessions (Searching (gap ++ more)) ≡ history sessions (Searching gap) }
-    ensures sync { (sessions : List Session) (gap front : List ℕ) → history sessions (Synced front [] []) ≡ history sessions (Searching gap) }
+    ensures sync { (sessions : List Session) (gap prefix : List ℕ) → history sessions (Synced prefix [] []) ≡ history sessions (Searching gap) }
     ensures tail { (sessions : List Session) (gap tail more : List ℕ) (packets : List Packet)
         → history sessions (Synced gap packets (tail ++ more)) ≡ history sessions (Synced gap packets tail) }
 {}
@@ -72,7 +72,7 @@ pub fn histories_grow()
         → EntersNone bytes (x ∷ []) ⊎ ((access : Access) × EntersOne bytes (x ∷ []) (entry access (length bytes + 1))) }
     ensures newer { (bytes more : List ℕ) → AreBytes (bytes ++ more)
         → EntersNewer bytes more }
-    ensures front { (bytes more : List ℕ) → AreBytes (bytes ++ more) → until (length bytes) (history_of (bytes ++ more)) ≡ history_of bytes }
+    ensures prefix { (bytes more : List ℕ) → AreBytes (bytes ++ more) → until (length bytes) (history_of (bytes ++ more)) ≡ history_of bytes }
     ensures placed { (bytes : List ℕ) → AreBytes bytes → Placed (length bytes) (history_of bytes) }
 {}
 

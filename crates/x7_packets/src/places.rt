@@ -63,7 +63,7 @@ fn sync_bits(bytes: &[u8], at: usize) -> u64
     ensures some { (k : ℕ) → bit_at result k ≡ 1 → (k < 32) × OccursAt bytes.now sync_bytes (at + k) }
     ensures all { (k : ℕ) → k < 32 → OccursAt bytes.now sync_bytes (at + k) → bit_at result k ≡ 1 }
 {
-    let front = both(
+    let prefix = both(
         equal_to(load(bytes, at), 0xAA),
         equal_to(load(bytes, at + 1), 0x99),
     );
@@ -71,7 +71,7 @@ fn sync_bits(bytes: &[u8], at: usize) -> u64
         equal_to(load(bytes, at + 2), 0x55),
         equal_to(load(bytes, at + 3), 0x66),
     );
-    top_bits(both(front, back))
+    top_bits(both(prefix, back))
 }
 
 /// A bit for each of the 32 places from `at` on where the sync word's first and last byte stand, that of the first lowest:

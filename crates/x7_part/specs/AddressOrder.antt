@@ -30,7 +30,7 @@ pub data Rises : ℕ → List ℕ → Type 0 where
   risen : (least : ℕ) → Rises least []
   rise : (least x : ℕ) (xs : List ℕ) → least ≤ x → Rises (x + 1) xs → Rises least (x ∷ xs)
 
--- y stands right behind x
+-- y stands right after x
 abbrev pub Follows : List ℕ → ℕ → ℕ → Type 0
 Follows xs x y = (k : ℕ) × (k + 1 < length xs) × (slice_index xs k ≡ x) × (slice_index xs (k + 1) ≡ y)
 

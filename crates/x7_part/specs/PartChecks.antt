@@ -31,7 +31,7 @@ abbrev pub Tells : {T : Type 0} → Option PartFault → Result T PartFault → 
 Tells due (Ok done) = due ≡ None
 Tells due (Err fault) = (fault ≡ NoMemory) ⊎ (due ≡ Some fault)
 
--- the number of the row behind row n; a number past 32 bits is told as the last of 32 bits
+-- the number of the row after row n; a number past 32 bits is given as the last of 32 bits
 abbrev pub next_row_number : ℕ → ℕ
 next_row_number n = min (n + 1) (2 ^ 32 - 1)
 

@@ -20,7 +20,7 @@ same_row_fault earlier [] = None
 same_row_fault earlier (r ∷ rows) =
     first_of (unless (not (has_same r earlier)) (SameRow (length earlier + 1)) ∷ same_row_fault (earlier ++ r ∷ []) rows ∷ [])
 
--- at most 131,072 frames, and at most 13,277,056 words of frames and of the two pads behind each row
+-- at most 131,072 frames, and at most 13,277,056 words of frames and of the two pads after each row
 abbrev pub has_few_frames : ℕ → ℕ → ℕ → Bool
 has_few_frames words frames rows = nat_le frames 131072 && nat_le (words * (frames + 2 * rows)) 13277056
 

@@ -1,5 +1,5 @@
 -- Slots: the places of frames and of pad frames in write order (UG470, frame data; two pads after each row's last frame are this project's choice).
-use Rattle.std.specs.Prelude.{ℕ, Contains, List, [], ◌∷◌, ◌++◌, map, slice_index_or, ◌==◌, if◌then◌else◌}
+use Rattle.std.specs.Prelude.{◌≡◌, ℕ, ◌<◌, Contains, List, [], ◌∷◌, ◌++◌, length, map, slice_index, slice_index_or, ◌==◌, if◌then◌else◌}
 use Rattle.std.specs.List.{flat_map}
 use Rattle.x7_part.specs.Part.{FieldWidths, RowData, PartData}
 use Rattle.x7_part.specs.AddressOrder.{addresses_of}
@@ -28,6 +28,10 @@ from address (End ∷ rest) = from address rest
 -- the slot so many after that of an address
 abbrev pub slot_after : PartData → ℕ → ℕ → Slot
 slot_after part address n = slice_index_or (from address (slots_in part)) n End
+
+-- the slot at a place is the frame at the address of this rank
+abbrev pub HasFrameOf : List ℕ → List Slot → ℕ → ℕ → Type 0
+HasFrameOf addresses slots place rank = (rank < length addresses) × (slice_index_or slots place End ≡ Frame (slice_index addresses rank))
 
 -- the addresses of the slots that are frames
 abbrev pub addresses_among : List Slot → List ℕ

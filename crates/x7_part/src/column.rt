@@ -2,7 +2,7 @@
 ghost use Rattle.std.specs.Prelude.{◌≡◌, ◌<◌, ◌≤◌, ◌+◌, ◌-◌, ◌^◌, ◌⊎◌, ℕ, length, slice_index, slice_index_or, Contains, IfSome, IfNone, IsTrue};
 ghost use Rattle.x7_part.specs.AddressOrder.{Follows, IsLast};
 ghost use Rattle.x7_part.specs.Columns.{IsIn, column_addresses, column_slots, IsTable};
-ghost use Rattle.x7_part.specs.Slots.{from};
+ghost use Rattle.x7_part.specs.Slots.{HasFrameOf, from};
 ghost use Rattle.x7_part.specs.declared.column.Column.{Column};
 ghost use Rattle.x7_part.specs.declared.slot.Slot.{Slot};
 
@@ -136,7 +136,7 @@ pub fn address_of(columns: &[Column], rank: u32) -> Option<u32>
     }
 }
 
-/// The address behind an address.
+/// The address after an address.
 pub fn next_of(columns: &[Column], far: u32) -> Option<u32>
     requires { IsTable 0 0 0 columns.now }
     ensures found { IfSome result (λ y. Follows (column_addresses columns.now) far y) }
@@ -178,7 +178,7 @@ fn slot_at(columns: &[Column], place: u64) -> Slot
 pub fn rank_at(columns: &[Column], place: u64, near: &mut usize) -> Option<u32>
     requires table { IsTable 0 0 0 columns.now }
     requires fits { length (column_addresses columns.now) < 2 ^ 32 }
-    ensures found { IfSome result (λ r. (r < length (column_addresses columns.now)) × (slice_index_or (column_slots columns.now) place Slot.End ≡ Slot.Frame (slice_index (column_addresses columns.now) r))) }
+    ensures found { IfSome result (λ r. HasFrameOf (column_addresses columns.now) (column_slots columns.now) place r) }
     ensures none { IfNone result ((far : ℕ) → slice_index_or (column_slots columns.now) place Slot.End ≡ Slot.Frame far → ⊥) }
 {
     let after = begun_near(columns, place, *near);

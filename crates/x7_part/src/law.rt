@@ -15,7 +15,7 @@ ghost use Rattle.x7_part.specs.declared.slot.Slot.{Slot};
 ghost use Rattle.x7_part.specs.declared.slot.Slot.TheVariants.{Frame, Pad, End};
 
 /// The slots of a part in words: the slots from an address are their end that begins with it, each row ends in two pads,
-/// the slots of frames are the addresses in order, and a frame stands right behind another in one row alone.
+/// the slots of frames are the addresses in order, and a frame stands right after another in one row alone.
 pub fn slot_laws()
     ensures split { (part : PartData) (far : ℕ) → Contains (addresses_in part) far → (before : List Slot) × (slots_in part ≡ before ++ from far (slots_in part)) }
     ensures first { (part : PartData) (far : ℕ) → Contains (addresses_in part) far → slot_after part far 0 ≡ Frame far }

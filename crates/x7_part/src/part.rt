@@ -7,7 +7,7 @@ ghost use Rattle.x7_part.specs.Part.{PartData, frame_words};
 ghost use Rattle.x7_part.specs.PartValues.{part_data};
 ghost use Rattle.x7_part.specs.PartRows.{same_row_fault, in_order};
 ghost use Rattle.x7_part.specs.PartRange.{IsPart};
-ghost use Rattle.x7_part.specs.Slots.{slots_in, from};
+ghost use Rattle.x7_part.specs.Slots.{HasFrameOf, slots_in, from};
 ghost use Rattle.x7_part.specs.declared.slot.Slot.{Slot};
 
 use crate::column::{self, Column};
@@ -219,7 +219,7 @@ impl Part {
     /// The rank of the frame at a slot, which has so many before it; none at a pad and past the last slot. `near` says where to
     /// look first, and then where that was. Whatever it says, the answer is the same.
     pub fn rank_at(&self, place: u64, near: &mut usize) -> Option<u32>
-        ensures found { IfSome result (λ r. (r < length (addresses_in self.now)) × (slice_index_or (slots_in self.now) place Slot.End ≡ Slot.Frame (slice_index (addresses_in self.now) r))) }
+        ensures found { IfSome result (λ r. HasFrameOf (addresses_in self.now) (slots_in self.now) place r) }
         ensures none { IfNone result ((far : ℕ) → slice_index_or (slots_in self.now) place Slot.End ≡ Slot.Frame far → ⊥) }
     {
         column::rank_at(&self.columns, place, near)

@@ -86,16 +86,16 @@ onto_last [] run w = refl
 onto_last (v ∷ words) run w = onto_last words (v ∷ run) w
 
 pub record Front (words : List ℕ) : Type 0 where
-  pub front : List ℕ
+  pub prefix : List ℕ
   pub last : ℕ
-  pub are : words ≡ front ++ last ∷ []
+  pub are : words ≡ prefix ++ last ∷ []
 
 pub front_of : (words : List ℕ) → 0 < length words → Front words
 front_of [] h = absurd (omega arith)
-front_of (w ∷ []) h = record { front = []; last = w; are = refl }
+front_of (w ∷ []) h = record { prefix = []; last = w; are = refl }
 front_of (w ∷ v ∷ words) h =
     let f : Front (v ∷ words) = front_of (v ∷ words) (omega arith) in
-    record { front = w ∷ f.front; last = f.last; are = ap (λ t. w ∷ t) f.are }
+    record { prefix = w ∷ f.prefix; last = f.last; are = ap (λ t. w ∷ t) f.are }
 
 -- what comes of a whole frame's words
 pub record Whole (part : PartData) (q : PipelineData) (old new : FrameMap) (command : Command) (base : ℕ) (run : List ℕ) (source : Option (List ℕ)) (given : ℕ) (frame : List ℕ) : Type 0 where
@@ -113,25 +113,25 @@ whole part p q old new command base run source given frame s begins wide slot e 
     let nothing : length p.rest ≡ 0 = ap length begins in
     let positive = s.some_words in
     let f : Front frame = front_of frame (omega arith) in
-    let long : length frame ≡ length f.front + 1 = ap length f.are ∙ length-append f.front (f.last ∷ []) in
+    let long : length frame ≡ length f.prefix + 1 = ap length f.are ∙ length-append f.prefix (f.last ∷ []) in
     let first : p.frame_count ≡ 0 → length p.rest ≡ 0 → has_frame_at part p.base ≡ true = λ a b. lt-ltb 0 (length (slots_from part p.base)) (omega arith) in
-    let w : Within part p old command base run source given f.front = within part p old command base run source given f.front s first (omega arith) in
-    let m : PipelineData = record p { rest = p.rest ++ f.front } in
-    let filled : length (p.rest ++ f.front) ≡ length p.rest + length f.front = length-append p.rest f.front in
-    let same : onto frame run ≡ f.last ∷ onto f.front run = ap (λ t. onto t run) f.are ∙ onto_last f.front run f.last in
+    let w : Within part p old command base run source given f.prefix = within part p old command base run source given f.prefix s first (omega arith) in
+    let m : PipelineData = record p { rest = p.rest ++ f.prefix } in
+    let filled : length (p.rest ++ f.prefix) ≡ length p.rest + length f.prefix = length-append p.rest f.prefix in
+    let same : onto frame run ≡ f.last ∷ onto f.prefix run = ap (λ t. onto t run) f.are ∙ onto_last f.prefix run f.last in
     let base_is = s.base_is in
-    let is_whole : (p.rest ++ f.front) ++ f.last ∷ [] ≡ frame = ap (λ t. (t ++ f.front) ++ f.last ∷ []) begins ∙ sym f.are in
+    let is_whole : (p.rest ++ f.prefix) ++ f.last ∷ [] ≡ frame = ap (λ t. (t ++ f.prefix) ++ f.last ∷ []) begins ∙ sym f.are in
     let made : q ≡ record m { rest = []; newest = Some (m.rest ++ f.last ∷ []); frame_count = m.frame_count + 1 } =
     e ∙ ap (λ t. record p { rest = t; newest = Some frame; frame_count = p.frame_count + 1 }) begins
     ∙ ap (λ t. record p { rest = []; newest = Some t; frame_count = p.frame_count + 1 }) (sym is_whole) in
     let here : p.frame_count < length (slots_from part base) = rw (← base_is) slot in
     record {
-      stands = rw same (completes_frame part m q f.last command base (onto f.front run) source given w.stands (omega arith) here made);
-      lands = rw same (lands_more part base run (onto f.front run) (f.last ∷ onto f.front run) old old new w.lands
-          (lands_frame part m f.last command base (onto f.front run) source given old new w.stands (omega arith) none some));
-      passes = rw f.are (ap (λ (x : Written). x.fault) (written_some part base run f.front (f.last ∷ []) w.passes)
-          ∙ passes_next part base f.last (onto f.front run) []
-          (write_allowed part m command base (onto f.front run) source given w.stands (λ a b. lt-ltb 0 (length (slots_from part p.base)) (omega arith)) (λ full. slot)) refl);
+      stands = rw same (completes_frame part m q f.last command base (onto f.prefix run) source given w.stands (omega arith) here made);
+      lands = rw same (lands_more part base run (onto f.prefix run) (f.last ∷ onto f.prefix run) old old new w.lands
+          (lands_frame part m f.last command base (onto f.prefix run) source given old new w.stands (omega arith) none some));
+      passes = rw f.are (ap (λ (x : Written). x.fault) (written_some part base run f.prefix (f.last ∷ []) w.passes)
+          ∙ passes_next part base f.last (onto f.prefix run) []
+          (write_allowed part m command base (onto f.prefix run) source given w.stands (λ a b. lt-ltb 0 (length (slots_from part p.base)) (omega arith)) (λ full. slot)) refl);
     }
 
 -- ---- frames one after the other

@@ -209,11 +209,11 @@ stored_more part base given n = lesser given n (read_limit part base)
 EndsInPad : List Slot → Type 0
 EndsInPad places = (i far : ℕ) → length places ≤ i + 1 → get_or places i End ≡ Frame far → ⊥
 
-ends_behind : (front back : List Slot) → 0 < length back → EndsInPad back → EndsInPad (front ++ back)
+ends_behind : (prefix back : List Slot) → 0 < length back → EndsInPad back → EndsInPad (prefix ++ back)
 unfolding EndsInPad
 ends_behind [] back some ends i far h e = ends i far h e
-ends_behind (p ∷ front) back some ends zero far h e = let long = length-append front back in omega arith
-ends_behind (p ∷ front) back some ends (suc i) far h e = ends_behind front back some ends i far (omega arith) e
+ends_behind (p ∷ prefix) back some ends zero far h e = let long = length-append prefix back in omega arith
+ends_behind (p ∷ prefix) back some ends (suc i) far h e = ends_behind prefix back some ends i far (omega arith) e
 
 two_pads : (tail : List Slot) → EndsInPad tail → EndsInPad (Pad ∷ Pad ∷ tail)
 unfolding EndsInPad

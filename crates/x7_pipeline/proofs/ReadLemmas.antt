@@ -39,12 +39,12 @@ NoEnds (Frame far ∷ places) = NoEnds places
 NoEnds (Pad ∷ places) = NoEnds places
 NoEnds (End ∷ places) = ⊥
 
-ends-append : (front back : List Slot) → NoEnds front → NoEnds back → NoEnds (front ++ back)
+ends-append : (prefix back : List Slot) → NoEnds prefix → NoEnds back → NoEnds (prefix ++ back)
 unfolding NoEnds
 ends-append [] back f b = b
-ends-append (Frame far ∷ front) back f b = ends-append front back f b
-ends-append (Pad ∷ front) back f b = ends-append front back f b
-ends-append (End ∷ front) back f b = absurd f
+ends-append (Frame far ∷ prefix) back f b = ends-append prefix back f b
+ends-append (Pad ∷ prefix) back f b = ends-append prefix back f b
+ends-append (End ∷ prefix) back f b = absurd f
 
 ends-frames : (fars : List ℕ) → NoEnds (map Frame fars)
 unfolding NoEnds

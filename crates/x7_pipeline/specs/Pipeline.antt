@@ -9,7 +9,7 @@ use Rattle.x7_pipeline.specs.Runs.{rest_of, frames_of, slots_from}
 use Rattle.x7_pipeline.specs.Copies.{newest_of}
 use Rattle.x7_pipeline.specs.Readback.{read_slot, given_stored}
 
--- what it stores: the words of a frame, the bits of an address, the command, the base, the words behind the run's last whole frame, the newest
+-- what it stores: the words of a frame, the bits of an address, the command, the base, the words after the run's last whole frame, the newest
 -- whole frame and the number of all, the source, the count of words given, and the slot that a readback is at
 pub record PipelineData : Type 0 where
   pub width : ℕ

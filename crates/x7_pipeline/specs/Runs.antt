@@ -10,7 +10,7 @@ use Rattle.x7_memory.specs.Planned.{PlanRow, planned}
 
 -- ---- frames of a run
 
--- the words behind the last whole frame of a run, the oldest first
+-- the words after the last whole frame of a run, the oldest first
 unfoldable pub rest_of : ℕ → List ℕ → List ℕ
 rest_of width [] = []
 rest_of width (w ∷ run) = if length (rest_of width run) + 1 == width then [] else rest_of width run ++ w ∷ []
@@ -53,7 +53,7 @@ written_frames part base run = in_slots (slots_from part base) (but_newest (fram
 
 -- ---- what a memory gets
 
--- frames put over a memory, each pair over those behind it
+-- frames put over a memory, each pair over those after it
 abbrev pub put_over : List PlanRow → FrameMap → FrameMap
 put_over pairs memory = override memory (planned pairs)
 

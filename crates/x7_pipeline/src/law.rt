@@ -51,7 +51,7 @@ pub fn source_laws()
     ensures not_under { (part : PartData) (old new : Command) (run : List ℕ) → is_mfw new ≡ false → source_after part old new run ≡ None }
 {}
 
-/// FAR as read is the base right behind a load and where the base is no address, and the last address past the limit of a
+/// FAR as read is the base right after a load and where the base is no address, and the last address past the limit of a
 /// readback.
 pub fn far_laws()
     ensures loaded { (part : PartData) (base : ℕ) → far_of part base [] 0 ≡ base }

@@ -39,7 +39,7 @@ pub struct Pipeline {
     command: Command,
     /// The address that the run or the readback began at.
     base: u32,
-    /// The words behind the run's last whole frame.
+    /// The words after the run's last whole frame.
     rest: Vec<u32>,
     /// The run's newest whole frame, where `frame_count` isn't 0.
     held: Vec<u32>,

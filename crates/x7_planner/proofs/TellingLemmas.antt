@@ -37,11 +37,11 @@ slots_on part plan n =
 pub left_of : (part : PartData) (plan : PlanData) (behind : NextPiece) → (left : List ℕ) × (stream_of (pieces_before part plan behind) ++ left ≡ full_stream part plan)
 left_of part plan next.Opening = (full_stream part plan, refl)
 left_of part plan (next.Slot n) =
-    let front : List ℕ = bytes_of_words (full_opening part) in
+    let prefix : List ℕ = bytes_of_words (full_opening part) in
     let first : List ℕ = bytes_of_words (slot_words part plan (take n (slots_in part))) in
     let second : List ℕ = bytes_of_words (slot_words part plan (drop n (slots_in part))) in
     let rest = rest_of (stream_of (frame_pieces part plan)) (Check ∷ Words start_words ∷ Check ∷ Words full_ending ∷ []) in
-    (second ++ rest.0, sym (append_assoc (front ++ first) second rest.0) ∙ ap (λ (t : List ℕ). t ++ rest.0) (append_assoc front first second ∙ ap (λ (t : List ℕ). front ++ t) (slots_on part plan n)) ∙ rest.1)
+    (second ++ rest.0, sym (append_assoc (prefix ++ first) second rest.0) ∙ ap (λ (t : List ℕ). t ++ rest.0) (append_assoc prefix first second ∙ ap (λ (t : List ℕ). prefix ++ t) (slots_on part plan n)) ∙ rest.1)
 left_of part plan next.Check = rest_of (stream_of (pieces_before part plan next.Check)) (Check ∷ Words start_words ∷ Check ∷ Words full_ending ∷ [])
 left_of part plan next.Start = rest_of (stream_of (pieces_before part plan next.Start)) (Words start_words ∷ Check ∷ Words full_ending ∷ [])
 left_of part plan next.LastCheck = rest_of (stream_of (pieces_before part plan next.LastCheck)) (Check ∷ Words full_ending ∷ [])
@@ -77,10 +77,10 @@ module _ (s : FullStreamState) (old new : List ℕ) where
   frames_before : (n to : ℕ) → s.next ≡ next.Slot n → n ≤ to → (given : List ℕ) → HasGiven s given →
       given ++ bytes_of_words (slot_words s.part s.plan (drop n (take to (slots_in s.part)))) ≡ stream_of (pieces_to s.part s.plan to)
   frames_before n to e h given t =
-      let front : List ℕ = bytes_of_words (full_opening s.part) in
+      let prefix : List ℕ = bytes_of_words (full_opening s.part) in
       let first : List ℕ = bytes_of_words (slot_words s.part s.plan (take n (slots_in s.part))) in
       let piece : List ℕ = bytes_of_words (slot_words s.part s.plan (drop n (take to (slots_in s.part)))) in
-      ap (λ (x : List ℕ). x ++ piece) (before_at s given (next.Slot n) e t) ∙ append_assoc front first piece ∙ ap (λ (x : List ℕ). front ++ x) (slots_to s.part s.plan n to h)
+      ap (λ (x : List ℕ). x ++ piece) (before_at s given (next.Slot n) e t) ∙ append_assoc prefix first piece ∙ ap (λ (x : List ℕ). prefix ++ x) (slots_to s.part s.plan n to h)
 
   pub wrote_slots : (n count to : ℕ) → s.next ≡ next.Slot n → n ≤ length (slots_in s.part) → count ≡ length (slots_in s.part) → to ≡ min count (n + 160) → (to ≡ count → ⊥)
       → new ≡ old ++ bytes_of_words (slot_words s.part s.plan (drop n (take to (slots_in s.part)))) → Writes s old new (next.Slot to)

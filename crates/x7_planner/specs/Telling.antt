@@ -75,9 +75,9 @@ pub record TellsMore (s : FullStreamState) (given old new : List ℕ) : Type 0 w
   pub more : HasGiven s (given ++ piece)
 
 -- what is next was appended to bytes, and this is next behind it
-pub record Writes (s : FullStreamState) (old new : List ℕ) (behind : NextPiece) : Type 0 where
+pub record Writes (s : FullStreamState) (old new : List ℕ) (after : NextPiece) : Type 0 where
   pub piece : List ℕ
   pub adds : new ≡ old ++ piece
-  pub before : (given : List ℕ) → HasGiven s given → given ++ piece ≡ stream_of (pieces_before s.part s.plan behind)
-  pub inside : slot_next behind ≤ length (slots_in s.part)
-  pub fewer : s.next ≢ next.Nothing → calls_from (length (slots_in s.part)) behind < calls_left s
+  pub before : (given : List ℕ) → HasGiven s given → given ++ piece ≡ stream_of (pieces_before s.part s.plan after)
+  pub inside : slot_next after ≤ length (slots_in s.part)
+  pub fewer : s.next ≢ next.Nothing → calls_from (length (slots_in s.part)) after < calls_left s

@@ -10,8 +10,8 @@ use Rattle.x7_packets.specs.SyncWord.{HasNoSync}
 use Rattle.x7_part.specs.Part.{PartData}
 use Rattle.x7_engine.specs.Kept.{is_fallback}
 use Rattle.x7_engine.specs.Rest.{AtRest, GoesOn}
-use Rattle.x7_engine.specs.State.{line_by, stop_in}
-use Rattle.x7_engine.specs.Stops.{Stopped, line_at, stop_of, stopped_at}
+use Rattle.x7_engine.specs.State.{why_of, stop_in}
+use Rattle.x7_engine.specs.Stops.{Stopped, why_at, stop_of, stopped_at}
 use Rattle.x7_engine.specs.Watching.{timer_held, turns_on}
 use Rattle.x7_engine.specs.declared.kept.Kept.{Kept}
 use Rattle.x7_engine.specs.declared.stop.Stop.TheVariants as stop
@@ -20,7 +20,7 @@ use Rattle.x7_engine.proofs.RestLemmas.{history_on, rest_on}
 use Rattle.x7_engine.proofs.StateLemmas.{no_stop_before}
 use Rattle.x7_effects.proofs.Items.{AreItems, Item, MayLead, Noop, Write, bytes_of_words, closed, opened}
 use Rattle.x7_effects.proofs.CalmLemmas.{IsCalm, IsOff, calm_access, calm_bytes}
-use Rattle.x7_effects.proofs.GoingLemmas.{IsGoing, going_access, going_desync, line_none}
+use Rattle.x7_effects.proofs.GoingLemmas.{IsGoing, going_access, going_desync, why_none}
 use Rattle.x7_effects.proofs.RestingLemmas.{rests}
 use Rattle.x7_effects.proofs.StillLemmas.{never_armed}
 use Rattle.x7_effects.proofs.StreamLemmas.{bytes_fit, closed_history, closed_place, opened_history}
@@ -86,15 +86,15 @@ calm_new part kept off = record { no_stop = refl; off = off; newest = omega arit
 
 calm_wbstar : (part : PartData) (kept : Kept) (start : ℕ) → IsOff kept [] → IsCalm part kept (after_wbstar start) 24
 calm_wbstar part kept start off =
-    let none : line_at part kept [] (access.Write 16 start) ≡ None = line_none part kept [] (access.Write 16 start) refl refl in
+    let none : why_at part kept [] (access.Write 16 start) ≡ None = why_none part kept [] (access.Write 16 start) refl refl in
     calm_bytes part kept (after_wbstar start) 16 24 (omega arith) (calm_access part kept [] (access.Write 16 start) 0 16 (omega arith) (calm_new part kept off) none off)
 
-pub power_stop : (part : PartData) (start : ℕ) → start < 2 ^ 32 → stop_in part at_power (power_bytes start) ≡ Some (record { place = 24; line = stop.Iprog })
+pub power_stop : (part : PartData) (start : ℕ) → start < 2 ^ 32 → stop_in part at_power (power_bytes start) ≡ Some (record { place = 24; why = stop.Iprog })
 power_stop part start l =
-    let line : line_at part at_power (after_wbstar start) (access.Write 4 15) ≡ Some stop.Iprog = refl in
+    let why : why_at part at_power (after_wbstar start) (access.Write 4 15) ≡ Some stop.Iprog = refl in
     ap (λ (h : History). stop_of part at_power h 24) (power_history start l)
     ∙ stop_of-access part at_power (after_wbstar start) (access.Write 4 15) 24 (calm_wbstar part at_power start refl).no_stop
-    ∙ ap (stopped_at 24) line
+    ∙ ap (stopped_at 24) why
 
 power_never : (start : ℕ) → start < 2 ^ 32 → NeverStarts (history_of (power_bytes start))
 power_never start l = subst NeverStarts (sym (power_history start l)) (inl refl, (inl refl, tt))
@@ -103,7 +103,7 @@ pub power_ends : (part : PartData) (start : ℕ) → start < 2 ^ 32 → ending_a
 power_ends part start l =
     let fits : AreBytes (power_bytes start) = bytes_fit (opened [] (slot_items start)) in
     ends_by_stop part at_power (power_bytes start) (never_seven part at_power (power_bytes start) fits (power_never start l))
-    ∙ ap (λ (o : Option Stopped). ending_by (line_by o)) (power_stop part start l)
+    ∙ ap (λ (o : Option Stopped). ending_by (why_of o)) (power_stop part start l)
 
 -- nothing ends it at fewer bytes
 pub power_first : (part : PartData) (start : ℕ) (more : List ℕ) → start < 2 ^ 32 → NoneBefore part at_power (power_bytes start ++ more) 24
@@ -113,7 +113,7 @@ power_first part start more l k few =
     let whole : take k bytes ++ drop k bytes ≡ bytes = take-append-drop k bytes in
     let count : length (take k bytes) ≡ k = length-take-le k bytes (let m : k ≤ 24 = omega (arith, few) in m) in
     let none : stop_in part at_power (take k bytes) ≡ None =
-    no_stop_before part at_power (take k bytes) (drop k bytes) (record { place = 24; line = stop.Iprog }) (subst AreBytes (sym whole) fits) (ap (stop_in part at_power) whole ∙ power_stop part start l) (omega (arith, count, few)) in
+    no_stop_before part at_power (take k bytes) (drop k bytes) (record { place = 24; why = stop.Iprog }) (subst AreBytes (sym whole) fits) (ap (stop_in part at_power) whole ∙ power_stop part start l) (omega (arith, count, few)) in
     ap (ending_at part at_power) (take-append-le k bytes more (let m : k ≤ 24 = omega (arith, few) in m)) ∙ front_open part at_power k bytes fits (power_never start l) none
 
 -- ---- a fallback
@@ -126,17 +126,17 @@ and_false false = refl
 fallback_off : (kept : Kept) (h : History) → is_fallback kept.kind ≡ true → IsOff kept h
 fallback_off kept h e = ap (λ (b : Bool). turns_on (timer_held kept h) && not b) e ∙ and_false (turns_on (timer_held kept h))
 
-iprog_ignored : (part : PartData) (kept : Kept) (start : ℕ) → is_fallback kept.kind ≡ true → line_at part kept (after_wbstar start) (access.Write 4 15) ≡ None
+iprog_ignored : (part : PartData) (kept : Kept) (start : ℕ) → is_fallback kept.kind ≡ true → why_at part kept (after_wbstar start) (access.Write 4 15) ≡ None
 iprog_ignored part kept start e = rw e refl
 
 slot_going : (part : PartData) (kept : Kept) (start : ℕ) → is_fallback kept.kind ≡ true → IsGoing part kept 0 (after_slot start) 32
 slot_going part kept start e =
     let first : IsGoing part kept 0 [] 0 = record { calm = calm_new part kept (fallback_off kept [] e); still = inl (record { armed_is = never_armed 0; progress_is = refl }, refl); pending = refl } in
     let wbstar : IsGoing part kept 0 (after_wbstar start) 16 =
-    going_access part kept 0 [] (access.Write 16 start) 0 16 (omega arith) first (record { start = refl; shutdown = refl; desync = refl }) (line_none part kept [] (access.Write 16 start) refl refl) (fallback_off kept (after_wbstar start) e) in
+    going_access part kept 0 [] (access.Write 16 start) 0 16 (omega arith) first (record { start = refl; shutdown = refl; desync = refl }) (why_none part kept [] (access.Write 16 start) refl refl) (fallback_off kept (after_wbstar start) e) in
     let iprog : IsGoing part kept 0 (after_iprog start) 24 =
     going_access part kept 0 (after_wbstar start) (access.Write 4 15) 16 24 (omega arith) wbstar (record { start = refl; shutdown = refl; desync = refl }) (iprog_ignored part kept start e) (fallback_off kept (after_iprog start) e) in
-    going_desync part kept 0 (after_iprog start) 24 32 (omega arith) iprog (line_none part kept (after_iprog start) (access.Write 4 13) refl refl)
+    going_desync part kept 0 (after_iprog start) 24 32 (omega arith) iprog (why_none part kept (after_iprog start) (access.Write 4 13) refl refl)
 
 slot_rests : (part : PartData) (kept : Kept) (start : ℕ) → start < 2 ^ 32 → is_fallback kept.kind ≡ true → AtRest part kept (open_slot start)
 slot_rests part kept start l e =

@@ -24,16 +24,17 @@ use Rattle.x7_boot.proofs.OneBootLemmas.{one_chain}
 use Rattle.x7_boot.proofs.StartLemmas.{NeverStarts}
 use Rattle.x7_update.specs.Layout.{HasLayout, four_at, open_word}
 use Rattle.x7_update.specs.After.{IsBetween, MayBeLeft, after, between, untouched}
+use Rattle.x7_recovery.specs.ImageBoot.{course_of}
 use Rattle.x7_recovery.specs.Recovery.{BootsAs, HasGolden, IsPrepared, StartsGolden, Updating, as_after, as_before, golden}
 use Rattle.x7_update.proofs.LawLemmas.{no_sync}
 
 -- a byte of a word in the midst of a list
-in_midst : (front back gap : List ℕ) (k : ℕ) → gap ≡ front ++ sync_bytes ++ back → k < 4 → get_or gap (length front + k) 0 ≡ get_or sync_bytes k 0
-in_midst front back gap k e h =
-    let at : length front + k - length front ≡ k = omega arith in
-    ap (λ l. get_or l (length front + k) 0) e
-    ∙ get_or_append_left (front ++ sync_bytes) back 0 (length front + k) (omega (arith, h, length-append front sync_bytes))
-    ∙ get_or-append_right front sync_bytes (length front) (length front + k) 0 refl (omega arith)
+in_midst : (prefix back gap : List ℕ) (k : ℕ) → gap ≡ prefix ++ sync_bytes ++ back → k < 4 → get_or gap (length prefix + k) 0 ≡ get_or sync_bytes k 0
+in_midst prefix back gap k e h =
+    let at : length prefix + k - length prefix ≡ k = omega arith in
+    ap (λ l. get_or l (length prefix + k) 0) e
+    ∙ get_or_append_left (prefix ++ sync_bytes) back 0 (length prefix + k) (omega (arith, h, length-append prefix sync_bytes))
+    ∙ get_or-append_right prefix sync_bytes (length prefix) (length prefix + k) 0 refl (omega arith)
     ∙ ap (λ n. get_or sync_bytes n 0) at
 
 module _ (flash found : List ℕ) (l : HasLayout flash) (b : IsBetween flash found) where
@@ -47,14 +48,14 @@ module _ (flash found : List ℕ) (l : HasLayout flash) (b : IsBetween flash fou
   length-gap = length-take-le 65536 found (omega (arith, long))
 
   gap_none : HasNoSync gap
-  gap_none = record { none = λ front back e. none front back e }
+  gap_none = record { none = λ prefix back e. none prefix back e }
     where
-      none : (front back : List ℕ) → gap ≡ front ++ sync_bytes ++ back → ⊥
-      none front back e =
-          let place = length front in
-          let short : place + 4 ≤ 65536 = omega (arith, length-gap, ap length e, length-append (front ++ sync_bytes) back, length-append front sync_bytes) in
+      none : (prefix back : List ℕ) → gap ≡ prefix ++ sync_bytes ++ back → ⊥
+      none prefix back e =
+          let place = length prefix in
+          let short : place + 4 ≤ 65536 = omega (arith, length-gap, ap length e, length-append (prefix ++ sync_bytes) back, length-append prefix sync_bytes) in
           let byte : (k : ℕ) → k < 4 → get_or found (place + k) 0 ≡ get_or sync_bytes k 0 =
-          λ k h. sym (get_or-take 65536 found (place + k) 0 (omega (arith, short, h))) ∙ in_midst front back gap k e h in
+          λ k h. sym (get_or-take 65536 found (place + k) 0 (omega (arith, short, h))) ∙ in_midst prefix back gap k e h in
           let first : get_or found place 0 ≡ 0xAA = let at : place ≡ place + 0 = omega arith in ap (λ n. get_or found n 0) at ∙ byte 0 (omega arith) in
           let is : four_at found place ≡ open_word = rw (first, byte 1 (omega arith), byte 2 (omega arith), byte 3 (omega arith)) refl in
           no_sync flash found l b place (omega (arith, short)) is
@@ -109,7 +110,7 @@ module _ (flash found : List ℕ) (l : HasLayout flash) (b : IsBetween flash fou
       starts = full_starts part at_power gap plan 0 found more false gap_fits rest never is_part for_part split refl
 
 -- one attempt that starts is the whole boot
-pub starts_alone : (part : PartData) (plan : PlanData) (found : List ℕ) (b : BootedState) → StartsWith part at_power 0 found plan false → (boot : IsBoot part found b) → StartsGolden part plan b.attempts b.end boot.last
+pub starts_alone : (part : PartData) (plan : PlanData) (found : List ℕ) (b : BootedState) → StartsWith part at_power 0 found plan false → (boot : IsBoot part found b) → StartsGolden part plan (course_of b boot.last)
 starts_alone part plan found b s boot =
     let t : Trial = s.trial in
     let kept_is : t.kept ≡ at_power = s.kept_is in

@@ -21,11 +21,11 @@ use Rattle.x7_flow.specs.FrameMemory.{memory_of}
 use Rattle.x7_engine.specs.Kept.{is_fallback}
 use Rattle.x7_engine.specs.Registers.{wrote_iprog}
 use Rattle.x7_engine.specs.Rest.{AtRest}
-use Rattle.x7_engine.specs.State.{history_by, history_taken, line_by, memory_in, state_of, stop_in}
+use Rattle.x7_engine.specs.State.{history_by, memory_in, state_of, stop_in, why_of}
 use Rattle.x7_engine.specs.Stops.{Stopped, fault_of}
 use Rattle.x7_engine.specs.Values.{attempt_of}
 use Rattle.x7_engine.specs.declared.kept.Kept.{Kept}
-use Rattle.x7_effects.specs.Played.{PlaysFull}
+use Rattle.x7_effects.specs.Played.{PlaysFull, resting_after}
 use Rattle.x7_effects.proofs.Items.{bus_width_head, closed, writes_entered}
 use Rattle.x7_effects.proofs.Checking.{at_first, pieces_length, with_checks}
 use Rattle.x7_effects.proofs.EndLemmas.{memory_all}
@@ -38,7 +38,6 @@ use Rattle.x7_effects.proofs.PlannerLemmas.{full_same}
 use Rattle.x7_effects.proofs.RestingLemmas.{stream_history}
 use Rattle.x7_effects.proofs.StreamLemmas.{bytes_fit}
 use Rattle.x7_effects.proofs.Streams as items
-use Rattle.x7_engine.proofs.DeviceLemmas.{going_taken}
 use Rattle.x7_boot.specs.Attempt.{IsTrial, NoneBefore, Trial, ending_at}
 use Rattle.x7_boot.specs.Boot.{end_state}
 use Rattle.x7_boot.specs.declared.attempt.Ending.TheVariants.{Started}
@@ -91,11 +90,11 @@ seven_whole : (part : PartData) (kept : Kept) (bytes stream : List ℕ) (k : ℕ
     → history_of (take k (bytes ++ stream)) ≡ history_of (bytes ++ stream)
 seven_whole part kept bytes stream k fits d seven =
     let all : List ℕ = bytes ++ stream in
-    let front : List ℕ = take k all in
-    let history : history_of front ≡ until (length front) (history_of all) = front_history k all fits in
-    let cut : history_of front ≡ until (length front) (entry (access.Write 4 13) d.place ∷ d.before) = history ∙ ap (until (length front)) d.is in
-    cut ∙ not_less (length front) d.place d.before (access.Write 4 13) (λ never.
-    let early : ((state_of part kept false front).phase == 7) ≡ false = never_seven part kept front (all_take (λ b. b < 256) k all fits) (subst NeverStarts (sym cut) never) in
+    let prefix : List ℕ = take k all in
+    let history : history_of prefix ≡ until (length prefix) (history_of all) = front_history k all fits in
+    let cut : history_of prefix ≡ until (length prefix) (entry (access.Write 4 13) d.place ∷ d.before) = history ∙ ap (until (length prefix)) d.is in
+    cut ∙ not_less (length prefix) d.place d.before (access.Write 4 13) (λ never.
+    let early : ((state_of part kept false prefix).phase == 7) ≡ false = never_seven part kept prefix (all_take (λ b. b < 256) k all fits) (subst NeverStarts (sym cut) never) in
     let both : true ≡ false = sym seven ∙ early in absurd (cc)) d.never ∙ sym d.is
 
 -- ---- the attempt
@@ -113,7 +112,7 @@ pub record StartsWith (part : PartData) (kept : Kept) (address : ℕ) (flash : L
 bootsts_is : (part : PartData) (kept : Kept) (bytes : List ℕ) (ignored : Bool) → stop_in part kept bytes ≡ None → (is_fallback kept.kind && wrote_iprog (history_of bytes)) ≡ ignored
     → (state_of part kept false bytes).bootsts ≡ boot_status_of (record { kind = kept.kind; cause = None; ignored = ignored }) kept.before
 bootsts_is part kept bytes ignored none e =
-    ap (λ (o : Option Stopped). boot_status_of (attempt_of kept false (fault_of (line_by o)) (history_by o (history_of bytes))) kept.before) none
+    ap (λ (o : Option Stopped). boot_status_of (attempt_of kept false (fault_of (why_of o)) (history_by o (history_of bytes))) kept.before) none
     ∙ ap (λ (b : Bool). boot_status_of (record { kind = kept.kind; cause = None; ignored = b }) kept.before) e
 
 pub full_starts : (part : PartData) (kept : Kept) (bytes : List ℕ) (plan : PlanData) (address : ℕ) (flash more : List ℕ) (ignored : Bool) → AreBytes bytes → AtRest part kept bytes → NeverStarts (history_of bytes)
@@ -123,7 +122,7 @@ full_starts part kept bytes plan address flash more ignored fits rest never is f
     let stream : List ℕ = full_stream part plan in
     let all : List ℕ = bytes ++ stream in
     let all_fit : AreBytes all = all-append (λ b. b < 256) bytes stream fits (full_stream_fits part plan is for) in
-    let plays : PlaysFull part kept bytes stream plan = full_law part kept bytes plan fits rest is for.is_plan for.width for.addressed in
+    let plays : PlaysFull (resting_after part kept bytes) stream plan = full_law part kept bytes plan fits rest is for.is_plan for.width for.addressed in
     let none : stop_in part kept all ≡ None = plays.rests.no_stop in
     let seven_at : ℕ → Bool = λ k. (state_of part kept false (take k all)).phase == 7 in
     let seven : seven_at (length all) ≡ true = ap (λ (b : List ℕ). (state_of part kept false b).phase == 7) (take-length all) ∙ ap (λ (p : ℕ). p == 7) (plays.phase false) in

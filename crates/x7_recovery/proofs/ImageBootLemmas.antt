@@ -19,7 +19,7 @@ use Rattle.x7_planner.specs.Full.{full_stream}
 use Rattle.x7_engine.specs.Kept.{is_fallback}
 use Rattle.x7_engine.specs.Registers.{wrote_iprog}
 use Rattle.x7_engine.specs.Rest.{AtRest}
-use Rattle.x7_engine.specs.State.{attempt_in, history_by, history_taken, kept_after, line_by, memory_in, state_of, stop_in, taken_of}
+use Rattle.x7_engine.specs.State.{attempt_in, history_by, history_taken, kept_after, why_of, memory_in, state_of, stop_in, taken_of}
 use Rattle.x7_engine.specs.Stops.{Stopped, fault_of}
 use Rattle.x7_engine.specs.Values.{cause_of}
 use Rattle.x7_engine.specs.declared.fault.Fault.{Fault}
@@ -30,7 +30,7 @@ use Rattle.x7_engine.specs.declared.stop.Stop.TheVariants as stop
 use Rattle.x7_boot.specs.Attempt.{IsTrial, NoneBefore, Trial, ending_at, ending_by, failed_by}
 use Rattle.x7_boot.specs.Boot.{BootedState, IsBoot, LeadsTo, LeadsToEnd, at_power, end_state, forbids_fallback, next_by, start_address, tried}
 use Rattle.x7_boot.specs.Image.{first_sector, flash_limit, image_size}
-use Rattle.x7_recovery.specs.ImageBoot.{BootsImage, EndsAtUpdate, FallsBack, FallsBackFrom, HasImage, StartsUpdate, TriesUpdate, UpdateEnds, UpdateFails, golden_image, kept_at_update, place_after}
+use Rattle.x7_recovery.specs.ImageBoot.{BootsImage, EndsAtUpdate, FallsBack, FallsBackFrom, HasImage, StartsUpdate, TriesUpdate, UpdateEnds, UpdateFails, course_along, course_of, golden_image, image_with, kept_at_update, place_after}
 use Rattle.x7_boot.specs.declared.attempt.Ending.{Ending}
 use Rattle.x7_boot.specs.declared.attempt.Ending.TheVariants as ending
 use Rattle.x7_boot.specs.declared.boots.BootEnd.{BootEnd}
@@ -82,7 +82,7 @@ power_keeps part start l =
       timer = last_word 17 0 (history_by o (history_of (power_bytes start)));
       bspi = last_word 31 0 (history_by o (history_of (power_bytes start)));
       kind = Iprog;
-      before = Some (record { kind = Power; cause = cause_of (fault_of (line_by o)) false; ignored = false });
+      before = Some (record { kind = Power; cause = cause_of (fault_of (why_of o)) false; ignored = false });
     }) (power_stop part start l)
     ∙ ap (λ (h : History). record {
       wbstar = last_word 16 0 (until 24 h);
@@ -148,7 +148,7 @@ are_these part flash last older end newest others this_end leads this =
 -- ---- an update that is a full stream
 
 pub full_update_starts : (part : PartData) (golden update : PlanData) (last : Trial) (older : List Trial) (end : BootEnd) → HasImage part golden (full_stream part update) → IsPlanFor part update
-    → LeadsToEnd part (golden_image part golden (full_stream part update)) (last ∷ older) end → StartsUpdate part golden update (reverse (map tried (last ∷ older))) end last
+    → LeadsToEnd part (golden_image part golden (full_stream part update)) (last ∷ older) end → StartsUpdate part golden update (course_along last older end)
 full_update_starts part golden update last older end image for led =
     let flash : List ℕ = golden_image part golden (full_stream part update) in
     let start : ℕ = start_of part golden in
@@ -212,24 +212,24 @@ never_ends part kept from n none = elim (cases_lt n (suc (length from))) [
       ap (ending_at part kept) same ∙ none (length from) (omega arith))
 ]
 
-cause_is : (part : PartData) (flash : List ℕ) (t : Trial) (cause : Cause) → IsTrial part flash t → t.ending ≡ ending.Failed cause → cause_of (fault_of (line_by (stop_in part t.kept t.bytes))) t.wrapped ≡ Some cause
+cause_is : (part : PartData) (flash : List ℕ) (t : Trial) (cause : Cause) → IsTrial part flash t → t.ending ≡ ending.Failed cause → cause_of (fault_of (why_of (stop_in part t.kept t.bytes))) t.wrapped ≡ Some cause
 cause_is part flash t cause (inl first) e =
-    let line : Option Stop = line_by (stop_in part t.kept t.bytes) in
-    let ends : ending_by line ≡ Some (ending.Failed cause) = not_started ((state_of part t.kept false t.bytes).phase == 7) (ending_by line) cause (first.ends ∙ ap Some e) in
-    ap (cause_of (fault_of line)) first.in_flash ∙ cause_by line cause ends
+    let why : Option Stop = why_of (stop_in part t.kept t.bytes) in
+    let ends : ending_by why ≡ Some (ending.Failed cause) = not_started ((state_of part t.kept false t.bytes).phase == 7) (ending_by why) cause (first.ends ∙ ap Some e) in
+    ap (cause_of (fault_of why)) first.in_flash ∙ cause_by why cause ends
 cause_is part flash t cause (inr out) e =
     let from : List ℕ = drop t.address flash in
-    let line : Option Stop = line_by (stop_in part t.kept t.bytes) in
+    let why : Option Stop = why_of (stop_in part t.kept t.bytes) in
     let none : ending_at part t.kept t.bytes ≡ None = ap (ending_at part t.kept) out.taken ∙ never_ends part t.kept from (taken_of part t.kept from) out.none in
-    let open_end : ending_by line ≡ None = not_ended ((state_of part t.kept false t.bytes).phase == 7) (ending_by line) none in
-    ap (cause_of (fault_of line)) out.past_end ∙ wrapped_by (fault_of line) (no_cause line open_end) ∙ some_failed Wrap cause (sym out.failed ∙ e)
+    let open_end : ending_by why ≡ None = not_ended ((state_of part t.kept false t.bytes).phase == 7) (ending_by why) none in
+    ap (cause_of (fault_of why)) out.past_end ∙ wrapped_by (fault_of why) (no_cause why open_end) ∙ some_failed Wrap cause (sym out.failed ∙ e)
 
 -- the attempt, as the next one keeps it
-attempt_is : (part : PartData) (golden : PlanData) (update : List ℕ) (t : Trial) (cause : Cause) → UpdateFails part golden update t cause false → attempt_in part t.kept t.wrapped t.bytes ≡ record { kind = Iprog; cause = Some cause; ignored = false }
+attempt_is : (part : PartData) (golden : PlanData) (update : List ℕ) (t : Trial) (cause : Cause) → UpdateFails (image_with part golden update) t cause false → attempt_in part t.kept t.wrapped t.bytes ≡ record { kind = Iprog; cause = Some cause; ignored = false }
 attempt_is part golden update t cause fails =
-    let ended : UpdateEnds part golden update t (ending.Failed cause) = fails.ended in
+    let ended : UpdateEnds (image_with part golden update) t (ending.Failed cause) = fails.ended in
     let kind : t.kept.kind ≡ Iprog = ap (λ (k : Kept). k.kind) ended.kept in
-    ap (λ (k : Kind). record { kind = k; cause = cause_of (fault_of (line_by (stop_in part t.kept t.bytes))) t.wrapped; ignored = is_fallback k && wrote_iprog (history_taken part t.kept t.bytes) }) kind
+    ap (λ (k : Kind). record { kind = k; cause = cause_of (fault_of (why_of (stop_in part t.kept t.bytes))) t.wrapped; ignored = is_fallback k && wrote_iprog (history_taken part t.kept t.bytes) }) kind
     ∙ ap (λ (c : Option Cause). record { kind = Iprog; cause = c; ignored = false }) (cause_is part (golden_image part golden update) t cause ended.is ended.ends)
 
 -- what follows it
@@ -255,13 +255,13 @@ fallback_starts part golden update kept image e =
     full_starts part kept sector golden 0 (golden_image part golden update) begins.0 true (sector_fits start) (sector_rests part kept start small whole e) (sector_never start small whole) image.is_part image.plan begins.1
     (ap (λ (b : Bool). b && wrote_iprog (history_of (sector ++ stream))) e ∙ iprog_later sector stream fits wrote)
 
-pub update_falls_back : (part : PartData) (golden : PlanData) (update : List ℕ) (t : Trial) (cause : Cause) (last : Trial) (older : List Trial) (end : BootEnd) → HasImage part golden update → UpdateFails part golden update t cause false
-    → LeadsToEnd part (golden_image part golden update) (last ∷ older) end → FallsBack part golden cause (reverse (map tried (last ∷ older))) end last
+pub update_falls_back : (part : PartData) (golden : PlanData) (update : List ℕ) (t : Trial) (cause : Cause) (last : Trial) (older : List Trial) (end : BootEnd) → HasImage part golden update → UpdateFails (image_with part golden update) t cause false
+    → LeadsToEnd part (golden_image part golden update) (last ∷ older) end → FallsBack part golden cause (course_along last older end)
 update_falls_back part golden update t cause last older end image fails led =
     let flash : List ℕ = golden_image part golden update in
     let start : ℕ = start_of part golden in
     let place : ℕ = place_after part golden in
-    let ended : UpdateEnds part golden update t (ending.Failed cause) = fails.ended in
+    let ended : UpdateEnds (image_with part golden update) t (ending.Failed cause) = fails.ended in
     let kind : t.kept.kind ≡ Iprog = ap (λ (k : Kept). k.kind) ended.kept in
     let kept : Kept = kept_after part t.kept t.wrapped t.bytes Fallback in
     let next : Again kept 0 ≡ next_by part 2 t t.ending = sym (ap (next_by part 2 t) ended.ends ∙ fallback_next part t cause kind fails.forbids) in
@@ -291,8 +291,8 @@ update_falls_back part golden update t cause last older end image fails led =
 
 -- ---- the attempt at the update is the last
 
-at_update : (part : PartData) (golden : PlanData) (update : List ℕ) (t : Trial) (e : Ending) (by_end : BootEnd) (last : Trial) (older : List Trial) (end : BootEnd) → HasImage part golden update → UpdateEnds part golden update t e
-    → next_by part 2 t e ≡ Ends by_end → LeadsToEnd part (golden_image part golden update) (last ∷ older) end → EndsAtUpdate part golden t by_end (reverse (map tried (last ∷ older))) end last
+at_update : (part : PartData) (golden : PlanData) (update : List ℕ) (t : Trial) (e : Ending) (by_end : BootEnd) (last : Trial) (older : List Trial) (end : BootEnd) → HasImage part golden update → UpdateEnds (image_with part golden update) t e
+    → next_by part 2 t e ≡ Ends by_end → LeadsToEnd part (golden_image part golden update) (last ∷ older) end → EndsAtUpdate part golden t by_end (course_along last older end)
 at_update part golden update t e by_end last older end image ended next led =
     let flash : List ℕ = golden_image part golden update in
     let start : ℕ = start_of part golden in
@@ -304,16 +304,16 @@ at_update part golden update t e by_end last older end image ended next led =
       last_is = c.last_is;
     }
 
-pub update_starts : (part : PartData) (golden : PlanData) (update : List ℕ) (t : Trial) (last : Trial) (older : List Trial) (end : BootEnd) → HasImage part golden update → UpdateEnds part golden update t ending.Started
-    → LeadsToEnd part (golden_image part golden update) (last ∷ older) end → EndsAtUpdate part golden t boot_end.Started (reverse (map tried (last ∷ older))) end last
+pub update_starts : (part : PartData) (golden : PlanData) (update : List ℕ) (t : Trial) (last : Trial) (older : List Trial) (end : BootEnd) → HasImage part golden update → UpdateEnds (image_with part golden update) t ending.Started
+    → LeadsToEnd part (golden_image part golden update) (last ∷ older) end → EndsAtUpdate part golden t boot_end.Started (course_along last older end)
 update_starts part golden update t last older end image ended led = at_update part golden update t ending.Started boot_end.Started last older end image ended refl led
 
 or_true : (b : Bool) → (b || true) ≡ true
 or_true true = refl
 or_true false = refl
 
-pub update_stops : (part : PartData) (golden : PlanData) (update : List ℕ) (t : Trial) (cause : Cause) (last : Trial) (older : List Trial) (end : BootEnd) → HasImage part golden update → UpdateFails part golden update t cause true
-    → LeadsToEnd part (golden_image part golden update) (last ∷ older) end → EndsAtUpdate part golden t boot_end.Stopped (reverse (map tried (last ∷ older))) end last
+pub update_stops : (part : PartData) (golden : PlanData) (update : List ℕ) (t : Trial) (cause : Cause) (last : Trial) (older : List Trial) (end : BootEnd) → HasImage part golden update → UpdateFails (image_with part golden update) t cause true
+    → LeadsToEnd part (golden_image part golden update) (last ∷ older) end → EndsAtUpdate part golden t boot_end.Stopped (course_along last older end)
 update_stops part golden update t cause last older end image fails led =
     let again : Next = Again (kept_after part t.kept t.wrapped t.bytes Fallback) 0 in
     let next : next_by part 2 t (ending.Failed cause) ≡ Ends boot_end.Stopped =
@@ -323,7 +323,7 @@ update_stops part golden update t cause last older end image fails led =
 -- ---- each boot tries the update
 
 tries_update : (part : PartData) (golden : PlanData) (update : List ℕ) (trials : List Trial) (end : BootEnd) → HasImage part golden update → LeadsToEnd part (golden_image part golden update) trials end
-    → TriesUpdate part golden update (reverse (map tried trials))
+    → TriesUpdate (image_with part golden update) (reverse (map tried trials))
 tries_update part golden update trials end image led =
     let flash : List ℕ = golden_image part golden update in
     let start : ℕ = start_of part golden in
@@ -343,36 +343,36 @@ tries_update part golden update trials end image led =
 
 -- ---- the same of a boot
 
-pub boot_falls_back : (part : PartData) (golden : PlanData) (update : List ℕ) (b : BootedState) (t : Trial) (cause : Cause) → (boots : BootsImage part golden update b) → UpdateFails part golden update t cause false
-    → FallsBack part golden cause b.attempts b.end boots.boot.last
+pub boot_falls_back : (part : PartData) (golden : PlanData) (update : List ℕ) (b : BootedState) (t : Trial) (cause : Cause) → (boots : BootsImage (image_with part golden update) b) → UpdateFails (image_with part golden update) t cause false
+    → FallsBack part golden cause (course_of b boots.boot.last)
 boot_falls_back part golden update b t cause boots fails =
     let is : IsBoot part (golden_image part golden update) b = boots.boot in
-    subst (λ (a : List Tried). FallsBack part golden cause a b.end is.last) (sym is.attempts) (update_falls_back part golden update t cause is.last is.older b.end boots.image fails is.leads)
+    subst (λ (a : List Tried). FallsBack part golden cause (record { attempts = a; end = b.end; last = is.last })) (sym is.attempts) (update_falls_back part golden update t cause is.last is.older b.end boots.image fails is.leads)
 
-pub boot_stops : (part : PartData) (golden : PlanData) (update : List ℕ) (b : BootedState) (t : Trial) (cause : Cause) → (boots : BootsImage part golden update b) → UpdateFails part golden update t cause true
-    → EndsAtUpdate part golden t boot_end.Stopped b.attempts b.end boots.boot.last
+pub boot_stops : (part : PartData) (golden : PlanData) (update : List ℕ) (b : BootedState) (t : Trial) (cause : Cause) → (boots : BootsImage (image_with part golden update) b) → UpdateFails (image_with part golden update) t cause true
+    → EndsAtUpdate part golden t boot_end.Stopped (course_of b boots.boot.last)
 boot_stops part golden update b t cause boots fails =
     let is : IsBoot part (golden_image part golden update) b = boots.boot in
-    subst (λ (a : List Tried). EndsAtUpdate part golden t boot_end.Stopped a b.end is.last) (sym is.attempts) (update_stops part golden update t cause is.last is.older b.end boots.image fails is.leads)
+    subst (λ (a : List Tried). EndsAtUpdate part golden t boot_end.Stopped (record { attempts = a; end = b.end; last = is.last })) (sym is.attempts) (update_stops part golden update t cause is.last is.older b.end boots.image fails is.leads)
 
-pub boot_starts : (part : PartData) (golden : PlanData) (update : List ℕ) (b : BootedState) (t : Trial) → (boots : BootsImage part golden update b) → UpdateEnds part golden update t ending.Started
-    → EndsAtUpdate part golden t boot_end.Started b.attempts b.end boots.boot.last
+pub boot_starts : (part : PartData) (golden : PlanData) (update : List ℕ) (b : BootedState) (t : Trial) → (boots : BootsImage (image_with part golden update) b) → UpdateEnds (image_with part golden update) t ending.Started
+    → EndsAtUpdate part golden t boot_end.Started (course_of b boots.boot.last)
 boot_starts part golden update b t boots ended =
     let is : IsBoot part (golden_image part golden update) b = boots.boot in
-    subst (λ (a : List Tried). EndsAtUpdate part golden t boot_end.Started a b.end is.last) (sym is.attempts) (update_starts part golden update t is.last is.older b.end boots.image ended is.leads)
+    subst (λ (a : List Tried). EndsAtUpdate part golden t boot_end.Started (record { attempts = a; end = b.end; last = is.last })) (sym is.attempts) (update_starts part golden update t is.last is.older b.end boots.image ended is.leads)
 
-pub boot_has_full : (part : PartData) (golden update : PlanData) (b : BootedState) → (boots : BootsImage part golden (full_stream part update) b) → IsPlanFor part update → StartsUpdate part golden update b.attempts b.end boots.boot.last
+pub boot_has_full : (part : PartData) (golden update : PlanData) (b : BootedState) → (boots : BootsImage (image_with part golden (full_stream part update)) b) → IsPlanFor part update → StartsUpdate part golden update (course_of b boots.boot.last)
 boot_has_full part golden update b boots for =
     let is : IsBoot part (golden_image part golden (full_stream part update)) b = boots.boot in
-    subst (λ (a : List Tried). StartsUpdate part golden update a b.end is.last) (sym is.attempts) (full_update_starts part golden update is.last is.older b.end boots.image for is.leads)
+    subst (λ (a : List Tried). StartsUpdate part golden update (record { attempts = a; end = b.end; last = is.last })) (sym is.attempts) (full_update_starts part golden update is.last is.older b.end boots.image for is.leads)
 
-pub boot_tries : (part : PartData) (golden : PlanData) (update : List ℕ) (b : BootedState) → BootsImage part golden update b → TriesUpdate part golden update b.attempts
+pub boot_tries : (part : PartData) (golden : PlanData) (update : List ℕ) (b : BootedState) → BootsImage (image_with part golden update) b → TriesUpdate (image_with part golden update) b.attempts
 boot_tries part golden update b boots =
     let is : IsBoot part (golden_image part golden update) b = boots.boot in
-    subst (λ (a : List Tried). TriesUpdate part golden update a) (sym is.attempts) (tries_update part golden update (is.last ∷ is.older) b.end boots.image is.leads)
+    subst (λ (a : List Tried). TriesUpdate (image_with part golden update) a) (sym is.attempts) (tries_update part golden update (is.last ∷ is.older) b.end boots.image is.leads)
 
 -- the image by its bytes
-pub falls_back_from : (part : PartData) (golden : PlanData) (update image : List ℕ) → HasImage part golden update → image ≡ golden_image part golden update → FallsBackFrom part golden update image
+pub falls_back_from : (part : PartData) (golden : PlanData) (update image : List ℕ) → HasImage part golden update → image ≡ golden_image part golden update → FallsBackFrom (image_with part golden update) image
 falls_back_from part golden update image has e b t cause is fails =
     let leads : LeadsToEnd part (golden_image part golden update) (is.last ∷ is.older) b.end = subst (λ (x : List ℕ). LeadsToEnd part x (is.last ∷ is.older) b.end) e is.leads in
     boot_falls_back part golden update b t cause (record { image = has; boot = record { last = is.last; older = is.older; leads = leads; attempts = is.attempts; device = is.device } }) fails

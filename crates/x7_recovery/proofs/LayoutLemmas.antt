@@ -111,10 +111,10 @@ image_long : (golden update : List ℕ) → length (image_of 1 golden update) �
 unfolding image_of
 image_long golden update =
     let place = image.update_place (length golden) in
-    let front : List ℕ = first_sector (place / 1) ++ golden in
-    let front_long : length front ≤ place = omega (arith, length-append (first_sector (place / 1)) golden, sector_long (place / 1), update_behind (length golden)) in
-    let whole : List ℕ = filled_to place front ++ update in
-    let whole_long : length whole ≤ image_size (length golden) (length update) = omega (arith, length-append (filled_to place front) update, filled_long place front front_long, size_behind (length golden) (length update)) in
+    let prefix : List ℕ = first_sector (place / 1) ++ golden in
+    let front_long : length prefix ≤ place = omega (arith, length-append (first_sector (place / 1)) golden, sector_long (place / 1), update_behind (length golden)) in
+    let whole : List ℕ = filled_to place prefix ++ update in
+    let whole_long : length whole ≤ image_size (length golden) (length update) = omega (arith, length-append (filled_to place prefix) update, filled_long place prefix front_long, size_behind (length golden) (length update)) in
     filled_long (image_size (length golden) (length update)) whole whole_long
 
 -- an image for a part that counts in bytes has a layout

@@ -1,22 +1,22 @@
 -- That the premises hold of something: a part, a plan, an image, and an update that fails.
-use Rattle.std.proofs.Common.{◌≡◌, ◌+◌, ◌*◌, ◌/◌, ◌%◌, ◌^◌, ◌<◌, ◌≤◌, ◌⊎◌, inl, inr, ℕ, zero, suc, Bool, true, false, None, Some, List, [], ◌∷◌, ◌++◌, drop, take, length, replicate, ◌-◌, length-append, refl, ap, sym, subst, ◌∙◌, arith}
+use Rattle.std.proofs.Common.{◌≡◌, ◌+◌, ◌/◌, ◌%◌, ◌≤◌, inl, inr, ℕ, zero, suc, true, false, None, List, [], ◌∷◌, ◌++◌, drop, take, length, replicate, ◌-◌, length-append, refl, ap, sym, subst, ◌∙◌, arith}
 use Rattle.std.proofs.lemmas.List.{append-nil, length-replicate}
 use Rattle.std.proofs.Math.Seq.{drop-append_seam}
-use Rattle.x7_part.specs.Part.{PartData, RowData, FieldWidths}
+use Rattle.x7_part.specs.Part.{PartData}
 use Rattle.x7_part.specs.PartRange.{IsPart}
 use Rattle.x7_regs.specs.declared.boot_status.Cause.TheVariants.{Wrap}
-use Rattle.x7_memory.specs.Planned.{IsPlan, IsPlanFor, PlanData}
+use Rattle.x7_memory.specs.Planned.{IsPlanFor, PlanData}
 use Rattle.x7_planner.specs.Full.{full_stream}
 use Rattle.x7_recovery.specs.Example.{tiny, nothing_planned}
-use Rattle.std.specs.Prelude.{All, Contains}
+use Rattle.std.specs.Prelude.{Contains}
 use Rattle.std.proofs.lemmas.List.Elements.{All-nil, All-cons}
-use Rattle.x7_part.specs.FrameAddress.{AreRows, IsRow, row, no_row}
+use Rattle.x7_part.specs.FrameAddress.{IsRow, row, no_row}
 use Rattle.x7_part.specs.AddressOrder.{addresses, addresses_in}
 use Rattle.x7_memory.specs.Planned.{IsPlanRow, PlanRow}
-use Rattle.x7_boot.specs.Attempt.{IsTrial, RunsOut, Trial, ending_at}
+use Rattle.x7_boot.specs.Attempt.{RunsOut, Trial, ending_at}
 use Rattle.x7_boot.specs.Image.{filled_to, first_sector, image_of, image_size, update_place}
 use Rattle.x7_recovery.proofs.SlotLemmas.{place_whole, sector_long, update_behind}
-use Rattle.x7_recovery.specs.ImageBoot.{HasImage, UpdateEnds, UpdateFails, golden_image, kept_at_update, place_after}
+use Rattle.x7_recovery.specs.ImageBoot.{UpdateFails, golden_image, image_with, kept_at_update, place_after}
 use Rattle.x7_boot.specs.declared.attempt.Ending.TheVariants as ending
 
 -- the attempt at an update of no bytes: it has none, and fails by the flash's end
@@ -27,7 +27,7 @@ nothing_ends : (part : PartData) (start k : ℕ) → ending_at part (kept_at_upd
 nothing_ends part start zero = refl
 nothing_ends part start (suc k) = refl
 
-pub empty_fails : (part : PartData) (golden : PlanData) → drop (place_after part golden) (golden_image part golden []) ≡ [] → UpdateFails part golden [] (empty_trial part golden) Wrap false
+pub empty_fails : (part : PartData) (golden : PlanData) → drop (place_after part golden) (golden_image part golden []) ≡ [] → UpdateFails (image_with part golden []) (empty_trial part golden) Wrap false
 empty_fails part golden none =
     let start : ℕ = place_after part golden / part.start_unit in
     let t : Trial = empty_trial part golden in
@@ -50,18 +50,18 @@ empty_ends : (unit : ℕ) (golden : List ℕ) → drop (update_place (length gol
 unfolding image_of
 empty_ends unit golden =
     let place : ℕ = update_place (length golden) in
-    let front : List ℕ = first_sector (place / unit) ++ golden in
-    let filled : List ℕ = filled_to place front in
+    let prefix : List ℕ = first_sector (place / unit) ++ golden in
+    let filled : List ℕ = filled_to place prefix in
     let size : ℕ = image_size (length golden) 0 in
-    let long : length front ≡ 65536 + length golden = length-append (first_sector (place / unit)) golden ∙ ap (λ (n : ℕ). n + length golden) (sector_long (place / unit)) in
-    let count : length filled ≡ place = length-append front (replicate (place - length front) 255) ∙ omega (arith, length-replicate {A = ℕ} (place - length front) 255, long, update_behind (length golden)) in
+    let long : length prefix ≡ 65536 + length golden = length-append (first_sector (place / unit)) golden ∙ ap (λ (n : ℕ). n + length golden) (sector_long (place / unit)) in
+    let count : length filled ≡ place = length-append prefix (replicate (place - length prefix) 255) ∙ omega (arith, length-replicate {A = ℕ} (place - length prefix) 255, long, update_behind (length golden)) in
     let whole : place % 65536 ≡ 0 = place_whole (length golden) in
     let more : length (filled ++ []) ≡ place = ap length (append-nil filled) ∙ count in
     drop_all place (filled_to size (filled ++ []))
     (length-append (filled ++ []) (replicate (size - length (filled ++ [])) 255) ∙ omega (arith, length-replicate {A = ℕ} (size - length (filled ++ [])) 255, more, whole))
 
 -- so for every part and plan there is an update that fails, and forbids no fallback
-pub some_update_fails : (part : PartData) (golden : PlanData) → UpdateFails part golden [] (empty_trial part golden) Wrap false
+pub some_update_fails : (part : PartData) (golden : PlanData) → UpdateFails (image_with part golden []) (empty_trial part golden) Wrap false
 some_update_fails part golden = empty_fails part golden (empty_ends part.start_unit (full_stream part golden))
 
 is_row : (half : ℕ) → half ≤ 1 → IsRow (record { block = 0; half = half; row = 0; minors = 2 ∷ [] })

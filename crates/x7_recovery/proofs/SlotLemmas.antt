@@ -20,9 +20,9 @@ use Rattle.x7_boot.specs.Image.{closed_slot, closed_slots, filled_to, first_sect
 none_at : (x : ℕ) (bytes : List ℕ) → ((back : List ℕ) → x ∷ bytes ≡ sync_bytes ++ back → ⊥) → HasNoSync bytes → HasNoSync (x ∷ bytes)
 none_at x bytes here none = record { none = by }
   where
-    by : (front back : List ℕ) → x ∷ bytes ≡ front ++ sync_bytes ++ back → ⊥
+    by : (prefix back : List ℕ) → x ∷ bytes ≡ prefix ++ sync_bytes ++ back → ⊥
     by [] back e = here back e
-    by (y ∷ front) back e = none.none front back (let rest : bytes ≡ front ++ sync_bytes ++ back = cc in rest)
+    by (y ∷ prefix) back e = none.none prefix back (let rest : bytes ≡ prefix ++ sync_bytes ++ back = cc in rest)
 
 -- it isn't the first byte of the sync word
 other_first : (x : ℕ) (bytes : List ℕ) → (x == 0xAA) ≡ false → HasNoSync bytes → HasNoSync (x ∷ bytes)
@@ -89,11 +89,11 @@ pub image_fits : (unit : ℕ) (golden update : List ℕ) → AreBytes golden →
 unfolding image_of
 image_fits unit golden update g u =
     let start : ℕ = update_place (length golden) / unit in
-    let front : List ℕ = first_sector start ++ golden in
-    let filled : List ℕ = filled_to (update_place (length golden)) front in
+    let prefix : List ℕ = first_sector start ++ golden in
+    let filled : List ℕ = filled_to (update_place (length golden)) prefix in
     let size : ℕ = image_size (length golden) (length update) in
-    let front_fits : AreBytes front = all-append (λ b. b < 256) (first_sector start) golden (sector_fits start) g in
-    let filled_fits : AreBytes filled = all-append (λ b. b < 256) front (replicate (update_place (length golden) - length front) 255) front_fits (fill_fits (update_place (length golden) - length front)) in
+    let front_fits : AreBytes prefix = all-append (λ b. b < 256) (first_sector start) golden (sector_fits start) g in
+    let filled_fits : AreBytes filled = all-append (λ b. b < 256) prefix (replicate (update_place (length golden) - length prefix) 255) front_fits (fill_fits (update_place (length golden) - length prefix)) in
     all-append (λ b. b < 256) (filled ++ update) (replicate (size - length (filled ++ update)) 255) (all-append (λ b. b < 256) filled update filled_fits u) (fill_fits (size - length (filled ++ update)))
 
 -- ---- places
@@ -143,24 +143,24 @@ sector_long start = length-append (open_slot start) (closed_slots start) ∙ ome
 pub image_begins : (unit : ℕ) (golden update : List ℕ) → (more : List ℕ) × (image_of unit golden update ≡ (first_sector (update_place (length golden) / unit) ++ golden) ++ more)
 unfolding image_of
 image_begins unit golden update =
-    let front : List ℕ = first_sector (update_place (length golden) / unit) ++ golden in
-    let gap : List ℕ = replicate (update_place (length golden) - length front) 255 in
+    let prefix : List ℕ = first_sector (update_place (length golden) / unit) ++ golden in
+    let gap : List ℕ = replicate (update_place (length golden) - length prefix) 255 in
     let size : ℕ = image_size (length golden) (length update) in
-    let end : List ℕ = replicate (size - length (filled_to (update_place (length golden)) front ++ update)) 255 in
-    (gap ++ (update ++ end), append_assoc (front ++ gap) update end ∙ append_assoc front gap (update ++ end))
+    let end : List ℕ = replicate (size - length (filled_to (update_place (length golden)) prefix ++ update)) 255 in
+    (gap ++ (update ++ end), append_assoc (prefix ++ gap) update end ∙ append_assoc prefix gap (update ++ end))
 
 -- and has the update at its place
 pub image_has : (unit : ℕ) (golden update : List ℕ) → (end : List ℕ) × (drop (update_place (length golden)) (image_of unit golden update) ≡ update ++ end)
 unfolding image_of
 image_has unit golden update =
     let place : ℕ = update_place (length golden) in
-    let front : List ℕ = first_sector (place / unit) ++ golden in
+    let prefix : List ℕ = first_sector (place / unit) ++ golden in
     let size : ℕ = image_size (length golden) (length update) in
-    let end : List ℕ = replicate (size - length (filled_to place front ++ update)) 255 in
-    let long : length front ≡ 65536 + length golden = length-append (first_sector (place / unit)) golden ∙ ap (λ (n : ℕ). n + length golden) (sector_long (place / unit)) in
-    let filled : length (filled_to place front) ≡ place = length-append front (replicate (place - length front) 255) ∙ omega (arith, length-replicate {A = ℕ} (place - length front) 255, long, update_behind (length golden)) in (
+    let end : List ℕ = replicate (size - length (filled_to place prefix ++ update)) 255 in
+    let long : length prefix ≡ 65536 + length golden = length-append (first_sector (place / unit)) golden ∙ ap (λ (n : ℕ). n + length golden) (sector_long (place / unit)) in
+    let filled : length (filled_to place prefix) ≡ place = length-append prefix (replicate (place - length prefix) 255) ∙ omega (arith, length-replicate {A = ℕ} (place - length prefix) 255, long, update_behind (length golden)) in (
       end,
-      ap (drop place) (append_assoc (filled_to place front) update end)
-          ∙ ap (λ (n : ℕ). drop n (filled_to place front ++ (update ++ end))) (sym filled)
-          ∙ drop-append_seam (filled_to place front) (update ++ end),
+      ap (drop place) (append_assoc (filled_to place prefix) update end)
+          ∙ ap (λ (n : ℕ). drop n (filled_to place prefix ++ (update ++ end))) (sym filled)
+          ∙ drop-append_seam (filled_to place prefix) (update ++ end),
     )

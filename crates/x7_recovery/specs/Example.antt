@@ -1,6 +1,6 @@
 -- A small part, and a plan of no frame: laws on parts, plans and images speak of something (this project's choice).
 use Rattle.std.specs.Prelude.{[], ◌∷◌}
-use Rattle.x7_part.specs.Part.{PartData, RowData, FieldWidths}
+use Rattle.x7_part.specs.Part.{PartData}
 use Rattle.x7_memory.specs.Planned.{PlanData}
 
 -- two rows of one column of two frames each

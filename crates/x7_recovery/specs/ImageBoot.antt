@@ -1,5 +1,5 @@
 -- What a boot from the image of a golden and an update stream comes to (UG470, MultiBoot and fallback; the layout of the image is this project's choice).
-use Rattle.std.specs.Prelude.{◌≡◌, ℕ, ◌/◌, ◌≤◌, Bool, false, true, List, [], ◌∷◌, length, None, Some}
+use Rattle.std.specs.Prelude.{◌≡◌, ℕ, ◌/◌, ◌≤◌, Bool, false, true, List, [], ◌∷◌, length, map, reverse, None, Some}
 use Rattle.x7_part.specs.Part.{PartData}
 use Rattle.x7_part.specs.PartRange.{IsPart}
 use Rattle.x7_regs.specs.BootStatus.{boot_status_of}
@@ -11,7 +11,7 @@ use Rattle.x7_planner.specs.Full.{full_stream}
 use Rattle.x7_engine.specs.State.{memory_in}
 use Rattle.x7_engine.specs.declared.kept.Kept.{Kept}
 use Rattle.x7_boot.specs.Attempt.{IsTrial, Trial}
-use Rattle.x7_boot.specs.Boot.{BootedState, IsBoot, end_state, forbids_fallback}
+use Rattle.x7_boot.specs.Boot.{BootedState, IsBoot, end_state, forbids_fallback, tried}
 use Rattle.x7_boot.specs.Image.{flash_limit, image_of, image_size, update_place}
 use Rattle.x7_boot.specs.declared.attempt.Ending.{Ending}
 use Rattle.x7_boot.specs.declared.attempt.Ending.TheVariants as ending
@@ -32,10 +32,19 @@ pub record HasImage (part : PartData) (golden : PlanData) (update : List ℕ) : 
   pub plan : IsPlanFor part golden
   pub fits : image_size (length (full_stream part golden)) (length update) ≤ flash_limit
 
+-- what an image is made of: a part, the golden plan, and the update
+pub record Imaged : Type 0 where
+  pub part : PartData
+  pub golden : PlanData
+  pub update : List ℕ
+
+abbrev pub image_with : PartData → PlanData → List ℕ → Imaged
+image_with part golden update = record { part = part; golden = golden; update = update }
+
 -- a boot from that image
-pub record BootsImage (part : PartData) (golden : PlanData) (update : List ℕ) (b : BootedState) : Type 0 where
-  pub image : HasImage part golden update
-  pub boot : IsBoot part (golden_image part golden update) b
+pub record BootsImage (i : Imaged) (b : BootedState) : Type 0 where
+  pub image : HasImage i.part i.golden i.update
+  pub boot : IsBoot i.part (golden_image i.part i.golden i.update) b
 
 -- ---- the attempt at the update
 
@@ -44,16 +53,16 @@ abbrev pub kept_at_update : ℕ → Kept
 kept_at_update start = record { wbstar = start; timer = 0; bspi = 0; kind = Iprog; before = Some (record { kind = Power; cause = None; ignored = false }) }
 
 -- the attempt at the update of an image ended so
-pub record UpdateEnds (part : PartData) (golden : PlanData) (update : List ℕ) (t : Trial) (e : Ending) : Type 0 where
-  pub is : IsTrial part (golden_image part golden update) t
-  pub kept : t.kept ≡ kept_at_update (place_after part golden / part.start_unit)
-  pub address : t.address ≡ place_after part golden
+pub record UpdateEnds (i : Imaged) (t : Trial) (e : Ending) : Type 0 where
+  pub is : IsTrial i.part (golden_image i.part i.golden i.update) t
+  pub kept : t.kept ≡ kept_at_update (place_after i.part i.golden / i.part.start_unit)
+  pub address : t.address ≡ place_after i.part i.golden
   pub ends : t.ending ≡ e
 
 -- it failed by this cause, and CTL0 forbids a fallback or not
-pub record UpdateFails (part : PartData) (golden : PlanData) (update : List ℕ) (t : Trial) (cause : Cause) (forbidden : Bool) : Type 0 where
-  pub ended : UpdateEnds part golden update t (ending.Failed cause)
-  pub forbids : forbids_fallback (end_state part t).ctl0 ≡ forbidden
+pub record UpdateFails (i : Imaged) (t : Trial) (cause : Cause) (forbidden : Bool) : Type 0 where
+  pub ended : UpdateEnds i t (ending.Failed cause)
+  pub forbids : forbids_fallback (end_state i.part t).ctl0 ≡ forbidden
 
 -- ---- the boot
 
@@ -62,36 +71,49 @@ abbrev pub through_update : ℕ → Ending → List Tried → List Tried
 through_update place e more = record { kind = Power; address = 0; ending = ending.Iprog } ∷ record { kind = Iprog; address = place; ending = e } ∷ more
 
 -- the second attempt of the boot is that at the update
-pub record TriesUpdate (part : PartData) (golden : PlanData) (update : List ℕ) (attempts : List Tried) : Type 0 where
+pub record TriesUpdate (i : Imaged) (attempts : List Tried) : Type 0 where
   pub trial : Trial
-  pub ended : UpdateEnds part golden update trial trial.ending
+  pub ended : UpdateEnds i trial trial.ending
   pub more : List Tried
-  pub attempts_are : attempts ≡ through_update (place_after part golden) trial.ending more
+  pub attempts_are : attempts ≡ through_update (place_after i.part i.golden) trial.ending more
+
+-- the course of a boot: its attempts as they are told, how it ended, and its last attempt
+pub record Course : Type 0 where
+  pub attempts : List Tried
+  pub end : BootEnd
+  pub last : Trial
+
+-- that of what a boot came to, and that of its attempts, the newest first
+abbrev pub course_of : BootedState → Trial → Course
+course_of b last = record { attempts = b.attempts; end = b.end; last = last }
+
+abbrev pub course_along : Trial → List Trial → BootEnd → Course
+course_along last older end = record { attempts = reverse (map tried (last ∷ older)); end = end; last = last }
 
 -- The boot starts with the update: with the memory of its plan over zeros, and BOOTSTS tells of an attempt by IPROG, after one at power.
-pub record StartsUpdate (part : PartData) (golden update : PlanData) (attempts : List Tried) (end : BootEnd) (last : Trial) : Type 0 where
-  pub attempts_are : attempts ≡ through_update (place_after part golden) ending.Started []
-  pub started : end ≡ boot_end.Started
-  pub memory : AreSame (memory_in part last.kept last.bytes) (total part update)
-  pub bootsts : (end_state part last).bootsts ≡ boot_status_of (record { kind = Iprog; cause = None; ignored = false }) (Some (record { kind = Power; cause = None; ignored = false }))
+pub record StartsUpdate (part : PartData) (golden update : PlanData) (c : Course) : Type 0 where
+  pub attempts_are : c.attempts ≡ through_update (place_after part golden) ending.Started []
+  pub started : c.end ≡ boot_end.Started
+  pub memory : AreSame (memory_in part c.last.kept c.last.bytes) (total part update)
+  pub bootsts : (end_state part c.last).bootsts ≡ boot_status_of (record { kind = Iprog; cause = None; ignored = false }) (Some (record { kind = Power; cause = None; ignored = false }))
 
 -- The boot falls back: it starts with the golden stream, with the memory of its plan over zeros, and BOOTSTS tells of a fallback that ignored an IPROG, after an attempt by IPROG that failed by this cause.
-pub record FallsBack (part : PartData) (golden : PlanData) (cause : Cause) (attempts : List Tried) (end : BootEnd) (last : Trial) : Type 0 where
-  pub attempts_are : attempts ≡ through_update (place_after part golden) (ending.Failed cause) (record { kind = Fallback; address = 0; ending = ending.Started } ∷ [])
-  pub started : end ≡ boot_end.Started
-  pub memory : AreSame (memory_in part last.kept last.bytes) (total part golden)
-  pub bootsts : (end_state part last).bootsts ≡ boot_status_of (record { kind = Fallback; cause = None; ignored = true }) (Some (record { kind = Iprog; cause = Some cause; ignored = false }))
+pub record FallsBack (part : PartData) (golden : PlanData) (cause : Cause) (c : Course) : Type 0 where
+  pub attempts_are : c.attempts ≡ through_update (place_after part golden) (ending.Failed cause) (record { kind = Fallback; address = 0; ending = ending.Started } ∷ [])
+  pub started : c.end ≡ boot_end.Started
+  pub memory : AreSame (memory_in part c.last.kept c.last.bytes) (total part golden)
+  pub bootsts : (end_state part c.last).bootsts ≡ boot_status_of (record { kind = Fallback; cause = None; ignored = true }) (Some (record { kind = Iprog; cause = Some cause; ignored = false }))
 
 -- The boot ends with the attempt at the update.
-pub record EndsAtUpdate (part : PartData) (golden : PlanData) (t : Trial) (by_end : BootEnd) (attempts : List Tried) (end : BootEnd) (last : Trial) : Type 0 where
-  pub attempts_are : attempts ≡ through_update (place_after part golden) t.ending []
-  pub end_is : end ≡ by_end
-  pub last_is : last ≡ t
+pub record EndsAtUpdate (part : PartData) (golden : PlanData) (t : Trial) (by_end : BootEnd) (c : Course) : Type 0 where
+  pub attempts_are : c.attempts ≡ through_update (place_after part golden) t.ending []
+  pub end_is : c.end ≡ by_end
+  pub last_is : c.last ≡ t
 
 -- every boot from these bytes falls back, where the attempt at the update fails and CTL0 allows it
-abbrev pub FallsBackFrom : PartData → PlanData → List ℕ → List ℕ → Type 0
-FallsBackFrom part golden update image =
-    (b : BootedState) (t : Trial) (cause : Cause) → (is : IsBoot part image b) → UpdateFails part golden update t cause false → FallsBack part golden cause b.attempts b.end is.last
+abbrev pub FallsBackFrom : Imaged → List ℕ → Type 0
+FallsBackFrom i image =
+    (b : BootedState) (t : Trial) (cause : Cause) → (is : IsBoot i.part image b) → UpdateFails i t cause false → FallsBack i.part i.golden cause (course_of b is.last)
 
 -- ---- the boot in one value
 
@@ -103,26 +125,24 @@ pub record FullBoot : Type 0 where
   pub booted : BootedState
 
 abbrev pub IsFullBoot : FullBoot → Type 0
-IsFullBoot i = BootsImage i.part i.golden (full_stream i.part i.update) i.booted
+IsFullBoot i = BootsImage (image_with i.part i.golden (full_stream i.part i.update)) i.booted
 
 abbrev pub BootStartsUpdate : FullBoot → Trial → Type 0
-BootStartsUpdate i last = StartsUpdate i.part i.golden i.update i.booted.attempts i.booted.end last
+BootStartsUpdate i last = StartsUpdate i.part i.golden i.update (course_of i.booted last)
 
--- the part, the golden plan, the update, and what the boot from their image came to
+-- what the image is made of, and what the boot from it came to
 pub record ImageBoot : Type 0 where
-  pub part : PartData
-  pub golden : PlanData
-  pub update : List ℕ
+  pub image : Imaged
   pub booted : BootedState
 
 abbrev pub IsImageBoot : ImageBoot → Type 0
-IsImageBoot i = BootsImage i.part i.golden i.update i.booted
+IsImageBoot i = BootsImage i.image i.booted
 
 abbrev pub FailsAtUpdate : ImageBoot → Trial → Cause → Bool → Type 0
-FailsAtUpdate i t cause forbidden = UpdateFails i.part i.golden i.update t cause forbidden
+FailsAtUpdate i t cause forbidden = UpdateFails i.image t cause forbidden
 
 abbrev pub BootFallsBack : ImageBoot → Cause → Trial → Type 0
-BootFallsBack i cause last = FallsBack i.part i.golden cause i.booted.attempts i.booted.end last
+BootFallsBack i cause last = FallsBack i.image.part i.image.golden cause (course_of i.booted last)
 
 abbrev pub BootEndsAt : ImageBoot → Trial → BootEnd → Trial → Type 0
-BootEndsAt i t by_end last = EndsAtUpdate i.part i.golden t by_end i.booted.attempts i.booted.end last
+BootEndsAt i t by_end last = EndsAtUpdate i.image.part i.image.golden t by_end (course_of i.booted last)

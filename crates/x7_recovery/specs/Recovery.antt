@@ -10,11 +10,9 @@ use Rattle.x7_planner.specs.Full.{full_stream}
 use Rattle.x7_engine.specs.State.{memory_in}
 use Rattle.x7_boot.specs.Attempt.{Trial}
 use Rattle.x7_boot.specs.Boot.{BootedState, IsBoot, end_state}
-use Rattle.x7_recovery.specs.ImageBoot.{golden_image}
+use Rattle.x7_recovery.specs.ImageBoot.{Course, course_of, golden_image}
 use Rattle.x7_boot.specs.declared.attempt.Ending.TheVariants as ending
-use Rattle.x7_boot.specs.declared.boots.BootEnd.{BootEnd}
 use Rattle.x7_boot.specs.declared.boots.BootEnd.TheVariants as boot_end
-use Rattle.x7_boot.specs.declared.boots.Tried.{Tried}
 use Rattle.x7_update.specs.After.{IsAfter}
 use Rattle.x7_update.specs.Layout.{HasLayout, update_place}
 
@@ -47,14 +45,14 @@ pub record IsPrepared (u : Updating) : Type 0 where
   pub golden : HasGolden u.part u.golden u.flash
 
 -- The boot starts with the attempt at power: with the memory of the golden plan over zeros, and BOOTSTS tells of no other attempt.
-pub record StartsGolden (part : PartData) (golden : PlanData) (attempts : List Tried) (end : BootEnd) (last : Trial) : Type 0 where
-  pub attempts_are : attempts ≡ record { kind = Power; address = 0; ending = ending.Started } ∷ []
-  pub started : end ≡ boot_end.Started
-  pub memory : AreSame (memory_in part last.kept last.bytes) (total part golden)
-  pub bootsts : (end_state part last).bootsts ≡ boot_status_of (record { kind = Power; cause = None; ignored = false }) None
+pub record StartsGolden (part : PartData) (golden : PlanData) (c : Course) : Type 0 where
+  pub attempts_are : c.attempts ≡ record { kind = Power; address = 0; ending = ending.Started } ∷ []
+  pub started : c.end ≡ boot_end.Started
+  pub memory : AreSame (memory_in part c.last.kept c.last.bytes) (total part golden)
+  pub bootsts : (end_state part c.last).bootsts ≡ boot_status_of (record { kind = Power; cause = None; ignored = false }) None
 
 -- a boot of what was left: that of the flash before the update, or one that starts with the golden stream, or that of the updated flash
 pub data BootsAs (u : Updating) (found : List ℕ) (b : BootedState) : Type 0 where
   as_before : IsBoot u.part u.flash b → BootsAs u found b
-  golden : (boot : IsBoot u.part found b) → StartsGolden u.part u.golden b.attempts b.end boot.last → BootsAs u found b
+  golden : (boot : IsBoot u.part found b) → StartsGolden u.part u.golden (course_of b boot.last) → BootsAs u found b
   as_after : IsAfter u.stream u.flash found → IsBoot u.part found b → BootsAs u found b

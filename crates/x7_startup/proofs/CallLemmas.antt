@@ -2,8 +2,8 @@
 use Rattle.std.proofs.Common.{◌≡◌, ℕ, zero, suc, ◌+◌, ◌/◌, ◌%◌, ◌<◌, ◌≤◌, min, Bool, true, false, List, [], ◌∷◌, ◌++◌, replicate, Option, Some, None, if◌then◌else◌, refl, sym, ap, ◌∙◌, arith}
 use Rattle.std.proofs.Math.Nat.{zero-add}
 use Rattle.x7_startup.specs.Arrivals.{wait_of, IsPhase}
-use Rattle.x7_startup.specs.Calls.{IsPhaseOf, Call, Arm, Desync, Byte, DropBack, Progress, NotBegun, Begun, has_taking, since_taking, count_bytes, is_armed, start_of, progress_of, Stored, StoresAt, StandsFor}
-use Rattle.x7_startup.specs.Runs.{Runs, first_some, place}
+use Rattle.x7_startup.specs.Calls.{IsPhaseOf, Call, Arm, Desync, Byte, DropBack, StartupProgress, NotBegun, Begun, has_taking, since_taking, count_bytes, is_armed, start_of, progress_of, Stored, StoresAt, StandsFor}
+use Rattle.x7_startup.specs.Ticks.{PassesTicks, first_some, reached}
 use Rattle.x7_startup.proofs.PhaseLemmas.{phase_first, phase_rises, one_phase}
 
 has_taking_push : (calls t : List Call) → has_taking t ≡ false → has_taking (calls ++ t) ≡ has_taking calls
@@ -89,7 +89,7 @@ count_desync (Byte ∷ calls) d = ap (λ x. x + 1) (count_desync calls d)
 count_desync (DropBack ∷ calls) d = count_desync calls d
 
 -- the progress so many bytes later
-abbrev pub further : ℕ → Progress → Progress
+abbrev pub further : ℕ → StartupProgress → StartupProgress
 further n NotBegun = NotBegun
 further n (Begun cor0 bytes) = Begun cor0 (bytes + n)
 
@@ -122,7 +122,7 @@ start_arm true (DropBack ∷ calls) = start_arm true calls
 start_arm false (DropBack ∷ calls) = start_arm false calls
 
 -- the progress after a DESYNC
-abbrev pub first_place : Progress → Bool → ℕ → Progress
+abbrev pub first_place : StartupProgress → Bool → ℕ → StartupProgress
 first_place (Begun cor0 bytes) armed d = Begun cor0 bytes
 first_place NotBegun true d = Begun d 0
 first_place NotBegun false d = NotBegun
@@ -159,7 +159,7 @@ drop_stands lock matched calls =
       stores = rw e record { begun_is = refl; tick_bytes_are = refl; ticks_are = refl; phase_is = refl };
     }
 
-desync_stores : (lock matched : ℕ) (begun : Option ℕ) (tick_bytes ticks phase : ℕ) (progress : Progress) (armed : Bool) (d : ℕ) →
+desync_stores : (lock matched : ℕ) (begun : Option ℕ) (tick_bytes ticks phase : ℕ) (progress : StartupProgress) (armed : Bool) (d : ℕ) →
     StoresAt lock matched begun tick_bytes ticks phase progress →
     StoresAt lock matched (first_some begun (if armed then Some d else None)) tick_bytes ticks phase (first_place progress armed d)
 desync_stores lock matched begun tick_bytes ticks phase NotBegun true d h =
@@ -192,7 +192,7 @@ no_taking : (n : ℕ) → has_taking (replicate n Byte) ≡ false
 no_taking zero = refl
 no_taking (suc n) = no_taking n
 
-idle : (lock matched : ℕ) (begun : Option ℕ) (tick_bytes ticks phase : ℕ) (progress : Progress) (n : ℕ) → begun ≡ None →
+idle : (lock matched : ℕ) (begun : Option ℕ) (tick_bytes ticks phase : ℕ) (progress : StartupProgress) (n : ℕ) → begun ≡ None →
     StoresAt lock matched begun tick_bytes ticks phase progress → StoresAt lock matched begun tick_bytes ticks phase (further n progress)
 idle lock matched begun tick_bytes ticks phase NotBegun n none h = h
 idle lock matched begun tick_bytes ticks phase (Begun cor0 bytes) n none h =
@@ -209,9 +209,9 @@ idle_stands lock matched s calls n none h =
           (idle lock matched s.begun s.tick_bytes s.ticks s.phase (progress_of calls) n none h.stores);
     }
 
-goes_on : (lock matched : ℕ) (begun : Option ℕ) (tick_bytes ticks phase : ℕ) (progress : Progress) (n cor0 more tick_bytes' ticks' phase' : ℕ) →
+goes_on : (lock matched : ℕ) (begun : Option ℕ) (tick_bytes ticks phase : ℕ) (progress : StartupProgress) (n cor0 more tick_bytes' ticks' phase' : ℕ) →
     begun ≡ Some cor0 → more ≡ (tick_bytes + n) / 4 → tick_bytes' ≡ (tick_bytes + n) % 4 →
-    Runs (wait_of lock matched cor0) (place ticks phase) more (place ticks' phase') →
+    PassesTicks (wait_of lock matched cor0) (reached ticks phase) more (reached ticks' phase') →
     StoresAt lock matched begun tick_bytes ticks phase progress →
     StoresAt lock matched begun tick_bytes' ticks' phase' (further n progress)
 goes_on lock matched begun tick_bytes ticks phase NotBegun n cor0 more tick_bytes' ticks' phase' some m q runs h =
@@ -230,7 +230,7 @@ goes_on lock matched begun tick_bytes ticks phase (Begun c b) n cor0 more tick_b
 -- bytes at a startup that has begun
 pub running_stands : (lock matched : ℕ) (s : Stored) (calls : List Call) (n cor0 more tick_bytes ticks phase : ℕ) → s.begun ≡ Some cor0 →
     more ≡ (s.tick_bytes + n) / 4 → tick_bytes ≡ (s.tick_bytes + n) % 4 →
-    Runs (wait_of lock matched cor0) (place s.ticks s.phase) more (place ticks phase) → StandsFor lock matched s calls →
+    PassesTicks (wait_of lock matched cor0) (reached s.ticks s.phase) more (reached ticks phase) → StandsFor lock matched s calls →
     StandsFor lock matched (record s { tick_bytes = tick_bytes; ticks = ticks; phase = phase }) (calls ++ replicate n Byte)
 running_stands lock matched s calls n cor0 more tick_bytes ticks phase begun m q runs h =
     let e = since_push calls (replicate n Byte) (no_taking n) in
@@ -273,7 +273,7 @@ is_armed-bytes calls n = ap (is_armed false) (since_push calls (replicate n Byte
 pub progress_bytes : (calls : List Call) (n : ℕ) → progress_of (calls ++ replicate n Byte) ≡ further n (progress_of calls)
 progress_bytes calls n = ap (start_of false) (since_push calls (replicate n Byte) (no_taking n)) ∙ start_bytes false (since_taking calls) n
 
-never_falls : (lock matched : ℕ) (progress : Progress) (n p q : ℕ) → IsPhaseOf lock matched progress p → IsPhaseOf lock matched (further n progress) q → p ≤ q
+never_falls : (lock matched : ℕ) (progress : StartupProgress) (n p q : ℕ) → IsPhaseOf lock matched progress p → IsPhaseOf lock matched (further n progress) q → p ≤ q
 never_falls lock matched NotBegun n p q h k = let first : p ≡ 0 = h in omega arith
 never_falls lock matched (Begun cor0 bytes) n p q h k = phase_rises (wait_of lock matched cor0) (bytes / 4) ((bytes + n) / 4) p q (omega arith) h k
 
@@ -282,7 +282,7 @@ pub phase_never_falls : (lock matched : ℕ) (calls : List Call) (n p q : ℕ) �
     IsPhaseOf lock matched (progress_of (calls ++ replicate n Byte)) q → p ≤ q
 phase_never_falls lock matched calls n p q h k = never_falls lock matched (progress_of calls) n p q h (rw (progress_bytes calls n) at k)
 
-one_phase_of : (lock matched : ℕ) (progress : Progress) (p q : ℕ) → IsPhaseOf lock matched progress p → IsPhaseOf lock matched progress q → p ≡ q
+one_phase_of : (lock matched : ℕ) (progress : StartupProgress) (p q : ℕ) → IsPhaseOf lock matched progress p → IsPhaseOf lock matched progress q → p ≡ q
 one_phase_of lock matched NotBegun p q h k = let first : p ≡ 0 = h in let second : q ≡ 0 = k in omega arith
 one_phase_of lock matched (Begun cor0 bytes) p q h k = one_phase (wait_of lock matched cor0) (bytes / 4) p q h k
 

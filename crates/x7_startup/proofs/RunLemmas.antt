@@ -1,13 +1,13 @@
 use Rattle.std.proofs.Common.{◌≡◌, ℕ, ◌+◌, ◌-◌, ◌<◌, ◌≤◌, min, arith, ◌^◌, ◌⊎◌, inl, inr}
 use Rattle.x7_startup.specs.Arrivals.{IsPhase}
-use Rattle.x7_startup.specs.Runs.{Runs, place}
+use Rattle.x7_startup.specs.Ticks.{PassesTicks, reached}
 use Rattle.x7_startup.proofs.PhaseLemmas.{phase_stays, phase_moves, phase_ended}
 
 -- a run of `count` ticks of which `left` are left
 pub record Ran (w : ℕ → ℕ) (ticks₀ phase₀ count ticks phase left : ℕ) : Type 0 where
   pub within : left ≤ count
   pub last : phase ≤ 7
-  pub runs : Runs w (place ticks₀ phase₀) (count - left) (place ticks phase)
+  pub runs : PassesTicks w (reached ticks₀ phase₀) (count - left) (reached ticks phase)
 
 pub ran_none : (w : ℕ → ℕ) (ticks phase count : ℕ) → phase ≤ 7 → Ran w ticks phase count ticks phase count
 ran_none w ticks phase count h = record {
@@ -45,7 +45,7 @@ ran_moves w ticks₀ phase₀ count ticks phase left wait e small some early wai
 }
 
 pub ran_all : (w : ℕ → ℕ) (ticks₀ phase₀ count ticks phase left : ℕ) → (left ≡ 0) ⊎ (7 ≤ phase) →
-    Ran w ticks₀ phase₀ count ticks phase left → Runs w (place ticks₀ phase₀) count (place (min (ticks + left) 65535) phase)
+    Ran w ticks₀ phase₀ count ticks phase left → PassesTicks w (reached ticks₀ phase₀) count (reached (min (ticks + left) 65535) phase)
 ran_all w ticks₀ phase₀ count ticks phase left end h t first s =
     let k : left ≤ count = h.within in
     let r = h.runs t first s in
@@ -59,8 +59,8 @@ ran_all w ticks₀ phase₀ count ticks phase left end h t first s =
     rw z (omega arith, p)
 
 -- one tick in a phase that waits, and in one that doesn't
-pub tick_stays : (w : ℕ → ℕ) (ticks phase wait : ℕ) → wait ≡ w phase → wait < 2 ^ 16 → ticks < wait → Runs w (place ticks phase) 1 (place (min (ticks + 1) 65535) phase)
+pub tick_stays : (w : ℕ → ℕ) (ticks phase wait : ℕ) → wait ≡ w phase → wait < 2 ^ 16 → ticks < wait → PassesTicks w (reached ticks phase) 1 (reached (min (ticks + 1) 65535) phase)
 tick_stays w ticks phase wait is small below t e s = (omega arith, phase_stays w t 1 phase s (omega arith))
 
-pub tick_moves : (w : ℕ → ℕ) (ticks phase wait : ℕ) → wait ≡ w phase → wait < 2 ^ 16 → phase < 7 → wait ≤ ticks → Runs w (place ticks phase) 1 (place (min (ticks + 1) 65535) (phase + 1))
+pub tick_moves : (w : ℕ → ℕ) (ticks phase wait : ℕ) → wait ≡ w phase → wait < 2 ^ 16 → phase < 7 → wait ≤ ticks → PassesTicks w (reached ticks phase) 1 (reached (min (ticks + 1) 65535) (phase + 1))
 tick_moves w ticks phase wait is small early waited t e s = (omega arith, phase_moves w t phase s early (omega arith))

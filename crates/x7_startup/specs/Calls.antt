@@ -34,12 +34,12 @@ is_armed armed (Desync _ ∷ calls) = is_armed false calls
 is_armed armed (_ ∷ calls) = is_armed armed calls
 
 -- how far startup is: not begun, or begun with a COR0 and so many bytes ago
-pub data Progress : Type 0 where
-  NotBegun : Progress
-  Begun : (cor0 bytes : ℕ) → Progress
+pub data StartupProgress : Type 0 where
+  NotBegun : StartupProgress
+  Begun : (cor0 bytes : ℕ) → StartupProgress
 
 -- the first armed DESYNC begins startup; the bytes after it count
-abbrev pub start_of : Bool → List Call → Progress
+abbrev pub start_of : Bool → List Call → StartupProgress
 start_of armed [] = NotBegun
 start_of armed (Arm ∷ calls) = start_of true calls
 start_of true (Desync cor0 ∷ calls) = Begun cor0 (count_bytes calls)
@@ -47,25 +47,25 @@ start_of false (Desync cor0 ∷ calls) = start_of false calls
 start_of armed (_ ∷ calls) = start_of armed calls
 
 -- how far startup is after the calls
-abbrev pub progress_of : List Call → Progress
+abbrev pub progress_of : List Call → StartupProgress
 progress_of calls = start_of false (since_taking calls)
 
 -- the COR0 that startup began with
-abbrev pub cor0_of : Progress → Option ℕ
+abbrev pub cor0_of : StartupProgress → Option ℕ
 cor0_of NotBegun = None
 cor0_of (Begun cor0 bytes) = Some cor0
 
 -- the bytes taken since startup began
-abbrev pub bytes_of : Progress → ℕ
+abbrev pub bytes_of : StartupProgress → ℕ
 bytes_of NotBegun = 0
 bytes_of (Begun cor0 bytes) = bytes
 
 -- each fourth byte is a tick
-abbrev pub ticks_of : Progress → ℕ
+abbrev pub ticks_of : StartupProgress → ℕ
 ticks_of progress = bytes_of progress / 4
 
 -- the phase, by the part's lock number and match number
-abbrev pub IsPhaseOf : ℕ → ℕ → Progress → ℕ → Type 0
+abbrev pub IsPhaseOf : ℕ → ℕ → StartupProgress → ℕ → Type 0
 IsPhaseOf lock matched NotBegun phase = phase ≡ 0
 IsPhaseOf lock matched (Begun cor0 bytes) phase = IsPhase (wait_of lock matched cor0) (bytes / 4) phase
 
@@ -78,7 +78,7 @@ pub record Stored : Type 0 where
   pub phase : ℕ
 
 -- what is kept is that of a progress
-pub record StoresAt (lock matched : ℕ) (begun : Option ℕ) (tick_bytes ticks phase : ℕ) (progress : Progress) : Type 0 where
+pub record StoresAt (lock matched : ℕ) (begun : Option ℕ) (tick_bytes ticks phase : ℕ) (progress : StartupProgress) : Type 0 where
   pub begun_is : begun ≡ cor0_of progress
   pub tick_bytes_are : tick_bytes ≡ bytes_of progress % 4
   pub ticks_are : ticks ≡ min (ticks_of progress) 65535

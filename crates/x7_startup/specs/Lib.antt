@@ -2,5 +2,5 @@ pub mod Options
 pub mod Arrivals
 pub mod Lines
 pub mod Calls
-pub mod Runs
+pub mod Ticks
 pub mod Count

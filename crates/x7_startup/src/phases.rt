@@ -1,11 +1,11 @@
 //! Phases by ticks (UG470, startup).
 ghost use Rattle.std.specs.Prelude.{◌≡◌, ◌≤◌, ◌||◌, nat_lt, nat_le};
 ghost use Rattle.x7_startup.specs.Arrivals.{wait_of};
-ghost use Rattle.x7_startup.specs.Runs.{Runs};
+ghost use Rattle.x7_startup.specs.Ticks.{PassesTicks};
 
 /// A phase of at most 7, and the ticks since startup began, at most 65,535.
 #[derive(Clone, Copy)]
-pub struct Place {
+pub struct Reached {
     pub ticks: u16,
     pub phase: u8,
 }
@@ -27,32 +27,32 @@ fn wait_in(cor0: u32, phase: u8, lock: u16, matched: u16) -> u16
     for_lock.max(for_match)
 }
 
-/// The place one tick later.
-pub fn tick(cor0: u32, start: Place, lock: u16, matched: u16) -> Place
+/// What is reached one tick later.
+pub fn tick(cor0: u32, start: Reached, lock: u16, matched: u16) -> Reached
     requires phase { start.phase ≤ 7 }
     ensures last { result.phase ≤ 7 }
-    ensures runs { Runs (wait_of lock matched cor0) start 1 result }
+    ensures runs { PassesTicks (wait_of lock matched cor0) start 1 result }
 {
     let ticks = start.ticks.saturating_add(1);
     let phase = start.phase;
     if phase == 7 {
-        return Place { ticks, phase };
+        return Reached { ticks, phase };
     }
     if start.ticks < wait_in(cor0, phase, lock, matched) {
-        return Place { ticks, phase };
+        return Reached { ticks, phase };
     }
-    Place {
+    Reached {
         ticks,
         phase: phase + 1,
     }
 }
 
-/// The place after so many ticks, in at most fifteen turns.
+/// What is reached after so many ticks, in at most fifteen turns.
 #[tactic(auto, using(crate::proofs::RunLemmas::ran_none, crate::proofs::RunLemmas::ran_stays, crate::proofs::RunLemmas::ran_moves, crate::proofs::RunLemmas::ran_all))]
-pub fn run(cor0: u32, start: Place, count: u64, lock: u16, matched: u16) -> Place
+pub fn pass_ticks(cor0: u32, start: Reached, count: u64, lock: u16, matched: u16) -> Reached
     requires phase { start.phase ≤ 7 }
     ensures last { result.phase ≤ 7 }
-    ensures runs { Runs (wait_of lock matched cor0) start count result }
+    ensures runs { PassesTicks (wait_of lock matched cor0) start count result }
 {
     let mut ticks = start.ticks;
     let mut phase = start.phase;
@@ -70,5 +70,5 @@ pub fn run(cor0: u32, start: Place, count: u64, lock: u16, matched: u16) -> Plac
         }
     }
     let all = u64::from(ticks).saturating_add(left).min(65535) as u16;
-    Place { ticks: all, phase }
+    Reached { ticks: all, phase }
 }

@@ -1,11 +1,11 @@
 //! The startup sequence: it moves by a phase a tick, save where COR0 makes it wait.
 ghost use Rattle.std.specs.Prelude.{◌≡◌, ◌<◌, ◌≤◌, ◌+◌, ◌∷◌, ◌++◌, min, ℕ, List, [], replicate, is_some, Some, None, if◌then◌else◌};
 ghost use Rattle.x7_startup.specs.Lines.{done_line, gts_line, gwe_line, AreLines};
-ghost use Rattle.x7_startup.specs.Runs.{first_some};
+ghost use Rattle.x7_startup.specs.Ticks.{first_some};
 ghost use Rattle.x7_startup.specs.Calls.{Call, Arm, Desync, Byte, DropBack, Stored, StandsFor, IsPhaseOf, progress_of, cor0_of, ticks_of};
 
 use crate::lines::{Lines, lines_in};
-use crate::phases::{Place, run, tick};
+use crate::phases::{Reached, pass_ticks, tick};
 use std::marker::Model;
 
 /// Startup as the calls so far have left it (UG470, startup).
@@ -70,11 +70,11 @@ impl Startup {
             self.tick_bytes += 1;
             return;
         }
-        let place = Place {
+        let reached = Reached {
             ticks: self.ticks,
             phase: self.phase,
         };
-        let next = tick(cor0, place, lock, matched);
+        let next = tick(cor0, reached, lock, matched);
         self.tick_bytes = 0;
         self.ticks = next.ticks;
         self.phase = next.phase;
@@ -88,11 +88,17 @@ impl Startup {
             return;
         };
         let rest = self.tick_bytes + (count % 4) as u8;
-        let place = Place {
+        let reached = Reached {
             ticks: self.ticks,
             phase: self.phase,
         };
-        let next = run(cor0, place, count / 4 + u64::from(rest / 4), lock, matched);
+        let next = pass_ticks(
+            cor0,
+            reached,
+            count / 4 + u64::from(rest / 4),
+            lock,
+            matched,
+        );
         self.tick_bytes = rest % 4;
         self.ticks = next.ticks;
         self.phase = next.phase;

@@ -10,6 +10,8 @@ mod frames;
 #[cfg(test)]
 mod port;
 #[cfg(test)]
+mod reports;
+#[cfg(test)]
 mod status;
 #[cfg(test)]
 mod texts;

@@ -37,8 +37,8 @@ hex_front (suc k) (b ∷ bs) h =
     ap (λ (m : ℕ). take m (flat_map hex_byte (b ∷ bs))) two ∙ ap (λ t. hex_byte b ++ t) (hex_front k bs (omega (arith, h)))
 
 -- the digits of bytes that others follow
-pub hex_of_front : (bytes front rest digits : List ℕ) → front ≡ bytes → digits ≡ flat_map hex_byte (front ++ rest) → take (2 * length bytes) digits ≡ flat_map hex_byte bytes
-hex_of_front bytes front rest digits e f =
+pub hex_of_front : (bytes prefix rest digits : List ℕ) → prefix ≡ bytes → digits ≡ flat_map hex_byte (prefix ++ rest) → take (2 * length bytes) digits ≡ flat_map hex_byte bytes
+hex_of_front bytes prefix rest digits e f =
     ap (take (2 * length bytes)) (f ∙ ap (λ t. flat_map hex_byte (t ++ rest)) e)
     ∙ hex_front (length bytes) (bytes ++ rest) (omega (arith, length-append bytes rest)) ∙ ap (flat_map hex_byte) (take_at bytes rest (length bytes) refl)
 

@@ -59,9 +59,9 @@ no-word-length ds h ws r e = let n : length ds ≡ 9 * length ws = ap length e �
 -- a text whose digits are others when written out again is that of no row
 pub no-byte-row : (ds p r told : List ℕ) (b : Bool) → take (length ds) p ≡ ds → r ≡ bytes_value p → told ≡ flat_map hex_byte r → b ≡ false → (take (length ds) told ≡ ds → IsTrue b)
     → (bs : List ℕ) → IsByteRow bs → ds ≡ flat_map hex_byte bs → ⊥
-no-byte-row ds p r told b front value text off is bs row e =
+no-byte-row ds p r told b prefix value text off is bs row e =
     let T : List ℕ = drop (length ds) p in
-    let whole : p ≡ flat_map hex_byte bs ++ drop (length ds) p = front-of ds p front ∙ ap (λ t. t ++ drop (length ds) p) e in
+    let whole : p ≡ flat_map hex_byte bs ++ drop (length ds) p = front-of ds p prefix ∙ ap (λ t. t ++ drop (length ds) p) e in
     let read : r ≡ bs ++ bytes_value (drop (length ds) p) = value ∙ ap bytes_value whole ∙ bytes-front bs (drop (length ds) p) row.0 in
     let again : told ≡ ds ++ flat_map hex_byte (bytes_value (drop (length ds) p)) = text ∙ ap (flat_map hex_byte) read ∙ flat_map-append hex_byte bs (bytes_value (drop (length ds) p)) ∙ ap (λ t. t ++ flat_map hex_byte (bytes_value (drop (length ds) p))) (sym e) in
     refuted b off (is (ap (take (length ds)) again ∙ take-append_seam ds (flat_map hex_byte (bytes_value (drop (length ds) p)))))
@@ -76,14 +76,14 @@ yes-byte-row ds r told old new n long fit text same some two few appended =
 
 pub no-word-row : (ds p r told : List ℕ) (m : ℕ) (b : Bool) → m ≡ length ds → take (8 * (length ds / 9)) p ≡ flat_map (λ (word : List ℕ). drop 1 word) (first_chunks 9 (length ds / 9) ds) → length p ≡ 64 → r ≡ bytes_value p → told ≡ flat_map spaced (words_of_bytes r) ++ 10 ∷ [] → b ≡ false → (take m told ≡ ds → IsTrue b)
     → (ws : List ℕ) → IsWordRow ws → ds ≡ flat_map spaced ws → ⊥
-no-word-row ds p r told m b same front long value text off is ws row e =
+no-word-row ds p r told m b same prefix long value text off is ws row e =
     let nine : length ds ≡ 9 * length ws = ap length e ∙ length-spaced ws in
     let count : length ds / 9 ≡ length ws = omega (arith, nine) in
     let j : ℕ = 8 * (length ds / 9) in
     let T : List ℕ = drop (8 * (length ds / 9)) p in
     let ds_of : flat_map (λ (word : List ℕ). drop 1 word) (first_chunks 9 (length ds / 9) ds) ≡ flat_map hex_byte (flat_map bytes_of_word ws) =
     ap₂ (λ (k : ℕ) (t : List ℕ). flat_map (λ (word : List ℕ). drop 1 word) (first_chunks 9 k t)) count e ∙ digits-of-spaced ws ∙ hex-words ws row.0 in
-    let whole : p ≡ flat_map hex_byte (flat_map bytes_of_word ws) ++ T = sym (take-append-drop (8 * (length ds / 9)) p) ∙ ap (λ t. t ++ T) (front ∙ ds_of) in
+    let whole : p ≡ flat_map hex_byte (flat_map bytes_of_word ws) ++ T = sym (take-append-drop (8 * (length ds / 9)) p) ∙ ap (λ t. t ++ T) (prefix ∙ ds_of) in
     let read : words_of_bytes r ≡ ws ++ words_of_bytes (bytes_value T) = ap words_of_bytes (value ∙ ap bytes_value whole ∙ bytes-front (flat_map bytes_of_word ws) T (bytes-fit ws)) ∙ words-back ws (bytes_value T) row.0 in
     let again : told ≡ ds ++ (flat_map spaced (words_of_bytes (bytes_value T)) ++ 10 ∷ []) =
     text ∙ ap (λ t. flat_map spaced t ++ 10 ∷ []) read ∙ ap (λ t. t ++ 10 ∷ []) (flat_map-append spaced ws (words_of_bytes (bytes_value T)) ∙ ap (λ t. t ++ flat_map spaced (words_of_bytes (bytes_value T))) (sym e)) ∙ append_assoc ds (flat_map spaced (words_of_bytes (bytes_value T))) (10 ∷ []) in

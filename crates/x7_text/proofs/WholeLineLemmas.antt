@@ -64,19 +64,19 @@ lines_count n elements r (suc k) bs h =
     ∙ ap (λ t. in_line_after n 0 (elements t)) (drop_row k bs)
 
 -- a front that fills the open line, whole lines, and a tail
-module _ (n : ℕ) (word : List ℕ) (text : ℕ → List ℕ) (elements : List ℕ → List ℕ) (r : InRows n elements) (i k : ℕ) (bs front rest : List ℕ)
-    (parts : elements bs ≡ elements front ++ elements rest) (filled : in_line_after n i (elements front) ≡ 0) (within : k * 32 ≤ length rest) where
+module _ (n : ℕ) (word : List ℕ) (text : ℕ → List ℕ) (elements : List ℕ → List ℕ) (r : InRows n elements) (i k : ℕ) (bs prefix rest : List ℕ)
+    (parts : elements bs ≡ elements prefix ++ elements rest) (filled : in_line_after n i (elements prefix) ≡ 0) (within : k * 32 ≤ length rest) where
   pub parts_text : open_text n word text i (elements bs)
-      ≡ open_text n word text i (elements front) ++ (flat_map (λ (row : List ℕ). line word text (elements row)) (first_chunks 32 k rest) ++ open_text n word text 0 (elements (drop (k * 32) rest)))
+      ≡ open_text n word text i (elements prefix) ++ (flat_map (λ (row : List ℕ). line word text (elements row)) (first_chunks 32 k rest) ++ open_text n word text 0 (elements (drop (k * 32) rest)))
   parts_text =
       ap (open_text n word text i) parts
-      ∙ open_text-append n word text i (elements front) (elements rest)
-      ∙ ap (λ j. open_text n word text i (elements front) ++ open_text n word text j (elements rest)) filled
-      ∙ ap (λ t. open_text n word text i (elements front) ++ t) (lines_text n word text elements r k rest within)
+      ∙ open_text-append n word text i (elements prefix) (elements rest)
+      ∙ ap (λ j. open_text n word text i (elements prefix) ++ open_text n word text j (elements rest)) filled
+      ∙ ap (λ t. open_text n word text i (elements prefix) ++ t) (lines_text n word text elements r k rest within)
 
   pub parts_count : in_line_after n i (elements bs) ≡ in_line_after n 0 (elements (drop (k * 32) rest))
   parts_count =
-      ap (in_line_after n i) parts ∙ in_line_after-append n i (elements front) (elements rest) ∙ ap (λ j. in_line_after n j (elements rest)) filled
+      ap (in_line_after n i) parts ∙ in_line_after-append n i (elements prefix) (elements rest) ∙ ap (λ j. in_line_after n j (elements rest)) filled
       ∙ lines_count n elements r k rest within
 
 pub in_three : (old first second third a b c whole : List ℕ) → first ≡ old ++ a → second ≡ first ++ b → third ≡ second ++ c → whole ≡ a ++ (b ++ c) → third ≡ old ++ whole

@@ -33,7 +33,7 @@ first_words_count bytes count long few =
     let told : in_line_after 8 0 (words_of_bytes (take (4 * count) bytes)) ≡ 0 + length (words_of_bytes (take (4 * count) bytes)) = few_count 8 0 (words_of_bytes (take (4 * count) bytes)) (omega (arith, n, few)) in
     omega (arith, told, n)
 
--- a front of what was appended
+-- a prefix of what was appended
 kept_front : (old all told new : List ℕ) (n k : ℕ) → n ≡ length old + k → all ≡ old ++ told → new ≡ take n all → new ≡ old ++ take k told
 kept_front old all told new n k e f g = g ∙ ap (λ (m : ℕ). take m all) e ∙ ap (take (length old + k)) f ∙ take-append-add old told k
 
@@ -41,7 +41,7 @@ pub first_words : (old all told new bytes : List ℕ) (n count : ℕ) → 0 < co
     → new ≡ old ++ open_text 8 (codes "data") spaced 0 (words_of_bytes (take (4 * count) bytes))
 first_words old all told new bytes n count some few long is e f g =
     let ws : List ℕ = words_of_bytes bytes in
-    let front : List ℕ = words_of_bytes (take (4 * count) bytes) in
+    let prefix : List ℕ = words_of_bytes (take (4 * count) bytes) in
     let eight : length (words_of_bytes bytes) ≡ 8 = length-words bytes 8 (omega (arith, long)) in
     let number : length (words_of_bytes (take (4 * count) bytes)) ≡ count = first_count bytes count (omega (arith, long, few)) in
     let four : 4 + 9 * count ≡ suc (suc (suc (suc (9 * count)))) = omega arith in
@@ -104,7 +104,7 @@ closes k h = let e : (k == 0) ≡ false = grind (arith, nat_tests) in rw e refl
 pub first_bytes : (old begun all told cut new bytes : List ℕ) (n count : ℕ) → 0 < count → count < 32 → length bytes ≡ 32 → told ≡ flat_map hex_byte bytes → begun ≡ old ++ codes "bytes " → n ≡ length old + (6 + 2 * count) → all ≡ begun ++ told → cut ≡ take n all → new ≡ cut ++ 10 ∷ []
     → new ≡ old ++ bytes_text (take count bytes)
 first_bytes old begun all told cut new bytes n count some few long is b e f g h =
-    let front : List ℕ = take count bytes in
+    let prefix : List ℕ = take count bytes in
     let number : length (take count bytes) ≡ count = length-take-le count bytes (omega (arith, long, few)) in
     let shown : cut ≡ begun ++ flat_map hex_byte (take count bytes) = kept_front begun all told cut n (2 * count) (omega (arith, e, ap length b, length-append old (codes "bytes "))) f g ∙ ap (λ t. begun ++ take (2 * count) t) is ∙ ap (λ t. begun ++ t) (hex_front count bytes (omega (arith, long, few))) in
     let told_so : in_line_after 32 0 (take count bytes) ≡ 0 + length (take count bytes) = few_count 32 0 (take count bytes) (omega (arith, number, few)) in

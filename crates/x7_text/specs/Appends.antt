@@ -3,7 +3,7 @@ use Rattle.std.specs.Prelude.{◌≡◌, ℕ, ◌+◌, ◌≤◌, List, ◌++◌
 use Rattle.std.specs.Prelude.{Vec}
 use Rattle.std.specs.declared.alloc.Global.{Global}
 
--- the bytes stand behind what was there, they are no more than `most`, and no room was lost
+-- the bytes stand after what was there, they are no more than `most`, and no room was lost
 pub record Appends (old new : Vec ℕ Global) (bytes : List ℕ) (most : ℕ) : Type 0 where
   pub items : new.items ≡ old.items ++ bytes
   pub within : vec_len new ≤ vec_len old + most

@@ -46,7 +46,7 @@ data_text ws = flat_map (line (codes "data") spaced) (rows 8 ws)
 abbrev pub line_start : List ℕ → ℕ → List ℕ
 line_start word i = if i == 0 then word else []
 
--- what stands behind an element: the line end behind the one that fills the line
+-- what stands after an element: the line end after the one that fills the line
 abbrev pub line_end : ℕ → ℕ → List ℕ
 line_end n i = if i + 1 == n then 10 ∷ [] else []
 

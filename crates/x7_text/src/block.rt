@@ -46,7 +46,7 @@ pub fn hex_of_block(bytes: &[u8; 32]) -> [u8; 64]
     hex_digits(halves_of(u8x32::from_array(*bytes))).to_array()
 }
 
-/// The two upper-case digits of each of so few bytes, and other digits behind them.
+/// The two upper-case digits of each of so few bytes, and other digits after them.
 #[inline(always)]
 pub(crate) fn hex_of_few(bytes: &[u8]) -> [u8; 64]
     requires { length bytes.now ≤ 32 }
@@ -98,8 +98,9 @@ fn sixteen_of(digits: &[u8; 64], at: usize) -> u8x16
     u8x16::from_slice(&digits[at..])
 }
 
-/// The `data` line of eight words, with its line end, and three bytes behind it. It is stored by sixteen bytes: digits of one
+/// The `data` line of eight words, with its line end, and three bytes after it. It is stored by sixteen bytes: digits of one
 /// vector, or of two that follow each other, and then what stands between them.
+#[rattlefmt::skip]
 #[inline(always)]
 fn wide_line(bytes: &[u8; 32]) -> [u8; 80]
     ensures long { length result ≡ 80 }
@@ -109,41 +110,19 @@ fn wide_line(bytes: &[u8; 32]) -> [u8; 80]
     let (a, b) = (sixteen_of(&digits, 0), sixteen_of(&digits, 16));
     let (c, d) = (sixteen_of(&digits, 32), sixteen_of(&digits, 48));
     let beside = u8x16::from_array(BESIDE);
-    let first = a.shuffle(
-        beside,
-        [16, 17, 18, 19, 20, 0, 1, 2, 3, 4, 5, 6, 7, 20, 8, 9],
-    );
+    let first = a
+        .shuffle(beside, [16, 17, 18, 19, 20,  0,  1,  2,  3,  4,  5,  6,  7, 20,  8,  9]);
     let second = a
-        .shuffle(
-            b,
-            [10, 11, 12, 13, 14, 15, 0, 16, 17, 18, 19, 20, 21, 22, 23, 0],
-        )
-        .shuffle(
-            beside,
-            [0, 1, 2, 3, 4, 5, 20, 7, 8, 9, 10, 11, 12, 13, 14, 20],
-        );
+        .shuffle(b,      [10, 11, 12, 13, 14, 15,  0, 16, 17, 18, 19, 20, 21, 22, 23,  0])
+        .shuffle(beside, [ 0,  1,  2,  3,  4,  5, 20,  7,  8,  9, 10, 11, 12, 13, 14, 20]);
     let third = b
-        .shuffle(
-            c,
-            [8, 9, 10, 11, 12, 13, 14, 15, 0, 16, 17, 18, 19, 20, 21, 22],
-        )
-        .shuffle(
-            beside,
-            [0, 1, 2, 3, 4, 5, 6, 7, 20, 9, 10, 11, 12, 13, 14, 15],
-        );
+        .shuffle(c,      [ 8,  9, 10, 11, 12, 13, 14, 15,  0, 16, 17, 18, 19, 20, 21, 22])
+        .shuffle(beside, [ 0,  1,  2,  3,  4,  5,  6,  7, 20,  9, 10, 11, 12, 13, 14, 15]);
     let fourth = c
-        .shuffle(
-            d,
-            [7, 0, 8, 9, 10, 11, 12, 13, 14, 15, 0, 16, 17, 18, 19, 20],
-        )
-        .shuffle(
-            beside,
-            [0, 20, 2, 3, 4, 5, 6, 7, 8, 9, 20, 11, 12, 13, 14, 15],
-        );
-    let last = d.shuffle(
-        beside,
-        [5, 6, 7, 20, 8, 9, 10, 11, 12, 13, 14, 15, 21, 21, 21, 21],
-    );
+        .shuffle(d,      [ 7,  0,  8,  9, 10, 11, 12, 13, 14, 15,  0, 16, 17, 18, 19, 20])
+        .shuffle(beside, [ 0, 20,  2,  3,  4,  5,  6,  7,  8,  9, 20, 11, 12, 13, 14, 15]);
+    let last = d
+        .shuffle(beside, [ 5,  6,  7, 20,  8,  9, 10, 11, 12, 13, 14, 15, 21, 21, 21, 21]);
     let mut text = [b'\n'; 80];
     first.copy_to_slice(&mut text);
     second.copy_to_slice(&mut text[16..]);

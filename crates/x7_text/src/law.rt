@@ -8,20 +8,20 @@ ghost use Rattle.x7_text.specs.EitherCase.{digit_of, pairs};
 ghost use Rattle.x7_text.specs.Lines.{has_no_end, joined, split};
 ghost use Rattle.x7_text.specs.Row.{AreFullButLast, rows, line, bytes_text, data_text, open_text, in_line_after, spaced, close};
 
-/// Words told one by one and closed are the `data` lines, and bytes the `bytes` lines.
+/// Words given one by one and closed are the `data` lines, and bytes the `bytes` lines.
 pub fn lines_one_by_one()
     ensures words { (ws : List ℕ) → open_text 8 (codes "data") spaced 0 ws ++ close (in_line_after 8 0 ws) ≡ data_text ws }
     ensures bytes { (bs : List ℕ) → open_text 32 (codes "bytes ") hex_byte 0 bs ++ close (in_line_after 32 0 bs) ≡ bytes_text bs }
 {}
 
-/// Elements told in two parts are told at once.
+/// Elements given in two parts are the same as at once.
 pub fn lines_in_parts()
     ensures text { (n : ℕ) (word : List ℕ) (text : ℕ → List ℕ) (i : ℕ) (xs ys : List ℕ) → let lines = open_text n word text in
         lines i (xs ++ ys) ≡ lines i xs ++ lines (in_line_after n i xs) ys }
     ensures count { (n i : ℕ) (xs ys : List ℕ) → in_line_after n i (xs ++ ys) ≡ in_line_after n (in_line_after n i xs) ys }
 {}
 
-/// A whole row at once is the row's line, and what follows is told behind it.
+/// A whole row at once is the row's line, and what follows comes after it.
 pub fn whole_rows()
     ensures text { (n : ℕ) (word : List ℕ) (text : ℕ → List ℕ) (row rest : List ℕ) → length row ≡ n → 0 < n
         → open_text n word text 0 (row ++ rest) ≡ line word text row ++ open_text n word text 0 rest }

@@ -11,7 +11,6 @@ mod read_row;
 mod reading;
 mod room;
 mod row;
-mod window;
 
 pub use block::{bytes_line, data_line, hex_of_block};
 pub use digits::{hex_of_byte, hex_of_word, put_decimal};
@@ -26,4 +25,3 @@ pub use read_row::{put_byte_row, put_word_row};
 pub use reading::{HexPrefix, block_of_hex, decimal_below, prefix_of_hex, word_of_hex};
 pub use room::{make_room, put};
 pub use row::{put_bytes, put_close, put_word, put_words};
-pub use window::{put_first_bytes, put_first_words};

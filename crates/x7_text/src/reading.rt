@@ -158,14 +158,14 @@ fn same_prefix(a: &[u8; 64], b: &[u8; 64]) -> usize
     differ.trailing_zeros() as usize
 }
 
-/// What the digits at the front of a block stand for, others behind it, and how many digits there are.
+/// What the digits that a block begins with stand for, others after them, and how many digits there are.
 #[derive(Clone, Copy)]
 pub struct HexPrefix {
     pub bytes: [u8; 32],
     pub digits: usize,
 }
 
-/// The digits at the front of a block, which may have none.
+/// The digits that a block begins with, maybe none.
 #[inline(always)]
 pub fn prefix_of_hex(block: &[u8; 64]) -> HexPrefix
     ensures within { result.digits ≤ 64 }

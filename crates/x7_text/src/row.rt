@@ -155,8 +155,8 @@ pub fn put_words(text: &mut Vec<u8>, in_line: usize, bytes: &[u8]) -> usize
     if bytes.len() < open {
         return put_each_word(text, in_line, bytes);
     }
-    let (front, rest) = bytes.split_at(open);
-    put_each_word(text, in_line, front);
+    let (prefix, rest) = bytes.split_at(open);
+    put_each_word(text, in_line, prefix);
     let (lines, rest) = rest.as_chunks::<32>();
     put_data_lines(text, lines);
     put_each_word(text, 0, rest)
@@ -175,8 +175,8 @@ pub fn put_bytes(text: &mut Vec<u8>, in_line: usize, bytes: &[u8]) -> usize
     if bytes.len() < open {
         return put_few_bytes(text, in_line, bytes);
     }
-    let (front, rest) = bytes.split_at(open);
-    put_each_byte(text, in_line, front);
+    let (prefix, rest) = bytes.split_at(open);
+    put_each_byte(text, in_line, prefix);
     let (lines, rest) = rest.as_chunks::<32>();
     put_bytes_lines(text, lines);
     put_each_byte(text, 0, rest)

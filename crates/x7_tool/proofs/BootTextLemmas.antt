@@ -67,10 +67,10 @@ flash_boots name part (Some all) b answer short boots due answers = (short, λ f
 -- the text of a boot was made, or there was no memory for it
 pub text_boots : (name : List ℕ) (part : PartData) (old mid new : FlashState) (b : BootedState) (got : Result PlayTextState Refusal) → ReadsFlash name old mid → IfKnown mid.bytes (λ all. length all ≤ flash_limit)
     → IfKnown mid.bytes (λ all. AreBytes all → IsBoot part all b) → NoWordDue b.device → IfOk got (λ text. AnswersBoot b (text_of_play text)) → IfErr got (λ r. event_of r ≡ no_memory)
-    → FlashComes name part old new (seen text_of_play got)
-text_boots name part old mid new b (Ok text) r short boots due ok err =
-    subst (λ (f : Option (List ℕ)). FlashBoots name part (flash_found f) (Ok (text_of_play text))) r.bytes (flash_boots name part mid.bytes b (text_of_play text) short boots due ok)
-text_boots name part old mid new b (Err x) r short boots due ok err = inl err
+    → new.extent ≤ flash_limit → FlashComes name part old new (seen text_of_play got)
+text_boots name part old mid new b (Ok text) r short boots due ok err size =
+    (subst (λ (f : Option (List ℕ)). FlashBoots name part (flash_found f) (Ok (text_of_play text))) r.bytes (flash_boots name part mid.bytes b (text_of_play text) short boots due ok), size)
+text_boots name part old mid new b (Err x) r short boots due ok err size = inl err
 
 -- a flash is within the limit where it wasn't refused
 pub short_flash : (s : FlashState) → IsSized s → (flash_limit < s.extent → ⊥) → IfKnown s.bytes (λ all. length all ≤ flash_limit)
@@ -94,5 +94,5 @@ pub fault_boots : (name : List ℕ) (part : PartData) (old mid new : FlashState)
 fault_boots name part old mid new past since boot_fault.Failed event r a s o is failed large =
     inr (inl (inr (is, record { among = inl refl; asked = subst (λ (names : List ℕ → Bool). IsTrue (names name)) (sym o.names) a.asked; risen = risen_from old.faults mid.faults new.faults r.faults (failed refl) })))
 fault_boots name part old mid new past since boot_fault.TooLarge event r a s o is failed large =
-    inr (inr (subst (λ (f : Option (List ℕ)). FlashBoots name part (flash_found f) (Err event)) r.bytes (large_flash name part mid.bytes mid.extent event s (large refl) is)))
+    inr (inr (subst (λ (f : Option (List ℕ)). FlashBoots name part (flash_found f) (Err event)) r.bytes (large_flash name part mid.bytes mid.extent event s (large refl) is), omega (arith, large refl, o.extent)))
 fault_boots name part old mid new past since boot_fault.NoMemory event r a s o is failed large = inl is

@@ -26,7 +26,7 @@ use Rattle.x7_tool.specs.Outcome.{listed, listed_bytes, listed_found}
 use Rattle.x7_forms.specs.Turn.{IsRefused, MayFollow, UnreadBeginning, Unopened}
 use Rattle.x7_tool.specs.Outside.{Outside, known_in}
 use Rattle.x7_tool.specs.Ahead.{StaysNear}
-use Rattle.x7_tool.specs.Run.{EndIsCaused, Ends, EndsAs, GetsPrefix, IsPrefixOf, LeftBy, ListLeaves}
+use Rattle.x7_tool.specs.Run.{EndIsCaused, Ends, EndsAs, GetsPrefix, IsPrefixOf, LeftBy, ListLeaves, ListsSoFar}
 use Rattle.x7_forms.specs.Step.{CameIn, DueBy, FailsAmong, IsCaused, seen, step_over}
 use Rattle.x7_forms.proofs.BeginningLemmas.{raw_listed}
 use Rattle.x7_forms.proofs.ReadLemmas.{absence_from, at_fault, at_open, fault_from, known_all, name_is}
@@ -39,9 +39,9 @@ use Rattle.x7_tool.proofs.RunLemmas.{has_cause}
 abbrev pub PutsListed : List ℕ → Option (List ℕ) → Option (List ℕ) → Type 0
 PutsListed bytes old new = (text : List ℕ) × ((stream_listing bytes ≡ Ok text) × PutsPrefix old text new)
 
--- the same of a prefix of the stream
+-- a prefix of the listing of a prefix of the stream was put, and of whatever may follow it
 abbrev pub PutsPrefixOf : Option Known → List ℕ → Option (List ℕ) → Option (List ℕ) → Type 0
-PutsPrefixOf known stream old new = (bytes : List ℕ) × (IsPrefixOf known stream bytes × PutsListed bytes old new)
+PutsPrefixOf known stream old new = (bytes : List ℕ) × (IsPrefixOf known stream bytes × ListsSoFar bytes old new)
 
 -- what is left by a reason
 abbrev pub LeftAs : Why → Option Known → List ℕ → Option (List ℕ) → Option (List ℕ) → Type 0
@@ -91,8 +91,8 @@ ended_left Break stream old new event h = some_of (known_in old) stream old.out 
 ended_left cause stream old new event h = left_as event.reason stream old new h.1
 
 pub list_ends : (stream : List ℕ) (old new : Outside) (end : Result Answer Event) → EndedIn stream old new end → StaysNear (final_status end) (Some (Listing stream)) old new → Ends (Some (Listing stream)) old new end
-list_ends stream old new (Ok answer) h n = record { cause = has_cause (Listing stream) old new (Ok answer) (answers_over (Listing stream) old new (Ok answer) h.0); wrote = h.1; near = n; updates = tt }
-list_ends stream old new (Err event) h n = record { cause = ended_cause (cause_of event) stream old new event refl h; wrote = ended_left (cause_of event) stream old new event h; near = n; updates = tt }
+list_ends stream old new (Ok answer) h n = record { cause = has_cause (Listing stream) old new (Ok answer) (answers_over (Listing stream) old new (Ok answer) h.0); wrote = h.1; near = n; measured = λ name a. absurd a; updates = tt }
+list_ends stream old new (Err event) h n = record { cause = ended_cause (cause_of event) stream old new event refl h; wrote = ended_left (cause_of event) stream old new event h; near = n; measured = λ name a e. absurd a; updates = tt }
 
 -- the same of a call's result
 pub list_seen : {A : Type 0} (stream : List ℕ) (old new : Outside) (r : Result A Refusal) → OnOk r ((text : List ℕ) × EndedIn stream old new (Ok (record { stopped = false; text = text })))
@@ -140,6 +140,10 @@ none_put old text = ([], (text, refl, sym (appended-nil old)))
 nothing_listed : stream_listing [] ≡ Ok (listing_of [])
 nothing_listed = raw_listed [] ((raw_at [] (starts_with nat_eq [] fixed_bytes) refl).1 (λ rest. λ e. absurd cc))
 
+-- nothing was put of any listing
+pub nothing_put : (old : Option (List ℕ)) → ListsSoFar [] old old
+nothing_put old = record { has = (listing_of [], nothing_listed); goes = λ rest text fits e. none_put old text }
+
 -- the bytes that were taken are a front of the input
 front_taken : (contents : Option (List ℕ → Option (List ℕ))) (flash : Option (List ℕ)) (name taken : List ℕ) (rest : Option (List ℕ)) → Selects contents name (preceded taken rest) → IsPrefixOf (with_inputs contents flash) name taken
 front_taken None flash name taken rest s = tt
@@ -151,12 +155,12 @@ front_taken (Some inputs) flash name taken (Some rest) s =
 
 -- a stream whose reading failed after these bytes
 pub broken : (contents : Option (List ℕ → Option (List ℕ))) (flash : Option (List ℕ)) (C : Mishap → Type 0) (stream taken : List ℕ) (rest : Option (List ℕ)) (Full : Type 0) (old now : Option (List ℕ))
-    → Selects contents stream (preceded taken rest) → IsCaused {A = Answer} (with_inputs contents flash) C (λ known. listed known stream) (Err (read_fault stream)) → PutsListed taken old now → Ended (with_inputs contents flash) C stream Full old now (Err (read_fault stream))
+    → Selects contents stream (preceded taken rest) → IsCaused {A = Answer} (with_inputs contents flash) C (λ known. listed known stream) (Err (read_fault stream)) → ListsSoFar taken old now → Ended (with_inputs contents flash) C stream Full old now (Err (read_fault stream))
 broken contents flash C stream taken rest Full old now s c p = (c, (taken, (front_taken contents flash stream taken rest s, p)))
 
 -- memory that ended after these bytes
 pub out_of_memory : (contents : Option (List ℕ → Option (List ℕ))) (flash : Option (List ℕ)) (C : Mishap → Type 0) (stream taken : List ℕ) (rest : Option (List ℕ)) (Full : Type 0) (old now : Option (List ℕ))
-    → Selects contents stream (preceded taken rest) → PutsListed taken old now → Ended (with_inputs contents flash) C stream Full old now (Err no_memory)
+    → Selects contents stream (preceded taken rest) → ListsSoFar taken old now → Ended (with_inputs contents flash) C stream Full old now (Err no_memory)
 out_of_memory contents flash C stream taken rest Full old now s p = (inl (inl refl), (taken, (front_taken contents flash stream taken rest s, p)))
 
 -- what may follow the bytes that were taken
@@ -185,7 +189,7 @@ listed_is inputs flash stream bytes e = rw e refl
 
 -- a stream of which more than the limit was taken
 pub oversized : (contents : Option (List ℕ → Option (List ℕ))) (flash : Option (List ℕ)) (C : Mishap → Type 0) (stream taken listed_front : List ℕ) (rest more : Option (List ℕ)) (Full : Type 0) (old now : Option (List ℕ))
-    → Selects contents stream (preceded taken rest) → Selects contents stream (preceded listed_front more) → ((left : List ℕ) → (text : List ℕ) × (stream_listing (taken ++ left) ≡ Ok text)) → stream_limit < length taken → PutsListed listed_front old now
+    → Selects contents stream (preceded taken rest) → Selects contents stream (preceded listed_front more) → ((left : List ℕ) → (text : List ℕ) × (stream_listing (taken ++ left) ≡ Ok text)) → stream_limit < length taken → ListsSoFar listed_front old now
     → Ended (with_inputs contents flash) C stream Full old now (Err (too_large stream))
 oversized None flash C stream taken listed_front rest more Full old now s t h l p = (inr tt, (listed_front, (tt, p)))
 oversized (Some inputs) flash C stream taken listed_front rest more Full old now s t h l p =
@@ -225,7 +229,7 @@ unopened s n flash stream Full old event (inl h, none) a =
     ends_same (with_inputs s.contents flash) (CameIn (step_over (stream ∷ []) s n)) stream Full old old event (missing stream) h.0 (absent s n flash stream a none h.1, refl)
 unopened s n flash stream Full old event (inr h, none) a =
     ends_same (with_inputs s.contents flash) (CameIn (step_over (stream ∷ []) s n)) stream Full old old event (read_fault stream) h.0
-    (faulted s n flash stream (record { among = inl refl; over = record { asked = a.asked; selected = none }; risen = h.1 }) (omega (arith, a.given)), ([], (front_none s.contents flash stream, (listing_of [], (nothing_listed, none_put old (listing_of []))))))
+    (faulted s n flash stream (record { among = inl refl; over = record { asked = a.asked; selected = none }; risen = h.1 }) (omega (arith, a.given)), ([], (front_none s.contents flash stream, nothing_put old)))
 
 -- an error by two of its clauses
 pub both_err : {A B : Type 0} (r : Result A B) (P Q R : B → Type 0) → ((e : B) → P e → Q e → R e) → IfErr r P → IfErr r Q → IfErr r R
@@ -243,11 +247,11 @@ pub unfronted : (s m n : InputsState) (flash : Option (List ℕ)) (stream : List
     → Ended (with_inputs s.contents flash) (CameIn (step_over (stream ∷ []) s n)) stream Full old old (Err event)
 unfronted s m n flash stream Full old event f sel a (inl h) =
     ends_same (with_inputs s.contents flash) (CameIn (step_over (stream ∷ []) s n)) stream Full old old event no_memory h
-    (out_of_memory s.contents flash (CameIn (step_over (stream ∷ []) s n)) stream [] m.rest Full old old (nothing_taken s.contents stream m.rest sel) (listing_of [], (nothing_listed, none_put old (listing_of []))))
+    (out_of_memory s.contents flash (CameIn (step_over (stream ∷ []) s n)) stream [] m.rest Full old old (nothing_taken s.contents stream m.rest sel) (nothing_put old))
 unfronted s m n flash stream Full old event f sel a (inr (inl h)) =
     let fault = at_fault s m n stream [] stream_limit f (at_open stream m a) h.1 h.2 in
     ends_same (with_inputs s.contents flash) (CameIn (step_over (stream ∷ []) s n)) stream Full old old event (read_fault stream) h.0
-    (broken s.contents flash (CameIn (step_over (stream ∷ []) s n)) stream [] m.rest Full old old (nothing_taken s.contents stream m.rest sel) (faulted s n flash stream fault.0 (omega (arith, fault.1))) (listing_of [], (nothing_listed, none_put old (listing_of []))))
+    (broken s.contents flash (CameIn (step_over (stream ∷ []) s n)) stream [] m.rest Full old old (nothing_taken s.contents stream m.rest sel) (faulted s n flash stream fault.0 (omega (arith, fault.1))) (nothing_put old))
 unfronted s m n flash stream Full old event f sel a (inr (inr h)) =
     ends_same (with_inputs s.contents flash) (CameIn (step_over (stream ∷ []) s n)) stream Full old old event (bad_input stream (input.Byte h.place)) h.is
     (refused s.contents flash (CameIn (step_over (stream ∷ []) s n)) stream h.bytes n.rest h.last h.place Full old (subst (λ r. Selects s.contents stream r) h.taken sel) h.end h.refused)

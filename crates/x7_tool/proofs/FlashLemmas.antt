@@ -8,14 +8,17 @@ use Rattle.x7_update.proofs.ToldLemmas.{moments_none, only_read}
 use Rattle.x7_words.specs.declared.input.SelectFault.{SelectFault}
 use Rattle.x7_words.specs.declared.input.SelectFault.TheVariants.{Missing, Failed}
 use Rattle.x7_part.specs.Part.{PartData}
-use Rattle.x7_forms.specs.Event.{Event, missing, read_fault, too_large}
+use Rattle.x7_part.specs.declared.fault.PartFault.{PartFault}
+use Rattle.x7_forms.specs.declared.bad_input.InputFault.{InputFault}
+use Rattle.x7_forms.specs.declared.refusal.Why.TheVariants as why
+use Rattle.x7_forms.specs.Event.{Event, bad_input, bad_part, missing, no_memory, read_fault, too_large}
 use Rattle.x7_forms.specs.Form.{Asked, Booting, FlashUse, Read, Unused, Updated, flash_names, flash_use, names_of, updated_by}
 use Rattle.x7_forms.specs.Known.{Absent, Answer, Broken, Failing, Found, Held, Known, Lacking, Mishap, flash_found, known_of, mishap_event, part_of, spoiled, spoiled_name, with_inputs, with_mishap}
 use Rattle.x7_tool.specs.Leaving.{MayBeFound, UsesFlash}
 use Rattle.x7_tool.specs.Outcome.{BootedAs, FlashBoots, Gives}
 use Rattle.x7_tool.specs.Outside.{Came, KeepsFlash, Outside, ReadsFlash, known_from, known_in, sources}
-use Rattle.x7_tool.specs.Run.{AnswersOver, FlashComes, IsUnattached}
-use Rattle.x7_forms.specs.Step.{CameIn, DueBy, IsCaused, IsCausedBy, IsDecided, IsDue, IsPossible, step_over}
+use Rattle.x7_tool.specs.Run.{AnswersOver, FlashComes, IsMeasured, IsUnattached}
+use Rattle.x7_forms.specs.Step.{Among, CameIn, DueBy, IsCaused, IsCausedBy, IsDecided, IsDue, IsNoPart, IsPossible, IsUnread, step_over}
 use Rattle.x7_forms.proofs.ReadLemmas.{caused_on_by, name_is, outside_goes, part_steady}
 
 -- ---- what more may fail
@@ -78,7 +81,7 @@ pub booted_ends : (old new : Outside) (name part_name : List ℕ) (part : PartDa
     → FlashComes name part old.flash new.flash end → AnswersOver (Booting part_name name) old new end
 booted_ends old new name part_name part C (Ok answer) read h =
     booted_due (known_in old) old.flash.bytes (Came (Some (Booting part_name name)) old new) name part_name part (Ok answer) (told_flash old.inputs.contents old.flash.bytes name) (tt, tt)
-    (read_due (known_in old) C (λ t. part_of t part_name) part read) h
+    (read_due (known_in old) C (λ t. part_of t part_name) part read) h.0
 booted_ends old new name part_name part C (Err event) read (inl h) = subst (λ (e : Event). AnswersOver (Booting part_name name) old new (Err e)) (sym h) (inl (inl refl))
 booted_ends old new name part_name part C (Err event) read (inr (inl (inl h))) =
     subst (λ (e : Event). AnswersOver (Booting part_name name) old new (Err e)) (sym h.0)
@@ -92,8 +95,59 @@ booted_ends old new name part_name part C (Err event) read (inr (inl (inr h))) =
       due = boot_mishap (known_in old) (Failing name new.inputs.given) name part_name part (read_fault name) refl refl refl (read_due (known_in old) C (λ t. part_of t part_name) part read);
     })))
 booted_ends old new name part_name part C (Err event) read (inr (inr h)) =
-    booted_due (known_in old) old.flash.bytes (Came (Some (Booting part_name name)) old new) name part_name part (Err event) (told_flash old.inputs.contents old.flash.bytes name) (both name part old.flash.bytes (Err event) h)
-    (read_due (known_in old) C (λ t. part_of t part_name) part read) h
+    booted_due (known_in old) old.flash.bytes (Came (Some (Booting part_name name)) old new) name part_name part (Err event) (told_flash old.inputs.contents old.flash.bytes name) (both name part old.flash.bytes (Err event) h.0)
+    (read_due (known_in old) C (λ t. part_of t part_name) part read) h.0
+
+-- an event of another reason says nothing of a flash's size
+pub not_large : (form : Option Asked) (new : FlashState) (event : Event) → (event.reason ≡ why.TooLarge → ⊥) → IsMeasured form new (Err event)
+not_large form new event n = λ name a e. absurd (n (ap (λ (x : Event). x.reason) e))
+
+-- what is too large is the one that the event names
+same_large : (name other : List ℕ) (event : Event) → event ≡ too_large name → event ≡ too_large other → other ≡ name
+same_large name other event e f = let same : too_large other ≡ event = sym f in ap (λ (x : Event). x.concerned) (same ∙ e)
+
+-- events that aren't too_large
+pub no_memory_small : (form : Option Asked) (new : FlashState) (event : Event) → event ≡ no_memory → IsMeasured form new (Err event)
+no_memory_small form new event e = not_large form new event (λ r. let why : why.NoMemory ≡ why.TooLarge = sym (ap (λ (x : Event). x.reason) e) ∙ r in absurd (cc))
+
+missing_small : (form : Option Asked) (new : FlashState) (name : List ℕ) (event : Event) → event ≡ missing name → IsMeasured form new (Err event)
+missing_small form new name event e = not_large form new event (λ r. let why : why.Missing ≡ why.TooLarge = sym (ap (λ (x : Event). x.reason) e) ∙ r in absurd (cc))
+
+failed_small : (form : Option Asked) (new : FlashState) (name : List ℕ) (event : Event) → event ≡ read_fault name → IsMeasured form new (Err event)
+failed_small form new name event e = not_large form new event (λ r. let why : why.ReadFault ≡ why.TooLarge = sym (ap (λ (x : Event). x.reason) e) ∙ r in absurd (cc))
+
+pub bad_small : (form : Option Asked) (new : FlashState) (name : List ℕ) (fault : InputFault) (event : Event) → event ≡ bad_input name fault → IsMeasured form new (Err event)
+bad_small form new name fault event e = not_large form new event (λ r. let why : why.BadInput fault ≡ why.TooLarge = sym (ap (λ (x : Event). x.reason) e) ∙ r in absurd (cc))
+
+part_small : (form : Option Asked) (new : FlashState) (name : List ℕ) (fault : PartFault) (event : Event) → event ≡ bad_part name fault → IsMeasured form new (Err event)
+part_small form new name fault event e = not_large form new event (λ r. let why : why.BadPart fault ≡ why.TooLarge = sym (ap (λ (x : Event). x.reason) e) ∙ r in absurd (cc))
+
+-- an input of a form that is too large
+input_large : (form : Option Asked) (new : FlashState) (name : List ℕ) (event : Event) → Among (names_of form) name → event ≡ too_large name → IsMeasured form new (Err event)
+input_large form new name event a e = λ other f g. inr (subst (λ (n : List ℕ). Among (names_of form) n) (sym (same_large name other event e g)) a)
+
+pub unread_measured : (form : Option Asked) (new : FlashState) (name : List ℕ) (event : Event) → Among (names_of form) name → IsUnread name event → IsMeasured form new (Err event)
+unread_measured form new name event a (inl e) = no_memory_small form new event e
+unread_measured form new name event a (inr (inl e)) = missing_small form new name event e
+unread_measured form new name event a (inr (inr (inl e))) = failed_small form new name event e
+unread_measured form new name event a (inr (inr (inr e))) = input_large form new name event a e
+
+-- a boot whose part was not read
+pub no_part_measured : (form : Option Asked) (new : FlashState) (name : List ℕ) (event : Event) → Among (names_of form) name → IsNoPart name event → IsMeasured form new (Err event)
+no_part_measured form new name event a (inl h) = unread_measured form new name event a h
+no_part_measured form new name event a (inr h) = part_small form new name h.0 event h.1
+
+-- a flash that was not attached
+pub unattached_measured : (form : Option Asked) (name : List ℕ) (old new : FlashState) (event : Event) → IsUnattached name old new event → IsMeasured form new (Err event)
+unattached_measured form name old new event (inl h) = missing_small form new name event h.0
+unattached_measured form name old new event (inr h) = failed_small form new name event h.0
+
+-- a boot from a flash of this name
+pub boot_measured : (form : Option Asked) (name : List ℕ) (part : PartData) (old new : FlashState) (end : Result Answer Event) → FlashComes name part old new end → IsMeasured form new end
+boot_measured form name part old new (Ok answer) h = λ other a. h.1
+boot_measured form name part old new (Err event) (inl h) = no_memory_small form new event h
+boot_measured form name part old new (Err event) (inr (inl h)) = unattached_measured form name old new event h
+boot_measured form name part old new (Err event) (inr (inr h)) = λ other a e. inl h.1
 
 -- a part that was not read: by its cause, the boot ends with the same event, whatever its flash is
 boot_due_kept : (known : Option Known) (m : Mishap) (name part_name : List ℕ) (event : Event) → DueBy {A = PartData} known m (λ t r. part_of t part_name ≡ r) event → DueBy {A = Answer} known m (λ t end. Gives t (Booting part_name name) end) event

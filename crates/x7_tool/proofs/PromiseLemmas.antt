@@ -1,5 +1,5 @@
 -- What planned streams do, by what was known when they were written.
-use Rattle.std.proofs.Common.{◌≡◌, ◌∙◌, ◌<◌, ◌≤◌, ◌++◌, ℕ, List, ◌∷◌, length, map, reverse, drop, take, Bool, true, false, if◌then◌else◌, Option, Some, Result, Ok, Err, ap, arith, refl, subst, sym}
+use Rattle.std.proofs.Common.{◌≡◌, ◌∙◌, ◌<◌, ◌≤◌, ℕ, List, ◌∷◌, length, drop, take, Bool, true, false, if◌then◌else◌, Option, Some, Result, Ok, Err, ap, arith, refl, subst, sym}
 use Rattle.std.specs.Prelude.{Contains, nat_lt}
 use Rattle.std.proofs.lemmas.Bool.Decides.{nat_tests}
 use Rattle.std.proofs.lemmas.List.Sorted.{All-permutation}
@@ -17,9 +17,9 @@ use Rattle.x7_engine.specs.State.{reads_of, taken_of}
 use Rattle.x7_boot.specs.declared.boots.BootEnd.{BootEnd}
 use Rattle.x7_boot.specs.declared.boots.BootEnd.TheVariants as boot_end
 use Rattle.x7_boot.specs.Attempt.{Trial}
-use Rattle.x7_boot.specs.Boot.{LeadsToEnd, tried}
+use Rattle.x7_boot.specs.Boot.{LeadsToEnd}
 use Rattle.x7_boot.specs.Image.{flash_limit, image_of, image_size}
-use Rattle.x7_recovery.specs.ImageBoot.{FallsBack, HasImage, StartsUpdate, UpdateFails, golden_image}
+use Rattle.x7_recovery.specs.ImageBoot.{FallsBack, HasImage, StartsUpdate, UpdateFails, course_along, golden_image, image_with}
 use Rattle.x7_boot.proofs.CheckedLemmas.{attempt_checked, checked, last_checked}
 use Rattle.x7_recovery.proofs.FullTrialLemmas.{full_stream_fits}
 use Rattle.x7_recovery.proofs.ImageBootLemmas.{boot_falls_back, full_update_starts, update_falls_back}
@@ -29,11 +29,11 @@ use Rattle.x7_planner.specs.Full.{full_stream}
 use Rattle.x7_regs.specs.declared.boot_status.Cause.{Cause}
 use Rattle.x7_jtag.specs.declared.statement.Statement.{Statement}
 use Rattle.x7_jtag.specs.Play.{clocks_played, first_difference, port_played}
-use Rattle.x7_jtag.specs.Port.{Port, port_after, words_read}
+use Rattle.x7_jtag.specs.Port.{Port, words_read}
 use Rattle.x7_jtag.specs.Queue.{Sound}
 use Rattle.x7_jtag.specs.Shown.{bytes_taken}
 use Rattle.x7_jtag.proofs.QueueLemmas.{port-sound}
-use Rattle.x7_effects.specs.Played.{PlaysFull, PlaysPartial, PlaysRead}
+use Rattle.x7_effects.specs.Played.{PlaysFull, PlaysPartial, PlaysRead, resting_after}
 use Rattle.x7_effects.proofs.LawLemmas.{full_law, partial_law, read_law}
 use Rattle.x7_forms.specs.declared.bad_input.InputFault.TheVariants as input
 use Rattle.x7_forms.specs.Event.{Event, bad_input, too_many_reads}
@@ -82,7 +82,7 @@ full_promised known part frames (Ok texts) answer e p = record {
   planned = p.2;
   plays = λ kept bytes fits rests.
       let is : IsPart texts.part = part_is known part texts.part (texts_by (part_of known part) (whole_in known text_limit frames) texts e) in
-      subst (λ (stream : List ℕ). PlaysFull texts.part kept bytes stream p.1) (sym p.3)
+      subst (λ (stream : List ℕ). PlaysFull (resting_after texts.part kept bytes) stream p.1) (sym p.3)
       (full_law texts.part kept bytes p.1 fits rests is p.2.is p.2.width (All-permutation (λ row. Contains (addresses_in texts.part) row.far) p.2.rows p.1.rows p.2.same p.2.good.addresses));
 }
 
@@ -95,7 +95,7 @@ partial_promised known part frames (Ok texts) answer e p = record {
   planned = p.2;
   plays = λ kept bytes fits rests.
       let is : IsPart texts.part = part_is known part texts.part (texts_by (part_of known part) (whole_in known text_limit frames) texts e) in
-      subst (λ (stream : List ℕ). PlaysPartial texts.part kept bytes stream p.1) (sym p.4)
+      subst (λ (stream : List ℕ). PlaysPartial (resting_after texts.part kept bytes) stream p.1) (sym p.4)
       (partial_law texts.part kept bytes p.1 fits rests is p.2.is p.2.width (All-permutation (λ row. Contains (addresses_in texts.part) row.far) p.2.rows p.1.rows p.2.same p.2.good.addresses));
 }
 
@@ -105,7 +105,7 @@ read_promised known part far n (Ok device) answer e p = record {
   device = device;
   read = e;
   plays = λ kept bytes fits rests.
-      subst (λ (stream : List ℕ). PlaysRead device kept bytes stream far n) (sym p.2) (read_law device kept bytes far n fits rests (part_is known part device e) p.1);
+      subst (λ (stream : List ℕ). PlaysRead (resting_after device kept bytes) stream far n) (sym p.2) (read_law device kept bytes far n fits rests (part_is known part device e) p.1);
 }
 
 summary_promised : (known : Known) (part : List ℕ) (seed : ℕ) (read : Result PartData Event) (answer : Answer) → part_of known part ≡ read → and_so read (λ p. Ok (gen_answer p seed)) ≡ Ok answer → PromisesSummary known part seed answer.text
@@ -137,16 +137,16 @@ boots_told name part told flash answer e h fits =
 
 -- ---- from the image of a golden plan and an update
 
-falls_back_as : (part : PartData) (golden : PlanData) (update : List ℕ) (t : Trial) (cause : Cause) (answer : Answer) → HasImage part golden update → UpdateFails part golden update t cause false → IsBootText part (golden_image part golden update) answer
+falls_back_as : (part : PartData) (golden : PlanData) (update : List ℕ) (t : Trial) (cause : Cause) (answer : Answer) → HasImage part golden update → UpdateFails (image_with part golden update) t cause false → IsBootText part (golden_image part golden update) answer
     → FallsBackAs part golden update cause answer
 falls_back_as part golden update t cause answer image fails b =
-    let back : FallsBack part golden cause (reverse (map tried (b.last ∷ b.older))) b.end b.last = update_falls_back part golden update t cause b.last b.older b.end image fails b.leads in
+    let back : FallsBack part golden cause (course_along b.last b.older b.end) = update_falls_back part golden update t cause b.last b.older b.end image fails b.leads in
     record { boot = b; falls_back = back; started = b.stopped ∙ ap has_failed back.started }
 
 starts_update_as : (part : PartData) (golden update : PlanData) (answer : Answer) → HasImage part golden (full_stream part update) → IsPlanFor part update → IsBootText part (golden_image part golden (full_stream part update)) answer
     → StartsUpdateAs part golden update answer
 starts_update_as part golden update answer image for b =
-    let starts : StartsUpdate part golden update (reverse (map tried (b.last ∷ b.older))) b.end b.last = full_update_starts part golden update b.last b.older b.end image for b.leads in
+    let starts : StartsUpdate part golden update (course_along b.last b.older b.end) = full_update_starts part golden update b.last b.older b.end image for b.leads in
     record { boot = b; starts = starts; started = b.stopped ∙ ap has_failed starts.started }
 
 image_told : (known : Known) (name : List ℕ) (part : PartData) (golden : PlanData) (update : List ℕ) (answer : Answer) → FlashBoots name part (known.flash name) (Ok answer) → HoldsImage known name part golden update → IsBootText part (golden_image part golden update) answer

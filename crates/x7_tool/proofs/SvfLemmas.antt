@@ -14,7 +14,7 @@ use Rattle.x7_jtag.specs.declared.fault.SvfFault.TheVariants as svf
 use Rattle.x7_jtag.specs.declared.play.Differ.{Differ}
 use Rattle.x7_jtag.specs.declared.statement.Statement.{Statement}
 use Rattle.x7_jtag.specs.Play.{clocks_played, first_difference}
-use Rattle.x7_jtag.specs.PlayText.{play_text}
+use Rattle.x7_jtag.specs.PlayLine.{play_text}
 use Rattle.x7_jtag.specs.Port.{Port, port_after}
 use Rattle.x7_jtag.specs.Shown.{bytes_taken, fault_shown, memory_shown, state_shown}
 use Rattle.x7_jtag.specs.Svf.{IsSvfOf}

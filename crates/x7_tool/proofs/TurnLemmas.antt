@@ -1,6 +1,6 @@
 -- A listing that is written turn by turn.
-use Rattle.std.proofs.Common.{length-append, arith, inl, inr, ◌≡◌, ℕ, ◌+◌, ◌≤◌, ◌<◌, Bool, true, List, [], ◌∷◌, ◌++◌, false, Option, None, Some, Ok, Err, length, refl, ap, sym, subst, ◌∙◌, append_assoc, append-nil}
-use Rattle.x7_words.specs.Sink.{appended, PutsPrefix}
+use Rattle.std.proofs.Common.{length-append, arith, inl, inr, ◌≡◌, ℕ, ◌+◌, ◌≤◌, ◌<◌, Bool, true, List, [], ◌∷◌, ◌++◌, false, Option, None, Some, Ok, Err, length, refl, ap, sym, subst, ◌∙◌, append_assoc, append-nil, Result}
+use Rattle.x7_words.specs.Sink.{appended, PutsPrefix, SinkState, Tells}
 use Rattle.x7_words.specs.Word.{AreBytes}
 use Rattle.x7_words.proofs.SinkLemmas.{appended-appended, appended-nil, front_more}
 use Rattle.x7_packets.specs.ByHand.{reading_of}
@@ -15,6 +15,7 @@ use Rattle.x7_forms.specs.Step.{CameIn, step_over}
 use Rattle.x7_words.proofs.InputLemmas.{preceded-preceded}
 use Rattle.x7_forms.specs.Event.{Event, read_fault, too_large, write_fault}
 use Rattle.x7_forms.specs.Known.{Mishap, found, stream_limit, with_inputs}
+use Rattle.x7_tool.specs.Run.{ListsSoFar}
 use Rattle.x7_tool.specs.Turns.{Lists, ListsStream}
 use Rattle.x7_forms.specs.Turn.{IsAt, MayFollow, Unread}
 use Rattle.x7_tool.proofs.Causes.{Ended, PutsListed, broken, ends_same, faulted, oversized, unwritten}
@@ -82,6 +83,18 @@ end_part l done first mid now bytes text t ends same front =
     let whole : listing_of bytes ≡ t.given ++ (text ++ []) = sym (ap (λ x. t.given ++ x) (append-nil text ∙ same) ∙ f.listed ∙ listing_is bytes f.listing f.is) in
     rw whole (front_more first mid now t.given text [] t.put front)
 
+-- what a lister that was fed all of a stream's data lists
+pub whole_text : (l fed done : ListerState) (sent text : List ℕ) → ListerStandsFor l [] [] [] → ((given before taken : List ℕ) → ListerStandsFor l given before taken → ListerStandsFor fed given before (taken ++ sent))
+    → ((given before taken : List ℕ) → ListerStandsFor fed given before taken → Finished done given before taken) → text ≡ done.text → text ≡ listing_of sent
+whole_text l fed done sent text stands feeds ends same =
+    let f = ends [] [] sent (feeds [] [] [] stands) in
+    same ∙ f.listed ∙ listing_is sent f.listing f.is
+
+-- a text was put whole, or a prefix of it and the sink failed
+pub tells_prefix : (old new : SinkState) (text : List ℕ) → Tells old text new → PutsPrefix old.written text new.written
+tells_prefix old new text (inl all) = (text, ([], sym (append-nil text), all))
+tells_prefix old new text (inr some) = some.1
+
 -- bytes more were taken
 pub taken_more : (contents : Option (List ℕ → Option (List ℕ))) (name taken piece : List ℕ) (old new : Option (List ℕ)) → Selects contents name (preceded taken old) → old ≡ preceded piece new → Selects contents name (preceded (taken ++ piece) new)
 taken_more contents name taken piece old new s e =
@@ -108,10 +121,28 @@ begins_behind l old mid line stands clear e = record { given = []; stands = stan
 pub line_then : (first now : Option (List ℕ)) (line text : List ℕ) → now ≡ appended (appended first line) text → now ≡ appended first (line ++ text)
 line_then first now line text e = e ∙ appended-appended first line text
 
-pub stream_here : (l : ListerState) (first now : Option (List ℕ)) (bytes : List ℕ) → ListsStream l first now bytes → PutsListed bytes first now
-stream_here l first now bytes t =
-    let here = lists_here l (appended first t.line) now t.sent t.lists in
-    (t.line ++ listing_of t.sent, (stream_whole bytes t.line t.sent (t.goes []), line_front first now t.line (listing_of t.sent) here))
+-- the text that a stream has is one
+one_text : (all given : List ℕ) (r : Result (List ℕ) ℕ) → r ≡ Ok given → r ≡ Ok all → given ≡ all
+one_text all given r g e = let same : Ok given ≡ r = sym g in cc
+
+-- what was put is a prefix of the listing of every stream that begins with these bytes
+pub stream_so_far : (l : ListerState) (first now : Option (List ℕ)) (bytes : List ℕ) → ListsStream l first now bytes → ListsSoFar bytes first now
+stream_so_far l first now bytes t = record {
+  has = (t.line ++ listing_of t.sent, stream_whole bytes t.line t.sent (t.goes []));
+  goes = λ rest text fits e.
+      let sent : AreBytes (t.sent ++ rest) = all-append (λ b. b < 256) t.sent rest (stands_fit l t.lists.given t.sent t.lists.stands) fits in
+      let front = line_front first now t.line (listing_of (t.sent ++ rest)) (lists_front l (appended first t.line) now t.sent rest t.lists sent) in
+      subst (λ (x : List ℕ). PutsPrefix first x now) (one_text text (t.line ++ listing_of (t.sent ++ rest)) (stream_listing (bytes ++ rest)) (t.goes rest) e) front;
+}
+
+-- the same of what was put at the front of a stream that may go on
+pub front_so_far : (taken line sent : List ℕ) (old now : Option (List ℕ)) → AreBytes sent → ((left : List ℕ) → stream_listing (taken ++ left) ≡ Ok (line ++ listing_of (sent ++ left)))
+    → ((left : List ℕ) → AreBytes (sent ++ left) → PutsPrefix old (line ++ listing_of (sent ++ left)) now) → ListsSoFar taken old now
+front_so_far taken line sent old now fits g p = record {
+  has = (line ++ listing_of sent, stream_whole taken line sent (g []));
+  goes = λ rest text more e.
+      subst (λ (x : List ℕ). PutsPrefix old x now) (one_text text (line ++ listing_of (sent ++ rest)) (stream_listing (taken ++ rest)) (g rest) e) (p rest (all-append (λ b. b < 256) sent rest fits more));
+}
 
 -- a stream that goes on
 pub goes_on : (bytes piece line sent : List ℕ) → ((rest : List ℕ) → stream_listing (bytes ++ rest) ≡ Ok (line ++ listing_of (sent ++ rest))) → (rest : List ℕ) → stream_listing ((bytes ++ piece) ++ rest) ≡ Ok (line ++ listing_of ((sent ++ piece) ++ rest))
@@ -163,10 +194,10 @@ pub unread_end : (s m n : InputsState) (flash : Option (List ℕ)) (stream taken
 unread_end s m n flash stream taken l left Full old now event f sel a t k (inl h) q =
     let fault = at_fault s m n stream taken left f a h.1 q in
     ends_same (with_inputs s.contents flash) (CameIn (step_over (stream ∷ []) s n)) stream Full old now event (read_fault stream) h.0
-    (broken s.contents flash (CameIn (step_over (stream ∷ []) s n)) stream taken m.rest Full old now sel (faulted s n flash stream fault.0 (omega (arith, fault.1, k))) (stream_here l old now taken t))
+    (broken s.contents flash (CameIn (step_over (stream ∷ []) s n)) stream taken m.rest Full old now sel (faulted s n flash stream fault.0 (omega (arith, fault.1, k))) (stream_so_far l old now taken t))
 unread_end s m n flash stream taken l left Full old now event f sel a t k (inr h) q =
     let piece = h.1.0 in
     let over : stream_limit < length (taken ++ piece) = omega (arith, length-append taken piece, h.1.1.1, k) in
     ends_same (with_inputs s.contents flash) (CameIn (step_over (stream ∷ []) s n)) stream Full old now event (too_large stream) h.0
     (oversized s.contents flash (CameIn (step_over (stream ∷ []) s n)) stream (taken ++ piece) taken n.rest m.rest Full old now (taken_more s.contents stream taken piece m.rest n.rest sel h.1.1.0) sel
-    (λ more. (t.line ++ listing_of ((t.sent ++ piece) ++ more), goes_on taken piece t.line t.sent t.goes more)) over (stream_here l old now taken t))
+    (λ more. (t.line ++ listing_of ((t.sent ++ piece) ++ more), goes_on taken piece t.line t.sent t.goes more)) over (stream_so_far l old now taken t))

@@ -21,16 +21,16 @@ use Rattle.x7_forms.specs.declared.bad_input.InputFault.TheVariants as input
 use Rattle.x7_forms.specs.declared.refusal.Why.{Why}
 use Rattle.x7_forms.specs.declared.refusal.Why.TheVariants as why
 use Rattle.x7_forms.specs.Event.{Event, bad_input, cause_of, differs, no_memory, read_fault, status_of, too_large, write_fault}
-use Rattle.x7_forms.specs.Form.{Asked, UpdatingFlash}
+use Rattle.x7_forms.specs.Form.{Asked, UpdatingFlash, names_of}
 use Rattle.x7_forms.specs.Message.{text_status}
 use Rattle.x7_forms.specs.Known.{Absent, Answer, Failing, Found, Known, Lacking, Mishap, flash_found, mishap_event, spoiled, spoiled_name, with_inputs, with_mishap}
-use Rattle.x7_forms.specs.Step.{CameIn, DueBy, IsCaused, IsDecided, IsDue, IsPossible, step_over}
+use Rattle.x7_forms.specs.Step.{Among, CameIn, DueBy, IsCaused, IsDecided, IsDue, IsPossible, IsUnplayed, step_over}
 use Rattle.x7_forms.proofs.ReadLemmas.{name_is, outside_goes}
 use Rattle.x7_tool.specs.Leaving.{HasData, KeepsBytes, MayBeFound, UsesFlash}
 use Rattle.x7_tool.specs.Outcome.{CanTake, FlashUpdates, Gives, IsUpdateFault, UpdateNames, UpdatesBytes, UpdatesWith, no_text, stream_data, update_event}
 use Rattle.x7_tool.specs.Outside.{Came, Outside, known_in, sources}
-use Rattle.x7_tool.specs.Run.{Agrees, AnswersOver, EndsAs, IsUnopened}
-use Rattle.x7_tool.proofs.FlashLemmas.{came_wider, told_flash}
+use Rattle.x7_tool.specs.Run.{Agrees, AnswersOver, EndsAs, IsMeasured, IsUnopened}
+use Rattle.x7_tool.proofs.FlashLemmas.{bad_small, came_wider, not_large, told_flash, unattached_measured, unread_measured}
 use Rattle.x7_tool.proofs.RunLemmas.{has_cause, leaves_all, near_all, no_break}
 
 -- the names of an update
@@ -114,6 +114,25 @@ unread_due (Some t) bytes flash stream event same within h = (h.0, update_given 
 
 -- ---- how an update ends
 
+-- a flash that can't be used, by its size
+pub unopened_measured : (form : Option Asked) (name : List ℕ) (old new : FlashState) (event : Event) → IsUnopened name old new event → IsMeasured form new (Err event)
+unopened_measured form name old new event (inl h) = unattached_measured form name old new event h
+unopened_measured form name old new event (inr h) = λ other a e. inl h.1
+
+-- a stream that was not read says nothing of it
+pub unplayed_measured : (form : Option Asked) (new : FlashState) (name : List ℕ) (event : Event) → Among (names_of form) name → IsUnplayed name event → IsMeasured form new (Err event)
+unplayed_measured form new name event a (inl h) = unread_measured form new name event a h
+unplayed_measured form new name event a (inr h) = bad_small form new name (input.Byte h.0) event h.1
+
+-- nor does a fault of the update
+fault_measured : (form : Option Asked) (n : UpdateNames) (new : FlashState) (fault : UpdateFault) → IsMeasured form new (Err (update_event n fault))
+fault_measured form n new (Failed true) = not_large form new write_fault (λ r. absurd (cc))
+fault_measured form n new (Failed false) = not_large form new (read_fault n.flash) (λ r. absurd (cc))
+fault_measured form n new TooLong = not_large form new (bad_input n.stream input.Long) (λ r. absurd (cc))
+fault_measured form n new (NoLayout place) = not_large form new (bad_input n.flash (input.Layout place)) (λ r. absurd (cc))
+fault_measured form n new (Differs place wrote read) = not_large form new (differs n.flash place) (λ r. absurd (cc))
+fault_measured form n new NoMemory = not_large form new no_memory (λ r. absurd (cc))
+
 -- a flash that can't be used
 pub unopened_over : (flash stream : List ℕ) (old new : Outside) (event : Event) → IsUnopened flash old.flash new.flash event → AnswersOver (UpdatingFlash flash stream) old new (Err event)
 unopened_over flash stream old new event (inl (inl h)) =
@@ -121,7 +140,7 @@ unopened_over flash stream old new event (inl (inl h)) =
 unopened_over flash stream old new event (inl (inr h)) =
     subst (λ (e : Event). AnswersOver (UpdatingFlash flash stream) old new (Err e)) (sym h.0) (inl (inr (record { mishap = Failing flash new.inputs.given; came = (refl, inr h.1); is = refl; due = flash_due (known_in old) (Failing flash new.inputs.given) flash stream refl })))
 unopened_over flash stream old new event (inr h) =
-    subst (λ (e : Event). AnswersOver (UpdatingFlash flash stream) old new (Err e)) (sym h.0) (update_over flash stream old new (Err (too_large flash)) (tt, tt) (λ t e. inl (h.1, refl)))
+    subst (λ (e : Event). AnswersOver (UpdatingFlash flash stream) old new (Err e)) (sym h.0) (update_over flash stream old new (Err (too_large flash)) (tt, tt) (λ t e. inl (h.2, refl)))
 
 -- a stream that was not read
 pub unread_over : (flash stream : List ℕ) (old new : Outside) (event : Event) → IsWithin old.flash.bytes
@@ -143,14 +162,15 @@ keeps_all (why.Differs place) old new e = tt
 keeps_all reason old new e = e
 
 -- an update that was refused
-pub refused_ends : (flash stream : List ℕ) (old new : Outside) (event : Event) → new.out ≡ old.out → AnswersOver (UpdatingFlash flash stream) old new (Err event) → KeepsBytes event.reason old.flash new.flash
+pub refused_ends : (flash stream : List ℕ) (old new : Outside) (event : Event) → new.out ≡ old.out → IsMeasured (Some (UpdatingFlash flash stream)) new.flash (Err event) → AnswersOver (UpdatingFlash flash stream) old new (Err event) → KeepsBytes event.reason old.flash new.flash
     → EndsAs (Some (UpdatingFlash flash stream)) old new (Err event)
-refused_ends flash stream old new event out a kept =
+refused_ends flash stream old new event out m a kept =
     let form = UpdatingFlash flash stream in
     record {
       cause = has_cause form old new (Err event) a;
       wrote = leaves_all form (cause_of event) old new event refl (no_break (known_in old) (Came (Some form) old new) (λ t end. Gives t form end) event a) (out_same old new out);
       near = near_all form (status_of event) old new refl;
+      measured = m;
       updates = kept;
     }
 
@@ -188,15 +208,15 @@ cause_from bytes a b c NoMemory e w f h = tt
 pub fault_ends : (flash stream bytes : List ℕ) (old new : Outside) (fault : UpdateFault) → new.out ≡ old.out → IsTrue (new.flash.names flash) → IsWithin old.flash.bytes → HasData (known_in old) stream bytes
     → HasCause bytes old.flash new.flash fault → (IsEarly fault → new.flash.bytes ≡ old.flash.bytes) → EndsAs (Some (UpdatingFlash flash stream)) old new (Err (update_event (names flash stream) fault))
 fault_ends flash stream bytes old new (Failed true) out asked within has h early =
-    record { cause = (refl, inr h); wrote = out_same old new out; near = near_all (UpdatingFlash flash stream) (status_of write_fault) old new refl; updates = tt }
+    record { cause = (refl, inr h); wrote = out_same old new out; near = near_all (UpdatingFlash flash stream) (status_of write_fault) old new refl; measured = fault_measured (Some (UpdatingFlash flash stream)) (names flash stream) new.flash (Failed true); updates = tt }
 fault_ends flash stream bytes old new (Failed false) out asked within has h early =
-    refused_ends flash stream old new (read_fault flash) out
+    refused_ends flash stream old new (read_fault flash) out (fault_measured (Some (UpdatingFlash flash stream)) (names flash stream) new.flash (Failed false))
     (inl (inr (record { mishap = Failing flash new.inputs.given; came = (refl, inr (record { among = inl refl; asked = asked; risen = h })); is = refl; due = flash_due (known_in old) (Failing flash new.inputs.given) flash stream refl }))) (inl h)
 fault_ends flash stream bytes old new TooLong out asked within has h early =
-    refused_ends flash stream old new (bad_input stream input.Long) out
+    refused_ends flash stream old new (bad_input stream input.Long) out (fault_measured (Some (UpdatingFlash flash stream)) (names flash stream) new.flash TooLong)
     (update_over flash stream old new (Err (bad_input stream input.Long)) (tt, tt) (λ t e. fault_told (names flash stream) old.flash.bytes (stream_data t stream) bytes TooLong within (data_at (known_in old) stream bytes has t e) h)) (early tt)
 fault_ends flash stream bytes old new (NoLayout place) out asked within has h early =
-    refused_ends flash stream old new (bad_input flash (input.Layout place)) out
+    refused_ends flash stream old new (bad_input flash (input.Layout place)) out (fault_measured (Some (UpdatingFlash flash stream)) (names flash stream) new.flash (NoLayout place))
     (update_over flash stream old new (Err (bad_input flash (input.Layout place))) (tt, tt)
     (λ t e. fault_told (names flash stream) old.flash.bytes (stream_data t stream) bytes (NoLayout place) within (data_at (known_in old) stream bytes has t e) h)) (early tt)
 fault_ends flash stream bytes old new (Differs place wrote read) out asked within has h early = record {
@@ -207,18 +227,19 @@ fault_ends flash stream bytes old new (Differs place wrote read) out asked withi
   );
   wrote = out_same old new out;
   near = near_all (UpdatingFlash flash stream) (status_of (differs flash place)) old new refl;
+  measured = fault_measured (Some (UpdatingFlash flash stream)) (names flash stream) new.flash (Differs place wrote read);
   updates = tt;
 }
-fault_ends flash stream bytes old new NoMemory out asked within has h early = refused_ends flash stream old new no_memory out (inl (inl refl)) (early tt)
+fault_ends flash stream bytes old new NoMemory out asked within has h early = refused_ends flash stream old new no_memory out (fault_measured (Some (UpdatingFlash flash stream)) (names flash stream) new.flash NoMemory) (inl (inl refl)) (early tt)
 
 can_take : (told now : Option (List ℕ)) (bytes : List ℕ) → IfKnown told HasLayout → BecomesBytes (IsAfter bytes) told now → IfKnown told (CanTake bytes)
 can_take None now bytes l b = tt
 can_take (Some all) now bytes l b = record { layout = l; fits = b.2.fits }
 
 -- an update that is done
-pub done_ends : (flash stream bytes : List ℕ) (old new : Outside) → new.out ≡ old.out → IsWithin old.flash.bytes → HasData (known_in old) stream bytes → IfKnown old.flash.bytes HasLayout → Becomes old.flash new.flash (IsAfter bytes)
+pub done_ends : (flash stream bytes : List ℕ) (old new : Outside) → new.out ≡ old.out → IsWithin old.flash.bytes → HasData (known_in old) stream bytes → IfKnown old.flash.bytes HasLayout → new.flash.extent ≤ flash_limit → Becomes old.flash new.flash (IsAfter bytes)
     → EndsAs (Some (UpdatingFlash flash stream)) old new (Ok false)
-done_ends flash stream bytes old new out within has layout becomes =
+done_ends flash stream bytes old new out within has layout size becomes =
     let told = old.flash.bytes in
     let n = names flash stream in (
       [],
@@ -227,6 +248,7 @@ done_ends flash stream bytes old new out within has layout becomes =
             (λ t e. inr (within, subst (λ (r : Result (List ℕ) Event). UpdatesWith n told r (Ok no_text)) (sym (data_at (known_in old) stream bytes has t e)) (refl, can_take told new.flash.bytes bytes layout becomes)));
         wrote = out_same old new out ∙ sym (appended-nil old.out.written);
         near = near_all (UpdatingFlash flash stream) (text_status false) old new refl;
+        measured = λ name a. size;
         updates = (bytes, has, becomes);
       },
     )

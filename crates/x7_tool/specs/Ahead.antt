@@ -24,13 +24,13 @@ IsSoon stream old new =
     (inputs : List ℕ → Option (List ℕ)) (bytes left : List ℕ) (place : ℕ) → old.inputs.contents ≡ Some inputs → inputs stream ≡ Some bytes → new.inputs.rest ≡ Some left → stream_listing bytes ≡ Err place
     → length bytes ≤ length left + (place + 1)
 
--- where the stream is told as bytes, and its header is refused at one that it has, that byte was not given
+-- where the stream is known and made of bytes, and its header is refused at one that it has, no more are counted as given than stand before that one
 abbrev pub IsUnjudged : List ℕ → Outside → Outside → Type 0
 IsUnjudged stream old new =
     (inputs : List ℕ → Option (List ℕ)) (bytes : List ℕ) (place : ℕ) → old.inputs.contents ≡ Some inputs → inputs stream ≡ Some bytes → AreBytes bytes → stream_listing bytes ≡ Err place → place < length bytes
     → new.inputs.given ≤ place
 
--- where the sink failed, or the header of a stream was refused, no more of it was read; and a fault comes before a header's refusal only where it came first
+-- by the status: the sink failed and few bytes more were read than it got; a header was refused and none was read behind that byte; a fault came and the byte at which the header would be refused was not given
 abbrev pub StaysNearBy : Status → List ℕ → Outside → Outside → Type 0
 StaysNearBy status.WriteFault stream old new = IsNear stream old new
 StaysNearBy status.BadInput stream old new = IsSoon stream old new

@@ -19,7 +19,7 @@ abbrev pub HasData : Option Known → List ℕ → List ℕ → Type 0
 HasData None stream bytes = Unit {0}
 HasData (Some known) stream bytes = stream_data known stream ≡ Ok bytes
 
--- What may be found of a flash: what it held, or what an update with the data of a stream leaves. Only a form with a stream for it writes a flash.
+-- What may be found of a flash: what it held; or, of a form with a stream for it, what an update may leave with the stream's data, or with some bytes where the contents aren't known.
 abbrev pub MayBeFound : Option Known → Option (List ℕ) → List ℕ → List ℕ → Type 0
 MayBeFound known None flash found = found ≡ flash
 MayBeFound known (Some stream) flash found = (found ≡ flash) ⊎ ((bytes : List ℕ) × HasData known stream bytes × MayBeLeft bytes flash found)
@@ -43,7 +43,7 @@ pub record IsUpdateOf (form : Option Asked) (old : Sources) (u : Updating) : Typ
   pub bytes : old.flash.bytes ≡ Some u.flash
   pub prepared : IsPrepared u
 
--- each boot of what a run leaves of the flash that it updates is that of the flash before it, or starts with the golden stream, or is that of the updated flash
+-- where a run is such an update and these bytes are found, each boot from them is that of the flash before it, or starts with the golden stream, or is that of the updated flash
 abbrev pub EachBoots : Option Asked → Sources → List ℕ → Type 0
 EachBoots form old found = (u : Updating) (b : BootedState) → IsUpdateOf form old u → AreBytes found → IsBoot u.part found b → BootsAs u found b
 

@@ -5,7 +5,7 @@ use Rattle.x7_jtag.specs.declared.fault.SvfFault.TheVariants as svf
 use Rattle.x7_jtag.specs.declared.play.Differ.{Differ}
 use Rattle.x7_jtag.specs.declared.statement.Statement.{Statement}
 use Rattle.x7_jtag.specs.Play.{first_difference, port_played}
-use Rattle.x7_jtag.specs.PlayText.{play_text}
+use Rattle.x7_jtag.specs.PlayLine.{play_text}
 use Rattle.x7_jtag.specs.Port.{Port}
 use Rattle.x7_jtag.specs.Shown.{fault_shown, memory_shown, state_shown}
 use Rattle.x7_jtag.specs.Svf.{IsSvfOf}
@@ -29,7 +29,7 @@ use Rattle.x7_update.specs.Refused.{IsTooLong, NoLayoutAt}
 use Rattle.x7_update.specs.declared.fault.UpdateFault.{UpdateFault}
 use Rattle.x7_update.specs.declared.fault.UpdateFault.TheVariants as update_fault
 use Rattle.x7_engine.specs.Kept.{on_the_bench}
-use Rattle.x7_engine.specs.State.{line_by, stop_in}
+use Rattle.x7_engine.specs.State.{why_of, stop_in}
 use Rattle.x7_engine.specs.Stops.{fault_of}
 use Rattle.x7_mcs.specs.declared.fault.McsFault.{McsFault}
 use Rattle.x7_mcs.specs.declared.fault.McsFault.TheVariants as mcs
@@ -202,7 +202,7 @@ script_event name script.NoMemory = no_memory
 -- what a script shows of a stream, and whether the device has a fault at the script's last position
 abbrev pub shown_of : PartData → List ℕ → List Order → Answer
 shown_of part stream orders = record {
-  stopped = is_some (fault_of (line_by (stop_in part on_the_bench (take (final_position part stream orders) stream))));
+  stopped = is_some (fault_of (why_of (stop_in part on_the_bench (take (final_position part stream orders) stream))));
   text = transcript_of part stream orders;
 }
 

@@ -1,5 +1,5 @@
 -- What a planned stream that was written does on a device at rest, and what a boot that started has been through (this project's choice).
-use Rattle.std.specs.Prelude.{◌≡◌, ◌<◌, ℕ, List, [], ◌∷◌, map, reverse, false, Option, Some, Result, Ok}
+use Rattle.std.specs.Prelude.{◌≡◌, ◌<◌, ℕ, List, [], false, Option, Some, Result, Ok}
 use Rattle.x7_words.specs.Word.{AreBytes}
 use Rattle.x7_part.specs.Part.{PartData}
 use Rattle.x7_part.specs.PartRange.{IsPart}
@@ -12,14 +12,14 @@ use Rattle.x7_engine.specs.Rest.{AtRest}
 use Rattle.x7_regs.specs.declared.boot_status.Cause.{Cause}
 use Rattle.x7_planner.specs.Full.{full_stream}
 use Rattle.x7_boot.specs.Attempt.{Trial}
-use Rattle.x7_boot.specs.Boot.{BootedState, IsBoot, end_state, tried}
+use Rattle.x7_boot.specs.Boot.{BootedState, IsBoot, end_state}
 use Rattle.x7_boot.specs.Checked.{HasChecked}
-use Rattle.x7_recovery.specs.ImageBoot.{FallsBack, HasImage, StartsUpdate, UpdateFails, golden_image}
+use Rattle.x7_recovery.specs.ImageBoot.{FallsBack, HasImage, StartsUpdate, UpdateFails, course_along, course_of, golden_image, image_with}
 use Rattle.x7_jtag.specs.declared.statement.Statement.{Statement}
 use Rattle.x7_jtag.specs.Play.{port_played}
 use Rattle.x7_jtag.specs.Shown.{bytes_taken, state_shown}
 use Rattle.x7_jtag.specs.Svf.{IsSvfOf}
-use Rattle.x7_effects.specs.Played.{PlaysFull, PlaysPartial, PlaysRead}
+use Rattle.x7_effects.specs.Played.{PlaysFull, PlaysPartial, PlaysRead, resting_after}
 use Rattle.x7_forms.specs.Event.{Event}
 use Rattle.x7_tool.specs.Generated.{generated, planned_summary}
 use Rattle.x7_forms.specs.Form.{Asked, Booting, Generating, Imaging, ImagingFor, PlanningFull, PlanningPartial, PlanningRead, Playing, PlayingSvf}
@@ -33,7 +33,7 @@ pub record PromisesFull (known : Known) (part frames stream : List ℕ) : Type 0
   pub plan : PlanData
   pub read : plan_texts known part frames ≡ Ok texts
   pub planned : IsPlanOf texts.part texts.text (Ok plan)
-  pub plays : (kept : Kept) (bytes : List ℕ) → AreBytes bytes → AtRest texts.part kept bytes → PlaysFull texts.part kept bytes stream plan
+  pub plays : (kept : Kept) (bytes : List ℕ) → AreBytes bytes → AtRest texts.part kept bytes → PlaysFull (resting_after texts.part kept bytes) stream plan
 
 -- The stream of `plan partial`: after any bytes at rest it overrides just the frames of the plan of the frames text; the phase stays, and the device is at rest again.
 pub record PromisesPartial (known : Known) (part frames stream : List ℕ) : Type 0 where
@@ -41,19 +41,19 @@ pub record PromisesPartial (known : Known) (part frames stream : List ℕ) : Typ
   pub plan : PlanData
   pub read : plan_texts known part frames ≡ Ok texts
   pub planned : IsPlanOf texts.part texts.text (Ok plan)
-  pub plays : (kept : Kept) (bytes : List ℕ) → AreBytes bytes → AtRest texts.part kept bytes → PlaysPartial texts.part kept bytes stream plan
+  pub plays : (kept : Kept) (bytes : List ℕ) → AreBytes bytes → AtRest texts.part kept bytes → PlaysPartial (resting_after texts.part kept bytes) stream plan
 
 -- The stream of `plan read`: after any bytes at rest it reads out a frame of zeros and the frames along the slots; memory and phase stay, and the device is at rest again.
 pub record PromisesRead (known : Known) (part : List ℕ) (far n : ℕ) (stream : List ℕ) : Type 0 where
   pub device : PartData
   pub read : part_of known part ≡ Ok device
-  pub plays : (kept : Kept) (bytes : List ℕ) → AreBytes bytes → AtRest device kept bytes → PlaysRead device kept bytes stream far n
+  pub plays : (kept : Kept) (bytes : List ℕ) → AreBytes bytes → AtRest device kept bytes → PlaysRead (resting_after device kept bytes) stream far n
 
 -- The text of `gen`: the full stream of the seed's plan, played on a new device, leaves the plan over zeros and ends startup, and the summary is that of such a play.
 pub record PromisesSummary (known : Known) (part : List ℕ) (seed : ℕ) (text : List ℕ) : Type 0 where
   pub device : PartData
   pub read : part_of known part ≡ Ok device
-  pub plays : PlaysFull device on_the_bench [] (full_stream device (generated device seed)) (generated device seed)
+  pub plays : PlaysFull (resting_after device on_the_bench []) (full_stream device (generated device seed)) (generated device seed)
   pub played : text ≡ planned_summary device seed
 
 -- The report of `play`: it is that of the streams' data, and startup has begun only where these made their checks.
@@ -78,7 +78,7 @@ pub record PromisesPort (known : Known) (part text : List ℕ) (answer : Answer)
 abbrev pub FailedUpdateFallsBack : PartData → ImageStreams → List ℕ → Type 0
 FailedUpdateFallsBack device s image =
     (plan : PlanData) (b : BootedState) (t : Trial) (cause : Cause) → s.golden ≡ full_stream device plan → IsPlanFor device plan → (is : IsBoot device image b)
-    → UpdateFails device plan s.update t cause false → FallsBack device plan cause b.attempts b.end is.last
+    → UpdateFails (image_with device plan s.update) t cause false → FallsBack device plan cause (course_of b is.last)
 
 -- The bytes of `image GOLDEN UPDATE`: a boot of any part whose start address counts bytes falls back where the update fails.
 pub record PromisesImage (known : Known) (golden update image : List ℕ) : Type 0 where
@@ -109,13 +109,13 @@ pub record HoldsImage (known : Known) (flash : List ℕ) (part : PartData) (gold
 -- a boot from the image of a golden plan and an update falls back to the golden stream and starts, with the memory of its plan and this cause in BOOTSTS
 pub record FallsBackAs (part : PartData) (golden : PlanData) (update : List ℕ) (cause : Cause) (answer : Answer) : Type 0 where
   pub boot : IsBootText part (golden_image part golden update) answer
-  pub falls_back : FallsBack part golden cause (reverse (map tried (boot.last ∷ boot.older))) boot.end boot.last
+  pub falls_back : FallsBack part golden cause (course_along boot.last boot.older boot.end)
   pub started : answer.stopped ≡ false
 
 -- a boot from the image of a golden plan and an update that is a full stream starts with the update, with the memory of its plan
 pub record StartsUpdateAs (part : PartData) (golden update : PlanData) (answer : Answer) : Type 0 where
   pub boot : IsBootText part (golden_image part golden (full_stream part update)) answer
-  pub starts : StartsUpdate part golden update (reverse (map tried (boot.last ∷ boot.older))) boot.end boot.last
+  pub starts : StartsUpdate part golden update (course_along boot.last boot.older boot.end)
   pub started : answer.stopped ≡ false
 
 -- The text of `boot`: over a flash whose bytes are known startup has begun in the last attempt only where that made its checks. Over an image whose update fails it tells of the fallback and its start, where CTL0 allows that, and of the start of an update that is a full stream.
@@ -123,7 +123,7 @@ pub record PromisesStart (known : Known) (part flash : List ℕ) (answer : Answe
   pub device : PartData
   pub read : part_of known part ≡ Ok device
   pub starts : (all : List ℕ) → known.flash flash ≡ Some (Held all) → AreBytes all → StartsChecked device all answer
-  pub falls_back : (golden : PlanData) (update : List ℕ) (t : Trial) (cause : Cause) → HoldsImage known flash device golden update → UpdateFails device golden update t cause false → FallsBackAs device golden update cause answer
+  pub falls_back : (golden : PlanData) (update : List ℕ) (t : Trial) (cause : Cause) → HoldsImage known flash device golden update → UpdateFails (image_with device golden update) t cause false → FallsBackAs device golden update cause answer
   pub full : (golden update : PlanData) → HoldsImage known flash device golden (full_stream device update) → IsPlanFor device update → StartsUpdateAs device golden update answer
 
 -- what a whole text of a form promises over what is known

@@ -1,20 +1,20 @@
 -- What may end a command, and what its output holds then (this project's choice).
-use Rattle.std.specs.Prelude.{◌≡◌, ◌<◌, ℕ, List, [], ◌∷◌, ◌++◌, length, Option, None, Some, Result, Ok, Err, Bool, ◌⊎◌}
+use Rattle.std.specs.Prelude.{◌≡◌, ◌<◌, ◌≤◌, ℕ, List, [], ◌∷◌, ◌++◌, length, Option, None, Some, Result, Ok, Err, Bool, ◌⊎◌}
 use Rattle.x7_words.specs.Flash.{FlashState, IfKnown}
 use Rattle.x7_words.specs.Input.{InputsState}
 use Rattle.x7_boot.specs.Image.{flash_limit}
-use Rattle.x7_words.specs.Sink.{PutsAll, PutsSome, SinkFails, SinkState, Tells}
+use Rattle.x7_words.specs.Sink.{PutsAll, PutsPrefix, PutsSome, SinkFails, SinkState, Tells}
 use Rattle.x7_words.specs.Word.{AreBytes}
 use Rattle.x7_listing.specs.StreamListing.{stream_listing}
 use Rattle.x7_forms.specs.declared.refusal.Refusal.{Refusal}
 use Rattle.x7_forms.specs.declared.refusal.Why.{Why}
 use Rattle.x7_forms.specs.declared.refusal.Why.TheVariants as why
 use Rattle.x7_forms.specs.Event.{Event, Cause, Wording, Want, Fault, Absence, Break, Contents, Difference, cause_of, differs, line_of, missing, no_memory, read_fault, too_large, usage, write_fault}
-use Rattle.x7_forms.specs.Form.{Asked, FlashUse, Listing, Updated, flash_use, listed_by, names_of, updated_by}
+use Rattle.x7_forms.specs.Form.{Asked, FlashUse, Listing, Updated, flash_names, flash_use, listed_by, names_of, updated_by}
 use Rattle.x7_forms.specs.Known.{Answer, Held, Known, bytes_found, flash_found}
 use Rattle.x7_part.specs.Part.{PartData}
 use Rattle.x7_forms.specs.Message.{final_status}
-use Rattle.x7_forms.specs.Step.{AnswersBy, IsCausedBy, IsOfMishap, seen, step_over}
+use Rattle.x7_forms.specs.Step.{Among, AnswersBy, IsCausedBy, IsOfMishap, seen, step_over}
 use Rattle.x7_tool.specs.Ahead.{StaysNear}
 use Rattle.x7_tool.specs.Outcome.{FlashBoots, Gives}
 use Rattle.x7_tool.specs.Leaving.{Updates}
@@ -68,9 +68,14 @@ IsPrefixOf (Some known) name bytes = (rest : List ℕ) × (bytes_found (known.in
 abbrev pub PutsListing : List ℕ → SinkState → SinkState → Type 0
 PutsListing bytes old new = (text : List ℕ) × ((stream_listing bytes ≡ Ok text) × PutsSome old text new)
 
--- the output got a prefix of the listing of bytes that are a prefix of the stream
+-- These bytes have a listing, and what was put is a prefix of the listing of every list of bytes that begins with them and has one.
+pub record ListsSoFar (bytes : List ℕ) (old new : Option (List ℕ)) : Type 0 where
+  pub has : (text : List ℕ) × (stream_listing bytes ≡ Ok text)
+  pub goes : (rest text : List ℕ) → AreBytes rest → stream_listing (bytes ++ rest) ≡ Ok text → PutsPrefix old text new
+
+-- the output got a prefix of the listing of bytes that are a prefix of the stream, and of whatever may follow them
 abbrev pub ListsPrefix : List ℕ → Outside → Outside → Type 0
-ListsPrefix stream old new = (bytes : List ℕ) × (IsPrefixOf (known_in old) stream bytes × PutsListing bytes old.out new.out)
+ListsPrefix stream old new = (bytes : List ℕ) × (IsPrefixOf (known_in old) stream bytes × ListsSoFar bytes old.out.written new.out.written)
 
 -- what `list` wrote where a reason ended it: what it had listed as it read, or nothing where the reason comes before the listing
 abbrev pub ListLeaves : Why → List ℕ → Outside → Outside → Type 0
@@ -117,13 +122,21 @@ abbrev pub Wrote : Option Asked → Outside → Outside → Result Answer Event 
 Wrote form old new (Ok answer) = PutsAll old.out answer.text new.out
 Wrote form old new (Err event) = LeftBy (cause_of event) form old new event
 
+-- ---- how large a flash is
+
+-- by the number of its bytes, known or not: the flash of a form is within the limit where the form's text is whole, and over it where it is too large, if no input of its name is that
+abbrev pub IsMeasured : Option Asked → FlashState → Result Answer Event → Type 0
+IsMeasured form new (Ok answer) = (name : List ℕ) → Among (flash_names form) name → new.extent ≤ flash_limit
+IsMeasured form new (Err event) = (name : List ℕ) → Among (flash_names form) name → event ≡ too_large name → (flash_limit < new.extent) ⊎ Among (names_of form) name
+
 -- ---- the end of a command
 
--- how a command ended: why, what the output got, how far was read, and what an update left
+-- how a command ended: why, what the output got, how far was read, how large the flash is, and what an update left
 pub record Ends (form : Option Asked) (old new : Outside) (end : Result Answer Event) : Type 0 where
   pub cause : EndIsCaused form old new end
   pub wrote : Wrote form old new end
   pub near : StaysNear (final_status end) form old new
+  pub measured : IsMeasured form new.flash end
   pub updates : Updates (updated_by form) old new end
 
 -- the same by whether what it wrote reports a fault
@@ -172,9 +185,9 @@ IsUnattached name old new event = ((event ≡ missing name) × FlashLacksAmong (
 
 -- a flash can't be used: it was not attached, or it is larger than a flash may be
 abbrev pub IsUnopened : List ℕ → FlashState → FlashState → Event → Type 0
-IsUnopened name old new event = IsUnattached name old new event ⊎ ((event ≡ too_large name) × IfKnown old.bytes (λ all. flash_limit < length all))
+IsUnopened name old new event = IsUnattached name old new event ⊎ ((event ≡ too_large name) × (flash_limit < new.extent) × IfKnown old.bytes (λ all. flash_limit < length all))
 
--- what a boot from a flash of this name comes to: want of memory, a flash that was not attached or failed, or what its bytes give
+-- what a boot from a flash of this name comes to: want of memory, a flash that was not attached or failed, or what its bytes give, by their number
 abbrev pub FlashComes : List ℕ → PartData → FlashState → FlashState → Result Answer Event → Type 0
-FlashComes name part old new (Ok answer) = FlashBoots name part (flash_found old.bytes) (Ok answer)
-FlashComes name part old new (Err event) = (event ≡ no_memory) ⊎ (IsUnattached name old new event ⊎ FlashBoots name part (flash_found old.bytes) (Err event))
+FlashComes name part old new (Ok answer) = FlashBoots name part (flash_found old.bytes) (Ok answer) × (new.extent ≤ flash_limit)
+FlashComes name part old new (Err event) = (event ≡ no_memory) ⊎ (IsUnattached name old new event ⊎ (FlashBoots name part (flash_found old.bytes) (Err event) × (flash_limit < new.extent)))

@@ -1,5 +1,6 @@
 -- What a run comes to: how it ended and why, its status, and what the outside holds then (this project's choice).
 use Rattle.std.specs.Prelude.{◌≡◌, ◌≤◌, ℕ, length, List, Option, None, Some, ◌⊎◌, Bool, true, false, Result, Ok, Err}
+use Rattle.x7_words.specs.Input.{Stays}
 use Rattle.x7_words.specs.Word.{AreBytes}
 use Rattle.x7_listing.specs.StreamListing.{stream_listing}
 use Rattle.x7_mcs.specs.Text.{mcs_text}
@@ -15,7 +16,7 @@ use Rattle.x7_tool.specs.Leaving.{Updates}
 use Rattle.x7_tool.specs.Outcome.{IsOutcome}
 use Rattle.x7_tool.specs.Outside.{IsQuiet, KeepsFlash, Outside, known_in}
 use Rattle.x7_tool.specs.Promise.{Promise}
-use Rattle.x7_tool.specs.Run.{EndIsCaused, Ends, Says, Wrote}
+use Rattle.x7_tool.specs.Run.{EndIsCaused, Ends, IsMeasured, Says, Wrote}
 
 -- an input has this text
 abbrev pub HasText : Outside → List ℕ → List ℕ → Type 0
@@ -55,7 +56,7 @@ pub record Runs (form : Option Asked) (old new : Outside) (s : Status) : Type 0 
   pub wrote : Wrote form old new end
   -- messages got nothing after a whole text, and else the event's one line, or a prefix of it where they failed
   pub said : Says old.err new.err end
-  -- where the output failed, or a header was refused, no more was read
+  -- by the status: how far a stream that is listed was read where the output failed, its header was refused or a fault came
   pub near : StaysNear s form old new
   -- where all that the form needs is known and nothing failed, the end is the outcome, or want of memory
   pub outcome : (known : Known) → known_in old ≡ Some known → IsQuiet form old new → (s ≡ status.NoMemory) ⊎ IsOutcome known form end
@@ -65,6 +66,10 @@ pub record Runs (form : Option Asked) (old new : Outside) (s : Status) : Type 0 
   pub back : Back form old new s end
   -- a planned stream that was written does on a device at rest what was planned
   pub promise : Promise (known_in old) form end
+  -- the flash of the form is within the limit after a whole text, and over it where it is too large, whether its bytes are known or not
+  pub measured : IsMeasured form new.flash end
+  -- every input keeps its bytes, and no count of theirs falls
+  pub stays : Stays old.inputs new.inputs
   -- the flash is untouched, read or written as the form says, and was asked for no name but the form's
   pub flash : KeepsFlash (flash_use form) old.flash new.flash
   -- an update that is done left the flash as it is after one; one that isn't left its bytes, but where a write or a read of the flash failed, or a byte differs

@@ -1,5 +1,6 @@
 //! The command `asm`.
 ghost use Rattle.std.specs.Prelude.{◌≡◌, ℕ, ◌+◌, ◌^◌, ◌<◌, ◌≤◌, List, [], ◌∷◌, ◌++◌, length, Option, Ok, Err, IfOk, IfErr};
+ghost use Rattle.x7_words.specs.Input.{Stays};
 ghost use Rattle.x7_listing.specs.Assembling.{AssemblerStandsFor};
 ghost use Rattle.x7_forms.specs.Message.{event_of};
 ghost use Rattle.x7_tool.specs.Outcome.{asm_event, text_limit};
@@ -52,6 +53,7 @@ fn feed_whole<'w, I: Inputs>(
     requires new { AssemblerStandsFor assembler.old [] }
     ensures ok { IfOk result (λ found. (text : List ℕ) × (length text ≤ text_limit) × IsFed found assembler.new text × ReadsWhole (I.state inputs.old) (I.state inputs.new) text_limit name.now (Ok text)) }
     ensures err { IfErr result (λ r. ReadsWhole (I.state inputs.old) (I.state inputs.new) text_limit name.now (Err (event_of r))) }
+    ensures inputs { Stays (I.state inputs.old) (I.state inputs.new) }
 {
     match open(inputs, name) {
         Ok(()) => (),
@@ -79,7 +81,8 @@ pub(crate) fn asm<'w, I: Inputs>(
     inputs: &mut I,
     name: &'w str,
 ) -> Result<Text, Refusal<'w>>
-    ensures { AnswersForm (Assembling name.now) (I.state inputs.old) (I.state inputs.new) (seen whole_of result) }
+    ensures due { AnswersForm (Assembling name.now) (I.state inputs.old) (I.state inputs.new) (seen whole_of result) }
+    ensures inputs { Stays (I.state inputs.old) (I.state inputs.new) }
 {
     let mut assembler = Assembler::new(alloc);
     let found = match feed_whole(inputs, name, &mut assembler) {

@@ -35,6 +35,7 @@ pub(crate) fn attach<'w, F: Flash>(flash: &mut F, name: &'w str) -> Result<(), R
 pub(crate) fn open_flash<'w, F: Flash>(flash: &mut F, name: &'w str) -> Result<(), Refusal<'w>>
     ensures attached { OnOk result ((F.state flash.new).attached ≡ true) }
     ensures within { OnOk result (IfKnown (F.state flash.new).bytes (λ all. length all ≤ flash_limit)) }
+    ensures size { OnOk result ((F.state flash.new).extent ≤ flash_limit) }
     ensures err { IfErr result (λ r. IsUnopened name.now (F.state flash.old) (F.state flash.new) (event_of r)) }
     ensures stays { FlashStays (F.state flash.old) (F.state flash.new) (F.found_since flash.old) (F.found_since flash.new) }
     ensures asks { AsksFor (F.state flash.old) name.now (F.state flash.new) }

@@ -1,5 +1,6 @@
 //! The command `debug`.
 ghost use Rattle.std.specs.Prelude.{◌≡◌, ◌⊎◌, ◌≤◌, ℕ, [], ◌∷◌, Ok, Err, IfErr, IfOk};
+ghost use Rattle.x7_words.specs.Input.{Stays};
 ghost use Rattle.x7_debug.specs.Script.{IsScriptOf};
 ghost use Rattle.x7_debug.specs.declared.fault.ScriptFault.{ScriptFault as FaultData};
 ghost use Rattle.x7_tool.specs.Debug.{given_of};
@@ -51,8 +52,9 @@ fn read_given<'w, I: Inputs>(
     stream: &'w str,
     script: &'w str,
 ) -> Result<Given, Refusal<'w>>
-    ensures { AnswersAs (step_over (part.now ∷ stream.now ∷ script.now ∷ []) (I.state inputs.old) (I.state inputs.new))
+    ensures due { AnswersAs (step_over (part.now ∷ stream.now ∷ script.now ∷ []) (I.state inputs.old) (I.state inputs.new))
         (λ known. debug_inputs known part.now stream.now script.now) (seen given_of result) }
+    ensures inputs { Stays (I.state inputs.old) (I.state inputs.new) }
 {
     let part = match read_part(alloc, inputs, part) {
         Ok(part) => part,
@@ -106,7 +108,8 @@ pub(crate) fn debug<'w, I: Inputs>(
     stream: &'w str,
     script: &'w str,
 ) -> Result<Text, Refusal<'w>>
-    ensures { AnswersForm (Debugging part.now stream.now script.now) (I.state inputs.old) (I.state inputs.new) (seen whole_of result) }
+    ensures due { AnswersForm (Debugging part.now stream.now script.now) (I.state inputs.old) (I.state inputs.new) (seen whole_of result) }
+    ensures inputs { Stays (I.state inputs.old) (I.state inputs.new) }
 {
     match read_given(alloc, inputs, part, stream, script) {
         Ok(given) => text_of(alloc, given, script),

@@ -1,5 +1,6 @@
 //! The command `gen`: a plan that is made from a number, its stream played on a new device, and what came of it.
 ghost use Rattle.std.specs.Prelude.{◌≡◌, ◌⊎◌, ◌≤◌, ◌++◌, ◌%◌, ◌^◌, ℕ, List, [], ◌∷◌, length, IfOk, IfErr, OnOk, unwrap_or};
+ghost use Rattle.x7_words.specs.Input.{Stays};
 ghost use Rattle.std.specs.List.{sum};
 ghost use Rattle.x7_part.specs.AddressOrder.{addresses_in};
 ghost use Rattle.x7_part.specs.Part.{PartData, frame_words};
@@ -278,7 +279,8 @@ pub(crate) fn generate<'w, I: Inputs>(
     name: &'w str,
     seed: u32,
 ) -> Result<Text, Refusal<'w>>
-    ensures { AnswersForm (Generating name.now seed) (I.state inputs.old) (I.state inputs.new) (seen whole_of result) }
+    ensures due { AnswersForm (Generating name.now seed) (I.state inputs.old) (I.state inputs.new) (seen whole_of result) }
+    ensures inputs { Stays (I.state inputs.old) (I.state inputs.new) }
 {
     let part = match read_part(alloc, inputs, name) {
         Ok(part) => part,

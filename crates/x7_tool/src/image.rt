@@ -1,5 +1,6 @@
 //! The command `image`: the flash image of a golden and an update stream.
 ghost use Rattle.std.specs.Prelude.{◌≡◌, ◌⊎◌, ◌≤◌, ℕ, [], ◌∷◌, Ok, Err, IfOk, IfErr, drop, length};
+ghost use Rattle.x7_words.specs.Input.{Stays};
 ghost use Rattle.x7_forms.specs.Message.{event_of};
 ghost use Rattle.x7_forms.specs.Event.{bad_input, no_memory};
 ghost use Rattle.x7_forms.specs.declared.bad_input.InputFault.TheVariants as input;
@@ -36,6 +37,7 @@ fn read_streams<'w, I: Inputs>(
         (λ known. image_streams known golden.now update.now) (seen streams_of result) }
     ensures golden { IfOk result (λ streams. streams.golden.start ≤ length streams.golden.bytes.items) }
     ensures update { IfOk result (λ streams. streams.update.start ≤ length streams.update.bytes.items) }
+    ensures inputs { Stays (I.state inputs.old) (I.state inputs.new) }
 {
     let golden = match read_stream(alloc, inputs, golden) {
         Ok(stream) => stream,
@@ -107,7 +109,8 @@ pub(crate) fn image<'w, I: Inputs>(
     golden: &'w str,
     update: &'w str,
 ) -> Result<Text, Refusal<'w>>
-    ensures { AnswersForm (Imaging golden.now update.now) (I.state inputs.old) (I.state inputs.new) (seen whole_of result) }
+    ensures due { AnswersForm (Imaging golden.now update.now) (I.state inputs.old) (I.state inputs.new) (seen whole_of result) }
+    ensures inputs { Stays (I.state inputs.old) (I.state inputs.new) }
 {
     match read_streams(alloc, inputs, golden, update) {
         Ok(streams) => plain_text(alloc, &streams, update),
@@ -123,7 +126,8 @@ pub(crate) fn image_for<'w, I: Inputs>(
     golden: &'w str,
     update: &'w str,
 ) -> Result<Text, Refusal<'w>>
-    ensures { AnswersForm (ImagingFor part.now golden.now update.now) (I.state inputs.old) (I.state inputs.new) (seen whole_of result) }
+    ensures due { AnswersForm (ImagingFor part.now golden.now update.now) (I.state inputs.old) (I.state inputs.new) (seen whole_of result) }
+    ensures inputs { Stays (I.state inputs.old) (I.state inputs.new) }
 {
     let part = match read_part(alloc, inputs, part) {
         Ok(part) => part,

@@ -1,5 +1,6 @@
 //! The command `list`.
 ghost use Rattle.std.specs.Prelude.{◌≡◌, ℕ, List, [], ◌∷◌, ◌++◌, ◌≤◌, ◌⊎◌, false, drop, length, Option, Some, Ok, Err, OnErr, OnOk, IfErr};
+ghost use Rattle.x7_words.specs.Input.{Stays};
 ghost use Rattle.x7_words.specs.Sink.{Counts, PutsPrefix, SinkFails, appended};
 ghost use Rattle.x7_words.specs.Word.{AreBytes};
 ghost use Rattle.x7_listing.specs.Listing.{listing_of};
@@ -15,7 +16,7 @@ ghost use Rattle.x7_tool.specs.Turns.{Lists, StopsIn};
 use std::alloc::Global;
 use x7_forms::{Refusal, STREAM_LIMIT, TURN, Why, next_turn, open, read_beginning};
 use x7_listing::Lister;
-use x7_words::{Inputs, Sink, write_all};
+use x7_words::{Inputs, Sink, write_all, write_pieces};
 
 /// Lists a piece, and writes what that adds to the listing.
 fn put_turn<'w, O: Sink>(lister: &mut Lister, out: &mut O, piece: &[u8]) -> Result<(), Refusal<'w>>
@@ -36,7 +37,31 @@ fn put_turn<'w, O: Sink>(lister: &mut Lister, out: &mut O, piece: &[u8]) -> Resu
     Ok(())
 }
 
-/// Writes the line of a stream's header, lists the first data, and writes what that adds.
+/// Writes the listing of a stream that was read whole: the line of its header, or nothing, and the listing of its data.
+fn put_short<'w, O: Sink>(
+    lister: &mut Lister,
+    out: &mut O,
+    line: &[u8],
+    sent: &[u8],
+) -> Result<(), Refusal<'w>>
+    requires new { ListerStandsFor lister.old [] [] [] }
+    ensures ok { OnOk result ((O.state out.new).written ≡ appended (O.state out.old).written (line.now ++ listing_of sent.now)) }
+    ensures err { IfErr result (λ r. PutsPrefix (O.state out.old).written (line.now ++ listing_of sent.now) (O.state out.new).written) }
+    ensures why { IfErr result (λ r. ((event_of r ≡ no_memory) × ((O.state out.new).written ≡ (O.state out.old).written)) ⊎ ((event_of r ≡ write_fault) × SinkFails (O.state out.old) (O.state out.new))) }
+{
+    if lister.feed(sent).is_err() {
+        return Err(Refusal::unnamed(Why::NoMemory));
+    }
+    if lister.finish().is_err() {
+        return Err(Refusal::unnamed(Why::NoMemory));
+    }
+    match write_pieces(out, &[line, lister.text()]) {
+        Ok(()) => Ok(()),
+        Err(_) => Err(Refusal::unnamed(Why::WriteFault)),
+    }
+}
+
+/// Writes the line of a stream's header, or nothing, and what is listed of its first data.
 fn put_beginning<'w, O: Sink>(
     lister: &mut Lister,
     out: &mut O,
@@ -61,7 +86,7 @@ fn put_beginning<'w, O: Sink>(
 fn put_end<'w, O: Sink>(lister: &mut Lister, out: &mut O) -> Result<(), Refusal<'w>>
     ensures ok { OnOk result ((first : Option (List ℕ)) (bytes : List ℕ) → Lists lister.old first (O.state out.old).written bytes → (O.state out.new).written ≡ appended first (listing_of bytes)) }
     ensures err { IfErr result (λ r. (first : Option (List ℕ)) (bytes : List ℕ) → Lists lister.old first (O.state out.old).written bytes → PutsPrefix first (listing_of bytes) (O.state out.new).written) }
-    ensures why { IfErr result (λ r. (event_of r ≡ no_memory) ⊎ ((event_of r ≡ write_fault) × SinkFails (O.state out.old) (O.state out.new))) }
+    ensures why { IfErr result (λ r. ((event_of r ≡ no_memory) × ((O.state out.new).written ≡ (O.state out.old).written)) ⊎ ((event_of r ≡ write_fault) × SinkFails (O.state out.old) (O.state out.new))) }
     ensures longer { IsLonger (O.state out.old) (O.state out.new) }
 {
     if lister.finish().is_err() {
@@ -73,14 +98,16 @@ fn put_end<'w, O: Sink>(lister: &mut Lister, out: &mut O) -> Result<(), Refusal<
     }
 }
 
-/// `list STREAM`: the stream is read up to where its header is judged and then in turns, and what each tells is written.
+/// `list STREAM`: the stream is read up to where its header is judged and then in turns, and what each adds to the listing is
+/// written before the next is read.
 pub(crate) fn list<'w, I: Inputs, O: Sink>(
     alloc: Global,
     inputs: &mut I,
     out: &mut O,
     stream: &'w str,
 ) -> Result<(), Refusal<'w>>
-    ensures { EndsListing stream.now (transfer (I.state inputs.old) (O.state out.old)) (transfer (I.state inputs.new) (O.state out.new)) (seen (λ _. false) result) }
+    ensures ends { EndsListing stream.now (transfer (I.state inputs.old) (O.state out.old)) (transfer (I.state inputs.new) (O.state out.new)) (seen (λ _. false) result) }
+    ensures inputs { Stays (I.state inputs.old) (I.state inputs.new) }
 {
     match open(inputs, stream) {
         Ok(()) => (),
@@ -91,12 +118,14 @@ pub(crate) fn list<'w, I: Inputs, O: Sink>(
         Err(refusal) => return Err(refusal),
     };
     let mut lister = Lister::new(alloc);
-    match put_beginning(&mut lister, out, &front.line, &front.bytes[front.start..]) {
+    let line: &[u8] = &front.line;
+    let sent = &front.bytes[front.start..];
+    if front.last {
+        return put_short(&mut lister, out, line, sent);
+    }
+    match put_beginning(&mut lister, out, line, sent) {
         Ok(()) => (),
         Err(refusal) => return Err(refusal),
-    }
-    if front.last {
-        return put_end(&mut lister, out);
     }
     let mut piece = [0u8; TURN];
     let mut left = STREAM_LIMIT - front.bytes.len();

@@ -1,5 +1,6 @@
 //! The commands `mcs` and `unmcs`: flash images as Intel HEX texts, and back.
 ghost use Rattle.std.specs.Prelude.{◌≡◌, ℕ, [], ◌∷◌};
+ghost use Rattle.x7_words.specs.Input.{Stays};
 ghost use Rattle.x7_forms.specs.Message.{event_of};
 ghost use Rattle.x7_tool.specs.Outcome.{mcs_event};
 ghost use Rattle.x7_tool.specs.Run.{AnswersForm};
@@ -37,7 +38,8 @@ pub(crate) fn mcs<'w, I: Inputs>(
     inputs: &mut I,
     image: &'w str,
 ) -> Result<McsText, Refusal<'w>>
-    ensures { AnswersForm (ToMcs image.now) (I.state inputs.old) (I.state inputs.new) (seen text_of_image result) }
+    ensures due { AnswersForm (ToMcs image.now) (I.state inputs.old) (I.state inputs.new) (seen text_of_image result) }
+    ensures inputs { Stays (I.state inputs.old) (I.state inputs.new) }
 {
     let bytes = match read_whole(alloc, inputs, image, FLASH_LIMIT) {
         Ok(bytes) => bytes,
@@ -55,7 +57,8 @@ pub(crate) fn unmcs<'w, I: Inputs>(
     inputs: &mut I,
     name: &'w str,
 ) -> Result<Text, Refusal<'w>>
-    ensures { AnswersForm (FromMcs name.now) (I.state inputs.old) (I.state inputs.new) (seen whole_of result) }
+    ensures due { AnswersForm (FromMcs name.now) (I.state inputs.old) (I.state inputs.new) (seen whole_of result) }
+    ensures inputs { Stays (I.state inputs.old) (I.state inputs.new) }
 {
     let text = match read_whole(alloc, inputs, name, TEXT_LIMIT) {
         Ok(text) => text,

@@ -1,5 +1,6 @@
 //! The commands `plan full`, `plan partial` and `plan read`: streams for plans.
 ghost use Rattle.std.specs.Prelude.{◌≡◌, ◌⊎◌, ◌≤◌, ℕ, [], ◌∷◌, Ok, Err, IfOk, IfErr};
+ghost use Rattle.x7_words.specs.Input.{Stays};
 ghost use Rattle.x7_part.specs.Part.{PartData};
 ghost use Rattle.x7_forms.specs.Message.{event_of};
 ghost use Rattle.x7_forms.specs.Event.{no_memory};
@@ -32,8 +33,9 @@ fn read_texts<'w, I: Inputs>(
     part: &'w str,
     frames: &'w str,
 ) -> Result<PlanTexts, Refusal<'w>>
-    ensures { AnswersAs (step_over (part.now ∷ frames.now ∷ []) (I.state inputs.old) (I.state inputs.new))
+    ensures due { AnswersAs (step_over (part.now ∷ frames.now ∷ []) (I.state inputs.old) (I.state inputs.new))
         (λ known. plan_texts known part.now frames.now) (seen texts_of result) }
+    ensures inputs { Stays (I.state inputs.old) (I.state inputs.new) }
 {
     let part = match read_part(alloc, inputs, part) {
         Ok(part) => part,
@@ -104,7 +106,8 @@ pub(crate) fn plan_full<'w, I: Inputs>(
     part: &'w str,
     frames: &'w str,
 ) -> Result<Text, Refusal<'w>>
-    ensures { AnswersForm (PlanningFull part.now frames.now) (I.state inputs.old) (I.state inputs.new) (seen whole_of result) }
+    ensures due { AnswersForm (PlanningFull part.now frames.now) (I.state inputs.old) (I.state inputs.new) (seen whole_of result) }
+    ensures inputs { Stays (I.state inputs.old) (I.state inputs.new) }
 {
     let texts = match read_texts(alloc, inputs, part, frames) {
         Ok(texts) => texts,
@@ -138,7 +141,8 @@ pub(crate) fn plan_partial<'w, I: Inputs>(
     part: &'w str,
     frames: &'w str,
 ) -> Result<Text, Refusal<'w>>
-    ensures { AnswersForm (PlanningPartial part.now frames.now) (I.state inputs.old) (I.state inputs.new) (seen whole_of result) }
+    ensures due { AnswersForm (PlanningPartial part.now frames.now) (I.state inputs.old) (I.state inputs.new) (seen whole_of result) }
+    ensures inputs { Stays (I.state inputs.old) (I.state inputs.new) }
 {
     let texts = match read_texts(alloc, inputs, part, frames) {
         Ok(texts) => texts,
@@ -175,7 +179,8 @@ pub(crate) fn plan_read<'w, I: Inputs>(
     far: u32,
     n: u32,
 ) -> Result<Text, Refusal<'w>>
-    ensures { AnswersForm (PlanningRead name.now far n) (I.state inputs.old) (I.state inputs.new) (seen whole_of result) }
+    ensures due { AnswersForm (PlanningRead name.now far n) (I.state inputs.old) (I.state inputs.new) (seen whole_of result) }
+    ensures inputs { Stays (I.state inputs.old) (I.state inputs.new) }
 {
     let part = match read_part(alloc, inputs, name) {
         Ok(part) => part,

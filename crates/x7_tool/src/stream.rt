@@ -1,8 +1,9 @@
 //! Streams that are read whole, each of a limit of its own.
-ghost use Rattle.std.specs.Prelude.{◌≡◌, ◌≤◌, ℕ, [], ◌∷◌, IfOk, length};
+ghost use Rattle.std.specs.Prelude.{◌≡◌, ◌≤◌, ℕ, [], ◌∷◌, IfErr, IfOk, length};
 ghost use Rattle.x7_words.specs.Input.{Stays};
 ghost use Rattle.x7_tool.specs.Outcome.{stream_data};
-ghost use Rattle.x7_forms.specs.Step.{AnswersAs, seen, step_over};
+ghost use Rattle.x7_forms.specs.Message.{event_of};
+ghost use Rattle.x7_forms.specs.Step.{AnswersAs, IsUnplayed, seen, step_over};
 ghost use Rattle.x7_tool.specs.Streamed.{data_from};
 
 use std::alloc::Global;
@@ -24,6 +25,7 @@ pub(crate) fn read_stream<'w, I: Inputs>(
 ) -> Result<Stream, Refusal<'w>>
     ensures due { AnswersAs (step_over (name.now ∷ []) (I.state inputs.old) (I.state inputs.new))
         (λ known. stream_data known name.now) (seen data_from result) }
+    ensures named { IfErr result (λ r. IsUnplayed name.now (event_of r)) }
     ensures within { IfOk result (λ stream. stream.start ≤ length stream.bytes.items) }
     ensures inputs { Stays (I.state inputs.old) (I.state inputs.new) }
 {

@@ -1,5 +1,6 @@
 //! The command `svf`.
 ghost use Rattle.std.specs.Prelude.{◌≡◌, ◌⊎◌, ◌≤◌, ◌||◌, ℕ, [], ◌∷◌, Ok, Err, IfErr, IfOk, vec_len};
+ghost use Rattle.x7_words.specs.Input.{Stays};
 ghost use Rattle.x7_forms.specs.Message.{event_of};
 ghost use Rattle.x7_forms.specs.Event.{no_memory};
 ghost use Rattle.x7_forms.specs.Step.{AnswersAs, seen, step_over};
@@ -49,6 +50,7 @@ fn read_given<'w, I: Inputs>(
     ensures given { AnswersAs (step_over (part.now ∷ text.now ∷ []) (I.state inputs.old) (I.state inputs.new))
         (λ known. plan_texts known part.now text.now) (seen texts_of result) }
     ensures within { IfOk result (λ given. vec_len given.text ≤ 536870912) }
+    ensures inputs { Stays (I.state inputs.old) (I.state inputs.new) }
 {
     let part = match read_part(alloc, inputs, part) {
         Ok(part) => part,
@@ -118,7 +120,8 @@ pub(crate) fn svf<'w, I: Inputs>(
     part: &'w str,
     text: &'w str,
 ) -> Result<PlayText, Refusal<'w>>
-    ensures { AnswersForm (PlayingSvf part.now text.now) (I.state inputs.old) (I.state inputs.new) (seen text_of_play result) }
+    ensures due { AnswersForm (PlayingSvf part.now text.now) (I.state inputs.old) (I.state inputs.new) (seen text_of_play result) }
+    ensures inputs { Stays (I.state inputs.old) (I.state inputs.new) }
 {
     match read_given(alloc, inputs, part, text) {
         Ok(given) => text_of(alloc, given, text),

@@ -1,5 +1,6 @@
 //! The top call.
 ghost use Rattle.std.specs.Prelude.{ℕ, List};
+ghost use Rattle.x7_words.specs.Input.{Stays};
 ghost use Rattle.x7_words.specs.Sink.{SinkState};
 ghost use Rattle.x7_forms.specs.Form.{form_in};
 ghost use Rattle.x7_tool.specs.Leaving.{EachBoots, PowerLossMayLeave, UsesFlash};
@@ -35,6 +36,7 @@ fn answer<'w, I: Inputs, O: Sink, F: Flash>(
         (outside (I.state inputs.new) (F.state flash.new) (O.state out.new) f) (written_by result) }
     ensures flash { UsesFlash (form_in words.now.items) (sources (I.state inputs.old) (F.state flash.old)) (F.state flash.new)
         (F.found_since flash.old) (F.found_since flash.new) }
+    ensures inputs { Stays (I.state inputs.old) (I.state inputs.new) }
 {
     match words_of(words) {
         None => Err(Refusal::unnamed(Why::Usage)),
@@ -100,6 +102,7 @@ fn carry_out<I: Inputs, O: Sink, E: Sink, F: Flash>(
         (outside (I.state inputs.new) (F.state flash.new) (O.state out.new) (E.state err.new)) result }
     ensures flash { UsesFlash (form_in words.now.items) (sources (I.state inputs.old) (F.state flash.old)) (F.state flash.new)
         (F.found_since flash.old) (F.found_since flash.new) }
+    ensures inputs { Stays (I.state inputs.old) (I.state inputs.new) }
 {
     match answer(alloc, words, inputs, flash, out) {
         Ok(stopped) => Status::of_text(stopped),
@@ -109,10 +112,12 @@ fn carry_out<I: Inputs, O: Sink, E: Sink, F: Flash>(
 
 /// Runs the command that the words ask for, without the program's own name.
 ///
-/// The text goes to `out` as it is made; where a command has no whole text, one line goes to `err`.
+/// The text goes to `out`, that of `list` while the stream is read, and any other once it is ready; where a command has no whole
+/// text, one line goes to `err`.
 ///
-/// Power may be lost at any moment. What is found of the flash then is what it held, or what an update leaves of it; a boot of
-/// that is the one before the update, or starts with the golden stream, or is the one behind it.
+/// Power may be lost at any moment. Where the bytes of the flash are known, what is found of it then is what it held, or what an
+/// update may leave of it. Where the stream is known too, and the golden stream is the full stream of a plan, a boot of that is
+/// the one before the update, or starts with the golden stream, or is the one behind it.
 pub fn run<I: Inputs, O: Sink, E: Sink, F: Flash>(
     alloc: Global,
     words: &Vec<String>,

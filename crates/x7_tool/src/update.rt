@@ -1,5 +1,6 @@
 //! The command `update`: a flash gets another update stream, and may lose its power at any moment.
 ghost use Rattle.std.specs.Prelude.{◌≡◌, ℕ, List, Some};
+ghost use Rattle.x7_words.specs.Input.{Stays};
 ghost use Rattle.x7_forms.specs.Form.{UpdatingFlash};
 ghost use Rattle.x7_forms.specs.Message.{event_of};
 ghost use Rattle.x7_tool.specs.Leaving.{UsesFlash};
@@ -61,6 +62,7 @@ pub(crate) fn update<'w, I: Inputs, F: Flash>(
     ensures ends { EndsSilently (UpdatingFlash name.now stream.now) (sources (I.state inputs.old) (F.state flash.old)) (sources (I.state inputs.new) (F.state flash.new)) (written_by result) }
     ensures flash { UsesFlash (Some (UpdatingFlash name.now stream.now)) (sources (I.state inputs.old) (F.state flash.old)) (F.state flash.new)
         (F.found_since flash.old) (F.found_since flash.new) }
+    ensures inputs { Stays (I.state inputs.old) (I.state inputs.new) }
 {
     match open_flash(flash, name) {
         Ok(()) => (),

@@ -19,7 +19,7 @@ pub same_switch : (old new : List ℕ) (slot : ℕ) → ((i : ℕ) → 32 * slot
 same_switch old new slot h =
     rw (h (32 * slot) (omega arith) (omega arith), h (32 * slot + 1) (omega arith) (omega arith), h (32 * slot + 2) (omega arith) (omega arith), h (32 * slot + 3) (omega arith) (omega arith)) refl
 
-open_not_free : (flash : List ℕ) (slot : ℕ) → IsOpen flash slot → IsFree flash slot → ⊥
+pub open_not_free : (flash : List ℕ) (slot : ℕ) → IsOpen flash slot → IsFree flash slot → ⊥
 open_not_free flash slot o f =
     let same : open_word ≡ free_word = sym o ∙ f in
     let first : 0xAA ≡ 0xFF = ap (λ l. get_or l 0 0) same in
@@ -29,7 +29,7 @@ open_not_spent : spent_word ≡ open_word → ⊥
 open_not_spent same = let first : 0 ≡ 0xAA = ap (λ l. get_or l 0 0) same in absurd (omega (arith, first))
 
 -- what is behind a switch word is in no switch word
-behind : (slot i : ℕ) → 4 ≤ i % 32 → (i < 32 * slot) ⊎ (32 * slot + 4 ≤ i)
+pub behind : (slot i : ℕ) → 4 ≤ i % 32 → (i < 32 * slot) ⊎ (32 * slot + 4 ≤ i)
 behind slot i h = elim (cases_lt i (32 * slot)) [
   | inl less ↦ inl less
   | inr from ↦ elim (cases_lt i (32 * slot + 4)) [ inl inside ↦ absurd (omega arith) | inr above ↦ inr above ]
@@ -50,6 +50,7 @@ between_closing size slot all found has h is only = record {
   size = only.size;
   slots = λ i k b. only.others i (behind slot i b);
   closed = closed;
+  switches = λ other k shut last. only_other slot other all found (λ same. shut (subst (IsOpen all) (sym same) is)) only;
   golden = λ i k b. only.others i (inr (omega arith));
 }
   where
@@ -68,7 +69,7 @@ only_spent slot all within = record {
 }
 
 pub between_closed : (all closed : List ℕ) → HasSlots (length all) all → ClosesTo all closed → IsBetween all closed
-between_closed all closed has (already shut same) = subst (λ l. IsBetween all l) (sym same) (record { size = refl; slots = λ i h k. refl; closed = shut; golden = λ i h k. refl })
+between_closed all closed has (already shut same) = subst (λ l. IsBetween all l) (sym same) (record { size = refl; slots = λ i h k. refl; closed = shut; switches = λ slot h o n. refl; golden = λ i h k. refl })
 between_closed all closed has (spends slot h is same) =
     subst (λ l. IsBetween all l) (sym same) (between_closing (length all) slot all (switched slot spent_word all) has h is (only_spent slot all (omega (arith, has.place.least, has.place.most, h))))
 
@@ -79,6 +80,7 @@ between_below size all mid found has b keeps = record {
   size = keeps.size ∙ b.size;
   slots = λ i h k. keeps.below i (omega (arith, has.place.least, h)) ∙ b.slots i h k;
   closed = λ slot h o. b.closed slot h (sym (same_switch mid found slot (λ i k l. keeps.below i (omega (arith, has.place.least, h, l)))) ∙ o);
+  switches = λ slot h o n. same_switch mid found slot (λ i k l. keeps.below i (omega (arith, has.place.least, h, l))) ∙ b.switches slot h o n;
   golden = λ i h k. keeps.below i k ∙ b.golden i h k;
 }
 
@@ -86,11 +88,12 @@ pub stream_keeps : (place : ℕ) (stream all : List ℕ) → place + length stre
 stream_keeps place stream all fits = record { size = length-with_stream place stream all fits; below = with_stream_below place stream all fits }
 
 -- the next slot alone is torn
-pub between_opening : (slot : ℕ) (all mid found : List ℕ) → IsBetween all mid → slot < 2048 → OnlySwitch slot mid found → IsBetween all found
-between_opening slot all mid found b h only = record {
+pub between_opening : (slot : ℕ) (all mid found : List ℕ) → IsBetween all mid → IsNext all slot → OnlySwitch slot mid found → IsBetween all found
+between_opening slot all mid found b next only = record {
   size = only.size ∙ b.size;
   slots = λ i k l. only.others i (behind slot i l) ∙ b.slots i k l;
   closed = closed;
+  switches = λ other k o n. only_other slot other mid found (λ same. n (subst (IsNext all) (sym same) next)) only ∙ b.switches other k o n;
   golden = λ i k l. only.others i (inr (omega arith)) ∙ b.golden i k l;
 }
   where
@@ -165,7 +168,7 @@ module _ (all : List ℕ) (slots : Slots) (finds : Finds (length all) all slots)
     -- while the next slot is opened
     pub opening_left : (found : List ℕ) → Opening slots.next now found → MayBeLeft stream all found
     opening_left found (inl is) = after layout (subst (IsAfter stream all) (sym is) opened_after)
-    opening_left found (inr only) = between layout (between_opening slots.next all now found written finds.next.within only)
+    opening_left found (inr only) = between layout (between_opening slots.next all now found written finds.next only)
       where
         written : IsBetween all now
         written = subst (λ l. IsBetween all l) (sym r.stands) (between_below (length all) all r.closed (with_stream slots.update stream r.closed) finds.has shut keeps)

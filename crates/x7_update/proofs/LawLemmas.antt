@@ -1,11 +1,13 @@
 -- Lemmas for the laws: closed slots have no sync word, and an update has one outcome.
-use Rattle.std.proofs.Common.{◌≡◌, ◌≢◌, ℕ, zero, suc, ◌+◌, ◌-◌, ◌*◌, ◌/◌, ◌%◌, ◌<◌, ◌≤◌, inl, inr, false, nat_eq, List, [], ◌∷◌, length, get_or, take, drop, refl, ap, sym, ◌∙◌, arith}
+use Rattle.std.proofs.Common.{◌≡◌, ◌≢◌, ℕ, zero, suc, ◌+◌, ◌-◌, ◌*◌, ◌/◌, ◌%◌, ◌<◌, ◌≤◌, inl, inr, false, nat_eq, List, [], ◌∷◌, length, get_or, take, drop, refl, ap, sym, subst, ◌∙◌, arith}
 use Rattle.std.proofs.lemmas.Bool.{cases_eq, cases_lt, cases_order}
 use Rattle.std.proofs.lemmas.List.{get_or-drop, get_or-take}
-use Rattle.x7_update.specs.Layout.{HasLayout, IsNext, first_slot, four_at, open_word}
-use Rattle.x7_update.specs.After.{ClosesTo, already, spends, IsAfter, IsBetween, switched, with_stream}
+use Rattle.x7_words.specs.Word.{word_of_bytes}
+use Rattle.x7_update.specs.Layout.{CanStandAt, HasLayout, HasSize, IsFree, IsNext, IsOpen, first_slot, four_at, open_word, slot_with, switch_of}
+use Rattle.x7_update.specs.After.{ClosesTo, already, spends, IsAfter, IsBetween, MayBeLeft, after, between, untouched, switched, with_stream}
 use Rattle.x7_update.specs.Layout.{spent_word, update_place}
-use Rattle.x7_update.proofs.CaseLemmas.{true_or_false}
+use Rattle.x7_update.proofs.CaseLemmas.{behind, between_below, between_closed, open_not_free, stream_keeps, true_or_false}
+use Rattle.x7_update.proofs.SwitchLemmas.{length-switched, switch_other, switched_others}
 
 -- none of the bytes is AA, with which a sync word begins
 abbrev NoStart : List ℕ → Type 0
@@ -84,7 +86,7 @@ module _ (flash found : List ℕ) (l : HasLayout flash) (b : IsBetween flash fou
             ]
           ]
           | inr behind ↦ elim (cases_lt j 12) [
-            | inl front ↦
+            | inl prefix ↦
                 let at : 4 + (j - 4) ≡ j = omega arith in
                 no_start (take 8 (drop 4 (first_slot flash))) (front_apart flash) (j - 4) (omega arith)
                 (get_or-take 8 (drop 4 (first_slot flash)) (j - 4) 0 (omega arith) ∙ get_or-drop 4 (first_slot flash) (j - 4) 0 ∙ ap (λ n. get_or (first_slot flash) n 0) at ∙ sym (byte_at place j h refl behind) ∙ e0)
@@ -104,6 +106,58 @@ module _ (flash found : List ℕ) (l : HasLayout flash) (b : IsBetween flash fou
           ]
         ]
       ]
+
+-- ---- a flash that was left has a layout again
+
+-- one whose slots lead to U still, of which one at most is open and the last is free
+layout_with : (flash found : List ℕ) → HasLayout flash → length found ≡ length flash → ((i : ℕ) → i < 65536 → 4 ≤ i % 32 → get_or found i 0 ≡ get_or flash i 0)
+    → ((slot other : ℕ) → slot < 2048 → other < 2048 → IsOpen found slot → IsOpen found other → slot ≡ other) → IsFree found 2047 → HasLayout found
+layout_with flash found l size slots one_open last_free =
+    let start : four_at found 12 ≡ four_at flash 12 = rw (slots 12 (omega arith) (omega arith), slots 13 (omega arith) (omega arith), slots 14 (omega arith) (omega arith), slots 15 (omega arith) (omega arith)) refl in
+    record {
+      size = subst HasSize (sym size) l.size;
+      slots = record {
+        place = subst (λ u. CanStandAt (length found) u) (sym (ap word_of_bytes start)) (subst (λ n. CanStandAt n (update_place flash)) (sym size) l.slots.place);
+        leads = λ slot h i k m. slots (32 * slot + i) (omega arith) (omega arith) ∙ l.slots.leads slot h i k m ∙ sym (ap (λ w. get_or (slot_with open_word w) i 0) start);
+        one_open = one_open;
+        last_free = last_free;
+      };
+    }
+
+last_stays : (flash found : List ℕ) → HasLayout flash → IsBetween flash found → (IsNext flash 2047 → ⊥) → IsFree found 2047
+last_stays flash found l b more = b.switches 2047 (omega arith) (λ o. open_not_free flash 2047 o l.slots.last_free) more ∙ l.slots.last_free
+
+-- the updated flash
+layout_after : (stream flash found : List ℕ) → HasLayout flash → IsAfter stream flash found → (IsNext flash 2047 → ⊥) → HasLayout found
+layout_after stream flash found l a more =
+    layout_with flash found l (ap length a.is ∙ length-switched a.next open_word now refl within ∙ b.size)
+    (λ i h k. ap (λ f. get_or f i 0) a.is ∙ switched_others a.next open_word now refl within i (behind a.next i k) ∙ b.slots i h k)
+    (λ slot other h k o p. the_next slot h o ∙ sym (the_next other k p))
+    (ap (λ f. switch_of f 2047) a.is ∙ switch_other a.next 2047 open_word now refl within (λ same. more (subst (IsNext flash) (sym same) a.is_next)) ∙ last_stays flash now l b more)
+  where
+    now : List ℕ
+    now = with_stream (update_place flash) stream a.closed
+
+    shut : IsBetween flash a.closed
+    shut = between_closed flash a.closed l.slots a.closes
+
+    b : IsBetween flash now
+    b = between_below (length flash) flash a.closed now l.slots shut (stream_keeps (update_place flash) stream a.closed (omega (arith, a.fits, shut.size)))
+
+    within : 32 * a.next + 4 ≤ length now
+    within = omega (arith, b.size, a.is_next.within, l.size.least)
+
+    -- no slot but the next is open
+    the_next : (slot : ℕ) → slot < 2048 → IsOpen found slot → slot ≡ a.next
+    the_next slot h o = elim (cases_eq slot a.next) [
+      | inl same ↦ same
+      | inr n ↦ absurd (b.closed slot h (sym (ap (λ f. switch_of f slot) a.is ∙ switch_other a.next slot open_word now refl within n) ∙ o))
+    ]
+
+pub left_layout : (stream flash found : List ℕ) → HasLayout flash → MayBeLeft stream flash found → (IsNext flash 2047 → ⊥) → HasLayout found
+left_layout stream flash found l (untouched same) more = subst HasLayout (sym same) l
+left_layout stream flash found l (between layout b) more = layout_with flash found l b.size b.slots (λ slot other h k o p. absurd (b.closed slot h o)) (last_stays flash found l b more)
+left_layout stream flash found l (after layout a) more = layout_after stream flash found l a more
 
 -- ---- an update has one outcome
 

@@ -1,5 +1,5 @@
 -- Lemmas on bytes that may be told, and on what calls leave of them one after the other.
-use Rattle.std.proofs.Common.{◌≡◌, ℕ, ◌+◌, ◌≤◌, List, length, Option, None, Some, option_map, Result, Ok, Err, OnOk, OnErr, refl, ap, sym, subst, ◌∙◌, arith}
+use Rattle.std.proofs.Common.{◌≡◌, ℕ, ◌+◌, ◌≤◌, List, length, Option, None, Some, option_map, Result, Ok, Err, OnOk, OnErr, refl, sym, subst, ◌∙◌, arith}
 use Rattle.x7_words.specs.Flash.{Elapses, FlashState, IsTorn, OnlyWrites, TornFrom, Unwritten, IfKnown, WithinWrite, replaced}
 use Rattle.x7_words.proofs.FlashLemmas.{elapses_none, elapses_on, elapses_unwritten, elapses_weaker, left_is_torn}
 use Rattle.x7_update.specs.Writing.{AtAnyMoment, Becomes, BecomesBytes, Leaves}

@@ -1,7 +1,7 @@
 -- What an update leaves of a flash, and what a power loss may leave of it (this project's choice).
 use Rattle.std.specs.Prelude.{◌≡◌, ℕ, ◌+◌, ◌-◌, ◌*◌, ◌%◌, ◌<◌, ◌≤◌, List, ◌++◌, length, get_or, take, replicate}
 use Rattle.x7_words.specs.Flash.{replaced}
-use Rattle.x7_update.specs.Layout.{HasLayout, IsClosed, IsNext, IsOpen, open_word, spent_word, update_place}
+use Rattle.x7_update.specs.Layout.{HasLayout, IsClosed, IsNext, IsOpen, open_word, spent_word, switch_of, update_place}
 
 -- the flash with this switch word in a slot
 abbrev pub switched : ℕ → List ℕ → List ℕ → List ℕ
@@ -26,12 +26,13 @@ pub record IsAfter (stream flash after : List ℕ) : Type 0 where
   pub fits : update_place flash + length stream ≤ length flash
   pub is : after ≡ switched next open_word (with_stream (update_place flash) stream closed)
 
--- Between closing the open slot and opening the next: no slot is open, all slots lead to U still, the golden stream stands, and
--- from U on there may be anything.
+-- Between closing the open slot and opening the next: no slot is open, all slots lead to U still, each switch word but the open
+-- slot's and the next one's stays, the golden stream stands, and from U on there may be anything.
 pub record IsBetween (flash found : List ℕ) : Type 0 where
   pub size : length found ≡ length flash
   pub slots : (i : ℕ) → i < 65536 → 4 ≤ i % 32 → get_or found i 0 ≡ get_or flash i 0
   pub closed : IsClosed found
+  pub switches : (slot : ℕ) → slot < 2048 → (IsOpen flash slot → ⊥) → (IsNext flash slot → ⊥) → switch_of found slot ≡ switch_of flash slot
   pub golden : (i : ℕ) → 65536 ≤ i → i < update_place flash → get_or found i 0 ≡ get_or flash i 0
 
 -- What a power loss may leave of a flash that is being updated with a stream: itself; and of one with a layout what is between, or

@@ -1,7 +1,7 @@
 //! Laws of layouts and updates.
 ghost use Rattle.std.specs.Prelude.{◌≡◌, ◌≢◌, ◌<◌, ℕ, List, length};
-ghost use Rattle.x7_update.specs.After.{IsAfter, IsBetween};
-ghost use Rattle.x7_update.specs.Layout.{HasLayout, four_at, open_word};
+ghost use Rattle.x7_update.specs.After.{IsAfter, IsBetween, MayBeLeft};
+ghost use Rattle.x7_update.specs.Layout.{HasLayout, IsNext, four_at, open_word};
 ghost use Rattle.x7_update.specs.Refused.{NoLayoutAt};
 
 /// A flash with a layout lacks it at no place.
@@ -19,4 +19,10 @@ pub fn updates_have_one_outcome()
 pub fn closed_slots_hold_no_sync_word()
     ensures { (flash found : List ℕ) → HasLayout flash → IsBetween flash found
         → (place : ℕ) → place < 65536 → four_at found place ≢ open_word }
+{}
+
+/// Whatever a power loss leaves of a flash with a layout has a layout again, unless the next slot was the last.
+pub fn left_flashes_have_a_layout()
+    ensures { (stream flash found : List ℕ) → HasLayout flash → MayBeLeft stream flash found
+        → (IsNext flash 2047 → ⊥) → HasLayout found }
 {}

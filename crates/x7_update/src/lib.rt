@@ -11,5 +11,8 @@ mod verify;
 mod write;
 
 pub use fault::UpdateFault;
-pub use laws::{closed_slots_hold_no_sync_word, layouts_are_not_refused, updates_have_one_outcome};
+pub use laws::{
+    closed_slots_hold_no_sync_word, layouts_are_not_refused, left_flashes_have_a_layout,
+    updates_have_one_outcome,
+};
 pub use steps::update;

@@ -96,9 +96,9 @@ pieces-more {F} reads writes place (first ∷ pieces) piece old between new (the
     let there : place + length (first ++ concat pieces) ≡ place + length first + length (concat pieces) = omega (arith, length-append first (concat pieces)) in
     (then, cleared, pieces-more reads writes (place + length first) pieces piece then between new others (subst (λ at. ClearsAt reads writes at piece between new) there one))
 
-pub clears-more : {F : Type 0} → (reads writes : Tells F) (place at : ℕ) (front piece given : List ℕ) (old between new : F) → Clears reads writes place front old between → at ≡ place + length front → ClearsAt reads writes at piece between new
-    → given ≡ front ++ piece → Clears reads writes place given old new
-clears-more {F} reads writes place at front piece given old between new c is one both = record {
+pub clears-more : {F : Type 0} → (reads writes : Tells F) (place at : ℕ) (prefix piece given : List ℕ) (old between new : F) → Clears reads writes place prefix old between → at ≡ place + length prefix → ClearsAt reads writes at piece between new
+    → given ≡ prefix ++ piece → Clears reads writes place given old new
+clears-more {F} reads writes place at prefix piece given old between new c is one both = record {
   pieces = c.pieces ++ piece ∷ [];
   are = concat-append c.pieces (piece ∷ []) ∙ ap (λ s. concat c.pieces ++ s) (append-nil piece) ∙ ap (λ s. s ++ piece) c.are ∙ sym both;
   each = pieces-more reads writes place c.pieces piece old between new c.each (subst (λ n. ClearsAt reads writes n piece between new) (is ∙ ap (λ s. place + length s) (sym c.are)) one);

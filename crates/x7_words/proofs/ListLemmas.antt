@@ -40,26 +40,26 @@ shorter_front (x ∷ xs) (y ∷ ys) cs ds h e =
     let r : (m : List ℕ) × (ys ≡ xs ++ m) = shorter_front xs ys cs ds (omega arith) tail in
     (r.0, cons_front x y xs ys r.0 head r.1)
 
--- xs is a front of ys, behind which cs goes on as ds does behind ys
+-- xs is a prefix of ys, behind which cs goes on as ds does behind ys
 pub record IsFront (xs ys cs ds : List ℕ) : Type 0 where
   pub more : List ℕ
-  pub front : ys ≡ xs ++ more
+  pub prefix : ys ≡ xs ++ more
   pub back : cs ≡ more ++ ds
 
--- of two fronts of one list, one is a front of the other
+-- of two prefixes of one list, one is a prefix of the other
 pub fronts_of : (xs ys cs ds : List ℕ) → xs ++ cs ≡ ys ++ ds → IsFront xs ys cs ds ⊎ IsFront ys xs ds cs
-fronts_of [] ys cs ds e = inl (record { more = ys; front = refl; back = e })
-fronts_of (x ∷ xs) [] cs ds e = inr (record { more = x ∷ xs; front = refl; back = sym e })
+fronts_of [] ys cs ds e = inl (record { more = ys; prefix = refl; back = e })
+fronts_of (x ∷ xs) [] cs ds e = inr (record { more = x ∷ xs; prefix = refl; back = sym e })
 fronts_of (x ∷ xs) (y ∷ ys) cs ds e =
     let head : x ≡ y = cc in
     let tail : xs ++ cs ≡ ys ++ ds = cc in
     elim (fronts_of xs ys cs ds tail) [
-      | inl l ↦ inl (record { more = l.more; front = rw (head, l.front) refl; back = l.back })
-      | inr l ↦ inr (record { more = l.more; front = rw (← head, l.front) refl; back = l.back })
+      | inl l ↦ inl (record { more = l.more; prefix = rw (head, l.prefix) refl; back = l.back })
+      | inr l ↦ inr (record { more = l.more; prefix = rw (← head, l.prefix) refl; back = l.back })
     ]
 
 -- a list is empty, or has a last element
-pub last_of : (xs : List ℕ) → (xs ≡ []) ⊎ ((front : List ℕ) × (x : ℕ) × (xs ≡ front ++ x ∷ []))
+pub last_of : (xs : List ℕ) → (xs ≡ []) ⊎ ((prefix : List ℕ) × (x : ℕ) × (xs ≡ prefix ++ x ∷ []))
 last_of [] = inl refl
 last_of (x ∷ xs) = inr (elim (last_of xs) [ inl e ↦ ([], x, ap (λ t. x ∷ t) e) | inr l ↦ (x ∷ l.0, l.1, ap (λ t. x ∷ t) l.2) ])
 
@@ -88,5 +88,5 @@ pub take_up_to : {X : Type 0} → (xs : List X) (from to : ℕ) → from ≤ to 
 take_up_to xs from to h = let sum : from + (to - from) ≡ to = omega arith in sym (take-add from (to - from) xs) ∙ ap (λ (k : ℕ). take k xs) sum
 
 -- elements and others of which so many are taken
-pub taken_and_left : {X : Type 0} → (front xs : List X) (n : ℕ) → (front ++ take n xs) ++ drop n xs ≡ front ++ xs
-taken_and_left front xs n = append_assoc front (take n xs) (drop n xs) ∙ ap (λ t. front ++ t) (take-append-drop n xs)
+pub taken_and_left : {X : Type 0} → (prefix xs : List X) (n : ℕ) → (prefix ++ take n xs) ++ drop n xs ≡ prefix ++ xs
+taken_and_left prefix xs n = append_assoc prefix (take n xs) (drop n xs) ∙ ap (λ t. prefix ++ t) (take-append-drop n xs)

@@ -81,5 +81,5 @@ left_of-add puts place n (Some which) left e = left_in-add (slice_get puts which
 pub preceded-taken : (before after : Option (List ℕ)) (left given kept : List ℕ) (n : ℕ) → before ≡ Some left → after ≡ Some (drop n left) → n ≤ length left → given ≡ take n left → before ≡ preceded (take n (given ++ kept)) after
 preceded-taken before after left given kept n b a h e =
     let long : length given ≡ n = grind (arith, common_steps, ap length e) in
-    let front : take n (given ++ kept) ≡ given = rw (← long) (take-append_seam given kept) in
-    rw (b, a) (ap Some (rw (front, e) (sym (take-append-drop n left))))
+    let prefix : take n (given ++ kept) ≡ given = rw (← long) (take-append_seam given kept) in
+    rw (b, a) (ap Some (rw (prefix, e) (sym (take-append-drop n left))))

@@ -19,14 +19,14 @@ pub written_more : (first mid last : Option (List ℕ)) (text : List ℕ) (at k 
 written_more first mid last text at k p q =
     rw (q, p, appended-appended, take-add at k text) refl
 
--- a front of a text by its length
+-- a prefix of a text by its length
 pub puts_front : (first last : Option (List ℕ)) (text : List ℕ) (at : ℕ) → last ≡ appended first (take at text) → PutsPrefix first text last
 puts_front first last text at p = (take at text, (drop at text, sym (take-append-drop at text), p))
 
--- some pieces whole and a front of the next are a front of all
+-- some pieces whole and a prefix of the next are a prefix of all
 pub front_more : (first mid last : Option (List ℕ)) (a b c : List ℕ) → mid ≡ appended first a → PutsPrefix mid b last → PutsPrefix first (a ++ (b ++ c)) last
-front_more first mid last a b c p (front, (back, split, put)) =
-    (a ++ front, (back ++ c, rw (split, append_assoc, append_assoc) refl, rw (put, p, appended-appended) refl))
+front_more first mid last a b c p (prefix, (back, split, put)) =
+    (a ++ prefix, (back ++ c, rw (split, append_assoc, append_assoc) refl, rw (put, p, appended-appended) refl))
 
 -- the joined pieces around the one at k
 pub flat_map-at : {X : Type 0} (f : X → List ℕ) (pieces : List X) (k : ℕ) (d : X) → k < length pieces → flat_map f pieces ≡ flat_map f (take k pieces) ++ (f (get_or pieces k d) ++ flat_map f (drop (suc k) pieces))

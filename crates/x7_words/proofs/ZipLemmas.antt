@@ -46,11 +46,11 @@ module _ (f : ℕ → ℕ → ℕ) where
   pub more_in_place : (now xs ys : List ℕ) (i v : ℕ) → i < length xs → i < length ys → now ≡ zip_with f (take i xs) (take i ys) ++ drop i xs → v ≡ f (get_or xs i 0) (get_or ys i 0)
       → set now i v ≡ zip_with f (take (i + 1) xs) (take (i + 1) ys) ++ drop (i + 1) xs
   more_in_place now xs ys i v h k e is =
-      let front = zip_with f (take i xs) (take i ys) in
-      ap (λ t. set t i v) (e ∙ ap (λ t. front ++ t) (drop_more xs i 0 h))
-      ∙ set_at front (get_or xs i 0) (drop (i + 1) xs) v i (length_front xs ys i (omega arith) (omega arith))
-      ∙ ap (λ t. front ++ t ∷ drop (i + 1) xs) is
-      ∙ sym (append_assoc front (f (get_or xs i 0) (get_or ys i 0) ∷ []) (drop (i + 1) xs))
+      let prefix = zip_with f (take i xs) (take i ys) in
+      ap (λ t. set t i v) (e ∙ ap (λ t. prefix ++ t) (drop_more xs i 0 h))
+      ∙ set_at prefix (get_or xs i 0) (drop (i + 1) xs) v i (length_front xs ys i (omega arith) (omega arith))
+      ∙ ap (λ t. prefix ++ t ∷ drop (i + 1) xs) is
+      ∙ sym (append_assoc prefix (f (get_or xs i 0) (get_or ys i 0) ∷ []) (drop (i + 1) xs))
       ∙ ap (λ t. t ++ drop (i + 1) xs) (sym (zip_with_more xs ys i h k))
 
   -- all places

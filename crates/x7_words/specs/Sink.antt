@@ -14,15 +14,15 @@ abbrev pub appended : Option (List ℕ) → List ℕ → Option (List ℕ)
 appended None bytes = None
 appended (Some old) bytes = Some (old ++ bytes)
 
--- a front of the bytes was put at the end of what was known
+-- a prefix of the bytes was put at the end of what was known
 abbrev pub PutsPrefix : Option (List ℕ) → List ℕ → Option (List ℕ) → Type 0
-PutsPrefix old bytes new = (front : List ℕ) × ((back : List ℕ) × (bytes ≡ front ++ back) × (new ≡ appended old front))
+PutsPrefix old bytes new = (prefix : List ℕ) × ((back : List ℕ) × (bytes ≡ prefix ++ back) × (new ≡ appended old prefix))
 
 -- the whole text was put at the end
 abbrev pub PutsAll : SinkState → List ℕ → SinkState → Type 0
 PutsAll old text new = new.written ≡ appended old.written text
 
--- a front of the text was put at the end
+-- a prefix of the text was put at the end
 abbrev pub PutsSome : SinkState → List ℕ → SinkState → Type 0
 PutsSome old text new = PutsPrefix old.written text new.written
 
@@ -35,6 +35,6 @@ pub record Counts (old new : SinkState) : Type 0 where
   pub faults : old.faults ≤ new.faults
   pub fits : old.faults < 2 ^ 64 → new.faults < 2 ^ 64
 
--- the whole text was put at the end, or a front of it and the sink failed
+-- the whole text was put at the end, or a prefix of it and the sink failed
 abbrev pub Tells : SinkState → List ℕ → SinkState → Type 0
 Tells old text new = PutsAll old text new ⊎ (SinkFails old new × PutsSome old text new)

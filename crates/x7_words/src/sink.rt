@@ -12,7 +12,7 @@ pub trait Sink {
     /// What the sink has come to.
     ghost state: { Self → SinkState };
 
-    /// Writes a front of the piece, and answers its length: 0 only for an empty piece.
+    /// Writes a prefix of the piece, and answers its length: 0 only for an empty piece.
     /// After an error nothing of the piece was written.
     fn write(&mut self, piece: &[u8]) -> Result<usize, Failed>
         ensures within { IfOk result (λ n. n ≤ length piece.now) }
@@ -25,10 +25,10 @@ pub trait Sink {
 }
 
 /// Writes all of the text, in as many writes as the sink takes.
-/// After an error a front of the text was written.
+/// After an error a prefix of the text was written.
 pub fn write_all<S: Sink>(sink: &mut S, text: &[u8]) -> Result<(), Failed>
     ensures ok { OnOk result (PutsAll (S.state sink.old) text.now (S.state sink.new)) }
-    ensures front { PutsSome (S.state sink.old) text.now (S.state sink.new) }
+    ensures prefix { PutsSome (S.state sink.old) text.now (S.state sink.new) }
     ensures failed { OnErr result (SinkFails (S.state sink.old) (S.state sink.new)) }
     ensures counts { Counts (S.state sink.old) (S.state sink.new) }
 {
@@ -40,7 +40,7 @@ pub fn write_all<S: Sink>(sink: &mut S, text: &[u8]) -> Result<(), Failed>
 }
 
 /// Writes the pieces, each whole, one after the other.
-/// After an error a front of the joined pieces was written.
+/// After an error a prefix of the joined pieces was written.
 pub fn write_pieces<S: Sink>(sink: &mut S, pieces: &[&[u8]]) -> Result<(), Failed>
     ensures ok { OnOk result (PutsAll (S.state sink.old) (flat_map (λ p. p.now) pieces.now) (S.state sink.new)) }
     ensures tells { Tells (S.state sink.old) (flat_map (λ p. p.now) pieces.now) (S.state sink.new) }

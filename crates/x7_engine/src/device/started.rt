@@ -10,7 +10,7 @@ ghost use Rattle.x7_engine.specs.State.{state_of, stop_in};
 ghost use Rattle.x7_engine.specs.UntilStarted.{AnswersUntil, HasNotBegun, NoneStarted, has_started, says_started, taken_until, CommandsLast};
 ghost use Rattle.x7_engine.specs.declared.kept.Kept.{Kept as KeptData};
 ghost use Rattle.x7_engine.specs.declared.until_started.UntilStarted.TheVariants as until;
-ghost use Rattle.x7_engine.specs.Past.{AnswersUntilFor, OfPast, Takes, TellsNext, TellsNone, later, part_until, started_at, state_at, stop_at, reads_given_at};
+ghost use Rattle.x7_engine.specs.Past.{AnswersUntilFor, OfPast, Takes, GivesNext, GivesNone, later, part_until, started_at, state_at, stop_at, reads_given_at};
 
 use super::{Device, stopped};
 use crate::fed::Fed;
@@ -63,7 +63,7 @@ impl Device {
         ensures part { self.new.part ≡ self.old.part }
         ensures fed { fed_of self.new ≡ fed_more self.old (at.new - at.old) }
         ensures stands { Takes self.old self.new (between piece.now at.old at.new) }
-        ensures told { TellsNone self.old self.new (between piece.now at.old at.new) }
+        ensures silent { GivesNone self.old self.new (between piece.now at.old at.new) }
         ensures commands { OfPast self.old (λ p. CommandsLast p.bytes (between piece.now at.old at.new)) }
         ensures used_up { IsTrue result → (at.new ≡ length piece.now) × (self.new.registers.stop ≡ None) × NoWordDue self.new }
         ensures goes { result ≡ false → self.new.registers.stop ≡ None
@@ -89,7 +89,7 @@ impl Device {
         ensures first { OfPast self.old (λ p. NoneStarted p.part p.kept p.bytes piece.now (taken_until (length piece.now) result)) }
         ensures started { OfPast self.old (λ p. NoWordDue self.new → says_started result ≡ started_at (later p (part_until piece.now result))) }
         ensures answer { AnswersUntilFor self.old self.new (part_until piece.now result) read.new result }
-        ensures reads { TellsNext self.old self.new (part_until piece.now result) read.old read.new }
+        ensures reads { GivesNext self.old self.new (part_until piece.now result) read.old read.new }
         ensures room { OfPast self.old (λ p. RoomBefore p piece.now (taken_until (length piece.now) result) (reads_given_at self.old p) read.old) }
         ensures stopped { OfPast self.old (λ p. IsSome (stop_at p) → (self.new ≡ self.old) × (read.new ≡ read.old) × (taken_until (length piece.now) result ≡ 0)) }
         ensures stays { HasStopped self.old → (self.new ≡ self.old) × (read.new ≡ read.old) × (taken_until (length piece.now) result ≡ 0) }

@@ -94,7 +94,7 @@ impl Device {
         ensures part { self.new.part ≡ self.old.part }
         ensures taken { self.new.taken ≡ self.old.taken + taken_in (length piece.now) result }
         ensures fed { fed_of self.new ≡ fed_more self.old (taken_in (length piece.now) result) }
-        ensures stays { (line : Stop) → self.old.registers.stop ≡ Some line → (self.new ≡ self.old) × (result ≡ fed_by line 0) }
+        ensures stays { (why : Stop) → self.old.registers.stop ≡ Some why → (self.new ≡ self.old) × (result ≡ fed_by why 0) }
         ensures keeps { Keeps undo.new self.old }
         ensures back { OfPast self.old (λ p. Back undo.new self.new self.old) }
         ensures stopped { OfPast self.old (λ p. IsSome (stop_at p) → (self.new ≡ self.old) × (taken_in (length piece.now) result ≡ 0)) }
@@ -115,7 +115,7 @@ impl Device {
         ensures part { self.new.part ≡ self.old.part }
         ensures taken { self.new.taken ≡ self.old.taken + taken_in (length piece.now) result }
         ensures fed { fed_of self.new ≡ fed_more self.old (taken_in (length piece.now) result) }
-        ensures stays { (line : Stop) → self.old.registers.stop ≡ Some line → (self.new ≡ self.old) × (result ≡ fed_by line 0) }
+        ensures stays { (why : Stop) → self.old.registers.stop ≡ Some why → (self.new ≡ self.old) × (result ≡ fed_by why 0) }
         ensures stopped { OfPast self.old (λ p. IsSome (stop_at p) → (self.new ≡ self.old) × (taken_in (length piece.now) result ≡ 0)) }
     {
         let mut read = ReadBuf::dropping();

@@ -1,6 +1,6 @@
 //! Feeding up to the byte with which a word is read out.
 ghost use Rattle.std.specs.Prelude.{◌≡◌, ◌≤◌, ◌+◌, ◌^◌, length, nat_lt, IsSome};
-ghost use Rattle.x7_engine.specs.Past.{AnswersFor, OfPast, Takes, TellsNone, part_taken, stop_at, reads_given_at};
+ghost use Rattle.x7_engine.specs.Past.{AnswersFor, OfPast, Takes, GivesNone, part_taken, stop_at, reads_given_at};
 ghost use Rattle.x7_engine.specs.Standing.{due_count, fed_more, fed_of, taken_in};
 ghost use Rattle.x7_engine.specs.UntilRead.{ReadBefore, no_room};
 
@@ -25,7 +25,7 @@ impl Device {
         ensures fed { fed_of self.new ≡ fed_more self.old (taken_in (length piece.now) result) }
         ensures stands { Takes self.old self.new (part_taken piece.now result) }
         ensures answer { AnswersFor self.old self.new (part_taken piece.now result) no_room result }
-        ensures told { TellsNone self.old self.new (part_taken piece.now result) }
+        ensures silent { GivesNone self.old self.new (part_taken piece.now result) }
         ensures first { OfPast self.old (λ p. ReadBefore p piece.now (taken_in (length piece.now) result) (reads_given_at self.old p)) }
         ensures stopped { OfPast self.old (λ p. IsSome (stop_at p) → (self.new ≡ self.old) × (taken_in (length piece.now) result ≡ 0)) }
     {

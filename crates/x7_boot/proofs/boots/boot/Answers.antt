@@ -1,4 +1,4 @@
-use Rattle.std.proofs.Common.{ℕ, List, Option, ◌∙◌, subst, sym, arith}
+use Rattle.std.proofs.Common.{ℕ, List, Option, ◌∙◌, subst, sym}
 use Rattle.x7_words.proofs.FlashLemmas.{reads_on}
 use Rattle.x7_boot.specs.Attempt.{Leaves}
 use Rattle.x7_boot.proofs.BootedLemmas.{attempts_next, boot_ends, led_next}

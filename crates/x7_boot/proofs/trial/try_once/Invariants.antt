@@ -1,6 +1,6 @@
-use Rattle.std.proofs.Common.{◌≡◌, ◌-◌, ◌≤◌}
+use Rattle.std.proofs.Common.{◌≡◌, ◌-◌}
 use Rattle.x7_words.specs.Flash.{OnlyReads}
-use Rattle.x7_boot.specs.Attempt.{Feeds}
+use Rattle.x7_boot.specs.Attempt.{Feeds, attempt_at}
 use Rattle.x7_boot.specs.Pages.{ArePages}
 use Rattle.x7_boot.proofs.trial.try_once.Given as goal
 
@@ -8,7 +8,7 @@ abbrev pub invariant-pages : goal.invariant-pages
 invariant-pages g l =
     let f = g.F.Flash in
     record {
-      feeds : Feeds l.fn.device.part l.fn.keep l.fn.address (f.state l.fn.flash).bytes l.device l.at;
+      feeds : Feeds (attempt_at l.fn.device.part l.fn.keep l.fn.address) (f.state l.fn.flash).bytes l.device l.at;
       kept : ArePages (f.state l.fn.flash).bytes (f.state l.fn.flash).extent l.pages.pages.entries;
       quiet : (f.state l.flash).faults ≡ (f.state l.fn.flash).faults;
       flash : OnlyReads (f.state l.fn.flash) (f.state l.flash) (f.found_since l.fn.flash) (f.found_since l.flash);

@@ -2,4 +2,4 @@ use Rattle.x7_effects.proofs.LawLemmas.{partial_law}
 use Rattle.x7_effects.proofs.law.partial_streams_play.Goals as goal
 
 pub returns : goal.returns
-returns c = λ part kept bytes plan r p. partial_law part kept bytes plan r.fits r.at_rest r.is_part p.is_plan p.width p.addressed
+returns c = λ r plan rests p. partial_law r.part r.kept r.bytes plan rests.fits rests.at_rest rests.is_part p.is_plan p.width p.addressed

@@ -1,4 +1,4 @@
-use Rattle.std.proofs.Common.{◌≡◌, ℕ, List, [], ◌∷◌, ◌++◌, ◌-◌, ◌≤◌, false, Ok, drop, length, length-append, length-take-le, take, ap, arith, inr, subst, sym, ◌∙◌}
+use Rattle.std.proofs.Common.{◌≡◌, ℕ, List, [], ◌∷◌, ◌++◌, ◌-◌, ◌≤◌, false, Ok, drop, length, length-append, length-take-le, take, ap, arith, inl, inr, subst, sym, ◌∙◌}
 use Rattle.std.proofs.lemmas.List.{length-take}
 use Rattle.x7_words.specs.Input.{Selects, preceded}
 use Rattle.x7_words.specs.Word.{AreBytes}
@@ -8,7 +8,7 @@ use Rattle.x7_forms.specs.Play.{PlaysOn}
 use Rattle.x7_forms.specs.Step.{CameIn, IsCaused, step_over}
 use Rattle.x7_forms.proofs.ResultLemmas.{err_weaker, ok_weaker, from_ok}
 use Rattle.x7_forms.proofs.PlayerLemmas.{may_less, may_on, on_on}
-use Rattle.x7_forms.proofs.ReadLemmas.{reads_first, slice_of, stream_read, stream_refused, stream_unopened, stream_unread, want_or_rest}
+use Rattle.x7_forms.proofs.ReadLemmas.{header_refused, reads_first, slice_of, stream_read, stream_refused, stream_unopened, stream_unread, turn_unread, unopened_unread, want_or_rest, want_unread}
 use Rattle.x7_forms.proofs.playing.play_stream.Goals as goal
 
 pub play-requires : goal.play-requires
@@ -104,3 +104,27 @@ returns-in-Ok-skip_rest-clause-err g c = λ flash.
     let C = CameIn (step_over (name ∷ []) (i.state c.args.inputs.now) (i.state c.skip_rest.new.inputs)) in
     let p = c.in-Ok-skip_rest.ensures.ok in
     stream_refused contents flash C name first p.0 (i.state c.next_turn.new.inputs).rest (i.state c.skip_rest.new.inputs).rest c.args.limit c.in-Ok-next_turn.turn.last (event_of c.in-Err-data_start.refusal) select p.2.0 p.2.1 c.in-Ok-next_turn.ensures.end long fits (omega (arith, p.1, size)) within c.in-Err-data_start.ensures.data
+
+pub returns-in-Err-clause-named : goal.returns-in-Err-clause-named
+returns-in-Err-clause-named g c =
+    let i = g.I.Inputs in
+    inl (unopened_unread (i.state c.args.inputs.now) (i.state c.open.new.inputs) c.args.name.now (event_of c.in-Err.refusal) c.in-Err.ensures.err)
+
+pub returns-in-Err-next_turn-clause-named : goal.returns-in-Err-next_turn-clause-named
+returns-in-Err-next_turn-clause-named g c =
+    let i = g.I.Inputs in
+    inl (turn_unread (i.state c.open.new.inputs) (i.state c.next_turn.new.inputs) c.args.name.now c.args.limit (event_of c.in-Err-next_turn.refusal) c.in-Err-next_turn.ensures.err)
+
+pub returns-else-is_err-clause-named : goal.returns-else-is_err-clause-named
+returns-else-is_err-clause-named g c =
+    let i = g.I.Inputs in
+    err_weaker c.play_rest.result (λ r h. inl (want_unread (i.state c.next_turn.new.inputs) (i.state c.play_rest.new.inputs) c.args.name.now (c.args.limit - c.in-Ok-next_turn.turn.count) (event_of r) h)) c.play_rest.ensures.err
+
+pub returns-in-Err-skip_rest-clause-named : goal.returns-in-Err-skip_rest-clause-named
+returns-in-Err-skip_rest-clause-named g c =
+    let i = g.I.Inputs in
+    inl (turn_unread (i.state c.next_turn.new.inputs) (i.state c.skip_rest.new.inputs) c.args.name.now (c.args.limit - c.in-Ok-next_turn.turn.count) (event_of c.in-Err-skip_rest.earlier) c.in-Err-skip_rest.ensures.err.0)
+
+pub returns-in-Ok-skip_rest-clause-named : goal.returns-in-Ok-skip_rest-clause-named
+returns-in-Ok-skip_rest-clause-named g c =
+    header_refused c.args.name.now (take c.in-Ok-next_turn.turn.count c.next_turn.new.buf) (event_of c.in-Err-data_start.refusal) c.in-Err-data_start.ensures.data

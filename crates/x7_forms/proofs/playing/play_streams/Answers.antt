@@ -3,7 +3,7 @@ use Rattle.x7_words.proofs.InputLemmas.{stays_at, stays_on}
 use Rattle.x7_forms.specs.Message.{event_of}
 use Rattle.x7_forms.specs.Known.{StreamRead, stream_limit}
 use Rattle.x7_forms.specs.Step.{CameIn, step_over}
-use Rattle.x7_forms.proofs.ReadLemmas.{rests_all, rests_none, stream_err, stream_next}
+use Rattle.x7_forms.proofs.ReadLemmas.{one_unplayed, rests_all, rests_none, stream_err, stream_next}
 use Rattle.x7_forms.proofs.playing.play_streams.Goals as goal
 
 pub loop-name-init : goal.loop-name-init
@@ -55,3 +55,7 @@ returns-clause-ok g c =
       λ flash. rests_all string_bytes (i.state c.args.inputs.now).contents flash (CameIn (step_over (map string_bytes c.args.streams.now) (i.state c.args.inputs.now) (i.state c.loop-name.inputs)))
           c.args.streams.now c.loop-name.name-index stream_limit c.loop-name.left v.played.0 c.loop-name-test.false v.played.1.2,
     )
+
+pub returns-in-Err-clause-named : goal.returns-in-Err-clause-named
+returns-in-Err-clause-named g c =
+    one_unplayed string_bytes c.args.streams.now c.loop-name.name-index c.name-item.result c.as_str.result.now (event_of c.in-Err.refusal) c.loop-name-test.true c.name-item.is c.as_str.ensures.value c.in-Err.ensures.named

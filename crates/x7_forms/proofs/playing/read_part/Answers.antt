@@ -1,11 +1,11 @@
-use Rattle.std.proofs.Common.{ℕ, List, [], ◌∷◌, Ok, Err, ap}
+use Rattle.std.proofs.Common.{ℕ, List, [], ◌∷◌, Ok, Err, ap, inl}
 use Rattle.x7_forms.specs.Message.{event_of}
 use Rattle.x7_forms.specs.Known.{part_by, part_limit, part_of, whole_in, with_inputs}
 use Rattle.x7_part.specs.PartFile.{part_in}
 use Rattle.x7_forms.specs.Play.{part_event}
 use Rattle.x7_forms.specs.Step.{CameIn, step_over}
 use Rattle.x7_forms.proofs.PlayLemmas.{refused}
-use Rattle.x7_forms.proofs.ReadLemmas.{after_text, caused_event, stops, works}
+use Rattle.x7_forms.proofs.ReadLemmas.{after_text, caused_event, no_part, stops, works}
 use Rattle.x7_forms.proofs.playing.read_part.Goals as goal
 
 pub returns-in-Ok-part_of-clause-due : goal.returns-in-Ok-part_of-clause-due
@@ -34,3 +34,9 @@ returns-in-Err-clause-due g c = λ flash.
     let name = c.args.name.now in
     stops (with_inputs (i.state c.args.inputs.now).contents flash) (CameIn (step_over (name ∷ []) (i.state c.args.inputs.now) (i.state c.read_whole.new.inputs)))
     (λ t. whole_in t part_limit name) (λ t text. part_by name (part_in text)) (event_of c.in-Err.refusal) (c.in-Err.ensures.due flash)
+
+pub returns-clause-named : goal.returns-clause-named
+returns-clause-named g c = no_part c.args.name.now c.in-Err-part_of.fault (event_of c.refusal_of.result) c.refusal_of.ensures
+
+pub returns-in-Err-clause-named : goal.returns-in-Err-clause-named
+returns-in-Err-clause-named g c = inl c.in-Err.ensures.named

@@ -3,7 +3,7 @@ use Rattle.x7_words.specs.Input.{Selects}
 use Rattle.x7_forms.specs.Message.{event_of}
 use Rattle.x7_forms.specs.Step.{CameIn, IsCaused, step_over}
 use Rattle.x7_forms.specs.Known.{whole_in, with_inputs}
-use Rattle.x7_forms.proofs.ReadLemmas.{open_refused, whole_read, whole_refused}
+use Rattle.x7_forms.proofs.ReadLemmas.{open_refused, unopened_unread, want_unread, whole_read, whole_refused}
 use Rattle.x7_forms.proofs.read.read_whole.Goals as goal
 
 pub returns-in-Err-clause-due : goal.returns-in-Err-clause-due
@@ -28,3 +28,13 @@ returns-clause-due g c = λ flash.
     let i = g.I.Inputs in
     whole_refused (i.state c.args.inputs.now) (i.state c.open.new.inputs) (i.state c.read_rest.new.inputs) flash c.args.name.now c.args.limit (event_of c.in-Err-read_rest.refusal)
     c.open.ensures.inputs c.in-Ok.ensures.ok.found c.open.ensures.asks c.in-Err-read_rest.ensures.err
+
+pub returns-in-Err-clause-named : goal.returns-in-Err-clause-named
+returns-in-Err-clause-named g c =
+    let i = g.I.Inputs in
+    unopened_unread (i.state c.args.inputs.now) (i.state c.open.new.inputs) c.args.name.now (event_of c.in-Err.refusal) c.in-Err.ensures.err
+
+pub returns-clause-named : goal.returns-clause-named
+returns-clause-named g c =
+    let i = g.I.Inputs in
+    want_unread (i.state c.open.new.inputs) (i.state c.read_rest.new.inputs) c.args.name.now c.args.limit (event_of c.in-Err-read_rest.refusal) c.in-Err-read_rest.ensures.err

@@ -45,9 +45,9 @@ loop-token-preserved c =
     let pushed : c.push.new.self.items ≡ out ++ one ∷ [] = grind (arith, c.push.ensures.items, c.if-is_err.false, c.if-is_err.ensures.value, c.if-is_err.ensures.negation, c.is_err.ensures.value, c.is_err.ensures.negation) in
     let some : 0 < size = subst (λ t. 0 < size_of t) c.in-Word.is c.in-Some.ensures.some in
     record {
-      says = stored-on (pieces_left c.args.source.now) at here behind end size out c.push.new.self.items one pushed c.loop-token.invariant.within c.in-Some.ensures.kept c.in-Some-statement.ensures.front c.if-not-pass_end.ensures.kept c.loop-token.invariant.says
+      says = stored-on (pieces_left c.args.source.now) at here behind end size out c.push.new.self.items one pushed c.loop-token.invariant.within c.in-Some.ensures.kept c.in-Some-statement.ensures.prefix c.if-not-pass_end.ensures.kept c.loop-token.invariant.says
           (word-here (pieces_left at) here.line size c.in-Some.token here.rest c.in-Some.ensures.is c.in-Word.is) c.in-Some-statement.ensures.is c.in-Some-statement.ensures.after (c.if-not-pass_end.ensures.found refl);
-      within = all-within (pieces_left c.args.source.now) at here behind end size out c.push.new.self.items one pushed c.loop-token.invariant.within c.in-Some-statement.ensures.within c.in-Some.ensures.kept c.in-Some-statement.ensures.front c.if-not-pass_end.ensures.kept;
+      within = all-within (pieces_left c.args.source.now) at here behind end size out c.push.new.self.items one pushed c.loop-token.invariant.within c.in-Some-statement.ensures.within c.in-Some.ensures.kept c.in-Some-statement.ensures.prefix c.if-not-pass_end.ensures.kept;
       few = omega (arith, c.loop-token.invariant.few, c.in-Some.ensures.passed, c.in-Some-statement.ensures.passed, c.if-not-pass_end.ensures.passed refl, some, ap length pushed, length-append out (one ∷ []));
     }
 

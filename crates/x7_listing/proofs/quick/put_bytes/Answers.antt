@@ -4,6 +4,6 @@ use Rattle.x7_listing.proofs.quick.put_bytes.Goals as goal
 
 pub returns-clause-takes : goal.returns-clause-takes
 returns-clause-takes c =
-    takes-front c.args.text.now c.prefix_of_hex-front.result.bytes c.args.out.now.items c.put.new.text.items c.truncate.new.self.items c.prefix_of_hex-front.result.digits (c.prefix_of_hex-front.result.digits / 2) _ c.requires.long
-    (c.is_bytes.ensures c.if-not-is_bytes.false) c.prefix_of_hex-front.ensures.within c.prefix_of_hex-front.ensures.long c.prefix_of_hex-front.ensures.fit
-    (ap (take c.prefix_of_hex-front.result.digits) (sym c.behind_word.ensures) ∙ c.prefix_of_hex-front.ensures.digits) (omega arith) (omega arith) (omega arith) (omega arith) c.put.ensures.appends.items c.truncate.ensures.items
+    takes-front c.args.text.now c.prefix_of_hex-prefix.result.bytes c.args.out.now.items c.put.new.text.items c.truncate.new.self.items c.prefix_of_hex-prefix.result.digits (c.prefix_of_hex-prefix.result.digits / 2) _ c.requires.long
+    (c.is_bytes.ensures c.if-not-is_bytes.false) c.prefix_of_hex-prefix.ensures.within c.prefix_of_hex-prefix.ensures.long c.prefix_of_hex-prefix.ensures.fit
+    (ap (take c.prefix_of_hex-prefix.result.digits) (sym c.after_word.ensures) ∙ c.prefix_of_hex-prefix.ensures.digits) (omega arith) (omega arith) (omega arith) (omega arith) c.put.ensures.appends.items c.truncate.ensures.items

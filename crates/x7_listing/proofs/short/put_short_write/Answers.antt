@@ -11,8 +11,8 @@ use Rattle.x7_listing.proofs.short.put_short_write.Goals as goal
 
 pub returns-clause-listed : goal.returns-clause-listed
 returns-clause-listed c = λ old new x text given before bytes s.
-    let front : take (4 * c.args.count) c.first_64.result.now ≡ take (4 * c.args.count) (drop 4 c.args.rest.now) = front_of_front _ c.args.count (drop 4 c.args.rest.now) c.first_64.result.now (omega (arith, c.requires.few)) (omega (arith, c.requires.long)) c.first_64.ensures in
-    short_told old new c.args.pen.synced _ c.args.pen.line _ c.session_line.result c.args.register c.args.count _ _ (text ++ take c.args.len c.args.sheet.now) _ given before bytes c.args.rest.now (words_of_bytes (take (4 * c.args.count) c.first_64.result.now)) c.args.rest x (ap words_of_bytes front) c.session_line.ensures.line c.in_session.ensures.synced
+    let prefix : take (4 * c.args.count) c.first_64.result.now ≡ take (4 * c.args.count) (drop 4 c.args.rest.now) = front_of_front _ c.args.count (drop 4 c.args.rest.now) c.first_64.result.now (omega (arith, c.requires.few)) (omega (arith, c.requires.long)) c.first_64.ensures in
+    short_told old new c.args.pen.synced _ c.args.pen.line _ c.session_line.result c.args.register c.args.count _ _ (text ++ take c.args.len c.args.sheet.now) _ given before bytes c.args.rest.now (words_of_bytes (take (4 * c.args.count) c.first_64.result.now)) c.args.rest x (ap words_of_bytes prefix) c.session_line.ensures.line c.in_session.ensures.synced
     (c.in_session.ensures.line ∙ c.put_words-end.ensures.count ∙ sym (data_place c.args.register 0 (words_of_bytes (take (4 * c.args.count) c.first_64.result.now)) (is_data c.args.register x.other)))
     (short_written (text ++ take c.args.len c.args.sheet.now) (text ++ take c.put_head-start.result c.put_head-start.new.sheet) _ (close c.session_line.result ++ head_text (Open c.args.register c.args.count) (short_head c.args.register c.args.count)) _ _
     (behind_text text (take c.args.len c.args.sheet.now) _ _ c.put_head-start.ensures.text) (behind_text text (take c.put_head-start.result c.put_head-start.new.sheet) _ _ c.put_words-end.ensures.text)

@@ -1,18 +1,23 @@
-use Rattle.std.proofs.Common.{◌≡◌, ◌-◌, ◌++◌, append-nil, arith, drop, length, refl, subst, take}
+use Rattle.std.proofs.Common.{◌≡◌, ◌-◌, ◌++◌, [], append-nil, arith, drop, length, refl, subst, take, true}
 use Rattle.x7_listing.specs.Telling.{Tells}
-use Rattle.x7_listing.proofs.AtOnceLemmas.{rest_length, seam}
+use Rattle.x7_listing.proofs.AtOnceLemmas.{in_line_told, rest_length, seam}
 use Rattle.x7_listing.proofs.short.take_short.Goals as goal
 
 pub loop-len-init : goal.loop-len-init
-loop-len-init c = record {
-  within = omega arith;
-  first = λ e. (refl, refl);
-  later = λ e. absurd (omega (arith, e));
-  kept = omega arith;
-  inside = omega arith;
-  few = omega arith;
-  tells = λ given before bytes s. rw (append-nil c.args.text.now.items, append-nil bytes) s;
-}
+loop-len-init c =
+    let sheet = c.take_writes-begun.ensures.sheet in
+    let here : c.args.pen.synced ≡ true = c.if-not-may_come.ensures.session refl in
+    record {
+      within = sheet.within;
+      first = sheet.none;
+      kept = sheet.kept;
+      inside = sheet.inside;
+      few = sheet.grown;
+      tells = λ given before bytes s.
+          let begins : Tells c.args.cutter.now true c.session_line.result [] (c.args.text.now.items ++ []) given before bytes =
+          rw (append-nil c.args.text.now.items) (in_line_told c.args.cutter.now c.args.pen.synced true c.args.pen.line c.session_line.result _ [] c.args.text.now.items given before bytes here refl (c.session_line.ensures.line here) s) in
+          in_line_told c.take_writes-begun.new.cutter true c.in_session-now.result.synced c.take_writes-begun.result.line c.in_session-now.result.line [] _ _ given before _ refl c.in_session-now.ensures.synced c.in_session-now.ensures.line (c.take_writes-begun.ensures.listed c.args.text.now.items given before bytes begins);
+    }
 
 pub loop-len-preserved : goal.loop-len-preserved
 loop-len-preserved c =
@@ -21,7 +26,6 @@ loop-len-preserved c =
     record {
       within = omega (arith, left, next.within, c.loop-len.invariant.within);
       first = λ e. absurd (omega (arith, e, next.some));
-      later = λ some. omega (arith, next.some);
       kept = omega (arith, next.kept, c.loop-len.invariant.kept);
       inside = next.inside;
       few = omega (arith, next.grown, c.loop-len.invariant.few);

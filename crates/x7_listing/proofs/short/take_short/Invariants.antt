@@ -1,4 +1,4 @@
-use Rattle.std.proofs.Common.{◌≡◌, ◌≤◌, ◌<◌, ◌*◌, ◌-◌, ◌++◌, List, ℕ, length, take}
+use Rattle.std.proofs.Common.{◌≡◌, ◌≤◌, ◌*◌, ◌-◌, ◌++◌, List, ℕ, length, take}
 use Rattle.x7_listing.specs.Telling.{Tells}
 use Rattle.x7_listing.proofs.short.take_short.Given as goal
 
@@ -6,7 +6,6 @@ abbrev pub invariant-loop-len : goal.invariant-loop-len
 invariant-loop-len l = record {
   within : l.at ≤ length l.rest;
   first : l.at ≡ 0 → (l.cutter ≡ l.fn.cutter) × (l.len ≡ 0);
-  later : 0 < l.at → 4 ≤ l.at;
   kept : length l.cutter.kept ≤ length l.fn.cutter.kept;
   inside : l.len ≤ 2048;
   few : l.len ≤ 25 * l.at;

@@ -7,8 +7,8 @@ returns-clause-one c = byte_enters
 pub returns-clause-newer : goal.returns-clause-newer
 returns-clause-newer c = newer_of
 
-pub returns-clause-front : goal.returns-clause-front
-returns-clause-front c = front_of
+pub returns-clause-prefix : goal.returns-clause-prefix
+returns-clause-prefix c = front_of
 
 pub returns-clause-placed : goal.returns-clause-placed
 returns-clause-placed c = placed_of

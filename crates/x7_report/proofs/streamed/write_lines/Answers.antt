@@ -16,7 +16,7 @@ returns-in_err-write_all-clause-prefix g c =
     let m = frame_at c.args.part.now c.args.memory.now in
     let block : c.deref.result.now ≡ lines_text m c.split_at.result.0.now = c.deref.ensures.value ∙ c.put_lines.ensures.appends.items ∙ ap (λ (t : List ℕ). t ++ lines_text m c.split_at.result.0.now) c.clear.ensures.items in
     group_failed (s.state c.args.out.now).written (s.state c.loop-rest.out).written m c.args.fars.now c.loop-rest.rest.now c.split_at.result.0.now c.split_at.result.1.now c.min.result
-    c.loop-rest.invariant.sent c.split_at.ensures.front c.split_at.ensures.back (s.state c.write_all.new.sink).written (rw (← block) c.in_err-write_all.ensures.front)
+    c.loop-rest.invariant.sent c.split_at.ensures.front c.split_at.ensures.back (s.state c.write_all.new.sink).written (rw (← block) c.in_err-write_all.ensures.prefix)
 
 pub loop-rest-preserved : goal.loop-rest-preserved
 loop-rest-preserved g c =

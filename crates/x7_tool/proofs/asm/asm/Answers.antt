@@ -5,14 +5,14 @@ use Rattle.x7_tool.specs.Turns.{IsFed}
 use Rattle.x7_tool.proofs.AsmLemmas.{asm_faulted, end_fault, fed_end}
 use Rattle.x7_tool.proofs.asm.asm.Goals as goal
 
-pub returns-in-Some : goal.returns-in-Some
-returns-in-Some g c =
+pub returns-in-Some-clause-due : goal.returns-in-Some-clause-due
+returns-in-Some-clause-due g c =
     let i = g.I.Inputs in
     let t = c.in-Ok.ensures.ok in
     asm_faulted (i.state c.args.inputs.now) (i.state c.feed_whole.new.inputs) c.args.name.now t.0 c.in-Some.fault (event_of c.refusal_of.result) (sym c.refusal_of.ensures) t.3 (fed_end c.in-Ok.found c.in-Some.fault c.feed_whole.new.assembler t.0 c.in-Some.is t.2)
 
-pub returns-in-Err-finish : goal.returns-in-Err-finish
-returns-in-Err-finish g c =
+pub returns-in-Err-finish-clause-due : goal.returns-in-Err-finish-clause-due
+returns-in-Err-finish-clause-due g c =
     let i = g.I.Inputs in
     let t = c.in-Ok.ensures.ok in
     let s : AssemblerStandsFor c.feed_whole.new.assembler t.0 = subst (λ o. IsFed o c.feed_whole.new.assembler t.0) c.in_default.is t.2 in

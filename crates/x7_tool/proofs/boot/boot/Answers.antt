@@ -1,8 +1,9 @@
-use Rattle.std.proofs.Common.{[], ◌∷◌}
+use Rattle.std.proofs.Common.{[], ◌∷◌, Some, inl, refl}
+use Rattle.x7_forms.specs.Form.{Booting}
 use Rattle.x7_forms.specs.Message.{event_of}
 use Rattle.x7_tool.specs.Play.{text_of_play}
 use Rattle.x7_forms.specs.Step.{CameIn, seen, step_over}
-use Rattle.x7_tool.proofs.FlashLemmas.{booted_ends, part_refused}
+use Rattle.x7_tool.proofs.FlashLemmas.{boot_measured, booted_ends, no_part_measured, part_refused}
 use Rattle.x7_tool.proofs.boot.boot.Goals as goal
 
 pub returns-in-Ok-clause-due : goal.returns-in-Ok-clause-due
@@ -18,3 +19,11 @@ returns-in-Err-clause-due g c = λ before after.
     let f = g.F.Flash in
     part_refused (record before { inputs = i.state c.args.inputs.now; flash = f.state c.args.flash.now }) (record after { inputs = i.state c.read_part.new.inputs; flash = f.state c.args.flash.now })
     c.args.name.now c.args.part.now (event_of c.in-Err.refusal) (c.in-Err.ensures.due (f.state c.args.flash.now).bytes)
+
+pub returns-in-Ok-clause-measured : goal.returns-in-Ok-clause-measured
+returns-in-Ok-clause-measured g c =
+    let f = g.F.Flash in
+    boot_measured (Some (Booting c.args.part.now c.args.name.now)) c.args.name.now c.in-Ok.part (f.state c.args.flash.now) (f.state c.boot_from.new.flash) (seen text_of_play c.boot_from.result) c.boot_from.ensures.due
+
+pub returns-in-Err-clause-measured : goal.returns-in-Err-clause-measured
+returns-in-Err-clause-measured g c = no_part_measured (Some (Booting c.args.part.now c.args.name.now)) (g.F.Flash.state c.args.flash.now) c.args.part.now (event_of c.in-Err.refusal) (inl refl) c.in-Err.ensures.named

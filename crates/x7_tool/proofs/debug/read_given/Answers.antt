@@ -7,8 +7,8 @@ use Rattle.x7_tool.specs.Outcome.{DebugInputs, script_limit, stream_data}
 use Rattle.x7_tool.proofs.DebugLemmas.{stream_steady}
 use Rattle.x7_tool.proofs.debug.read_given.Goals as goal
 
-pub returns-in-Err-read_data : goal.returns-in-Err-read_data
-returns-in-Err-read_data g c =
+pub returns-in-Err-read_data-clause-due : goal.returns-in-Err-read_data-clause-due
+returns-in-Err-read_data-clause-due g c =
     let i = g.I.Inputs in
     let part = c.args.part.now in
     let stream = c.args.stream.now in
@@ -18,8 +18,8 @@ returns-in-Err-read_data g c =
     (λ t p. and_so (stream_data t stream) (λ bytes. and_so (whole_in t script_limit script) (λ text. Ok (record { part = p; stream = bytes; script = text })))) c.in-Ok.part (Err event) (part_steady part) c.read_part.ensures.inputs (λ n h. inr (first_of stream (script ∷ []) n h)) c.in-Ok.ensures.due
     (answers_stop (List ℕ) DebugInputs (stream ∷ []) (stream ∷ []) (i.state c.read_part.new.inputs) (i.state c.read_data.new.inputs) (λ t. stream_data t stream) (λ t bytes. and_so (whole_in t script_limit script) (λ text. Ok (record { part = c.in-Ok.part; stream = bytes; script = text }))) event (λ n h. h) c.in-Err-read_data.ensures.due)
 
-pub returns-in-Err-read_whole : goal.returns-in-Err-read_whole
-returns-in-Err-read_whole g c =
+pub returns-in-Err-read_whole-clause-due : goal.returns-in-Err-read_whole-clause-due
+returns-in-Err-read_whole-clause-due g c =
     let i = g.I.Inputs in
     let part = c.args.part.now in
     let stream = c.args.stream.now in
@@ -33,3 +33,12 @@ returns-in-Err-read_whole g c =
     (answers_go (List ℕ) DebugInputs (stream ∷ []) (script ∷ []) (stream ∷ script ∷ []) first second last (λ t. stream_data t stream) (λ t bytes. and_so (whole_in t script_limit script) (λ text. Ok (record { part = c.in-Ok.part; stream = bytes; script = text }))) c.in-Ok-read_data.stream.items (Err event)
     (stream_steady stream) c.read_data.ensures.inputs (λ n h. inr h) c.in-Ok-read_data.ensures.due
     (answers_stop (List ℕ) DebugInputs (script ∷ []) (script ∷ []) second last (λ t. whole_in t script_limit script) (λ t text. Ok (record { part = c.in-Ok.part; stream = c.in-Ok-read_data.stream.items; script = text })) event (λ n h. h) c.in-Err-read_whole.ensures.due))
+
+pub returns-in-Err-clause-due : goal.returns-in-Err-clause-due
+returns-in-Err-clause-due g c =
+    let i = g.I.Inputs in
+    let part = c.args.part.now in
+    let stream = c.args.stream.now in
+    let script = c.args.script.now in
+    answers_stop PartData DebugInputs (part ∷ []) (part ∷ stream ∷ script ∷ []) (i.state c.args.inputs.now) (i.state c.read_part.new.inputs) (λ t. part_of t part)
+    (λ t p. and_so (stream_data t stream) (λ bytes. and_so (whole_in t script_limit script) (λ text. Ok (record { part = p; stream = bytes; script = text })))) (event_of c.in-Err.refusal) (first_of part (stream ∷ script ∷ [])) c.in-Err.ensures.due

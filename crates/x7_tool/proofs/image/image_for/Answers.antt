@@ -2,12 +2,12 @@ use Rattle.std.proofs.Common.{[], ◌∷◌, Err, inr}
 use Rattle.x7_part.specs.Part.{PartData}
 use Rattle.x7_forms.specs.Message.{event_of}
 use Rattle.x7_forms.specs.Known.{Answer, and_so, part_of}
-use Rattle.x7_forms.proofs.ReadLemmas.{answers_go, answers_stop, part_steady}
+use Rattle.x7_forms.proofs.ReadLemmas.{answers_go, answers_stop, first_of, part_steady}
 use Rattle.x7_tool.specs.Outcome.{ImageStreams, image_by, image_streams}
 use Rattle.x7_tool.proofs.image.image_for.Goals as goal
 
-pub returns : goal.returns
-returns g c =
+pub returns-clause-due : goal.returns-clause-due
+returns-clause-due g c =
     let i = g.I.Inputs in
     let part = c.args.part.now in
     let golden = c.args.golden.now in
@@ -16,3 +16,12 @@ returns g c =
     answers_go PartData Answer (part ∷ []) (golden ∷ update ∷ []) (part ∷ golden ∷ update ∷ []) (i.state c.args.inputs.now) (i.state c.read_part.new.inputs) (i.state c.read_streams.new.inputs) (λ t. part_of t part)
     (λ t p. and_so (image_streams t golden update) (image_by update p.start_unit)) c.in-Ok.part (Err event) (part_steady part) c.read_part.ensures.inputs (λ n h. inr h) c.in-Ok.ensures.due
     (answers_stop ImageStreams Answer (golden ∷ update ∷ []) (golden ∷ update ∷ []) (i.state c.read_part.new.inputs) (i.state c.read_streams.new.inputs) (λ t. image_streams t golden update) (λ t. image_by update c.in-Ok.part.start_unit) event (λ n h. h) c.in-Err-read_streams.ensures.due)
+
+pub returns-in-Err-clause-due : goal.returns-in-Err-clause-due
+returns-in-Err-clause-due g c =
+    let i = g.I.Inputs in
+    let part = c.args.part.now in
+    let golden = c.args.golden.now in
+    let update = c.args.update.now in
+    answers_stop PartData Answer (part ∷ []) (part ∷ golden ∷ update ∷ []) (i.state c.args.inputs.now) (i.state c.read_part.new.inputs) (λ t. part_of t part) (λ t p. and_so (image_streams t golden update) (image_by update p.start_unit))
+    (event_of c.in-Err.refusal) (first_of part (golden ∷ update ∷ [])) c.in-Err.ensures.due

@@ -1,4 +1,4 @@
-use Rattle.std.proofs.Common.{◌≡◌, ℕ, ◌+◌, ◌-◌, ◌≤◌, ◌⊎◌, List, [], ◌∷◌, ◌++◌, Option, Some, Ok, Err, drop, subst, take, length, length-append, append-nil, length-drop, length-take-le, take_all, refl, sym, ap, ◌∙◌, inl, inr, arith}
+use Rattle.std.proofs.Common.{◌≡◌, ℕ, ◌+◌, ◌-◌, ◌≤◌, ◌⊎◌, List, [], ◌∷◌, ◌++◌, Option, Some, Ok, Err, true, false, drop, subst, take, length, length-append, append-nil, length-drop, length-take-le, take_all, refl, sym, ap, ◌∙◌, inl, inr, arith}
 use Rattle.std.proofs.lemmas.Result.{on_ok_weaker}
 use Rattle.x7_words.specs.Sink.{SinkFails, appended, PutsPrefix}
 use Rattle.x7_words.specs.Input.{preceded, Selects}
@@ -7,21 +7,25 @@ use Rattle.x7_words.proofs.InputLemmas.{stays_on}
 use Rattle.x7_words.proofs.CountLemmas.{risen_from}
 use Rattle.x7_listing.specs.Listing.{listing_of}
 use Rattle.x7_listing.specs.StreamListing.{stream_listing}
-use Rattle.x7_forms.specs.Event.{no_memory, write_fault}
+use Rattle.x7_forms.specs.Event.{no_memory, status_of, write_fault}
 use Rattle.x7_forms.specs.Message.{event_of}
 use Rattle.x7_forms.specs.Known.{stream_limit, with_inputs}
 use Rattle.x7_forms.specs.Step.{CameIn, step_over}
-use Rattle.x7_tool.specs.Turns.{Lists}
+use Rattle.x7_forms.specs.declared.refusal.Refusal.{Refusal}
+use Rattle.x7_forms.specs.Form.{Listing}
+use Rattle.x7_tool.specs.Ahead.{StaysNear}
+use Rattle.x7_tool.specs.Run.{ListsSoFar}
+use Rattle.x7_tool.specs.Turns.{Lists, ListsStream}
 use Rattle.x7_forms.specs.Turn.{MayFollow}
-use Rattle.x7_tool.proofs.AheadLemmas.{front_near, lists_longer, longer_front, longer_twice, stays_near, turn_near, unfronted_near, unopened_near, unread_near, unwritten_near, why_weaker}
-use Rattle.x7_tool.proofs.Causes.{Ended, PutsListed, both_err, ends_same, list_ends, list_seen, listed_whole, out_of_memory, unfronted, unopened}
+use Rattle.x7_tool.proofs.AheadLemmas.{front_near, longer_front, longer_twice, stays_near, turn_near, unfronted_near, unopened_near, unread_near, unwritten_near, why_weaker}
+use Rattle.x7_tool.proofs.Causes.{Ended, PutsListed, both_err, ends_same, list_ends, list_seen, listed_whole, nothing_put, nothing_taken, out_of_memory, unfronted, unopened}
 use Rattle.x7_forms.proofs.ReadLemmas.{at_on}
 use Rattle.x7_forms.proofs.ResultLemmas.{err_weaker}
-use Rattle.x7_tool.proofs.TurnLemmas.{end_failed, front_failed, front_here, goes_on, line_front, line_then, stream_here, stream_whole, taken_more, unread_end, write_failed}
+use Rattle.x7_tool.proofs.TurnLemmas.{end_failed, front_failed, front_so_far, goes_on, line_front, line_then, stream_so_far, stream_whole, taken_more, unread_end, write_failed}
 use Rattle.x7_tool.proofs.list.list.Goals as goal
 
-pub returns-in-Err : goal.returns-in-Err
-returns-in-Err g c = λ before after.
+pub returns-in-Err-clause-ends : goal.returns-in-Err-clause-ends
+returns-in-Err-clause-ends g c = λ before after.
     let i = g.I.Inputs in
     let o = g.O.Sink in
     let old = record before { inputs = i.state c.args.inputs.now; out = o.state c.args.out.now } in
@@ -31,8 +35,8 @@ returns-in-Err g c = λ before after.
     list_ends stream old new (Err event) (unopened old.inputs new.inputs old.flash.bytes stream (SinkFails old.out new.out) old.out.written event c.in-Err.ensures.err c.open.ensures.asks)
     (stays_near event stream old new (unopened_near old.inputs.contents stream new.inputs.rest old.out.written new.out.written old.inputs new.inputs stream event c.open.ensures.asks c.in-Err.ensures.err))
 
-pub returns-in-Err-read_beginning : goal.returns-in-Err-read_beginning
-returns-in-Err-read_beginning g c = λ before after.
+pub returns-in-Err-read_beginning-clause-ends : goal.returns-in-Err-read_beginning-clause-ends
+returns-in-Err-read_beginning-clause-ends g c = λ before after.
     let i = g.I.Inputs in
     let o = g.O.Sink in
     let old = record before { inputs = i.state c.args.inputs.now; out = o.state c.args.out.now } in
@@ -43,8 +47,8 @@ returns-in-Err-read_beginning g c = λ before after.
     (unfronted old.inputs (i.state c.open.new.inputs) new.inputs old.flash.bytes stream (SinkFails old.out new.out) old.out.written event c.open.ensures.inputs c.in-Ok.ensures.ok.found c.open.ensures.asks c.in-Err-read_beginning.ensures.err)
     (stays_near event stream old new (unfronted_near old.inputs.contents stream new.inputs.rest old.out.written new.out.written (i.state c.open.new.inputs) new.inputs stream event refl c.in-Ok.ensures.ok.found c.open.ensures.asks c.in-Err-read_beginning.ensures.err))
 
-pub returns-in-Err-put_beginning : goal.returns-in-Err-put_beginning
-returns-in-Err-put_beginning g c = λ before after.
+pub returns-in-Err-put_beginning-clause-ends : goal.returns-in-Err-put_beginning-clause-ends
+returns-in-Err-put_beginning-clause-ends g c = λ before after.
     let i = g.I.Inputs in
     let o = g.O.Sink in
     let contents = (i.state c.args.inputs.now).contents in
@@ -55,29 +59,30 @@ returns-in-Err-put_beginning g c = λ before after.
     let f = c.in-Ok-read_beginning.ensures.begins in
     let taken = c.in-Ok-read_beginning.front.bytes.items in
     let last = c.in-Ok-read_beginning.front.last in
-    let line = c.deref.result.now in
+    let line = c.deref-line.result.now in
     let start = c.in-Ok-read_beginning.front.start in
-    let bytes = c.deref-2.result.now in
+    let bytes = c.deref.result.now in
     let sent = take (length bytes - start) (drop start bytes) in
-    let cut : sent ≡ drop start taken = take_all (length bytes - start) (drop start bytes) (omega (arith, length-drop start bytes)) ∙ ap (drop start) c.deref-2.ensures.value in
+    let cut : sent ≡ drop start taken = take_all (length bytes - start) (drop start bytes) (omega (arith, length-drop start bytes)) ∙ ap (drop start) c.deref.ensures.value in
     let rest = (i.state c.read_beginning.new.inputs).rest in
     let sel : Selects contents stream (preceded taken rest) = subst (λ r. Selects contents stream r) f.reads.takes.taken c.in-Ok.ensures.ok.found in
-    let goes : (left : List ℕ) → MayFollow last left → stream_listing (taken ++ left) ≡ Ok (line ++ listing_of (sent ++ left)) = λ left m. f.begins left m ∙ ap (λ (l : List ℕ). Ok (l ++ listing_of (drop start taken ++ left))) (sym c.deref.ensures.value) ∙ ap (λ (s : List ℕ). Ok (line ++ listing_of (s ++ left))) (sym cut) in
+    let goes : (left : List ℕ) → MayFollow last left → stream_listing (taken ++ left) ≡ Ok (line ++ listing_of (sent ++ left)) = λ left m. f.begins left m ∙ ap (λ (l : List ℕ). Ok (l ++ listing_of (drop start taken ++ left))) (sym c.deref-line.ensures.value) ∙ ap (λ (s : List ℕ). Ok (line ++ listing_of (s ++ left))) (sym cut) in
     let now = (o.state c.put_beginning.new.out).written in
     let Full : Type 0 = SinkFails (o.state c.args.out.now) (o.state c.put_beginning.new.out) in
     let r = event_of c.in-Err-put_beginning.refusal in
     let flash = before.flash.bytes in
+    let on : (left : List ℕ) → stream_listing (taken ++ left) ≡ Ok (line ++ listing_of (sent ++ left)) = λ left. goes left (λ l. let never : false ≡ true = sym c.if-front.false ∙ l in absurd cc) in
     let end : (r ≡ no_memory) ⊎ ((r ≡ write_fault) × SinkFails (o.state c.args.out.now) (o.state c.put_beginning.new.out)) → Ended (with_inputs contents flash) C stream Full old now (Err r)
     = elim [
-      | inl h ↦ ends_same (with_inputs contents flash) C stream Full old now r no_memory h (out_of_memory contents flash C stream taken rest Full old now sel (front_here taken line sent last old now c.put_beginning.ensures.fits goes c.in-Err-put_beginning.ensures.err))
+      | inl h ↦ ends_same (with_inputs contents flash) C stream Full old now r no_memory h (out_of_memory contents flash C stream taken rest Full old now sel (front_so_far taken line sent old now c.put_beginning.ensures.fits on c.in-Err-put_beginning.ensures.err))
       | inr h ↦ ends_same (with_inputs contents flash) C stream Full old now r write_fault h.0 (front_failed contents flash C stream taken line sent rest last Full old now sel f.end h.1 c.put_beginning.ensures.fits goes c.in-Err-put_beginning.ensures.err)
     ] in
     let put = c.in-Err-put_beginning.ensures.err [] (subst AreBytes (sym (append-nil _)) c.put_beginning.ensures.fits) in
     let near = unwritten_near contents stream rest old now _ given r (front_near contents stream taken rest old now sel f.few (longer_front old now _ put)) c.in-Err-put_beginning.ensures.why in
     list_ends stream (record before { inputs = i.state c.args.inputs.now; out = o.state c.args.out.now }) (record after { inputs = i.state c.read_beginning.new.inputs; out = o.state c.put_beginning.new.out }) (Err r) (end c.in-Err-put_beginning.ensures.why) (stays_near r stream (record before { inputs = i.state c.args.inputs.now; out = o.state c.args.out.now }) (record after { inputs = i.state c.read_beginning.new.inputs; out = o.state c.put_beginning.new.out }) near)
 
-pub returns-then-front : goal.returns-then-front
-returns-then-front g c = λ before after.
+pub returns-then-front-clause-ends : goal.returns-then-front-clause-ends
+returns-then-front-clause-ends g c = λ before after.
     let i = g.I.Inputs in
     let o = g.O.Sink in
     let contents = (i.state c.args.inputs.now).contents in
@@ -88,40 +93,43 @@ returns-then-front g c = λ before after.
     let f = c.in-Ok-read_beginning.ensures.begins in
     let taken = c.in-Ok-read_beginning.front.bytes.items in
     let last = c.in-Ok-read_beginning.front.last in
-    let line = c.deref.result.now in
+    let line = c.deref-line.result.now in
     let start = c.in-Ok-read_beginning.front.start in
-    let bytes = c.deref-2.result.now in
+    let bytes = c.deref.result.now in
     let sent = take (length bytes - start) (drop start bytes) in
-    let cut : sent ≡ drop start taken = take_all (length bytes - start) (drop start bytes) (omega (arith, length-drop start bytes)) ∙ ap (drop start) c.deref-2.ensures.value in
+    let cut : sent ≡ drop start taken = take_all (length bytes - start) (drop start bytes) (omega (arith, length-drop start bytes)) ∙ ap (drop start) c.deref.ensures.value in
     let rest = (i.state c.read_beginning.new.inputs).rest in
     let sel : Selects contents stream (preceded taken rest) = subst (λ r. Selects contents stream r) f.reads.takes.taken c.in-Ok.ensures.ok.found in
-    let goes : (left : List ℕ) → MayFollow last left → stream_listing (taken ++ left) ≡ Ok (line ++ listing_of (sent ++ left)) = λ left m. f.begins left m ∙ ap (λ (l : List ℕ). Ok (l ++ listing_of (drop start taken ++ left))) (sym c.deref.ensures.value) ∙ ap (λ (s : List ℕ). Ok (line ++ listing_of (s ++ left))) (sym cut) in
-    let now = (o.state c.put_end.new.out).written in
-    let Full : Type 0 = SinkFails (o.state c.args.out.now) (o.state c.put_end.new.out) in
-    let lists : Lists c.put_beginning.new.lister (appended old line) (o.state c.put_beginning.new.out).written sent = c.in-Ok-put_beginning.ensures.ok in
+    let goes : (left : List ℕ) → MayFollow last left → stream_listing (taken ++ left) ≡ Ok (line ++ listing_of (sent ++ left)) = λ left m. f.begins left m ∙ ap (λ (l : List ℕ). Ok (l ++ listing_of (drop start taken ++ left))) (sym c.deref-line.ensures.value) ∙ ap (λ (s : List ℕ). Ok (line ++ listing_of (s ++ left))) (sym cut) in
+    let now = (o.state c.put_short.new.out).written in
+    let Full : Type 0 = SinkFails (o.state c.args.out.now) (o.state c.put_short.new.out) in
+    let text = line ++ listing_of sent in
     let same = stream_whole taken line sent (goes [] (λ l. refl)) in
+    let end = f.end c.if-front.true in
     let flash = before.flash.bytes in
-    let ok = on_ok_weaker c.put_end.result (λ h. (line ++ listing_of sent, listed_whole contents flash C stream taken (line ++ listing_of sent) rest Full old now sel (f.end c.if-front.true) same (omega (arith, f.few)) (line_then old now line (listing_of sent) (h (appended old line) sent lists)))) c.put_end.ensures.ok in
-    let err = both_err c.put_end.result (λ r. (first : Option (List ℕ)) (bytes : List ℕ) → Lists c.put_beginning.new.lister first (o.state c.put_beginning.new.out).written bytes → PutsPrefix first (listing_of bytes) now)
-    (λ r. (event_of r ≡ no_memory) ⊎ ((event_of r ≡ write_fault) × SinkFails (o.state c.put_beginning.new.out) (o.state c.put_end.new.out)))
-    (λ r. Ended (with_inputs contents flash) C stream Full old now (Err (event_of r)))
+    let first = record before { inputs = i.state c.args.inputs.now; out = o.state c.args.out.now } in
+    let later = record after { inputs = i.state c.read_beginning.new.inputs; out = o.state c.put_short.new.out } in
+    let ok = on_ok_weaker c.put_short.result (λ h. (text, listed_whole contents flash C stream taken text rest Full old now sel end same (omega (arith, f.few)) h)) c.put_short.ensures.ok in
+    let Why : Refusal → Type 0 = λ r. ((event_of r ≡ no_memory) × (now ≡ old)) ⊎ ((event_of r ≡ write_fault) × Full) in
+    let err = both_err c.put_short.result (λ r. PutsPrefix old text now) Why (λ r. Ended (with_inputs contents flash) C stream Full old now (Err (event_of r)))
     (λ r p w.
-    let front : PutsListed taken old now = (line ++ listing_of sent, (same, line_front old now line (listing_of sent) (p (appended old line) sent lists))) in
-    let end : (event_of r ≡ no_memory) ⊎ ((event_of r ≡ write_fault) × SinkFails (o.state c.put_beginning.new.out) (o.state c.put_end.new.out)) → Ended (with_inputs contents flash) C stream Full old now (Err (event_of r))
+    let by : ((event_of r ≡ no_memory) × (now ≡ old)) ⊎ ((event_of r ≡ write_fault) × Full) → Ended (with_inputs contents flash) C stream Full old now (Err (event_of r))
     = elim [
-      | inl h ↦ ends_same (with_inputs contents flash) C stream Full old now (event_of r) no_memory h (out_of_memory contents flash C stream taken rest Full old now sel front)
-      | inr h ↦
-          let risen = risen_from (o.state c.args.out.now).faults (o.state c.put_beginning.new.out).faults (o.state c.put_end.new.out).faults c.put_beginning.ensures.counts.faults h.1 in
-          ends_same (with_inputs contents flash) C stream Full old now (event_of r) write_fault h.0 (end_failed contents flash C stream taken rest Full old now sel (f.end c.if-front.true) risen front)
+      | inl h ↦
+          let none : ListsSoFar [] old now = subst (λ (x : Option (List ℕ)). ListsSoFar [] old x) (sym h.1) (nothing_put old) in
+          let opened = nothing_taken contents stream (i.state c.open.new.inputs).rest c.in-Ok.ensures.ok.found in
+          ends_same (with_inputs contents flash) C stream Full old now (event_of r) no_memory h.0 (out_of_memory contents flash C stream [] (i.state c.open.new.inputs).rest Full old now opened none)
+      | inr h ↦ ends_same (with_inputs contents flash) C stream Full old now (event_of r) write_fault h.0 (end_failed contents flash C stream taken rest Full old now sel end h.1 (text, (same, p)))
     ] in
-    end w)
-    c.put_end.ensures.err c.put_end.ensures.why in
-    let longer = longer_twice old (o.state c.put_beginning.new.out).written now (lists_longer c.put_beginning.new.lister old (o.state c.put_beginning.new.out).written _ _ lists) c.put_end.ensures.longer in
-    let near = err_weaker c.put_end.result (λ r w. stays_near (event_of r) stream (record before { inputs = i.state c.args.inputs.now; out = o.state c.args.out.now }) (record after { inputs = i.state c.read_beginning.new.inputs; out = o.state c.put_end.new.out }) (unwritten_near contents stream rest old now _ given (event_of r) (front_near contents stream taken rest old now sel f.few longer) w)) c.put_end.ensures.why in
-    list_seen stream (record before { inputs = i.state c.args.inputs.now; out = o.state c.args.out.now }) (record after { inputs = i.state c.read_beginning.new.inputs; out = o.state c.put_end.new.out }) c.put_end.result ok err near
+    by w)
+    c.put_short.ensures.err c.put_short.ensures.why in
+    let near = both_err c.put_short.result (λ r. PutsPrefix old text now) Why (λ r. StaysNear (status_of (event_of r)) (Some (Listing stream)) first later)
+    (λ r p w. stays_near (event_of r) stream first later (unwritten_near contents stream rest old now _ given (event_of r) (front_near contents stream taken rest old now sel f.few (longer_front old now text p)) (why_weaker w)))
+    c.put_short.ensures.err c.put_short.ensures.why in
+    list_seen stream first later c.put_short.result ok err near
 
-pub returns-in-Err-next_turn : goal.returns-in-Err-next_turn
-returns-in-Err-next_turn g c = λ before after.
+pub returns-in-Err-next_turn-clause-ends : goal.returns-in-Err-next_turn-clause-ends
+returns-in-Err-next_turn-clause-ends g c = λ before after.
     let i = g.I.Inputs in
     let o = g.O.Sink in
     let v = c.loop-turn.invariant in
@@ -135,8 +143,8 @@ returns-in-Err-next_turn g c = λ before after.
     v.inputs v.told.1.0 v.told.1.3 v.told.1.1 v.told.1.2 c.in-Err-next_turn.ensures.err c.next_turn.ensures.asked)
     (stays_near event stream old new (unread_near old.inputs.contents stream new.inputs.rest old.out.written new.out.written (i.state c.loop-turn.inputs) new.inputs stream v.told.0 _ event v.told.1.0 (λ more. (t.line ++ listing_of (t.sent ++ more), t.goes more)) c.in-Err-next_turn.ensures.err))
 
-pub returns-in-Err-put_turn : goal.returns-in-Err-put_turn
-returns-in-Err-put_turn g c = λ before after.
+pub returns-in-Err-put_turn-clause-ends : goal.returns-in-Err-put_turn-clause-ends
+returns-in-Err-put_turn-clause-ends g c = λ before after.
     let i = g.I.Inputs in
     let o = g.O.Sink in
     let contents = (i.state c.args.inputs.now).contents in
@@ -156,7 +164,7 @@ returns-in-Err-put_turn g c = λ before after.
     let end : ((r ≡ no_memory) × (now ≡ (o.state c.loop-turn.out).written)) ⊎ ((r ≡ write_fault) × SinkFails (o.state c.loop-turn.out) (o.state c.put_turn.new.out)) → Ended (with_inputs contents flash) C stream Full old now (Err r)
     = elim [
       | inl h ↦
-          let front2 : PutsListed taken old now = subst (λ w. PutsListed taken old w) (sym h.1) (stream_here c.loop-turn.lister old (o.state c.loop-turn.out).written taken t) in
+          let front2 : ListsSoFar taken old now = subst (λ (w : Option (List ℕ)). ListsSoFar taken old w) (sym h.1) (stream_so_far c.loop-turn.lister old (o.state c.loop-turn.out).written taken t) in
           ends_same (with_inputs contents flash) C stream Full old now r no_memory h.0 (out_of_memory contents flash C stream taken (i.state c.loop-turn.inputs).rest Full old now v.told.1.0 front2)
       | inr h ↦
           let risen = risen_from (o.state c.args.out.now).faults (o.state c.loop-turn.out).faults (o.state c.put_turn.new.out).faults v.written h.1 in
@@ -171,8 +179,8 @@ returns-in-Err-put_turn g c = λ before after.
     let near = turn_near contents stream taken piece t.line t.sent c.loop-turn.lister rest old (o.state c.loop-turn.out).written now sel t.close few t.lists c.put_turn.ensures.longer in
     list_ends stream (record before { inputs = i.state c.args.inputs.now; out = o.state c.args.out.now }) (record after { inputs = i.state c.next_turn.new.inputs; out = o.state c.put_turn.new.out }) (Err r) (end c.in-Err-put_turn.ensures.why) (stays_near r stream (record before { inputs = i.state c.args.inputs.now; out = o.state c.args.out.now }) (record after { inputs = i.state c.next_turn.new.inputs; out = o.state c.put_turn.new.out }) (unwritten_near contents stream rest old now _ given r near (why_weaker c.in-Err-put_turn.ensures.why)))
 
-pub returns-then-turn : goal.returns-then-turn
-returns-then-turn g c = λ before after.
+pub returns-then-turn-clause-ends : goal.returns-then-turn-clause-ends
+returns-then-turn-clause-ends g c = λ before after.
     let i = g.I.Inputs in
     let o = g.O.Sink in
     let contents = (i.state c.args.inputs.now).contents in
@@ -188,35 +196,38 @@ returns-then-turn g c = λ before after.
     let sel = taken_more contents stream taken piece (i.state c.loop-turn.inputs).rest (i.state c.next_turn.new.inputs).rest v.told.1.0 c.in-Ok-next_turn.ensures.ok.taken in
     let lists : Lists c.put_turn.new.lister (appended old t.line) (o.state c.put_turn.new.out).written (t.sent ++ piece) = c.in-Ok-put_turn.ensures.ok (appended old t.line) t.sent t.lists in
     let goes = goes_on taken piece t.line t.sent t.goes in
-    let now = (o.state c.put_end-then-turn.new.out).written in
-    let Full : Type 0 = SinkFails (o.state c.args.out.now) (o.state c.put_end-then-turn.new.out) in
+    let now = (o.state c.put_end.new.out).written in
+    let Full : Type 0 = SinkFails (o.state c.args.out.now) (o.state c.put_end.new.out) in
     let size : length (taken ++ piece) ≡ length taken + n = length-append taken piece ∙ ap (λ k. length taken + k) (length-take-le n c.next_turn.new.buf (omega (arith, c.in-Ok-next_turn.ensures.within.1, c.next_turn.ensures.length, v.piece))) in
     let short : length (taken ++ piece) ≤ stream_limit = omega (arith, size, c.in-Ok-next_turn.ensures.within.0, v.told.1.2) in
     let end = c.in-Ok-next_turn.ensures.end c.if-turn.true in
     let text = t.line ++ listing_of (t.sent ++ piece) in
     let same = stream_whole (taken ++ piece) t.line (t.sent ++ piece) (goes []) in
     let flash = before.flash.bytes in
-    let ok = on_ok_weaker c.put_end-then-turn.result (λ h. (text, listed_whole contents flash C stream (taken ++ piece) text (i.state c.next_turn.new.inputs).rest Full old now sel end same short (line_then old now t.line (listing_of (t.sent ++ piece)) (h (appended old t.line) (t.sent ++ piece) lists)))) c.put_end-then-turn.ensures.ok in
-    let err = both_err c.put_end-then-turn.result (λ r. (first : Option (List ℕ)) (bytes : List ℕ) → Lists c.put_turn.new.lister first (o.state c.put_turn.new.out).written bytes → PutsPrefix first (listing_of bytes) now)
-    (λ r. (event_of r ≡ no_memory) ⊎ ((event_of r ≡ write_fault) × SinkFails (o.state c.put_turn.new.out) (o.state c.put_end-then-turn.new.out)))
+    let ok = on_ok_weaker c.put_end.result (λ h. (text, listed_whole contents flash C stream (taken ++ piece) text (i.state c.next_turn.new.inputs).rest Full old now sel end same short (line_then old now t.line (listing_of (t.sent ++ piece)) (h (appended old t.line) (t.sent ++ piece) lists)))) c.put_end.ensures.ok in
+    let mid = (o.state c.put_turn.new.out).written in
+    let told : ListsStream c.put_turn.new.lister old mid (taken ++ piece) = record { line = t.line; sent = t.sent ++ piece; lists = lists; goes = goes; close = omega (arith, t.close, length-append taken piece, length-append t.sent piece) } in
+    let err = both_err c.put_end.result (λ r. (first : Option (List ℕ)) (bytes : List ℕ) → Lists c.put_turn.new.lister first mid bytes → PutsPrefix first (listing_of bytes) now)
+    (λ r. ((event_of r ≡ no_memory) × (now ≡ mid)) ⊎ ((event_of r ≡ write_fault) × SinkFails (o.state c.put_turn.new.out) (o.state c.put_end.new.out)))
     (λ r. Ended (with_inputs contents flash) C stream Full old now (Err (event_of r)))
     (λ r p w.
-    let same = stream_whole (taken ++ piece) t.line (t.sent ++ piece) (goes []) in
-    let front : PutsListed (taken ++ piece) old now = (t.line ++ listing_of (t.sent ++ piece), (same, line_front old now t.line (listing_of (t.sent ++ piece)) (p (appended old t.line) (t.sent ++ piece) lists))) in
-    let end : (event_of r ≡ no_memory) ⊎ ((event_of r ≡ write_fault) × SinkFails (o.state c.put_turn.new.out) (o.state c.put_end-then-turn.new.out)) → Ended (with_inputs contents flash) C stream Full old now (Err (event_of r))
+    let front : PutsListed (taken ++ piece) old now = (text, (same, line_front old now t.line (listing_of (t.sent ++ piece)) (p (appended old t.line) (t.sent ++ piece) lists))) in
+    let end : ((event_of r ≡ no_memory) × (now ≡ mid)) ⊎ ((event_of r ≡ write_fault) × SinkFails (o.state c.put_turn.new.out) (o.state c.put_end.new.out)) → Ended (with_inputs contents flash) C stream Full old now (Err (event_of r))
     = elim [
-      | inl h ↦ ends_same (with_inputs contents flash) C stream Full old now (event_of r) no_memory h (out_of_memory contents flash C stream (taken ++ piece) (i.state c.next_turn.new.inputs).rest Full old now sel front)
+      | inl h ↦
+          let so_far : ListsSoFar (taken ++ piece) old now = subst (λ (x : Option (List ℕ)). ListsSoFar (taken ++ piece) old x) (sym h.1) (stream_so_far c.put_turn.new.lister old mid (taken ++ piece) told) in
+          ends_same (with_inputs contents flash) C stream Full old now (event_of r) no_memory h.0 (out_of_memory contents flash C stream (taken ++ piece) (i.state c.next_turn.new.inputs).rest Full old now sel so_far)
       | inr h ↦
-          let risen = risen_from (o.state c.args.out.now).faults (o.state c.put_turn.new.out).faults (o.state c.put_end-then-turn.new.out).faults (omega (arith, v.written, c.put_turn.ensures.counts.faults)) h.1 in
+          let risen = risen_from (o.state c.args.out.now).faults (o.state c.put_turn.new.out).faults (o.state c.put_end.new.out).faults (omega (arith, v.written, c.put_turn.ensures.counts.faults)) h.1 in
           ends_same (with_inputs contents flash) C stream Full old now (event_of r) write_fault h.0 (end_failed contents flash C stream (taken ++ piece) (i.state c.next_turn.new.inputs).rest Full old now sel (c.in-Ok-next_turn.ensures.end c.if-turn.true) risen front)
     ] in
     end w)
-    c.put_end-then-turn.ensures.err c.put_end-then-turn.ensures.why in
+    c.put_end.ensures.err c.put_end.ensures.why in
     let few : length piece ≤ 65536 = omega (arith, length-take-le n c.next_turn.new.buf (omega (arith, c.in-Ok-next_turn.ensures.within.1, c.next_turn.ensures.length, v.piece)), c.in-Ok-next_turn.ensures.within.1, v.piece) in
-    let longer = longer_twice (o.state c.loop-turn.out).written (o.state c.put_turn.new.out).written now c.put_turn.ensures.longer c.put_end-then-turn.ensures.longer in
+    let longer = longer_twice (o.state c.loop-turn.out).written (o.state c.put_turn.new.out).written now c.put_turn.ensures.longer c.put_end.ensures.longer in
     let near = turn_near contents stream taken piece t.line t.sent c.loop-turn.lister (i.state c.next_turn.new.inputs).rest old (o.state c.loop-turn.out).written now sel t.close few t.lists longer in
-    let close = err_weaker c.put_end-then-turn.result (λ r w. stays_near (event_of r) stream (record before { inputs = i.state c.args.inputs.now; out = o.state c.args.out.now }) (record after { inputs = i.state c.next_turn.new.inputs; out = o.state c.put_end-then-turn.new.out }) (unwritten_near contents stream (i.state c.next_turn.new.inputs).rest old now _ given (event_of r) near w)) c.put_end-then-turn.ensures.why in
-    list_seen stream (record before { inputs = i.state c.args.inputs.now; out = o.state c.args.out.now }) (record after { inputs = i.state c.next_turn.new.inputs; out = o.state c.put_end-then-turn.new.out }) c.put_end-then-turn.result ok err close
+    let close = err_weaker c.put_end.result (λ r w. stays_near (event_of r) stream (record before { inputs = i.state c.args.inputs.now; out = o.state c.args.out.now }) (record after { inputs = i.state c.next_turn.new.inputs; out = o.state c.put_end.new.out }) (unwritten_near contents stream (i.state c.next_turn.new.inputs).rest old now _ given (event_of r) near (why_weaker w))) c.put_end.ensures.why in
+    list_seen stream (record before { inputs = i.state c.args.inputs.now; out = o.state c.args.out.now }) (record after { inputs = i.state c.next_turn.new.inputs; out = o.state c.put_end.new.out }) c.put_end.result ok err close
 
 pub loop-turn-preserved : goal.loop-turn-preserved
 loop-turn-preserved g c =

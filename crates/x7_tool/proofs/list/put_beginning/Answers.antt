@@ -6,7 +6,7 @@ use Rattle.x7_tool.proofs.TurnLemmas.{begins_behind, line_front, line_part}
 use Rattle.x7_tool.proofs.list.put_beginning.Goals as goal
 
 pub returns-then-is_err-clause-err : goal.returns-then-is_err-clause-err
-returns-then-is_err-clause-err g c = λ rest fits. line_part (g.O.Sink.state c.args.out.now).written (g.O.Sink.state c.write_all.new.sink).written c.args.line.now _ c.write_all.ensures.front
+returns-then-is_err-clause-err g c = λ rest fits. line_part (g.O.Sink.state c.args.out.now).written (g.O.Sink.state c.write_all.new.sink).written c.args.line.now _ c.write_all.ensures.prefix
 
 pub returns-clause-ok : goal.returns-clause-ok
 returns-clause-ok g c =

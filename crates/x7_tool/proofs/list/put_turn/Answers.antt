@@ -11,7 +11,7 @@ returns-then-is_err-clause-err g c = λ first bytes rest lists fits.
 pub returns-then-is_err-2-clause-err : goal.returns-then-is_err-2-clause-err
 returns-then-is_err-2-clause-err g c = λ first bytes rest lists fits.
     let feeds = from_ok c.feed.result (sym c.is_err.ensures.value ∙ c.if-is_err.false) c.feed.ensures.ok in
-    lists_part c.args.lister.now c.feed.new.self first (g.O.Sink.state c.args.out.now).written (g.O.Sink.state c.write_all.new.sink).written bytes c.args.piece.now rest c.text.result.now lists feeds c.text.ensures c.write_all.ensures.front fits
+    lists_part c.args.lister.now c.feed.new.self first (g.O.Sink.state c.args.out.now).written (g.O.Sink.state c.write_all.new.sink).written bytes c.args.piece.now rest c.text.result.now lists feeds c.text.ensures c.write_all.ensures.prefix fits
 
 pub returns-clause-ok : goal.returns-clause-ok
 returns-clause-ok g c = λ first bytes lists.
@@ -23,7 +23,7 @@ pub returns-then-is_err-clause-longer : goal.returns-then-is_err-clause-longer
 returns-then-is_err-clause-longer g c = same_now (g.O.Sink.state c.args.out.now)
 
 pub returns-then-is_err-2-clause-longer : goal.returns-then-is_err-2-clause-longer
-returns-then-is_err-2-clause-longer g c = longer_front (g.O.Sink.state c.args.out.now).written (g.O.Sink.state c.write_all.new.sink).written _ c.write_all.ensures.front
+returns-then-is_err-2-clause-longer g c = longer_front (g.O.Sink.state c.args.out.now).written (g.O.Sink.state c.write_all.new.sink).written _ c.write_all.ensures.prefix
 
 pub returns-clause-longer : goal.returns-clause-longer
-returns-clause-longer g c = longer_front (g.O.Sink.state c.args.out.now).written (g.O.Sink.state c.write_all.new.sink).written _ c.write_all.ensures.front
+returns-clause-longer g c = longer_front (g.O.Sink.state c.args.out.now).written (g.O.Sink.state c.write_all.new.sink).written _ c.write_all.ensures.prefix

@@ -5,8 +5,8 @@ use Rattle.x7_forms.specs.Known.{Answer, whole_in}
 use Rattle.x7_forms.proofs.ReadLemmas.{answers_end, whole_steady}
 use Rattle.x7_tool.proofs.mcs.mcs.Goals as goal
 
-pub returns-in-Ok-new : goal.returns-in-Ok-new
-returns-in-Ok-new g c =
+pub returns-in-Ok-new-clause-due : goal.returns-in-Ok-new-clause-due
+returns-in-Ok-new-clause-due g c =
     let i = g.I.Inputs in
     let name = c.args.image.now in
     let bytes = c.in-Ok.bytes.items in

@@ -8,16 +8,16 @@ use Rattle.x7_tool.proofs.PlayLemmas.{text_ends}
 use Rattle.x7_forms.proofs.ReadLemmas.{answers_end, answers_go, answers_stop, data_steady, first_of, part_steady}
 use Rattle.x7_tool.proofs.play.play.Goals as goal
 
-pub returns-in-Err : goal.returns-in-Err
-returns-in-Err g c =
+pub returns-in-Err-clause-due : goal.returns-in-Err-clause-due
+returns-in-Err-clause-due g c =
     let i = g.I.Inputs in
     let part = c.args.part.now in
     let streams = map string_bytes c.args.streams.now in
     answers_stop PartData Answer (part ∷ []) (part ∷ streams) (i.state c.args.inputs.now) (i.state c.read_part.new.inputs) (λ t. part_of t part) (λ t p. and_so (data_of t stream_limit streams) (reported p)) (event_of c.in-Err.refusal)
     (first_of part streams) c.in-Err.ensures.due
 
-pub returns : goal.returns
-returns g c =
+pub returns-clause-due : goal.returns-clause-due
+returns-clause-due g c =
     let i = g.I.Inputs in
     let part = c.args.part.now in
     let streams = map string_bytes c.args.streams.now in
@@ -26,8 +26,8 @@ returns g c =
     (part_steady part) c.read_part.ensures.inputs (λ n h. inr h) c.in-Ok.ensures.due
     (answers_stop (List ℕ) Answer streams streams (i.state c.read_part.new.inputs) (i.state c.play_streams.new.inputs) (λ t. data_of t stream_limit streams) (λ t. reported c.in-Ok.part) event (λ n h. h) c.in-Err-play_streams.ensures.err)
 
-pub returns-in-Ok-play_streams : goal.returns-in-Ok-play_streams
-returns-in-Ok-play_streams g c =
+pub returns-in-Ok-play_streams-clause-due : goal.returns-in-Ok-play_streams-clause-due
+returns-in-Ok-play_streams-clause-due g c =
     let i = g.I.Inputs in
     let part = c.args.part.now in
     let streams = map string_bytes c.args.streams.now in

@@ -2,7 +2,7 @@ use Rattle.std.proofs.Common.{ℕ, List, [], ◌∷◌, Ok, Err, inr}
 use Rattle.x7_part.specs.Part.{PartData}
 use Rattle.x7_forms.specs.Message.{event_of}
 use Rattle.x7_forms.specs.Known.{and_so, part_of, whole_in}
-use Rattle.x7_forms.proofs.ReadLemmas.{answers_go, answers_stop, part_steady}
+use Rattle.x7_forms.proofs.ReadLemmas.{answers_go, answers_stop, first_of, part_steady}
 use Rattle.x7_tool.specs.Outcome.{PlanTexts, text_limit}
 use Rattle.x7_tool.proofs.svf.read_given.Goals as goal
 
@@ -15,3 +15,11 @@ returns-in-Err-read_whole-clause-given g c =
     answers_go PartData PlanTexts (part ∷ []) (text ∷ []) (part ∷ text ∷ []) (i.state c.args.inputs.now) (i.state c.read_part.new.inputs) (i.state c.read_whole.new.inputs) (λ t. part_of t part)
     (λ t p. and_so (whole_in t text_limit text) (λ bytes. Ok (record { part = p; text = bytes }))) c.in-Ok.part (Err event) (part_steady part) c.read_part.ensures.inputs (λ n h. inr h) c.in-Ok.ensures.due
     (answers_stop (List ℕ) PlanTexts (text ∷ []) (text ∷ []) (i.state c.read_part.new.inputs) (i.state c.read_whole.new.inputs) (λ t. whole_in t text_limit text) (λ t bytes. Ok (record { part = c.in-Ok.part; text = bytes })) event (λ n h. h) c.in-Err-read_whole.ensures.due)
+
+pub returns-in-Err-clause-given : goal.returns-in-Err-clause-given
+returns-in-Err-clause-given g c =
+    let i = g.I.Inputs in
+    let part = c.args.part.now in
+    let text = c.args.text.now in
+    answers_stop PartData PlanTexts (part ∷ []) (part ∷ text ∷ []) (i.state c.args.inputs.now) (i.state c.read_part.new.inputs) (λ t. part_of t part) (λ t p. and_so (whole_in t text_limit text) (λ bytes. Ok (record { part = p; text = bytes })))
+    (event_of c.in-Err.refusal) (first_of part (text ∷ [])) c.in-Err.ensures.due

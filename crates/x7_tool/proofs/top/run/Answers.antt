@@ -14,7 +14,7 @@ returns-clause-ran g c =
     let form = form_in c.args.words.now.items in
     runs form (outside (i.state c.args.inputs.now) (f.state c.args.flash.now) (o.state c.args.out.now) (e.state c.args.err.now))
     (outside (i.state c.carry_out.new.inputs) (f.state c.carry_out.new.flash) (o.state c.carry_out.new.out) (e.state c.carry_out.new.err))
-    c.carry_out.result r.0 r.1 r.2 r.3 c.carry_out.ensures.flash.keeps
+    c.carry_out.result r.0 r.1 r.2 r.3 c.carry_out.ensures.inputs c.carry_out.ensures.flash.keeps
 
 pub returns-clause-found : goal.returns-clause-found
 returns-clause-found g c =

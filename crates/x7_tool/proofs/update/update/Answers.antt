@@ -1,4 +1,4 @@
-use Rattle.std.proofs.Common.{◌≤◌, ◌-◌, ℕ, Bool, List, [], ◌∷◌, drop, length, take, Option, Some, Err, subst, sym, ◌∙◌}
+use Rattle.std.proofs.Common.{◌≤◌, ◌-◌, ℕ, Bool, List, [], ◌∷◌, drop, length, take, Option, Some, Err, inl, refl, subst, sym, ◌∙◌}
 use Rattle.std.specs.Prelude.{IsTrue}
 use Rattle.x7_words.specs.Flash.{IfKnown}
 use Rattle.x7_boot.specs.Image.{flash_limit}
@@ -13,7 +13,7 @@ use Rattle.x7_forms.specs.Step.{CameIn, step_over}
 use Rattle.x7_tool.specs.Outside.{Outside}
 use Rattle.x7_tool.specs.Run.{EndsAs}
 use Rattle.x7_tool.specs.Streamed.{data_from}
-use Rattle.x7_tool.proofs.UpdateLemmas.{cause_from, data_given, done_ends, fault_ends, keeps_all, refused_ends, rest_of, unopened_over, unread_over, uses_updated}
+use Rattle.x7_tool.proofs.UpdateLemmas.{cause_from, data_given, done_ends, fault_ends, keeps_all, refused_ends, rest_of, unopened_measured, unopened_over, unplayed_measured, unread_over, uses_updated}
 use Rattle.x7_tool.proofs.update.update.Goals as goal
 
 pub returns-in-Err-clause-ends : goal.returns-in-Err-clause-ends
@@ -23,7 +23,7 @@ returns-in-Err-clause-ends g c = λ before after out.
     let old : Outside = record before { inputs = g.I.Inputs.state c.args.inputs.now; flash = first } in
     let new : Outside = record after { inputs = g.I.Inputs.state c.args.inputs.now; flash = mid } in
     let event = event_of c.in-Err.refusal in
-    refused_ends c.args.name.now c.args.stream.now old new event out (unopened_over c.args.name.now c.args.stream.now old new event c.in-Err.ensures.err) (keeps_all event.reason first mid c.open_flash.ensures.stays.bytes)
+    refused_ends c.args.name.now c.args.stream.now old new event out (unopened_measured (Some (UpdatingFlash c.args.name.now c.args.stream.now)) c.args.name.now first mid event c.in-Err.ensures.err) (unopened_over c.args.name.now c.args.stream.now old new event c.in-Err.ensures.err) (keeps_all event.reason first mid c.open_flash.ensures.stays.bytes)
 
 pub returns-in-Err-read_stream-clause-ends : goal.returns-in-Err-read_stream-clause-ends
 returns-in-Err-read_stream-clause-ends g c = λ before after out.
@@ -35,6 +35,7 @@ returns-in-Err-read_stream-clause-ends g c = λ before after out.
     let event = event_of c.in-Err-read_stream.refusal in
     let within = subst (λ (o : Option (List ℕ)). IfKnown o (λ all. length all ≤ flash_limit)) same c.in-Ok.ensures.within in
     refused_ends c.args.name.now c.args.stream.now old new event out
+    (unplayed_measured (Some (UpdatingFlash c.args.name.now c.args.stream.now)) mid c.args.stream.now event (inl refl) c.in-Err-read_stream.ensures.named)
     (unread_over c.args.name.now c.args.stream.now old new event within (c.in-Err-read_stream.ensures.due first.bytes)) (keeps_all event.reason first mid same)
 
 pub returns-in-Ok-update-clause-ends : goal.returns-in-Ok-update-clause-ends
@@ -52,7 +53,8 @@ returns-in-Ok-update-clause-ends g c = λ before after out.
     let has = data_given (with_inputs old.inputs.contents first.bytes) (CameIn (step_over (stream ∷ []) old.inputs new.inputs)) stream (data_from read) bytes (c.in-Ok-read_stream.ensures.due first.bytes) (rest_of c.deref.result.now read.bytes.items read.start c.deref.ensures.value) in
     let layout = subst (λ (o : Option (List ℕ)). IfKnown o HasLayout) same c.in-Ok-update.ensures.layout in
     let becomes = subst (λ (o : Option (List ℕ)). BecomesBytes (IsAfter bytes) o last.bytes) same c.in-Ok-update.ensures.updated in
-    done_ends c.args.name.now stream bytes old new out within has layout becomes
+    let size = subst (λ (n : ℕ). n ≤ flash_limit) (sym c.update.ensures.only.extent) c.in-Ok.ensures.size in
+    done_ends c.args.name.now stream bytes old new out within has layout size becomes
 
 pub returns-in-Ok-update-clause-flash : goal.returns-in-Ok-update-clause-flash
 returns-in-Ok-update-clause-flash g c =

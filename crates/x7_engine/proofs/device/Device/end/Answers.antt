@@ -8,8 +8,8 @@ use Rattle.x7_engine.specs.declared.stop.Stop.{Stop}
 use Rattle.x7_engine.specs.declared.stop.Stop.TheVariants as stop
 use Rattle.x7_engine.specs.Registers.{word_held}
 use Rattle.x7_engine.specs.Standing.{DeviceStandsFor, DeviceState, IsCutterOf, registers_in}
-use Rattle.x7_engine.specs.State.{end_by, history_taken, line_by, stop_in}
-use Rattle.x7_engine.proofs.StateLemmas.{line_is}
+use Rattle.x7_engine.specs.State.{end_by, history_taken, why_of, stop_in}
+use Rattle.x7_engine.proofs.StateLemmas.{why_is}
 use Rattle.x7_engine.proofs.device.Device.end.Goals as goal
 
 -- the session counts only where there is no stop
@@ -33,5 +33,5 @@ returns c = λ given kept wrapped bytes s.
     ∙ ap (λ (o : Option Stop). end_by o c.is_synced.result c.value.result) c.stop.ensures
     ∙ same_end c.self.inside.registers.stop c.is_synced.result (is_synced (reading_of bytes).place) c.value.result session
     ∙ ap (end_by c.self.inside.registers.stop (is_synced (reading_of bytes).place)) (c.value.ensures kept h (length bytes) stands.registers_are)
-    ∙ ap (λ (o : Option Stop). end_by o (is_synced (reading_of bytes).place) (word_held kept 16 h)) (sym (line_is part kept wrapped fields bytes stands))
-    ∙ ap (λ (p : PartData). end_by (line_by (stop_in p kept bytes)) (is_synced (reading_of bytes).place) (word_held kept 16 (history_taken p kept bytes))) here
+    ∙ ap (λ (o : Option Stop). end_by o (is_synced (reading_of bytes).place) (word_held kept 16 h)) (sym (why_is part kept wrapped fields bytes stands))
+    ∙ ap (λ (p : PartData). end_by (why_of (stop_in p kept bytes)) (is_synced (reading_of bytes).place) (word_held kept 16 (history_taken p kept bytes))) here

@@ -91,7 +91,7 @@ returns-then-turn-clause-reads c = λ part kept wrapped bytes s.
     let used = c.turn.ensures.used_up c.if-turn.true in
     let told : (more : List ℕ) × (c.give.new.read ≡ with_words c.args.read.now more) × (reads_given part kept c.turn.new.self (bytes ++ take c.turn.new.at piece) ≡ reads_given part kept c.args.self.now bytes ++ more) =
     read_here part kept wrapped c.runs.self c.give.new.self c.turn.new.self c.args.read.now c.runs.read c.give.new.read bytes piece (reads_given part kept c.args.self.now bytes) c.runs.at c.turn.new.at
-    (c.give.ensures.given part kept wrapped (bytes ++ take c.runs.at piece) (c.runs.invariant.stands part kept wrapped bytes s)) c.turn.ensures.forward (c.turn.ensures.told part kept wrapped) (c.runs.invariant.reads part kept wrapped bytes s) in
+    (c.give.ensures.given part kept wrapped (bytes ++ take c.runs.at piece) (c.runs.invariant.stands part kept wrapped bytes s)) c.turn.ensures.forward (c.turn.ensures.silent part kept wrapped) (c.runs.invariant.reads part kept wrapped bytes s) in
     (told.0, told.1, ap (λ (k : ℕ). reads_given part kept c.turn.new.self (bytes ++ take k piece)) (sym used.0) ∙ told.2)
 
 pub runs-preserved : goal.runs-preserved
@@ -109,7 +109,7 @@ runs-preserved c =
           (c.give.ensures.given part kept wrapped (bytes ++ take c.runs.at piece) (c.runs.invariant.stands part kept wrapped bytes s)).stands;
       reads = λ part kept wrapped bytes s.
           read_here part kept wrapped c.runs.self c.give.new.self c.turn.new.self c.args.read.now c.runs.read c.give.new.read bytes piece (reads_given part kept c.args.self.now bytes) c.runs.at c.turn.new.at
-          (c.give.ensures.given part kept wrapped (bytes ++ take c.runs.at piece) (c.runs.invariant.stands part kept wrapped bytes s)) c.turn.ensures.forward (c.turn.ensures.told part kept wrapped) (c.runs.invariant.reads part kept wrapped bytes s);
+          (c.give.ensures.given part kept wrapped (bytes ++ take c.runs.at piece) (c.runs.invariant.stands part kept wrapped bytes s)) c.turn.ensures.forward (c.turn.ensures.silent part kept wrapped) (c.runs.invariant.reads part kept wrapped bytes s);
       first = λ part kept wrapped bytes s. (
           let taken : List ℕ = bytes ++ take c.runs.at c.args.piece.now in
           let gives = c.give.ensures.given part kept wrapped taken (c.runs.invariant.stands part kept wrapped bytes s) in

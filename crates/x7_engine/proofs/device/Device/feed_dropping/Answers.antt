@@ -13,4 +13,4 @@ pub returns-clause-stopped : goal.returns-clause-stopped
 returns-clause-stopped c = λ part kept wrapped bytes s e. let same = c.feed.ensures.stopped part kept wrapped bytes s e in (same.0, same.2)
 
 pub returns-clause-stays : goal.returns-clause-stays
-returns-clause-stays c = λ line e. let same = c.feed.ensures.stays line e in (same.0, same.2)
+returns-clause-stays c = λ why e. let same = c.feed.ensures.stays why e in (same.0, same.2)

@@ -17,7 +17,7 @@ runs-init c = record {
   taken = omega arith;
   fits = omega (arith, c.requires);
   stands = λ part kept wrapped bytes s. subst (λ (b : List ℕ). DeviceStandsFor part kept wrapped c.args.self.now b) (sym (append-nil bytes)) s;
-  told = λ part kept wrapped bytes s. ap (reads_given part kept c.args.self.now) (append-nil bytes);
+  silent = λ part kept wrapped bytes s. ap (reads_given part kept c.args.self.now) (append-nil bytes);
   first = λ part kept wrapped bytes s k l. absurd (omega (arith, l));
   stopped = λ e. (refl, refl);
 }
@@ -44,9 +44,9 @@ pub returns-in-Some-clause-stands : goal.returns-in-Some-clause-stands
 returns-in-Some-clause-stands c = λ part kept wrapped bytes s.
     subst (λ (k : ℕ). DeviceStandsFor part kept wrapped c.runs.self (bytes ++ take k c.args.piece.now)) (sym (stop_count c)) (c.runs.invariant.stands part kept wrapped bytes s)
 
-pub returns-in-Some-clause-told : goal.returns-in-Some-clause-told
-returns-in-Some-clause-told c = λ part kept wrapped bytes s.
-    ap (λ (k : ℕ). reads_given part kept c.runs.self (bytes ++ take k c.args.piece.now)) (stop_count c) ∙ c.runs.invariant.told part kept wrapped bytes s
+pub returns-in-Some-clause-silent : goal.returns-in-Some-clause-silent
+returns-in-Some-clause-silent c = λ part kept wrapped bytes s.
+    ap (λ (k : ℕ). reads_given part kept c.runs.self (bytes ++ take k c.args.piece.now)) (stop_count c) ∙ c.runs.invariant.silent part kept wrapped bytes s
 
 pub returns-in-Some-clause-first : goal.returns-in-Some-clause-first
 returns-in-Some-clause-first c = λ part kept wrapped bytes s.
@@ -74,11 +74,11 @@ returns-then-turn-clause-answer c = λ part kept wrapped bytes s.
     let stands : DeviceStandsFor part kept wrapped c.turn.new.self (bytes ++ take (length piece) piece) = returns-then-turn-clause-stands c part kept wrapped bytes s in
     (stands.stop_is ∙ ap (stopped_at (length (bytes ++ take (length piece) piece))) used.1, used.2)
 
-pub returns-then-turn-clause-told : goal.returns-then-turn-clause-told
-returns-then-turn-clause-told c = λ part kept wrapped bytes s.
+pub returns-then-turn-clause-silent : goal.returns-then-turn-clause-silent
+returns-then-turn-clause-silent c = λ part kept wrapped bytes s.
     let used = c.turn.ensures.used_up c.if-turn.true in
-    ap (λ (k : ℕ). reads_given part kept c.turn.new.self (bytes ++ take k c.args.piece.now)) (sym used.0) ∙ (told_on part kept wrapped c.runs.self c.turn.new.self bytes c.args.piece.now c.runs.at c.turn.new.at c.turn.ensures.forward (c.turn.ensures.told part kept wrapped) (c.runs.invariant.stands part kept wrapped bytes s)
-    ∙ c.runs.invariant.told part kept wrapped bytes s)
+    ap (λ (k : ℕ). reads_given part kept c.turn.new.self (bytes ++ take k c.args.piece.now)) (sym used.0) ∙ (told_on part kept wrapped c.runs.self c.turn.new.self bytes c.args.piece.now c.runs.at c.turn.new.at c.turn.ensures.forward (c.turn.ensures.silent part kept wrapped) (c.runs.invariant.stands part kept wrapped bytes s)
+    ∙ c.runs.invariant.silent part kept wrapped bytes s)
 
 pub returns-then-turn-clause-first : goal.returns-then-turn-clause-first
 returns-then-turn-clause-first c = λ part kept wrapped bytes s.
@@ -88,7 +88,7 @@ returns-then-turn-clause-first c = λ part kept wrapped bytes s.
     let here : DeviceStandsFor part kept wrapped c.runs.self taken = c.runs.invariant.stands part kept wrapped bytes s in
     let due : NoWordDue c.runs.self = grind (arith, c.has_word_due.ensures, c.if-has_word_due.false) in
     none_read_on part kept wrapped c.runs.self c.turn.new.self bytes c.args.piece.now (reads_given part kept c.args.self.now bytes) c.runs.at c.turn.new.at c.turn.ensures.forward c.turn.ensures.within (sym c.in_default.ensures) due
-    here (c.turn.ensures.stands part kept wrapped taken here) (c.turn.ensures.commands part kept wrapped taken here) (c.runs.invariant.told part kept wrapped bytes s) (c.runs.invariant.first part kept wrapped bytes s))
+    here (c.turn.ensures.stands part kept wrapped taken here) (c.turn.ensures.commands part kept wrapped taken here) (c.runs.invariant.silent part kept wrapped bytes s) (c.runs.invariant.first part kept wrapped bytes s))
 
 pub runs-preserved : goal.runs-preserved
 runs-preserved c =
@@ -101,13 +101,13 @@ runs-preserved c =
       fits = omega (arith, c.turn.ensures.taken, c.turn.ensures.forward, c.turn.ensures.within, c.runs.invariant.fits);
       stands = λ part kept wrapped bytes s.
           stands_on part kept wrapped c.runs.self c.turn.new.self bytes piece c.runs.at c.turn.new.at c.turn.ensures.forward (c.turn.ensures.stands part kept wrapped) (c.runs.invariant.stands part kept wrapped bytes s);
-      told = λ part kept wrapped bytes s. told_on part kept wrapped c.runs.self c.turn.new.self bytes c.args.piece.now c.runs.at c.turn.new.at c.turn.ensures.forward (c.turn.ensures.told part kept wrapped) (c.runs.invariant.stands part kept wrapped bytes s)
-          ∙ c.runs.invariant.told part kept wrapped bytes s;
+      silent = λ part kept wrapped bytes s. told_on part kept wrapped c.runs.self c.turn.new.self bytes c.args.piece.now c.runs.at c.turn.new.at c.turn.ensures.forward (c.turn.ensures.silent part kept wrapped) (c.runs.invariant.stands part kept wrapped bytes s)
+          ∙ c.runs.invariant.silent part kept wrapped bytes s;
       first = λ part kept wrapped bytes s. (
           let taken : List ℕ = bytes ++ take c.runs.at c.args.piece.now in
           let here : DeviceStandsFor part kept wrapped c.runs.self taken = c.runs.invariant.stands part kept wrapped bytes s in
           let due : NoWordDue c.runs.self = grind (arith, c.has_word_due.ensures, c.if-has_word_due.false) in
           none_read_on part kept wrapped c.runs.self c.turn.new.self bytes c.args.piece.now (reads_given part kept c.args.self.now bytes) c.runs.at c.turn.new.at c.turn.ensures.forward c.turn.ensures.within (sym c.in_default.ensures) due
-          here (c.turn.ensures.stands part kept wrapped taken here) (c.turn.ensures.commands part kept wrapped taken here) (c.runs.invariant.told part kept wrapped bytes s) (c.runs.invariant.first part kept wrapped bytes s));
+          here (c.turn.ensures.stands part kept wrapped taken here) (c.turn.ensures.commands part kept wrapped taken here) (c.runs.invariant.silent part kept wrapped bytes s) (c.runs.invariant.first part kept wrapped bytes s));
       stopped = λ e. absurd (let none : true ≡ false = sym e ∙ ap (λ (d : DeviceState). is_some d.registers.stop) (sym (c.runs.invariant.stopped e).0) ∙ sym (ap (λ (o : Option Stop). is_some o) c.in_default.ensures) in cc);
     }

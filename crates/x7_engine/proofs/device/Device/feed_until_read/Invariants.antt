@@ -15,7 +15,7 @@ invariant-runs l = record {
   taken : l.self.taken ≡ l.initial.self.taken + l.at;
   fits : l.self.taken + (length l.piece - l.at) ≤ 2 ^ 63;
   stands : (part : PartData) (kept : Kept) (wrapped : Bool) (bytes : List ℕ) → DeviceStandsFor part kept wrapped l.initial.self bytes → DeviceStandsFor part kept wrapped l.self (bytes ++ take l.at l.piece);
-  told : (part : PartData) (kept : Kept) (wrapped : Bool) (bytes : List ℕ) → DeviceStandsFor part kept wrapped l.initial.self bytes
+  silent : (part : PartData) (kept : Kept) (wrapped : Bool) (bytes : List ℕ) → DeviceStandsFor part kept wrapped l.initial.self bytes
       → reads_given part kept l.self (bytes ++ take l.at l.piece) ≡ reads_given part kept l.initial.self bytes;
   first : (part : PartData) (kept : Kept) (wrapped : Bool) (bytes : List ℕ) → DeviceStandsFor part kept wrapped l.initial.self bytes
       → ReadBefore (record { part = part; kept = kept; wrapped = wrapped; bytes = bytes }) l.piece l.at (reads_given part kept l.initial.self bytes);

@@ -8,7 +8,7 @@ use Rattle.x7_engine.proofs.device.Device.is_in_first_gap.Goals as goal
 
 none_there : (o : Option Stop) → is_some o ≡ false → o ≡ None
 none_there None e = refl
-none_there (Some line) e = absurd cc
+none_there (Some why) e = absurd cc
 
 false_not : (b : Bool) → IsTrue (not b) → b ≡ false
 false_not false t = refl

@@ -45,12 +45,12 @@ passed_here c kept wrapped bytes s =
     let rest : List ℕ = drop (from + count - left - from) cut in
     let split : cut ≡ more ++ rest = between_front piece from (from + count) left (omega (arith, few)) ∙ ap (λ (k : ℕ). between piece from k ++ rest) place in
     let same : count ≡ from + count - from = omega arith in
-    let front : take count (take (length piece - from) (drop from piece)) ≡ cut = ap (take count) (take_rest piece from) ∙ ap (λ (k : ℕ). take k (drop from piece)) same in
+    let prefix : take count (take (length piece - from) (drop from piece)) ≡ cut = ap (take count) (take_rest piece from) ∙ ap (λ (k : ℕ). take k (drop from piece)) same in
     let inside : DeviceStandsFor c.self.inside.part kept wrapped (device_before c) bytes = subst (λ (d : DeviceState). DeviceStandsFor c.self.inside.part kept wrapped d bytes) (sym c.self.view_is) s in
     passed c.self.inside.part kept wrapped (device_before c) (device_after c) bytes cut more rest count left inside
     (ap (λ (d : DeviceState). d.registers.stop) c.self.view_is ∙ c.requires.going)
     (ap (λ (d : DeviceState). due_count d.registers.due) c.self.view_is ∙ c.requires.none_due)
-    (λ sessions place i. subst (λ (b : List ℕ). Idles c.self.inside.cutter (bytes ++ b) sessions place) front (c.nops-count.ensures.idles bytes sessions place i))
+    (λ sessions place i. subst (λ (b : List ℕ). Idles c.self.inside.cutter (bytes ++ b) sessions place) prefix (c.nops-count.ensures.idles bytes sessions place i))
     (c.tick-left.ensures.stands kept) (sym all) split (length-drop (from + count - left - from) cut ∙ omega (arith, all, few))
     c.tick-left.ensures.goes_on c.tick-left.ensures.fired refl refl refl (omega (arith, taken))
     (ap due_count c.tick-left.ensures.due ∙ ap (λ (d : DeviceState). due_count d.registers.due) c.self.view_is ∙ c.requires.none_due)
@@ -62,8 +62,8 @@ returns-clause-stands c = λ part kept wrapped bytes s.
     subst (λ (p : PartData). DeviceStandsFor p kept wrapped (device_after c) (bytes ++ more)) here
     (passed_here c kept wrapped bytes (subst (λ (p : PartData). DeviceStandsFor p kept wrapped c.args.self.now bytes) (sym here) s)).0
 
-pub returns-clause-told : goal.returns-clause-told
-returns-clause-told c = λ part kept wrapped bytes s.
+pub returns-clause-silent : goal.returns-clause-silent
+returns-clause-silent c = λ part kept wrapped bytes s.
     let here : c.self.inside.part ≡ part = ap (λ (d : DeviceState). d.part) c.self.view_is ∙ s.part_is in
     let more : List ℕ = between c.args.piece.now c.args.at.now (c.args.at.now + (c.nops-count.result - c.tick-left.result)) in
     told_same part kept c.args.self.now (device_after c) bytes (bytes ++ more) c.requires.none_due

@@ -19,5 +19,5 @@ returns-clause-stands c =
       registers_are = c.reset.ensures.stands c.args.self.now.part fit;
       cutter_is = λ _. record { sessions = []; place = Searching []; stands = c.new-self-inside.ensures };
       due_are = record { told = []; all = sym (ap (λ (d : Due). words_left c.args.self.now.part [] d) c.reset.ensures.none_due) };
-      at_rest = λ line q. ap due_count c.reset.ensures.none_due;
+      at_rest = λ why q. ap due_count c.reset.ensures.none_due;
     }

@@ -18,11 +18,11 @@ returns-clause-stands c = λ part kept wrapped bytes s.
     subst (λ (t : List ℕ). DeviceStandsFor part kept wrapped c.take_run.new.self t) (joined c bytes)
     (c.take_run.ensures.stands part kept wrapped (bytes ++ between c.args.piece.now c.args.at.now c.pass_nops.new.at) (c.pass_nops.ensures.stands part kept wrapped bytes s))
 
-pub returns-clause-told : goal.returns-clause-told
-returns-clause-told c = λ part kept wrapped bytes s.
+pub returns-clause-silent : goal.returns-clause-silent
+returns-clause-silent c = λ part kept wrapped bytes s.
     ap (reads_given part kept c.take_run.new.self) (sym (joined c bytes))
-    ∙ c.take_run.ensures.told part kept wrapped (bytes ++ between c.args.piece.now c.args.at.now c.pass_nops.new.at) (c.pass_nops.ensures.stands part kept wrapped bytes s)
-    ∙ c.pass_nops.ensures.told part kept wrapped bytes s
+    ∙ c.take_run.ensures.silent part kept wrapped (bytes ++ between c.args.piece.now c.args.at.now c.pass_nops.new.at) (c.pass_nops.ensures.stands part kept wrapped bytes s)
+    ∙ c.pass_nops.ensures.silent part kept wrapped bytes s
 
 pub returns-clause-commands : goal.returns-clause-commands
 returns-clause-commands c = λ part kept wrapped bytes s.

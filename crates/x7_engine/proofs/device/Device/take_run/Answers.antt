@@ -59,8 +59,8 @@ returns-clause-stands c = λ part kept wrapped bytes s.
     subst (λ (p : PartData). DeviceStandsFor p kept wrapped (device_after c) (bytes ++ more)) here
     (turned_here c kept wrapped bytes (subst (λ (p : PartData). DeviceStandsFor p kept wrapped c.args.self.now bytes) (sym here) s)).0
 
-pub returns-clause-told : goal.returns-clause-told
-returns-clause-told c = λ part kept wrapped bytes s.
+pub returns-clause-silent : goal.returns-clause-silent
+returns-clause-silent c = λ part kept wrapped bytes s.
     let here : c.self.inside.part ≡ part = ap (λ (d : DeviceState). d.part) c.self.view_is ∙ s.part_is in
     let more : List ℕ = between c.args.piece.now c.args.at.now (c.cut-run.new.at - c.run-left.result) in
     let reads : reads_of part kept (bytes ++ more) ≡ reads_of part kept bytes ++ words_left part (history_taken part kept (bytes ++ more)) c.run-left.new.self.due =

@@ -44,8 +44,8 @@ written_here c given kept wrapped bytes s =
 pub returns-clause-stands : goal.returns-clause-stands
 returns-clause-stands c = λ t part kept wrapped bytes s. (written_here c part kept wrapped bytes s).0
 
-pub returns-clause-told : goal.returns-clause-told
-returns-clause-told c = λ t part kept wrapped bytes s.
+pub returns-clause-silent : goal.returns-clause-silent
+returns-clause-silent c = λ t part kept wrapped bytes s.
     told_same part kept c.args.self.now (device_after c) bytes (bytes ++ between c.args.piece.now c.args.at.now (c.args.at.now + 8)) c.requires.none_due (none_due c) (written_here c part kept wrapped bytes s).1
 
 pub returns-clause-commands : goal.returns-clause-commands

@@ -7,9 +7,9 @@ pub returns-then-turn-clause-stands : goal.returns-then-turn-clause-stands
 returns-then-turn-clause-stands c = λ part kept wrapped bytes s.
     turn_stands part kept wrapped c.turn.new.self bytes c.args.piece.now c.turn_end-end.result c.args.at.now c.turn.new.at c.turn_end-end.ensures.within c.turn.ensures.forward c.turn.ensures.within (c.turn.ensures.stands part kept wrapped bytes s)
 
-pub returns-then-turn-clause-told : goal.returns-then-turn-clause-told
-returns-then-turn-clause-told c = λ part kept wrapped bytes s.
-    turn_told part kept c.args.self.now c.turn.new.self bytes c.args.piece.now c.turn_end-end.result c.args.at.now c.turn.new.at c.turn_end-end.ensures.within c.turn.ensures.forward c.turn.ensures.within (c.turn.ensures.told part kept wrapped bytes s)
+pub returns-then-turn-clause-silent : goal.returns-then-turn-clause-silent
+returns-then-turn-clause-silent c = λ part kept wrapped bytes s.
+    turn_told part kept c.args.self.now c.turn.new.self bytes c.args.piece.now c.turn_end-end.result c.args.at.now c.turn.new.at c.turn_end-end.ensures.within c.turn.ensures.forward c.turn.ensures.within (c.turn.ensures.silent part kept wrapped bytes s)
 
 pub returns-then-turn-clause-first : goal.returns-then-turn-clause-first
 returns-then-turn-clause-first c = λ part kept wrapped bytes s not.
@@ -20,9 +20,9 @@ pub returns-clause-stands : goal.returns-clause-stands
 returns-clause-stands c = λ part kept wrapped bytes s.
     turn_stands part kept wrapped c.turn.new.self bytes c.args.piece.now c.turn_end-end.result c.args.at.now c.turn.new.at c.turn_end-end.ensures.within c.turn.ensures.forward c.turn.ensures.within (c.turn.ensures.stands part kept wrapped bytes s)
 
-pub returns-clause-told : goal.returns-clause-told
-returns-clause-told c = λ part kept wrapped bytes s.
-    turn_told part kept c.args.self.now c.turn.new.self bytes c.args.piece.now c.turn_end-end.result c.args.at.now c.turn.new.at c.turn_end-end.ensures.within c.turn.ensures.forward c.turn.ensures.within (c.turn.ensures.told part kept wrapped bytes s)
+pub returns-clause-silent : goal.returns-clause-silent
+returns-clause-silent c = λ part kept wrapped bytes s.
+    turn_told part kept c.args.self.now c.turn.new.self bytes c.args.piece.now c.turn_end-end.result c.args.at.now c.turn.new.at c.turn_end-end.ensures.within c.turn.ensures.forward c.turn.ensures.within (c.turn.ensures.silent part kept wrapped bytes s)
 
 pub returns-clause-first : goal.returns-clause-first
 returns-clause-first c = λ part kept wrapped bytes s not.

@@ -11,18 +11,18 @@ use Rattle.x7_engine.specs.Course.{course_at}
 use Rattle.x7_engine.specs.declared.kept.Kept.{Kept}
 use Rattle.x7_engine.specs.declared.stop.Stop.{Stop}
 use Rattle.x7_engine.specs.Standing.{FramesAre, frames_due, registers_in}
-use Rattle.x7_engine.specs.Stops.{frame_line, line_at, stop_by, stop_of, stopped_at}
+use Rattle.x7_engine.specs.Stops.{why_by_frames, why_at, stop_by, stop_of, stopped_at}
 use Rattle.x7_engine.specs.Values.{answer_of, read_value, words_read}
 use Rattle.x7_engine.proofs.ClockLemmas.{stop_of-access}
 use Rattle.x7_engine.proofs.FrameLemmas.{frames_at, goes_on, none_among, none_frames, none_left, refused, standing_frames}
 use Rattle.x7_engine.proofs.PlainLemmas.{clock_other}
 use Rattle.x7_engine.proofs.registers.Registers.read.Goals as goal
 
-read_line : (part : PartData) (kept : Kept) (h : History) (register count : ℕ) (result : Option RunFault) → frame_fault part h (Read register count) ≡ result → line_at part kept h (Read register count) ≡ frame_line result
-read_line part kept h register count result e = ap frame_line e
+read_why : (part : PartData) (kept : Kept) (h : History) (register count : ℕ) (result : Option RunFault) → frame_fault part h (Read register count) ≡ result → why_at part kept h (Read register count) ≡ why_by_frames result
+read_why part kept h register count result e = ap why_by_frames e
 
-answered : (part : PartData) (kept : Kept) (h : History) (register count place : ℕ) (line : Option Stop) → line_at part kept h (Read register count) ≡ line → answer_of part kept h (Read register count) place ≡ (if is_some line then [] else words_read (course_at part kept h place) register count)
-answered part kept h register count place line e = ap (λ (o : Option Stop). if is_some o then [] else words_read (course_at part kept h place) register count) e
+answered : (part : PartData) (kept : Kept) (h : History) (register count place : ℕ) (why : Option Stop) → why_at part kept h (Read register count) ≡ why → answer_of part kept h (Read register count) place ≡ (if is_some why then [] else words_read (course_at part kept h place) register count)
+answered part kept h register count place why e = ap (λ (o : Option Stop). if is_some o then [] else words_read (course_at part kept h place) register count) e
 
 pub returns-then-not-reads_frames-clause-stands : goal.returns-then-not-reads_frames-clause-stands
 returns-then-not-reads_frames-clause-stands c = λ kept h place next s.
@@ -39,7 +39,7 @@ returns-then-not-reads_frames-clause-stands c = λ kept h place next s.
       kind = s.kind;
       before = s.before;
       clock = clock_other part kept (registers_in c.args.self.now).clock h (Read c.args.register c.args.count) place refl refl s.clock;
-      stop = stop_of-access part kept h (Read c.args.register c.args.count) place going ∙ ap (stopped_at place) (read_line part kept h c.args.register c.args.count None read.0) ∙ sym (ap (stopped_at place) c.requires.going);
+      stop = stop_of-access part kept h (Read c.args.register c.args.count) place going ∙ ap (stopped_at place) (read_why part kept h c.args.register c.args.count None read.0) ∙ sym (ap (stopped_at place) c.requires.going);
       frames = frames_at part c.args.self.now.frames c.args.self.now.stop (entry (Read c.args.register c.args.count) place ∷ h) 0 (goes_on c.args.self.now.stop c.requires.going) read.1;
       due_kind = sym (ap (λ (b : Bool). if b then c.args.count else 0) other);
     }
@@ -50,7 +50,7 @@ returns-then-not-reads_frames-clause-reads c = λ kept h place s.
     let other : reads_frame_data h (Read c.args.register c.args.count) ≡ false = sym (c.reads_frames.ensures part.idcode h (c.settings.ensures.after part kept h place s)) ∙ c.if-not-reads_frames.true in
     let are : FramesStandFor part c.args.self.now.frames h 0 = standing_frames part c.args.self.now.frames c.args.self.now.stop h c.args.self.now.due c.requires.going c.requires.none_due s.frames in
     let read = other_read part c.args.self.now.frames.pipeline c.args.self.now.frames.memory h c.args.register c.args.count place other are in
-    answered part kept h c.args.register c.args.count place None (read_line part kept h c.args.register c.args.count None read.0)
+    answered part kept h c.args.register c.args.count place None (read_why part kept h c.args.register c.args.count None read.0)
     ∙ ap (λ b. if b then frames_read part h c.args.count else replicate c.args.count (read_value (course_at part kept h place) c.args.register)) other
     ∙ ap (replicate c.args.count) (sym (c.read_value.ensures c.requires.going c.requires.none_due kept h place s))
 
@@ -60,8 +60,8 @@ returns-in-Some-clause-stands c = λ kept h place next s.
     let going : stop_of part kept h place ≡ None = s.stop ∙ ap (stopped_at place) c.requires.going in
     let frames : reads_frame_data h (Read c.args.register c.args.count) ≡ true = sym (c.reads_frames.ensures part.idcode h (c.settings.ensures.after part kept h place s)) ∙ c.if-not-reads_frames.false in
     let are : FramesStandFor part c.args.self.now.frames h 0 = standing_frames part c.args.self.now.frames c.args.self.now.stop h c.args.self.now.due c.requires.going c.requires.none_due s.frames in
-    let why : frame_fault part h (Read c.args.register c.args.count) ≡ Some c.in-Some.fault = c.in-Some.ensures h c.args.register place frames are in
-    let line : c.stop_of_refused.result ≡ stop_by c.in-Some.fault = c.stop_of_refused.ensures.value in
+    let refusal : frame_fault part h (Read c.args.register c.args.count) ≡ Some c.in-Some.fault = c.in-Some.ensures h c.args.register place frames are in
+    let why : c.stop_of_refused.result ≡ stop_by c.in-Some.fault = c.stop_of_refused.ensures.value in
     record {
       places = (next.0, omega arith, next.1);
       words = record { each = s.words.each };
@@ -70,10 +70,10 @@ returns-in-Some-clause-stands c = λ kept h place next s.
       kind = s.kind;
       before = s.before;
       clock = clock_other part kept (registers_in c.args.self.now).clock h (Read c.args.register c.args.count) place refl refl s.clock;
-      stop = stop_of-access part kept h (Read c.args.register c.args.count) place going ∙ ap (stopped_at place) (read_line part kept h c.args.register c.args.count (Some c.in-Some.fault) why ∙ ap Some (sym line));
-      frames = subst (λ (l : Stop). FramesAre part c.args.self.now.frames (Some l) (entry (Read c.args.register c.args.count) place ∷ h) (frames_due c.args.self.now.due)) (sym line)
+      stop = stop_of-access part kept h (Read c.args.register c.args.count) place going ∙ ap (stopped_at place) (read_why part kept h c.args.register c.args.count (Some c.in-Some.fault) refusal ∙ ap Some (sym why));
+      frames = subst (λ (l : Stop). FramesAre part c.args.self.now.frames (Some l) (entry (Read c.args.register c.args.count) place ∷ h) (frames_due c.args.self.now.due)) (sym why)
           (subst (λ (n : ℕ). FramesAre part c.args.self.now.frames (Some (stop_by c.in-Some.fault)) (entry (Read c.args.register c.args.count) place ∷ h) n) (sym (none_frames c.args.self.now.due c.requires.none_due))
-          (refused part c.args.self.now.frames h (entry (Read c.args.register c.args.count) place) c.in-Some.fault why are));
+          (refused part c.args.self.now.frames h (entry (Read c.args.register c.args.count) place) c.in-Some.fault refusal are));
       due_kind = none_among c.args.self.now.due (entry (Read c.args.register c.args.count) place ∷ h) c.requires.none_due;
     }
 
@@ -82,8 +82,8 @@ returns-in-Some-clause-reads c = λ kept h place s.
     let part : PartData = c.args.part.now in
     let frames : reads_frame_data h (Read c.args.register c.args.count) ≡ true = sym (c.reads_frames.ensures part.idcode h (c.settings.ensures.after part kept h place s)) ∙ c.if-not-reads_frames.false in
     let are : FramesStandFor part c.args.self.now.frames h 0 = standing_frames part c.args.self.now.frames c.args.self.now.stop h c.args.self.now.due c.requires.going c.requires.none_due s.frames in
-    let why : frame_fault part h (Read c.args.register c.args.count) ≡ Some c.in-Some.fault = c.in-Some.ensures h c.args.register place frames are in
-    answered part kept h c.args.register c.args.count place (Some (stop_by c.in-Some.fault)) (read_line part kept h c.args.register c.args.count (Some c.in-Some.fault) why)
+    let refusal : frame_fault part h (Read c.args.register c.args.count) ≡ Some c.in-Some.fault = c.in-Some.ensures h c.args.register place frames are in
+    answered part kept h c.args.register c.args.count place (Some (stop_by c.in-Some.fault)) (read_why part kept h c.args.register c.args.count (Some c.in-Some.fault) refusal)
     ∙ sym (none_left part (entry (Read c.args.register c.args.count) place ∷ h) c.args.self.now.due c.requires.none_due)
 
 pub returns-in-None-clause-stands : goal.returns-in-None-clause-stands
@@ -101,7 +101,7 @@ returns-in-None-clause-stands c = λ kept h place next s.
       kind = s.kind;
       before = s.before;
       clock = clock_other part kept (registers_in c.args.self.now).clock h (Read c.args.register c.args.count) place refl refl s.clock;
-      stop = stop_of-access part kept h (Read c.args.register c.args.count) place going ∙ ap (stopped_at place) (read_line part kept h c.args.register c.args.count None read.0) ∙ sym (ap (stopped_at place) c.requires.going);
+      stop = stop_of-access part kept h (Read c.args.register c.args.count) place going ∙ ap (stopped_at place) (read_why part kept h c.args.register c.args.count None read.0) ∙ sym (ap (stopped_at place) c.requires.going);
       frames = frames_at part c.args.self.now.frames c.args.self.now.stop (entry (Read c.args.register c.args.count) place ∷ h) c.args.count (goes_on c.args.self.now.stop c.requires.going) read.1;
       due_kind = sym (ap (λ (b : Bool). if b then c.args.count else 0) frames);
     }
@@ -112,6 +112,6 @@ returns-in-None-clause-reads c = λ kept h place s.
     let frames : reads_frame_data h (Read c.args.register c.args.count) ≡ true = sym (c.reads_frames.ensures part.idcode h (c.settings.ensures.after part kept h place s)) ∙ c.if-not-reads_frames.false in
     let are : FramesStandFor part c.args.self.now.frames h 0 = standing_frames part c.args.self.now.frames c.args.self.now.stop h c.args.self.now.due c.requires.going c.requires.none_due s.frames in
     let read = c.in-None.ensures h c.args.register place frames are in
-    answered part kept h c.args.register c.args.count place None (read_line part kept h c.args.register c.args.count None read.0)
+    answered part kept h c.args.register c.args.count place None (read_why part kept h c.args.register c.args.count None read.0)
     ∙ ap (λ b. if b then frames_read part h c.args.count else replicate c.args.count (read_value (course_at part kept h place) c.args.register)) frames
     ∙ sym read.2

@@ -2,7 +2,7 @@ use Rattle.std.proofs.Common.{◌≡◌, ◌==◌, ℕ, Bool, not, Option, refl,
 use Rattle.std.specs.Prelude.{nat_le}
 use Rattle.x7_part.specs.Part.{PartData}
 use Rattle.x7_regs.specs.Status.{status_of}
-use Rattle.x7_startup.specs.Calls.{Progress, ticks_of}
+use Rattle.x7_startup.specs.Calls.{StartupProgress, ticks_of}
 use Rattle.x7_startup.specs.declared.lines.Lines.{Lines}
 use Rattle.x7_engine.specs.declared.fault.Fault.{Fault}
 use Rattle.x7_engine.specs.Startup.{phase_by, startup_progress}
@@ -11,7 +11,7 @@ use Rattle.x7_engine.specs.Values.{is_crc_fault, is_id_fault, lines_by, stat_par
 use Rattle.x7_engine.proofs.registers.Registers.stat.Goals as goal
 
 -- what is told, by each of its parts
-told : (part : PartData) (fault : Option Fault) (p : Progress) (lines : Lines) (crc id ghigh had lock matched eos : Bool) (phase mode width : ℕ)
+told : (part : PartData) (fault : Option Fault) (p : StartupProgress) (lines : Lines) (crc id ghigh had lock matched eos : Bool) (phase mode width : ℕ)
     → crc ≡ is_crc_fault fault → id ≡ is_id_fault fault → had ≡ ghigh → lock ≡ nat_le part.lock (ticks_of p) → matched ≡ nat_le part.matched (ticks_of p) → eos ≡ (phase_by part p == 7) → lines ≡ lines_by part p → phase ≡ phase_by part p → mode ≡ part.mode → width ≡ part.bus_width
     → status_of (record { crc_error = crc; lock = lock; matched = matched; eos = eos; gts = lines.gts; gwe = lines.gwe; ghigh = had; mode = mode; init_b = not crc; done = lines.done; id_error = id; phase = phase; bus_width = width })
     ≡ status_of (stat_parts part fault p ghigh)

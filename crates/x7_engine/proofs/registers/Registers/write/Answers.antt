@@ -7,7 +7,7 @@ use Rattle.x7_flow.specs.Standing.{FramesStandFor}
 use Rattle.x7_engine.specs.Standing.{AreLastWords, FramesAre, IsProgress, progress_in}
 use Rattle.x7_engine.specs.Stops.{stop_of, stopped_at}
 use Rattle.x7_engine.proofs.ClockLemmas.{stop_of-access}
-use Rattle.x7_engine.proofs.FrameLemmas.{access_frames, line_is, none_frames, standing_frames, none_among}
+use Rattle.x7_engine.proofs.FrameLemmas.{access_frames, why_is, none_frames, standing_frames, none_among}
 use Rattle.x7_engine.proofs.registers.Registers.write.Goals as goal
 
 pub returns-clause-stands : goal.returns-clause-stands
@@ -22,7 +22,7 @@ returns-clause-stands c = λ kept h place next s.
     let going : stop_of part kept h place ≡ None = s.stop ∙ ap (stopped_at place) c.requires.going in
     let are : FramesStandFor part c.args.self.now.frames h 0 = standing_frames part c.args.self.now.frames c.args.self.now.stop h c.args.self.now.due c.requires.going c.requires.none_due s.frames in
     let refused = c.write-refused.ensures.fault h (c.settings-settings.ensures.after part kept h place s) are in
-    let line = c.line_of-line.ensures.value part e kept h place s command in
+    let why = c.why_of_write-why.ensures.value part e kept h place s command in
     let after = c.write-refused.ensures.stands h (c.settings-settings.ensures.after part kept h place s) are place in
     record {
       places = (next.0, omega arith, next.1);
@@ -32,8 +32,8 @@ returns-clause-stands c = λ kept h place next s.
       kind = s.kind;
       before = s.before;
       clock = c.write-4.ensures place part kept h (record { executed_is = command; taken_is = taken; cor0_is = cor0 }) s.clock;
-      stop = stop_of-access part kept h access place going ∙ ap (stopped_at place) (sym (line_is part kept h access c.line_of-line.result c.first_line-self.result c.write-refused.result refused line c.first_line-self.ensures.value));
-      frames = subst (λ (n : ℕ). FramesAre part c.write-refused.new.self c.first_line-self.result (entry access place ∷ h) n) (sym (none_frames c.args.self.now.due c.requires.none_due))
-          (access_frames part kept c.args.self.now.frames c.write-refused.new.self h (entry access place) c.line_of-line.result c.first_line-self.result c.write-refused.result are after refused line c.first_line-self.ensures.value);
+      stop = stop_of-access part kept h access place going ∙ ap (stopped_at place) (sym (why_is part kept h access c.why_of_write-why.result c.first_of-self.result c.write-refused.result refused why c.first_of-self.ensures.value));
+      frames = subst (λ (n : ℕ). FramesAre part c.write-refused.new.self c.first_of-self.result (entry access place ∷ h) n) (sym (none_frames c.args.self.now.due c.requires.none_due))
+          (access_frames part kept c.args.self.now.frames c.write-refused.new.self h (entry access place) c.why_of_write-why.result c.first_of-self.result c.write-refused.result are after refused why c.first_of-self.ensures.value);
       due_kind = none_among c.args.self.now.due (entry access place ∷ h) c.requires.none_due;
     }

@@ -9,11 +9,11 @@ use Rattle.x7_engine.proofs.words.Words.pass_all.Goals as goal
 
 pub returns-in-Some : goal.returns-in-Some
 returns-in-Some c = λ kept h n s.
-    let front : List ℕ = map word_of_bytes (take (length c.as_chunks.result.0.now - 1) c.as_chunks.result.0.now) in
-    let ws : words_of_bytes c.args.bytes.now ≡ front ++ c.word_of.result ∷ [] = words_by_chunks (length c.args.bytes.now / 4) c.args.bytes.now refl ∙ ap (map word_of_bytes) (sym c.as_chunks.ensures.front)
+    let prefix : List ℕ = map word_of_bytes (take (length c.as_chunks.result.0.now - 1) c.as_chunks.result.0.now) in
+    let ws : words_of_bytes c.args.bytes.now ≡ prefix ++ c.word_of.result ∷ [] = words_by_chunks (length c.args.bytes.now / 4) c.args.bytes.now refl ∙ ap (map word_of_bytes) (sym c.as_chunks.ensures.front)
     ∙ words_last c.as_chunks.result.0.now c.in-Some.word.now c.word_of.result (sym c.in-Some.ensures.value) c.word_of.ensures.value in
     record {
       each = λ r l.
           (c.write.ensures kept h (n + 4) s).each r l
-          ∙ sym (ap (λ (t : List ℕ). word_held kept r (entered_all n (payload_steps c.args.register t) h)) ws ∙ word_held-all kept r c.args.register n c.word_of.result front h);
+          ∙ sym (ap (λ (t : List ℕ). word_held kept r (entered_all n (payload_steps c.args.register t) h)) ws ∙ word_held-all kept r c.args.register n c.word_of.result prefix h);
     }

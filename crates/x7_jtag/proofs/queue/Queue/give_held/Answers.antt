@@ -14,8 +14,8 @@ loop-rest-preserved c =
 
 pub returns : goal.returns
 returns c = record {
-  stands = λ part given held out s.
-      turns-end part c.args.self.now _ c.loop-rest.self c.args.device.now c.loop-rest.device given held c.bytes-rest.result.now c.loop-rest.rest.now out s
+  stands = λ part q s.
+      turns-end part c.args.self.now _ c.loop-rest.self c.args.device.now c.loop-rest.device q.given q.held c.bytes-rest.result.now c.loop-rest.rest.now q.out s
       (ap (λ (h : List ℕ). record { held = h; word = c.self.inside.word; left = c.self.inside.left }) (c.replace-held.ensures.after ∙ c.new.ensures) ∙ ap (λ (q : QueueState). record q { held = [] }) c.self.view_is)
       (c.bytes-rest.ensures.now ∙ c.replace-held.ensures.value ∙ ap (λ (q : QueueState). q.held) c.self.view_is) (grind (arith, c.loop-rest-test.false, c.loop-rest-test.ensures)) (c.loop-rest.invariant.turns part);
 }

@@ -33,7 +33,7 @@ returns-clause-ok c =
     let P : AssemblerState → Type 0 = λ x. (x.count ≤ a.count + 1) × ((all left : List (List ℕ)) → a.count < 9223372036854775808 → Waits a.begun all (c.extend_from_slice.new.self.items ∷ left) a.out a.start a.checker a.count → Goes all left x.out x.start x.checker x.count) in
     let r : P e = subst P (sym c.self-2.view_is) (c.read_next.ensures.count, c.in-Ok.ensures.ok) in
     record {
-      front = c.first_line.result.0.now ++ 10 ∷ [];
+      prefix = c.first_line.result.0.now ++ 10 ∷ [];
       split_is = q.0 ∙ sym (append_assoc c.first_line.result.0.now (10 ∷ []) c.in-Some.rest.now);
       begun = refl;
       clear = c.clear.ensures.items;

@@ -15,4 +15,4 @@ returns-clause-whole g c =
 pub returns-clause-prefix : goal.returns-clause-prefix
 returns-clause-prefix g c =
     let s = g.S.Sink in
-    text-failed (s.state c.args.out.now).written (s.state c.write_rows.new.out).written (s.state c.write_all.new.sink).written c.args.self.now c.deref.result.now (sym c.self.view_is ∙ sym c.deref.ensures.value) c.in_ok-write_rows.ensures.whole c.write_all.ensures.front
+    text-failed (s.state c.args.out.now).written (s.state c.write_rows.new.out).written (s.state c.write_all.new.sink).written c.args.self.now c.deref.result.now (sym c.self.view_is ∙ sym c.deref.ensures.value) c.in_ok-write_rows.ensures.whole c.write_all.ensures.prefix

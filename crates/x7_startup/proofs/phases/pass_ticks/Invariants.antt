@@ -1,6 +1,6 @@
 use Rattle.x7_startup.specs.Arrivals.{wait_of}
 use Rattle.x7_startup.proofs.RunLemmas.{Ran}
-use Rattle.x7_startup.proofs.phases.run.Given as goal
+use Rattle.x7_startup.proofs.phases.pass_ticks.Given as goal
 
 abbrev pub invariant-loop-left : goal.invariant-loop-left
 invariant-loop-left l = Ran (wait_of l.lock l.matched l.cor0) l.fn.start.ticks l.fn.start.phase l.fn.count l.ticks l.phase l.left

@@ -1,7 +1,7 @@
 use Rattle.std.proofs.Common.{arith}
 use Rattle.x7_startup.specs.Arrivals.{wait_of}
 use Rattle.x7_startup.proofs.RunLemmas.{ran_stays, ran_moves}
-use Rattle.x7_startup.proofs.phases.run.Goals as goal
+use Rattle.x7_startup.proofs.phases.pass_ticks.Goals as goal
 
 pub loop-left-preserved-then-ticks-wait : goal.loop-left-preserved-then-ticks-wait
 loop-left-preserved-then-ticks-wait c =

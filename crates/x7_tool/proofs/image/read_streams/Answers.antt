@@ -1,0 +1,27 @@
+use Rattle.std.proofs.Common.{ℕ, List, [], ◌∷◌, Ok, Err, inr}
+use Rattle.x7_forms.specs.Message.{event_of}
+use Rattle.x7_forms.specs.Known.{and_so}
+use Rattle.x7_forms.proofs.ReadLemmas.{answers_go, answers_stop, first_of}
+use Rattle.x7_tool.specs.Outcome.{ImageStreams, stream_data}
+use Rattle.x7_tool.specs.Streamed.{data_from}
+use Rattle.x7_tool.proofs.DebugLemmas.{stream_steady}
+use Rattle.x7_tool.proofs.image.read_streams.Goals as goal
+
+pub returns-in-Err-clause-due : goal.returns-in-Err-clause-due
+returns-in-Err-clause-due g c =
+    let i = g.I.Inputs in
+    let golden = c.args.golden.now in
+    let update = c.args.update.now in
+    answers_stop (List ℕ) ImageStreams (golden ∷ []) (golden ∷ update ∷ []) (i.state c.args.inputs.now) (i.state c.read_stream.new.inputs) (λ t. stream_data t golden)
+    (λ t first. and_so (stream_data t update) (λ second. Ok (record { golden = first; update = second }))) (event_of c.in-Err.refusal) (first_of golden (update ∷ [])) c.in-Err.ensures.due
+
+pub returns-in-Err-read_stream-clause-due : goal.returns-in-Err-read_stream-clause-due
+returns-in-Err-read_stream-clause-due g c =
+    let i = g.I.Inputs in
+    let golden = c.args.golden.now in
+    let update = c.args.update.now in
+    let event = event_of c.in-Err-read_stream.refusal in
+    let first = data_from c.in-Ok.stream in
+    answers_go (List ℕ) ImageStreams (golden ∷ []) (update ∷ []) (golden ∷ update ∷ []) (i.state c.args.inputs.now) (i.state c.read_stream.new.inputs) (i.state c.read_stream-2.new.inputs) (λ t. stream_data t golden)
+    (λ t first. and_so (stream_data t update) (λ second. Ok (record { golden = first; update = second }))) first (Err event) (stream_steady golden) c.read_stream.ensures.inputs (λ n h. inr h) c.in-Ok.ensures.due
+    (answers_stop (List ℕ) ImageStreams (update ∷ []) (update ∷ []) (i.state c.read_stream.new.inputs) (i.state c.read_stream-2.new.inputs) (λ t. stream_data t update) (λ t second. Ok (record { golden = first; update = second })) event (λ n h. h) c.in-Err-read_stream.ensures.due)
