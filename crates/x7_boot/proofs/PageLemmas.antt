@@ -77,7 +77,7 @@ page_of_block known extent number count index start stop block bytes b l f m g e
     let last : number * page_size + stop ≤ block_end number count extent = let w = b.within in let long = b.long in omega (arith, inside, w, long, m) in
     record {
       long = let n : length bytes ≡ stop - start = range_length block bytes start stop e inside in omega (arith, n, end, at);
-      told = told_of_block known block bytes (number * page_size) (block_end number count extent) start stop ((number + index) * page_size) (page_end ((number + index) * page_size) extent) b.told e at end
+      bytes_are = told_of_block known block bytes (number * page_size) (block_end number count extent) start stop ((number + index) * page_size) (page_end ((number + index) * page_size) extent) b.bytes_are e at end
           (omega (arith, end, last)) goes;
     }
 
@@ -126,7 +126,7 @@ rest_from known extent at bytes within r =
       long = let l : length (drop (at % page_size) bytes) ≡ length bytes - at % page_size = length-drop (at % page_size) bytes in
           let m : length bytes ≡ page_end (page * page_size) extent - page * page_size = r.long in
           omega (arith, l, m, end, sum);
-      told = told_from known bytes (page * page_size) (at % page_size) at (page_end (page * page_size) extent) (page_end at extent) sum end (omega (arith, inside)) r.told;
+      bytes_are = told_from known bytes (page * page_size) (at % page_size) at (page_end (page * page_size) extent) (page_end at extent) sum end (omega (arith, inside)) r.bytes_are;
     }
 
 -- the page of a place, among those that are kept
@@ -162,7 +162,7 @@ rest_told known extent at page within r =
     let inside : at < page_end at extent = within_page at extent within in
     let long : length page ≡ page_end at extent - at = r.long in
     let end : page_end at extent ≡ at + length page = omega (arith, long, inside) in
-    subst (λ (n : ℕ). IfKnown known (λ all. page ≡ slice_range all at n)) end r.told
+    subst (λ (n : ℕ). IfKnown known (λ all. page ≡ slice_range all at n)) end r.bytes_are
 
 pub rest_goes : (known : Option (List ℕ)) (extent at : ℕ) (page : List ℕ) → at < extent → IsRest known extent at page → 0 < length page
 rest_goes known extent at page within r =
@@ -182,7 +182,7 @@ rest_within known extent at page within r =
 
 -- what is kept of a page, as bytes from a place on
 pub from_rest : (known : Option (List ℕ)) (extent at : ℕ) (page : List ℕ) → at < extent → IsRest known extent at page → AreFrom known extent at page
-from_rest known extent at page within r = record { some = rest_goes known extent at page within r; within = rest_within known extent at page within r; told = rest_told known extent at page within r }
+from_rest known extent at page within r = record { some = rest_goes known extent at page within r; within = rest_within known extent at page within r; bytes_are = rest_told known extent at page within r }
 
 -- a block that begins with the page of a place has the place
 pub place_in_block : (known : Option (List ℕ)) (extent at count : ℕ) (block : List ℕ) → at < extent → 0 < count → IsBlock known extent (at / page_size) count block → at % page_size < length block
@@ -200,7 +200,7 @@ from_block known extent at count block lent within some b e =
     let from : AreFrom known extent at bytes = record {
       some = omega (arith, left, inside);
       within = omega (arith, end);
-      told = told_from known block (at / page_size * page_size) (at % page_size) at (block_end (at / page_size) count extent) (at + length bytes) sum end (omega arith) b.told;
+      bytes_are = told_from known block (at / page_size * page_size) (at % page_size) at (block_end (at / page_size) count extent) (at + length bytes) sum end (omega arith) b.bytes_are;
     } in
     subst (AreFrom known extent at) (sym (take_rest lent (at % page_size) ∙ ap (drop (at % page_size)) e)) from
 

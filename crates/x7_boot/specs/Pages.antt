@@ -21,7 +21,7 @@ page_end at extent = min ((at / page_size + 1) * page_size) extent
 -- these are the bytes of a flash from a place to the end of its page
 pub record IsRest (known : Option (List ℕ)) (extent at : ℕ) (bytes : List ℕ) : Type 0 where
   pub long : length bytes ≡ page_end at extent - at
-  pub told : IfKnown known (λ all. bytes ≡ slice_range all at (page_end at extent))
+  pub bytes_are : IfKnown known (λ all. bytes ≡ slice_range all at (page_end at extent))
 
 -- where so many pages from a number on end, or the flash if it ends before
 abbrev pub block_end : ℕ → ℕ → ℕ → ℕ
@@ -31,7 +31,7 @@ block_end number count extent = min ((number + count) * page_size) extent
 pub record IsBlock (known : Option (List ℕ)) (extent number count : ℕ) (bytes : List ℕ) : Type 0 where
   pub within : number * page_size < extent
   pub long : length bytes ≡ block_end number count extent - number * page_size
-  pub told : IfKnown known (λ all. bytes ≡ slice_range all (number * page_size) (block_end number count extent))
+  pub bytes_are : IfKnown known (λ all. bytes ≡ slice_range all (number * page_size) (block_end number count extent))
 
 -- what loading the page of a number came to: it was there, or it begins so many pages that were read into this block
 abbrev pub IsLoaded : Option (List ℕ) → ℕ → ℕ → List ℕ → Loaded → Type 0
@@ -47,7 +47,7 @@ Reaches at block (Read count) = at % page_size < length block
 pub record AreFrom (known : Option (List ℕ)) (extent at : ℕ) (bytes : List ℕ) : Type 0 where
   pub some : 0 < length bytes
   pub within : at + length bytes ≤ extent
-  pub told : IfKnown known (λ all. bytes ≡ slice_range all at (at + length bytes))
+  pub bytes_are : IfKnown known (λ all. bytes ≡ slice_range all at (at + length bytes))
 
 -- pages under their numbers
 abbrev pub Pages : Type 0

@@ -1,5 +1,5 @@
 -- What a script shows of a stream: each order at the position where it leaves the session (this project's choice).
-use Rattle.std.specs.Prelude.{ℕ, ◌+◌, ◌-◌, List, [], ◌∷◌, ◌++◌, Option, None, Some, codes, decimal, fold, min}
+use Rattle.std.specs.Prelude.{◌≡◌, ℕ, ◌+◌, ◌-◌, List, [], ◌∷◌, ◌++◌, Option, None, Some, codes, decimal, fold, min}
 use Rattle.x7_text.specs.Digits.{hex_word}
 use Rattle.x7_part.specs.Part.{PartData}
 use Rattle.x7_memory.specs.FrameMap.{FrameMap}
@@ -9,6 +9,7 @@ use Rattle.x7_report.specs.State.{end_text, phase_text, reg_text}
 use Rattle.x7_debug.specs.declared.order.Order.{Order}
 use Rattle.x7_debug.specs.declared.order.Order.TheVariants as order
 use Rattle.x7_debug.specs.Position.{last_of, memory_at, state_at, until_of}
+use Rattle.x7_debug.specs.Session.{MovesTo, SessionState}
 
 -- the position that an order brings a session to: moves are cut at 0 and at the last position
 abbrev pub position_after : PartData → List ℕ → ℕ → Order → ℕ
@@ -23,6 +24,14 @@ position_after part stream at (order.Frame far) = at
 -- the position that orders bring a session to that begins at 0
 abbrev pub final_position : PartData → List ℕ → List Order → ℕ
 final_position part stream orders = fold (position_after part stream) 0 orders
+
+-- following orders from position 0 on has brought a session here
+abbrev pub Follows : SessionState → SessionState → List Order → Type 0
+Follows old new orders = MovesTo old new (final_position old.part old.stream orders)
+
+-- following some of them has, from the first on
+abbrev pub FollowsSome : SessionState → SessionState → List Order → Type 0
+FollowsSome old new orders = (done : List Order) × (left : List Order) × (orders ≡ done ++ left) × Follows old new done
 
 -- where a move led: the position, and where the bytes up to it end
 unfoldable pub position_text : Regs → List ℕ

@@ -14,7 +14,7 @@ pub fn one_order()
     ensures { (a b : Order) → FitsOrder a → FitsOrder b → order_text a ≡ order_text b → a ≡ b }
 {}
 
-/// A text comes to one script, or to one first bad line.
+/// A text comes to at most one script or one first bad line.
 pub fn one_script()
     ensures { (text : List ℕ) (a b : Result (List Order) ScriptFault) → IsScriptOf text a → IsScriptOf text b → a ≡ b }
 {}

@@ -1,9 +1,8 @@
 //! What a script shows of a stream.
-ghost use Rattle.std.specs.Prelude.{◌≡◌, ◌++◌, List, IfOk, OnErr, OnOk};
+ghost use Rattle.std.specs.Prelude.{◌≡◌, ◌++◌, IfOk, OnErr, OnOk};
 ghost use Rattle.x7_memory.specs.Frames.{AreFramesOf, frame_at};
 ghost use Rattle.x7_debug.specs.Session.{MovesTo};
-ghost use Rattle.x7_debug.specs.Transcript.{final_position, frame_shown, none_text, position_after, position_text, shown_at, transcript_of};
-ghost use Rattle.x7_debug.specs.declared.order.Order.{Order as OrderData};
+ghost use Rattle.x7_debug.specs.Transcript.{Follows, FollowsSome, frame_shown, none_text, position_after, position_text, shown_at, transcript_of};
 
 use crate::order::Order;
 use crate::script::Script;
@@ -95,8 +94,8 @@ pub fn transcript(
 ) -> Result<Vec<u8>, NoMemory>
     requires { session.old.at ≡ 0 }
     ensures text { IfOk result (λ text. text.items ≡ transcript_of session.old.part session.old.stream script.now) }
-    ensures position { OnOk result (MovesTo session.old session.new (final_position session.old.part session.old.stream script.now)) }
-    ensures err { OnErr result ((done : List OrderData) × (left : List OrderData) × (script.now ≡ done ++ left) × MovesTo session.old session.new (final_position session.old.part session.old.stream done)) }
+    ensures position { OnOk result (Follows session.old session.new script.now) }
+    ensures err { OnErr result (FollowsSome session.old session.new script.now) }
 {
     let mut text = Vec::new(alloc);
     for order in script.orders() {

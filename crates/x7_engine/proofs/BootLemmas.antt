@@ -44,4 +44,4 @@ few part h told (due.Frames zero) e = refl
 few part h told (due.Frames (suc n)) e = absurd (nothing_more told _ _ e)
 
 pub none_due_at_first : (part : PartData) (kept : Kept) (wrapped : Bool) (d : DeviceState) → DeviceStandsFor part kept wrapped d [] → NoWordDue d
-none_due_at_first part kept wrapped d s = few part (history_taken part kept []) s.due_are.told d.registers.due s.due_are.all
+none_due_at_first part kept wrapped d s = few part (history_taken part kept []) s.due_are.given d.registers.due s.due_are.all

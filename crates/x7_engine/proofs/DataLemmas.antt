@@ -11,7 +11,7 @@ use Rattle.x7_pipeline.specs.declared.fault.RunFault.{RunFault}
 use Rattle.x7_flow.specs.Controls.{is_matched}
 use Rattle.x7_flow.specs.Flow.{frame_fault}
 use Rattle.x7_flow.specs.Standing.{FramesStandFor, FramesState}
-use Rattle.x7_flow.specs.Words.{EndsBy, NoneRefused, WordsTaken, with_frame_data, words_before}
+use Rattle.x7_flow.specs.Words.{NoneRefused, WordsTaken, with_frame_data, words_before, words_seen}
 use Rattle.x7_engine.specs.declared.kept.Kept.{Kept}
 use Rattle.x7_engine.specs.declared.stop.Stop.{Stop}
 use Rattle.x7_engine.specs.Stops.{why_by_frames, why_at, or_else}
@@ -35,15 +35,15 @@ take_front (x ∷ prefix) rest = ap (λ t. x ∷ t) (take_front prefix rest)
 pub given : (part : PartData) (f : FramesState) (n : ℕ) (h : History) (ws : List ℕ) (count : ℕ) (fault : Option RunFault) → WordsTaken part f n h ws count fault
     → (NoneRefused part n (take (words_before count fault) ws) h) × FramesStandFor part f (with_frame_data n (take (words_before count fault) ws) h) 0
 given part f n h ws count fault t =
-    let size : words_before count fault ≡ length t.taken = by fault t.end in
+    let size : words_before count fault ≡ length t.taken = by fault t.counted in
     let prefix : take (words_before count fault) ws ≡ t.taken = ap (λ (k : ℕ). take k ws) size ∙ ap (take (length t.taken)) t.words_are ∙ take_front t.taken t.rest in (
       subst (λ (x : List ℕ). NoneRefused part n x h) (sym prefix) t.none_refused,
       subst (λ (x : List ℕ). FramesStandFor part f (with_frame_data n x h) 0) (sym prefix) t.stands,
     )
   where
-    by : (f : Option RunFault) → EndsBy part (with_frame_data n t.taken h) t.rest (length t.taken) count f → words_before count f ≡ length t.taken
-    by None e = e.1
-    by (Some refusal) e = omega (arith, e.4)
+    by : (f : Option RunFault) → count ≡ words_seen (length t.taken) f → words_before count f ≡ length t.taken
+    by None e = e
+    by (Some refusal) e = omega (arith, e)
 
 -- the words of the first bytes, and those of the rest
 data_words : (m : ℕ) (bytes : List ℕ) → m % 4 ≡ 0 → m ≤ length bytes → words_of_bytes bytes ≡ words_of_bytes (take m bytes) ++ words_of_bytes (drop m bytes)

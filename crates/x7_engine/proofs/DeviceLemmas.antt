@@ -149,7 +149,7 @@ turned part kept wrapped d e bytes cut more rest run count left room s going wen
         stop_is = stops;
         registers_are = subst (λ (x : History). RegistersStandFor part kept e.registers x m) (sym new) after;
         cutter_is = λ o. record { sessions = w.new_sessions; place = w.new_place; stands = subst (λ (x : List ℕ). CutterStandsFor e.cutter (bytes ++ x) w.new_sessions w.new_place) (sym (no_rest cut more rest j (l ∙ g o))) w.stands };
-        due_are = record { told = reads_of part kept bytes; all = told };
+        due_are = record { given = reads_of part kept bytes; all = told };
         at_rest = q;
       },
       told,

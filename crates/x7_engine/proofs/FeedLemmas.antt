@@ -12,8 +12,9 @@ use Rattle.x7_engine.specs.declared.kept.Kept.{Kept}
 use Rattle.x7_engine.specs.declared.stop.Stop.{Stop}
 use Rattle.x7_engine.specs.declared.stop.Stop.TheVariants as stop
 use Rattle.x7_engine.specs.ReadBuffer.{ReadBufState, gathered, with_words}
-use Rattle.x7_engine.specs.Readout.{Gave, GaveFrames, Gives}
-use Rattle.x7_engine.specs.Standing.{Answers, DeviceStandsFor, DeviceState, NoWordDue, RegistersState, due_count, fed_by, taken_in, reads_given, words_left}
+use Rattle.x7_engine.specs.Readout.{Gave, GotAllBut, Gives}
+use Rattle.x7_engine.specs.Past.{Answers, past_of}
+use Rattle.x7_engine.specs.Standing.{DeviceStandsFor, DeviceState, NoWordDue, RegistersState, due_count, fed_by, taken_in, reads_given, words_left}
 use Rattle.x7_engine.specs.State.{history_taken, reads_of}
 use Rattle.x7_engine.specs.Stops.{stopped_at}
 use Rattle.x7_engine.proofs.DeviceLemmas.{told_by}
@@ -22,14 +23,14 @@ use Rattle.x7_engine.proofs.DeviceLemmas.{told_by}
 pub given : (part : PartData) (kept : Kept) (wrapped : Bool) (d : DeviceState) (r : RegistersState) (bytes : List ℕ) (old new : ReadBufState) → d.registers.stop ≡ None → r.stop ≡ None → DeviceStandsFor part kept wrapped d bytes
     → Gave (course_at part kept (history_taken part kept bytes) (length bytes)) d.registers r old new → Gives (record { part = part; kept = kept; wrapped = wrapped; bytes = bytes }) d (record d { registers = r }) old new
 given part kept wrapped d r bytes old new going on s g =
-    let told : List ℕ = s.due_are.told in
+    let told : List ℕ = s.due_are.given in
     let h : History = history_taken part kept bytes in
     let e : DeviceState = record d { registers = r } in
     let all : reads_of part kept bytes ≡ (told ++ g.more) ++ words_left part h r.due = s.due_are.all ∙ ap (λ t. told ++ t) g.words_are ∙ sym (append_assoc told g.more (words_left part h r.due)) in
     record {
       more = g.more;
       read_is = g.read_is;
-      told_are = told_by part kept e bytes (told ++ g.more) h all ∙ ap (λ t. t ++ g.more) (sym (told_by part kept d bytes told h s.due_are.all));
+      given_are = told_by part kept e bytes (told ++ g.more) h all ∙ ap (λ t. t ++ g.more) (sym (told_by part kept d bytes told h s.due_are.all));
       stands = record {
         fits = s.fits;
         part_is = s.part_is;
@@ -38,7 +39,7 @@ given part kept wrapped d r bytes old new going on s g =
         stop_is = s.stop_is ∙ ap (stopped_at (length bytes)) (going ∙ sym on);
         registers_are = g.stands;
         cutter_is = λ o. s.cutter_is going;
-        due_are = record { told = told ++ g.more; all = all };
+        due_are = record { given = told ++ g.more; all = all };
         at_rest = λ why q. absurd (none-some _ (sym on ∙ q));
       };
     }
@@ -87,7 +88,7 @@ pub now_told : (part : PartData) (kept : Kept) (wrapped : Bool) (d e : DeviceSta
 now_told part kept wrapped d e first read next taken told g m = (
   m.0 ++ g.more,
   g.read_is ∙ ap (λ (b : ReadBufState). with_words b g.more) m.1 ∙ words_append first m.0 g.more,
-  g.told_are ∙ ap (λ t. t ++ g.more) m.2 ∙ append_assoc told m.0 g.more,
+  g.given_are ∙ ap (λ t. t ++ g.more) m.2 ∙ append_assoc told m.0 g.more,
 )
 
 -- and then a run more is taken
@@ -104,7 +105,7 @@ pub taken_by_stop : (why : Stop) (n at : ℕ) → taken_in n (fed_by why at) ≡
 taken_by_stop (stop.Fault f) n at = refl
 taken_by_stop stop.Iprog n at = refl
 
-pub answers_stop : (part : PartData) (kept : Kept) (wrapped : Bool) (d : DeviceState) (bytes : List ℕ) (read : ReadBufState) (why : Stop) (at : ℕ) → DeviceStandsFor part kept wrapped d bytes → Some why ≡ d.registers.stop → Answers part kept d bytes read (fed_by why at)
+pub answers_stop : (part : PartData) (kept : Kept) (wrapped : Bool) (d : DeviceState) (bytes : List ℕ) (read : ReadBufState) (why : Stop) (at : ℕ) → DeviceStandsFor part kept wrapped d bytes → Some why ≡ d.registers.stop → Answers (past_of part kept wrapped bytes) d read (fed_by why at)
 answers_stop part kept wrapped d bytes read (stop.Fault f) at s e = (f, s.stop_is ∙ ap (stopped_at (length bytes)) (sym e), s.at_rest (stop.Fault f) (sym e))
 answers_stop part kept wrapped d bytes read stop.Iprog at s e = (s.stop_is ∙ ap (stopped_at (length bytes)) (sym e), s.at_rest stop.Iprog (sym e))
 
@@ -125,30 +126,29 @@ told_within part kept d bytes = omega (arith, length-take (length (reads_of part
 
 -- ---- words of frame data given to a buffer
 
+-- the next word is due
+pub one_due : (part : PartData) (f : FramesState) (h : History) (count i : ℕ) → i < count → FramesStandFor part f h (count - i) → FramesStandFor part f h (count - (i + 1) + 1)
+one_due part f h count i l s =
+    let next : count - i ≡ count - (i + 1) + 1 = omega (arith, l) in
+    subst (FramesStandFor part f h) next s
+
 -- a word more
-pub gave_more : (part : PartData) (f g : FramesState) (h : History) (count i w : ℕ) (first read new : ReadBufState) → i < count → GaveFrames part f h count (count - i) first read
-    → ((due : ℕ) → FramesStandFor part f h (due + 1) → FramesStandFor part g h due) → ((due : ℕ) → FramesStandFor part f h (due + 1) → words_due part h (suc due) ≡ w ∷ words_due part h due)
-    → new ≡ with_words read (w ∷ []) → GaveFrames part g h count (count - (i + 1)) first new
-gave_more part f g h count i w first read new l s stands word e =
+pub got_more : (part : PartData) (f : FramesState) (h : History) (count i w : ℕ) (first read new : ReadBufState) → i < count → GotAllBut (words_due part h (count - i)) (words_due part h count) first read
+    → FramesStandFor part f h (count - i) → ((due : ℕ) → FramesStandFor part f h (due + 1) → words_due part h (suc due) ≡ w ∷ words_due part h due)
+    → new ≡ with_words read (w ∷ []) → GotAllBut (words_due part h (count - (i + 1))) (words_due part h count) first new
+got_more part f h count i w first read new l g s word e =
     let due : ℕ = count - (i + 1) in
-    let next : count - i ≡ due + 1 = omega (arith, l) in
     let later : count - i ≡ suc due = omega (arith, l) in
-    let now : FramesStandFor part f h (due + 1) = subst (FramesStandFor part f h) next s.stands in
     record {
-      more = s.more ++ w ∷ [];
-      read_is = e ∙ ap (λ (b : ReadBufState). with_words b (w ∷ [])) s.read_is ∙ words_append first s.more (w ∷ []);
-      words_are = s.words_are ∙ ap (λ (k : ℕ). s.more ++ words_due part h k) later ∙ ap (λ t. s.more ++ t) (word due now) ∙ sym (append_assoc s.more (w ∷ []) (words_due part h due));
-      stands = stands due now;
+      more = g.more ++ w ∷ [];
+      read_is = e ∙ ap (λ (b : ReadBufState). with_words b (w ∷ [])) g.read_is ∙ words_append first g.more (w ∷ []);
+      words_are = g.words_are ∙ ap (λ (k : ℕ). g.more ++ words_due part h k) later ∙ ap (λ t. g.more ++ t) (word due (one_due part f h count i l s)) ∙ sym (append_assoc g.more (w ∷ []) (words_due part h due));
     }
 
 -- a dropping buffer takes them all
-pub gave_dropped : (part : PartData) (f g : FramesState) (h : History) (count : ℕ) (read : ReadBufState) → read.most ≡ None → FramesStandFor part f h count → ((due : ℕ) → FramesStandFor part f h (due + count) → FramesStandFor part g h due)
-    → GaveFrames part g h count 0 read read
-gave_dropped part f g h count read e s stands =
-    let all : 0 + count ≡ count = omega arith in
-    record {
-      more = words_due part h count;
-      read_is = ap (λ ws. record { most = read.most; words = ws }) (sym (ap (λ (most : Option ℕ). gathered most read.words (words_due part h count)) e));
-      words_are = sym (append-nil (words_due part h count));
-      stands = stands 0 (subst (FramesStandFor part f h) (sym all) s);
-    }
+pub got_dropped : (words : List ℕ) (read : ReadBufState) → read.most ≡ None → GotAllBut [] words read read
+got_dropped words read e = record {
+  more = words;
+  read_is = ap (λ ws. record { most = read.most; words = ws }) (sym (ap (λ (most : Option ℕ). gathered most read.words words) e));
+  words_are = sym (append-nil words);
+}

@@ -135,6 +135,6 @@ gap_again part kept keep wrapped d e bytes left s g fallback registers all part_
       stop_is = gap_goes_on part keep bytes fallback g.nothing ∙ sym (ap (stopped_at (length bytes)) going);
       registers_are = subst (λ (h : History). RegistersStandFor part keep e.registers h (length bytes)) (sym same) here;
       cutter_is = λ _. subst (λ (c : CutterState). IsCutterOf c bytes) (sym cutter) (s.cutter_is (gap_going part kept wrapped d bytes s g.no_stop));
-      due_are = record { told = []; all = ap (read_out part keep) same ∙ sym (ap (words_left part (history_taken part keep bytes)) none_due) };
+      due_are = record { given = []; all = ap (read_out part keep) same ∙ sym (ap (words_left part (history_taken part keep bytes)) none_due) };
       at_rest = λ why q. ap due_count none_due;
     }

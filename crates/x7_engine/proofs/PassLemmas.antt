@@ -79,7 +79,7 @@ passed part kept wrapped d e bytes cut more rest count left s going quiet idles 
           stands = subst (λ (x : CutterState). CutterStandsFor x (bytes ++ more) cutter.sessions i.new_place) (sym c)
               (subst (λ (x : List ℕ). CutterStandsFor d.cutter (bytes ++ x) cutter.sessions i.new_place) (sym (no_rest cut more rest j (l ∙ g o))) i.stands);
         };
-        due_are = record { told = reads_of part kept bytes; all = told ∙ none_due (reads_of part kept bytes) part (history_taken part kept (bytes ++ more)) e.registers.due due };
+        due_are = record { given = reads_of part kept bytes; all = told ∙ none_due (reads_of part kept bytes) part (history_taken part kept (bytes ++ more)) e.registers.due due };
         at_rest = λ why o. due;
       },
       told,

@@ -18,7 +18,8 @@ use Rattle.x7_engine.specs.declared.fed.Fed.TheVariants as fed
 use Rattle.x7_engine.specs.declared.kept.Kept.{Kept}
 use Rattle.x7_engine.specs.declared.stop.Stop.{Stop}
 use Rattle.x7_engine.specs.ReadBuffer.{IsFullBy, ReadBufState, with_words}
-use Rattle.x7_engine.specs.Standing.{Answers, DeviceState, DeviceStandsFor, NoWordDue, RegistersState, frames_due}
+use Rattle.x7_engine.specs.Past.{Answers, Past}
+use Rattle.x7_engine.specs.Standing.{DeviceState, DeviceStandsFor, NoWordDue, RegistersState, frames_due}
 use Rattle.x7_engine.specs.State.{history_by, history_taken, last_counted, memory_in, stop_in}
 use Rattle.x7_engine.specs.Stops.{Stopped, stopped_at}
 use Rattle.x7_engine.specs.Undo.{Back, Keeps, UndoState, ValuesState, dropping, registers_with, values_of}
@@ -121,11 +122,11 @@ leads_back part kept wrapped u old new bytes more k n none few s t =
     }
 
 -- a feed with a dropping buffer
-pub answers_dropping : (part : PartData) (kept : Kept) (d : DeviceState) (bytes more : List ℕ) (first read : ReadBufState) (f : Fed) → first ≡ dropping → read ≡ with_words first more → Answers part kept d bytes read f → Answers part kept d bytes dropping f
-answers_dropping part kept d bytes more first read fed.All e g a = a
-answers_dropping part kept d bytes more first read (fed.Stopped n) e g a = a
-answers_dropping part kept d bytes more first read (fed.Iprog n) e g a = a
-answers_dropping part kept d bytes more first read (fed.ReadFull n) e g a =
+pub answers_dropping : (p : Past) (d : DeviceState) (more : List ℕ) (first read : ReadBufState) (f : Fed) → first ≡ dropping → read ≡ with_words first more → Answers p d read f → Answers p d dropping f
+answers_dropping p d more first read fed.All e g a = a
+answers_dropping p d more first read (fed.Stopped n) e g a = a
+answers_dropping p d more first read (fed.Iprog n) e g a = a
+answers_dropping p d more first read (fed.ReadFull n) e g a =
     let most : read.most ≡ None = ap (λ (b : ReadBufState). b.most) g ∙ ap (λ (b : ReadBufState). b.most) e in
     (a.0, a.1, absurd (subst (λ (m : Option ℕ). IsFullBy m (length read.words)) most a.2))
 

@@ -27,11 +27,12 @@ use Rattle.x7_engine.specs.declared.until_started.UntilStarted.TheVariants as un
 use Rattle.x7_engine.specs.Phases.{soonest}
 use Rattle.x7_engine.specs.Registers.{takes_shutdown}
 use Rattle.x7_engine.specs.ReadBuffer.{ReadBufState}
-use Rattle.x7_engine.specs.Standing.{Answers, DeviceStandsFor, DeviceState, EndsWords, NoWordDue, taken_in, reads_given}
+use Rattle.x7_engine.specs.Past.{Answers, AnswersUntil, Past}
+use Rattle.x7_engine.specs.Standing.{DeviceStandsFor, DeviceState, EndsWords, NoWordDue, taken_in}
 use Rattle.x7_engine.specs.Startup.{phase_by, phase_of, startup_call, startup_calls, startup_progress}
 use Rattle.x7_engine.specs.State.{history_by, history_taken, state_of, stop_in, taken_by, taken_of}
 use Rattle.x7_engine.specs.Stops.{Stopped, stopped_at}
-use Rattle.x7_engine.specs.UntilStarted.{AnswersUntil, AreOtherWrites, CommandsLast, HasNotBegun, IsOtherWrite, NoneStarted, has_started, says_started, taken_until}
+use Rattle.x7_engine.specs.UntilStarted.{AreOtherWrites, CommandsLast, HasNotBegun, IsOtherWrite, NoneStarted, has_started, says_started, taken_until}
 use Rattle.x7_engine.proofs.ClockLemmas.{last_of}
 use Rattle.x7_engine.proofs.DeviceLemmas.{ends_words, length_between}
 use Rattle.x7_engine.proofs.FeedLemmas.{taken_more}
@@ -275,13 +276,9 @@ slice_long piece end l = length-take-le end piece l
 pub in_slice : (piece : List ℕ) (end from to : ℕ) → end ≤ length piece → from ≤ to → to ≤ length (take end piece) → between (take end piece) from to ≡ between piece from to
 in_slice piece end from to m l k = between_in_front piece end from to l (omega (arith, k, slice_long piece end m))
 
-pub turn_stands : (part : PartData) (kept : Kept) (wrapped : Bool) (d : DeviceState) (bytes piece : List ℕ) (end from to : ℕ) → end ≤ length piece → from ≤ to → to ≤ length (take end piece)
+turn_stands : (part : PartData) (kept : Kept) (wrapped : Bool) (d : DeviceState) (bytes piece : List ℕ) (end from to : ℕ) → end ≤ length piece → from ≤ to → to ≤ length (take end piece)
     → DeviceStandsFor part kept wrapped d (bytes ++ between (take end piece) from to) → DeviceStandsFor part kept wrapped d (bytes ++ between piece from to)
 turn_stands part kept wrapped d bytes piece end from to m l k s = subst (λ (t : List ℕ). DeviceStandsFor part kept wrapped d (bytes ++ t)) (in_slice piece end from to m l k) s
-
-pub turn_told : (part : PartData) (kept : Kept) (d e : DeviceState) (bytes piece : List ℕ) (end from to : ℕ) → end ≤ length piece → from ≤ to → to ≤ length (take end piece)
-    → reads_given part kept e (bytes ++ between (take end piece) from to) ≡ reads_given part kept d bytes → reads_given part kept e (bytes ++ between piece from to) ≡ reads_given part kept d bytes
-turn_told part kept d e bytes piece end from to m l k t = subst (λ (b : List ℕ). reads_given part kept e (bytes ++ b) ≡ reads_given part kept d bytes) (in_slice piece end from to m l k) t
 
 pub turn_first : (part : PartData) (kept : Kept) (wrapped : Bool) (d e : DeviceState) (bytes piece : List ℕ) (end from to : ℕ) → end ≤ length piece → from ≤ to → to ≤ length (take end piece) → d.registers.stop ≡ None
     → DeviceStandsFor part kept wrapped d bytes → DeviceStandsFor part kept wrapped e (bytes ++ between (take end piece) from to) → CommandsLast bytes (between (take end piece) from to)
@@ -333,7 +330,6 @@ pub says_answer : (b : Bool) (answer : Fed) (at : ℕ) → says_started (if b th
 says_answer true answer at = refl
 says_answer false answer at = refl
 
-pub answers_until : (part : PartData) (kept : Kept) (d : DeviceState) (bytes : List ℕ) (read : ReadBufState) (b : Bool) (answer : Fed) (at : ℕ) → NoWordDue d → Answers part kept d bytes read answer
-    → AnswersUntil part kept d bytes read (if b then until.Started at else until.Fed answer)
-answers_until part kept d bytes read true answer at due a = due
-answers_until part kept d bytes read false answer at due a = a
+pub answers_until : (p : Past) (d : DeviceState) (read : ReadBufState) (b : Bool) (answer : Fed) (at : ℕ) → NoWordDue d → Answers p d read answer → AnswersUntil p d read (if b then until.Started at else until.Fed answer)
+answers_until p d read true answer at due a = due
+answers_until p d read false answer at due a = a

@@ -102,7 +102,7 @@ write_taken part kept wrapped d e bytes rest register w s going begun limit one 
         stop_is = stops;
         registers_are = subst (λ (x : History). RegistersStandFor part kept e.registers x (length all)) (sym taken) here;
         cutter_is = λ o. is.cutter;
-        due_are = record { told = reads_of part kept bytes; all = told ∙ none_due (reads_of part kept bytes) part (history_taken part kept all) e.registers.due due };
+        due_are = record { given = reads_of part kept bytes; all = told ∙ none_due (reads_of part kept bytes) part (history_taken part kept all) e.registers.due due };
         at_rest = λ why o. due;
       },
       told,

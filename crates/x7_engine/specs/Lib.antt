@@ -18,6 +18,7 @@ pub mod Startup
 pub mod State
 pub mod Stops
 pub mod Timeout
+pub mod Turns
 pub mod Values
 pub mod Watching
 pub mod Undo

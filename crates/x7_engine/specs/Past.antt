@@ -8,16 +8,19 @@ use Rattle.x7_memory.specs.FrameMap.{FrameMap}
 use Rattle.x7_part.specs.Part.{PartData}
 use Rattle.x7_engine.specs.Checked.{StandsIn}
 use Rattle.x7_engine.specs.Values.{cause_of}
+use Rattle.x7_engine.specs.declared.fault.Fault.{Fault}
 use Rattle.x7_engine.specs.declared.fed.Fed.{Fed}
+use Rattle.x7_engine.specs.declared.fed.Fed.TheVariants as fed
 use Rattle.x7_engine.specs.declared.stop.Stop.TheVariants as stop
 use Rattle.x7_engine.specs.declared.kept.Kept.{Kept}
 use Rattle.x7_engine.specs.declared.regs.Regs.{Regs}
 use Rattle.x7_engine.specs.declared.until_started.UntilStarted.{UntilStarted}
-use Rattle.x7_engine.specs.ReadBuffer.{ReadBufState, with_words}
-use Rattle.x7_engine.specs.Standing.{Answers, DeviceStandsFor, DeviceState, due_of, taken_in, reads_given}
+use Rattle.x7_engine.specs.declared.until_started.UntilStarted.TheVariants as until
+use Rattle.x7_engine.specs.ReadBuffer.{IsFull, ReadBufState, with_words}
+use Rattle.x7_engine.specs.Standing.{DeviceStandsFor, DeviceState, NoWordDue, due_count, due_of, taken_in, reads_given}
 use Rattle.x7_engine.specs.State.{history_taken, why_of, memory_in, reads_of, state_of, stop_in, taken_of}
 use Rattle.x7_engine.specs.Stops.{Stopped, fault_of}
-use Rattle.x7_engine.specs.UntilStarted.{AnswersUntil, has_started, taken_until}
+use Rattle.x7_engine.specs.UntilStarted.{has_started, taken_until}
 
 -- its part, what its reset kept, whether the flash has ended since then, and the bytes taken since then
 pub record Past : Type 0 where
@@ -25,6 +28,9 @@ pub record Past : Type 0 where
   pub kept : Kept
   pub wrapped : Bool
   pub bytes : List ℕ
+
+abbrev pub past_of : PartData → Kept → Bool → List ℕ → Past
+past_of part kept wrapped bytes = record { part = part; kept = kept; wrapped = wrapped; bytes = bytes }
 
 -- the past after more bytes
 abbrev pub later : Past → List ℕ → Past
@@ -99,20 +105,32 @@ pub record BootGoesOn (p : Past) : Type 0 where
 abbrev pub Takes : DeviceState → DeviceState → List ℕ → Type 0
 Takes old new more = OfPast old (λ p. HasPast new (later p more))
 
--- it takes them, and gives no word
+-- the words given so far are the same with these bytes as before them
 abbrev pub GivesNone : DeviceState → DeviceState → List ℕ → Type 0
 GivesNone old new more = OfPast old (λ p. reads_given_at new (later p more) ≡ reads_given_at old p)
 
--- it takes them, and the buffer gets the next words that they read out
+-- the buffer gets words, and those given so far are with these bytes those of before, and these words
 abbrev pub GivesNext : DeviceState → DeviceState → List ℕ → ReadBufState → ReadBufState → Type 0
 GivesNext old new more before after = OfPast old (λ p. (words : List ℕ) × (after ≡ with_words before words) × (reads_given_at new (later p more) ≡ reads_given_at old p ++ words))
 
--- it takes them, and answers so
+-- what a feed answers: that nothing stopped the device and no word is due, the stop at the last byte, with no word due either, or that nothing stopped it, a word is due and the buffer full
+abbrev pub Answers : Past → DeviceState → ReadBufState → Fed → Type 0
+Answers p d read fed.All = (stop_at p ≡ None) × NoWordDue d
+Answers p d read (fed.Stopped n) = (f : Fault) × (stop_at p ≡ Some (record { place = length p.bytes; why = stop.Fault f })) × NoWordDue d
+Answers p d read (fed.Iprog n) = (stop_at p ≡ Some (record { place = length p.bytes; why = stop.Iprog })) × NoWordDue d
+Answers p d read (fed.ReadFull n) = (stop_at p ≡ None) × (0 < due_count d.registers.due) × IsFull read
+
+-- what a feed up to the end of startup answers: that no word is due, where startup has ended, and else what a feed answers
+abbrev pub AnswersUntil : Past → DeviceState → ReadBufState → UntilStarted → Type 0
+AnswersUntil p d read (until.Started n) = NoWordDue d
+AnswersUntil p d read (until.Fed answer) = Answers p d read answer
+
+-- this answer says what the old bytes and these come to
 abbrev pub AnswersFor : DeviceState → DeviceState → List ℕ → ReadBufState → Fed → Type 0
-AnswersFor old new more read answer = OfPast old (λ p. Answers p.part p.kept new (p.bytes ++ more) read answer)
+AnswersFor old new more read answer = OfPast old (λ p. Answers (later p more) new read answer)
 
 abbrev pub AnswersUntilFor : DeviceState → DeviceState → List ℕ → ReadBufState → UntilStarted → Type 0
-AnswersUntilFor old new more read answer = OfPast old (λ p. AnswersUntil p.part p.kept new (p.bytes ++ more) read answer)
+AnswersUntilFor old new more read answer = OfPast old (λ p. AnswersUntil (later p more) new read answer)
 
 -- the bytes taken of a piece, by what is answered
 abbrev pub part_taken : List ℕ → Fed → List ℕ

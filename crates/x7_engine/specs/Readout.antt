@@ -1,19 +1,15 @@
 -- Words that are due, given to a buffer.
 use Rattle.std.specs.Prelude.{◌≡◌, ℕ, ◌++◌, List}
-use Rattle.x7_packets.specs.History.{History}
-use Rattle.x7_part.specs.Part.{PartData}
-use Rattle.x7_flow.specs.Standing.{FramesStandFor, FramesState, words_due}
 use Rattle.x7_engine.specs.Course.{Course}
 use Rattle.x7_engine.specs.Past.{HasPast, Past, reads_given_at}
 use Rattle.x7_engine.specs.ReadBuffer.{ReadBufState, with_words}
 use Rattle.x7_engine.specs.Standing.{DeviceState, RegistersStandFor, RegistersState, words_left}
 
--- of so many words of frame data that are due, the buffer got the first, and these are left
-pub record GaveFrames (part : PartData) (f : FramesState) (h : History) (count left : ℕ) (old new : ReadBufState) : Type 0 where
+-- of these words the buffer got the first, all but the rest
+pub record GotAllBut (rest words : List ℕ) (old new : ReadBufState) : Type 0 where
   pub more : List ℕ
   pub read_is : new ≡ with_words old more
-  pub words_are : words_due part h count ≡ more ++ words_due part h left
-  pub stands : FramesStandFor part f h left
+  pub words_are : words ≡ more ++ rest
 
 -- of the words due the buffer got the first, and the registers stand for the same history
 pub record Gave (c : Course) (d e : RegistersState) (old new : ReadBufState) : Type 0 where
@@ -26,5 +22,5 @@ pub record Gave (c : Course) (d e : RegistersState) (old new : ReadBufState) : T
 pub record Gives (p : Past) (d e : DeviceState) (old new : ReadBufState) : Type 0 where
   pub more : List ℕ
   pub read_is : new ≡ with_words old more
-  pub told_are : reads_given_at e p ≡ reads_given_at d p ++ more
+  pub given_are : reads_given_at e p ≡ reads_given_at d p ++ more
   pub stands : HasPast e p

@@ -22,7 +22,6 @@ use Rattle.x7_flow.specs.FrameMemory.{memory_of}
 use Rattle.x7_flow.specs.Standing.{FramesStandFor, FramesState, less, words_due}
 use Rattle.x7_engine.specs.declared.due.Due.{Due}
 use Rattle.x7_engine.specs.declared.due.Due.TheVariants as due
-use Rattle.x7_engine.specs.declared.fault.Fault.{Fault}
 use Rattle.x7_engine.specs.declared.fault.Fault.TheVariants as fault
 use Rattle.x7_engine.specs.declared.fed.Fed.{Fed}
 use Rattle.x7_engine.specs.declared.fed.Fed.TheVariants as fed
@@ -32,7 +31,6 @@ use Rattle.x7_engine.specs.declared.registers.Registers.{Registers}
 use Rattle.x7_engine.specs.declared.stop.Stop.{Stop}
 use Rattle.x7_engine.specs.declared.stop.Stop.TheVariants as stop
 use Rattle.x7_engine.specs.Clock.{ClockState, IsClock, clock_in}
-use Rattle.x7_engine.specs.ReadBuffer.{IsFull, ReadBufState}
 use Rattle.x7_flow.specs.Controls.{is_matched, masked}
 use Rattle.x7_flow.specs.FrameAccess.{reads_frame_data}
 use Rattle.x7_engine.specs.Registers.{has_ghigh, is_pending, word_held, wrote_iprog}
@@ -243,10 +241,10 @@ pub record IsCutterOf (c : CutterState) (bytes : List ℕ) : Type 0 where
   pub place : Place
   pub stands : CutterStandsFor c bytes sessions place
 
--- the words read out: those that were told already, and then those that are still due
+-- the words read out: those that were given already, and then those that are still due
 pub record AreDue (part : PartData) (d : RegistersState) (h : History) (reads : List ℕ) : Type 0 where
-  pub told : List ℕ
-  pub all : reads ≡ told ++ words_left part h d.due
+  pub given : List ℕ
+  pub all : reads ≡ given ++ words_left part h d.due
 
 -- A device took these bytes since a reset that kept this, all of them: it has no stop, or its stop came at the last one. Where it stopped, its cutter may be past that byte.
 pub record DeviceStandsFor (part : PartData) (kept : Kept) (wrapped : Bool) (d : DeviceState) (bytes : List ℕ) : Type 0 where
@@ -268,7 +266,7 @@ reads_given part kept d bytes = take (length (reads_of part kept bytes) - due_co
 abbrev pub due_of : PartData → Kept → DeviceState → List ℕ → List ℕ
 due_of part kept d bytes = words_left part (history_taken part kept bytes) d.registers.due
 
--- what a feed answers: that all bytes were taken and no word is due, the stop, at which no word is due either, or that a word is due and the buffer full
+-- how many bytes of a piece of this length are taken, by what a feed answers
 abbrev pub taken_in : ℕ → Fed → ℕ
 taken_in length fed.All = length
 taken_in length (fed.Stopped n) = n
@@ -279,9 +277,3 @@ taken_in length (fed.ReadFull n) = n
 abbrev pub fed_by : Stop → ℕ → Fed
 fed_by (stop.Fault f) at = fed.Stopped at
 fed_by stop.Iprog at = fed.Iprog at
-
-abbrev pub Answers : PartData → Kept → DeviceState → List ℕ → ReadBufState → Fed → Type 0
-Answers part kept d bytes read fed.All = (stop_in part kept bytes ≡ None) × NoWordDue d
-Answers part kept d bytes read (fed.Stopped n) = (f : Fault) × (stop_in part kept bytes ≡ Some (record { place = length bytes; why = stop.Fault f })) × NoWordDue d
-Answers part kept d bytes read (fed.Iprog n) = (stop_in part kept bytes ≡ Some (record { place = length bytes; why = stop.Iprog })) × NoWordDue d
-Answers part kept d bytes read (fed.ReadFull n) = (stop_in part kept bytes ≡ None) × (0 < due_count d.registers.due) × IsFull read

@@ -11,6 +11,6 @@ no_room = record { most = Some 0; words = [] }
 abbrev pub ReadBefore : Past → List ℕ → ℕ → List ℕ → Type 0
 ReadBefore p piece count words = (k : ℕ) → k < count → reads_at (later p (take k piece)) ≡ words
 
--- the words read out at any fewer than so many bytes of a piece are those told before, and words for which the buffer had room
+-- the words read out at any fewer than so many bytes of a piece are those given before, and words for which the buffer had room
 abbrev pub RoomBefore : Past → List ℕ → ℕ → List ℕ → ReadBufState → Type 0
-RoomBefore p piece count told read = (k : ℕ) → k < count → (words : List ℕ) × (reads_at (later p (take k piece)) ≡ told ++ words) × HasRoomFor read words
+RoomBefore p piece count given read = (k : ℕ) → k < count → (words : List ℕ) × (reads_at (later p (take k piece)) ≡ given ++ words) × HasRoomFor read words

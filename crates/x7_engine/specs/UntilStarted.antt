@@ -8,8 +8,7 @@ use Rattle.x7_startup.specs.Calls.{NotBegun}
 use Rattle.x7_engine.specs.declared.kept.Kept.{Kept}
 use Rattle.x7_engine.specs.declared.until_started.UntilStarted.{UntilStarted}
 use Rattle.x7_engine.specs.declared.until_started.UntilStarted.TheVariants as until
-use Rattle.x7_engine.specs.ReadBuffer.{ReadBufState}
-use Rattle.x7_engine.specs.Standing.{Answers, DeviceState, NoWordDue, taken_in}
+use Rattle.x7_engine.specs.Standing.{taken_in}
 use Rattle.x7_engine.specs.Startup.{startup_progress}
 use Rattle.x7_engine.specs.State.{history_taken, state_of, taken_of}
 
@@ -34,11 +33,6 @@ taken_until length (until.Fed answer) = taken_in length answer
 abbrev pub says_started : UntilStarted → Bool
 says_started (until.Started n) = true
 says_started (until.Fed answer) = false
-
--- that no word is due, where startup has ended, and else what a feed answers
-abbrev pub AnswersUntil : PartData → Kept → DeviceState → List ℕ → ReadBufState → UntilStarted → Type 0
-AnswersUntil part kept d bytes read (until.Started n) = NoWordDue d
-AnswersUntil part kept d bytes read (until.Fed answer) = Answers part kept d bytes read answer
 
 -- an access that writes a register other than CMD
 abbrev pub IsOtherWrite : Access → Type 0

@@ -9,10 +9,10 @@ ghost use Rattle.x7_engine.specs.UntilRead.{RoomBefore};
 ghost use Rattle.x7_engine.specs.Kept.{on_the_bench};
 ghost use Rattle.x7_engine.specs.Readout.{Gives};
 ghost use Rattle.x7_engine.specs.ReadBuffer.{IsFull, with_words};
-ghost use Rattle.x7_engine.specs.Standing.{Answers, DeviceStandsFor, MayWrap, NoWordDue, due_count, fed_by, fed_more, fed_of, frames_due, taken_in, reads_given, with_wrap};
+ghost use Rattle.x7_engine.specs.Standing.{DeviceStandsFor, MayWrap, NoWordDue, due_count, fed_by, fed_more, fed_of, frames_due, taken_in, reads_given, with_wrap};
 ghost use Rattle.x7_engine.specs.State.{attempt_in, end_by, kept_after, why_of, memory_in, state_of, state_owing, stop_in};
 ghost use Rattle.x7_engine.specs.Stops.{fault_of};
-ghost use Rattle.x7_engine.specs.UntilStarted.{CommandsLast};
+ghost use Rattle.x7_engine.specs.Turns.{Turns};
 ghost use Rattle.x7_engine.specs.Values.{cause_of};
 ghost use Rattle.x7_engine.specs.declared.fault.Fault.{Fault as FaultData};
 ghost use Rattle.x7_engine.specs.declared.kept.Kept.{Kept as KeptData};
@@ -260,11 +260,8 @@ impl Device {
         ensures forward { at.old ≤ at.new }
         ensures within { at.new ≤ length piece.now }
         ensures taken { self.new.taken ≡ self.old.taken + (at.new - at.old) }
-        ensures part { self.new.part ≡ self.old.part }
         ensures fed { fed_of self.new ≡ fed_more self.old (at.new - at.old) }
-        ensures stands { Takes self.old self.new (between piece.now at.old at.new) }
-        ensures silent { GivesNone self.old self.new (between piece.now at.old at.new) }
-        ensures commands { OfPast self.old (λ p. CommandsLast p.bytes (between piece.now at.old at.new)) }
+        ensures turns { Turns self.old self.new (between piece.now at.old at.new) }
         ensures used_up { IsTrue result → (at.new ≡ length piece.now) × (self.new.registers.stop ≡ None) × NoWordDue self.new }
         ensures goes { result ≡ false → self.new.registers.stop ≡ None
             → calls_left self.new.cutter (length piece.now - at.new) < calls_left self.old.cutter (length piece.now - at.old) }
@@ -290,12 +287,9 @@ impl Device {
         ensures none { result ≡ false → (self.new ≡ self.old) × (at.new ≡ at.old) }
         ensures one { IsTrue result → (at.new ≡ at.old + 8) × (at.new ≤ length piece.now) }
         ensures taken { self.new.taken ≡ self.old.taken + (at.new - at.old) }
-        ensures part { self.new.part ≡ self.old.part }
         ensures fed { fed_of self.new ≡ fed_more self.old (at.new - at.old) }
         ensures due { NoWordDue self.new }
-        ensures stands { IsTrue result → Takes self.old self.new (between piece.now at.old at.new) }
-        ensures silent { IsTrue result → GivesNone self.old self.new (between piece.now at.old at.new) }
-        ensures commands { IsTrue result → OfPast self.old (λ p. CommandsLast p.bytes (between piece.now at.old at.new)) }
+        ensures turns { IsTrue result → Turns self.old self.new (between piece.now at.old at.new) }
     {
         if !self.registers.clock.is_idle() {
             return false;
@@ -320,11 +314,8 @@ impl Device {
         ensures forward { at.old ≤ at.new }
         ensures within { at.new ≤ length piece.now }
         ensures taken { self.new.taken ≡ self.old.taken + (at.new - at.old) }
-        ensures part { self.new.part ≡ self.old.part }
         ensures fed { fed_of self.new ≡ fed_more self.old (at.new - at.old) }
-        ensures stands { Takes self.old self.new (between piece.now at.old at.new) }
-        ensures silent { GivesNone self.old self.new (between piece.now at.old at.new) }
-        ensures commands { OfPast self.old (λ p. CommandsLast p.bytes (between piece.now at.old at.new)) }
+        ensures turns { Turns self.old self.new (between piece.now at.old at.new) }
         ensures used_up { IsTrue result → (at.new ≡ length piece.now) × (self.new.registers.stop ≡ None) × NoWordDue self.new }
         ensures goes { result ≡ false → self.new.registers.stop ≡ None
             → calls_left self.new.cutter (length piece.now - at.new) < calls_left self.old.cutter (length piece.now - at.old) }
@@ -346,11 +337,8 @@ impl Device {
         ensures forward { at.old ≤ at.new }
         ensures within { at.new ≤ length piece.now }
         ensures taken { self.new.taken ≡ self.old.taken + (at.new - at.old) }
-        ensures part { self.new.part ≡ self.old.part }
         ensures fed { fed_of self.new ≡ fed_more self.old (at.new - at.old) }
-        ensures stands { Takes self.old self.new (between piece.now at.old at.new) }
-        ensures silent { GivesNone self.old self.new (between piece.now at.old at.new) }
-        ensures commands { OfPast self.old (λ p. CommandsLast p.bytes (between piece.now at.old at.new)) }
+        ensures turns { Turns self.old self.new (between piece.now at.old at.new) }
         ensures used_up { IsTrue result → (at.new ≡ length piece.now) × (self.new.registers.stop ≡ None) × NoWordDue self.new }
         ensures goes { result ≡ false → self.new.registers.stop ≡ None
             → calls_left self.new.cutter (length piece.now - at.new) < calls_left self.old.cutter (length piece.now - at.old) }

@@ -1,8 +1,8 @@
 //! The words that a device reads out: a read makes them due, and a buffer takes them.
 ghost use Rattle.std.specs.Prelude.{◌≡◌, ◌≤◌, ◌<◌, ℕ, nat_lt, IsTrue, ◌↔◌, None, Some};
 ghost use Rattle.x7_packets.specs.History.{History, Read};
-ghost use Rattle.x7_flow.specs.Standing.{FramesFit, FramesStandFor, read_of};
-ghost use Rattle.x7_engine.specs.Readout.{GaveFrames};
+ghost use Rattle.x7_flow.specs.Standing.{FramesFit, FramesStandFor, read_of, words_due};
+ghost use Rattle.x7_engine.specs.Readout.{GotAllBut};
 ghost use Rattle.x7_engine.specs.ReadBuffer.{IsFull};
 ghost use Rattle.x7_engine.specs.Standing.{due_count};
 ghost use Rattle.x7_engine.specs.Values.{answer_of};
@@ -31,7 +31,8 @@ fn give_frames(frames: &mut Frames, part: &Part, count: u32, read: &mut ReadBuf)
     requires frames { FramesFit part.now frames.old }
     ensures fewer { result ≤ count }
     ensures full { 0 < result → IsFull read.new }
-    ensures given { (h : History) → FramesStandFor part.now frames.old h count → GaveFrames part.now frames.new h count result read.old read.new }
+    ensures given { (h : History) → FramesStandFor part.now frames.old h count → GotAllBut (words_due part.now h result) (words_due part.now h count) read.old read.new }
+    ensures stands { (h : History) → FramesStandFor part.now frames.old h count → FramesStandFor part.now frames.new h result }
     ensures frames { FramesFit part.now frames.new }
 {
     if read.drops() {

@@ -202,10 +202,11 @@ impl Registers {
     }
 
     /// Why a written word, which executes a command or none, stops the device by its register alone.
-    fn why_of_write(&self, idcode: u32, reg: Reg, word: u32, executed: Option<u8>) -> Option<Stop>
-        ensures value { (part : PartData) → idcode ≡ part.idcode → OfHistory part (registers_in self.now) (λ kept h n. executed ≡ executed_after h reg word → result ≡ why_by_access part kept h (word_to reg word)) }
+    fn why_of_write(&self, part: &Part, reg: Reg, word: u32, executed: Option<u8>) -> Option<Stop>
+        ensures value { OfHistory part.now (registers_in self.now) (λ kept h n. executed ≡ executed_after h reg word → result ≡ why_by_access part.now kept h (word_to reg word)) }
         ensures counts { (n : ℕ) → counted_in result n ≡ n }
     {
+        let idcode = part.idcode();
         let Progress { check, matched, .. } = self.progress;
         let unmatched = Some(Stop::Fault(Fault::Id {
             want: idcode,
@@ -246,7 +247,7 @@ impl Registers {
         let idcode = part.idcode();
         let settings = self.settings();
         let executed = executed(settings.held, reg, word);
-        let why = self.why_of_write(idcode, reg, word, executed);
+        let why = self.why_of_write(part, reg, word, executed);
         let taken = self.progress.takes(reg, word, executed);
         let mask = self.words.held(Reg::Mask);
         let cor0 = self.words.held(Reg::Cor0);

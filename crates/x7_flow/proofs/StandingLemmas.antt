@@ -13,40 +13,42 @@ use Rattle.x7_memory.specs.Planned.{PlanRow, planned}
 use Rattle.x7_memory.proofs.MapLemmas.{override_same, same_memory}
 use Rattle.x7_pipeline.proofs.LawLemmas.{one_state}
 use Rattle.x7_regs.specs.declared.command.Command.{Command}
-use Rattle.x7_regs.specs.declared.command.Command.TheVariants as command
 use Rattle.x7_flow.specs.Settings.{Settings, gives_frames, settings_of}
 use Rattle.x7_pipeline.specs.declared.fault.RunFault.{RunFault}
 use Rattle.x7_pipeline.specs.declared.fault.RunFault.TheVariants.{Address, Multi}
 use Rattle.x7_pipeline.specs.Runs.{written_frames, put_over, Lands}
-use Rattle.x7_pipeline.specs.FarAsRead.{far_of, has_frame_at, loaded_base}
-use Rattle.x7_pipeline.specs.Copies.{copied, is_mfw, source_after}
+use Rattle.x7_pipeline.specs.FarAsRead.{has_frame_at, loaded_base}
+use Rattle.x7_pipeline.specs.Copies.{copied, is_mfw}
 use Rattle.x7_pipeline.specs.Faults.{address_fault, copy_fault, drop_fault, read_fault}
-use Rattle.x7_pipeline.specs.Pipeline.{PipelineData, StandsFor}
+use Rattle.x7_pipeline.specs.Flow.{GoesOn, HoldsFlow, LandsAt, OfFlow, after_reads, after_words, begun_at, begun_by, copied_by, fault_of_copy}
+use Rattle.x7_pipeline.specs.Pipeline.{PipelineData}
 use Rattle.x7_pipeline.specs.Readback.{read_at, read_slot, word_at, word_of}
 use Rattle.x7_flow.specs.declared.asked.Asked.{Asked}
 use Rattle.x7_flow.specs.declared.asked.Asked.TheVariants.{Load, Order, Word, Copies, Reads, Other}
-use Rattle.x7_flow.specs.Flow.{Flow, asked, asks, base_of, fault_by, flow_by, flow_of, frame_fault, given_of}
+use Rattle.x7_flow.specs.Flow.{Flow, asked, asks, base_of, fault_by, first_flow, flow_by, flow_of, frame_fault, given_of}
 use Rattle.x7_flow.specs.FrameMemory.{copy_pairs, written_frames_more, memory_of, puts}
 use Rattle.x7_flow.specs.FrameAccess.{reads_frame_data}
-use Rattle.x7_flow.specs.Standing.{AfterAccess, AfterRead, AreFramesAfter, FramesFit, FramesStandFor, FramesState, AreOf, Did, HasFlow, less, words_from, words_due, frames_read}
+use Rattle.x7_flow.specs.Standing.{AfterAccess, AfterRead, AreFramesAfter, FramesFit, FramesStandFor, FramesState, AreOf, Did, FramesDid, HasFlow, frames_state, less, words_from, words_due, frames_read}
 use Rattle.x7_flow.proofs.FlowLemmas.{flow_more, flow_sound, given_nowhere, landed_grows, memory_more, put_none}
 
 -- ---- each call of a pipeline does what is asked
 
+abbrev given_so : Flow → ℕ → Flow
+given_so f n = record f { given = n }
+
 pub did_load : (part : PartData) (p q : PipelineData) (frames : List (List ℕ)) (w : ℕ) →
-    ((part : PartData) (command : Command) (base : ℕ) (run : List ℕ) (source : Option (List ℕ)) (given : ℕ) → StandsFor part p command base run source given → StandsFor part q command (loaded_base part w) [] source 0) →
-    Did part (Load w) p q frames frames
+    ((part : PartData) → GoesOn part p q (begun_at (loaded_base part w))) →
+    Did part (Load w) (frames_state p frames) (frames_state q frames)
 did_load part p q frames w stands = record {
-  flow = λ f h. record { stands = stands part f.command f.base f.run f.source f.given h.stands; nowhere = λ e. refl };
+  flow = λ f h. record { stands = stands part f h.stands; nowhere = λ e. refl };
   memory = λ f h far. sym (put_none [] (frame_at part frames) refl far);
 }
 
 pub did_order : (part : PartData) (p q : PipelineData) (frames : List (List ℕ)) (c : Command) →
-    ((old : Command) (base : ℕ) (run : List ℕ) (source : Option (List ℕ)) (given : ℕ) → StandsFor part p old base run source given →
-    StandsFor part q c (far_of part base run given) [] (source_after part old c run) 0) →
-    Did part (Order c) p q frames frames
+    GoesOn part p q (begun_by part c) →
+    Did part (Order c) (frames_state p frames) (frames_state q frames)
 did_order part p q frames c stands = record {
-  flow = λ f h. record { stands = stands f.command f.base f.run f.source f.given h.stands; nowhere = λ e. refl };
+  flow = λ f h. record { stands = stands f h.stands; nowhere = λ e. refl };
   memory = λ f h far. sym (put_none [] (frame_at part frames) refl far);
 }
 
@@ -56,12 +58,12 @@ word_memory part base w run old new l =
     rw (← same) l.memory
 
 pub did_word : (part : PartData) (p q : PipelineData) (old new : List (List ℕ)) (w : ℕ) →
-    ((command : Command) (base : ℕ) (run : List ℕ) (source : Option (List ℕ)) (given : ℕ) → StandsFor part p command base run source given → StandsFor part q command base (w ∷ run) source given) →
-    ((command : Command) (base : ℕ) (run : List ℕ) (source : Option (List ℕ)) (given : ℕ) → StandsFor part p command base run source given → Lands part base run (w ∷ run) (frame_at part old) (frame_at part new)) →
-    Did part (Word w) p q old new
+    GoesOn part p q (after_words (w ∷ [])) →
+    OfFlow part p (λ f. LandsAt part f (w ∷ []) (frame_at part old) (frame_at part new)) →
+    Did part (Word w) (frames_state p old) (frames_state q new)
 did_word part p q old new w stands lands = record {
-  flow = λ f h. record { stands = stands f.command f.base f.run f.source f.given h.stands; nowhere = h.nowhere };
-  memory = λ f h. word_memory part f.base w f.run (frame_at part old) (frame_at part new) (lands f.command f.base f.run f.source f.given h.stands);
+  flow = λ f h. record { stands = stands f h.stands; nowhere = h.nowhere };
+  memory = λ f h. word_memory part f.base w f.run (frame_at part old) (frame_at part new) (lands f h.stands);
 }
 
 copy_allowed : (part : PartData) (f : Flow) → None ≡ copy_fault part f.command f.base f.source → copied f.base f.source ≡ copy_pairs part f
@@ -75,12 +77,12 @@ copy_allowed part f e = by (is_mfw f.command) (is_some f.source) (has_frame_at p
     by false s b e = absurd (none-some _ e)
 
 pub did_copy : (part : PartData) (p q : PipelineData) (old new : List (List ℕ)) → q ≡ p →
-    ((command : Command) (base : ℕ) (run : List ℕ) (source : Option (List ℕ)) (given : ℕ) → StandsFor part p command base run source given → AreSame (frame_at part new) (put_over (copied base source) (frame_at part old))) →
-    ((command : Command) (base : ℕ) (run : List ℕ) (source : Option (List ℕ)) (given : ℕ) → StandsFor part p command base run source given → None ≡ copy_fault part command base source) →
-    Did part Copies p q old new
+    OfFlow part p (λ f. AreSame (frame_at part new) (put_over (copied_by f) (frame_at part old))) →
+    OfFlow part p (λ f. None ≡ fault_of_copy part f) →
+    Did part Copies (frames_state p old) (frames_state q new)
 did_copy part p q old new same put allowed = record {
   flow = λ f h. rw same h;
-  memory = λ f h. rw (← copy_allowed part f (allowed f.command f.base f.run f.source f.given h.stands)) (put f.command f.base f.run f.source f.given h.stands);
+  memory = λ f h. rw (← copy_allowed part f (allowed f h.stands)) (put f h.stands);
 }
 
 -- a read is refused at its first word, where the base is no address
@@ -107,21 +109,21 @@ count_so part f count e = by (count == 0) (has_frame_at part f.base) e (λ z. gr
     by false false e p = absurd (none-some _ e)
 
 pub did_reads : (part : PartData) (p q : PipelineData) (frames : List (List ℕ)) (count : ℕ) →
-    ((command : Command) (base : ℕ) (run : List ℕ) (source : Option (List ℕ)) (given : ℕ) → StandsFor part p command base run source given → StandsFor part q command base run source (given + count)) →
-    ((command : Command) (base : ℕ) (run : List ℕ) (source : Option (List ℕ)) (given : ℕ) → StandsFor part p command base run source given → None ≡ drop_fault part base given count) →
-    Did part (Reads count) p q frames frames
+    GoesOn part p q (after_reads count) →
+    OfFlow part p (λ f. None ≡ drop_fault part f.base f.given count) →
+    Did part (Reads count) (frames_state p frames) (frames_state q frames)
 did_reads part p q frames count stands allowed = record {
   flow = λ f h.
-      let none : None ≡ fault_by part (Reads count) f = allowed f.command f.base f.run f.source f.given h.stands ∙ drop_is part p f count h in
+      let none : None ≡ fault_by part (Reads count) f = allowed f h.stands ∙ drop_is part p f count h in
       record {
-        stands = subst (λ (n : ℕ). StandsFor part q f.command f.base f.run f.source n) (count_so part f count none) (stands f.command f.base f.run f.source f.given h.stands);
+        stands = subst (λ (n : ℕ). HoldsFlow part q (given_so f n)) (count_so part f count none) (stands f h.stands);
         nowhere = given_nowhere (has_frame_at part f.base) f.given count h.nowhere;
       };
   memory = λ f h far. sym (put_none [] (frame_at part frames) refl far);
 }
 
-pub did_other : (part : PartData) (p : PipelineData) (frames : List (List ℕ)) → Did part Other p p frames frames
-did_other part p frames = record { flow = λ f h. h; memory = λ f h far. sym (put_none [] (frame_at part frames) refl far) }
+pub did_other : (part : PartData) (f : FramesState) → Did part Other f f
+did_other part f = record { flow = λ g h. h; memory = λ g h far. sym (put_none [] (frame_at part f.memory) refl far) }
 
 -- ---- one access more
 
@@ -131,15 +133,14 @@ same_flow part p f g e h = rw (← e) h
 pub no_less : (f : Flow) → f ≡ less 0 f
 no_less f = ap (λ (n : ℕ). record f { given = n }) (omega arith)
 
-pub one_more : (part : PartData) (p q : PipelineData) (old new : List (List ℕ)) (e : Entry) (h : History) →
-    Did part (asks part.idcode h e.access) p q old new → AreFramesAfter part p old h 0 → AreFramesAfter part q new (e ∷ h) 0
-one_more part p q old new e h did are =
+pub one_more : (part : PartData) (old new : FramesState) (e : Entry) (h : History) → FramesDid part old new h e → FramesStandFor part old h 0 → FramesStandFor part new (e ∷ h) 0
+one_more part old new e h did are =
     let f : Flow = flow_of part h in
-    let has : HasFlow part p f = same_flow part p (less 0 f) f (sym (no_less f)) are.flow in
+    let has : HasFlow part old.pipeline f = same_flow part old.pipeline (less 0 f) f (sym (no_less f)) are.flow in
     let pairs : List PlanRow = puts part (asks part.idcode h e.access) f in
     record {
-      flow = same_flow part q (flow_by part (asks part.idcode h e.access) f) (less 0 (flow_of part (e ∷ h))) (sym (flow_more part e h) ∙ no_less (flow_of part (e ∷ h))) (did.flow f has);
-      memory = λ far. did.memory f has far ∙ override_same (frame_at part old) (memory_of part h) (planned pairs) (planned pairs) are.memory (λ a. refl) far ∙ sym (memory_more part e h far);
+      flow = same_flow part new.pipeline (flow_by part (asks part.idcode h e.access) f) (less 0 (flow_of part (e ∷ h))) (sym (flow_more part e h) ∙ no_less (flow_of part (e ∷ h))) (did.flow f has);
+      memory = λ far. did.memory f has far ∙ override_same (frame_at part old.memory) (memory_of part h) (planned pairs) (planned pairs) are.memory (λ a. refl) far ∙ sym (memory_more part e h far);
       due_given = omega arith;
     }
 
@@ -188,8 +189,8 @@ read_begins part p frames e h count a t are =
 
 -- the next of the words due
 pub read_next : (part : PartData) (p q : PipelineData) (frames : List (List ℕ)) (h : History) (due word : ℕ) → AreFramesAfter part p frames h (due + 1) →
-    ((command : Command) (base : ℕ) (run : List ℕ) (source : Option (List ℕ)) (given : ℕ) → StandsFor part p command base run source given → word ≡ read_at part base (frame_at part frames) given) →
-    ((command : Command) (base : ℕ) (run : List ℕ) (source : Option (List ℕ)) (given : ℕ) → StandsFor part p command base run source given → StandsFor part q command base run source (given + 1)) →
+    OfFlow part p (λ f. word ≡ read_at part f.base (frame_at part frames) f.given) →
+    GoesOn part p q (after_reads 1) →
     AreFramesAfter part q frames h due × (words_due part h (suc due) ≡ word ∷ words_due part h due)
 read_next part p q frames h due word are is stands =
     let f : Flow = flow_of part h in
@@ -198,14 +199,14 @@ read_next part p q frames h due word are is stands =
     let next : f.given - (due + 1) + 1 ≡ f.given - due = omega arith in
     let after : f.given - suc due + 1 ≡ f.given - due = omega arith in
     let first : f.given - (due + 1) ≡ f.given - suc due = omega arith in
-    let from : StandsFor part q f.command f.base f.run f.source (f.given - (due + 1) + 1) = stands f.command f.base f.run f.source (f.given - (due + 1)) has.stands in (
+    let from : HoldsFlow part q (given_so f (f.given - (due + 1) + 1)) = stands (less (due + 1) f) has.stands in (
       record {
-        flow = record { stands = subst (λ (n : ℕ). StandsFor part q f.command f.base f.run f.source n) next from; nowhere = λ e. let none = (flow_sound part h).nowhere e in omega arith };
+        flow = record { stands = subst (λ (n : ℕ). HoldsFlow part q (given_so f n)) next from; nowhere = λ e. let none = (flow_sound part h).nowhere e in omega arith };
         memory = are.memory;
         due_given = omega arith;
       },
       ap (λ (w : ℕ). w ∷ words_from part f.base (memory_of part h) (f.given - suc due + 1) due)
-          (sym (is f.command f.base f.run f.source (f.given - (due + 1)) has.stands ∙ read_same part f.base (f.given - (due + 1)) (frame_at part frames) (memory_of part h) are.memory
+          (sym (is (less (due + 1) f) has.stands ∙ read_same part f.base (f.given - (due + 1)) (frame_at part frames) (memory_of part h) are.memory
           ∙ ap (read_at part f.base (memory_of part h)) first))
           ∙ ap (λ (n : ℕ). word ∷ words_from part f.base (memory_of part h) n due) after,
     )
@@ -224,7 +225,7 @@ due_somewhere part p frames h due are = by (has_frame_at part (base_of part h)) 
 
 -- so many of the words due are passed over
 pub read_past : (part : PartData) (p q : PipelineData) (frames : List (List ℕ)) (h : History) (due count : ℕ) → AreFramesAfter part p frames h (due + count) →
-    ((command : Command) (base : ℕ) (run : List ℕ) (source : Option (List ℕ)) (given : ℕ) → StandsFor part p command base run source given → StandsFor part q command base run source (given + count)) →
+    GoesOn part p q (after_reads count) →
     AreFramesAfter part q frames h due
 read_past part p q frames h due count are stands =
     let f : Flow = flow_of part h in
@@ -233,7 +234,7 @@ read_past part p q frames h due count are stands =
     let next : f.given - (due + count) + count ≡ f.given - due = omega arith in
     record {
       flow = record {
-        stands = subst (λ (n : ℕ). StandsFor part q f.command f.base f.run f.source n) next (stands f.command f.base f.run f.source (f.given - (due + count)) has.stands);
+        stands = subst (λ (n : ℕ). HoldsFlow part q (given_so f n)) next (stands (less (due + count) f) has.stands);
         nowhere = λ e. let none = (flow_sound part h).nowhere e in omega arith;
       };
       memory = are.memory;
@@ -274,7 +275,7 @@ pub other_read : (part : PartData) (p : PipelineData) (frames : List (List ℕ))
 other_read part p frames h r count place b are =
     let a : asks part.idcode h (Read r count) ≡ Other = read_asked (settings_of part.idcode h) r count false b in (
       ap (λ (x : Asked). fault_by part x (flow_of part h)) a,
-      one_more part p p frames frames (entry (Read r count) place) h (subst (λ (x : Asked). Did part x p p frames frames) (sym a) (did_other part p frames)) are,
+      one_more part (frames_state p frames) (frames_state p frames) (entry (Read r count) place) h (subst (λ (x : Asked). Did part x (frames_state p frames) (frames_state p frames)) (sym a) (did_other part (frames_state p frames))) are,
       refl,
     )
 
@@ -321,14 +322,14 @@ word_fault_is part p frames h access a result e fault are =
     let f : Flow = flow_of part h in
     fault f (same_flow part p (less 0 f) f (sym (no_less f)) are.flow) ∙ ap (λ (x : Asked). fault_by part x f) e
 
-pub access_taken : (part : PartData) (p q : PipelineData) (old new : List (List ℕ)) (h : History) (e : Entry) (a : Asked) (result : Option RunFault) → a ≡ asks part.idcode h e.access →
-    IfNone result (Did part a p q old new) → OnSome result (q ≡ p) → OnSome result (new ≡ old) → AreFramesAfter part p old h 0 → AfterAccess part (record { pipeline = q; memory = new }) h e result
-access_taken part p q old new h e a None same did refused unchanged are = one_more part p q old new e h (subst (λ (x : Asked). Did part x p q old new) same did) are
-access_taken part p q old new h e a (Some fault) same did refused unchanged are = rw (refused, unchanged) are
+pub access_taken : (part : PartData) (old new : FramesState) (h : History) (e : Entry) (a : Asked) (result : Option RunFault) → a ≡ asks part.idcode h e.access →
+    IfNone result (Did part a old new) → OnSome result (new.pipeline ≡ old.pipeline) → OnSome result (new.memory ≡ old.memory) → FramesStandFor part old h 0 → AfterAccess part new h e result
+access_taken part old new h e a None same did refused unchanged are = one_more part old new e h (subst (λ (x : Asked). Did part x old new) same did) are
+access_taken part old new h e a (Some fault) same did refused unchanged are = rw (refused, unchanged) are
 
 -- ---- after a reset
 
-pub begins_so : (part : PartData) (p : PipelineData) (frames : List (List ℕ)) → StandsFor part p command.Null 0 [] None 0 → frames ≡ zero_frames part → AreFramesAfter part p frames [] 0
+pub begins_so : (part : PartData) (p : PipelineData) (frames : List (List ℕ)) → HoldsFlow part p first_flow → frames ≡ zero_frames part → AreFramesAfter part p frames [] 0
 unfolding flow_of memory_of
 begins_so part p frames stands none = record {
   flow = record { stands = stands; nowhere = λ e. refl };
@@ -344,7 +345,7 @@ one_standing part p q old new h due first second are also_are =
     let f : Flow = less due (flow_of part h) in
     let has = are.flow in
     let also_has = also_are.flow in (
-      one_state part p q f.command f.base f.run f.source f.given has.stands also_has.stands,
+      one_state part p q f has.stands also_has.stands,
       same_memory part old new first.frames_fit second.frames_fit (λ far. are.memory far ∙ sym (also_are.memory far)),
     )
 

@@ -1,5 +1,5 @@
 -- Words of frame data taken at once.
-use Rattle.std.proofs.Common.{◌≡◌, ℕ, ◌+◌, Bool, true, false, if◌then◌else◌, append-nil, List, [], ◌∷◌, ◌++◌, length, Option, None, Some, refl, sym, ap, subst, ◌∙◌, arith}
+use Rattle.std.proofs.Common.{◌≡◌, ℕ, suc, ◌+◌, Bool, true, false, if◌then◌else◌, append-nil, List, [], ◌∷◌, ◌++◌, length, Option, None, Some, refl, sym, ap, subst, ◌∙◌, arith}
 use Rattle.std.proofs.lemmas.List.{append_cancel_right}
 use Rattle.x7_packets.specs.History.{Entry, Write, History, entry}
 use Rattle.x7_part.specs.Part.{PartData}
@@ -7,19 +7,19 @@ use Rattle.x7_memory.specs.FrameMap.{FrameMap, AreSame}
 use Rattle.x7_memory.specs.Frames.{frame_at}
 use Rattle.x7_memory.specs.Planned.{PlanRow, planned}
 use Rattle.x7_memory.proofs.MapLemmas.{override_same}
-use Rattle.x7_regs.specs.declared.command.Command.{Command}
 use Rattle.x7_pipeline.specs.declared.fault.RunFault.{RunFault}
 use Rattle.x7_pipeline.specs.Runs.{written_frames, onto, put_over, Lands}
 use Rattle.x7_pipeline.specs.Faults.{write_fault}
-use Rattle.x7_pipeline.specs.Pipeline.{PipelineData, StandsFor}
+use Rattle.x7_pipeline.specs.Flow.{HoldsFlow, OfFlow, after_words, with_run, written_by}
+use Rattle.x7_pipeline.specs.Pipeline.{PipelineData}
 use Rattle.x7_pipeline.specs.Words.{Written, one_written, written}
 use Rattle.x7_flow.specs.declared.asked.Asked.{Asked}
 use Rattle.x7_flow.specs.declared.asked.Asked.TheVariants.{Other, Word}
 use Rattle.x7_flow.specs.Settings.{settings_of, takes_frames}
 use Rattle.x7_flow.specs.Flow.{Flow, asks, base_of, fault_by, flow_of, frame_fault, run_of}
 use Rattle.x7_flow.specs.FrameMemory.{memory_of}
-use Rattle.x7_flow.specs.Standing.{AreFramesAfter, Did, FramesStandFor, FramesState, HasFlow, less}
-use Rattle.x7_flow.specs.Words.{EndsBy, NoneRefused, WordsTaken, with_frame_data}
+use Rattle.x7_flow.specs.Standing.{AreFramesAfter, Did, FramesStandFor, FramesState, HasFlow, frames_state, less}
+use Rattle.x7_flow.specs.Words.{EndsBy, NoneRefused, WordsTaken, with_frame_data, words_seen}
 use Rattle.x7_flow.proofs.StandingLemmas.{did_other, no_less, one_more, same_flow}
 use Rattle.x7_flow.proofs.ManyLemmas.{word_asked, word_flow, words_flow, words_land}
 
@@ -35,15 +35,16 @@ record Parted (part : PartData) (n : ℕ) (h : History) (words : List ℕ) (w : 
   words_are : words ≡ prefix ++ rest
   none_refused : NoneRefused part n prefix h
   run_is : w.run ≡ onto prefix (run_of part h)
-  end : EndsBy part (with_frame_data n prefix h) rest (length prefix) w.count w.fault
+  end : EndsBy part (with_frame_data n prefix h) rest w.fault
+  counted : w.count ≡ words_seen (length prefix) w.fault
 
-one_counted : (part : PartData) (h : History) (rest prefix : List ℕ) (w count : ℕ) (fault : Option RunFault) → EndsBy part h rest (length prefix) count fault → EndsBy part h rest (length (w ∷ prefix)) (1 + count) fault
-one_counted part h rest prefix w count None e = let same = e.1 in (e.0, omega arith)
-one_counted part h rest prefix w count (Some fault) e = let same = e.4 in (e.0, e.1, e.2, e.3, omega arith)
+one_counted : (taken count : ℕ) (fault : Option RunFault) → count ≡ words_seen taken fault → 1 + count ≡ words_seen (suc taken) fault
+one_counted taken count None e = omega (arith, e)
+one_counted taken count (Some fault) e = omega (arith, e)
 
 parted : (part : PartData) (n : ℕ) (words : List ℕ) (h : History) → takes_frames (settings_of part.idcode h) ≡ true → Parted part n h words (written part (base_of part h) (run_of part h) words)
 unfolding written NoneRefused
-parted part n [] h t = record { prefix = []; rest = []; words_are = refl; none_refused = tt; run_is = refl; end = (refl, refl) }
+parted part n [] h t = record { prefix = []; rest = []; words_are = refl; none_refused = tt; run_is = refl; end = refl; counted = refl }
 parted part n (w ∷ words) h t =
     by (write_fault part (base_of part h) (run_of part h)) refl
     (subst (λ (f : Flow). Parted part (n + 4) (entry (Write 2 w) (n + 4) ∷ h) words (written part f.base f.run words)) (word_flow part w (n + 4) h t) (parted part (n + 4) words (entry (Write 2 w) (n + 4) ∷ h) t))
@@ -61,7 +62,8 @@ parted part n (w ∷ words) h t =
       words_are = refl;
       none_refused = tt;
       run_is = refl;
-      end = (w, words, refl, word_fault part h w t ∙ e, refl);
+      end = (w, words, refl, word_fault part h w t ∙ e);
+      counted = refl;
     }
     by None e more = record {
       prefix = w ∷ more.prefix;
@@ -69,7 +71,8 @@ parted part n (w ∷ words) h t =
       words_are = ap (λ ws. w ∷ ws) more.words_are;
       none_refused = (word_fault part h w t ∙ e, more.none_refused);
       run_is = more.run_is ∙ ap (λ (f : Flow). onto more.prefix f.run) (word_flow part w (n + 4) h t);
-      end = one_counted part (with_frame_data (n + 4) more.prefix now) more.rest more.prefix w later.count later.fault more.end;
+      end = more.end;
+      counted = one_counted (length more.prefix) later.count later.fault more.counted;
     }
 
 -- ---- the pipeline and the memory
@@ -81,12 +84,11 @@ lands_alike part base run longer old new under over first second same far =
     ∙ override_same old under (planned second.added) (planned second.added) same (λ a. refl) far ∙ sym (second.memory far)
 
 pub words_taken : (part : PartData) (p q : PipelineData) (old new : List (List ℕ)) (words : List ℕ) (count n : ℕ) (fault : Option RunFault) (h : History) →
-    ((command : Command) (base : ℕ) (run : List ℕ) (source : Option (List ℕ)) (given : ℕ) → StandsFor part p command base run source given → StandsFor part q command base (written part base run words).run source given) →
-    ((command : Command) (base : ℕ) (run : List ℕ) (source : Option (List ℕ)) (given : ℕ) → StandsFor part p command base run source given →
-    Lands part base run (written part base run words).run (frame_at part old) (frame_at part new)) →
-    ((command : Command) (base : ℕ) (run : List ℕ) (source : Option (List ℕ)) (given : ℕ) → StandsFor part p command base run source given → count ≡ (written part base run words).count) →
-    ((command : Command) (base : ℕ) (run : List ℕ) (source : Option (List ℕ)) (given : ℕ) → StandsFor part p command base run source given → fault ≡ (written part base run words).fault) →
-    takes_frames (settings_of part.idcode h) ≡ true → AreFramesAfter part p old h 0 → WordsTaken part (record { pipeline = q; memory = new }) n h words count fault
+    OfFlow part p (λ f. HoldsFlow part q (with_run (written_by part f words).run f)) →
+    OfFlow part p (λ f. Lands part f.base f.run (written_by part f words).run (frame_at part old) (frame_at part new)) →
+    OfFlow part p (λ f. count ≡ (written_by part f words).count) →
+    OfFlow part p (λ f. fault ≡ (written_by part f words).fault) →
+    takes_frames (settings_of part.idcode h) ≡ true → AreFramesAfter part p old h 0 → WordsTaken part (frames_state q new) n h words count fault
 words_taken part p q old new words count n fault h stands lands counted faulty t are =
     let f : Flow = flow_of part h in
     let has : HasFlow part p f = same_flow part p (less 0 f) f (sym (no_less f)) are.flow in
@@ -94,16 +96,17 @@ words_taken part p q old new words count n fault h stands lands counted faulty t
     let parts : Parted part n h words w = parted part n words h t in
     let end : History = with_frame_data n parts.prefix h in
     let flow : flow_of part end ≡ record f { run = onto parts.prefix f.run } = words_flow part n parts.prefix h t in
-    let reached : StandsFor part q f.command f.base (onto parts.prefix f.run) f.source f.given =
-    subst (λ (run : List ℕ). StandsFor part q f.command f.base run f.source f.given) parts.run_is (stands f.command f.base f.run f.source f.given has.stands) in
+    let reached : HoldsFlow part q (after_words parts.prefix f) =
+    subst (λ (run : List ℕ). HoldsFlow part q (with_run run f)) parts.run_is (stands f has.stands) in
     let grown : Lands part f.base f.run (onto parts.prefix f.run) (frame_at part old) (frame_at part new) =
-    subst (λ (run : List ℕ). Lands part f.base f.run run (frame_at part old) (frame_at part new)) parts.run_is (lands f.command f.base f.run f.source f.given has.stands) in
+    subst (λ (run : List ℕ). Lands part f.base f.run run (frame_at part old) (frame_at part new)) parts.run_is (lands f has.stands) in
     record {
       taken = parts.prefix;
       rest = parts.rest;
       words_are = parts.words_are;
       none_refused = parts.none_refused;
-      end = rw (counted f.command f.base f.run f.source f.given has.stands, faulty f.command f.base f.run f.source f.given has.stands) parts.end;
+      end = rw (faulty f has.stands) parts.end;
+      counted = rw (counted f has.stands, faulty f has.stands) parts.counted;
       stands = record {
         flow = same_flow part q (record f { run = onto parts.prefix f.run }) (less 0 (flow_of part end)) (sym flow ∙ no_less (flow_of part end)) (record { stands = reached; nowhere = has.nowhere });
         memory = lands_alike part f.base f.run (onto parts.prefix f.run) (frame_at part old) (frame_at part new) (memory_of part h) (memory_of part end) grown (words_land part n parts.prefix h t) are.memory;
@@ -117,7 +120,7 @@ unasked : (part : PartData) (h : History) (w : ℕ) → takes_frames (settings_o
 unasked part h w t = ap (λ (b : Bool). if b then Word w else Other) t
 
 pub other_access : (part : PartData) (f : FramesState) (h : History) (e : Entry) → asks part.idcode h e.access ≡ Other → FramesStandFor part f h 0 → FramesStandFor part f (e ∷ h) 0
-other_access part f h e a s = one_more part f.pipeline f.pipeline f.memory f.memory e h (subst (λ (x : Asked). Did part x f.pipeline f.pipeline f.memory f.memory) (sym a) (did_other part f.pipeline f.memory)) s
+other_access part f h e a s = one_more part f f e h (subst (λ (x : Asked). Did part x f f) (sym a) (did_other part f)) s
 
 none_refused : (part : PartData) (n : ℕ) (ws : List ℕ) (h : History) → takes_frames (settings_of part.idcode h) ≡ false → NoneRefused part n ws h
 unfolding NoneRefused
@@ -135,6 +138,7 @@ words_folded part f n count ws h t c s = record {
   rest = [];
   words_are = sym (append-nil ws);
   none_refused = none_refused part n ws h t;
-  end = (refl, c);
+  end = refl;
+  counted = c;
   stands = still_stand part f n ws h t s;
 }

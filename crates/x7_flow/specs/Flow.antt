@@ -2,14 +2,13 @@
 use Rattle.std.specs.Prelude.{◌≡◌, ℕ, ◌+◌, ◌==◌, ◌&&◌, not, Bool, true, false, if◌then◌else◌, List, [], ◌∷◌, Option, None}
 use Rattle.x7_packets.specs.History.{Access, Write, Read, Bad, History}
 use Rattle.x7_part.specs.Part.{PartData}
-use Rattle.x7_regs.specs.declared.command.Command.TheVariants as command
 use Rattle.x7_regs.specs.declared.register.Reg.TheVariants as reg
 use Rattle.x7_regs.specs.Command.{command_by}
 use Rattle.x7_regs.specs.Register.{number_of}
 use Rattle.x7_pipeline.specs.declared.fault.RunFault.{RunFault}
 use Rattle.x7_pipeline.specs.FarAsRead.{far_of, has_frame_at, loaded_base}
 use Rattle.x7_pipeline.specs.Copies.{source_after}
-pub use Rattle.x7_pipeline.specs.Flow.{Flow}
+pub use Rattle.x7_pipeline.specs.Flow.{Flow, first_flow}
 use Rattle.x7_pipeline.specs.Faults.{address_fault, copy_fault, write_fault}
 use Rattle.x7_flow.specs.Settings.{Settings, settings_of, takes_frames, takes_copies, gives_frames}
 use Rattle.x7_flow.specs.declared.asked.Asked.{Asked}
@@ -67,10 +66,6 @@ is_read Copies = false
 is_read Other = false
 
 -- ---- the flow
-
--- after a reset
-abbrev pub first_flow : Flow
-first_flow = record { command = command.Null; base = 0; run = []; source = None; given = 0 }
 
 -- after a FAR load
 abbrev pub loaded : PartData → ℕ → Flow → Flow

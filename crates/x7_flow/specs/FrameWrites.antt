@@ -1,4 +1,4 @@
--- Writes of whole frames, and copies, behind a FAR load (UG470, frame data input and multi-frame write registers).
+-- Writes of whole frames, and copies, after a FAR load (UG470, frame data input and multi-frame write registers).
 use Rattle.std.specs.Prelude.{◌≡◌, ℕ, ◌<◌, ◌%◌, ◌^◌, true, List, [], ◌∷◌, ◌++◌, length, Some}
 use Rattle.std.specs.List.{AllByRecursion, flat_map}
 use Rattle.x7_packets.specs.History.{History, command_held}
@@ -34,7 +34,7 @@ words_of_frames frames = flat_map (λ frame. frame) frames
 abbrev pub AreWhole : PartData → List (List ℕ) → Type 0
 AreWhole part frames = AllByRecursion (λ frame. length frame ≡ frame_words part) frames
 
--- a history with the write behind it
+-- a history with the write after it
 abbrev pub with_frames : FrameWrite → History → History
 with_frames x h = with_frame_data x.place (words_of_frames (all_frames x)) (after_load x.far x.far_place h)
 
@@ -54,13 +54,13 @@ pub record RunHolds (part : PartData) (h : History) (frames : List (List ℕ)) :
   pub run : run_of part h ≡ onto (words_of_frames frames) []
   pub whole : AreWhole part frames
 
--- MFW is written right behind a run under WCFG, whose last frame is this one
+-- MFW is written right after a run under WCFG, whose last frame is this one
 pub record MfwAfter (part : PartData) (h : History) (word : ℕ) (frames : List (List ℕ)) (last : List ℕ) : Type 0 where
   pub run : RunHolds part h (frames ++ last ∷ [])
   pub wcfg : command_held h ≡ code_of command.Wcfg
   pub mfw : word % 2 ^ 5 ≡ code_of command.Mfw
 
--- words of MFWR behind a FAR load: the word of FAR and its place, the place where the words of MFWR begin, the first of them and the others, and the frame that they put
+-- words of MFWR after a FAR load: the word of FAR and its place, the place where the words of MFWR begin, the first of them and the others, and the frame that they put
 pub record FrameCopies : Type 0 where
   pub far : ℕ
   pub far_place : ℕ
@@ -69,7 +69,7 @@ pub record FrameCopies : Type 0 where
   pub words : List ℕ
   pub frame : List ℕ
 
--- a history with them behind it
+-- a history with them after it
 abbrev pub with_frame_copies : FrameCopies → History → History
 with_frame_copies x h = with_copies x.place (x.first ∷ x.words) (after_load x.far x.far_place h)
 

@@ -30,7 +30,7 @@ flow_loaded part s source w = record { command = command_with s.held; base = loa
 abbrev pub pairs_loaded : PartData → Settings → Option (List ℕ) → ℕ → History → List PlanRow
 pairs_loaded part s source w later = pairs_from part s (flow_loaded part s source w) later
 
--- the pairs that a later history puts behind an earlier one
+-- the pairs that a later history puts after an earlier one
 abbrev pub pairs_after : PartData → History → History → List PlanRow
 pairs_after part earlier later = pairs_from part (settings_of part.idcode earlier) (flow_of part earlier) later
 
@@ -38,7 +38,7 @@ pairs_after part earlier later = pairs_from part (settings_of part.idcode earlie
 abbrev pub after_load : ℕ → ℕ → History → History
 after_load w place h = entry (Write (number_of reg.Far) w) place ∷ h
 
--- the pairs of a history that goes on from a FAR load behind an earlier one; and where that one's source doesn't count
+-- the pairs of a history that goes on from a FAR load after an earlier one; and where that one's source doesn't count
 abbrev pub pairs_after_load : PartData → History → ℕ → History → List PlanRow
 pairs_after_load part earlier w later = pairs_loaded part (settings_of part.idcode earlier) (source_of part earlier) w later
 
@@ -55,7 +55,7 @@ pub record Start : Type 0 where
   pub settings : Settings
   pub flow : Flow
 
--- the flow, and the pairs put, of a history that goes on; and what a later one goes on from behind it
+-- the flow, and the pairs put, of a history that goes on; and what a later one goes on from after it
 abbrev pub flow_on : Start → History → Flow
 flow_on x later = flow_from x.part x.settings x.flow later
 

@@ -36,10 +36,18 @@ pub record AreFramesAfter (part : PartData) (p : PipelineData) (frames : List (L
   pub memory : AreSame (frame_at part frames) (memory_of part h)
   pub due_given : due ≤ given_of part h
 
--- a pipeline and a memory did what was asked
-pub record Did (part : PartData) (a : Asked) (p q : PipelineData) (old new : List (List ℕ)) : Type 0 where
-  pub flow : (f : Flow) → HasFlow part p f → HasFlow part q (flow_by part a f)
-  pub memory : (f : Flow) → HasFlow part p f → AreSame (frame_at part new) (put_over (puts part a f) (frame_at part old))
+-- a pipeline, and the frames of a memory in number order of their addresses
+pub record FramesState : Type 0 where
+  pub pipeline : PipelineData
+  pub memory : List (List ℕ)
+
+abbrev pub frames_state : PipelineData → List (List ℕ) → FramesState
+frames_state pipeline memory = record { pipeline = pipeline; memory = memory }
+
+-- they did what was asked
+pub record Did (part : PartData) (a : Asked) (old new : FramesState) : Type 0 where
+  pub flow : (f : Flow) → HasFlow part old.pipeline f → HasFlow part new.pipeline (flow_by part a f)
+  pub memory : (f : Flow) → HasFlow part old.pipeline f → AreSame (frame_at part new.memory) (put_over (puts part a f) (frame_at part old.memory))
 
 -- so many words of a readback from a place on
 abbrev pub words_from : PartData → ℕ → FrameMap → ℕ → ℕ → List ℕ
@@ -61,11 +69,6 @@ pub record AreOf (part : PartData) (p : PipelineData) (frames : List (List ℕ))
 
 -- ---- the frames of a device
 
--- a pipeline, and the frames of a memory in number order of their addresses
-pub record FramesState : Type 0 where
-  pub pipeline : PipelineData
-  pub memory : List (List ℕ)
-
 -- they are a part's
 abbrev pub FramesFit : PartData → FramesState → Type 0
 FramesFit part f = AreOf part f.pipeline f.memory
@@ -84,7 +87,7 @@ OfFrames part settings f Fact = (h : History) → AreSettingsAfter part.idcode s
 
 -- they did what an access after a history asks
 abbrev pub FramesDid : PartData → FramesState → FramesState → History → Entry → Type 0
-FramesDid part old new h e = Did part (asks part.idcode h e.access) old.pipeline new.pipeline old.memory new.memory
+FramesDid part old new h e = Did part (asks part.idcode h e.access) old new
 
 -- an access after a history reads so many words of frame data, from an address
 pub record ReadsFrames (part : PartData) (f : FramesState) (h : History) (access : Access) (count : ℕ) : Type 0 where
@@ -103,7 +106,7 @@ written_to register word place = entry (word_to register word) place
 abbrev pub read_of : ℕ → ℕ → ℕ → Entry
 read_of register count place = entry (Read register count) place
 
--- the flow behind a read
+-- the flow after a read
 abbrev pub flow_read : PartData → History → ℕ → ℕ → ℕ → Flow
 flow_read part h register count place = flow_of part (read_of register count place ∷ h)
 

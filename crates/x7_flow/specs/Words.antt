@@ -25,10 +25,15 @@ unfoldable pub NoneRefused : PartData → ℕ → List ℕ → History → Type 
 NoneRefused part n [] h = Unit {0}
 NoneRefused part n (w ∷ ws) h = (frame_fault part h (Write (number_of reg.Fdri) w) ≡ None) × NoneRefused part (n + 4) ws (entry (Write (number_of reg.Fdri) w) (n + 4) ∷ h)
 
--- after so many words, with this history: no word is left, or the next is refused
-abbrev pub EndsBy : PartData → History → List ℕ → ℕ → ℕ → Option RunFault → Type 0
-EndsBy part h rest taken count None = (rest ≡ []) × (count ≡ taken)
-EndsBy part h rest taken count (Some fault) = (w : ℕ) × (back : List ℕ) × (rest ≡ w ∷ back) × (frame_fault part h (Write (number_of reg.Fdri) w) ≡ Some fault) × (count ≡ taken + 1)
+-- with this history, and these words to come: no word is left, or the next is refused
+abbrev pub EndsBy : PartData → History → List ℕ → Option RunFault → Type 0
+EndsBy part h rest None = rest ≡ []
+EndsBy part h rest (Some fault) = (w : ℕ) × (more : List ℕ) × (rest ≡ w ∷ more) × (frame_fault part h (Write (number_of reg.Fdri) w) ≡ Some fault)
+
+-- how many words were looked at, of which so many were taken: a refused one too
+abbrev pub words_seen : ℕ → Option RunFault → ℕ
+words_seen taken None = taken
+words_seen taken (Some fault) = taken + 1
 
 -- how many of the words looked at were taken: not the last one, where it is refused
 abbrev pub words_before : ℕ → Option RunFault → ℕ
@@ -41,7 +46,8 @@ pub record WordsTaken (part : PartData) (f : FramesState) (n : ℕ) (h : History
   pub rest : List ℕ
   pub words_are : words ≡ taken ++ rest
   pub none_refused : NoneRefused part n taken h
-  pub end : EndsBy part (with_frame_data n taken h) rest (length taken) count fault
+  pub end : EndsBy part (with_frame_data n taken h) rest fault
+  pub counted : count ≡ words_seen (length taken) fault
   pub stands : FramesStandFor part f (with_frame_data n taken h) 0
 
 -- what holds of a history after which words of FDRI go to the memory, and that a pipeline and frames stand for with no word due

@@ -37,7 +37,7 @@ pub fn flow_laws()
     ensures settings { (idcode : ℕ) (e : Entry) (h : History) → settings_of idcode (e ∷ h) ≡ settings_after idcode e.access (settings_of idcode h) }
 {}
 
-/// The memory of a later history behind an earlier one.
+/// The memory of a later history after an earlier one.
 pub fn memory_laws()
     ensures settings { (idcode : ℕ) (later earlier : History) → settings_of idcode (later ++ earlier) ≡ settings_from idcode (settings_of idcode earlier) later }
     ensures flow { (part : PartData) (later earlier : History) → flow_of part (later ++ earlier) ≡ flow_from part (settings_of part.idcode earlier) (flow_of part earlier) later }
@@ -92,7 +92,7 @@ pub fn fault_laws()
     ensures far { (part : PartData) (e : Entry) (h : History) (fault : RunFault) → frame_fault part h e.access ≡ Some fault → far_read part (e ∷ h) ≡ far_read part h }
 {}
 
-/// Many words of frame data at once, behind a history and in one that goes on.
+/// Many words of frame data at once, after a history and in one that goes on.
 pub fn many_laws()
     ensures settings { (idcode n : ℕ) (ws : List ℕ) (h : History) → settings_of idcode (with_frame_data n ws h) ≡ settings_of idcode h }
     ensures flow { (part : PartData) (n : ℕ) (ws : List ℕ) (h : History) → TakesFrames part h → flow_of part (with_frame_data n ws h) ≡ after_words ws (flow_of part h) }
@@ -102,7 +102,7 @@ pub fn many_laws()
         pairs_on x (with_frame_data n ws later) ≡ written_frames x.part (flow_on x later).base (onto ws []) ++ pairs_on x later }
 {}
 
-/// A history that goes on in two parts, and behind a load under another command than MFW.
+/// A history that goes on in two parts, and after a load under another command than MFW.
 pub fn later_laws()
     ensures settings { (idcode : ℕ) (s : Settings) (later middle : History) → settings_from idcode s (later ++ middle) ≡ settings_from idcode (settings_from idcode s middle) later }
     ensures flow { (x : Start) (later middle : History) → flow_on x (later ++ middle) ≡ flow_on (start_on x middle) later }
@@ -113,7 +113,7 @@ pub fn later_laws()
         MemoryGets part (later ++ after_load w place earlier) earlier (pairs_alone part earlier w later) }
 {}
 
-/// What a planned stream does behind a FAR load: whole frames under WCFG and one more land in order, pads left out, and
+/// What a planned stream does after a FAR load: whole frames under WCFG and one more land in order, pads left out, and
 /// words of MFWR put the source there.
 pub fn stream_laws()
     ensures write { (part : PartData) (earlier : History) (x : FrameWrite) → TakesWrite part earlier x → MemoryGets part (with_frames x earlier) earlier (reverse (placed part x)) }
@@ -129,7 +129,7 @@ pub fn quiet_laws()
     ensures all_due { (part : PartData) (h : History) (register count n : ℕ) → ReadsData h register count → less count (flow_read part h register count n) ≡ flow_of part h }
 {}
 
-/// A write of whole frames behind a FAR load leaves the memory overridden by a plan of these frames at the slots in order.
+/// A write of whole frames after a FAR load leaves the memory overridden by a plan of these frames at the slots in order.
 /// MFW right after WCFG takes the last frame of the run, and words of MFWR keep it and the settings.
 pub fn plan_laws()
     ensures write { (part : PartData) (earlier : History) (x : FrameWrite) → TakesWrite part earlier x → Rises 0 (addresses_in part) →

@@ -6,7 +6,7 @@ ghost use Rattle.x7_packets.specs.History.{History};
 ghost use Rattle.x7_memory.specs.Frames.{AreFramesOf};
 ghost use Rattle.x7_pipeline.specs.Pipeline.{IsPipelineOf};
 ghost use Rattle.x7_flow.specs.Flow.{Flow, fault_by};
-ghost use Rattle.x7_flow.specs.Standing.{AreFramesAfter, Did, HasFlow, words_due};
+ghost use Rattle.x7_flow.specs.Standing.{AreFramesAfter, Did, HasFlow, frames_state, words_due};
 ghost use Rattle.x7_flow.specs.declared.asked.Asked.{Asked};
 
 use crate::asked::Asked;
@@ -23,7 +23,7 @@ pub fn take(
 ) -> Option<RunFault>
     requires pipeline { IsPipelineOf part.now pipeline.old }
     requires memory { AreFramesOf part.now memory.old }
-    ensures did { IfNone result (Did part.now asked pipeline.old pipeline.new memory.old memory.new) }
+    ensures did { IfNone result (Did part.now asked (frames_state pipeline.old memory.old) (frames_state pipeline.new memory.new)) }
     ensures fault { (f : Flow) → HasFlow part.now pipeline.old f → result ≡ fault_by part.now asked f }
 
     // Whatever the answer.
@@ -94,7 +94,7 @@ pub fn take_words(
     requires whole { length bytes.now % 4 ≡ 0 }
     requires pipeline { IsPipelineOf part.now pipeline.old }
     requires memory { AreFramesOf part.now memory.old }
-    ensures taken { (n : ℕ) → OfTaking part.now pipeline.old memory.old (λ h. WordsTaken part.now (record { pipeline = pipeline.new; memory = memory.new }) n h (words_of_bytes bytes.now) result.0 result.1) }
+    ensures taken { (n : ℕ) → OfTaking part.now pipeline.old memory.old (λ h. WordsTaken part.now (frames_state pipeline.new memory.new) n h (words_of_bytes bytes.now) result.0 result.1) }
     ensures within { result.0 ≤ length bytes.now / 4 }
     ensures pipeline { IsPipelineOf part.now pipeline.new }
     ensures memory { AreFramesOf part.now memory.new }

@@ -10,7 +10,8 @@ use Rattle.x7_engine.specs.declared.fed.Fed.{Fed}
 use Rattle.x7_engine.specs.declared.fed.Fed.TheVariants as fed
 use Rattle.x7_engine.specs.Kept.{on_the_bench}
 use Rattle.x7_engine.specs.ReadBuffer.{ReadBufState}
-use Rattle.x7_engine.specs.Standing.{Answers, DeviceState, DeviceStandsFor, NoWordDue, taken_in, reads_given, words_left}
+use Rattle.x7_engine.specs.Past.{Answers, past_of}
+use Rattle.x7_engine.specs.Standing.{DeviceState, DeviceStandsFor, NoWordDue, taken_in, reads_given, words_left}
 use Rattle.x7_engine.specs.State.{history_taken, reads_of, stop_in}
 use Rattle.x7_engine.specs.Stops.{Stopped}
 use Rattle.x7_engine.proofs.FeedLemmas.{told_all}
@@ -101,7 +102,7 @@ fed_stopped part bytes piece n d e reads now s still fits stands st stop told fe
 
 -- a feed that ends
 pub fed_end : (part : PartData) (bytes piece : List ℕ) (d e : DeviceState) (read : ReadBufState) (reads now : List ℕ) (f : Fed) → (s : Plays part bytes d reads) → IsEnd f → AreBytes piece → (IsSome (stop_in part on_the_bench s.taken) → taken_in (length piece) f ≡ 0)
-    → DeviceStandsFor part on_the_bench false e (s.taken ++ take (taken_in (length piece) f) piece) → Answers part on_the_bench e (s.taken ++ take (taken_in (length piece) f) piece) read f
+    → DeviceStandsFor part on_the_bench false e (s.taken ++ take (taken_in (length piece) f) piece) → Answers (past_of part on_the_bench false (s.taken ++ take (taken_in (length piece) f) piece)) e read f
     → now ≡ reads_given part on_the_bench e (s.taken ++ take (taken_in (length piece) f) piece) → length now ≤ reads_limit → Plays part (bytes ++ piece) e now × NoWordDue e
 fed_end part bytes piece d e read reads now (fed.ReadFull n) s end fits still stands answer told few = absurd end
 fed_end part bytes piece d e read reads now (fed.Stopped n) s end fits still stands answer told few =
@@ -145,7 +146,7 @@ pub new_plays : (part : PartData) (d : DeviceState) (reads : List ℕ) → Devic
 new_plays part d reads s e =
     let h = history_taken part on_the_bench [] in
     let none : length (reads_of part on_the_bench []) ≡ 0 = refl in
-    let due : NoWordDue d = omega (arith, none, ap length s.due_are.all, length-append s.due_are.told (words_left part h d.registers.due), length_left part h d.registers.due) in (
+    let due : NoWordDue d = omega (arith, none, ap length s.due_are.all, length-append s.due_are.given (words_left part h d.registers.due), length_left part h d.registers.due) in (
       record {
         taken = [];
         left = [];
@@ -219,7 +220,7 @@ turn_full part bytes piece at n d e reads now more fp s stands none told is few 
 
 pub turn_end : (part : PartData) (bytes piece : List ℕ) (at : ℕ) (d e : DeviceState) (read : ReadBufState) (reads now more : List ℕ) (f : Fed) → AreBytes piece → (s : Plays part (bytes ++ take at piece) d reads) → IsEnd f
     → (IsSome (stop_in part on_the_bench s.taken) → taken_in (length (drop at piece)) f ≡ 0) → DeviceStandsFor part on_the_bench false e (s.taken ++ take (taken_in (length (drop at piece)) f) (drop at piece))
-    → Answers part on_the_bench e (s.taken ++ take (taken_in (length (drop at piece)) f) (drop at piece)) read f
+    → Answers (past_of part on_the_bench false (s.taken ++ take (taken_in (length (drop at piece)) f) (drop at piece))) e read f
     → reads_given part on_the_bench e (s.taken ++ take (taken_in (length (drop at piece)) f) (drop at piece)) ≡ reads_given part on_the_bench d s.taken ++ more → now ≡ reads ++ more → length now ≤ reads_limit
     → Plays part (bytes ++ piece) e now × NoWordDue e
 turn_end part bytes piece at d e read reads now more f fp s end still stands answer told is few =

@@ -1,19 +1,18 @@
 -- The text of a plan is read back as the plan.
-use Rattle.std.proofs.Common.{◌≡◌, ◌⊎◌, inl, inr, ℕ, ◌*◌, ◌/◌, ◌%◌, ◌^◌, ◌<◌, Bool, true, false, List, [], ◌∷◌, ◌++◌, length, map, refl, sym, subst, ap, ap₂, ◌∙◌, arith, append_assoc, append-nil, codes}
+use Rattle.std.proofs.Common.{◌≡◌, ◌⊎◌, inl, inr, ℕ, ◌*◌, ◌/◌, ◌%◌, ◌^◌, Bool, true, false, List, [], ◌∷◌, ◌++◌, length, map, refl, sym, subst, ap, ap₂, ◌∙◌, arith, append_assoc, append-nil, codes}
 use Rattle.std.specs.Prelude.{All, Result, Ok, Err, MatchResult, if◌then◌else◌, ◌==◌}
 use Rattle.std.specs.List.{flat_map, AllByRecursion}
 use Rattle.std.proofs.lemmas.Grind.{common_steps}
 use Rattle.std.proofs.lemmas.List.Elements.{All-head, All-tail}
 use Rattle.std.proofs.lemmas.List.Sorted.{IsPermutation-refl}
-use Rattle.x7_words.specs.Word.{AreBytes, AreWords, bytes_of_word, word_of_bytes, words_of_bytes}
-use Rattle.x7_text.specs.Digits.{hex_byte, hex_digit, hex_word}
+use Rattle.x7_words.specs.Word.{bytes_of_word, words_of_bytes}
+use Rattle.x7_text.specs.Digits.{hex_digit, hex_word}
 use Rattle.x7_text.specs.EitherCase.{pairs}
 use Rattle.x7_text.specs.Lines.{has_no_end, split}
 use Rattle.x7_words.proofs.WordLemmas.{bytes-fit, length-bytes, words-back}
 use Rattle.x7_text.proofs.CaseLemmas.{pairs-back}
 use Rattle.x7_text.proofs.ReadRowLemmas.{hex-words}
 use Rattle.x7_text.proofs.SplitLemmas.{split-ended}
-use Rattle.x7_text.proofs.ValueLemmas.{word-digits, word-bytes}
 use Rattle.x7_part.specs.Part.{PartData, frame_words}
 use Rattle.x7_memory.specs.Planned.{PlanRow, PlanData, IsPlanFor, IsPlanRow, AreApart, AreInOrder}
 use Rattle.x7_frames.specs.FramesText.{frame_head, frame_line, plan_text, AreLines, no_line, no_frame, frame, IsFrameLine, IsPlanOf, Plans}
@@ -27,7 +26,7 @@ free-by : (b : Bool) (xs ys : List ℕ) → (if b then false else has_no_end xs)
 free-by true xs ys h f = absurd cc
 free-by false xs ys h f = f h
 
-free-both : (xs ys : List ℕ) → has_no_end xs ≡ true → has_no_end ys ≡ true → has_no_end (xs ++ ys) ≡ true
+pub free-both : (xs ys : List ℕ) → has_no_end xs ≡ true → has_no_end ys ≡ true → has_no_end (xs ++ ys) ≡ true
 free-both [] ys h k = k
 free-both (x ∷ xs) ys h k = free-by (x == 10) xs ys h (λ g. free-both xs ys g k)
 

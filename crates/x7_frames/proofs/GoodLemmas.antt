@@ -1,7 +1,6 @@
 -- Good lines, one more, and the line at fault.
 use Rattle.std.proofs.Common.{◌≡◌, inl, inr, ℕ, zero, suc, ◌+◌, ◌<◌, ◌≤◌, Bool, true, false, List, [], ◌∷◌, ◌++◌, length, get_or, set, refl, sym, subst, ap, ◌∙◌, arith, append_assoc}
-use Rattle.std.specs.Prelude.{Contains, Err, ◌↔◌, slice_index, MatchOption, Option, Some, None}
-use Rattle.std.proofs.Common.{Bor}
+use Rattle.std.specs.Prelude.{Contains, Err, ◌↔◌, slice_index}
 use Rattle.std.proofs.lemmas.Bool.{cases_order}
 use Rattle.std.proofs.lemmas.List.{get_or_append_left, get_or_push, get_or-map, length-map, length_push, map_push, get_or-set_same, get_or-set_other, length-set}
 use Rattle.std.proofs.lemmas.List.Elements.{All-push, All-nil, Contains-push, Contains-push_cases, Contains-append_left}
@@ -54,7 +53,7 @@ good-next part lines line rows new good (inr a) =
       apart = apart-push rows a.row good.apart a.apart;
     })
 
-no-rows-apart : AreApart []
+pub no-rows-apart : AreApart []
 no-rows-apart i j d lt h e = absurd (omega arith)
 
 pub starts : (part : PartData) (text : List ℕ) (rows : List PlanRow) → rows ≡ [] → Goes part text text rows 0
@@ -65,43 +64,35 @@ starts part text rows e = record {
   counted = refl;
 }
 
-abbrev pub FirstLine : List ℕ → List ℕ → Option (Bor (List ℕ)) → Type 0
-FirstLine text t o = MatchOption o (split text ≡ t ∷ []) (λ more. (split text ≡ t ∷ split more.now) × (length more.now < length text))
+-- the line that stands next is read, or is at fault
+pub goes-on : (part : PartData) (text rest line after : List ℕ) (rows new : List PlanRow) (n : ℕ) → split rest ≡ line ∷ split after → Goes part text rest rows n → Takes part line rows new → Goes part text after new (n + 1)
+goes-on part text rest line after rows new n e goes takes = record {
+  lines = goes.lines ++ line ∷ [];
+  texts = goes.texts ∙ ap (λ t. goes.lines ++ t) e ∙ sym (append_assoc goes.lines (line ∷ []) (split after));
+  good = good-next part goes.lines line rows new goes.good takes;
+  counted = ap (λ (k : ℕ). k + 1) goes.counted ∙ sym (length_push goes.lines line);
+}
 
-module _ (part : PartData) (text rest line : List ℕ) (rows : List PlanRow) (n : ℕ) (o : Option (Bor (List ℕ))) (first : FirstLine rest line o) (goes : Goes part text rest rows n) where
-  left : (ls : List (List ℕ)) × (split rest ≡ line ∷ ls)
-  left = by o first
-    where
-      by : (o : Option (Bor (List ℕ))) → FirstLine rest line o → (ls : List (List ℕ)) × (split rest ≡ line ∷ ls)
-      by None e = ([], e)
-      by (Some x) e = (split x.now, e.0)
+pub fails-there : (part : PartData) (text rest line : List ℕ) (others : List (List ℕ)) (rows : List PlanRow) (n : ℕ) (f : FramesFault) → split rest ≡ line ∷ others → Goes part text rest rows n → IsFaultAt part rows (n + 1) line f → IsPlanOf part text (Err f)
+fails-there part text rest line others rows n f e goes = at f
+  where
+    reaches : Reaches part text (n + 1) line rows
+    reaches = record { before = goes.lines; after = others; texts = goes.texts ∙ ap (λ t. goes.lines ++ t) e; good = goes.good; count = ap (λ (k : ℕ). k + 1) goes.counted }
 
-  reaches : Reaches part text (n + 1) line rows
-  reaches = record { before = goes.lines; after = left.0; texts = goes.texts ∙ ap (λ t. goes.lines ++ t) left.1; good = goes.good; count = ap (λ (k : ℕ). k + 1) goes.counted }
+    at : (f : FramesFault) → IsFaultAt part rows (n + 1) line f → IsPlanOf part text (Err f)
+    at (fault.Line m) h = (line, rows, subst (λ k. Reaches part text k line rows) (sym h.0) reaches, h.1)
+    at (fault.Address m) h = (line, rows, subst (λ k. Reaches part text k line rows) (sym h.0) reaches, h.1)
+    at (fault.Twice m) h = (line, rows, subst (λ k. Reaches part text k line rows) (sym h.0) reaches, h.1)
+    at fault.NoMemory h = h
 
-  pub fault-there : (f : FramesFault) → IsFaultAt part rows (n + 1) line f → IsPlanOf part text (Err f)
-  fault-there (fault.Line m) e = (line, rows, subst (λ k. Reaches part text k line rows) (sym e.0) reaches, e.1)
-  fault-there (fault.Address m) e = (line, rows, subst (λ k. Reaches part text k line rows) (sym e.0) reaches, e.1)
-  fault-there (fault.Twice m) e = (line, rows, subst (λ k. Reaches part text k line rows) (sym e.0) reaches, e.1)
-  fault-there fault.NoMemory e = e
+-- the last line is read
+pub last-good : (part : PartData) (text rest line : List ℕ) (rows new : List PlanRow) (n : ℕ) → split rest ≡ line ∷ [] → Goes part text rest rows n → Takes part line rows new → AreGood part (split text) new
+last-good part text rest line rows new n e goes takes =
+    subst (λ t. AreGood part t new) (sym (goes.texts ∙ ap (λ t. goes.lines ++ t) e)) (good-next part goes.lines line rows new goes.good takes)
 
-  pub next : (new : List PlanRow) (x : Bor (List ℕ)) → o ≡ Some x → Takes part line rows new → Goes part text x.now new (n + 1)
-  next new x e takes =
-      let s : (split rest ≡ line ∷ split x.now) × (length x.now < length rest) = subst (λ p. FirstLine rest line p) e first in
-      record {
-        lines = goes.lines ++ line ∷ [];
-        texts = goes.texts ∙ ap (λ t. goes.lines ++ t) s.0 ∙ sym (append_assoc goes.lines (line ∷ []) (split x.now));
-        good = good-next part goes.lines line rows new goes.good takes;
-        counted = ap (λ (k : ℕ). k + 1) goes.counted ∙ sym (length_push goes.lines line);
-      }
-
-  pub shorter : (x : Bor (List ℕ)) → o ≡ Some x → length x.now < length rest
-  shorter x e = let s : (split rest ≡ line ∷ split x.now) × (length x.now < length rest) = subst (λ p. FirstLine rest line p) e first in s.1
-
-  pub all-good : (new : List PlanRow) → o ≡ None → Takes part line rows new → AreGood part (split text) new
-  all-good new e takes =
-      let s : split rest ≡ line ∷ [] = subst (λ p. FirstLine rest line p) e first in
-      subst (λ t. AreGood part t new) (sym (goes.texts ∙ ap (λ t. goes.lines ++ t) s)) (good-next part goes.lines line rows new goes.good takes)
+pub apart-takes : (part : PartData) (line : List ℕ) (rows new : List PlanRow) → AreApart rows → Takes part line rows new → AreApart new
+apart-takes part line rows new apart (inl same) = subst AreApart (sym same.1) apart
+apart-takes part line rows new apart (inr a) = subst AreApart (sym a.rows) (apart-push rows a.row apart a.apart)
 
 -- ---- marks
 

@@ -5,3 +5,4 @@ pub mod TextLemmas
 pub mod OneFaultLemmas
 pub mod OneLemmas
 pub mod BackLemmas
+pub mod ReaderLemmas

@@ -4,10 +4,12 @@
 mod fault;
 mod laws;
 mod line;
+mod reader;
 mod reading;
 mod text;
 
 pub use fault::FramesFault;
 pub use laws::{one_plan, plan_text_leads_back};
+pub use reader::FramesReader;
 pub use reading::plan_of;
 pub use text::plan_text;

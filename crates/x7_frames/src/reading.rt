@@ -8,32 +8,32 @@ ghost use Rattle.x7_frames.specs.declared.fault.FramesFault.{FramesFault};
 
 use crate::fault::FramesFault;
 use crate::line::{means_nothing, read_frame};
+use crate::reader::FramesReader;
 use std::alloc::Global;
 use x7_memory::{Draft, Plan};
 use x7_part::Part;
-use x7_text::first_line;
 use x7_words::NoMemory;
 
 /// What was read so far.
 #[derive(Drop)]
-struct Reading {
-    draft: Draft,
+pub(crate) struct Reading {
+    pub(crate) draft: Draft,
     /// Of each frame of the part, by its rank, whether a line has its address.
-    marks: Vec<bool>,
+    pub(crate) marks: Vec<bool>,
     /// Room for the words of a line.
-    frame: Vec<u32>,
+    pub(crate) frame: Vec<u32>,
 }
 
 impl Reading {
-    /// Nothing was read yet of a text of so many bytes: there is room for as many lines as it can have.
-    fn new(alloc: Global, part: &Part, size: usize) -> Result<Reading, NoMemory>
+    /// Nothing was read yet. There is room for all frames of the part.
+    pub(crate) fn new(alloc: Global, part: &Part) -> Result<Reading, NoMemory>
         ensures rows { IfOk result (λ reading. reading.draft.rows ≡ []) }
         ensures width { IfOk result (λ reading. reading.draft.width ≡ frame_words part.now) }
         ensures marks { IfOk result (λ reading. HasMarks part.now [] reading.marks.items) }
         ensures room { IfOk result (λ reading. frame_words part.now ≤ vec_capacity reading.frame) }
     {
         let width = part.words() as usize;
-        let draft = Draft::with_room(alloc, part.words(), size / (8 * width + 15))?;
+        let draft = Draft::with_room(alloc, part.words(), part.frames() as usize)?;
         let Ok(marks) = vec![in alloc; false; part.frames() as usize] else {
             return Err(NoMemory);
         };
@@ -48,7 +48,7 @@ impl Reading {
     }
 
     /// Takes line `n`. After an error nothing more may be taken.
-    fn take(&mut self, part: &Part, n: u64, line: &[u8]) -> Result<(), FramesFault>
+    pub(crate) fn take(&mut self, part: &Part, n: u64, line: &[u8]) -> Result<(), FramesFault>
         requires width { self.old.draft.width ≡ frame_words part.now }
         requires marks { HasMarks part.now self.old.draft.rows self.old.marks.items }
         requires room { frame_words part.now ≤ vec_capacity self.old.frame }
@@ -88,24 +88,15 @@ pub fn plan_of(alloc: Global, text: &[u8], part: &Part) -> Result<Plan, FramesFa
     read_text(alloc, text, part)
 }
 
-/// The plan of a text, line by line.
+/// The plan of a text, which is one piece.
 fn read_text(alloc: Global, text: &[u8], part: &Part) -> Result<Plan, FramesFault>
     ensures { MatchResult result (λ plan. IsPlanOf part.now text.now (Ok plan)) (λ fault. (fault ≡ FramesFault.NoMemory) ⊎ IsPlanOf part.now text.now (Err fault)) }
 {
-    let Ok(mut reading) = Reading::new(alloc, part, text.len()) else {
+    let Ok(reader) = FramesReader::new(alloc, part) else {
         return Err(FramesFault::NoMemory);
     };
-    let mut rest = text;
-    let mut count: u64 = 0;
-    loop {
-        let (line, more) = first_line(rest);
-        count += 1;
-        if let Err(fault) = reading.take(part, count, line) {
-            return Err(fault);
-        }
-        match more {
-            Some(after) => rest = after,
-            None => return Ok(reading.draft.finish()),
-        }
+    match reader.feed(text) {
+        Ok(reader) => reader.finish(),
+        Err(fault) => Err(fault),
     }
 }

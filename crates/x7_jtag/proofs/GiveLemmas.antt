@@ -9,7 +9,8 @@ use Rattle.x7_part.specs.Part.{PartData}
 use Rattle.x7_engine.specs.declared.fed.Fed.{Fed}
 use Rattle.x7_engine.specs.declared.fed.Fed.TheVariants as fed
 use Rattle.x7_engine.specs.Kept.{on_the_bench}
-use Rattle.x7_engine.specs.Standing.{Answers, DeviceStandsFor, DeviceState, NoWordDue, taken_in}
+use Rattle.x7_engine.specs.Past.{Answers, past_of}
+use Rattle.x7_engine.specs.Standing.{DeviceStandsFor, DeviceState, NoWordDue, taken_in}
 use Rattle.x7_engine.specs.State.{reads_of, stop_in}
 use Rattle.x7_engine.specs.UntilRead.{ReadBefore, no_room}
 use Rattle.x7_engine.proofs.ReadsLemmas.{reads_grow}
@@ -137,7 +138,7 @@ module _ (part : PartData) (k : QueueState) (d e : DeviceState) (q : Queue) (pie
 
   given-by : (f : Fed) → (s : QueueStandsFor part k d q) → k.left ≡ 0 → AreBytes piece → taken_in (length piece) f ≤ length piece
       → DeviceStandsFor part on_the_bench false e (s.holds.bytes ++ take (taken_in (length piece) f) piece)
-      → Answers part on_the_bench e (s.holds.bytes ++ take (taken_in (length piece) f) piece) no_room f
+      → Answers (past_of part on_the_bench false (s.holds.bytes ++ take (taken_in (length piece) f) piece)) e no_room f
       → words_taken part e (s.holds.bytes ++ take (taken_in (length piece) f) piece) ≡ words_taken part d s.holds.bytes
       → ReadBefore (record { part = part; kept = on_the_bench; wrapped = false; bytes = s.holds.bytes }) piece (taken_in (length piece) f) (words_taken part d s.holds.bytes)
       → (IsSome (stop_in part on_the_bench s.holds.bytes) → taken_in (length piece) f ≡ 0) → Given part k d e q piece (given_by f (length piece))
@@ -149,7 +150,7 @@ module _ (part : PartData) (k : QueueState) (d e : DeviceState) (q : Queue) (pie
 -- a piece is given, and then the word that it reads out is taken
 pub gives : (part : PartData) (k n : QueueState) (d e g : DeviceState) (q : Queue) (piece : List ℕ) (f : Fed) (count : ℕ) → (s : QueueStandsFor part k d q) → k.left ≡ 0 → AreBytes piece → taken_in (length piece) f ≤ length piece
     → DeviceStandsFor part on_the_bench false e (s.holds.bytes ++ take (taken_in (length piece) f) piece)
-    → Answers part on_the_bench e (s.holds.bytes ++ take (taken_in (length piece) f) piece) no_room f
+    → Answers (past_of part on_the_bench false (s.holds.bytes ++ take (taken_in (length piece) f) piece)) e no_room f
     → words_taken part e (s.holds.bytes ++ take (taken_in (length piece) f) piece) ≡ words_taken part d s.holds.bytes
     → ReadBefore (record { part = part; kept = on_the_bench; wrapped = false; bytes = s.holds.bytes }) piece (taken_in (length piece) f) (words_taken part d s.holds.bytes)
     → (IsSome (stop_in part on_the_bench s.holds.bytes) → (e ≡ d) × (taken_in (length piece) f ≡ 0)) → count ≡ given_by f (length piece)

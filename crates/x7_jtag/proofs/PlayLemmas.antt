@@ -13,7 +13,7 @@ use Rattle.x7_jtag.specs.declared.statement.Statement.{Statement}
 use Rattle.x7_jtag.specs.declared.statement.Statement.TheVariants as statement
 use Rattle.x7_jtag.specs.Clocks.{clock, clocks, clocks_of, from_exit, from_reset, inner_clocks, shift_clocks, to_shift}
 use Rattle.x7_jtag.specs.Bits.{bytes_bits}
-use Rattle.x7_jtag.specs.Play.{AreNew, Ready, after_clocks, bit_at, difference, differs_at, first_by, first_from, found_more, is_apart, least, scan_bits, shift_difference, walk_clocks}
+use Rattle.x7_jtag.specs.Play.{AreNew, Ready, after_clocks, bit_at, difference, difference_from, differs_at, first_by, first_from, found_more, is_apart, least, scan_bits, walk_clocks}
 use Rattle.x7_jtag.specs.Port.{Port, clocked, new_port, port_after, tdo_of}
 use Rattle.x7_jtag.specs.States.{Clock, moved_by, state_after, test_logic_reset}
 use Rattle.x7_jtag.specs.Tap.{TapStandsFor, TapState}
@@ -178,12 +178,12 @@ least-none holds f from (suc n) = ap (λ (b : Bool). if b then Some from else le
 
 -- a scan of which no bit is wanted differs nowhere
 pub found-first : (part : PartData) (p : Port) (tdi : List Bool) (tdo mask : Option (List Bool)) (first : ℕ) → (0 < first → tdo ≡ None) → first ≤ length tdi
-    → shift_difference part p (scan_bits tdi tdo mask) ≡ least (differs_at part p (scan_bits tdi tdo mask)) first (length tdi - first)
-found-first part p tdi tdo mask zero none l = let e : length tdi ≡ length tdi - 0 = omega arith in ap (least (differs_at part p (scan_bits tdi tdo mask)) 0) e
+    → difference_from part p (scan_bits tdi tdo mask) 0 ≡ difference_from part p (scan_bits tdi tdo mask) first
+found-first part p tdi tdo mask zero none l = refl
 found-first part p tdi tdo mask (suc n) none l =
     let e : tdo ≡ None = none (omega arith) in
     let f : (i : ℕ) → differs_at part p (scan_bits tdi tdo mask) i ≡ false = λ i. ap (λ (o : Option (List Bool)). differs_at part p (scan_bits tdi o mask) i) e in
-    least-none (differs_at part p (scan_bits tdi tdo mask)) f 0 (length tdi) ∙ sym (least-none (differs_at part p (scan_bits tdi tdo mask)) f (suc n) (length tdi - suc n))
+    least-none (differs_at part p (scan_bits tdi tdo mask)) f 0 (length tdi - 0) ∙ sym (least-none (differs_at part p (scan_bits tdi tdo mask)) f (suc n) (length tdi - suc n))
 
 -- the first place found, or a later one
 abbrev pub found_or : Option ℕ → Option ℕ → Option ℕ
@@ -274,11 +274,11 @@ pub scan-ends : (part : PartData) (u : TapState) (e : DeviceState) (cs : List Cl
     → TapStandsFor part u e (cs ++ (from_reset s ++ to_shift ir ++ shift_clocks bs ++ from_exit))
 scan-ends part u e cs s ir bs t = stands-at part u e ((((cs ++ from_reset s) ++ to_shift ir) ++ shift_clocks bs) ++ from_exit) (cs ++ (from_reset s ++ to_shift ir ++ shift_clocks bs ++ from_exit)) (four-walks cs (from_reset s) (to_shift ir) (shift_clocks bs) from_exit) t
 
-pub scan-finds : (part : PartData) (cs : List Clock) (ir : Bool) (bs : List Bool) (tdo mask : Option (List Bool)) (found : Option ℕ) → found ≡ shift_difference part (port_after part ((cs ++ from_reset (port_after part cs).state) ++ to_shift ir)) (scan_bits bs tdo mask)
-    → found ≡ shift_difference part (after_clocks part (port_after part cs) (from_reset (port_after part cs).state ++ to_shift ir)) (scan_bits bs tdo mask)
+pub scan-finds : (part : PartData) (cs : List Clock) (ir : Bool) (bs : List Bool) (tdo mask : Option (List Bool)) (found : Option ℕ) → found ≡ difference_from part (port_after part ((cs ++ from_reset (port_after part cs).state) ++ to_shift ir)) (scan_bits bs tdo mask) 0
+    → found ≡ difference_from part (after_clocks part (port_after part cs) (from_reset (port_after part cs).state ++ to_shift ir)) (scan_bits bs tdo mask) 0
 scan-finds part cs ir bs tdo mask found e =
     let s : State = (port_after part cs).state in
-    e ∙ ap (λ (p : Port). shift_difference part p (scan_bits bs tdo mask)) (ap (port_after part) (append_assoc cs (from_reset s) (to_shift ir)) ∙ after part cs (from_reset s ++ to_shift ir))
+    e ∙ ap (λ (p : Port). difference_from part p (scan_bits bs tdo mask) 0) (ap (port_after part) (append_assoc cs (from_reset s) (to_shift ir)) ∙ after part cs (from_reset s ++ to_shift ir))
 
 -- ---- a statement
 

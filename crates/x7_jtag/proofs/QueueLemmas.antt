@@ -13,7 +13,7 @@ use Rattle.x7_jtag.specs.declared.state.State.TheVariants as state
 use Rattle.x7_jtag.specs.Events.{byte_at_eight, data_events, events_in, events_of, idle_events, update_events}
 use Rattle.x7_jtag.specs.Instructions.{instruction_of}
 use Rattle.x7_jtag.specs.Port.{Port, clocked, new_port, number_of_bit, port_after, with_bit, words_read}
-use Rattle.x7_jtag.specs.Queue.{Event, Byte, Bit, Program, Queue, bits_read, dropped, waits, give_held, empty, by_event, most_held, Sound, with_room}
+use Rattle.x7_jtag.specs.Queue.{Event, Byte, Bit, Program, Queue, bits_read, dropped, in_turn, waits, give_held, empty, by_event, most_held, Sound, with_room}
 use Rattle.x7_jtag.specs.States.{Clock}
 use Rattle.x7_jtag.proofs.EventLemmas.{queue-events}
 
@@ -33,19 +33,50 @@ one-byte x l = (l, tt)
 is-below : (m n : ℕ) → nat_lt m n ≡ true → m < n
 is-below m n h = grind (arith, h)
 
-give_held-by : (reads : List ℕ → List ℕ) (given : List ℕ) (h : ℕ) (hs : List ℕ) (out : ℕ) (next : Queue) (b : Bool) → waits reads given out ≡ b
+-- ---- held bytes in their turn
+
+-- they are given one by one until a word waits
+abbrev pub given_on : (List ℕ → List ℕ) → List ℕ → List ℕ → ℕ → Queue
+given_on reads given [] out = record { given = given; held = []; out = out }
+given_on reads given (h ∷ hs) out = if waits reads given out then record { given = given; held = h ∷ hs; out = out } else given_on reads (given ++ h ∷ []) hs out
+
+held-waits : (reads : List ℕ → List ℕ) (given hs : List ℕ) (out : ℕ) → waits reads given out ≡ true → given_on reads given hs out ≡ record { given = given; held = hs; out = out }
+held-waits reads given [] out e = refl
+held-waits reads given (h ∷ hs) out e = ap (λ (b : Bool). if b then record { given = given; held = h ∷ hs; out = out } else given_on reads (given ++ h ∷ []) hs out) e
+
+pub turns-wait : (reads : List ℕ → List ℕ) (given held hs : List ℕ) (out : ℕ) → waits reads given out ≡ true → fold (in_turn reads) (record { given = given; held = held; out = out }) hs ≡ record { given = given; held = held ++ hs; out = out }
+turns-wait reads given held [] out e = ap (λ (t : List ℕ). record { given = given; held = t; out = out }) (sym (append-nil held))
+turns-wait reads given held (h ∷ hs) out e =
+    ap (λ (b : Bool). fold (in_turn reads) (if b then record { given = given; held = held ++ h ∷ []; out = out } else record { given = given ++ h ∷ []; held = held; out = out }) hs) e
+    ∙ turns-wait reads given (held ++ h ∷ []) hs out e
+    ∙ ap (λ (t : List ℕ). record { given = given; held = t; out = out }) (append_assoc held (h ∷ []) hs)
+
+turns-by : (reads : List ℕ → List ℕ) (given : List ℕ) (h : ℕ) (hs : List ℕ) (out : ℕ) (b : Bool) → waits reads given out ≡ b
+    → (waits reads given out ≡ false → given_on reads (given ++ h ∷ []) hs out ≡ fold (in_turn reads) (record { given = given ++ h ∷ []; held = []; out = out }) hs)
+    → given_on reads given (h ∷ hs) out ≡ fold (in_turn reads) (record { given = given; held = []; out = out }) (h ∷ hs)
+turns-by reads given h hs out true e next = held-waits reads given (h ∷ hs) out e ∙ sym (turns-wait reads given [] (h ∷ hs) out e)
+turns-by reads given h hs out false e next =
+    ap (λ (b : Bool). if b then record { given = given; held = h ∷ hs; out = out } else given_on reads (given ++ h ∷ []) hs out) e
+    ∙ next e
+    ∙ sym (ap (λ (b : Bool). fold (in_turn reads) (if b then record { given = given; held = h ∷ []; out = out } else record { given = given ++ h ∷ []; held = []; out = out }) hs) e)
+
+pub in-turns : (reads : List ℕ → List ℕ) (given hs : List ℕ) (out : ℕ) → given_on reads given hs out ≡ fold (in_turn reads) (record { given = given; held = []; out = out }) hs
+in-turns reads given [] out = refl
+in-turns reads given (h ∷ hs) out = turns-by reads given h hs out (waits reads given out) refl (λ e. in-turns reads (given ++ h ∷ []) hs out)
+
+given_on-by : (reads : List ℕ → List ℕ) (given : List ℕ) (h : ℕ) (hs : List ℕ) (out : ℕ) (next : Queue) (b : Bool) → waits reads given out ≡ b
     → length (h ∷ hs) ≤ 64 → out ≤ bits_read reads given → AreBytes (given ++ h ∷ hs) → Sound reads next
     → Sound reads (if b then record { given = given; held = h ∷ hs; out = out } else next)
-give_held-by reads given h hs out next true e r w f s = record { within = w; room = r; waiting = λ p. e; fits = f }
-give_held-by reads given h hs out next false e r w f s = s
+given_on-by reads given h hs out next true e r w f s = record { within = w; room = r; waiting = λ p. e; fits = f }
+given_on-by reads given h hs out next false e r w f s = s
 
-give_held-sound : (reads : List ℕ → List ℕ) → Grows reads → (given hs : List ℕ) (out : ℕ) → length hs ≤ 64 → out ≤ bits_read reads given → AreBytes (given ++ hs) → Sound reads (give_held reads given hs out)
-give_held-sound reads g given [] out r w f = record { within = w; room = r; waiting = λ p. absurd (omega (arith, p)); fits = f }
-give_held-sound reads g given (h ∷ hs) out r w f =
+given_on-sound : (reads : List ℕ → List ℕ) → Grows reads → (given hs : List ℕ) (out : ℕ) → length hs ≤ 64 → out ≤ bits_read reads given → AreBytes (given ++ hs) → Sound reads (given_on reads given hs out)
+given_on-sound reads g given [] out r w f = record { within = w; room = r; waiting = λ p. absurd (omega (arith, p)); fits = f }
+given_on-sound reads g given (h ∷ hs) out r w f =
     let all : AreBytes ((given ++ h ∷ []) ++ hs) = subst AreBytes (sym (append_assoc given (h ∷ []) hs)) f in
     let prefix : AreBytes (given ++ h ∷ []) = all_front (λ b. b < 256) (given ++ h ∷ []) hs all in
-    give_held-by reads given h hs out (give_held reads (given ++ h ∷ []) hs out) (waits reads given out) refl r w f
-    (give_held-sound reads g (given ++ h ∷ []) hs out (omega (arith, r)) (omega (arith, w, more-read reads g given (h ∷ []) prefix)) all)
+    given_on-by reads given h hs out (given_on reads (given ++ h ∷ []) hs out) (waits reads given out) refl r w f
+    (given_on-sound reads g (given ++ h ∷ []) hs out (omega (arith, r)) (omega (arith, w, more-read reads g given (h ∷ []) prefix)) all)
 
 -- with room for a byte that should be held
 record Roomy (reads : List ℕ → List ℕ) (q : Queue) : Type 0 where
@@ -90,8 +121,8 @@ turn-by reads g q x false l e s =
     }
 
 shifted-by : (reads : List ℕ → List ℕ) → Grows reads → (q : Queue) (b : Bool) → waits reads q.given q.out ≡ b → Sound reads q
-    → Sound reads (if b then give_held reads q.given q.held (q.out + 1) else q)
-shifted-by reads g q true e s = give_held-sound reads g q.given q.held (q.out + 1) s.room (omega (arith, is-below q.out (bits_read reads q.given) e)) s.fits
+    → Sound reads (if b then give_held reads (record q { out = q.out + 1 }) else q)
+shifted-by reads g q true e s = subst (Sound reads) (in-turns reads q.given q.held (q.out + 1)) (given_on-sound reads g q.given q.held (q.out + 1) s.room (omega (arith, is-below q.out (bits_read reads q.given) e)) s.fits)
 shifted-by reads g q false e s = s
 
 empty-sound : (reads : List ℕ → List ℕ) → Sound reads empty

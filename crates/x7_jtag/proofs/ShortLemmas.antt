@@ -11,16 +11,17 @@ use Rattle.x7_jtag.specs.Instructions.{instruction_of}
 use Rattle.x7_jtag.specs.Port.{Port, acted, clocked, data_shifted, idled, captured, new_port, port_after, programmed, words_read, with_bit}
 use Rattle.x7_jtag.specs.Queue.{Queue, dropped, in_turn, most_held, offered, give_held, shifted_out, waits, with_room}
 use Rattle.x7_jtag.specs.States.{Clock}
+use Rattle.x7_jtag.proofs.QueueLemmas.{given_on, in-turns}
 use Rattle.x7_jtag.specs.Tap.{Holds, TapStandsFor, TapState}
 
 abbrev size : Queue → ℕ
 size q = length q.given + length q.held
 
-held-size : (reads : List ℕ → List ℕ) (given hs : List ℕ) (out : ℕ) → size (give_held reads given hs out) ≡ length given + length hs
+held-size : (reads : List ℕ → List ℕ) (given hs : List ℕ) (out : ℕ) → size (given_on reads given hs out) ≡ length given + length hs
 held-size reads given [] out = refl
 held-size reads given (h ∷ hs) out = by (waits reads given out) (held-size reads (given ++ h ∷ []) hs out)
   where
-    by : (b : Bool) → size (give_held reads (given ++ h ∷ []) hs out) ≡ length (given ++ h ∷ []) + length hs → size (if b then record { given = given; held = h ∷ hs; out = out } else give_held reads (given ++ h ∷ []) hs out) ≡ length given + length (h ∷ hs)
+    by : (b : Bool) → size (given_on reads (given ++ h ∷ []) hs out) ≡ length (given ++ h ∷ []) + length hs → size (if b then record { given = given; held = h ∷ hs; out = out } else given_on reads (given ++ h ∷ []) hs out) ≡ length given + length (h ∷ hs)
     by true e = refl
     by false e = omega (arith, e, length-append given (h ∷ []))
 
@@ -41,8 +42,8 @@ offered-size reads q x = omega (arith, turn-size reads (with_room reads q) x, ro
 shifted-size : (reads : List ℕ → List ℕ) (q : Queue) → size (shifted_out reads q) ≤ size q + 1
 shifted-size reads q = by (waits reads q.given q.out)
   where
-    by : (b : Bool) → size (if b then give_held reads q.given q.held (q.out + 1) else q) ≤ size q + 1
-    by true = omega (arith, held-size reads q.given q.held (q.out + 1))
+    by : (b : Bool) → size (if b then give_held reads (record q { out = q.out + 1 }) else q) ≤ size q + 1
+    by true = omega (arith, held-size reads q.given q.held (q.out + 1), ap size (in-turns reads q.given q.held (q.out + 1)))
     by false = omega arith
 
 if-size : (a q : Queue) (b : Bool) → size a ≤ size q + 1 → size (if b then a else q) ≤ size q + 1

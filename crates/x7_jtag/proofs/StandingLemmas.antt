@@ -1,5 +1,5 @@
 -- Lemmas on specs/Tap: what a queue and its device stand for after each of their steps.
-use Rattle.std.proofs.Common.{◌≡◌, inl, ℕ, zero, suc, ◌+◌, ◌-◌, ◌*◌, ◌/◌, ◌%◌, ◌^◌, ◌<◌, ◌≤◌, ◌==◌, ◌&&◌, nat_lt, Bool, true, false, if◌then◌else◌, List, [], ◌∷◌, ◌++◌, length, take, drop, slice_index, Option, Some, None, refl, ap, ap₂, sym, subst, ◌∙◌, append_assoc, append-nil, length-append, length-drop, arith}
+use Rattle.std.proofs.Common.{◌≡◌, inl, ℕ, zero, suc, ◌+◌, ◌-◌, ◌*◌, ◌/◌, ◌%◌, ◌^◌, ◌<◌, ◌≤◌, ◌==◌, ◌&&◌, nat_lt, Bool, true, false, if◌then◌else◌, List, [], ◌∷◌, ◌++◌, length, take, drop, slice_index, Option, Some, None, refl, ap, ap₂, sym, subst, ◌∙◌, append_assoc, length-append, length-drop, arith}
 use Rattle.std.proofs.Math.Seq.{get_or-append_seam}
 use Rattle.std.proofs.lemmas.List.{take_all}
 use Rattle.std.specs.Option.{IsSome}
@@ -11,12 +11,14 @@ use Rattle.x7_engine.specs.declared.fed.Fed.{Fed}
 use Rattle.x7_engine.specs.Kept.{on_the_bench}
 use Rattle.x7_engine.specs.ReadBuffer.{HoldsFew, IsFull, IsFullBy, ReadBufState}
 use Rattle.x7_engine.specs.ReadBuffer.{with_words as read_with}
-use Rattle.x7_engine.specs.Standing.{Answers, DeviceStandsFor, DeviceState, NoWordDue, due_count, taken_in, words_left}
+use Rattle.x7_engine.specs.Past.{Answers, past_of}
+use Rattle.x7_engine.specs.Standing.{DeviceStandsFor, DeviceState, NoWordDue, due_count, taken_in, words_left}
 use Rattle.x7_engine.specs.State.{history_taken, reads_of, stop_in}
 use Rattle.x7_engine.proofs.FrameLemmas.{length_left}
 use Rattle.x7_jtag.specs.Port.{words_read}
 use Rattle.x7_jtag.specs.Queue.{Queue, bits_read, bit_shown, dropped, empty, in_turn, most_held, give_held, shifted_out, waits, with_room, word_bit, queue_of}
 use Rattle.x7_jtag.specs.Tap.{Holds, QueueStandsFor, QueueState, Took, words_taken, with_word_taken}
+use Rattle.x7_jtag.proofs.QueueLemmas.{turns-wait}
 use Rattle.x7_jtag.proofs.TookLemmas.{goes-on, goes-on-dropping, none-given, reads-took, taken-all, taken-few, taken-first, took-more}
 
 -- ---- what waits
@@ -123,7 +125,7 @@ turn-given part k n d e q x z s t = turn-by part n e q x false (none-waits part 
 fed-by : (part : PartData) (k n : QueueState) (d e : DeviceState) (given held piece more : List ℕ) (out : ℕ) (read : ReadBufState) (f : Fed) → (h : Holds part k d (queue_of given held out)) → k.left ≡ 0 → AreBytes piece → length piece ≤ 1
     → (0 < length piece → NoWordDue d) → taken_in (length piece) f ≤ length piece
     → DeviceStandsFor part on_the_bench false e (h.bytes ++ take (taken_in (length piece) f) piece)
-    → Answers part on_the_bench e (h.bytes ++ take (taken_in (length piece) f) piece) read f
+    → Answers (past_of part on_the_bench false (h.bytes ++ take (taken_in (length piece) f) piece)) e read f
     → words_taken part e (h.bytes ++ take (taken_in (length piece) f) piece) ≡ words_taken part d h.bytes ++ more
     → (IsSome (stop_in part on_the_bench h.bytes) → taken_in (length piece) f ≡ 0)
     → read ≡ record { most = Some 1; words = more } → length more ≤ 1 → n ≡ with_word_taken k more → QueueStandsFor part n e (queue_of (given ++ piece) held out)
@@ -168,7 +170,7 @@ fed-by part k n d e given held piece (v ∷ u ∷ us) out read f h z fits few no
 pub fed : (part : PartData) (k n : QueueState) (d e : DeviceState) (given held piece words : List ℕ) (out : ℕ) (old read : ReadBufState) (f : Fed) → (h : Holds part k d (queue_of given held out)) → k.left ≡ 0 → AreBytes piece → length piece ≤ 1
     → (0 < length piece → NoWordDue d) → taken_in (length piece) f ≤ length piece
     → DeviceStandsFor part on_the_bench false e (h.bytes ++ take (taken_in (length piece) f) piece)
-    → Answers part on_the_bench e (h.bytes ++ take (taken_in (length piece) f) piece) read f
+    → Answers (past_of part on_the_bench false (h.bytes ++ take (taken_in (length piece) f) piece)) e read f
     → ((more : List ℕ) × (read ≡ read_with old more) × (words_taken part e (h.bytes ++ take (taken_in (length piece) f) piece) ≡ words_taken part d h.bytes ++ more))
     → (IsSome (stop_in part on_the_bench h.bytes) → (e ≡ d) × (read ≡ old) × (taken_in (length piece) f ≡ 0))
     → old ≡ record { most = Some 1; words = [] } → words ≡ read.words → HoldsFew read.most words → n ≡ with_word_taken k words → QueueStandsFor part n e (queue_of (given ++ piece) held out)
@@ -183,7 +185,7 @@ fed part k n d e given held piece words out old read f h z fits few none w stand
 
 pub all-dropped : (part : PartData) (k n : QueueState) (d e : DeviceState) (given held piece : List ℕ) (out : ℕ) (old read : ReadBufState) (f : Fed) → (s : QueueStandsFor part k d (queue_of given held out)) → piece ≡ k.held
     → DeviceStandsFor part on_the_bench false e (s.holds.bytes ++ take (taken_in (length piece) f) piece)
-    → Answers part on_the_bench e (s.holds.bytes ++ take (taken_in (length piece) f) piece) read f
+    → Answers (past_of part on_the_bench false (s.holds.bytes ++ take (taken_in (length piece) f) piece)) e read f
     → ((more : List ℕ) × (read ≡ read_with old more) × (words_taken part e (s.holds.bytes ++ take (taken_in (length piece) f) piece) ≡ words_taken part d s.holds.bytes ++ more))
     → (IsSome (stop_in part on_the_bench s.holds.bytes) → (e ≡ d) × (read ≡ old) × (taken_in (length piece) f ≡ 0))
     → old ≡ record { most = None; words = [] } → n ≡ record { held = []; word = k.word; left = 0 } → QueueStandsFor part n e (queue_of (given ++ held) [] (bits_read (words_read part) (given ++ held)))
@@ -214,32 +216,6 @@ all-dropped part k n d e given held piece out old read f s there stands a reads 
       none_due = λ m. due;
     })
 
--- ---- held bytes in their turn
-
-held-waits : (reads : List ℕ → List ℕ) (given hs : List ℕ) (out : ℕ) → waits reads given out ≡ true → give_held reads given hs out ≡ record { given = given; held = hs; out = out }
-held-waits reads given [] out e = refl
-held-waits reads given (h ∷ hs) out e = ap (λ (b : Bool). if b then record { given = given; held = h ∷ hs; out = out } else give_held reads (given ++ h ∷ []) hs out) e
-
-turns-wait : (reads : List ℕ → List ℕ) (given held hs : List ℕ) (out : ℕ) → waits reads given out ≡ true → fold (in_turn reads) (record { given = given; held = held; out = out }) hs ≡ record { given = given; held = held ++ hs; out = out }
-turns-wait reads given held [] out e = ap (λ (t : List ℕ). record { given = given; held = t; out = out }) (sym (append-nil held))
-turns-wait reads given held (h ∷ hs) out e =
-    ap (λ (b : Bool). fold (in_turn reads) (if b then record { given = given; held = held ++ h ∷ []; out = out } else record { given = given ++ h ∷ []; held = held; out = out }) hs) e
-    ∙ turns-wait reads given (held ++ h ∷ []) hs out e
-    ∙ ap (λ (t : List ℕ). record { given = given; held = t; out = out }) (append_assoc held (h ∷ []) hs)
-
-turns-by : (reads : List ℕ → List ℕ) (given : List ℕ) (h : ℕ) (hs : List ℕ) (out : ℕ) (b : Bool) → waits reads given out ≡ b
-    → (waits reads given out ≡ false → give_held reads (given ++ h ∷ []) hs out ≡ fold (in_turn reads) (record { given = given ++ h ∷ []; held = []; out = out }) hs)
-    → give_held reads given (h ∷ hs) out ≡ fold (in_turn reads) (record { given = given; held = []; out = out }) (h ∷ hs)
-turns-by reads given h hs out true e next = held-waits reads given (h ∷ hs) out e ∙ sym (turns-wait reads given [] (h ∷ hs) out e)
-turns-by reads given h hs out false e next =
-    ap (λ (b : Bool). if b then record { given = given; held = h ∷ hs; out = out } else give_held reads (given ++ h ∷ []) hs out) e
-    ∙ next e
-    ∙ sym (ap (λ (b : Bool). fold (in_turn reads) (if b then record { given = given; held = h ∷ []; out = out } else record { given = given ++ h ∷ []; held = []; out = out }) hs) e)
-
-pub in-turns : (reads : List ℕ → List ℕ) (given hs : List ℕ) (out : ℕ) → give_held reads given hs out ≡ fold (in_turn reads) (record { given = given; held = []; out = out }) hs
-in-turns reads given [] out = refl
-in-turns reads given (h ∷ hs) out = turns-by reads given h hs out (waits reads given out) refl (λ e. in-turns reads (given ++ h ∷ []) hs out)
-
 -- ---- a bit that is shifted out
 
 shown-by : (reads : List ℕ → List ℕ) (q : Queue) (b : Bool) → waits reads q.given q.out ≡ b → bit_shown reads q ≡ (if b then word_bit (reads q.given) q.out else false)
@@ -253,14 +229,14 @@ shows-bit part k d q b s l e = e ∙ sym (bit-is part k d q.given q.held q.out s
 
 pub shifts-none : (part : PartData) (k : QueueState) (d : DeviceState) (q : Queue) → QueueStandsFor part k d q → k.left ≡ 0 → QueueStandsFor part k d (shifted_out (words_read part) q)
 shifts-none part k d q s z =
-    subst (λ (b : Bool). QueueStandsFor part k d (if b then give_held (words_read part) q.given q.held (q.out + 1) else q)) (sym (none-waits part k d q.given q.held q.out s z)) s
+    subst (λ (b : Bool). QueueStandsFor part k d (if b then give_held (words_read part) (record q { out = q.out + 1 }) else q)) (sym (none-waits part k d q.given q.held q.out s z)) s
 
-shifts : (part : PartData) (k n : QueueState) (d e : DeviceState) (q : Queue) → QueueStandsFor part k d q → 0 < k.left → QueueStandsFor part n e (give_held (words_read part) q.given q.held (q.out + 1)) → QueueStandsFor part n e (shifted_out (words_read part) q)
+shifts : (part : PartData) (k n : QueueState) (d e : DeviceState) (q : Queue) → QueueStandsFor part k d q → 0 < k.left → QueueStandsFor part n e (give_held (words_read part) (record q { out = q.out + 1 })) → QueueStandsFor part n e (shifted_out (words_read part) q)
 shifts part k n d e q s l t =
-    subst (λ (b : Bool). QueueStandsFor part n e (if b then give_held (words_read part) q.given q.held (q.out + 1) else q)) (sym (one-waits part k d q.given q.held q.out s.holds l)) t
+    subst (λ (b : Bool). QueueStandsFor part n e (if b then give_held (words_read part) (record q { out = q.out + 1 }) else q)) (sym (one-waits part k d q.given q.held q.out s.holds l)) t
 
 pub shifts-last : (part : PartData) (k m n : QueueState) (d e : DeviceState) (q : Queue) → QueueStandsFor part k d q → 0 < k.left → m ≡ record k { left = k.left - 1 }
-    → (Holds part m d (queue_of q.given q.held (q.out + 1)) → QueueStandsFor part n e (give_held (words_read part) q.given q.held (q.out + 1))) → QueueStandsFor part n e (shifted_out (words_read part) q)
+    → (Holds part m d (queue_of q.given q.held (q.out + 1)) → QueueStandsFor part n e (give_held (words_read part) (record q { out = q.out + 1 }))) → QueueStandsFor part n e (shifted_out (words_read part) q)
 shifts-last part k m n d e q s l with next =
     let P : QueueState → Type 0 = λ t. Holds part t d (queue_of q.given q.held (q.out + 1)) in
     shifts part k n d e q s l (next (subst P (sym with) (bit-out part k d q.given q.held q.out s.holds l)))
@@ -271,7 +247,7 @@ shifts-inside part k n d q s l with =
     let some : 0 < k.left = omega (arith, l, ap (λ (t : QueueState). t.left) with) in
     let h : Holds part n d (queue_of q.given q.held (q.out + 1)) = subst P (sym with) (bit-out part k d q.given q.held q.out s.holds some) in
     let t : QueueStandsFor part n d (queue_of q.given q.held (q.out + 1)) = record { holds = h; none_due = λ z. absurd (omega (arith, z, l)) } in
-    shifts part k n d d q s some (subst (QueueStandsFor part n d) (sym (held-waits (words_read part) q.given q.held (q.out + 1) (one-waits part n d q.given q.held (q.out + 1) h l))) t)
+    shifts part k n d d q s some (subst (QueueStandsFor part n d) (sym (turns-wait (words_read part) q.given [] q.held (q.out + 1) (one-waits part n d q.given q.held (q.out + 1) h l))) t)
 
 -- ---- room for a byte
 
@@ -307,7 +283,7 @@ reads-none part = refl
 pub resets : (part : PartData) (n : QueueState) (d e : DeviceState) (part_was : PartData) → DeviceStandsFor part_was on_the_bench false e [] → part_was ≡ part → n.held ≡ [] → n.left ≡ 0 → QueueStandsFor part n e empty
 resets part n d e part_was s p h z =
     let t : DeviceStandsFor part on_the_bench false e [] = subst (λ (q : PartData). DeviceStandsFor q on_the_bench false e []) p s in
-    let due : due_count e.registers.due ≡ 0 = omega (arith, sym (length_left part (history_taken part on_the_bench []) e.registers.due), ap length t.due_are.all, length-append t.due_are.told (words_left part (history_taken part on_the_bench []) e.registers.due), ap length (reads-none part)) in
+    let due : due_count e.registers.due ≡ 0 = omega (arith, sym (length_left part (history_taken part on_the_bench []) e.registers.due), ap length t.due_are.all, length-append t.due_are.given (words_left part (history_taken part on_the_bench []) e.registers.due), ap length (reads-none part)) in
     record {
       holds = record {
         bytes = [];
@@ -349,10 +325,10 @@ none-of (x ∷ xs) l = absurd (omega (arith, l))
 
 pub turns-end : (part : PartData) (k l n : QueueState) (d e : DeviceState) (given held all rest : List ℕ) (out : ℕ) → QueueStandsFor part k d (queue_of given held out) → l ≡ record k { held = [] } → all ≡ k.held → length rest ≡ 0
     → ((m : Queue) → QueueStandsFor part l d m → (p : Queue) × QueueStandsFor part n e p × (fold (in_turn (words_read part)) m all ≡ fold (in_turn (words_read part)) p rest))
-    → QueueStandsFor part n e (give_held (words_read part) given held out)
+    → QueueStandsFor part n e (give_held (words_read part) (queue_of given held out))
 turns-end part k l n d e given held all rest out s apart whole none turns =
     let first : Queue = record { given = given; held = []; out = out } in
     let b = turns first (held-apart part k l d given held out apart s) in
-    let end : b.0 ≡ give_held (words_read part) given held out =
-    sym (ap (fold (in_turn (words_read part)) b.0) (none-of rest none)) ∙ sym b.2 ∙ ap (fold (in_turn (words_read part)) first) (whole ∙ s.holds.held_is) ∙ sym (in-turns (words_read part) given held out) in
+    let end : b.0 ≡ give_held (words_read part) (queue_of given held out) =
+    sym (ap (fold (in_turn (words_read part)) b.0) (none-of rest none)) ∙ sym b.2 ∙ ap (fold (in_turn (words_read part)) first) (whole ∙ s.holds.held_is) in
     subst (QueueStandsFor part n e) end b.1

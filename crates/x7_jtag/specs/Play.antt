@@ -64,16 +64,13 @@ scan_bits tdi tdo mask = record { tdi = tdi; tdo = tdo; mask = mask }
 abbrev pub differs_at : PartData → Port → ScanBits → ℕ → Bool
 differs_at part p s i = is_apart s.tdo s.mask i (shown_at part p s.tdi i)
 
--- the least bit from `first` on at which a scan differs, and the least of all
+-- the least bit from `first` on at which a scan differs
 abbrev pub difference_from : PartData → Port → ScanBits → ℕ → Option ℕ
 difference_from part p s first = least (differs_at part p s) first (length s.tdi - first)
 
-abbrev pub shift_difference : PartData → Port → ScanBits → Option ℕ
-shift_difference part p s = least (differs_at part p s) 0 (length s.tdi)
-
 -- the least differing bit of a statement, by the port before it
 abbrev pub difference : PartData → Port → Statement → Option ℕ
-difference part p (statement.Scan ir tdi tdo mask) = shift_difference part (after_clocks part p (from_reset p.state ++ to_shift ir)) (scan_bits tdi tdo mask)
+difference part p (statement.Scan ir tdi tdo mask) = difference_from part (after_clocks part p (from_reset p.state ++ to_shift ir)) (scan_bits tdi tdo mask) 0
 difference part p _ = None
 
 -- statement n with its bit, where it differs, and else what a later one comes to

@@ -30,11 +30,6 @@ bits_read reads given = 32 * length (reads given)
 abbrev pub waits : (List ℕ → List ℕ) → List ℕ → ℕ → Bool
 waits reads given out = nat_lt out (bits_read reads given)
 
--- held bytes go to the device in order until a word waits
-abbrev pub give_held : (List ℕ → List ℕ) → List ℕ → List ℕ → ℕ → Queue
-give_held reads given [] out = record { given = given; held = []; out = out }
-give_held reads given (h ∷ hs) out = if waits reads given out then record { given = given; held = h ∷ hs; out = out } else give_held reads (given ++ h ∷ []) hs out
-
 -- the most bytes held
 abbrev pub most_held : ℕ
 most_held = 64
@@ -45,6 +40,10 @@ in_turn reads q x =
     if waits reads q.given q.out
     then record { given = q.given; held = q.held ++ x ∷ []; out = q.out }
     else record { given = q.given ++ x ∷ []; held = q.held; out = q.out }
+
+-- held bytes come in their turn again: they go to the device in order until a word waits
+abbrev pub give_held : (List ℕ → List ℕ) → Queue → Queue
+give_held reads q = fold (in_turn reads) (record q { held = [] }) q.held
 
 -- what waits is dropped, the held bytes are given, and what they read out is dropped
 abbrev pub dropped : (List ℕ → List ℕ) → Queue → Queue
@@ -60,7 +59,7 @@ offered reads q x = in_turn reads (with_room reads q) x
 
 -- one bit more is out; where it was the last that waited, held bytes go to the device
 abbrev pub shifted_out : (List ℕ → List ℕ) → Queue → Queue
-shifted_out reads q = if waits reads q.given q.out then give_held reads q.given q.held (q.out + 1) else q
+shifted_out reads q = if waits reads q.given q.out then give_held reads (record q { out = q.out + 1 }) else q
 
 -- a bit of words, highest bits first
 abbrev pub word_bit : List ℕ → ℕ → Bool

@@ -3,7 +3,7 @@ ghost use Rattle.std.specs.Prelude.{◌≡◌, ◌≤◌, ◌<◌, ◌+◌, ◌-
 ghost use Rattle.std.specs.List.{slice_get};
 ghost use Rattle.x7_part.specs.Part.{PartData};
 ghost use Rattle.x7_jtag.specs.Clocks.{clock as clock_of, clocks_of, from_reset, shift_clocks, to_shift as to_shift_clocks};
-ghost use Rattle.x7_jtag.specs.Play.{AreNew, Finds, HavingMade, Makes, Ready, are_apart as apart, bit_at, clocks_played, counts as counts_at, difference, difference_from, first_difference, found_more, is_apart, scan_bits, shift_difference, walk_clocks};
+ghost use Rattle.x7_jtag.specs.Play.{AreNew, Finds, HavingMade, Makes, Ready, are_apart as apart, bit_at, clocks_played, counts as counts_at, difference, difference_from, first_difference, found_more, is_apart, scan_bits, walk_clocks};
 ghost use Rattle.x7_jtag.specs.Port.{port_after};
 ghost use Rattle.x7_jtag.specs.States.{Clock};
 ghost use Rattle.x7_jtag.specs.Tap.{TapStandsFor};
@@ -181,7 +181,7 @@ fn shift(
     requires { Ready tap.old device.old (2 ^ 32) }
     ensures stands { Makes tap.old device.old tap.new device.new (λ p. shift_clocks tdi.now) }
     ensures few { length tdi.now < 2 ^ 32 }
-    ensures found { Finds tap.old device.old (λ part p. shift_difference part p (scan_bits tdi.now tdo.now mask.now)) result }
+    ensures found { Finds tap.old device.old (λ part p. difference_from part p (scan_bits tdi.now tdo.now mask.now) 0) result }
 {
     let first = shift_bytes(tap, device, tdi, tdo);
     shift_from(tap, device, tdi, tdo, mask, first)

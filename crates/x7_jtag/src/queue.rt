@@ -186,7 +186,7 @@ impl Queue {
     /// Gives held bytes in order until a word waits.
     fn give_held(&mut self, device: &mut Device)
         requires fits { device.old.taken + 64 ≤ 2 ^ 63 }
-        ensures stands { (part : PartData) (q : QueueData) → QueueStandsFor part self.old device.old q → QueueStandsFor part self.new device.new (give_held_by (words_read part) q.given q.held q.out) }
+        ensures stands { (part : PartData) (q : QueueData) → QueueStandsFor part self.old device.old q → QueueStandsFor part self.new device.new (give_held_by (words_read part) q) }
     {
         let held = mem::replace(&mut self.held, Held::new());
         let mut rest = held.bytes();
@@ -211,7 +211,7 @@ impl Queue {
         requires none_waits { self.old.left ≡ 0 }
         requires fits { device.old.taken + 64 ≤ 2 ^ 63 }
         ensures stands { (part : PartData) (q : QueueData) → Holds part self.old device.old q
-            → QueueStandsFor part self.new device.new (give_held_by (words_read part) q.given q.held q.out) }
+            → QueueStandsFor part self.new device.new (give_held_by (words_read part) q) }
     {
         self.feed(&[], device);
         self.give_held(device);

@@ -8,7 +8,7 @@ use Rattle.std.specs.List.{AllByRecursion}
 use Rattle.x7_text.specs.Lines.{has_no_end, joined, on_first, split}
 use Rattle.x7_text.proofs.SplitLemmas.{joined-split, split-free}
 use Rattle.x7_listing.specs.Assembly.{AreHeadedAsm, IsAsm}
-use Rattle.x7_listing.specs.Assembling.{AssemblerStandsFor, AssemblerState, FailsIn, Goes, TakesPrefix, TakesPiece, TakesLines, Unbegun, Waits, Went}
+use Rattle.x7_listing.specs.Assembling.{AssemblerStandsFor, AssemblerState, body_by, body_of, FailsIn, Goes, TakesLines, TakesPiece, TakesPrefix, Unbegun, Waits, Went}
 use Rattle.x7_listing.specs.BitLine.{bit_text, IsHeaderOf, IsHeld}
 use Rattle.x7_listing.specs.declared.assembler.AsmFault.{AsmFault}
 use Rattle.x7_listing.specs.declared.assembler.AsmFault.TheVariants as fault
@@ -56,13 +56,13 @@ some-line-more text t rest more e =
 
 -- lines that are read at once
 pub quick-on : (all : List (List ℕ)) (rest out new more : List ℕ) (start k n c size : ℕ) (checker : CheckerState) → size ≤ length rest → TakesLines rest (drop size rest) out new k → (length out ≤ 67108864 → length new ≤ 67108864) → c ≡ n + k
-    → Goes all (split (rest ++ more)) out start checker n → Goes all (split (take (length rest - size) (drop size rest) ++ more)) new start checker c
+    → Goes all (split (rest ++ more)) (body_by out start checker n) → Goes all (split (take (length rest - size) (drop size rest) ++ more)) (body_by new start checker c)
 quick-on all rest out new more start k n c size checker h t limit e g =
-    subst (λ s. Goes all (split (s ++ more)) new start checker c) (sym (left-from size rest h)) (goes-quick all rest (drop size rest) out new more start k n c checker t limit e g)
+    subst (λ s. Goes all (split (s ++ more)) (body_by new start checker c)) (sym (left-from size rest h)) (goes-quick all rest (drop size rest) out new more start k n c checker t limit e g)
 
 -- where no text is read
 pub goes-header : (all left : List (List ℕ)) (held out header : List ℕ) (start len c n : ℕ) (checker : CheckerState) → IsHeaderOf held header → length header ≤ 262170 → len ≡ length header → (n < 2 ^ 63 → c ≡ n + 1) → n < 2 ^ 63
-    → Unbegun all (held ∷ left) out start checker n → Goes all left header len checker c
+    → Unbegun all (held ∷ left) (body_by out start checker n) → Goes all left (body_by header len checker c)
 goes-header all left held out header start len c n checker h short size up few u =
     let none : drop len header ≡ [] = drop_of_length-le header (omega (arith, size)) in
     record {
@@ -80,7 +80,7 @@ goes-header all left held out header start len c n checker h short size up few u
 first-is : (s t : List ℕ) (ss ts : List (List ℕ)) → s ∷ ss ≡ t ∷ ts → s ≡ t
 first-is s t ss ts e = cc
 
-pub goes-plain : (all left : List (List ℕ)) (held out : List ℕ) (start n : ℕ) (checker : CheckerState) → ((x : Contents) → IsHeld x → held ≡ bit_text x → ⊥) → Unbegun all (held ∷ left) out start checker n → Goes all (held ∷ left) out start checker n
+pub goes-plain : (all left : List (List ℕ)) (held out : List ℕ) (start n : ℕ) (checker : CheckerState) → ((x : Contents) → IsHeld x → held ≡ bit_text x → ⊥) → Unbegun all (held ∷ left) (body_by out start checker n) → Goes all (held ∷ left) (body_by out start checker n)
 goes-plain all left held out start n checker none u =
     let empty : drop start out ≡ [] = ap (drop start) u.out_is ∙ drop-nil start in
     record {
@@ -114,18 +114,18 @@ hold-more out held new piece text start count checker begun is free s = record {
   goes = λ more.
       let before : split (text ++ (piece ++ more)) ≡ split ((text ++ piece) ++ more) = ap split (sym (append_assoc text piece more)) in
       let left : split (held ++ (piece ++ more)) ≡ split (new ++ more) = ap split (sym (append_assoc held piece more) ∙ ap (λ t. t ++ more) (sym is)) in
-      subst (λ t. Waits begun t (split (new ++ more)) out start checker count) before (subst (λ t. Waits begun (split (text ++ (piece ++ more))) t out start checker count) left (s.goes (piece ++ more)));
+      subst (λ t. Waits begun t (split (new ++ more)) (body_by out start checker count)) before (subst (λ t. Waits begun (split (text ++ (piece ++ more))) t (body_by out start checker count)) left (s.goes (piece ++ more)));
 }
 
 -- what waits at a line that a piece completes
 pub waits-whole : (a : AssemblerState) (text piece line rest whole more : List ℕ) → split piece ≡ line ∷ split rest → whole ≡ a.held ++ line → AssemblerStandsFor a text
-    → Waits a.begun (split ((text ++ piece) ++ more)) (whole ∷ split (rest ++ more)) a.out a.start a.checker a.count
+    → Waits a.begun (split ((text ++ piece) ++ more)) (whole ∷ split (rest ++ more)) (body_of a)
 waits-whole a text piece line rest whole more e w s =
     let p = some-line piece line rest e in
     let before : split (text ++ (piece ++ more)) ≡ split ((text ++ piece) ++ more) = ap split (sym (append_assoc text piece more)) in
     let left : split (a.held ++ (piece ++ more)) ≡ whole ∷ split (rest ++ more) =
     ap (λ t. split (a.held ++ (t ++ more))) p.0 ∙ ap (λ t. split (a.held ++ t)) (append_assoc line (10 ∷ rest) more) ∙ ap split (sym (append_assoc a.held line (10 ∷ (rest ++ more)))) ∙ split-line (a.held ++ line) (rest ++ more) (free-both a.held line s.free p.1) ∙ ap (λ t. t ∷ split (rest ++ more)) (sym w) in
-    subst (λ t. Waits a.begun t (whole ∷ split (rest ++ more)) a.out a.start a.checker a.count) before (subst (λ t. Waits a.begun (split (text ++ (piece ++ more))) t a.out a.start a.checker a.count) left (s.goes (piece ++ more)))
+    subst (λ t. Waits a.begun t (whole ∷ split (rest ++ more)) (body_of a)) before (subst (λ t. Waits a.begun (split (text ++ (piece ++ more))) t (body_of a)) left (s.goes (piece ++ more)))
 
 -- the end of a text
 alone-by : (b : Bool) (c : ℕ) (cs : List ℕ) → (if b then false else has_no_end cs) ≡ true → (has_no_end cs ≡ true → split cs ≡ cs ∷ []) → (if b then [] ∷ split cs else on_first c (split cs)) ≡ (c ∷ cs) ∷ []
@@ -136,32 +136,32 @@ split-alone : (t : List ℕ) → has_no_end t ≡ true → split t ≡ t ∷ []
 split-alone [] h = refl
 split-alone (c ∷ cs) h = alone-by (c == 10) c cs h (split-alone cs)
 
-pub waits-last : (a : AssemblerState) (text : List ℕ) → AssemblerStandsFor a text → Waits a.begun (split text) (a.held ∷ []) a.out a.start a.checker a.count
+pub waits-last : (a : AssemblerState) (text : List ℕ) → AssemblerStandsFor a text → Waits a.begun (split text) (a.held ∷ []) (body_of a)
 waits-last a text s =
     let left : split (a.held ++ []) ≡ a.held ∷ [] = ap split (append-nil a.held) ∙ split-alone a.held s.free in
-    subst (λ t. Waits a.begun (split t) (a.held ∷ []) a.out a.start a.checker a.count) (append-nil text) (subst (λ t. Waits a.begun (split (text ++ [])) t a.out a.start a.checker a.count) left (s.goes []))
+    subst (λ t. Waits a.begun (split t) (a.held ∷ []) (body_of a)) (append-nil text) (subst (λ t. Waits a.begun (split (text ++ [])) t (body_of a)) left (s.goes []))
 
-begun-goes : (a : AssemblerState) (text more : List ℕ) → a.begun ≡ true → a.held ≡ [] → AssemblerStandsFor a text → Goes (split (text ++ more)) (split more) a.out a.start a.checker a.count
-begun-goes a text more begun clear s = subst (λ t. Goes (split (text ++ more)) (split (t ++ more)) a.out a.start a.checker a.count) clear (subst (λ k. Waits k (split (text ++ more)) (split (a.held ++ more)) a.out a.start a.checker a.count) begun (s.goes more))
+begun-goes : (a : AssemblerState) (text more : List ℕ) → a.begun ≡ true → a.held ≡ [] → AssemblerStandsFor a text → Goes (split (text ++ more)) (split more) (body_of a)
+begun-goes a text more begun clear s = subst (λ t. Goes (split (text ++ more)) (split (t ++ more)) (body_of a)) clear (subst (λ k. Waits k (split (text ++ more)) (split (a.held ++ more)) (body_of a)) begun (s.goes more))
 
 -- lines of a piece are read, and its end is held
 pub takes-lines : (a b : AssemblerState) (piece tail text : List ℕ) → a.begun ≡ true → a.held ≡ [] → b.begun ≡ true → b.held ≡ tail → has_no_end tail ≡ true → b.count + length tail ≤ a.count + length piece
-    → ((all : List (List ℕ)) (more : List ℕ) → a.count + length piece < 2 ^ 63 → Goes all (split (piece ++ more)) a.out a.start a.checker a.count → Goes all (split (tail ++ more)) b.out b.start b.checker b.count)
+    → ((all : List (List ℕ)) (more : List ℕ) → a.count + length piece < 2 ^ 63 → Goes all (split (piece ++ more)) (body_of a) → Goes all (split (tail ++ more)) (body_of b))
     → length (text ++ piece) < 2 ^ 63 → AssemblerStandsFor a text → AssemblerStandsFor b (text ++ piece)
 takes-lines a b piece tail text begun clear now is free few reads fits s = record {
   free = subst (λ t. has_no_end t ≡ true) (sym is) free;
   few = omega (arith, few, ap length is, s.few, length-append text piece);
   goes = λ more.
       let before : split (text ++ (piece ++ more)) ≡ split ((text ++ piece) ++ more) = ap split (sym (append_assoc text piece more)) in
-      let old : Goes (split (text ++ (piece ++ more))) (split (piece ++ more)) a.out a.start a.checker a.count = begun-goes a (text) (piece ++ more) begun clear s in
-      let new : Goes (split (text ++ (piece ++ more))) (split (tail ++ more)) b.out b.start b.checker b.count = reads (split (text ++ (piece ++ more))) more (omega (arith, fits, s.few, length-append text piece)) old in
-      let held : Goes (split (text ++ (piece ++ more))) (split (b.held ++ more)) b.out b.start b.checker b.count = subst (λ t. Goes (split (text ++ (piece ++ more))) (split (t ++ more)) b.out b.start b.checker b.count) (sym is) new in
-      subst (λ t. Waits b.begun t (split (b.held ++ more)) b.out b.start b.checker b.count) before (subst (λ k. Waits k (split (text ++ (piece ++ more))) (split (b.held ++ more)) b.out b.start b.checker b.count) (sym now) held);
+      let old : Goes (split (text ++ (piece ++ more))) (split (piece ++ more)) (body_of a) = begun-goes a (text) (piece ++ more) begun clear s in
+      let new : Goes (split (text ++ (piece ++ more))) (split (tail ++ more)) (body_of b) = reads (split (text ++ (piece ++ more))) more (omega (arith, fits, s.few, length-append text piece)) old in
+      let held : Goes (split (text ++ (piece ++ more))) (split (b.held ++ more)) (body_of b) = subst (λ t. Goes (split (text ++ (piece ++ more))) (split (t ++ more)) (body_of b)) (sym is) new in
+      subst (λ t. Waits b.begun t (split (b.held ++ more)) (body_of b)) before (subst (λ k. Waits k (split (text ++ (piece ++ more))) (split (b.held ++ more)) (body_of b)) (sym now) held);
 }
 
 -- a fault in the lines of a piece
 pub fails-lines : (a : AssemblerState) (piece text more : List ℕ) (f : AsmFault) → a.begun ≡ true → a.held ≡ []
-    → ((all : List (List ℕ)) (more : List ℕ) → a.count + length piece < 2 ^ 63 → Goes all (split (piece ++ more)) a.out a.start a.checker a.count → AreHeadedAsm all (Err f))
+    → ((all : List (List ℕ)) (more : List ℕ) → a.count + length piece < 2 ^ 63 → Goes all (split (piece ++ more)) (body_of a) → AreHeadedAsm all (Err f))
     → length (text ++ piece) < 2 ^ 63 → AssemblerStandsFor a text → IsAsm ((text ++ piece) ++ more) (Err f)
 fails-lines a piece text more f begun clear fault fits s =
     subst (λ t. AreHeadedAsm (split t) (Err f)) (sym (append_assoc text piece more)) (fault (split (text ++ (piece ++ more))) more (omega (arith, fits, s.few, length-append text piece)) (begun-goes a text (piece ++ more) begun clear s))
@@ -171,7 +171,7 @@ if-some P o x e h = subst (λ p. IfSome p P) e h
 
 -- a line is whole
 pub completes : (a b : AssemblerState) (text line whole held : List ℕ) → has_no_end line ≡ true → whole ≡ a.held ++ line → held ≡ [] → b.count ≤ a.count + 1
-    → ((all left : List (List ℕ)) → a.count < 2 ^ 63 → Waits a.begun all (whole ∷ left) a.out a.start a.checker a.count → Goes all left b.out b.start b.checker b.count)
+    → ((all left : List (List ℕ)) → a.count < 2 ^ 63 → Waits a.begun all (whole ∷ left) (body_of a) → Goes all left (body_of b))
     → length (text ++ (line ++ 10 ∷ [])) < 2 ^ 63 → AssemblerStandsFor a text
     → AssemblerStandsFor (record { out = b.out; start = b.start; checker = b.checker; held = held; begun = true; count = b.count }) (text ++ (line ++ 10 ∷ []))
 completes a b text line whole held free is clear count reads fits s = record {
@@ -179,8 +179,8 @@ completes a b text line whole held free is clear count reads fits s = record {
   few = omega (arith, count, s.few, ap length clear, length-append text (line ++ 10 ∷ []), length-append line (10 ∷ []));
   goes = λ more.
       let w = waits-whole a text (line ++ 10 ∷ []) line [] whole more (split-line line [] free) is s in
-      let g : Goes (split ((text ++ (line ++ 10 ∷ [])) ++ more)) (split more) b.out b.start b.checker b.count = reads (split ((text ++ (line ++ 10 ∷ [])) ++ more)) (split more) (omega (arith, s.few, fits, length-append text (line ++ 10 ∷ []))) w in
-      subst (λ t. Goes (split ((text ++ (line ++ 10 ∷ [])) ++ more)) (split (t ++ more)) b.out b.start b.checker b.count) (sym clear) g;
+      let g : Goes (split ((text ++ (line ++ 10 ∷ [])) ++ more)) (split more) (body_of b) = reads (split ((text ++ (line ++ 10 ∷ [])) ++ more)) (split more) (omega (arith, s.few, fits, length-append text (line ++ 10 ∷ []))) w in
+      subst (λ t. Goes (split ((text ++ (line ++ 10 ∷ [])) ++ more)) (split (t ++ more)) (body_of b)) (sym clear) g;
 }
 
 -- a piece in two parts

@@ -4,7 +4,7 @@ use Rattle.std.proofs.lemmas.List.{drop-append-le, length-take-le, take-append-d
 use Rattle.std.proofs.lemmas.List.Sums.{fold-append}
 use Rattle.x7_words.proofs.ListLemmas.{all-append, map-append}
 use Rattle.x7_listing.specs.Assembly.{AreHeadedAsm, Assembles, assembled, Begins, IsBad, IsTooLong, with_line}
-use Rattle.x7_listing.specs.Assembling.{Goes, Opens, Went}
+use Rattle.x7_listing.specs.Assembling.{body_by, Goes, Opens, Went}
 use Rattle.x7_listing.specs.declared.assembler.AsmFault.TheVariants as fault
 use Rattle.x7_crc.specs.Checking.{check_of_bytes}
 use Rattle.x7_crc.specs.Checking.{CheckerState, Keeps}
@@ -119,14 +119,14 @@ close-long all others prefix start first m n s (inr p) b e =
     inr (p.no_head, subst (λ (t : List (List ℕ)). IsTooLong 67108864 t n) (sym p.texts) (subst (IsTooLong 67108864 others) same c))
 
 -- all texts are read
-pub goes-whole : (all : List (List ℕ)) (out : List ℕ) (start : ℕ) (checker : CheckerState) (n : ℕ) → Goes all [] out start checker n → AreHeadedAsm all (Ok out)
+pub goes-whole : (all : List (List ℕ)) (out : List ℕ) (start : ℕ) (checker : CheckerState) (n : ℕ) → Goes all [] (body_by out start checker n) → AreHeadedAsm all (Ok out)
 goes-whole all out start checker n g = close-ok all g.others (take start out) out start g.first (sym (length-take-le start out g.long)) g.opens (went-all (67108864 - start) g.others (drop start out) g.read g.went) refl
 
 -- one text more is read
 module _ (line out mid new : List ℕ) (start at n c : ℕ) (old-checker new-checker : CheckerState) (r : Bool) (same : mid ≡ out) (at-is : start ≤ length mid → at ≡ start) (n-is : n < 2 ^ 63 → c ≡ n + 1)
     (reads : Keeps old-checker (drop at mid) → Reads FitsLine text_of (bytes_of (check_of_bytes (drop at mid))) r line mid new)
     (keeps : Keeps old-checker (drop at mid) → Keeps new-checker (drop at new)) where
-  module _ (all left : List (List ℕ)) (few : n < 2 ^ 63) (g : Goes all (line ∷ left) out start old-checker n) where
+  module _ (all left : List (List ℕ)) (few : n < 2 ^ 63) (g : Goes all (line ∷ left) (body_by out start old-checker n)) where
     long-mid : start ≤ length mid
     long-mid = subst (λ (b : List ℕ). start ≤ length b) (sym same) g.long
 
@@ -155,7 +155,7 @@ module _ (line out mid new : List ℕ) (start at n c : ℕ) (old-checker new-che
         (too-long (67108864 - start) g.others line (drop start out) (drop start new) left g.read g.went (yes e) (omega (arith, h, g.short, length-drop start new)))
         (omega (arith, n-is few, g.count_is))
 
-    pub read-on : r ≡ true → length new ≤ 67108864 → Goes all left new start new-checker c
+    pub read-on : r ≡ true → length new ≤ 67108864 → Goes all left (body_by new start new-checker c)
     read-on e h =
         let f = front-stays start (check_of_bytes (drop start out)) r line out new g.long got in
         record {

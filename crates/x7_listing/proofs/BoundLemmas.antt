@@ -16,7 +16,7 @@ use Rattle.x7_regs.specs.Register.{reg_name}
 use Rattle.x7_text.proofs.LineLemmas.{bytes_closed}
 use Rattle.x7_listing.specs.HeadLine.{command_line, head_line, head_text, line_text}
 use Rattle.x7_listing.specs.Listing.{session_text}
-use Rattle.x7_listing.specs.Telling.{GapListed, ListerStandsFor, ListerState, HasListedAt, open_payload, word_next, open_word, open_words}
+use Rattle.x7_listing.specs.Telling.{GapListed, ListerStandsFor, ListerState, HasListedAt, open_payload, word_next, open_word, open_words, written_of}
 use Rattle.x7_listing.specs.Taking.{TakerStandsFor}
 use Rattle.x7_packets.specs.Mode.{Mode}
 use Rattle.x7_listing.specs.declared.line.HeadLine.{HeadLine}
@@ -119,7 +119,7 @@ due_long : (all start : List ℕ) (line : ℕ) (held gap : List ℕ) → GapList
 due_long all start line held gap t =
     omega (arith, ap length t.split, length-append t.prefix held, t.few, ap length t.listed, length-append start (open_text 32 (codes "bytes ") hex_byte 0 t.prefix), bytes_long 0 t.prefix)
 
-told_long : (synced : Bool) (line : ℕ) (held all start : List ℕ) (place : Place) (m : Mode) → HasListedAt synced line held all start place m → IsPlace place → length start + length (place_bytes place) ≤ length all + 4
+told_long : (synced : Bool) (line : ℕ) (held all start : List ℕ) (place : Place) (m : Mode) → HasListedAt (written_of synced line held all) start place m → IsPlace place → length start + length (place_bytes place) ≤ length all + 4
 told_long false line held all start (Searching gap) m t p =
     omega (arith, ap length t.split, length-append t.prefix held, t.few, ap length t.listed, length-append start (open_text 32 (codes "bytes ") hex_byte 0 t.prefix), bytes_long 0 t.prefix)
 told_long false line held all start (Synced gap packets tail) m t p =
@@ -127,7 +127,7 @@ told_long false line held all start (Synced gap packets tail) m t p =
     omega (arith, due_long all start line held gap t.3, ap length bytes)
 told_long true line held all start place m t p = omega (arith, ap length (told_sure_at line held all start place m t), length-append start (sure_place place), place_long place p)
   where
-    told_sure_at : (line : ℕ) (held all start : List ℕ) (place : Place) (m : Mode) → HasListedAt true line held all start place m → all ≡ start ++ sure_place place
+    told_sure_at : (line : ℕ) (held all start : List ℕ) (place : Place) (m : Mode) → HasListedAt (written_of true line held all) start place m → all ≡ start ++ sure_place place
     told_sure_at line held all start (Searching gap) m t = place_sure true line held all start (Searching gap) Mode.Searching (λ e. let f : Mode.Searching ≡ Mode.Due = e in cc) t
     told_sure_at line held all start (Synced gap packets tail) m t = place_sure true line held all start (Synced gap packets tail) m t.0 t
 

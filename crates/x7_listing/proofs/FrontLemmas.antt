@@ -17,7 +17,7 @@ use Rattle.x7_text.specs.Digits.{hex_byte}
 use Rattle.x7_text.specs.Row.{bytes_text, close, in_line_after, open_text}
 use Rattle.x7_text.proofs.LineLemmas.{bytes_closed, open_text-append}
 use Rattle.x7_listing.specs.Listing.{listing_of, packet_text, packets_text, place_text, session_text}
-use Rattle.x7_listing.specs.Telling.{GapListed, ListerStandsFor, ListerState, HasListedAt, words_place, open_words}
+use Rattle.x7_listing.specs.Telling.{GapListed, ListerStandsFor, ListerState, HasListedAt, words_place, open_words, written_of}
 use Rattle.x7_listing.proofs.SessionLemmas.{session_closed, open_words-append}
 
 -- the text of bytes in `bytes` lines, the last of which stays open unless it is full
@@ -227,7 +227,7 @@ gap_sure all start line held gap g =
     g.listed ∙ ap (λ t. start ++ B 0 t) (sym same)
 
 -- what is listed at a place is the sure text there
-pub place_sure : (synced : Bool) (line : ℕ) (held all start : List ℕ) (place : Place) (m : Mode) → (m ≡ Mode.Due → ⊥) → HasListedAt synced line held all start place m → all ≡ start ++ sure_place place
+pub place_sure : (synced : Bool) (line : ℕ) (held all start : List ℕ) (place : Place) (m : Mode) → (m ≡ Mode.Due → ⊥) → HasListedAt (written_of synced line held all) start place m → all ≡ start ++ sure_place place
 place_sure false line held all start (Searching gap) m d t = gap_sure all start line held gap t
 place_sure false line held all start (Synced gap packets tail) m d t = absurd (d t.0)
 place_sure true line held all start (Searching gap) m d t = t.2 ∙ sym (append-nil start) ∙ ap (λ x. start ++ B 0 (before_last_four x)) (sym t.0)

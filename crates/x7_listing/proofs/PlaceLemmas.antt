@@ -16,7 +16,7 @@ use Rattle.x7_text.specs.Digits.{hex_byte}
 use Rattle.x7_text.specs.Row.{bytes_text, close, in_line_after, open_text}
 use Rattle.x7_text.proofs.LineLemmas.{bytes_closed, in_line_after-append, open_text-append}
 use Rattle.x7_listing.specs.Listing.{packets_text, reading_text, session_text}
-use Rattle.x7_listing.specs.Telling.{GapListed, SessionListed, HasListed, HasListedAt, word_next, words_place, open_words}
+use Rattle.x7_listing.specs.Telling.{GapListed, SessionListed, HasListed, HasListedAt, word_next, words_place, open_words, written_of}
 use Rattle.x7_listing.proofs.GapLemmas.{fresh_gap}
 use Rattle.x7_listing.proofs.SessionLemmas.{session_closed, words_place-append, open_words-append}
 
@@ -25,19 +25,19 @@ abbrev B : ℕ → List ℕ → List ℕ
 B i xs = open_text 32 (codes "bytes ") hex_byte i xs
 
 skipped : (line2 : ℕ) (held2 all2 start gap : List ℕ) (run : Bor (List ℕ)) (sessions new_sessions : List Session) (np : Place) (old new : Mode)
-    → Adds (Skip run) sessions (Searching gap) new_sessions np → Turns (Skip run) old new np → GapListed all2 start line2 held2 (gap ++ run.now) → HasListedAt false line2 held2 all2 start np new
+    → Adds (Skip run) sessions (Searching gap) new_sessions np → Turns (Skip run) old new np → GapListed all2 start line2 held2 (gap ++ run.now) → HasListedAt (written_of false line2 held2 all2) start np new
 skipped line2 held2 all2 start gap run sessions new_sessions np old new a m g = elim a.1 [
-  | inl e ↦ subst (λ p. HasListedAt false line2 held2 all2 start p new) (sym e) g
-  | inr f ↦ subst (λ p. Turns (Skip run) old new p → HasListedAt false line2 held2 all2 start p new) (sym f.2) (λ k. (k, refl, refl, subst (λ t. GapListed all2 start line2 held2 t) f.1 g)) m
+  | inl e ↦ subst (λ p. HasListedAt (written_of false line2 held2 all2) start p new) (sym e) g
+  | inr f ↦ subst (λ p. Turns (Skip run) old new p → HasListedAt (written_of false line2 held2 all2) start p new) (sym f.2) (λ k. (k, refl, refl, subst (λ t. GapListed all2 start line2 held2 t) f.1 g)) m
 ]
 
-same_sessions : (synced : Bool) (line : ℕ) (held all before : List ℕ) (sessions new_sessions : List Session) (np : Place) (new : Mode) → new_sessions ≡ sessions → HasListedAt synced line held all (before ++ flat_map session_text sessions) np new → HasListed synced line held all before new_sessions np new
-same_sessions synced line held all before sessions new_sessions np new e a = subst (λ s. HasListedAt synced line held all (before ++ flat_map session_text s) np new) (sym e) a
+same_sessions : (synced : Bool) (line : ℕ) (held all before : List ℕ) (sessions new_sessions : List Session) (np : Place) (new : Mode) → new_sessions ≡ sessions → HasListedAt (written_of synced line held all) (before ++ flat_map session_text sessions) np new → HasListed (written_of synced line held all) before new_sessions np new
+same_sessions synced line held all before sessions new_sessions np new e a = subst (λ s. HasListedAt (written_of synced line held all) (before ++ flat_map session_text s) np new) (sym e) a
 
 pub skip_told : (synced : Bool) (line line2 : ℕ) (held held2 all all2 before : List ℕ) (sessions new_sessions : List Session) (at np : Place) (old new : Mode) (run : Bor (List ℕ))
-    → HasListed synced line held all before sessions at old → Adds (Skip run) sessions at new_sessions np → Turns (Skip run) old new np
+    → HasListed (written_of synced line held all) before sessions at old → Adds (Skip run) sessions at new_sessions np → Turns (Skip run) old new np
     → ((start gap : List ℕ) → GapListed all start (if synced then 0 else line) (if synced then [] else held) gap → GapListed all2 start line2 held2 (gap ++ run.now))
-    → HasListed false line2 held2 all2 before new_sessions np new
+    → HasListed (written_of false line2 held2 all2) before new_sessions np new
 skip_told synced line line2 held held2 all all2 before sessions new_sessions (Synced gap packets tail) np old new run t a m g = absurd a
 skip_told false line line2 held held2 all all2 before sessions new_sessions (Searching gap) np old new run t a m g =
     let start : List ℕ = before ++ flat_map session_text sessions in
@@ -61,7 +61,7 @@ found_gap all start line held gap g =
     gap_closed all start line g.prefix g.listed g.count ∙ ap (λ t. start ++ bytes_text t) (sym same)
 
 pub sync_told : (synced : Bool) (line : ℕ) (held held2 all all2 before : List ℕ) (sessions new_sessions : List Session) (at np : Place) (old new : Mode)
-    → HasListed synced line held all before sessions at old → Adds Sync sessions at new_sessions np → Turns Sync old new np → all2 ≡ all ++ close line ++ codes "sync\n" → HasListed true 0 held2 all2 before new_sessions np new
+    → HasListed (written_of synced line held all) before sessions at old → Adds Sync sessions at new_sessions np → Turns Sync old new np → all2 ≡ all ++ close line ++ codes "sync\n" → HasListed (written_of true 0 held2 all2) before new_sessions np new
 sync_told synced line held held2 all all2 before sessions new_sessions (Searching gap) np old new t a m e = absurd a
 sync_told true line held held2 all all2 before sessions new_sessions (Synced gap packets tail) np old new t a m e = absurd (t.0 m.0)
 sync_told false line held held2 all all2 before sessions new_sessions (Synced gap packets tail) np old new t a m e =
@@ -70,7 +70,7 @@ sync_told false line held held2 all all2 before sessions new_sessions (Synced ga
       listed = e ∙ ap (λ t. t ++ codes "sync\n") (found_gap all start line held gap t.3) ∙ sym (append-nil (start ++ bytes_text gap ++ codes "sync\n"));
       count = refl;
     } in
-    same_sessions true 0 held2 all2 before sessions new_sessions np new a.2 (subst (λ p. HasListedAt true 0 held2 all2 start p new) (sym a.3) (m.1, session))
+    same_sessions true 0 held2 all2 before sessions new_sessions np new a.2 (subst (λ p. HasListedAt (written_of true 0 held2 all2) start p new) (sym a.3) (m.1, session))
 
 -- words more of a session, at once
 session_words : (all all2 start : List ℕ) (line line2 : ℕ) (gap : List ℕ) (packets all_packets : List Packet) (more : List (ℕ × Step)) → SessionListed all start line gap packets
@@ -114,7 +114,7 @@ words_by : (line line2 : ℕ) (held2 all all2 before bytes : List ℕ) (sessions
     → SessionListed all2 (before ++ flat_map session_text sessions) line2 gap all_packets → (new ≡ Mode.Due → ⊥)
     → (b ≡ true → (new_sessions ≡ sessions ++ record { gap = gap; packets = all_packets } ∷ []) × (np ≡ Searching []))
     → (b ≡ false → (new_sessions ≡ sessions) × (np ≡ Synced gap all_packets []))
-    → IsReading bytes new_sessions np → HasListed true line2 held2 all2 before new_sessions np new
+    → IsReading bytes new_sessions np → HasListed (written_of true line2 held2 all2) before new_sessions np new
 words_by line line2 held2 all all2 before bytes sessions new_sessions gap packets all_packets np new more true is n s due over goes r =
     let session : Session = record { gap = gap; packets = all_packets } in
     let e = over refl in
@@ -124,15 +124,15 @@ words_by line line2 held2 all all2 before bytes sessions new_sessions gap packet
     let listed : all2 ≡ before ++ flat_map session_text sessions ++ packets_text gap all_packets = sym (append-nil all2) ∙ ap (λ k. all2 ++ close k) (sym zero) ∙ session_ended all2 (before ++ flat_map session_text sessions) line2 gap all_packets s last.packets in
     let joined : before ++ flat_map session_text sessions ++ packets_text gap all_packets ≡ before ++ flat_map session_text (sessions ++ session ∷ []) =
     append_assoc before (flat_map session_text sessions) (packets_text gap all_packets) ∙ ap (λ t. before ++ (flat_map session_text sessions ++ t)) (sym (append-nil (packets_text gap all_packets))) ∙ ap (λ t. before ++ t) (sym (flat_map-append session_text sessions (session ∷ []))) in
-    subst (λ p. HasListed true line2 held2 all2 before new_sessions p new) (sym e.1) (refl, zero, listed ∙ joined ∙ ap (λ x. before ++ flat_map session_text x) (sym e.0))
+    subst (λ p. HasListed (written_of true line2 held2 all2) before new_sessions p new) (sym e.1) (refl, zero, listed ∙ joined ∙ ap (λ x. before ++ flat_map session_text x) (sym e.0))
 words_by line line2 held2 all all2 before bytes sessions new_sessions gap packets all_packets np new more false is n s due over goes r =
     let e = goes refl in
-    same_sessions true line2 held2 all2 before sessions new_sessions np new e.0 (subst (λ p. HasListedAt true line2 held2 all2 (before ++ flat_map session_text sessions) p new) (sym e.1) (due, s))
+    same_sessions true line2 held2 all2 before sessions new_sessions np new e.0 (subst (λ p. HasListedAt (written_of true line2 held2 all2) (before ++ flat_map session_text sessions) p new) (sym e.1) (due, s))
 
 -- words more of a session are listed: a header's word, or payload words
 pub words_told_at : (synced : Bool) (line line2 : ℕ) (held held2 all all2 before bytes : List ℕ) (sessions new_sessions : List Session) (gap tail : List ℕ) (packets : List Packet) (np : Place) (old new : Mode) (more : List (ℕ × Step))
-    → HasListed synced line held all before sessions (Synced gap packets tail) old → (old ≡ Mode.Due → ⊥) → (new ≡ Mode.Due → ⊥) → Longer gap packets more sessions new_sessions np → IsReading bytes new_sessions np
-    → (synced ≡ true → (all2 ≡ all ++ open_words line more) × (line2 ≡ words_place line more)) → HasListed true line2 held2 all2 before new_sessions np new
+    → HasListed (written_of synced line held all) before sessions (Synced gap packets tail) old → (old ≡ Mode.Due → ⊥) → (new ≡ Mode.Due → ⊥) → Longer gap packets more sessions new_sessions np → IsReading bytes new_sessions np
+    → (synced ≡ true → (all2 ≡ all ++ open_words line more) × (line2 ≡ words_place line more)) → HasListed (written_of true line2 held2 all2) before new_sessions np new
 words_told_at false line line2 held held2 all all2 before bytes sessions new_sessions gap tail packets np old new more t o n l r h = absurd (o t.0)
 words_told_at true line line2 held held2 all all2 before bytes sessions new_sessions gap tail packets np old new more t o n l r h =
     let e = h refl in
@@ -141,7 +141,7 @@ words_told_at true line line2 held held2 all all2 before bytes sessions new_sess
     (session_words all all2 (before ++ flat_map session_text sessions) line line2 gap packets l.all more t.1 l.grown e.0 e.1) n l.ends l.goes_on r
 
 -- the end of a listing in a gap
-pub gap_ended : (all all2 before : List ℕ) (line : ℕ) (held bytes : List ℕ) (sessions : List Session) (at : Place) (m : Mode) → HasListed false line held all before sessions at m → (m ≡ Mode.Due → ⊥)
+pub gap_ended : (all all2 before : List ℕ) (line : ℕ) (held bytes : List ℕ) (sessions : List Session) (at : Place) (m : Mode) → HasListed (written_of false line held all) before sessions at m → (m ≡ Mode.Due → ⊥)
     → all2 ≡ all ++ B line held ++ close (in_line_after 32 line held) → all2 ≡ before ++ reading_text sessions at
 gap_ended all all2 before line held bytes sessions (Synced gap packets tail) m t d e = absurd (d t.0)
 gap_ended all all2 before line held bytes sessions (Searching gap) m t d e =
@@ -151,7 +151,7 @@ gap_ended all all2 before line held bytes sessions (Searching gap) m t d e =
     e ∙ gap_closed (all ++ B line held) start (in_line_after 32 line held) gap listed count ∙ append_assoc before (flat_map session_text sessions) (bytes_text gap)
 
 -- the end of a listing in a session
-pub session_over : (all all2 before : List ℕ) (line : ℕ) (held kept bytes : List ℕ) (sessions : List Session) (at : Place) (m : Mode) → HasListed true line held all before sessions at m → IsReading bytes sessions at → kept ≡ tail_of at
+pub session_over : (all all2 before : List ℕ) (line : ℕ) (held kept bytes : List ℕ) (sessions : List Session) (at : Place) (m : Mode) → HasListed (written_of true line held all) before sessions at m → IsReading bytes sessions at → kept ≡ tail_of at
     → all2 ≡ all ++ close line ++ B 0 kept ++ close (in_line_after 32 0 kept) → all2 ≡ before ++ reading_text sessions at
 session_over all all2 before line held kept bytes sessions (Searching gap) m t r k e =
     rw (e, k, t.1, t.2, t.0) (simp (append_assoc, append-nil))

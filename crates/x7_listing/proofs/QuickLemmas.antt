@@ -13,7 +13,7 @@ use Rattle.x7_text.specs.Row.{line, spaced}
 use Rattle.x7_words.specs.Word.{AreBytes, bytes_of_word, words_of_bytes}
 use Rattle.x7_words.proofs.WordLemmas.{bytes-words, length-words, words-fit}
 use Rattle.x7_listing.specs.Assembly.{assembled, with_line}
-use Rattle.x7_listing.specs.Assembling.{Goes, Opens, TakesFirst, TakesLines}
+use Rattle.x7_listing.specs.Assembling.{body_by, Goes, Opens, TakesFirst, TakesLines}
 use Rattle.x7_listing.specs.Line.{Line, Data, bytes_of, FitsLine, IsListed, text_of}
 use Rattle.x7_listing.specs.Listed.{ended_text, texts_of}
 use Rattle.x7_listing.proofs.RoundLemmas.{line-free, same-bytes, split-line}
@@ -71,7 +71,7 @@ takes-more text old out new a n j k h s t =
 
 -- lines more are read
 pub goes-quick : (all : List (List ℕ)) (text rest out new more : List ℕ) (start k n c : ℕ) (checker : CheckerState) → TakesLines text rest out new k → (length out ≤ 67108864 → length new ≤ 67108864) → c ≡ n + k
-    → Goes all (split (text ++ more)) out start checker n → Goes all (split (rest ++ more)) new start checker c
+    → Goes all (split (text ++ more)) (body_by out start checker n) → Goes all (split (rest ++ more)) (body_by new start checker c)
 goes-quick all text rest out new more start k n c checker t limit e g =
     let added : List ℕ = flat_map (bytes_of 0) t.lines in
     let body : drop start new ≡ drop start out ++ added = ap (drop start) t.appended ∙ drop-append-le start out added g.long in

@@ -11,21 +11,21 @@ use Rattle.x7_packets.specs.declared.cutter.Cut.{Cut}
 use Rattle.x7_packets.specs.declared.cutter.Cut.TheVariants.{Need, Skip, Sync, Head, Word, Body}
 use Rattle.x7_text.specs.Row.{close}
 use Rattle.x7_listing.specs.HeadLine.{head_text}
-use Rattle.x7_listing.specs.Telling.{GapListed, HasListed, words_place, open_words, Writes}
+use Rattle.x7_listing.specs.Telling.{GapListed, HasListed, words_place, open_words, Writes, Written, written_of}
 use Rattle.x7_listing.proofs.PlaceLemmas.{skip_told, sync_told, words_told_at}
 use Rattle.x7_listing.proofs.SessionLemmas.{head_next, head_told}
 
 -- a statement for a run is one for what the run is
-as_run : (run run2 : Cut) (synced s2 : Bool) (line l2 : ℕ) (held h2 all all2 : List ℕ) → run ≡ run2 → Writes run2 synced line held all s2 l2 h2 all2 → Writes run synced line held all s2 l2 h2 all2
-as_run run run2 synced s2 line l2 held h2 all all2 e w = subst (λ r. Writes r synced line held all s2 l2 h2 all2) (sym e) w
+as_run : (run run2 : Cut) (synced s2 : Bool) (line l2 : ℕ) (held h2 all all2 : List ℕ) → run ≡ run2 → Writes run2 (written_of synced line held all) (written_of s2 l2 h2 all2) → Writes run (written_of synced line held all) (written_of s2 l2 h2 all2)
+as_run run run2 synced s2 line l2 held h2 all all2 e w = subst (λ r. Writes r (written_of synced line held all) (written_of s2 l2 h2 all2)) (sym e) w
 
-synced_pen : (run : Cut) (synced s2 : Bool) (line l2 l3 : ℕ) (held h2 all all2 : List ℕ) → s2 ≡ true → l2 ≡ l3 → Writes run synced line held all true l3 h2 all2 → Writes run synced line held all s2 l2 h2 all2
-synced_pen run synced s2 line l2 l3 held h2 all all2 e f w = subst (λ s. Writes run synced line held all s l2 h2 all2) (sym e) (subst (λ l. Writes run synced line held all true l h2 all2) (sym f) w)
+synced_pen : (run : Cut) (synced s2 : Bool) (line l2 l3 : ℕ) (held h2 all all2 : List ℕ) → s2 ≡ true → l2 ≡ l3 → Writes run (written_of synced line held all) (written_of true l3 h2 all2) → Writes run (written_of synced line held all) (written_of s2 l2 h2 all2)
+synced_pen run synced s2 line l2 l3 held h2 all all2 e f w = subst (λ s. Writes run (written_of synced line held all) (written_of s l2 h2 all2)) (sym e) (subst (λ l. Writes run (written_of synced line held all) (written_of true l h2 all2)) (sym f) w)
 
 longer : (given old new more : List ℕ) → new ≡ old ++ more → given ++ new ≡ given ++ old ++ more
 longer given old new more e = ap (λ x. given ++ x) e ∙ sym (append_assoc given old more)
 
-pub by_sync : (run : Cut) (synced s2 : Bool) (line l2 : ℕ) (held h2 given old new : List ℕ) → run ≡ Sync → s2 ≡ true → l2 ≡ 0 → new ≡ old ++ (close line ++ codes "sync\n") → Writes run synced line held (given ++ old) s2 l2 h2 (given ++ new)
+pub by_sync : (run : Cut) (synced s2 : Bool) (line l2 : ℕ) (held h2 given old new : List ℕ) → run ≡ Sync → s2 ≡ true → l2 ≡ 0 → new ≡ old ++ (close line ++ codes "sync\n") → Writes run (written_of synced line held (given ++ old)) (written_of s2 l2 h2 (given ++ new))
 by_sync run synced s2 line l2 held h2 given old new is e f t =
     let all2 : given ++ new ≡ given ++ old ++ close line ++ codes "sync\n" = ap (λ x. given ++ x) (t ∙ sym (append_assoc old (close line) (codes "sync\n"))) ∙ sym (append_assoc given (old ++ close line) (codes "sync\n")) ∙ ap (λ x. x ++ codes "sync\n") (sym (append_assoc given old (close line))) in
     as_run run Sync synced s2 line l2 held h2 (given ++ old) (given ++ new) is (synced_pen Sync synced s2 line l2 0 held h2 (given ++ old) (given ++ new) e f
@@ -40,28 +40,28 @@ not_payload w (Read a b) h r x e = absurd (cc)
 not_payload w (Bad a) h r x e = absurd (cc)
 
 head_adds : (synced : Bool) (line l2 : ℕ) (held h2 all all2 before bytes : List ℕ) (sessions new_sessions : List Session) (spot np : Place) (o n : Mode) (w : ℕ) (step : Step)
-    → HasListed synced line held all before sessions spot o → Adds (Head w step) sessions spot new_sessions np → (o ≡ Mode.Due → ⊥) → (n ≡ Mode.Due → ⊥) → IsReading bytes new_sessions np
-    → (synced ≡ true → (all2 ≡ all ++ open_words line ((w, step) ∷ [])) × (l2 ≡ words_place line ((w, step) ∷ []))) → HasListed true l2 h2 all2 before new_sessions np n
+    → HasListed (written_of synced line held all) before sessions spot o → Adds (Head w step) sessions spot new_sessions np → (o ≡ Mode.Due → ⊥) → (n ≡ Mode.Due → ⊥) → IsReading bytes new_sessions np
+    → (synced ≡ true → (all2 ≡ all ++ open_words line ((w, step) ∷ [])) × (l2 ≡ words_place line ((w, step) ∷ []))) → HasListed (written_of true l2 h2 all2) before new_sessions np n
 head_adds synced line l2 held h2 all all2 before bytes sessions new_sessions (Searching gap) np o n w step t a p q r h = absurd a
 head_adds synced line l2 held h2 all all2 before bytes sessions new_sessions (Synced gap packets tail) np o n w step t a p q r h =
     words_told_at synced line l2 held h2 all all2 before bytes sessions new_sessions gap tail packets np o n ((w, step) ∷ []) t p q a r h
 
 word_adds : (synced : Bool) (line l2 : ℕ) (held h2 all all2 before bytes : List ℕ) (sessions new_sessions : List Session) (spot np : Place) (o n : Mode) (register w : ℕ)
-    → HasListed synced line held all before sessions spot o → Adds (Word register w) sessions spot new_sessions np → (o ≡ Mode.Due → ⊥) → (n ≡ Mode.Due → ⊥) → IsReading bytes new_sessions np
-    → (synced ≡ true → (all2 ≡ all ++ open_words line (payload_steps register (w ∷ []))) × (l2 ≡ words_place line (payload_steps register (w ∷ [])))) → HasListed true l2 h2 all2 before new_sessions np n
+    → HasListed (written_of synced line held all) before sessions spot o → Adds (Word register w) sessions spot new_sessions np → (o ≡ Mode.Due → ⊥) → (n ≡ Mode.Due → ⊥) → IsReading bytes new_sessions np
+    → (synced ≡ true → (all2 ≡ all ++ open_words line (payload_steps register (w ∷ []))) × (l2 ≡ words_place line (payload_steps register (w ∷ [])))) → HasListed (written_of true l2 h2 all2) before new_sessions np n
 word_adds synced line l2 held h2 all all2 before bytes sessions new_sessions (Searching gap) np o n register w t a p q r h = absurd a
 word_adds synced line l2 held h2 all all2 before bytes sessions new_sessions (Synced gap packets tail) np o n register w t a p q r h =
     words_told_at synced line l2 held h2 all all2 before bytes sessions new_sessions gap tail packets np o n (payload_steps register (w ∷ [])) t p q a r h
 
 body_adds : (synced : Bool) (line l2 : ℕ) (held h2 all all2 before bytes : List ℕ) (sessions new_sessions : List Session) (spot np : Place) (o n : Mode) (register : ℕ) (body : Bor (List ℕ))
-    → HasListed synced line held all before sessions spot o → Adds (Body register body) sessions spot new_sessions np → (o ≡ Mode.Due → ⊥) → (n ≡ Mode.Due → ⊥) → IsReading bytes new_sessions np
-    → (synced ≡ true → (all2 ≡ all ++ open_words line (payload_steps register (words_of_bytes body.now))) × (l2 ≡ words_place line (payload_steps register (words_of_bytes body.now)))) → HasListed true l2 h2 all2 before new_sessions np n
+    → HasListed (written_of synced line held all) before sessions spot o → Adds (Body register body) sessions spot new_sessions np → (o ≡ Mode.Due → ⊥) → (n ≡ Mode.Due → ⊥) → IsReading bytes new_sessions np
+    → (synced ≡ true → (all2 ≡ all ++ open_words line (payload_steps register (words_of_bytes body.now))) × (l2 ≡ words_place line (payload_steps register (words_of_bytes body.now)))) → HasListed (written_of true l2 h2 all2) before new_sessions np n
 body_adds synced line l2 held h2 all all2 before bytes sessions new_sessions (Searching gap) np o n register body t a p q r h = absurd a
 body_adds synced line l2 held h2 all all2 before bytes sessions new_sessions (Synced gap packets tail) np o n register body t a p q r h =
     words_told_at synced line l2 held h2 all all2 before bytes sessions new_sessions gap tail packets np o n (payload_steps register (words_of_bytes body.now)) t p q a r h
 
 pub by_head : (run : Cut) (synced s2 : Bool) (line l2 from : ℕ) (held h2 given old new : List ℕ) (w : ℕ) (step : Step) → run ≡ Head w step → (synced ≡ true → from ≡ line) → s2 ≡ true → l2 ≡ 0
-    → new ≡ old ++ (close from ++ head_text step w) → Writes run synced line held (given ++ old) s2 l2 h2 (given ++ new)
+    → new ≡ old ++ (close from ++ head_text step w) → Writes run (written_of synced line held (given ++ old)) (written_of s2 l2 h2 (given ++ new))
 by_head run synced s2 line l2 from held h2 given old new w step is same e f t =
     as_run run (Head w step) synced s2 line l2 held h2 (given ++ old) (given ++ new) is (synced_pen (Head w step) synced s2 line l2 0 held h2 (given ++ old) (given ++ new) e f
     (λ before bytes sessions new_sessions spot np o n listed adds turns is_run reading. head_adds synced line 0 held h2 (given ++ old) (given ++ new) before bytes sessions new_sessions spot np o n w step listed adds turns.0 turns.1 reading
@@ -71,7 +71,7 @@ by_head run synced s2 line l2 from held h2 given old new w step is same e f t =
     ))))
 
 pub by_word : (run : Cut) (synced s2 : Bool) (line l2 from : ℕ) (held h2 given old new : List ℕ) (register w : ℕ) → run ≡ Word register w → (synced ≡ true → from ≡ line) → s2 ≡ true → l2 ≡ words_place from (payload_steps register (w ∷ []))
-    → new ≡ old ++ open_words from (payload_steps register (w ∷ [])) → Writes run synced line held (given ++ old) s2 l2 h2 (given ++ new)
+    → new ≡ old ++ open_words from (payload_steps register (w ∷ [])) → Writes run (written_of synced line held (given ++ old)) (written_of s2 l2 h2 (given ++ new))
 by_word run synced s2 line l2 from held h2 given old new register w is same e f t =
     let more : List (ℕ × Step) = payload_steps register (w ∷ []) in
     as_run run (Word register w) synced s2 line l2 held h2 (given ++ old) (given ++ new) is (synced_pen (Word register w) synced s2 line l2 (words_place from more) held h2 (given ++ old) (given ++ new) e f
@@ -79,7 +79,7 @@ by_word run synced s2 line l2 from held h2 given old new register w is same e f 
     (λ s. (longer given old new (open_words from more) t ∙ ap (λ k. given ++ old ++ open_words k more) (same s), ap (λ k. words_place k more) (same s)))))
 
 pub by_body : (run : Cut) (synced s2 : Bool) (line l2 from : ℕ) (held h2 given old new : List ℕ) (register : ℕ) (body : Bor (List ℕ)) → run ≡ Body register body → (synced ≡ true → from ≡ line) → s2 ≡ true → l2 ≡ words_place from (payload_steps register (words_of_bytes body.now))
-    → new ≡ old ++ open_words from (payload_steps register (words_of_bytes body.now)) → Writes run synced line held (given ++ old) s2 l2 h2 (given ++ new)
+    → new ≡ old ++ open_words from (payload_steps register (words_of_bytes body.now)) → Writes run (written_of synced line held (given ++ old)) (written_of s2 l2 h2 (given ++ new))
 by_body run synced s2 line l2 from held h2 given old new register body is same e f t =
     let more : List (ℕ × Step) = payload_steps register (words_of_bytes body.now) in
     as_run run (Body register body) synced s2 line l2 held h2 (given ++ old) (given ++ new) is (synced_pen (Body register body) synced s2 line l2 (words_place from more) held h2 (given ++ old) (given ++ new) e f
@@ -87,14 +87,18 @@ by_body run synced s2 line l2 from held h2 given old new register body is same e
     (λ s. (longer given old new (open_words from more) t ∙ ap (λ k. given ++ old ++ open_words k more) (same s), ap (λ k. words_place k more) (same s)))))
 
 pub by_skip : (run : Cut) (part : Bor (List ℕ)) (synced s2 : Bool) (line l1 l2 : ℕ) (held h1 h2 given old new : List ℕ) → run ≡ Skip part → s2 ≡ false → l1 ≡ (if synced then 0 else line) → h1 ≡ (if synced then [] else held)
-    → ((given start gap : List ℕ) → GapListed (given ++ old) start l1 h1 gap → GapListed (given ++ new) start l2 h2 (gap ++ part.now)) → Writes run synced line held (given ++ old) s2 l2 h2 (given ++ new)
+    → ((given start gap : List ℕ) → GapListed (given ++ old) start l1 h1 gap → GapListed (given ++ new) start l2 h2 (gap ++ part.now)) → Writes run (written_of synced line held (given ++ old)) (written_of s2 l2 h2 (given ++ new))
 by_skip run part synced s2 line l1 l2 held h1 h2 given old new is e f k g =
-    as_run run (Skip part) synced s2 line l2 held h2 (given ++ old) (given ++ new) is (subst (λ s. Writes (Skip part) synced line held (given ++ old) s l2 h2 (given ++ new)) (sym e)
+    as_run run (Skip part) synced s2 line l2 held h2 (given ++ old) (given ++ new) is (subst (λ s. Writes (Skip part) (written_of synced line held (given ++ old)) (written_of s l2 h2 (given ++ new))) (sym e)
     (λ before bytes sessions new_sessions spot np o n listed adds turns is_run reading. skip_told synced line l2 held h2 (given ++ old) (given ++ new) before sessions new_sessions spot np o n part listed adds turns
     (λ start gap t. g given start gap (subst (λ l. GapListed (given ++ old) start l h1 gap) (sym f) (subst (λ h. GapListed (given ++ old) start (if synced then 0 else line) h gap) (sym k) t)))))
 
-pub need_adds : (synced : Bool) (line : ℕ) (held all before : List ℕ) (sessions new_sessions : List Session) (spot np : Place) (o n : Mode) → HasListed synced line held all before sessions spot o → Adds Need sessions spot new_sessions np → Turns Need o n np → HasListed synced line held all before new_sessions np n
-need_adds false line held all before sessions new_sessions (Searching gap) np o n t a m = rw (a.0, a.1) t
-need_adds true line held all before sessions new_sessions (Searching gap) np o n t a m = rw (a.0, a.1) t
+-- the same at an equal place, behind equal sessions
+listed_at : (w : Written) (before : List ℕ) (sessions new_sessions : List Session) (spot np : Place) (m : Mode) → new_sessions ≡ sessions → np ≡ spot → HasListed w before sessions spot m → HasListed w before new_sessions np m
+listed_at w before sessions new_sessions spot np m e f t = subst (λ (p : Place). HasListed w before new_sessions p m) (sym f) (subst (λ (s : List Session). HasListed w before s spot m) (sym e) t)
+
+pub need_adds : (synced : Bool) (line : ℕ) (held all before : List ℕ) (sessions new_sessions : List Session) (spot np : Place) (o n : Mode) → HasListed (written_of synced line held all) before sessions spot o → Adds Need sessions spot new_sessions np → Turns Need o n np → HasListed (written_of synced line held all) before new_sessions np n
+need_adds false line held all before sessions new_sessions (Searching gap) np o n t a m = listed_at (written_of false line held all) before sessions new_sessions (Searching gap) np n a.0 a.1 t
+need_adds true line held all before sessions new_sessions (Searching gap) np o n t a m = listed_at (written_of true line held all) before sessions new_sessions (Searching gap) np n a.0 a.1 t
 need_adds false line held all before sessions new_sessions (Synced gap packets tail) np o n t a m = absurd (m.0 t.0)
-need_adds true line held all before sessions new_sessions (Synced gap packets tail) np o n t a m = rw (a.0, a.2) (m.1, t.1)
+need_adds true line held all before sessions new_sessions (Synced gap packets tail) np o n t a m = listed_at (written_of true line held all) before sessions new_sessions (Synced gap packets (tail ++ a.1)) np n a.0 a.2 (m.1, t.1)

@@ -12,7 +12,7 @@ use Rattle.x7_packets.specs.declared.stream.Run.TheVariants as run
 use Rattle.x7_packets.proofs.RunningLemmas.{bare_after}
 use Rattle.x7_packets.proofs.UniqueLemmas.{one_reading}
 use Rattle.x7_listing.specs.Listing.{reading_text, session_text}
-use Rattle.x7_listing.specs.Telling.{ListerState, SessionListed, HasListed, HasListedAt, Writes}
+use Rattle.x7_listing.specs.Telling.{ListerState, SessionListed, HasListed, HasListedAt, Writes, written_of}
 use Rattle.x7_listing.specs.Taking.{EndsRuns, TakerStandsFor, TakesRun}
 use Rattle.x7_listing.proofs.GapLemmas.{fresh_gap}
 use Rattle.x7_listing.proofs.TakeLemmas.{begins, not_due}
@@ -59,15 +59,15 @@ takes_as run.End l given before bytes due e t = absurd (let g : true ≡ false =
 
 -- what was listed of bytes, by any reading of them
 told_by : (l : ListerState) (given before bytes : List ℕ) (due : Mode) (t : TakerStandsFor l given before bytes due) (sessions : List Session) (place : Place) → IsReading bytes sessions place
-    → HasListed l.synced l.line l.held (given ++ l.text) before sessions place due × (t.at ≡ place)
+    → HasListed (written_of l.synced l.line l.held (given ++ l.text)) before sessions place due × (t.at ≡ place)
 told_by l given before bytes due t sessions place r =
     let e : (t.sessions ≡ sessions) × (t.at ≡ place) = one_reading bytes t.sessions sessions t.at place t.reading r in (
-      subst (λ p. HasListed l.synced l.line l.held (given ++ l.text) before sessions p due) e.1 (subst (λ (s : List Session). HasListed l.synced l.line l.held (given ++ l.text) before s t.at due) e.0 t.listed),
+      subst (λ p. HasListed (written_of l.synced l.line l.held (given ++ l.text)) before sessions p due) e.1 (subst (λ (s : List Session). HasListed (written_of l.synced l.line l.held (given ++ l.text)) before s t.at due) e.0 t.listed),
       e.1,
     )
 
 pub takes_run : (l n : ListerState) (r : Run) (given before bytes : List ℕ) (due next : Mode) → is_last r ≡ false → n.cutter ≡ l.cutter
-    → Writes (cut_of r) l.synced l.line l.held (given ++ l.text) n.synced n.line n.held (given ++ n.text) → ((IsNeed (cut_of r) → ⊥) → n.synced ≡ true → n.held ≡ [])
+    → Writes (cut_of r) (written_of l.synced l.line l.held (given ++ l.text)) (written_of n.synced n.line n.held (given ++ n.text)) → ((IsNeed (cut_of r) → ⊥) → n.synced ≡ true → n.held ≡ [])
     → TakerStandsFor l given before bytes due → IsNext bytes due r next → TakesRun r n given before (bytes ++ bytes_of_run r) next
 takes_run l n r given before bytes due next on same writes none t x =
     let listed = (told_by l given before bytes due t x.sessions x.place x.before).0 in
@@ -83,11 +83,11 @@ takes_run l n r given before bytes due next on same writes none t x =
 
 -- the same, of the run as a cutter's
 pub takes_cut : (l n : ListerState) (r : Run) (k : Cut) (given before bytes : List ℕ) (due next : Mode) → ((tail : Bor (List ℕ)) → r ≡ run.Tail tail → ⊥) → (r ≡ run.End → ⊥) → n.cutter ≡ l.cutter → k ≡ cut_of r
-    → Writes k l.synced l.line l.held (given ++ l.text) n.synced n.line n.held (given ++ n.text) → ((IsNeed k → ⊥) → n.synced ≡ true → n.held ≡ [])
+    → Writes k (written_of l.synced l.line l.held (given ++ l.text)) (written_of n.synced n.line n.held (given ++ n.text)) → ((IsNeed k → ⊥) → n.synced ≡ true → n.held ≡ [])
     → TakerStandsFor l given before bytes due → IsNext bytes due r next → TakesRun r n given before (bytes ++ bytes_of_run r) next
 takes_cut l n r k given before bytes due next no_tail no_end same e writes none t x =
     takes_run l n r given before bytes due next (goes_if r no_tail no_end) same
-    (subst (λ c. Writes c l.synced l.line l.held (given ++ l.text) n.synced n.line n.held (given ++ n.text)) e writes)
+    (subst (λ c. Writes c (written_of l.synced l.line l.held (given ++ l.text)) (written_of n.synced n.line n.held (given ++ n.text))) e writes)
     (subst (λ c. (IsNeed c → ⊥) → n.synced ≡ true → n.held ≡ []) e none) t x
   where
     goes_if : (r : Run) → ((tail : Bor (List ℕ)) → r ≡ run.Tail tail → ⊥) → (r ≡ run.End → ⊥) → is_last r ≡ false
@@ -102,12 +102,12 @@ takes_cut l n r k given before bytes due next no_tail no_end same e writes none 
 -- ---- the tail
 
 told_tail : (synced : Bool) (line : ℕ) (held all before : List ℕ) (bytes : Bor (List ℕ)) (sessions new_sessions : List Session) (place new : Place) (old next : Mode)
-    → HasListed synced line held all before sessions place old → RunAdds (run.Tail bytes) sessions place new_sessions new → (old ≡ Mode.Due → ⊥) → (next ≡ Mode.Due → ⊥)
-    → HasListed synced line bytes.now all before new_sessions new next × (tail_of new ≡ bytes.now)
+    → HasListed (written_of synced line held all) before sessions place old → RunAdds (run.Tail bytes) sessions place new_sessions new → (old ≡ Mode.Due → ⊥) → (next ≡ Mode.Due → ⊥)
+    → HasListed (written_of synced line bytes.now all) before new_sessions new next × (tail_of new ≡ bytes.now)
 told_tail synced line held all before bytes sessions ns (Searching gap) new old next t a d e = absurd a
 told_tail false line held all before bytes sessions ns (Synced gap packets tail) new old next t a d e = absurd (d t.0)
 told_tail true line held all before bytes sessions ns (Synced gap packets tail) new old next t a d e = (
-  subst (λ p. HasListedAt true line bytes.now all (before ++ flat_map session_text ns) p next) (sym a.2) (e, subst (λ (s : List Session). SessionListed all (before ++ flat_map session_text s) line gap packets) (sym a.0) t.1),
+  subst (λ p. HasListedAt (written_of true line bytes.now all) (before ++ flat_map session_text ns) p next) (sym a.2) (e, subst (λ (s : List Session). SessionListed all (before ++ flat_map session_text s) line gap packets) (sym a.0) t.1),
   ap tail_of a.2,
 )
 
@@ -139,7 +139,7 @@ starts l given before c s i h e = record {
 }
 
 pub takes_end : (l n : ListerState) (given before bytes : List ℕ) (due next : Mode) → n.cutter ≡ l.cutter → n.synced ≡ false → n.line ≡ 0 → n.held ≡ []
-    → ((given before bytes : List ℕ) (sessions : List Session) (place : Place) (m : Mode) → HasListed l.synced l.line l.held (given ++ l.text) before sessions place m → (m ≡ Mode.Due → ⊥) → IsReading bytes sessions place
+    → ((given before bytes : List ℕ) (sessions : List Session) (place : Place) (m : Mode) → HasListed (written_of l.synced l.line l.held (given ++ l.text)) before sessions place m → (m ≡ Mode.Due → ⊥) → IsReading bytes sessions place
     → (l.synced ≡ true → l.held ≡ tail_of place) → given ++ n.text ≡ before ++ reading_text sessions place)
     → TakerStandsFor l given before bytes due → IsNext bytes due run.End next → EndsRuns n given before (bytes ++ [])
 takes_end l n given before bytes due next c s i h writes t x =
@@ -165,7 +165,7 @@ few_taken held tail (suc (suc (suc n))) e few =
     let three : min (suc (suc (suc n))) 3 ≡ 3 = omega arith in
     ap (λ (k : ℕ). take k held) three ∙ sym (take-take 3 (suc (suc (suc n))) held (omega arith)) ∙ ap (take 3) e ∙ take_all 3 tail (omega (arith, few))
 
-pub last_kept : (synced : Bool) (line count : ℕ) (held all before bytes : List ℕ) (sessions : List Session) (place : Place) (m : Mode) → HasListed synced line (take count held) all before sessions place m
+pub last_kept : (synced : Bool) (line count : ℕ) (held all before bytes : List ℕ) (sessions : List Session) (place : Place) (m : Mode) → HasListed (written_of synced line (take count held) all) before sessions place m
     → (m ≡ Mode.Due → ⊥) → IsReading bytes sessions place → (synced ≡ true → take count held ≡ tail_of place) → take (if synced then min count 3 else 0) held ≡ tail_of place
 last_kept true line count held all before bytes sessions (Searching gap) m t d r k = few_taken held [] count (k refl) (omega arith)
 last_kept true line count held all before bytes sessions (Synced gap packets tail) m t d r k = few_taken held tail count (k refl) r.ends.3

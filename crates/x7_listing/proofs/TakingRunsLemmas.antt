@@ -14,7 +14,7 @@ use Rattle.x7_packets.specs.Mode.{Mode}
 use Rattle.x7_packets.specs.declared.stream.Run.{Run}
 use Rattle.x7_packets.specs.declared.stream.Run.TheVariants as run
 use Rattle.x7_listing.specs.Taking.{EndsRuns, TakerStandsFor, TakesRun}
-use Rattle.x7_listing.specs.TakingRuns.{TakesRuns}
+use Rattle.x7_listing.specs.TakingRuns.{TakesRuns, runs_of}
 use Rattle.x7_listing.specs.Telling.{ListerState}
 
 -- some runs were taken, and not the end
@@ -36,11 +36,12 @@ takes_none p l rest = record {
 }
 
 -- the runs that were taken, of a reader and a lister that stand for something
-pub not_ended : (p q : PacketsState) (l n : ListerState) (rest rest_now : Option (List ℕ)) → TakesSome p q l n rest rest_now → TakesRuns p q l n rest rest_now false
+pub not_ended : (p q : PacketsState) (l n : ListerState) (rest rest_now : Option (List ℕ)) → TakesSome p q l n rest rest_now → TakesRuns (runs_of p l rest) (runs_of q n rest_now) false
 not_ended p q l n rest rest_now s = record {
   more = s.more;
   taken = s.taken;
-  tells = λ bytes listed given before a b. let h = s.tells bytes listed a in (h.0, h.1, h.2 given before b);
+  goes_on = λ e given before bytes listed t. let h = s.tells bytes listed t.reads in (h.0, record { reads = h.1; lists = h.2 given before t.lists });
+  ends = λ e. absurd (let f : false ≡ true = e in cc);
 }
 
 -- the next run fits
@@ -78,15 +79,16 @@ takes_more p q new l m n rest mid now r on runs gives takes = record {
 }
 
 -- the end
-pub takes_all : (p q new : PacketsState) (l m n : ListerState) (rest mid now : Option (List ℕ)) (r : Run) → r ≡ run.End → TakesSome p q l m rest mid → GivesRun q new mid now r → TakesOne r m n → TakesRuns p new l n rest now true
+pub takes_all : (p q new : PacketsState) (l m n : ListerState) (rest mid now : Option (List ℕ)) (r : Run) → r ≡ run.End → TakesSome p q l m rest mid → GivesRun q new mid now r → TakesOne r m n → TakesRuns (runs_of p l rest) (runs_of new n now) true
 takes_all p q new l m n rest mid now r e runs gives takes = record {
   more = runs.more ++ gives.more;
   taken = runs.taken ∙ ap (preceded runs.more) gives.taken ∙ preceded-preceded runs.more gives.more now;
-  tells = λ bytes listed given before s t.
-      let h = runs.tells bytes listed s in
+  goes_on = λ d. absurd (let f : true ≡ false = d in cc);
+  ends = λ d given before bytes listed s.
+      let h = runs.tells bytes listed s.reads in
       let g = gives.tells.stands (bytes ++ runs.more) (listed ++ h.0) h.1 in
       let all : (listed ++ h.0) ++ bytes_of_run r ≡ bytes ++ (runs.more ++ gives.more) = gives.tells.all (ap is_last e) (bytes ++ runs.more) (listed ++ h.0) h.1 ∙ append_assoc bytes runs.more gives.more in
-      let one : TakesRun run.End n given before ((listed ++ h.0) ++ bytes_of_run r) new.cutter.mode = subst (λ x. TakesRun x n given before ((listed ++ h.0) ++ bytes_of_run r) new.cutter.mode) e (takes given before (listed ++ h.0) q.cutter.mode new.cutter.mode (h.2 given before t) g.1) in
+      let one : TakesRun run.End n given before ((listed ++ h.0) ++ bytes_of_run r) new.cutter.mode = subst (λ x. TakesRun x n given before ((listed ++ h.0) ++ bytes_of_run r) new.cutter.mode) e (takes given before (listed ++ h.0) q.cutter.mode new.cutter.mode (h.2 given before s.lists) g.1) in
       (subst (λ x. EndsRuns n given before x) all one, gives.end (ap is_last e));
 }
 

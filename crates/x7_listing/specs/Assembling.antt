@@ -38,28 +38,42 @@ pub record OpensPlain (all others : List (List ℕ)) (prefix : List ℕ) (n : �
 abbrev pub Opens : List (List ℕ) → List (List ℕ) → List ℕ → ℕ → Type 0
 Opens all others prefix n = OpensHeaded all others prefix n ⊎ OpensPlain all others prefix n
 
+-- what is read so far: the bytes, where those of lines begin, their check, and how many lines were
+pub record BodyState : Type 0 where
+  pub out : List ℕ
+  pub start : ℕ
+  pub checker : CheckerState
+  pub count : ℕ
+
+-- that by its parts
+abbrev pub body_by : List ℕ → ℕ → CheckerState → ℕ → BodyState
+body_by out start checker count = record { out = out; start = start; checker = checker; count = count }
+
+abbrev pub body_in : Body → BodyState
+body_in b = body_by b.out.items b.start b.checker b.count
+
 -- The texts are read but for those that are left: their bytes are these, those of lines from `start` on, whose check is kept.
-pub record Goes (all left : List (List ℕ)) (out : List ℕ) (start : ℕ) (checker : CheckerState) (count : ℕ) : Type 0 where
+pub record Goes (all left : List (List ℕ)) (b : BodyState) : Type 0 where
   pub others : List (List ℕ)
   pub first : ℕ
   pub read : ℕ
-  pub long : start ≤ length out
-  pub short : start ≤ 262170
-  pub keeps : Keeps checker (drop start out)
-  pub opens : Opens all others (take start out) first
-  pub went : Went (asm_limit - start) others left (drop start out) read
-  pub count_is : count ≡ first + read
+  pub long : b.start ≤ length b.out
+  pub short : b.start ≤ 262170
+  pub keeps : Keeps b.checker (drop b.start b.out)
+  pub opens : Opens all others (take b.start b.out) first
+  pub went : Went (asm_limit - b.start) others left (drop b.start b.out) read
+  pub count_is : b.count ≡ first + read
 
 -- no text is read yet
-pub record Unbegun (all left : List (List ℕ)) (out : List ℕ) (start : ℕ) (checker : CheckerState) (count : ℕ) : Type 0 where
+pub record Unbegun (all left : List (List ℕ)) (b : BodyState) : Type 0 where
   pub texts : all ≡ left
-  pub out_is : out ≡ []
-  pub start_is : start ≡ 0
-  pub keeps : Keeps checker []
-  pub count_is : count ≡ 0
+  pub out_is : b.out ≡ []
+  pub start_is : b.start ≡ 0
+  pub keeps : Keeps b.checker []
+  pub count_is : b.count ≡ 0
 
 -- the same, whether the first text is read or not
-abbrev pub Waits : Bool → List (List ℕ) → List (List ℕ) → List ℕ → ℕ → CheckerState → ℕ → Type 0
+abbrev pub Waits : Bool → List (List ℕ) → List (List ℕ) → BodyState → Type 0
 Waits true = Goes
 Waits false = Unbegun
 
@@ -89,11 +103,15 @@ pub record AssemblerState : Type 0 where
   pub begun : Bool
   pub count : ℕ
 
+-- what it has read so far
+abbrev pub body_of : AssemblerState → BodyState
+body_of a = body_by a.out a.start a.checker a.count
+
 -- An assembler that took this text, whatever follows it.
 pub record AssemblerStandsFor (a : AssemblerState) (text : List ℕ) : Type 0 where
   pub free : has_no_end a.held ≡ true
   pub few : a.count + length a.held ≤ length text
-  pub goes : (more : List ℕ) → Waits a.begun (split (text ++ more)) (split (a.held ++ more)) a.out a.start a.checker a.count
+  pub goes : (more : List ℕ) → Waits a.begun (split (text ++ more)) (split (a.held ++ more)) (body_of a)
 
 -- an assembler takes a piece more, of a text of fewer than 2^63 bytes
 abbrev pub TakesPiece : AssemblerState → AssemblerState → List ℕ → Type 0
@@ -111,37 +129,18 @@ pub record TakesPrefix (a b : AssemblerState) (piece rest : List ℕ) : Type 0 w
 abbrev pub FailsIn : AssemblerState → List ℕ → AsmFault → Type 0
 FailsIn a piece f = (f ≡ fault.NoMemory) ⊎ ((text more : List ℕ) → length (text ++ piece) < 2 ^ 63 → AssemblerStandsFor a text → IsAsm ((text ++ piece) ++ more) (Err f))
 
--- what is read so far: the bytes, where those of lines begin, their check, and how many lines were
-pub record BodyState : Type 0 where
-  pub out : List ℕ
-  pub start : ℕ
-  pub checker : CheckerState
-  pub count : ℕ
-
-abbrev pub body_in : Body → BodyState
-body_in b = record { out = b.out.items; start = b.start; checker = b.checker; count = b.count }
-
-abbrev pub body_of : AssemblerState → BodyState
-body_of a = record { out = a.out; start = a.start; checker = a.checker; count = a.count }
-
-abbrev pub BodyGoes : List (List ℕ) → List (List ℕ) → BodyState → Type 0
-BodyGoes all left b = Goes all left b.out b.start b.checker b.count
-
-abbrev pub BodyWaits : Bool → List (List ℕ) → List (List ℕ) → BodyState → Type 0
-BodyWaits begun all left b = Waits begun all left b.out b.start b.checker b.count
-
 -- a fault at the next text, which is read whether the first one was or not
 abbrev pub FailsAt : Bool → List ℕ → BodyState → AsmFault → Type 0
-FailsAt begun line b f = (f ≡ fault.NoMemory) ⊎ ((all left : List (List ℕ)) → b.count < 2 ^ 63 → BodyWaits begun all (line ∷ left) b → AreHeadedAsm all (Err f))
+FailsAt begun line b f = (f ≡ fault.NoMemory) ⊎ ((all left : List (List ℕ)) → b.count < 2 ^ 63 → Waits begun all (line ∷ left) b → AreHeadedAsm all (Err f))
 
 -- the next text is read
 abbrev pub ReadsNext : Bool → List ℕ → BodyState → BodyState → Type 0
-ReadsNext begun line old new = (all left : List (List ℕ)) → old.count < 2 ^ 63 → BodyWaits begun all (line ∷ left) old → BodyGoes all left new
+ReadsNext begun line old new = (all left : List (List ℕ)) → old.count < 2 ^ 63 → Waits begun all (line ∷ left) old → Goes all left new
 
 -- lines of a text are read, and this is left, whatever follows
 abbrev pub ReadsLines : BodyState → BodyState → List ℕ → List ℕ → Type 0
-ReadsLines old new text tail = (all : List (List ℕ)) (more : List ℕ) → old.count + length text < 2 ^ 63 → BodyGoes all (split (text ++ more)) old → BodyGoes all (split (tail ++ more)) new
+ReadsLines old new text tail = (all : List (List ℕ)) (more : List ℕ) → old.count + length text < 2 ^ 63 → Goes all (split (text ++ more)) old → Goes all (split (tail ++ more)) new
 
 -- a fault in a text's lines
 abbrev pub FailsInLines : BodyState → List ℕ → AsmFault → Type 0
-FailsInLines old text f = (f ≡ fault.NoMemory) ⊎ ((all : List (List ℕ)) (more : List ℕ) → old.count + length text < 2 ^ 63 → BodyGoes all (split (text ++ more)) old → AreHeadedAsm all (Err f))
+FailsInLines old text f = (f ≡ fault.NoMemory) ⊎ ((all : List (List ℕ)) (more : List ℕ) → old.count + length text < 2 ^ 63 → Goes all (split (text ++ more)) old → AreHeadedAsm all (Err f))

@@ -1,5 +1,5 @@
 -- The line of a header (this project's choice).
-use Rattle.std.specs.Prelude.{◌≡◌, ℕ, ◌<◌, ◌^◌, ◌==◌, Bool, true, false, if◌then◌else◌, List, [], ◌∷◌, ◌++◌, length, codes, decimal}
+use Rattle.std.specs.Prelude.{◌≡◌, ◌≢◌, ℕ, ◌<◌, ◌^◌, ◌==◌, Bool, true, false, if◌then◌else◌, List, [], ◌∷◌, ◌++◌, length, slice_index, codes, decimal}
 use Rattle.std.specs.List.{flat_map}
 use Rattle.x7_words.specs.Word.{AreBytes}
 use Rattle.x7_header.specs.Header.{Contents, HaveHeader, header_bytes}
@@ -27,6 +27,10 @@ pub record IsField (field : List ℕ) : Type 0 where
   pub bytes : AreBytes field
   pub short : length field < 2 ^ 16
 
+-- the text begins with that of this field and a space, behind which the rest stands
+abbrev pub HasFieldFirst : List ℕ → List ℕ → List ℕ → Type 0
+HasFieldFirst text field rest = IsField field × (text ≡ field_text field ++ 32 ∷ rest)
+
 -- these are the bytes of a header whose line this is
 pub record IsHeaderOf (line bytes : List ℕ) : Type 0 where
   pub header : Contents
@@ -38,6 +42,10 @@ pub record IsHeaderOf (line bytes : List ℕ) : Type 0 where
 abbrev pub has_no_space : List ℕ → Bool
 has_no_space [] = true
 has_no_space (c ∷ cs) = if c == 32 then false else has_no_space cs
+
+-- the first space stands at this place
+abbrev pub IsFirstSpace : List ℕ → ℕ → Type 0
+IsFirstSpace text at = (at < length text) × (slice_index text at ≡ 32) × ((j : ℕ) → j < at → slice_index text j ≢ 32)
 
 -- the text stands before the first space of all, and the rest after it
 pub record IsCut (all text rest : List ℕ) : Type 0 where

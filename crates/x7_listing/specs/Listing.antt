@@ -44,3 +44,7 @@ pub record IsListing (bytes text : List ℕ) : Type 0 where
 -- the listing of bytes
 abbrev pub listing_of : List ℕ → List ℕ
 listing_of bytes = reading_text (reading_of bytes).sessions (reading_of bytes).place
+
+-- a text begins with this one
+abbrev pub IsPrefix : List ℕ → List ℕ → Type 0
+IsPrefix prefix text = (more : List ℕ) × (text ≡ prefix ++ more)

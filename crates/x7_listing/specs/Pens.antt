@@ -1,14 +1,14 @@
 -- What a lister tells with its pen (this project's choice).
-use Rattle.std.specs.Prelude.{List, [], ℕ, ◌++◌, take, true}
+use Rattle.std.specs.Prelude.{◌≡◌, List, [], ℕ, ◌++◌, take, true}
 use Rattle.x7_words.specs.Word.{bytes_of_word}
 use Rattle.x7_packets.specs.AtOnce.{Takes}
 use Rattle.x7_packets.specs.Cutting.{CutterState}
 use Rattle.x7_packets.specs.declared.cutter.Cut.TheVariants.{Head}
 use Rattle.x7_packets.specs.declared.header.Step.{Step}
-use Rattle.x7_packets.specs.Reading.{Place, Session}
-use Rattle.x7_listing.specs.Taking.{lister_of}
-use Rattle.x7_listing.specs.Telling.{ListerState, ListerStandsFor, Tells, HasListedAll}
-use Rattle.x7_listing.specs.declared.pen.Pen.{Pen}
+use Rattle.x7_packets.specs.Reading.{Place, Session, tail_of}
+use Rattle.x7_listing.specs.Listing.{reading_text}
+use Rattle.x7_listing.specs.Telling.{GapListed, HasListedAll, ListerState, ListerStandsFor, Tells, Written, lister_of, written_of}
+use Rattle.x7_listing.specs.declared.pen.state.Pen.{Pen}
 
 -- a lister with this pen
 abbrev pub lister_with : CutterState → Pen → List ℕ → ListerState
@@ -18,25 +18,40 @@ lister_with cutter pen text = lister_of cutter pen.synced pen.line (take pen.cou
 abbrev pub TakesHead : CutterState → ℕ → Step → Type 0
 TakesHead c w step = Takes c c (bytes_of_word w) (Head w step)
 
--- the texts given and the lister's are those before and what is listed of these bytes
-abbrev pub TellsFor : ListerState → List ℕ → List ℕ → List ℕ → Type 0
-TellsFor l given before bytes = Tells l.cutter l.synced l.line l.held l.text given before bytes
-
 -- the lister tells these bytes more
 abbrev pub TellsOn : ListerState → ListerState → List ℕ → Type 0
-TellsOn old new more = (given before bytes : List ℕ) → TellsFor old given before bytes → TellsFor new given before (bytes ++ more)
+TellsOn old new more = (given before bytes : List ℕ) → Tells old given before bytes → Tells new given before (bytes ++ more)
 
 -- the same, and then no sync word is still to be listed
 abbrev pub RestsOn : ListerState → ListerState → List ℕ → Type 0
-RestsOn old new more = (given before bytes : List ℕ) → TellsFor old given before bytes → ListerStandsFor new given before (bytes ++ more)
+RestsOn old new more = (given before bytes : List ℕ) → Tells old given before bytes → ListerStandsFor new given before (bytes ++ more)
 
--- a pen has listed all of a reading but what an end tells, behind the listings before
-abbrev pub PenHasListedAll : Pen → List ℕ → List ℕ → List Session → Place → Type 0
-PenHasListedAll pen all before sessions place = HasListedAll pen.synced pen.line (take pen.count pen.held) all before sessions place
+-- what is written with this pen
+abbrev pub written_with : Pen → List ℕ → Written
+written_with pen text = written_of pen.synced pen.line (take pen.count pen.held) text
+
+-- more bytes of a gap are listed but for those that are held, whatever texts were given
+abbrev pub GapGoesOn : Written → Written → List ℕ → Type 0
+GapGoesOn old new more = (given start gap : List ℕ) → GapListed (given ++ old.text) start old.line old.held gap → GapListed (given ++ new.text) start new.line new.held (gap ++ more)
+
+-- with this text what is left at an end is listed, whatever texts were given: what is written, and the bytes of no whole word
+abbrev pub EndsWith : Written → List ℕ → List ℕ → Type 0
+EndsWith w kept text = (given before : List ℕ) (sessions : List Session) (place : Place)
+    → HasListedAll (written_of w.synced w.line w.held (given ++ w.text)) before sessions place → kept ≡ tail_of place → given ++ text ≡ before ++ reading_text sessions place
+
+-- the same of a pen that holds those bytes itself
+abbrev pub EndsHeld : Written → List ℕ → Type 0
+EndsHeld w text = (given before : List ℕ) (sessions : List Session) (place : Place)
+    → HasListedAll (written_of w.synced w.line w.held (given ++ w.text)) before sessions place → (w.synced ≡ true → w.held ≡ tail_of place)
+    → given ++ text ≡ before ++ reading_text sessions place
 
 -- a lister with this pen, whose text is any text and then this one
 abbrev pub lister_after : CutterState → Pen → List ℕ → List ℕ → ListerState
 lister_after cutter pen shown text = lister_with cutter pen (text ++ shown)
+
+-- the same, where that text is the first bytes of a sheet
+abbrev pub on_sheet : CutterState → Pen → List ℕ → ℕ → List ℕ → ListerState
+on_sheet cutter pen sheet len = lister_after cutter pen (take len sheet)
 
 -- the same in a session, with so many words in the open line
 abbrev pub session_after : CutterState → ℕ → List ℕ → List ℕ → ListerState

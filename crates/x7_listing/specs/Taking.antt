@@ -1,23 +1,20 @@
 -- What a lister stands for that takes the runs of a stream, one after another.
-use Rattle.std.specs.Prelude.{◌≡◌, ℕ, Bool, true, List, [], ◌++◌}
+use Rattle.std.specs.Prelude.{◌≡◌, ℕ, true, List, [], ◌++◌}
 use Rattle.x7_packets.specs.Reading.{Place, Searching, Session, IsReading, tail_of}
-use Rattle.x7_packets.specs.Cutting.{CutterState, CutterStandsFor}
+use Rattle.x7_packets.specs.Cutting.{CutterStandsFor}
 use Rattle.x7_packets.specs.Mode.{Mode}
 use Rattle.x7_packets.specs.Run.{IsNext, bytes_of_run}
 use Rattle.x7_packets.specs.declared.stream.Run.{Run}
 use Rattle.x7_packets.specs.declared.stream.Run.TheVariants as run
-use Rattle.x7_listing.specs.Telling.{Finished, ListerState, HasListed}
+use Rattle.x7_listing.specs.Telling.{Finished, HasListed, ListerState, written_by}
 
--- a lister by its parts: its cutter, whether a session is open, how many elements stand in the open line, the bytes held, and the text
-abbrev pub lister_of : CutterState → Bool → ℕ → List ℕ → List ℕ → ListerState
-lister_of cutter synced line held text = record { cutter = cutter; synced = synced; line = line; held = held; text = text }
-
--- The texts given and the lister's text are those of listings before, and then what is listed of these bytes, a sync word being due to be listed or not. Its own cutter took no byte, and the bytes of no whole word are held.
+-- The texts given and the lister's text are those of listings before, and then what is listed of these bytes, a sync word being
+-- due to be listed or not. Its own cutter took no byte, and the bytes of no whole word are held.
 pub record TakerStandsFor (l : ListerState) (given before bytes : List ℕ) (due : Mode) : Type 0 where
   pub sessions : List Session
   pub at : Place
   pub reading : IsReading bytes sessions at
-  pub listed : HasListed l.synced l.line l.held (given ++ l.text) before sessions at due
+  pub listed : HasListed (written_by l given) before sessions at due
   pub tail : l.synced ≡ true → l.held ≡ tail_of at
   pub cutter : CutterStandsFor l.cutter [] [] (Searching [])
 
@@ -33,4 +30,5 @@ TakesRun r l given before bytes due = TakerStandsFor l given before bytes due
 
 -- the next run of a stream is taken
 abbrev pub TakesNext : Run → ListerState → ListerState → Type 0
-TakesNext r old new = (given before bytes : List ℕ) (due next : Mode) → TakerStandsFor old given before bytes due → IsNext bytes due r next → TakesRun r new given before (bytes ++ bytes_of_run r) next
+TakesNext r old new = (given before bytes : List ℕ) (due next : Mode)
+    → TakerStandsFor old given before bytes due → IsNext bytes due r next → TakesRun r new given before (bytes ++ bytes_of_run r) next

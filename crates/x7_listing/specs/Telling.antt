@@ -55,43 +55,45 @@ pub record SessionListed (all start : List ℕ) (line : ℕ) (gap : List ℕ) (p
   pub listed : all ≡ start ++ bytes_text gap ++ codes "sync\n" ++ open_words 0 (flat_map stepped packets)
   pub count : line ≡ words_place 0 (flat_map stepped packets)
 
--- what was listed at a place, where the sessions before it are listed
-abbrev pub HasListedAt : Bool → ℕ → List ℕ → List ℕ → List ℕ → Place → Mode → Type 0
-HasListedAt false line held all start (Searching gap) m = GapListed all start line held gap
-HasListedAt false line held all start (Synced gap packets tail) m = (m ≡ Mode.Due) × (packets ≡ []) × (tail ≡ []) × GapListed all start line held (gap ++ sync_bytes)
-HasListedAt true line held all start (Searching gap) m = (gap ≡ []) × (line ≡ 0) × (all ≡ start)
-HasListedAt true line held all start (Synced gap packets tail) m = (m ≡ Mode.Due → ⊥) × SessionListed all start line gap packets
+-- what is written of a listing: whether a session is open, how many elements stand in the open line, the bytes of a gap that are held, and the text
+pub record Written : Type 0 where
+  pub synced : Bool
+  pub line : ℕ
+  pub held : List ℕ
+  pub text : List ℕ
 
--- what was listed, behind the listings before
-abbrev pub HasListed : Bool → ℕ → List ℕ → List ℕ → List ℕ → List Session → Place → Mode → Type 0
-HasListed synced line held all before sessions place m = HasListedAt synced line held all (before ++ flat_map session_text sessions) place m
+-- that by its parts
+abbrev pub written_of : Bool → ℕ → List ℕ → List ℕ → Written
+written_of synced line held text = record { synced = synced; line = line; held = held; text = text }
+
+-- what was listed at a place, where the sessions before it are listed, in a gap and in a session
+abbrev pub HasListedBy : Bool → Written → List ℕ → Place → Mode → Type 0
+HasListedBy false w start (Searching gap) m = GapListed w.text start w.line w.held gap
+HasListedBy false w start (Synced gap packets tail) m = (m ≡ Mode.Due) × (packets ≡ []) × (tail ≡ []) × GapListed w.text start w.line w.held (gap ++ sync_bytes)
+HasListedBy true w start (Searching gap) m = (gap ≡ []) × (w.line ≡ 0) × (w.text ≡ start)
+HasListedBy true w start (Synced gap packets tail) m = (m ≡ Mode.Due → ⊥) × SessionListed w.text start w.line gap packets
+
+abbrev pub HasListedAt : Written → List ℕ → Place → Mode → Type 0
+HasListedAt w start place m = HasListedBy w.synced w start place m
+
+-- what was listed, after the listings before
+abbrev pub HasListed : Written → List ℕ → List Session → Place → Mode → Type 0
+HasListed w before sessions place m = HasListedAt w (before ++ flat_map session_text sessions) place m
 
 -- all of a reading was listed but what an end tells: no sync word is still to be listed
-pub record HasListedAll (synced : Bool) (line : ℕ) (held all before : List ℕ) (sessions : List Session) (place : Place) : Type 0 where
+pub record HasListedAll (w : Written) (before : List ℕ) (sessions : List Session) (place : Place) : Type 0 where
   pub bytes : List ℕ
   pub reading : IsReading bytes sessions place
   pub mode : Mode
-  pub listed : HasListed synced line held all before sessions place mode
+  pub listed : HasListed w before sessions place mode
   pub not_due : mode ≡ Mode.Due → ⊥
 
 -- A run writes what it adds to a reading: what is listed before it is listed after it.
-abbrev pub Writes : Cut → Bool → ℕ → List ℕ → List ℕ → Bool → ℕ → List ℕ → List ℕ → Type 0
-Writes run synced line held all synced2 line2 held2 all2 =
+abbrev pub Writes : Cut → Written → Written → Type 0
+Writes run w w2 =
     (before bytes : List ℕ) (sessions new_sessions : List Session) (place new_place : Place) (old new : Mode)
-    → HasListed synced line held all before sessions place old → Adds run sessions place new_sessions new_place → Turns run old new new_place → IsRun run
-    → IsReading bytes new_sessions new_place → HasListed synced2 line2 held2 all2 before new_sessions new_place new
-
--- The texts given and this text are those before and what is listed of these bytes.
-pub record Tells (c : CutterState) (synced : Bool) (line : ℕ) (held text given before bytes : List ℕ) : Type 0 where
-  pub sessions : List Session
-  pub at : Place
-  pub cut : CutterStandsFor c bytes sessions at
-  pub listed : HasListed synced line held (given ++ text) before sessions at c.mode
-
--- the same, where no sync word is still to be listed
-pub record Rests (c : CutterState) (synced : Bool) (line : ℕ) (held text given before bytes : List ℕ) : Type 0 where
-  pub tells : Tells c synced line held text given before bytes
-  pub ready : c.mode ≡ Mode.Due → ⊥
+    → HasListed w before sessions place old → Adds run sessions place new_sessions new_place → Turns run old new new_place → IsRun run
+    → IsReading bytes new_sessions new_place → HasListed w2 before new_sessions new_place new
 
 -- a lister: its cutter, whether a session is open, how many elements stand in the open line, the bytes of a gap that are held, and the text since it was last cleared
 pub record ListerState : Type 0 where
@@ -101,9 +103,25 @@ pub record ListerState : Type 0 where
   pub held : List ℕ
   pub text : List ℕ
 
--- The texts given and the lister's text are those of listings before, and then what is listed of these bytes.
-abbrev pub ListerStandsFor : ListerState → List ℕ → List ℕ → List ℕ → Type 0
-ListerStandsFor l given before bytes = Rests l.cutter l.synced l.line l.held l.text given before bytes
+-- that by its parts
+abbrev pub lister_of : CutterState → Bool → ℕ → List ℕ → List ℕ → ListerState
+lister_of cutter synced line held text = record { cutter = cutter; synced = synced; line = line; held = held; text = text }
+
+-- what a lister has written, the texts given and then its own
+abbrev pub written_by : ListerState → List ℕ → Written
+written_by l given = written_of l.synced l.line l.held (given ++ l.text)
+
+-- The texts given and the lister's are those of listings before, and then what is listed of these bytes.
+pub record Tells (l : ListerState) (given before bytes : List ℕ) : Type 0 where
+  pub sessions : List Session
+  pub at : Place
+  pub cut : CutterStandsFor l.cutter bytes sessions at
+  pub listed : HasListed (written_by l given) before sessions at l.cutter.mode
+
+-- the same, where no sync word is still to be listed
+pub record ListerStandsFor (l : ListerState) (given before bytes : List ℕ) : Type 0 where
+  pub tells : Tells l given before bytes
+  pub ready : l.cutter.mode ≡ Mode.Due → ⊥
 
 -- The texts given and the lister's text are those of listings before and the listing of these bytes, and a new listing begins.
 pub record Finished (l : ListerState) (given before bytes : List ℕ) : Type 0 where

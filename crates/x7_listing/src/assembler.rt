@@ -201,7 +201,7 @@ pub fn assemble(alloc: Global, text: &[u8]) -> Result<Vec<u8>, AsmFault>
     ensures bytes { IfOk result (λ bytes. IsAsm text.now (Ok bytes.items)) }
     ensures fault { IfErr result (λ fault. (fault ≡ AsmFault.NoMemory) ⊎ IsAsm text.now (Err fault)) }
     ensures back { (bytes : List ℕ) → AreBytes bytes → length bytes ≤ ASM_LIMIT → stream_listing bytes ≡ Ok text.now
-        → MatchResult result (λ assembled. assembled.items ≡ bytes) (λ fault. fault ≡ AsmFault.NoMemory) }
+        → MatchResult result (λ out. out.items ≡ bytes) (λ fault. fault ≡ AsmFault.NoMemory) }
 {
     let mut assembler = Assembler::new(alloc);
     match assembler.feed(text) {

@@ -4,7 +4,7 @@ ghost use Rattle.std.specs.List.{flat_map};
 ghost use Rattle.x7_words.specs.Word.{AreBytes};
 ghost use Rattle.x7_header.specs.Header.{Contents, contents_of};
 ghost use Rattle.x7_text.specs.Digits.{hex_byte};
-ghost use Rattle.x7_listing.specs.BitLine.{bit_text, field_text, has_no_space, IsCut, IsField, IsHeaderOf, IsHeld};
+ghost use Rattle.x7_listing.specs.BitLine.{bit_text, field_text, has_no_space, HasFieldFirst, IsCut, IsField, IsHeaderOf, IsHeld};
 
 use crate::reading::after;
 use memchr::memchr;
@@ -103,7 +103,7 @@ fn at_space(text: &[u8]) -> Option<(&[u8], &[u8])>
 /// What the first field holds, and the text after the space that follows it.
 fn first_field(alloc: Global, text: &[u8]) -> Result<Option<(Vec<u8>, &[u8])>, NoMemory>
     ensures { IfOk result (λ found. MatchOption found ((field rest : List ℕ) → IsField field → text.now ≢ field_text field ++ 32 ∷ rest)
-        (λ parts. IsField parts.0.items × (text.now ≡ field_text parts.0.items ++ 32 ∷ parts.1.now))) }
+        (λ parts. HasFieldFirst text.now parts.0.items parts.1.now)) }
 {
     let Some((digits, rest)) = at_space(text) else {
         return Ok(None);

@@ -7,7 +7,7 @@ ghost use Rattle.x7_listing.specs.declared.assembler.AsmFault.{AsmFault};
 ghost use Rattle.x7_listing.specs.Line.{FitsLine, IsLine, IsListed, Line, text_of};
 ghost use Rattle.x7_listing.specs.Listed.{listing_lines, texts_of};
 ghost use Rattle.x7_listing.specs.BitLine.{bit_text, IsHeld};
-ghost use Rattle.x7_listing.specs.Listing.{IsListing, listing_of};
+ghost use Rattle.x7_listing.specs.Listing.{IsListing, IsPrefix, listing_of};
 ghost use Rattle.x7_listing.specs.StreamListing.{stream_listing};
 ghost use Rattle.x7_header.specs.Header.{Contents};
 ghost use Rattle.x7_packets.specs.Mode.{Mode};
@@ -22,7 +22,7 @@ pub fn one_listing()
 /// What a lister has listed, after the listings before, is a prefix of the listing of its bytes with any further ones.
 pub fn listed_is_a_prefix()
     ensures { (l : ListerState) (given before bytes rest : List ℕ) → ListerStandsFor l given before bytes → AreBytes (bytes ++ rest)
-        → (more : List ℕ) × (before ++ listing_of (bytes ++ rest) ≡ given ++ l.text ++ more) }
+        → IsPrefix (given ++ l.text) (before ++ listing_of (bytes ++ rest)) }
 {}
 
 /// A lister's text is never more than four bytes behind the bytes that it took.

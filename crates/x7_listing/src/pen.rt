@@ -2,32 +2,23 @@
 ghost use Rattle.std.specs.Prelude.{◌≡◌, ℕ, ◌+◌, ◌*◌, ◌/◌, ◌<◌, ◌≤◌, ◌==◌, List, [], ◌∷◌, ◌++◌, false, true, if◌then◌else◌, codes, length, take, vec_len, vec_capacity};
 ghost use Rattle.x7_words.specs.Word.{words_of_bytes};
 ghost use Rattle.x7_packets.specs.Packet.{payload_steps};
-ghost use Rattle.x7_packets.specs.Reading.{Place, Session, tail_of};
 ghost use Rattle.x7_packets.specs.Cutting.{IsNeed, IsRun, run_bytes};
 ghost use Rattle.x7_regs.specs.Register.{number_of};
 ghost use Rattle.x7_regs.specs.declared.register.Reg.TheVariants.{Cmd};
 ghost use Rattle.x7_text.specs.Appends.{Appends};
 ghost use Rattle.x7_text.specs.Digits.{hex_byte};
 ghost use Rattle.x7_text.specs.Row.{close, in_line_after, open_text};
-ghost use Rattle.x7_listing.specs.Listing.{reading_text};
-ghost use Rattle.x7_listing.specs.Telling.{GapListed, HasListedAll, words_place, open_words, Writes};
+ghost use Rattle.x7_listing.specs.Pens.{EndsWith, GapGoesOn, written_with};
+ghost use Rattle.x7_listing.specs.Telling.{words_place, open_words, Writes};
+
+mod state;
 
 use crate::line::{put_command, put_head, put_sync};
+pub(crate) use state::Pen;
 use x7_packets::Cut;
 use x7_regs::Reg;
 use x7_text::{put_bytes, put_close, put_word, put_words};
 use x7_words::word_of;
-
-/// How many elements stand in the open line, and the bytes of a gap that are held: the last four at most.
-#[derive(Clone, Copy)]
-pub(crate) struct Pen {
-    pub(crate) synced: bool,
-    pub(crate) line: usize,
-    pub(crate) held: [u8; 4],
-    pub(crate) count: usize,
-    ghost short: { line < (if synced then 8 else 32) },
-    ghost few: { count ≤ 4 },
-}
 
 /// A pen at the start of a listing.
 pub(crate) fn new_pen() -> Pen
@@ -82,8 +73,7 @@ fn hold(text: &mut Vec<u8>, pen: Pen, byte: u8) -> Pen
     ensures gap { result.synced ≡ false }
     ensures len { vec_len text.new ≤ vec_len text.old + 19 }
     ensures room { vec_capacity text.old ≤ vec_capacity text.new }
-    ensures listed { (given start gap : List ℕ) → GapListed (given ++ text.old.items) start pen.line (take pen.count pen.held) gap
-        → GapListed (given ++ text.new.items) start result.line (take result.count result.held) (gap ++ byte ∷ []) }
+    ensures listed { GapGoesOn (written_with pen text.old.items) (written_with result text.new.items) (byte ∷ []) }
 {
     if pen.count < 4 {
         let mut held = pen.held;
@@ -112,8 +102,7 @@ fn hold_each(text: &mut Vec<u8>, pen: Pen, bytes: &[u8]) -> Pen
     ensures gap { result.synced ≡ false }
     ensures len { vec_len text.new ≤ vec_len text.old + 64 }
     ensures room { vec_capacity text.old ≤ vec_capacity text.new }
-    ensures listed { (given start gap : List ℕ) → GapListed (given ++ text.old.items) start pen.line (take pen.count pen.held) gap
-        → GapListed (given ++ text.new.items) start result.line (take result.count result.held) (gap ++ bytes.now) }
+    ensures listed { GapGoesOn (written_with pen text.old.items) (written_with result text.new.items) bytes.now }
 {
     let mut now = pen;
     for byte in bytes {
@@ -129,8 +118,7 @@ fn hold_all(text: &mut Vec<u8>, pen: Pen, bytes: &[u8]) -> Pen
     ensures gap { result.synced ≡ false }
     ensures len { vec_len text.new ≤ vec_len text.old + (64 + 3 * length bytes.now) }
     ensures room { vec_capacity text.old ≤ vec_capacity text.new }
-    ensures listed { (given start gap : List ℕ) → GapListed (given ++ text.old.items) start pen.line (take pen.count pen.held) gap
-        → GapListed (given ++ text.new.items) start result.line (take result.count result.held) (gap ++ bytes.now) }
+    ensures listed { GapGoesOn (written_with pen text.old.items) (written_with result text.new.items) bytes.now }
 {
     if bytes.len() < 4 {
         return hold_each(text, pen, bytes);
@@ -193,8 +181,7 @@ pub(crate) fn put_run(text: &mut Vec<u8>, pen: Pen, run: Cut) -> Pen
     requires room { vec_len text.old + (64 + 3 * length (run_bytes run)) ≤ vec_capacity text.old }
     ensures len { vec_len text.new ≤ vec_len text.old + (64 + 3 * length (run_bytes run.entry)) }
     ensures room { vec_capacity text.old ≤ vec_capacity text.new }
-    ensures listed { (given : List ℕ) → Writes run.entry pen.synced pen.line (take pen.count pen.held) (given ++ text.old.items)
-        result.synced result.line (take result.count result.held) (given ++ text.new.items) }
+    ensures listed { (given : List ℕ) → Writes run.entry (written_with pen (given ++ text.old.items)) (written_with result (given ++ text.new.items)) }
     ensures held { (IsNeed run.entry → ⊥) → result.synced ≡ true → take result.count result.held ≡ [] }
 {
     match run {
@@ -238,8 +225,7 @@ fn end_session(text: &mut Vec<u8>, line: usize, kept: &[u8])
 pub(crate) fn put_end(text: &mut Vec<u8>, pen: Pen, kept: &[u8])
     requires short { length kept.now ≤ 3 }
     requires room { vec_len text.old + 64 ≤ vec_capacity text.old }
-    ensures listed { (given before : List ℕ) (sessions : List Session) (place : Place) → HasListedAll pen.synced pen.line (take pen.count pen.held) (given ++ text.old.items) before sessions place
-        → kept.now ≡ tail_of place → given ++ text.new.items ≡ before ++ reading_text sessions place }
+    ensures listed { EndsWith (written_with pen text.old.items) kept.now text.new.items }
 {
     if pen.synced {
         end_session(text, pen.line, kept);

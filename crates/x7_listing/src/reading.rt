@@ -7,6 +7,7 @@ ghost use Rattle.x7_regs.specs.declared.command.Command.{Command};
 ghost use Rattle.x7_text.specs.Appends.{Appends};
 ghost use Rattle.x7_text.specs.Digits.{hex_word};
 ghost use Rattle.x7_listing.specs.Line.{access_text, bytes_of, FitsLine, IsAccess, IsPlain, text_of};
+ghost use Rattle.x7_listing.specs.BitLine.{IsFirstSpace};
 ghost use Rattle.x7_text.specs.Reads.{Reads, StaysWithin};
 
 use x7_regs::{command_named, reg_named};
@@ -24,7 +25,7 @@ pub(crate) fn after<'t>(text: &'t [u8], word: &[u8]) -> Option<&'t [u8]>
 #[inline(always)]
 fn space_in(text: &[u8]) -> Option<usize>
     ensures { MatchOption result ((j : ℕ) → j < 10 → j < length text.now → slice_index text.now j ≢ 32)
-        (λ at. (at < length text.now) × (slice_index text.now at ≡ 32) × ((j : ℕ) → j < at → slice_index text.now j ≢ 32)) }
+        (IsFirstSpace text.now) }
 {
     let most = text.len().min(10);
     for at in 0..most {

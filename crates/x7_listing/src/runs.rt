@@ -2,7 +2,7 @@
 ghost use Rattle.std.specs.Prelude.{◌≡◌, ◌≤◌, ◌^◌, ◌⊎◌, ℕ, List, length, false, true, IfOk, IsErrOf, OnErr, OnOk};
 ghost use Rattle.x7_words.specs.Input.{AtEnd, Fails, Stays};
 ghost use Rattle.x7_packets.specs.Running.{PacketsStandFor};
-ghost use Rattle.x7_listing.specs.TakingRuns.{StopsAfter, TakesRuns};
+ghost use Rattle.x7_listing.specs.TakingRuns.{StopsAfter, TakesRuns, runs_of};
 
 use crate::lister::Lister;
 use x7_packets::{Packets, Run};
@@ -32,11 +32,11 @@ pub fn take_runs<I: Inputs>(
     requires good { packets.old.failed ≡ false }
     requires end { packets.old.done ≡ true → AtEnd (I.state inputs.old).rest }
     requires stands { (bytes listed : List ℕ) × PacketsStandFor packets.old bytes listed }
-    ensures taken { IfOk result (λ ended. TakesRuns packets.old packets.new lister.old lister.new (I.state inputs.old).rest (I.state inputs.new).rest ended) }
+    ensures taken { IfOk result (λ ended. TakesRuns (runs_of packets.old lister.old (I.state inputs.old).rest) (runs_of packets.new lister.new (I.state inputs.new).rest) ended) }
     ensures enough { IfOk result (λ ended. ended ≡ false → (most ≤ length lister.new.text) ⊎ (2 ^ 63 ≤ packets.new.taken)) }
     ensures failed { IsErrOf result RunsFault.Failed → Fails (I.state inputs.old) (I.state inputs.new) }
     ensures reader { IsErrOf result RunsFault.Failed → packets.new.failed ≡ true }
-    ensures fault { OnErr result (StopsAfter packets.old lister.old lister.new (I.state inputs.old).rest) }
+    ensures fault { OnErr result (StopsAfter (runs_of packets.old lister.old (I.state inputs.old).rest) lister.new) }
     ensures selected { OnOk result ((I.state inputs.new).selected ≡ true) }
     ensures inputs { Stays (I.state inputs.old) (I.state inputs.new) }
 {

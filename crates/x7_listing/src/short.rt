@@ -10,7 +10,7 @@ ghost use Rattle.x7_text.specs.Row.{bytes_text, close, in_line_after, open_text,
 ghost use Rattle.x7_listing.specs.TakingAtOnce.{BeginsSheet, TakesAtOnce, TakesOnSheet};
 ghost use Rattle.x7_listing.specs.AtOnce.{command_lines};
 ghost use Rattle.x7_listing.specs.HeadLine.{head_text};
-ghost use Rattle.x7_listing.specs.Pens.{TakesHead, TellsAfter, TellsOn, lister_after, lister_with, session_after};
+ghost use Rattle.x7_listing.specs.Pens.{TakesHead, TellsAfter, TellsOn, lister_with, on_sheet, session_after};
 ghost use Rattle.x7_listing.specs.Telling.{words_place, open_words};
 
 use crate::at_once::Taken;
@@ -195,8 +195,8 @@ fn put_write(sheet: &mut [u8; SHEET], len: usize, pen: Pen, register: u8, w: u32
     requires room { len + 41 ≤ 2048 }
     ensures size { result.size ≡ 8 }
     ensures len { result.len ≤ len + 41 }
-    ensures listed { (old new : CutterState) (rest : List ℕ) → WritesOne old new rest register w
-        → TellsAfter (lister_after old pen (take len sheet.old)) (lister_after new result.pen (take result.len sheet.new)) (take 8 rest) }
+    ensures listed { (c d : CutterState) (rest : List ℕ) → WritesOne c d rest register w
+        → TellsAfter (on_sheet c pen sheet.old len) (on_sheet d result.pen sheet.new result.len) (take 8 rest) }
 {
     let end = put_one_word(sheet, len, session_line(pen), register, w);
     Next {
@@ -243,8 +243,8 @@ fn put_short_write(
     requires room { len + 189 ≤ 2048 }
     ensures size { result.size ≡ 4 + 4 * count }
     ensures len { result.len ≤ len + 189 }
-    ensures listed { (old new : CutterState) → WritesFew old new rest.now register count
-        → TellsAfter (lister_after old pen (take len sheet.old)) (lister_after new result.pen (take result.len sheet.new)) (take (4 + 4 * count) rest.now) }
+    ensures listed { (c d : CutterState) → WritesFew c d rest.now register count
+        → TellsAfter (on_sheet c pen sheet.old len) (on_sheet d result.pen sheet.new result.len) (take (4 + 4 * count) rest.now) }
 {
     let start = put_head(sheet, len, session_line(pen), register, count);
     let end = put_words(sheet, start, first_64(&rest[4..]), count);
@@ -264,7 +264,7 @@ fn put_few_nops(sheet: &mut [u8; SHEET], len: usize, pen: Pen, count: usize) -> 
     ensures size { result.size ≡ 4 * count }
     ensures len { result.len ≤ len + (4 * count + 1) }
     ensures listed { (c : CutterState) → TakesHead c nop_word Step.Nop
-        → TellsAfter (lister_after c pen (take len sheet.old)) (lister_after c result.pen (take result.len sheet.new)) (nop_bytes count) }
+        → TellsAfter (on_sheet c pen sheet.old len) (on_sheet c result.pen sheet.new result.len) (nop_bytes count) }
 {
     let start = put_close(sheet, len, session_line(pen));
     Next {
@@ -283,8 +283,8 @@ fn put_gap(sheet: &mut [u8; SHEET], len: usize, pen: Pen, count: usize, rest: &[
     requires room { len + 77 ≤ 2048 }
     ensures size { result.size ≡ count + 4 }
     ensures len { result.len ≤ len + 77 }
-    ensures listed { (old new : CutterState) → EndsGap old new rest.now count
-        → TellsAfter (lister_after old pen (take len sheet.old)) (lister_after new result.pen (take result.len sheet.new)) (take (count + 4) rest.now) }
+    ensures listed { (c d : CutterState) → EndsGap c d rest.now count
+        → TellsAfter (on_sheet c pen sheet.old len) (on_sheet d result.pen sheet.new result.len) (take (count + 4) rest.now) }
 {
     Next {
         pen: in_session(0),
@@ -342,7 +342,7 @@ fn take_next(
 ) -> Option<Next>
     requires room { len + 256 ≤ 2048 }
     ensures some { IfSome result (λ n. TakesOnSheet cutter.old cutter.new rest.now n.size len n.len) }
-    ensures listed { IfSome result (λ n. TellsAfter (lister_after cutter.old pen (take len sheet.old)) (lister_after cutter.new n.pen (take n.len sheet.new)) (take n.size rest.now)) }
+    ensures listed { IfSome result (λ n. TellsAfter (on_sheet cutter.old pen sheet.old len) (on_sheet cutter.new n.pen sheet.new n.len) (take n.size rest.now)) }
     ensures none { IfNone result (cutter.new ≡ cutter.old) }
     ensures same { IfNone result (sheet.new ≡ sheet.old) }
 {

@@ -1,5 +1,5 @@
 -- A text that is read line by line.
-use Rattle.std.proofs.Common.{◌≡◌, ℕ, ◌+◌, ◌%◌, ◌==◌, ◌<◌, ◌≤◌, Bool, true, false, if◌then◌else◌, List, [], ◌++◌, not, Option, None, Some, Result, Ok, Err, MatchOption, Bor, length, refl, ap, ap₂, sym, subst, ◌∙◌, arith, inl, inr, ◌⊎◌}
+use Rattle.std.proofs.Common.{◌≡◌, ℕ, ◌+◌, ◌%◌, ◌==◌, ◌≤◌, Bool, true, false, if◌then◌else◌, List, [], ◌++◌, not, Result, Ok, Err, length, refl, ap, ap₂, sym, ◌∙◌, arith, inl, inr, ◌⊎◌}
 use Rattle.std.proofs.lemmas.List.FromFn.{fill_by_all}
 use Rattle.std.proofs.lemmas.Nat.Bits.{bit_at-zero}
 use Rattle.x7_mcs.specs.Lines.{lines_of}
@@ -59,15 +59,6 @@ module _ (whole : Result Reading McsFault) (text rest content : List ℕ) (n bas
   pub row-goes-on : (base2 : ℕ) (ended2 : Bool) (bytes2 marks2 : List ℕ) → Took (with_records (at_base base ended g.records) (with_record n g.records (record { place = base + address; bytes = content }))) base2 ended2 bytes2 marks2 → Goes whole rest (n + 1) base2 ended2 bytes2 marks2
   row-goes-on base2 ended2 bytes2 marks2 i =
       goes-on whole (with_records (at_base base ended g.records) (with_record n g.records (record { place = base + address; bytes = content }))) (n + 1) (lines_of rest) row-leads rest base2 ended2 bytes2 marks2 refl i
-
--- what was taken, where text is left and where none is
-pub next-goes : (whole : Result Reading McsFault) (o : Option (Bor (List ℕ))) (x : Bor (List ℕ)) (text : List ℕ) (n base : ℕ) (ended : Bool) (bytes marks : List ℕ) → o ≡ Some x
-    → MatchOption o (Took whole base ended bytes marks) (λ rest. Goes whole rest.now n base ended bytes marks × (length rest.now < length text)) → Goes whole x.now n base ended bytes marks × (length x.now < length text)
-next-goes whole o x text n base ended bytes marks e h = subst (λ p. MatchOption p (Took whole base ended bytes marks) (λ rest. Goes whole rest.now n base ended bytes marks × (length rest.now < length text))) e h
-
-pub next-took : (whole : Result Reading McsFault) (o : Option (Bor (List ℕ))) (text : List ℕ) (n base : ℕ) (ended : Bool) (bytes marks : List ℕ) → o ≡ None
-    → MatchOption o (Took whole base ended bytes marks) (λ rest. Goes whole rest.now n base ended bytes marks × (length rest.now < length text)) → Took whole base ended bytes marks
-next-took whole o text n base ended bytes marks e h = subst (λ p. MatchOption p (Took whole base ended bytes marks) (λ rest. Goes whole rest.now n base ended bytes marks × (length rest.now < length text))) e h
 
 pub not-true : (b : Bool) → not b ≡ true → b ≡ false
 not-true true e = absurd cc

@@ -1,14 +1,13 @@
 -- An image and a place in a text, each in one value.
-use Rattle.std.specs.Prelude.{◌≡◌, ◌<◌, ◌⊎◌, ℕ, List, ◌∷◌, length, Result, Ok, Err, MatchOption, MatchResult}
+use Rattle.std.specs.Prelude.{◌≡◌, ◌⊎◌, ℕ, List, ◌∷◌, Result, Ok, Err, MatchResult}
 use Rattle.x7_mcs.specs.Flash.{Reading, after_meaning}
 use Rattle.x7_mcs.specs.Places.{DataRecord, with_record}
 use Rattle.x7_mcs.specs.Record.{meaning_of}
-use Rattle.x7_mcs.specs.State.{Fails, Goes, Holds, Took, at_base}
+use Rattle.x7_mcs.specs.State.{Fails, Holds, Took, at_base}
 use Rattle.x7_mcs.specs.declared.fault.McsFault.{McsFault}
 use Rattle.x7_mcs.specs.declared.fault.McsFault.TheVariants as fault
 use Rattle.x7_mcs.specs.declared.image.Image.{Image}
 use Rattle.x7_mcs.specs.declared.step.Context.{Context}
-use Rattle.x7_mcs.specs.declared.step.Taken.{Taken}
 
 -- the image has these records
 abbrev pub HoldsIn : Image → List DataRecord → Type 0
@@ -44,12 +43,3 @@ CameTo reading context image = Took reading context.base context.ended image.byt
 -- a call came to what this reading comes to, and the image has its records; or it gave the reading's fault
 abbrev pub ComesTo : Result Context McsFault → Result Reading McsFault → Image → Type 0
 ComesTo result reading image = MatchResult result (λ c. CameTo reading c image) (λ f. Fails reading f)
-
--- what a text gives is what its rest, from line n on, gives after this
-abbrev pub GoesFrom : Result Reading McsFault → List ℕ → ℕ → Context → Image → Type 0
-GoesFrom whole rest n context image = Goes whole rest n context.base context.ended image.bytes.items image.marks.items
-
--- the same where a line was taken off a text; where none is left, this is what the text gives
-abbrev pub GoesOn : Result Reading McsFault → List ℕ → ℕ → Taken → Image → Type 0
-GoesOn whole text n t image =
-    MatchOption t.rest (CameTo whole t.context image) (λ rest. GoesFrom whole rest.now n t.context image × (length rest.now < length text))

@@ -6,8 +6,7 @@ ghost use Rattle.x7_mcs.specs.declared.fault.McsFault.{McsFault};
 ghost use Rattle.x7_words.specs.Word.{AreBytes};
 
 use crate::fault::McsFault;
-use crate::image::empty_image;
-use crate::step::{Context, take_line};
+use crate::reader::McsReader;
 use std::alloc::Global;
 
 /// The bytes that a flash text gives, FF where no record gave one, or its first fault.
@@ -20,34 +19,13 @@ pub fn flash_of(alloc: Global, text: &[u8]) -> Result<Vec<u8>, McsFault>
     read_text(alloc, text)
 }
 
-/// The bytes that a flash text gives, line by line.
+/// The bytes that a flash text gives, in one piece.
 fn read_text(alloc: Global, text: &[u8]) -> Result<Vec<u8>, McsFault>
     ensures { MatchResult result (λ bytes. mcs_of text.now ≡ Ok bytes.items) (λ fault. (fault ≡ McsFault.NoMemory) ⊎ (mcs_of text.now ≡ Err fault)) }
 {
-    let Ok(mut image) = empty_image(alloc, text.len()) else {
-        return Err(McsFault::NoMemory);
-    };
-    let mut decoded = Vec::new(alloc);
-    let mut context = Context {
-        base: 0,
-        ended: false,
-    };
-    let mut rest = text;
-    let mut n: u64 = 0;
-    loop {
-        n += 1;
-        let taken = match take_line(&mut image, &mut decoded, n, context, rest) {
-            Ok(taken) => taken,
-            Err(fault) => return Err(fault),
-        };
-        context = taken.context;
-        let Some(more) = taken.rest else {
-            break;
-        };
-        rest = more;
+    let mut reader = McsReader::new(alloc);
+    match reader.feed(text) {
+        Ok(()) => reader.finish(),
+        Err(fault) => Err(fault),
     }
-    if !context.ended {
-        return Err(McsFault::NoEnd);
-    }
-    Ok(image.bytes)
 }

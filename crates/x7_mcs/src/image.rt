@@ -25,15 +25,15 @@ pub(crate) struct Image {
     pub(crate) marks: Vec<u16>,
 }
 
-/// An image without bytes, with room for as many as a text of this length gives without holes.
-pub(crate) fn empty_image(alloc: Global, text_length: usize) -> Result<Image, AllocError>
-    ensures { IfOk result (λ image. (image.bytes.items ≡ []) × (image.marks.items ≡ [])) }
+/// An image without bytes.
+pub(crate) fn empty_image(alloc: Global) -> Image
+    ensures bytes { result.bytes.items ≡ [] }
+    ensures marks { result.marks.items ≡ [] }
 {
-    let room = (text_length / 2).min(FLASH_LIMIT);
-    Ok(Image {
-        bytes: Vec::with_capacity(alloc, room)?,
-        marks: Vec::with_capacity(alloc, room / 16)?,
-    })
+    Image {
+        bytes: Vec::new(alloc),
+        marks: Vec::new(alloc),
+    }
 }
 
 /// Lengthens bytes by FF.

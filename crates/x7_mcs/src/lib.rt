@@ -2,12 +2,14 @@
 #![tactic(auto)]
 
 mod blocks;
+mod body;
 mod digits;
 mod fault;
 mod flash;
 mod image;
 mod laws;
 mod lines;
+mod reader;
 mod record;
 mod row;
 mod step;
@@ -21,4 +23,5 @@ pub use laws::{
     bytes_by_place, lines_in_turn, overlap_is_the_least, records_are_apart, rows_in_parts,
     text_is_short, text_leads_back, want_of_memory_is_no_fault,
 };
+pub use reader::McsReader;
 pub use text::{mcs_text, put_rows};

@@ -1,18 +1,15 @@
 //! One line more.
-ghost use Rattle.std.specs.Prelude.{true, ◌<◌, ◌+◌, ◌^◌, List, length, Some, Result, MatchResult};
+ghost use Rattle.std.specs.Prelude.{true, ◌<◌, ◌^◌, List, length, Some};
 ghost use Rattle.x7_mcs.specs.Record.{data_of, meaning_of};
 ghost use Rattle.x7_mcs.specs.Places.{DataRecord};
-ghost use Rattle.x7_mcs.specs.Flash.{Reading, after_data, after_line};
-ghost use Rattle.x7_mcs.specs.State.{Fails};
-ghost use Rattle.x7_mcs.specs.Images.{ComesTo, GoesFrom, GoesOn, HoldsIn, after_record, reading_at};
+ghost use Rattle.x7_mcs.specs.Flash.{after_data, after_line};
+ghost use Rattle.x7_mcs.specs.Images.{ComesTo, HoldsIn, after_record, reading_at};
 ghost use Rattle.x7_mcs.specs.declared.fault.McsFault.{McsFault};
 
 use crate::digits::put_pairs;
 use crate::fault::McsFault;
 use crate::image::{Image, put_content};
-use crate::lines::next_line;
 use crate::record::{Meaning, data_of, meaning_of};
-use crate::row::first_row;
 
 /// The digits of the longest record: 255 bytes of data, and five beside them.
 const MOST_DIGITS: usize = 520;
@@ -26,7 +23,7 @@ pub(crate) struct Context {
 
 /// After the data of line `n`'s record.
 #[inline(always)]
-fn put_data(
+pub(crate) fn put_data(
     image: &mut Image,
     n: u64,
     context: Context,
@@ -68,7 +65,7 @@ fn put_record(
 }
 
 /// After line `n`. `decoded` is room for the bytes of a record.
-fn put_line(
+pub(crate) fn put_line(
     image: &mut Image,
     decoded: &mut Vec<u8>,
     n: u64,
@@ -95,41 +92,4 @@ fn put_line(
         return Err(McsFault::Line(n));
     }
     put_record(image, n, context, decoded)
-}
-
-/// What was taken, and the text that is left: none where no line follows.
-#[derive(Clone, Copy)]
-pub(crate) struct Taken<'t> {
-    pub(crate) context: Context,
-    pub(crate) rest: Option<&'t [u8]>,
-}
-
-/// Takes line `n`, which the text begins with.
-#[inline(always)]
-pub(crate) fn take_line<'t>(
-    image: &mut Image,
-    decoded: &mut Vec<u8>,
-    n: u64,
-    context: Context,
-    text: &'t [u8],
-) -> Result<Taken<'t>, McsFault>
-    ensures { (whole : Result Reading McsFault) → GoesFrom whole text.now n context image.old → MatchResult result (λ t. GoesOn whole text.now (n + 1) t image.new) (λ f. Fails whole f) }
-{
-    if !context.ended
-        && let Some((row, rest)) = first_row(text)
-        && row.address <= 65520
-    {
-        return match put_data(image, n, context, row.address, &row.content) {
-            Ok(context) => Ok(Taken {
-                context,
-                rest: Some(rest),
-            }),
-            Err(fault) => Err(fault),
-        };
-    }
-    let (line, rest) = next_line(text);
-    match put_line(image, decoded, n, context, line) {
-        Ok(context) => Ok(Taken { context, rest }),
-        Err(fault) => Err(fault),
-    }
 }

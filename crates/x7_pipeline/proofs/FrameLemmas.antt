@@ -13,7 +13,9 @@ use Rattle.x7_pipeline.specs.FarAsRead.{has_frame_at}
 use Rattle.x7_pipeline.specs.Runs.{at_slot, onto, put_over, slots_from, Lands}
 use Rattle.x7_pipeline.specs.Faults.{write_fault}
 use Rattle.x7_pipeline.specs.Words.{Written, one_written, written}
-use Rattle.x7_pipeline.specs.Pipeline.{PipelineData, StandsFor}
+use Rattle.x7_pipeline.specs.Flow.{Flow, HoldsFlow, with_run}
+use Rattle.x7_pipeline.specs.Pipeline.{PipelineData}
+use Rattle.x7_pipeline.proofs.FlowLemmas.{StandsFor, flow}
 use Rattle.x7_pipeline.proofs.LawLemmas.{lands_none, lands_more}
 use Rattle.x7_pipeline.proofs.StateLemmas.{goes_on, completes_frame, lands_nothing, lands_frame, write_allowed}
 use Rattle.x7_pipeline.proofs.WordLemmas.{after, written_end, written_next, ends_refused, Goes, Reached}
@@ -33,17 +35,17 @@ written_some part base run (w ∷ words) rest e = by (write_fault part base run)
     by None e later = ap (after 1) (later e) ∙ ap (λ n. record (written part base (onto words (w ∷ run)) rest) { count = n }) (omega arith)
 
 pub goes_some : (part : PartData) (start now next : PipelineData) (old middle new : FrameMap) (all words rest : List ℕ) (count : ℕ) → Goes part start now old middle all (words ++ rest) count →
-    ((command : Command) (base : ℕ) (run : List ℕ) (source : Option (List ℕ)) (given : ℕ) → StandsFor part now command base run source given → StandsFor part next command base (onto words run) source given) →
-    ((command : Command) (base : ℕ) (run : List ℕ) (source : Option (List ℕ)) (given : ℕ) → StandsFor part now command base run source given → Lands part base run (onto words run) middle new) →
-    ((command : Command) (base : ℕ) (run : List ℕ) (source : Option (List ℕ)) (given : ℕ) → StandsFor part now command base run source given → (written part base run words).fault ≡ None) →
+    ((f : Flow) → HoldsFlow part now f → HoldsFlow part next (with_run (onto words f.run) f)) →
+    ((f : Flow) → HoldsFlow part now f → Lands part f.base f.run (onto words f.run) middle new) →
+    ((f : Flow) → HoldsFlow part now f → (written part f.base f.run words).fault ≡ None) →
     Goes part start next old new all rest (count + length words)
 goes_some part start now next old middle new all words rest count before stands lands passes command base run source given s =
     let r : Reached part now old middle command base run source given all (words ++ rest) count = before command base run source given s in
     record {
       longer = onto words r.longer;
-      stands = stands command base r.longer source given r.stands;
-      lands = lands_more part base run r.longer (onto words r.longer) old middle new r.lands (lands command base r.longer source given r.stands);
-      later = r.later ∙ ap (after count) (written_some part base r.longer words rest (passes command base r.longer source given r.stands))
+      stands = stands (flow command base r.longer source given) r.stands;
+      lands = lands_more part base run r.longer (onto words r.longer) old middle new r.lands (lands (flow command base r.longer source given) r.stands);
+      later = r.later ∙ ap (after count) (written_some part base r.longer words rest (passes (flow command base r.longer source given) r.stands))
           ∙ ap (λ n. record (written part base (onto words r.longer) rest) { count = n }) (omega arith);
     }
 
@@ -205,9 +207,9 @@ frame_wide n bs h = let long : length (take (4 * n) bs) ≡ 4 * n = length-take-
 
 pub goes_bytes : (part : PartData) (start now next : PipelineData) (old middle new : FrameMap) (all bs : List ℕ) (at n : ℕ) →
     Goes part start now old middle all (words_of_bytes (drop at bs)) (at / 4) → at % 4 ≡ 0 → n % 4 ≡ 0 → n ≤ length (drop at bs) →
-    ((command : Command) (base : ℕ) (run : List ℕ) (source : Option (List ℕ)) (given : ℕ) → StandsFor part now command base run source given → StandsFor part next command base (onto (words_of_bytes (take n (drop at bs))) run) source given) →
-    ((command : Command) (base : ℕ) (run : List ℕ) (source : Option (List ℕ)) (given : ℕ) → StandsFor part now command base run source given → Lands part base run (onto (words_of_bytes (take n (drop at bs))) run) middle new) →
-    ((command : Command) (base : ℕ) (run : List ℕ) (source : Option (List ℕ)) (given : ℕ) → StandsFor part now command base run source given → (written part base run (words_of_bytes (take n (drop at bs)))).fault ≡ None) →
+    ((f : Flow) → HoldsFlow part now f → HoldsFlow part next (with_run (onto (words_of_bytes (take n (drop at bs))) f.run) f)) →
+    ((f : Flow) → HoldsFlow part now f → Lands part f.base f.run (onto (words_of_bytes (take n (drop at bs))) f.run) middle new) →
+    ((f : Flow) → HoldsFlow part now f → (written part f.base f.run (words_of_bytes (take n (drop at bs)))).fault ≡ None) →
     Goes part start next old new all (words_of_bytes (drop (at + n) bs)) ((at + n) / 4)
 goes_bytes part start now next old middle new all bs at n before a b h stands lands passes =
     let words = words_of_bytes (take n (drop at bs)) in
@@ -220,9 +222,9 @@ goes_bytes part start now next old middle new all bs at n before a b h stands la
 -- the same with the bytes that are left
 pub goes_left : (part : PartData) (start now next : PipelineData) (old middle new : FrameMap) (all bs left : List ℕ) (at n : ℕ) → left ≡ drop at bs →
     Goes part start now old middle all (words_of_bytes (drop at bs)) (at / 4) → at % 4 ≡ 0 → n % 4 ≡ 0 → n ≤ length left →
-    ((command : Command) (base : ℕ) (run : List ℕ) (source : Option (List ℕ)) (given : ℕ) → StandsFor part now command base run source given → StandsFor part next command base (onto (words_of_bytes (take n left)) run) source given) →
-    ((command : Command) (base : ℕ) (run : List ℕ) (source : Option (List ℕ)) (given : ℕ) → StandsFor part now command base run source given → Lands part base run (onto (words_of_bytes (take n left)) run) middle new) →
-    ((command : Command) (base : ℕ) (run : List ℕ) (source : Option (List ℕ)) (given : ℕ) → StandsFor part now command base run source given → (written part base run (words_of_bytes (take n left))).fault ≡ None) →
+    ((f : Flow) → HoldsFlow part now f → HoldsFlow part next (with_run (onto (words_of_bytes (take n left)) f.run) f)) →
+    ((f : Flow) → HoldsFlow part now f → Lands part f.base f.run (onto (words_of_bytes (take n left)) f.run) middle new) →
+    ((f : Flow) → HoldsFlow part now f → (written part f.base f.run (words_of_bytes (take n left))).fault ≡ None) →
     Goes part start next old new all (words_of_bytes (drop (at + n) bs)) ((at + n) / 4)
 goes_left part start now next old middle new all bs left at n e before a b h stands lands passes =
     goes_bytes part start now next old middle new all bs at n before a b (rw e at h) (rw e at stands) (rw e at lands) (rw e at passes)

@@ -27,7 +27,8 @@ use Rattle.x7_regs.specs.declared.command.Command.TheVariants.{Wcfg, Mfw}
 use Rattle.x7_pipeline.specs.Copies.{is_wcfg, is_mfw, newest_of, source_after}
 use Rattle.x7_pipeline.specs.Readback.{word_at, read_at, read_limit, given_stored}
 use Rattle.x7_pipeline.specs.Faults.{address_fault, completes, has_filled, write_fault, copy_fault, read_fault}
-use Rattle.x7_pipeline.specs.Pipeline.{PipelineData, StandsFor}
+use Rattle.x7_pipeline.specs.Pipeline.{PipelineData}
+use Rattle.x7_pipeline.specs.Flow.{Flow, HoldsFlow}
 use Rattle.x7_pipeline.proofs.RunLemmas.{rest-goes_on, rest-completes, frames-completes}
 use Rattle.x7_pipeline.proofs.SlotLemmas.{no_slots}
 use Rattle.x7_pipeline.proofs.FarLemmas.{far_at-none, far_at-some}
@@ -398,8 +399,7 @@ same_fields p q w v c b r n f s g t =
     ∙ ap (λ x. record q { given = x; slot = p.slot }) g
     ∙ ap (λ x. record q { slot = x }) t
 
-pub one_state : (part : PartData) (p q : PipelineData) (command : Command) (base : ℕ) (run : List ℕ) (source : Option (List ℕ)) (given : ℕ) →
-    StandsFor part p command base run source given → StandsFor part q command base run source given → p ≡ q
-one_state part p q command base run source given s t =
+pub one_state : (part : PartData) (p q : PipelineData) (f : Flow) → HoldsFlow part p f → HoldsFlow part q f → p ≡ q
+one_state part p q f s t =
     same_fields p q (s.width_is ∙ sym t.width_is) (s.far_width_is ∙ sym t.far_width_is) (s.command_is ∙ sym t.command_is) (s.base_is ∙ sym t.base_is) (s.rest_is ∙ sym t.rest_is)
     (s.newest_is ∙ sym t.newest_is) (s.count_is ∙ sym t.count_is) (s.source_is ∙ sym t.source_is) (s.given_is ∙ sym t.given_is) (s.slot_is ∙ sym t.slot_is)

@@ -1,3 +1,4 @@
+pub mod FlowLemmas
 pub mod RunLemmas
 pub mod SlotLemmas
 pub mod FarLemmas

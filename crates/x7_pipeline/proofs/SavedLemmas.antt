@@ -16,7 +16,8 @@ use Rattle.x7_regs.specs.declared.command.Command.{Command}
 use Rattle.x7_pipeline.specs.declared.fault.RunFault.TheVariants.{Address, Multi}
 use Rattle.x7_pipeline.specs.FarAsRead.{has_frame_at}
 use Rattle.x7_pipeline.specs.Faults.{address_fault, copy_fault}
-use Rattle.x7_pipeline.specs.Pipeline.{PipelineData, StandsFor}
+use Rattle.x7_pipeline.specs.Pipeline.{PipelineData}
+use Rattle.x7_pipeline.proofs.FlowLemmas.{StandsFor}
 use Rattle.x7_pipeline.specs.Copies.{copied, is_mfw}
 use Rattle.x7_pipeline.specs.Saving.{ChangesAt, address_of, next_put, pair_at, pair_held, pair_of_frame, takes_copies}
 use Rattle.x7_pipeline.proofs.SlotLemmas.{slot_address}

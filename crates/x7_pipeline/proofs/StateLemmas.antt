@@ -18,7 +18,8 @@ use Rattle.x7_pipeline.specs.FarAsRead.{has_frame_at, far_at, far_of}
 use Rattle.x7_pipeline.specs.Copies.{is_mfw, newest_of, source_with, source_after, copied}
 use Rattle.x7_pipeline.specs.Readback.{word_at, read_slot, read_at, read_limit, given_stored}
 use Rattle.x7_pipeline.specs.Faults.{address_fault, completes, has_filled, write_fault, copy_fault, read_fault, drop_fault}
-use Rattle.x7_pipeline.specs.Pipeline.{PipelineData, StandsFor}
+use Rattle.x7_pipeline.specs.Pipeline.{PipelineData}
+use Rattle.x7_pipeline.proofs.FlowLemmas.{StandsFor}
 use Rattle.x7_pipeline.proofs.RunLemmas.{rest-goes_on, frames-goes_on, rest-completes, frames-completes, some_words}
 use Rattle.x7_pipeline.proofs.SlotLemmas.{few_slots}
 use Rattle.x7_pipeline.proofs.FarLemmas.{far_stored}

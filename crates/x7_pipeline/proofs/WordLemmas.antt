@@ -1,8 +1,6 @@
 -- Words written in order.
-use Rattle.std.proofs.Common.{◌≡◌, ℕ, ◌+◌, ◌<◌, ◌≤◌, List, [], ◌∷◌, length, get_or, drop, map, Option, Some, None, refl, sym, ap, ◌∙◌, arith}
-use Rattle.std.proofs.lemmas.List.{drop_all, drop_more}
+use Rattle.std.proofs.Common.{◌≡◌, ℕ, ◌+◌, List, [], ◌∷◌, length, Option, Some, None, refl, sym, ap, ◌∙◌, arith}
 use Rattle.std.proofs.lemmas.Option.{none-some}
-use Rattle.x7_words.specs.Word.{word_of_bytes}
 use Rattle.x7_part.specs.Part.{PartData}
 use Rattle.x7_memory.specs.FrameMap.{FrameMap}
 use Rattle.x7_regs.specs.declared.command.Command.{Command}
@@ -10,8 +8,9 @@ use Rattle.x7_pipeline.specs.declared.fault.RunFault.{RunFault}
 use Rattle.x7_pipeline.specs.Runs.{onto, Lands}
 use Rattle.x7_pipeline.specs.Faults.{write_fault}
 use Rattle.x7_pipeline.specs.Words.{Written, one_written, written, Refused}
-use Rattle.x7_pipeline.specs.Pipeline.{PipelineData, StandsFor}
-use Rattle.x7_pipeline.proofs.LawLemmas.{lands_none, lands_more}
+use Rattle.x7_pipeline.specs.Pipeline.{PipelineData}
+use Rattle.x7_pipeline.proofs.FlowLemmas.{StandsFor}
+use Rattle.x7_pipeline.proofs.LawLemmas.{lands_none}
 
 -- so many words were looked at before
 abbrev pub after : ℕ → Written → Written

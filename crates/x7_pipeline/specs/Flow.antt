@@ -1,16 +1,19 @@
 -- What a frame pipeline stands for (UG470, frame address register and frame data registers).
-use Rattle.std.specs.Prelude.{◌≡◌, ℕ, ◌+◌, ◌-◌, List, [], slice_index_or, Option, Some}
-use Rattle.x7_part.specs.Part.{PartData}
+use Rattle.std.specs.Prelude.{◌≡◌, ℕ, ◌+◌, ◌-◌, ◌<◌, ◌≤◌, List, [], length, slice_index_or, Option, None, Some}
+use Rattle.x7_part.specs.Part.{PartData, frame_words}
+use Rattle.x7_part.specs.FrameAddress.{far_width}
 use Rattle.x7_part.specs.declared.slot.Slot.TheVariants.{End}
 use Rattle.x7_memory.specs.FrameMap.{FrameMap, AreSame}
 use Rattle.x7_regs.specs.declared.command.Command.{Command}
+use Rattle.x7_regs.specs.declared.command.Command.TheVariants.{Null}
 use Rattle.x7_pipeline.specs.FarAsRead.{far_of}
 use Rattle.x7_memory.specs.Planned.{PlanRow}
 use Rattle.x7_pipeline.specs.declared.fault.RunFault.{RunFault}
-use Rattle.x7_pipeline.specs.Copies.{copied, source_after}
+use Rattle.x7_pipeline.specs.Copies.{copied, newest_of, source_after}
 use Rattle.x7_pipeline.specs.Faults.{copy_fault}
-use Rattle.x7_pipeline.specs.Pipeline.{PipelineData, StandsFor}
-use Rattle.x7_pipeline.specs.Runs.{Lands, at_slot, onto, put_over, slots_from}
+use Rattle.x7_pipeline.specs.Readback.{given_stored, read_slot}
+use Rattle.x7_pipeline.specs.Pipeline.{PipelineData}
+use Rattle.x7_pipeline.specs.Runs.{Lands, at_slot, frames_of, onto, put_over, rest_of, slots_from}
 use Rattle.x7_pipeline.specs.Words.{Written, written}
 
 -- the command, the address that the run or readback began at, the words of the run (the newest first), the frame that copies take, and the count of words given
@@ -21,14 +24,28 @@ pub record Flow : Type 0 where
   pub source : Option (List ℕ)
   pub given : ℕ
 
+-- after a reset
+abbrev pub first_flow : Flow
+first_flow = record { command = Null; base = 0; run = []; source = None; given = 0 }
+
 -- the pipeline stands for it
-abbrev pub HoldsFlow : PartData → PipelineData → Flow → Type 0
-HoldsFlow part p f = StandsFor part p f.command f.base f.run f.source f.given
+pub record HoldsFlow (part : PartData) (pipeline : PipelineData) (f : Flow) : Type 0 where
+  pub some_words : 0 < pipeline.width
+  pub width_is : pipeline.width ≡ frame_words part
+  pub far_width_is : pipeline.far_width ≡ far_width part
+  pub command_is : pipeline.command ≡ f.command
+  pub base_is : pipeline.base ≡ f.base
+  pub rest_is : pipeline.rest ≡ rest_of (frame_words part) f.run
+  pub newest_is : pipeline.newest ≡ newest_of (frames_of (frame_words part) f.run)
+  pub count_is : pipeline.frame_count ≡ length (frames_of (frame_words part) f.run)
+  pub within : length (frames_of (frame_words part) f.run) ≤ length (slots_from part f.base)
+  pub source_is : pipeline.source ≡ f.source
+  pub given_is : pipeline.given ≡ given_stored part f.base f.given
+  pub slot_is : pipeline.slot ≡ read_slot part f.base (given_stored part f.base f.given)
 
 -- what holds of a flow that the pipeline stands for
 abbrev pub OfFlow : PartData → PipelineData → (Flow → Type 0) → Type 0
-OfFlow part p Fact = (command : Command) (base : ℕ) (run : List ℕ) (source : Option (List ℕ)) (given : ℕ) → StandsFor part p command base run source given
-    → Fact (record { command = command; base = base; run = run; source = source; given = given })
+OfFlow part p Fact = (f : Flow) → HoldsFlow part p f → Fact f
 
 -- the pipeline goes on to this flow
 abbrev pub GoesOn : PartData → PipelineData → PipelineData → (Flow → Flow) → Type 0

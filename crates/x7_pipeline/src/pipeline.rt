@@ -13,8 +13,8 @@ ghost use Rattle.x7_pipeline.specs.Copies.{is_wcfg, is_mfw, source_with};
 ghost use Rattle.x7_pipeline.specs.Readback.{read_at, word_at};
 ghost use Rattle.x7_pipeline.specs.Faults.{write_fault, read_fault, drop_fault};
 ghost use Rattle.x7_pipeline.specs.Places.{StartsAt};
-ghost use Rattle.x7_pipeline.specs.Pipeline.{PipelineData, StandsFor, IsPipelineOf, passed};
-ghost use Rattle.x7_pipeline.specs.Flow.{copied_by, fault_of_copy, GoesOn, HoldsFlow, LandsAt, OfFlow, PutsNewest, after_reads, after_words, begun_at, begun_by, with_run, written_by};
+ghost use Rattle.x7_pipeline.specs.Pipeline.{PipelineData, IsPipelineOf, passed};
+ghost use Rattle.x7_pipeline.specs.Flow.{copied_by, fault_of_copy, GoesOn, HoldsFlow, LandsAt, OfFlow, PutsNewest, after_reads, after_words, begun_at, begun_by, first_flow, with_run, written_by};
 
 mod saved;
 
@@ -70,7 +70,7 @@ impl Pipeline {
     /// A pipeline as after a reset: no command was written, FAR is 0. It takes room for three frames, and no other call
     /// takes memory.
     pub fn new(alloc: Global, part: &Part) -> Result<Pipeline, NoMemory>
-        ensures stands { IfOk result (λ pipeline. StandsFor part.now pipeline Command.Null 0 [] None 0) }
+        ensures stands { IfOk result (λ pipeline. HoldsFlow part.now pipeline first_flow) }
         ensures part { IfOk result (IsPipelineOf part.now) }
     {
         let width = part.words();
@@ -91,7 +91,7 @@ impl Pipeline {
 
     /// What `new` gives, whatever it stood for.
     pub fn reset(&mut self)
-        ensures stands { (part : PartData) → IsPipelineOf part self.old → StandsFor part self.new Command.Null 0 [] None 0 }
+        ensures stands { (part : PartData) → IsPipelineOf part self.old → HoldsFlow part self.new first_flow }
         ensures part { (part : PartData) → IsPipelineOf part self.old → IsPipelineOf part self.new }
     {
         self.command = Command::Null;

@@ -6,14 +6,14 @@ use Rattle.std.specs.List.Sorted.{IsSortedBy, IsStableBy, ties}
 use Rattle.std.specs.Cmp.Lexicographic.{slice_cmp}
 use Rattle.std.specs.Cmp.{IsStrictWeakOrder}
 use Rattle.std.specs.Ordering.{nat_cmp, is_lt, is_eq, ordering_reverse}
-use Rattle.std.proofs.lemmas.Bool.{cases_eq, eqb-true, false≢true}
+use Rattle.std.proofs.lemmas.Bool.{cases_eq, cases_order, eqb-true, false≢true}
 use Rattle.std.proofs.lemmas.Bool.Decides.{nat_tests}
 use Rattle.std.proofs.lemmas.Cmp.{nat_list_cmp_total, same_from_slice_cmp}
-use Rattle.std.proofs.lemmas.List.{get_or-take, get_or-drop, get_or-map, get_or_default, append-nil, take-append-drop, drop_more, length-append, length-drop, length-take-le, drop-drop, length-map, get_or-set_same, get_or-set_other}
+use Rattle.std.proofs.lemmas.List.{get_or-take, get_or-drop, get_or-map, get_or_default, append-nil, take-append-drop, drop_more, length-append, length-drop, length-take-le, drop-drop, length-map, get_or-set_same, get_or-set_other, length_push, get_or_push, get_or_append_left}
 use Rattle.std.proofs.lemmas.List.Elements.{Contains-get_or}
 use Rattle.std.proofs.lemmas.List.Sorted.{sorted_far, ranks_by, All-permutation, Contains-permutation, IsPermutation-map}
 use Rattle.x7_memory.specs.Planned.{PlanRow}
-use Rattle.x7_planner.specs.Contents.{AreGrouped, AreStarts, AreTogether, IsBegun, IsFirst, IsPlaced, row_of, rows_of}
+use Rattle.x7_planner.specs.Contents.{AreFirsts, AreGrouped, AreStarts, AreTogether, IsBegun, IsFirst, IsPlaced, row_of, rows_of}
 use Rattle.x7_planner.specs.Partial.{same_words, with_content}
 use Rattle.x7_planner.specs.declared.content.Content.{Content}
 
@@ -248,15 +248,67 @@ start_new contents start k e b l t d =
     same_words-false (get_or contents k e).words.now (get_or contents start e).words.now t
     (ap (λ (r : PlanRow). r.words) (sym (row-at contents k d e l)) ∙ s ∙ ap (λ (r : PlanRow). r.words) (row-at contents start d e (let h = b.behind in omega (arith, h, l)))))
 
+-- places up to k know where their content begins
+pub record FirstsUpTo (rows : List PlanRow) (firsts : List ℕ) (start k : ℕ) : Type 0 where
+  pub begun : IsBegun rows start k
+  pub count : length firsts ≡ k
+  pub each : (j : ℕ) (d : PlanRow) → j < k → IsFirst rows (get_or rows j d).words (get_or firsts j 0)
+
+pub firsts_none : (rows : List PlanRow) → FirstsUpTo rows [] 0 0
+firsts_none rows = record {
+  begun = record { behind = omega arith; none = (λ e. refl); first = (λ d h. absurd (omega (arith, h))) };
+  count = refl;
+  each = (λ j d h. absurd (omega (arith, h)));
+}
+
+pub firsts_step : (rows : List PlanRow) (firsts new : List ℕ) (start k s : ℕ) → FirstsUpTo rows firsts start k → ((d : PlanRow) → IsFirst rows (get_or rows k d).words s) → s ≤ k → new ≡ firsts ++ s ∷ [] → FirstsUpTo rows new s (k + 1)
+firsts_step rows firsts new start k s u f b e =
+    subst (λ (t : List ℕ). FirstsUpTo rows t s (k + 1)) (sym e)
+    record {
+      begun = record { behind = omega (arith, b); none = (λ e. absurd (omega (arith, e))); first = (λ d h. subst (λ (i : ℕ). IsFirst rows (get_or rows i d).words s) (omega arith) (f d)) };
+      count = length_push firsts s ∙ ap (λ (n : ℕ). n + 1) u.count;
+      each = (λ j d h. at j d h (cases_order j k));
+    }
+  where
+    at : (j : ℕ) (d : PlanRow) → j < k + 1 → (j ≡ k) ⊎ ((j < k) ⊎ (k < j)) → IsFirst rows (get_or rows j d).words (get_or (firsts ++ s ∷ []) j 0)
+    at j d h (inl same) =
+        subst (λ (x : ℕ). IsFirst rows (get_or rows j d).words x) (sym (get_or_push firsts s 0 j (u.count ∙ sym same))) (subst (λ (i : ℕ). IsFirst rows (get_or rows i d).words s) (sym same) (f d))
+    at j d h (inr (inl below)) = subst (λ (x : ℕ). IsFirst rows (get_or rows j d).words x) (sym (get_or_append_left firsts (s ∷ []) 0 j (omega (arith, below, u.count)))) (u.each j d below)
+    at j d h (inr (inr above)) = absurd (omega (arith, h, above))
+
+pub firsts_all : (rows : List PlanRow) (firsts : List ℕ) (start k : ℕ) → FirstsUpTo rows firsts start k → k ≡ length rows → AreFirsts rows firsts
+firsts_all rows firsts start k u n = record { count = u.count ∙ n; each = (λ j d h. u.each j d (omega (arith, h, n))) }
+
+-- a content begins at one place
+not-later : (rows : List PlanRow) (words : List ℕ) (a b : ℕ) → AreTogether rows → IsFirst rows words a → IsFirst rows words b → a < b → ⊥
+not-later rows words a b t f g l =
+    let d : PlanRow = record { far = 0; words = [] } in
+    g.before d (omega (arith, l)) (t a (b - 1) b d (omega (arith, l)) (omega arith) g.inside (f.has d ∙ sym (g.has d)) ∙ f.has d)
+
+pub same-first : (rows : List PlanRow) (words : List ℕ) (a b : ℕ) → AreTogether rows → IsFirst rows words a → IsFirst rows words b → a ≡ b
+same-first rows words a b t f g = elim (cases_order a b) [
+  | inl e ↦ e
+  | inr (inl l) ↦ absurd (not-later rows words a b t f g l)
+  | inr (inr l) ↦ absurd (not-later rows words b a t g f l)
+]
+
+-- a place has the content that begins at a place exactly where its own begins there
+pub place-same : (rows : List PlanRow) (words firsts : List ℕ) (a k : ℕ) (d : PlanRow) → AreFirsts rows firsts → IsFirst rows words a → k < length rows → get_or firsts k 0 ≡ a → (get_or rows k d).words ≡ words
+place-same rows words firsts a k d m f l e =
+    let g : IsFirst rows (get_or rows k d).words a = subst (λ (x : ℕ). IsFirst rows (get_or rows k d).words x) e (m.each k d l) in
+    sym (g.has d) ∙ f.has d
+
+pub place-other : (rows : List PlanRow) (words firsts : List ℕ) (a k : ℕ) (d : PlanRow) → AreTogether rows → AreFirsts rows firsts → IsFirst rows words a → k < length rows → (get_or firsts k 0 ≡ a → ⊥) → (get_or rows k d).words ≢ words
+place-other rows words firsts a k d t m f l n e =
+    n (same-first rows words (get_or firsts k 0) a t (subst (λ (ws : List ℕ). IsFirst rows ws (get_or firsts k 0)) e (m.each k d l)) f)
+
 -- places up to k are marked
-pub record StartsUpTo (rows : List PlanRow) (contents : List Content) (starts : List ℕ) (start k : ℕ) : Type 0 where
-  pub begun : IsBegun (rows_of contents) start k
+pub record StartsUpTo (rows : List PlanRow) (contents : List Content) (starts : List ℕ) (k : ℕ) : Type 0 where
   pub done : (j : ℕ) (d : Content) (e : PlanRow) → j < k → IsFirst (rows_of contents) (get_or rows (get_or contents j d).row e).words (get_or starts (get_or contents j d).row 0)
 
-pub starts_more : (rows : List PlanRow) (contents : List Content) (starts : List ℕ) (start k s : ℕ) (c : Content) → AreGrouped rows contents → StartsUpTo rows contents starts start k → length starts ≡ length rows → k < length contents
-    → c ≡ get_or contents k c → ((d : PlanRow) → IsFirst (rows_of contents) (get_or (rows_of contents) k d).words s) → s ≤ k → StartsUpTo rows contents (set starts c.row s) s (k + 1)
-starts_more rows contents starts start k s c g u n l r f b = record {
-  begun = record { behind = omega (arith, b); none = (λ e. absurd (omega (arith, e))); first = (λ d h. subst (λ (i : ℕ). IsFirst (rows_of contents) (get_or (rows_of contents) i d).words s) (omega arith) (f d)) };
+pub starts_more : (rows : List PlanRow) (contents : List Content) (starts : List ℕ) (k s : ℕ) (c : Content) → AreGrouped rows contents → StartsUpTo rows contents starts k → length starts ≡ length rows → k < length contents
+    → c ≡ get_or contents k c → ((d : PlanRow) → IsFirst (rows_of contents) (get_or (rows_of contents) k d).words s) → StartsUpTo rows contents (set starts c.row s) (k + 1)
+starts_more rows contents starts k s c g u n l r f = record {
   done = (λ j d e h. at j d e h (cases_eq j k));
 }
   where
@@ -274,12 +326,16 @@ starts_more rows contents starts start k s c g u n l r f b = record {
       | inr differs ↦ rw (get_or-set_other starts c.row (get_or contents j d).row s 0 differs) (u.done j d e (omega (arith, h, other)))
     ]
 
-pub starts_step : (rows : List PlanRow) (contents : List Content) (starts : List ℕ) (start k s : ℕ) (e : Content) → AreGrouped rows contents → StartsUpTo rows contents starts start k → length starts ≡ length rows → k < length contents
-    → ((d : PlanRow) → IsFirst (rows_of contents) (get_or (rows_of contents) k d).words s) → s ≤ k → StartsUpTo rows contents (set starts (get_or contents k e).row s) s (k + 1)
-starts_step rows contents starts start k s e g u n l f b = starts_more rows contents starts start k s (get_or contents k e) g u n l (get_or_default contents k e (get_or contents k e) l) f b
+pub starts_step : (rows : List PlanRow) (contents : List Content) (starts firsts : List ℕ) (k x : ℕ) (e : Content) → AreGrouped rows contents → AreFirsts (rows_of contents) firsts → StartsUpTo rows contents starts k → length starts ≡ length rows → k < length contents
+    → StartsUpTo rows contents (set starts (get_or contents k e).row (get_or firsts k x)) (k + 1)
+starts_step rows contents starts firsts k x e g m u n l =
+    let inside : k < length (rows_of contents) = omega (arith, l, length-map contents row_of) in
+    let known : get_or firsts k 0 ≡ get_or firsts k x = get_or_default firsts k 0 x (omega (arith, inside, m.count)) in
+    starts_more rows contents starts k (get_or firsts k x) (get_or contents k e) g u n l (get_or_default contents k e (get_or contents k e) l)
+    (λ d. subst (λ (i : ℕ). IsFirst (rows_of contents) (get_or (rows_of contents) k d).words i) known (m.each k d inside))
 
-pub starts_all : (rows : List PlanRow) (contents : List Content) (starts : List ℕ) (start k : ℕ) → AreGrouped rows contents → StartsUpTo rows contents starts start k → length starts ≡ length rows → length contents ≤ k → AreStarts rows (rows_of contents) starts
-starts_all rows contents starts start k g u n l = record {
+pub starts_all : (rows : List PlanRow) (contents : List Content) (starts : List ℕ) (k : ℕ) → AreGrouped rows contents → StartsUpTo rows contents starts k → length starts ≡ length rows → length contents ≤ k → AreStarts rows (rows_of contents) starts
+starts_all rows contents starts k g u n l = record {
   count = n;
   each = (λ i d h. at i d (g.each i h));
 }

@@ -1,17 +1,17 @@
 -- The groups of a plan and the other rows, one row more.
-use Rattle.std.proofs.Common.{◌≡◌, ℕ, ◌+◌, ◌-◌, ◌<◌, ◌≤◌, ◌==◌, ◌&&◌, Bool, true, false, if◌then◌else◌, List, [], ◌∷◌, ◌++◌, length, take, get_or, refl, ap, sym, subst, ◌∙◌, arith, append_assoc, ◌⊎◌, inl, inr}
-use Rattle.std.proofs.lemmas.Bool.{cases_eq}
+use Rattle.std.proofs.Common.{◌≡◌, ℕ, ◌+◌, ◌-◌, ◌<◌, ◌≤◌, ◌==◌, ◌&&◌, Bool, true, false, if◌then◌else◌, List, [], ◌∷◌, ◌++◌, length, take, get_or, refl, ap, sym, subst, ◌∙◌, arith, append_assoc, eq-eqb, ◌⊎◌, inl, inr}
+use Rattle.std.proofs.lemmas.Bool.{cases_eq, eqb-true, false≢true}
 use Rattle.std.specs.Prelude.{nat_le}
 use Rattle.std.specs.List.{flat_map}
 use Rattle.std.proofs.lemmas.Grind.{flat_map-append}
 use Rattle.std.proofs.lemmas.List.{append-nil, take_more, length-map, map-append, get_or_default, length_push, get_or_push, get_or_append_left}
 use Rattle.x7_memory.specs.Planned.{PlanRow, planned_addresses}
 use Rattle.x7_part.specs.Part.{PartData, frame_words}
-use Rattle.x7_planner.specs.Contents.{AreGrouped, AreStarts, AreTogether, IsFirst, row_of, rows_of}
-use Rattle.x7_planner.specs.Partial.{Copies, copy_words, groups_led, is_shared, leads_group, others, same_words, stretch_words, with_content}
+use Rattle.x7_planner.specs.Contents.{AreFirsts, AreGrouped, AreStarts, AreTogether, IsFirst, row_of, rows_of}
+use Rattle.x7_planner.specs.Partial.{Copies, copy_words, groups_led, is_shared, leads_group, others, stretch_words, with_content}
 use Rattle.x7_planner.specs.Stream.{bytes_of_words}
 use Rattle.x7_planner.specs.declared.content.Content.{Content}
-use Rattle.x7_planner.proofs.ContentLemmas.{content-append, content-same, first-of, is-group, no-group, no-group-short, none-before, row-at, same_words-false, same_words-true, up-to}
+use Rattle.x7_planner.proofs.ContentLemmas.{content-append, content-same, first-of, is-group, no-group, no-group-short, none-before, place-other, place-same, row-at, up-to}
 use Rattle.x7_planner.proofs.SlotLemmas.{written-on}
 
 -- ---- contents of a plan's rows
@@ -43,12 +43,23 @@ content_pushed rows old new n c d e l p h at r m =
 pub short_group : (contents : List Content) (words : List ℕ) (a : ℕ) → AreTogether (rows_of contents) → IsFirst (rows_of contents) words a → length contents - a < 3 → false ≡ nat_le 3 (length (with_content words (rows_of contents)))
 short_group contents words a t f l = sym (no-group-short (rows_of contents) words a t f (omega (arith, l, length-map contents row_of)))
 
-pub group_by : (contents : List Content) (words : List ℕ) (a : ℕ) (e : Content) (b : Bool) → AreTogether (rows_of contents) → IsFirst (rows_of contents) words a → a + 2 < length contents → b ≡ same_words (get_or contents (a + 2) e).words.now words
-    → b ≡ nat_le 3 (length (with_content words (rows_of contents)))
-group_by contents words a e true t f l s =
-    sym (is-group (rows_of contents) words a (row_of e) t f (omega (arith, l, length-map contents row_of)) (ap (λ (r : PlanRow). r.words) (row-at contents (a + 2) (row_of e) e l) ∙ same_words-true (get_or contents (a + 2) e).words.now words (sym s)))
-group_by contents words a e false t f l s =
-    sym (no-group (rows_of contents) words a t f (omega (arith, l, length-map contents row_of)) (λ d h. same_words-false (get_or contents (a + 2) e).words.now words (sym s) (ap (λ (r : PlanRow). r.words) (sym (row-at contents (a + 2) d e l)) ∙ h)))
+pub group_by : (contents : List Content) (words firsts : List ℕ) (a x : ℕ) → AreTogether (rows_of contents) → AreFirsts (rows_of contents) firsts → IsFirst (rows_of contents) words a → a + 2 < length contents
+    → (get_or firsts (a + 2) x == a) ≡ nat_le 3 (length (with_content words (rows_of contents)))
+group_by contents words firsts a x t m f l = by (get_or firsts (a + 2) 0 == a) refl
+  where
+    inside : a + 2 < length (rows_of contents)
+    inside = omega (arith, l, length-map contents row_of)
+
+    known : get_or firsts (a + 2) x ≡ get_or firsts (a + 2) 0
+    known = get_or_default firsts (a + 2) x 0 (omega (arith, inside, m.count))
+
+    by : (b : Bool) → (get_or firsts (a + 2) 0 == a) ≡ b → (get_or firsts (a + 2) x == a) ≡ nat_le 3 (length (with_content words (rows_of contents)))
+    by true e =
+        let d : PlanRow = record { far = 0; words = [] } in
+        ap (λ (i : ℕ). i == a) known ∙ e ∙ sym (is-group (rows_of contents) words a d t f inside (place-same (rows_of contents) words firsts a (a + 2) d m f inside (eqb-true (get_or firsts (a + 2) 0) a e)))
+    by false e =
+        ap (λ (i : ℕ). i == a) known ∙ e
+        ∙ sym (no-group (rows_of contents) words a t f inside (λ d. place-other (rows_of contents) words firsts a (a + 2) d t m f inside (λ h. false≢true (sym e ∙ eq-eqb (get_or firsts (a + 2) 0) a h))))
 
 -- a content's first address
 pub first_far : (contents : List Content) (words : List ℕ) (a : ℕ) (e : Content) → AreTogether (rows_of contents) → IsFirst (rows_of contents) words a → get_or (planned_addresses (with_content words (rows_of contents))) 0 0 ≡ (get_or contents a e).far
@@ -128,27 +139,32 @@ pub copies_begin : (contents : List Content) (words old : List ℕ) (a : ℕ) �
 copies_begin contents words old a t f =
     sym (ap (λ x. old ++ bytes_of_words (flat_map copy_words (planned_addresses x))) (none-before (rows_of contents) words a t f) ∙ append-nil old)
 
-pub copies_more : (contents : List Content) (words old mid new : List ℕ) (k : ℕ) (e : Content) (b : Bool) → k < length contents → b ≡ same_words (get_or contents k e).words.now words → b ≡ true
+pub copies_more : (contents : List Content) (words firsts old mid new : List ℕ) (a k x : ℕ) (e : Content) → AreFirsts (rows_of contents) firsts → IsFirst (rows_of contents) words a → k < length contents → get_or firsts k x ≡ a
     → mid ≡ old ++ bytes_of_words (flat_map copy_words (planned_addresses (with_content words (take k (rows_of contents))))) → new ≡ mid ++ bytes_of_words (copy_words (get_or contents k e).far)
     → new ≡ old ++ bytes_of_words (flat_map copy_words (planned_addresses (with_content words (take (k + 1) (rows_of contents)))))
-copies_more contents words old mid new k e b l s y h m =
+copies_more contents words firsts old mid new a k x e f g l y h m =
     let rows : List PlanRow = rows_of contents in
     let r : PlanRow = row_of (get_or contents k e) in
+    let inside : k < length rows = omega (arith, l, length-map contents row_of) in
+    let here : get_or firsts k 0 ≡ a = get_or_default firsts k 0 x (omega (arith, inside, f.count)) ∙ y in
+    let has : r.words ≡ words = ap (λ (s : PlanRow). s.words) (sym (row-at contents k r e l)) ∙ place-same rows words firsts a k r f g inside here in
     let more : with_content words (take (k + 1) rows) ≡ with_content words (take k rows) ++ r ∷ [] =
-    ap (with_content words) (take_more rows k r (omega (arith, l, length-map contents row_of)) ∙ ap (λ (x : PlanRow). take k rows ++ x ∷ []) (row-at contents k r e l))
-    ∙ content-append words (take k rows) (r ∷ []) ∙ ap (λ t. with_content words (take k rows) ++ t) (content-same words r [] (same_words-true r.words words (sym s ∙ y))) in
+    ap (with_content words) (take_more rows k r inside ∙ ap (λ (x : PlanRow). take k rows ++ x ∷ []) (row-at contents k r e l))
+    ∙ content-append words (take k rows) (r ∷ []) ∙ ap (λ t. with_content words (take k rows) ++ t) (content-same words r [] has) in
     let all : flat_map copy_words (planned_addresses (with_content words (take (k + 1) rows))) ≡ flat_map copy_words (planned_addresses (with_content words (take k rows))) ++ copy_words r.far =
     ap (λ t. flat_map copy_words (planned_addresses t)) more ∙ ap (flat_map copy_words) (map-append (λ (x : PlanRow). x.far) (with_content words (take k rows)) (r ∷ []))
     ∙ flat_map-append copy_words (planned_addresses (with_content words (take k rows))) (r.far ∷ [])
     ∙ ap (λ t. flat_map copy_words (planned_addresses (with_content words (take k rows))) ++ t) (append-nil (copy_words r.far)) in
     written-on old mid new (flat_map copy_words (planned_addresses (with_content words (take k rows)))) (copy_words r.far) h m ∙ ap (λ t. old ++ bytes_of_words t) (sym all)
 
-pub copies_end : (contents : List Content) (words old new : List ℕ) (a k : ℕ) (e : Content) (b : Bool) → AreTogether (rows_of contents) → IsFirst (rows_of contents) words a → a ≤ k → k < length contents
-    → b ≡ same_words (get_or contents k e).words.now words → b ≡ false → new ≡ old ++ bytes_of_words (flat_map copy_words (planned_addresses (with_content words (take k (rows_of contents)))))
+pub copies_end : (contents : List Content) (words firsts old new : List ℕ) (a k x : ℕ) → AreTogether (rows_of contents) → AreFirsts (rows_of contents) firsts → IsFirst (rows_of contents) words a → a ≤ k → k < length contents
+    → (get_or firsts k x ≡ a → ⊥) → new ≡ old ++ bytes_of_words (flat_map copy_words (planned_addresses (with_content words (take k (rows_of contents)))))
     → new ≡ old ++ bytes_of_words (flat_map copy_words (planned_addresses (with_content words (rows_of contents))))
-copies_end contents words old new a k e b t f l m s y h =
+copies_end contents words firsts old new a k x t m f l inner n h =
+    let inside : k < length (rows_of contents) = omega (arith, inner, length-map contents row_of) in
+    let known : get_or firsts k x ≡ get_or firsts k 0 = get_or_default firsts k x 0 (omega (arith, inside, m.count)) in
     h ∙ ap (λ x. old ++ bytes_of_words (flat_map copy_words (planned_addresses x)))
-    (sym (up-to (rows_of contents) words a k t f l (λ d g. same_words-false (get_or contents k e).words.now words (sym s ∙ y) (ap (λ (r : PlanRow). r.words) (sym (row-at contents k d e m)) ∙ g))))
+    (sym (up-to (rows_of contents) words a k t f l (λ d. place-other (rows_of contents) words firsts a k d t m f inside (λ e. n (known ∙ e)))))
 
 pub group_written : (part : PartData) (old one two three new words fars : List ℕ) (first width : ℕ) → width ≡ frame_words part → get_or fars 0 0 ≡ first
     → one ≡ old ++ bytes_of_words (0x30008001 ∷ 1 ∷ 0x30002001 ∷ first ∷ 0x30004000 ∷ (0x50000000 + width) ∷ []) → two ≡ one ++ bytes_of_words words → three ≡ two ++ bytes_of_words (0x30008001 ∷ 2 ∷ [])

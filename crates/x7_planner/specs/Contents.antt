@@ -40,6 +40,11 @@ pub record IsBegun (rows : List PlanRow) (start place : ℕ) : Type 0 where
   pub none : place ≡ 0 → start ≡ 0
   pub first : (d : PlanRow) → 0 < place → IsFirst rows (slice_index_or rows (place - 1) d).words start
 
+-- the content at each place begins where firsts says
+pub record AreFirsts (rows : List PlanRow) (firsts : List ℕ) : Type 0 where
+  pub count : length firsts ≡ length rows
+  pub each : (k : ℕ) (d : PlanRow) → k < length rows → IsFirst rows (slice_index_or rows k d).words (slice_index_or firsts k 0)
+
 -- each row's content begins where starts says
 pub record AreStarts (rows grouped : List PlanRow) (starts : List ℕ) : Type 0 where
   pub count : length starts ≡ length rows

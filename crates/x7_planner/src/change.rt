@@ -3,14 +3,14 @@ ghost use Rattle.std.specs.Prelude.{◌≡◌, ◌⊎◌, ◌<◌, ◌++◌, len
 ghost use Rattle.std.specs.List.{flat_map};
 ghost use Rattle.x7_memory.specs.Planned.{AreAddressed};
 ghost use Rattle.x7_part.specs.Part.{frame_words};
-ghost use Rattle.x7_planner.specs.Contents.{AreGrouped, AreStarts, rows_of};
+ghost use Rattle.x7_planner.specs.Contents.{AreFirsts, AreGrouped, AreStarts, rows_of};
 ghost use Rattle.x7_planner.specs.Partial.{others, partial_opening, partial_stream, stretch_words, stretches_of};
 ghost use Rattle.x7_planner.specs.Refusals.{IsPartialFault};
 ghost use Rattle.x7_planner.specs.Stream.{with_piece, Words};
 ghost use Rattle.x7_planner.specs.declared.fault.PlanFault.{PlanFault};
 
 use crate::address::first_foreign;
-use crate::content::{Content, grouped, starts_of};
+use crate::content::{Content, firsts_of, grouped, starts_of};
 use crate::fault::PlanFault;
 use crate::group::{others_of, put_groups};
 use crate::run::put_runs;
@@ -27,6 +27,7 @@ const FIRST_WORDS: usize = 1024;
 #[derive(Drop)]
 struct Grouping<'p> {
     contents: Vec<Content<'p>>,
+    firsts: Vec<usize>,
     starts: Vec<usize>,
     alone: Vec<Content<'p>>,
 }
@@ -34,14 +35,17 @@ struct Grouping<'p> {
 /// A plan's frames by content.
 fn grouping_of(alloc: Global, plan: &Plan) -> Result<Grouping<'_>, AllocError>
     ensures contents { IfOk result (λ g. AreGrouped plan.now.rows g.contents.items) }
+    ensures firsts { IfOk result (λ g. AreFirsts (rows_of g.contents.items) g.firsts.items) }
     ensures starts { IfOk result (λ g. AreStarts plan.now.rows (rows_of g.contents.items) g.starts.items) }
     ensures alone { IfOk result (λ g. rows_of g.alone.items ≡ others plan.now.rows plan.now.rows) }
 {
     let contents = grouped(alloc, plan)?;
-    let starts = starts_of(alloc, plan, &contents)?;
-    let alone = others_of(alloc, plan, &contents, &starts)?;
+    let firsts = firsts_of(alloc, &contents)?;
+    let starts = starts_of(alloc, plan, &contents, &firsts)?;
+    let alone = others_of(alloc, plan, &contents, &firsts, &starts)?;
     Ok(Grouping {
         contents,
+        firsts,
         starts,
         alone,
     })
@@ -64,6 +68,7 @@ fn put_stretches(
     grouping: &Grouping,
 ) -> Result<(), NoMemory>
     requires contents { AreGrouped plan.now.rows grouping.now.contents.items }
+    requires firsts { AreFirsts (rows_of grouping.now.contents.items) grouping.now.firsts.items }
     requires starts { AreStarts plan.now.rows (rows_of grouping.now.contents.items) grouping.now.starts.items }
     requires alone { rows_of grouping.now.alone.items ≡ others plan.now.rows plan.now.rows }
     requires addresses { AreAddressed part.now plan.now.rows }
@@ -72,7 +77,14 @@ fn put_stretches(
     // The part is in range, and the plan in order: so its rows are few.
     let _frames = part.frames();
     let _rows = plan.len();
-    put_groups(writer, part, plan, &grouping.contents, &grouping.starts)?;
+    put_groups(
+        writer,
+        part,
+        plan,
+        &grouping.contents,
+        &grouping.firsts,
+        &grouping.starts,
+    )?;
     put_runs(writer, part, &grouping.alone)?;
     Ok(())
 }

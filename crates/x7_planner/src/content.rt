@@ -1,7 +1,7 @@
 //! The contents of planned frames, equal ones together.
 ghost use Rattle.std.specs.Prelude.{◌≡◌, ℕ, ◌<◌, ◌≤◌, length, slice_index_or, IfOk};
 ghost use Rattle.x7_memory.specs.Planned.{PlanRow};
-ghost use Rattle.x7_planner.specs.Contents.{AreGrouped, AreStarts, IsBegun, IsFirst, rows_of};
+ghost use Rattle.x7_planner.specs.Contents.{AreFirsts, AreGrouped, AreStarts, IsBegun, IsFirst, rows_of};
 ghost use Rattle.x7_planner.specs.Partial.{same_words};
 
 use std::alloc::{AllocError, Global};
@@ -59,20 +59,33 @@ fn start_at(contents: &[Content], start: usize, place: usize) -> usize
     place
 }
 
-/// Where each row's content begins.
+/// Where the content at each place begins.
+pub(crate) fn firsts_of(alloc: Global, contents: &[Content]) -> Result<Vec<usize>, AllocError>
+    ensures { IfOk result (λ firsts. AreFirsts (rows_of contents.now) firsts.items) }
+{
+    let mut firsts = Vec::with_capacity(alloc, contents.len())?;
+    let mut start = 0;
+    for place in 0..contents.len() {
+        start = start_at(contents, start, place);
+        firsts.push(start)?;
+    }
+    Ok(firsts)
+}
+
+/// Where each row's content begins; that of each place is known.
 pub(crate) fn starts_of(
     alloc: Global,
     plan: &Plan,
     contents: &[Content],
+    firsts: &[usize],
 ) -> Result<Vec<usize>, AllocError>
-    requires { AreGrouped plan.now.rows contents.now }
+    requires contents { AreGrouped plan.now.rows contents.now }
+    requires firsts { AreFirsts (rows_of contents.now) firsts.now }
     ensures { IfOk result (λ starts. AreStarts plan.now.rows (rows_of contents.now) starts.items) }
 {
     let mut starts = vec![in alloc; 0usize; plan.len()]?;
-    let mut start = 0;
     for k in 0..contents.len() {
-        start = start_at(contents, start, k);
-        starts[contents[k].row] = start;
+        starts[contents[k].row] = firsts[k];
     }
     Ok(starts)
 }

@@ -3,11 +3,11 @@ ghost use Rattle.std.specs.Prelude.{◌≡◌, ◌==◌, ◌&&◌, ◌<◌, ◌+
 ghost use Rattle.std.specs.List.{flat_map};
 ghost use Rattle.x7_memory.specs.Planned.{planned_addresses};
 ghost use Rattle.x7_part.specs.Part.{frame_words};
-ghost use Rattle.x7_planner.specs.Contents.{AreGrouped, AreStarts, AreTogether, IsFirst, rows_of};
+ghost use Rattle.x7_planner.specs.Contents.{AreFirsts, AreGrouped, AreStarts, AreTogether, IsFirst, rows_of};
 ghost use Rattle.x7_planner.specs.Partial.{copy_words, groups_led, others, stretch_words, with_content, Copies};
 ghost use Rattle.x7_planner.specs.Stream.{with_piece, Words};
 
-use crate::content::{Content, is_same};
+use crate::content::Content;
 use crate::writer::Writer;
 use std::alloc::{AllocError, Global};
 use x7_memory::Plan;
@@ -15,26 +15,28 @@ use x7_part::Part;
 use x7_words::NoMemory;
 
 /// Whether a content, whose first place is known, stands at three addresses or more.
-fn is_group(contents: &[Content], start: usize, words: &[u32]) -> bool
+fn is_group(contents: &[Content], firsts: &[usize], start: usize, _words: &[u32]) -> bool
     requires together { AreTogether (rows_of contents.now) }
-    requires first { IsFirst (rows_of contents.now) words.now start }
+    requires firsts { AreFirsts (rows_of contents.now) firsts.now }
+    requires first { IsFirst (rows_of contents.now) _words.now start }
     requires inside { start < length contents.now }
-    ensures { result ≡ nat_le 3 (length (with_content words.now (rows_of contents.now))) }
+    ensures { result ≡ nat_le 3 (length (with_content _words.now (rows_of contents.now))) }
 {
     if contents.len() - start < 3 {
         return false;
     }
-    is_same(contents[start + 2].words, words)
+    firsts[start + 2] == start
 }
 
 /// Whether the row at an address is the first of three or more with its content.
-fn leads(contents: &[Content], start: usize, far: u32, words: &[u32]) -> bool
+fn leads(contents: &[Content], firsts: &[usize], start: usize, far: u32, words: &[u32]) -> bool
     requires together { AreTogether (rows_of contents.now) }
+    requires firsts { AreFirsts (rows_of contents.now) firsts.now }
     requires first { IsFirst (rows_of contents.now) words.now start }
     requires inside { start < length contents.now }
     ensures { result ≡ (nat_le 3 (length (with_content words.now (rows_of contents.now))) && (slice_index (planned_addresses (with_content words.now (rows_of contents.now))) 0 == far)) }
 {
-    if !is_group(contents, start, words) {
+    if !is_group(contents, firsts, start, words) {
         return false;
     }
     contents[start].far == far
@@ -44,15 +46,17 @@ fn leads(contents: &[Content], start: usize, far: u32, words: &[u32]) -> bool
 fn put_copies(
     writer: &mut Writer,
     contents: &[Content],
+    firsts: &[usize],
     start: usize,
-    words: &[u32],
+    _words: &[u32],
 ) -> Result<(), NoMemory>
     requires together { AreTogether (rows_of contents.now) }
-    requires first { IsFirst (rows_of contents.now) words.now start }
-    ensures { OnOk result (writer.new ≡ with_piece writer.old (Words (flat_map copy_words (planned_addresses (with_content words.now (rows_of contents.now)))))) }
+    requires firsts { AreFirsts (rows_of contents.now) firsts.now }
+    requires first { IsFirst (rows_of contents.now) _words.now start }
+    ensures { OnOk result (writer.new ≡ with_piece writer.old (Words (flat_map copy_words (planned_addresses (with_content _words.now (rows_of contents.now)))))) }
 {
     for k in start..contents.len() {
-        if !is_same(contents[k].words, words) {
+        if firsts[k] != start {
             return Ok(());
         }
         writer.words(&[0x3000_2001, contents[k].far, 0x3001_4001, 0])?;
@@ -65,10 +69,12 @@ fn put_group(
     writer: &mut Writer,
     part: &Part,
     contents: &[Content],
+    firsts: &[usize],
     start: usize,
     words: &[u32],
 ) -> Result<(), NoMemory>
     requires together { AreTogether (rows_of contents.now) }
+    requires firsts { AreFirsts (rows_of contents.now) firsts.now }
     requires first { IsFirst (rows_of contents.now) words.now start }
     requires inside { start < length contents.now }
     ensures { OnOk result (writer.new ≡ with_piece writer.old (Words (stretch_words part.now (Copies words.now (planned_addresses (with_content words.now (rows_of contents.now))))))) }
@@ -84,7 +90,7 @@ fn put_group(
     ])?;
     writer.words(words)?;
     writer.words(&[0x3000_8001, 2])?;
-    put_copies(writer, contents, start, words)?;
+    put_copies(writer, contents, firsts, start, words)?;
     Ok(())
 }
 
@@ -93,19 +99,21 @@ fn put_led(
     writer: &mut Writer,
     part: &Part,
     contents: &[Content],
+    firsts: &[usize],
     start: usize,
     far: u32,
     words: &[u32],
 ) -> Result<(), NoMemory>
     requires together { AreTogether (rows_of contents.now) }
+    requires firsts { AreFirsts (rows_of contents.now) firsts.now }
     requires first { IsFirst (rows_of contents.now) words.now start }
     requires inside { start < length contents.now }
     ensures { OnOk result (writer.new ≡ with_piece writer.old (Words (flat_map (stretch_words part.now) (groups_led (rows_of contents.now) (record { far = far; words = words.now } ∷ []))))) }
 {
-    if !leads(contents, start, far, words) {
+    if !leads(contents, firsts, start, far, words) {
         return Ok(());
     }
-    put_group(writer, part, contents, start, words)?;
+    put_group(writer, part, contents, firsts, start, words)?;
     Ok(())
 }
 
@@ -115,9 +123,11 @@ pub(crate) fn put_groups(
     part: &Part,
     plan: &Plan,
     contents: &[Content],
+    firsts: &[usize],
     starts: &[usize],
 ) -> Result<(), NoMemory>
     requires contents { AreGrouped plan.now.rows contents.now }
+    requires firsts { AreFirsts (rows_of contents.now) firsts.now }
     requires starts { AreStarts plan.now.rows (rows_of contents.now) starts.now }
     ensures { OnOk result (writer.new ≡ with_piece writer.old (Words (flat_map (stretch_words part.now) (groups_led plan.now.rows plan.now.rows)))) }
 {
@@ -125,7 +135,7 @@ pub(crate) fn put_groups(
         let Some((far, words)) = plan.row(i) else {
             unreachable!()
         };
-        put_led(writer, part, contents, starts[i], far, words)?;
+        put_led(writer, part, contents, firsts, starts[i], far, words)?;
     }
     Ok(())
 }
@@ -149,18 +159,20 @@ pub(crate) fn others_of<'p>(
     alloc: Global,
     plan: &'p Plan,
     contents: &[Content],
+    firsts: &[usize],
     starts: &[usize],
 ) -> Result<Vec<Content<'p>>, AllocError>
     requires contents { AreGrouped plan.now.rows contents.now }
+    requires firsts { AreFirsts (rows_of contents.now) firsts.now }
     requires starts { AreStarts plan.now.rows (rows_of contents.now) starts.now }
     ensures { IfOk result (λ alone. rows_of alone.items ≡ others plan.now.rows plan.now.rows) }
 {
-    let mut alone = Vec::new(alloc);
+    let mut alone = Vec::with_capacity(alloc, plan.len())?;
     for row in 0..plan.len() {
         let Some((far, words)) = plan.row(row) else {
             unreachable!()
         };
-        let shared = is_group(contents, starts[row], words);
+        let shared = is_group(contents, firsts, starts[row], words);
         add_unless(&mut alone, shared, Content { far, words, row })?;
     }
     Ok(alone)

@@ -78,34 +78,34 @@ pub record TriesUpdate (i : Imaged) (attempts : List Tried) : Type 0 where
   pub attempts_are : attempts ≡ through_update (place_after i.part i.golden) trial.ending more
 
 -- the course of a boot: its attempts as they are told, how it ended, and its last attempt
-pub record Course : Type 0 where
+pub record BootCourse : Type 0 where
   pub attempts : List Tried
   pub end : BootEnd
   pub last : Trial
 
 -- that of what a boot came to, and that of its attempts, the newest first
-abbrev pub course_of : BootedState → Trial → Course
+abbrev pub course_of : BootedState → Trial → BootCourse
 course_of b last = record { attempts = b.attempts; end = b.end; last = last }
 
-abbrev pub course_along : Trial → List Trial → BootEnd → Course
+abbrev pub course_along : Trial → List Trial → BootEnd → BootCourse
 course_along last older end = record { attempts = reverse (map tried (last ∷ older)); end = end; last = last }
 
 -- The boot starts with the update: with the memory of its plan over zeros, and BOOTSTS tells of an attempt by IPROG, after one at power.
-pub record StartsUpdate (part : PartData) (golden update : PlanData) (c : Course) : Type 0 where
+pub record StartsUpdate (part : PartData) (golden update : PlanData) (c : BootCourse) : Type 0 where
   pub attempts_are : c.attempts ≡ through_update (place_after part golden) ending.Started []
   pub started : c.end ≡ boot_end.Started
   pub memory : AreSame (memory_in part c.last.kept c.last.bytes) (total part update)
   pub bootsts : (end_state part c.last).bootsts ≡ boot_status_of (record { kind = Iprog; cause = None; ignored = false }) (Some (record { kind = Power; cause = None; ignored = false }))
 
 -- The boot falls back: it starts with the golden stream, with the memory of its plan over zeros, and BOOTSTS tells of a fallback that ignored an IPROG, after an attempt by IPROG that failed by this cause.
-pub record FallsBack (part : PartData) (golden : PlanData) (cause : Cause) (c : Course) : Type 0 where
+pub record FallsBack (part : PartData) (golden : PlanData) (cause : Cause) (c : BootCourse) : Type 0 where
   pub attempts_are : c.attempts ≡ through_update (place_after part golden) (ending.Failed cause) (record { kind = Fallback; address = 0; ending = ending.Started } ∷ [])
   pub started : c.end ≡ boot_end.Started
   pub memory : AreSame (memory_in part c.last.kept c.last.bytes) (total part golden)
   pub bootsts : (end_state part c.last).bootsts ≡ boot_status_of (record { kind = Fallback; cause = None; ignored = true }) (Some (record { kind = Iprog; cause = Some cause; ignored = false }))
 
 -- The boot ends with the attempt at the update.
-pub record EndsAtUpdate (part : PartData) (golden : PlanData) (t : Trial) (by_end : BootEnd) (c : Course) : Type 0 where
+pub record EndsAtUpdate (part : PartData) (golden : PlanData) (t : Trial) (by_end : BootEnd) (c : BootCourse) : Type 0 where
   pub attempts_are : c.attempts ≡ through_update (place_after part golden) t.ending []
   pub end_is : c.end ≡ by_end
   pub last_is : c.last ≡ t

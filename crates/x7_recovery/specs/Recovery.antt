@@ -10,7 +10,7 @@ use Rattle.x7_planner.specs.Full.{full_stream}
 use Rattle.x7_engine.specs.State.{memory_in}
 use Rattle.x7_boot.specs.Attempt.{Trial}
 use Rattle.x7_boot.specs.Boot.{BootedState, IsBoot, end_state}
-use Rattle.x7_recovery.specs.ImageBoot.{Course, course_of, golden_image}
+use Rattle.x7_recovery.specs.ImageBoot.{BootCourse, course_of, golden_image}
 use Rattle.x7_boot.specs.declared.attempt.Ending.TheVariants as ending
 use Rattle.x7_boot.specs.declared.boots.BootEnd.TheVariants as boot_end
 use Rattle.x7_update.specs.After.{IsAfter}
@@ -45,7 +45,7 @@ pub record IsPrepared (u : Updating) : Type 0 where
   pub golden : HasGolden u.part u.golden u.flash
 
 -- The boot starts with the attempt at power: with the memory of the golden plan over zeros, and BOOTSTS tells of no other attempt.
-pub record StartsGolden (part : PartData) (golden : PlanData) (c : Course) : Type 0 where
+pub record StartsGolden (part : PartData) (golden : PlanData) (c : BootCourse) : Type 0 where
   pub attempts_are : c.attempts ≡ record { kind = Power; address = 0; ending = ending.Started } ∷ []
   pub started : c.end ≡ boot_end.Started
   pub memory : AreSame (memory_in part c.last.kept c.last.bytes) (total part golden)

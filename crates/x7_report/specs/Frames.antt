@@ -32,6 +32,6 @@ line_of far (Some words) = frame_text far words
 abbrev pub lines_text : FrameMap → List ℕ → List ℕ
 lines_text memory fars = flat_map (λ far. line_of far (memory far)) fars
 
--- the number of the frames shown, and their lines in number order of their addresses
+-- the number of the frames shown at these addresses, and their lines in the addresses' order
 unfoldable pub frames_text : FrameMap → List ℕ → List ℕ
 frames_text memory fars = codes "frames " ++ decimal (length (shown memory fars)) ++ codes "\n" ++ flat_map (λ far. line_of far (memory far)) (shown memory fars)

@@ -1,12 +1,23 @@
 -- The report of a device (this project's choice).
-use Rattle.std.specs.Prelude.{ℕ, Bool, List, ◌++◌}
+use Rattle.std.specs.Prelude.{ℕ, Bool, List, ◌++◌, codes, decimal}
 use Rattle.x7_part.specs.AddressOrder.{addresses_in}
 use Rattle.x7_part.specs.Part.{PartData}
 use Rattle.x7_memory.specs.FrameMap.{FrameMap}
 use Rattle.x7_engine.specs.declared.regs.Regs.{Regs}
+use Rattle.x7_engine.specs.Past.{Past}
+use Rattle.x7_engine.specs.Standing.{DeviceState, frames_due}
+use Rattle.x7_engine.specs.State.{state_owing}
 use Rattle.x7_report.specs.Frames.{frames_text}
 use Rattle.x7_report.specs.Reads.{reads_text}
 use Rattle.x7_report.specs.State.{state_text}
+
+-- the state that a device of this past shows: FAR is that of the words given so far
+abbrev pub state_shown : DeviceState → Past → Regs
+state_shown d p = state_owing p.part p.kept p.wrapped p.bytes (frames_due d.registers.due)
+
+-- what comes before the lines of frames, where so many are shown
+abbrev pub head_text : PartData → Regs → List ℕ → ℕ → List ℕ
+head_text part regs reads count = state_text part.name regs ++ reads_text reads ++ codes "frames " ++ decimal count ++ codes "\n"
 
 -- all of it
 unfoldable pub report_text : PartData → Regs → List ℕ → FrameMap → List ℕ

@@ -1,11 +1,8 @@
 //! The report of a device.
-ghost use Rattle.std.specs.Prelude.{◌≡◌, ◌++◌, codes, decimal, IfOk};
+ghost use Rattle.std.specs.Prelude.{◌≡◌, IfOk};
 ghost use Rattle.x7_engine.specs.Past.{OfPast, memory_at, state_at};
-ghost use Rattle.x7_engine.specs.Standing.{NoWordDue, frames_due};
-ghost use Rattle.x7_engine.specs.State.{state_owing};
-ghost use Rattle.x7_report.specs.Reads.{reads_text};
-ghost use Rattle.x7_report.specs.Report.{report_text};
-ghost use Rattle.x7_report.specs.State.{state_text};
+ghost use Rattle.x7_engine.specs.Standing.{NoWordDue};
+ghost use Rattle.x7_report.specs.Report.{head_text, report_text, state_shown};
 
 use crate::frames::put_frames;
 use crate::reads::put_reads;
@@ -23,9 +20,8 @@ pub(crate) fn report_head(
     count: usize,
 ) -> Result<Vec<u8>, NoMemory>
     ensures value { IfOk result (λ text. OfPast device.now (λ p. NoWordDue device.now
-        → text.items ≡ state_text p.part.name (state_at p) ++ reads_text reads.now ++ codes "frames " ++ decimal count ++ codes "\n")) }
-    ensures owing { IfOk result (λ text. OfPast device.now (λ p.
-        text.items ≡ state_text p.part.name (state_owing p.part p.kept p.wrapped p.bytes (frames_due device.now.registers.due)) ++ reads_text reads.now ++ codes "frames " ++ decimal count ++ codes "\n")) }
+        → text.items ≡ head_text p.part (state_at p) reads.now count)) }
+    ensures owing { IfOk result (λ text. OfPast device.now (λ p. text.items ≡ head_text p.part (state_shown device.now p) reads.now count)) }
 {
     let mut text = Vec::new(alloc);
     put_state(&mut text, device.part().name(), &device.state())?;

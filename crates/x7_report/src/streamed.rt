@@ -1,13 +1,12 @@
-//! The report of a play, ready to be written: the lines of its frames are made as they are written.
+//! The report of a device, ready to be written: the lines of its frames are made as they are written, some at a time.
 ghost use Rattle.std.specs.Prelude.{◌≡◌, ◌++◌, ◌+◌, ◌*◌, ◌≤◌, length, vec_len, vec_capacity, IfOk, OnErr, OnOk};
 ghost use Rattle.x7_words.specs.Sink.{Counts, PutsAll, PutsSome, SinkFails};
 ghost use Rattle.x7_text.specs.Appends.{Appends};
 ghost use Rattle.x7_memory.specs.Frames.{AreFramesOf, frame_at};
 ghost use Rattle.x7_engine.specs.Past.{OfPast, memory_at, state_at};
-ghost use Rattle.x7_engine.specs.Standing.{NoWordDue, frames_due};
-ghost use Rattle.x7_engine.specs.State.{state_owing};
+ghost use Rattle.x7_engine.specs.Standing.{NoWordDue};
 ghost use Rattle.x7_report.specs.Frames.{line_of, lines_text};
-ghost use Rattle.x7_report.specs.Report.{report_text};
+ghost use Rattle.x7_report.specs.Report.{report_text, state_shown};
 
 use crate::frames::{put_frame, shown_frames};
 use crate::reports::report_head;
@@ -109,8 +108,7 @@ impl PlayText {
         stopped: bool,
     ) -> Result<PlayText, NoMemory>
         ensures value { IfOk result (λ text. OfPast device (λ p. NoWordDue device → text ≡ record { stopped = stopped; text = report_text p.part (state_at p) reads.now (memory_at p) })) }
-        ensures owing { IfOk result (λ text. OfPast device (λ p.
-            text ≡ record { stopped = stopped; text = report_text p.part (state_owing p.part p.kept p.wrapped p.bytes (frames_due device.registers.due)) reads.now (memory_at p) })) }
+        ensures owing { IfOk result (λ text. OfPast device (λ p. text ≡ record { stopped = stopped; text = report_text p.part (state_shown device p) reads.now (memory_at p) })) }
     {
         let fars = shown_frames(alloc, device.part(), device.memory())?;
         let head = report_head(alloc, &device, reads, fars.len())?;

@@ -1,5 +1,5 @@
 -- One call more at the end of a list of calls of a startup.
-use Rattle.std.proofs.Common.{◌≡◌, ℕ, zero, suc, ◌+◌, ◌/◌, ◌%◌, ◌<◌, ◌≤◌, min, Bool, true, false, List, [], ◌∷◌, ◌++◌, replicate, Option, Some, None, if◌then◌else◌, refl, sym, ap, ◌∙◌, arith}
+use Rattle.std.proofs.Common.{◌≡◌, ℕ, zero, suc, ◌+◌, ◌/◌, ◌%◌, ◌<◌, ◌≤◌, min, Bool, true, false, List, [], ◌∷◌, ◌++◌, replicate, Some, None, if◌then◌else◌, refl, sym, ap, ◌∙◌, arith}
 use Rattle.std.proofs.Math.Nat.{zero-add}
 use Rattle.x7_startup.specs.Arrivals.{wait_of, IsPhase}
 use Rattle.x7_startup.specs.Calls.{IsPhaseOf, Call, Arm, Desync, Byte, DropBack, StartupProgress, NotBegun, Begun, has_taking, since_taking, count_bytes, is_armed, start_of, progress_of, Stored, StoresAt, StandsFor}
@@ -141,13 +141,16 @@ start_desync false (DropBack ∷ calls) d = start_desync false calls d
 
 -- ---- what a call leaves
 
+armed_so : (lock matched : ℕ) (s : Stored) (armed : Bool) (progress : StartupProgress) → StoresAt lock matched s progress → StoresAt lock matched (record s { armed = armed }) progress
+armed_so lock matched s armed progress h = record { begun_is = h.begun_is; tick_bytes_are = h.tick_bytes_are; ticks_are = h.ticks_are; phase_is = h.phase_is }
+
 pub arm_stands : (lock matched : ℕ) (s : Stored) (calls : List Call) → StandsFor lock matched s calls →
     StandsFor lock matched (record s { armed = true }) (calls ++ Arm ∷ [])
 arm_stands lock matched s calls h =
     let e = since_push calls (Arm ∷ []) refl in
     record {
       armed_is = sym (ap (is_armed false) e ∙ armed_arm false (since_taking calls));
-      stores = rw (e, start_arm false (since_taking calls)) h.stores;
+      stores = rw (e, start_arm false (since_taking calls)) (armed_so lock matched s true (progress_of calls) h.stores);
     }
 
 pub drop_stands : (lock matched : ℕ) (calls : List Call) →
@@ -159,23 +162,22 @@ drop_stands lock matched calls =
       stores = rw e record { begun_is = refl; tick_bytes_are = refl; ticks_are = refl; phase_is = refl };
     }
 
-desync_stores : (lock matched : ℕ) (begun : Option ℕ) (tick_bytes ticks phase : ℕ) (progress : StartupProgress) (armed : Bool) (d : ℕ) →
-    StoresAt lock matched begun tick_bytes ticks phase progress →
-    StoresAt lock matched (first_some begun (if armed then Some d else None)) tick_bytes ticks phase (first_place progress armed d)
-desync_stores lock matched begun tick_bytes ticks phase NotBegun true d h =
-    let none : begun ≡ None = h.begun_is in
-    let first : phase ≡ 0 = h.phase_is in
+desync_stores : (lock matched : ℕ) (s : Stored) (progress : StartupProgress) (armed : Bool) (d : ℕ) → StoresAt lock matched s progress →
+    StoresAt lock matched (record s { armed = false; begun = first_some s.begun (if armed then Some d else None) }) (first_place progress armed d)
+desync_stores lock matched s NotBegun true d h =
+    let none : s.begun ≡ None = h.begun_is in
+    let first : s.phase ≡ 0 = h.phase_is in
     record {
       begun_is = rw none refl;
       tick_bytes_are = h.tick_bytes_are;
       ticks_are = h.ticks_are;
       phase_is = rw first (phase_first (wait_of lock matched d));
     }
-desync_stores lock matched begun tick_bytes ticks phase NotBegun false d h =
-    let none : begun ≡ None = h.begun_is in
+desync_stores lock matched s NotBegun false d h =
+    let none : s.begun ≡ None = h.begun_is in
     record { begun_is = rw none refl; tick_bytes_are = h.tick_bytes_are; ticks_are = h.ticks_are; phase_is = h.phase_is }
-desync_stores lock matched begun tick_bytes ticks phase (Begun cor0 bytes) armed d h =
-    let some : begun ≡ Some cor0 = h.begun_is in
+desync_stores lock matched s (Begun cor0 bytes) armed d h =
+    let some : s.begun ≡ Some cor0 = h.begun_is in
     record { begun_is = rw some refl; tick_bytes_are = h.tick_bytes_are; ticks_are = h.ticks_are; phase_is = h.phase_is }
 
 pub desync_stands : (lock matched : ℕ) (s : Stored) (calls : List Call) (d : ℕ) → StandsFor lock matched s calls →
@@ -185,18 +187,17 @@ desync_stands lock matched s calls d h =
     record {
       armed_is = sym (ap (is_armed false) e ∙ armed_desync false (since_taking calls) d);
       stores = rw (e, start_desync false (since_taking calls) d, ← h.armed_is)
-          (desync_stores lock matched s.begun s.tick_bytes s.ticks s.phase (progress_of calls) s.armed d h.stores);
+          (desync_stores lock matched s (progress_of calls) s.armed d h.stores);
     }
 
 no_taking : (n : ℕ) → has_taking (replicate n Byte) ≡ false
 no_taking zero = refl
 no_taking (suc n) = no_taking n
 
-idle : (lock matched : ℕ) (begun : Option ℕ) (tick_bytes ticks phase : ℕ) (progress : StartupProgress) (n : ℕ) → begun ≡ None →
-    StoresAt lock matched begun tick_bytes ticks phase progress → StoresAt lock matched begun tick_bytes ticks phase (further n progress)
-idle lock matched begun tick_bytes ticks phase NotBegun n none h = h
-idle lock matched begun tick_bytes ticks phase (Begun cor0 bytes) n none h =
-    let some : begun ≡ Some cor0 = h.begun_is in absurd (cc (none, some))
+idle : (lock matched : ℕ) (s : Stored) (progress : StartupProgress) (n : ℕ) → s.begun ≡ None → StoresAt lock matched s progress → StoresAt lock matched s (further n progress)
+idle lock matched s NotBegun n none h = h
+idle lock matched s (Begun cor0 bytes) n none h =
+    let some : s.begun ≡ Some cor0 = h.begun_is in absurd (cc (none, some))
 
 -- bytes at a startup that hasn't begun
 pub idle_stands : (lock matched : ℕ) (s : Stored) (calls : List Call) (n : ℕ) → s.begun ≡ None → StandsFor lock matched s calls →
@@ -206,25 +207,24 @@ idle_stands lock matched s calls n none h =
     record {
       armed_is = h.armed_is ∙ sym (ap (is_armed false) e ∙ armed_bytes false (since_taking calls) n);
       stores = rw (e, start_bytes false (since_taking calls) n)
-          (idle lock matched s.begun s.tick_bytes s.ticks s.phase (progress_of calls) n none h.stores);
+          (idle lock matched s (progress_of calls) n none h.stores);
     }
 
-goes_on : (lock matched : ℕ) (begun : Option ℕ) (tick_bytes ticks phase : ℕ) (progress : StartupProgress) (n cor0 more tick_bytes' ticks' phase' : ℕ) →
-    begun ≡ Some cor0 → more ≡ (tick_bytes + n) / 4 → tick_bytes' ≡ (tick_bytes + n) % 4 →
-    PassesTicks (wait_of lock matched cor0) (reached ticks phase) more (reached ticks' phase') →
-    StoresAt lock matched begun tick_bytes ticks phase progress →
-    StoresAt lock matched begun tick_bytes' ticks' phase' (further n progress)
-goes_on lock matched begun tick_bytes ticks phase NotBegun n cor0 more tick_bytes' ticks' phase' some m q runs h =
-    let none : begun ≡ None = h.begun_is in absurd (cc (some, none))
-goes_on lock matched begun tick_bytes ticks phase (Begun c b) n cor0 more tick_bytes' ticks' phase' some m q runs h =
-    let was : begun ≡ Some c = h.begun_is in
+goes_on : (lock matched : ℕ) (s : Stored) (progress : StartupProgress) (n cor0 more tick_bytes ticks phase : ℕ) → s.begun ≡ Some cor0 →
+    more ≡ (s.tick_bytes + n) / 4 → tick_bytes ≡ (s.tick_bytes + n) % 4 →
+    PassesTicks (wait_of lock matched cor0) (reached s.ticks s.phase) more (reached ticks phase) → StoresAt lock matched s progress →
+    StoresAt lock matched (record s { tick_bytes = tick_bytes; ticks = ticks; phase = phase }) (further n progress)
+goes_on lock matched s NotBegun n cor0 more tick_bytes ticks phase some m q runs h =
+    let none : s.begun ≡ None = h.begun_is in absurd (cc (some, none))
+goes_on lock matched s (Begun c b) n cor0 more tick_bytes ticks phase some m q runs h =
+    let was : s.begun ≡ Some c = h.begun_is in
     let same : c ≡ cor0 = cc (some, was) in
-    let before : tick_bytes ≡ b % 4 = h.tick_bytes_are in
+    let before : s.tick_bytes ≡ b % 4 = h.tick_bytes_are in
     let all : b / 4 + more ≡ (b + n) / 4 = omega arith in
-    let p : IsPhase (wait_of lock matched c) (b / 4) phase = h.phase_is in
+    let p : IsPhase (wait_of lock matched c) (b / 4) s.phase = h.phase_is in
     let r = runs (b / 4) h.ticks_are (rw same at p) in
-    let t : ticks' ≡ min ((b + n) / 4) 65535 = rw (← all) r.0 in
-    let f : IsPhase (wait_of lock matched cor0) ((b + n) / 4) phase' = rw all at r.1 in
+    let t : ticks ≡ min ((b + n) / 4) 65535 = rw (← all) r.0 in
+    let f : IsPhase (wait_of lock matched cor0) ((b + n) / 4) phase = rw all at r.1 in
     record { begun_is = was; tick_bytes_are = omega arith; ticks_are = t; phase_is = rw same f }
 
 -- bytes at a startup that has begun
@@ -237,7 +237,7 @@ running_stands lock matched s calls n cor0 more tick_bytes ticks phase begun m q
     record {
       armed_is = h.armed_is ∙ sym (ap (is_armed false) e ∙ armed_bytes false (since_taking calls) n);
       stores = rw (e, start_bytes false (since_taking calls) n)
-          (goes_on lock matched s.begun s.tick_bytes s.ticks s.phase (progress_of calls) n cor0 more tick_bytes ticks phase begun m q runs h.stores);
+          (goes_on lock matched s (progress_of calls) n cor0 more tick_bytes ticks phase begun m q runs h.stores);
     }
 
 -- a byte that ends no tick

@@ -78,13 +78,13 @@ pub record Stored : Type 0 where
   pub phase : ℕ
 
 -- what is kept is that of a progress
-pub record StoresAt (lock matched : ℕ) (begun : Option ℕ) (tick_bytes ticks phase : ℕ) (progress : StartupProgress) : Type 0 where
-  pub begun_is : begun ≡ cor0_of progress
-  pub tick_bytes_are : tick_bytes ≡ bytes_of progress % 4
-  pub ticks_are : ticks ≡ min (ticks_of progress) 65535
-  pub phase_is : IsPhaseOf lock matched progress phase
+pub record StoresAt (lock matched : ℕ) (s : Stored) (progress : StartupProgress) : Type 0 where
+  pub begun_is : s.begun ≡ cor0_of progress
+  pub tick_bytes_are : s.tick_bytes ≡ bytes_of progress % 4
+  pub ticks_are : s.ticks ≡ min (ticks_of progress) 65535
+  pub phase_is : IsPhaseOf lock matched progress s.phase
 
 -- what is kept is that of the calls, each byte of which was taken with these lock and match numbers
 pub record StandsFor (lock matched : ℕ) (s : Stored) (calls : List Call) : Type 0 where
   pub armed_is : s.armed ≡ is_armed false (since_taking calls)
-  pub stores : StoresAt lock matched s.begun s.tick_bytes s.ticks s.phase (progress_of calls)
+  pub stores : StoresAt lock matched s (progress_of calls)

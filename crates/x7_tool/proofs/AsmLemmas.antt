@@ -1,14 +1,13 @@
 -- A text that assembles to nothing.
-use Rattle.std.proofs.Common.{◌≡◌, ℕ, ◌^◌, ◌<◌, List, [], ◌∷◌, ◌++◌, Option, None, Some, Result, Ok, Err, length, refl, subst, sym, append_assoc, append-nil, ◌⊎◌, inl, inr}
-use Rattle.x7_listing.specs.Assembling.{AssemblerStandsFor, AssemblerState, FailsIn}
-use Rattle.x7_tool.specs.Turns.{IsFed}
+use Rattle.std.proofs.Common.{◌≡◌, ℕ, ◌^◌, ◌<◌, List, [], ◌∷◌, ◌++◌, Result, Ok, Err, OnOk, IfErr, MatchResult, length, refl, subst, ◌⊎◌, inl, inr}
+use Rattle.x7_listing.specs.Assembling.{AssemblerStandsFor, AssemblerState, FailsIn, TakesPiece}
 use Rattle.x7_listing.specs.Assembly.{IsAsm}
 use Rattle.x7_listing.specs.declared.assembler.AsmFault.{AsmFault}
 use Rattle.x7_listing.specs.declared.assembler.AsmFault.TheVariants as fault
 use Rattle.x7_words.specs.Input.{InputsState}
 use Rattle.x7_forms.specs.Event.{Event, no_memory}
 use Rattle.x7_forms.specs.Known.{Answer, whole_in}
-use Rattle.x7_tool.specs.Outcome.{AssembledAs, asm_event, text_limit}
+use Rattle.x7_tool.specs.Outcome.{AssembledAs, IsAsmFault, asm_event, text_limit}
 use Rattle.x7_forms.specs.Step.{IsDecided, IsPossible, ReadsWhole}
 use Rattle.x7_forms.specs.Form.{Assembling}
 use Rattle.x7_tool.specs.Run.{AnswersForm}
@@ -31,29 +30,15 @@ asm_faulted old new name text f event e whole why =
 
 -- ---- an assembler that is fed
 
--- a piece behind a fault
-pub fed_on : (found : Option AsmFault) (f : AsmFault) (a b : AssemblerState) (text piece : List ℕ) → found ≡ Some f → IsFed found a text → IsFed (Some f) b (text ++ piece)
-fed_on found f a b text piece e h = faulty (subst (λ o. IsFed o a text) e h)
+-- a piece is fed
+pub asm_fed : (r : Result (Unit {0}) AsmFault) (a b : AssemblerState) (piece : List ℕ) → OnOk r (TakesPiece a b piece) → IfErr r (FailsIn a piece) → (text : List ℕ) → length (text ++ piece) < 2 ^ 63 → AssemblerStandsFor a text
+    → MatchResult r (λ _. AssemblerStandsFor b (text ++ piece)) (λ f. (more : List ℕ) → IsAsmFault f ((text ++ piece) ++ more))
+asm_fed (Ok u) a b piece takes fails text fits s = takes text fits s
+asm_fed (Err f) a b piece takes fails text fits s = faulty fails
   where
-    faulty : (f ≡ fault.NoMemory) ⊎ ((more : List ℕ) → IsAsm (text ++ more) (Err f)) → (f ≡ fault.NoMemory) ⊎ ((more : List ℕ) → IsAsm ((text ++ piece) ++ more) (Err f))
-    faulty (inl n) = inl n
-    faulty (inr k) = inr (λ more. subst (λ t. IsAsm t (Err f)) (sym (append_assoc text piece more)) (k (piece ++ more)))
-
--- a fault in a piece
-pub fed_fault : (found : Option AsmFault) (f : AsmFault) (a b : AssemblerState) (text piece : List ℕ) → found ≡ None → length (text ++ piece) < 2 ^ 63 → FailsIn a piece f → IsFed found a text → IsFed (Some f) b (text ++ piece)
-fed_fault found f a b text piece e fits fails h = faulty fails
-  where
-    faulty : FailsIn a piece f → (f ≡ fault.NoMemory) ⊎ ((more : List ℕ) → IsAsm ((text ++ piece) ++ more) (Err f))
-    faulty (inl n) = inl n
-    faulty (inr k) = inr (λ more. k text more fits (subst (λ o. IsFed o a text) e h))
-
--- the fault of a whole text
-pub fed_end : (found : Option AsmFault) (f : AsmFault) (a : AssemblerState) (text : List ℕ) → found ≡ Some f → IsFed found a text → (f ≡ fault.NoMemory) ⊎ IsAsm text (Err f)
-fed_end found f a text e h = faulty (subst (λ o. IsFed o a text) e h)
-  where
-    faulty : (f ≡ fault.NoMemory) ⊎ ((more : List ℕ) → IsAsm (text ++ more) (Err f)) → (f ≡ fault.NoMemory) ⊎ IsAsm text (Err f)
-    faulty (inl n) = inl n
-    faulty (inr k) = inr (subst (λ t. IsAsm t (Err f)) (append-nil text) (k []))
+    faulty : FailsIn a piece f → (more : List ℕ) → IsAsmFault f ((text ++ piece) ++ more)
+    faulty (inl none) more = inl none
+    faulty (inr h) more = inr (h text more fits s)
 
 -- the fault of the end of a text
 pub end_fault : (a : AssemblerState) (f : AsmFault) (text : List ℕ) → length text < 2 ^ 63 → AssemblerStandsFor a text → (f ≡ fault.NoMemory) ⊎ ((t : List ℕ) → length t < 2 ^ 63 → AssemblerStandsFor a t → IsAsm t (Err f)) → (f ≡ fault.NoMemory) ⊎ IsAsm text (Err f)

@@ -1,5 +1,5 @@
 -- Lemmas on the text of a boot, and on what a flash comes to.
-use Rattle.std.proofs.Common.{◌≡◌, ◌<◌, ◌≤◌, ◌++◌, ℕ, Bool, List, [], ◌∷◌, length, Option, None, Some, Result, Ok, Err, IfErr, IfOk, refl, ap, subst, sym, ◌∙◌, inl, inr, ◌⊎◌, arith}
+use Rattle.std.proofs.Common.{◌≡◌, ◌<◌, ◌≤◌, ◌++◌, ℕ, Bool, List, [], length, Option, None, Some, Result, Ok, Err, IfErr, IfOk, refl, ap, subst, sym, ◌∙◌, inl, inr, ◌⊎◌, arith}
 use Rattle.std.proofs.lemmas.Bool.{cases_lt}
 use Rattle.std.specs.Prelude.{IsTrue}
 use Rattle.x7_words.specs.Flash.{AsksFor, FlashFails, FlashState, IsSized, OnlyReads, IfKnown}

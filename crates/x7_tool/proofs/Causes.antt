@@ -15,7 +15,7 @@ use Rattle.x7_header.proofs.HeaderLemmas.{raw_at}
 use Rattle.x7_listing.specs.Listing.{listing_of}
 use Rattle.x7_listing.specs.StreamListing.{stream_listing}
 use Rattle.x7_forms.specs.declared.bad_input.InputFault.TheVariants as input
-use Rattle.x7_forms.specs.Form.{Asked, Listing}
+use Rattle.x7_forms.specs.Form.{Listing}
 use Rattle.x7_forms.specs.Event.{Event, Cause, Break, bad_input, cause_of, missing, no_memory, read_fault, status_of, too_large, write_fault}
 use Rattle.x7_forms.specs.Message.{event_of, final_status}
 use Rattle.x7_forms.specs.declared.refusal.Refusal.{Refusal}

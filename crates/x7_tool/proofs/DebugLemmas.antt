@@ -9,7 +9,7 @@ use Rattle.x7_engine.specs.Stops.{fault_of}
 use Rattle.x7_debug.specs.declared.order.Order.{Order}
 use Rattle.x7_debug.specs.Session.{MovesTo, SessionState}
 use Rattle.x7_debug.specs.Transcript.{final_position, transcript_of}
-use Rattle.x7_forms.specs.Known.{Known, data_in, stream_limit, whole_in}
+use Rattle.x7_forms.specs.Known.{data_in, stream_limit, whole_in}
 use Rattle.x7_forms.proofs.ReadLemmas.{Steady, so_steady, whole_steady, work_steady}
 use Rattle.x7_tool.specs.Outcome.{shown_of, stream_data}
 

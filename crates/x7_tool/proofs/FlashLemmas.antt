@@ -1,5 +1,5 @@
 -- What may fail where a form reads a flash too, and how a boot from one ends.
-use Rattle.std.proofs.Common.{◌≡◌, ◌≤◌, ◌∙◌, ap, arith, ℕ, Bool, List, [], ◌∷◌, Option, None, Some, Result, Ok, Err, refl, subst, sym, inl, inr, ◌⊎◌}
+use Rattle.std.proofs.Common.{◌≡◌, ◌∙◌, ap, arith, ℕ, Bool, List, [], ◌∷◌, Option, None, Some, Result, Ok, Err, refl, subst, sym, inl, inr}
 use Rattle.std.specs.Prelude.{IsTrue}
 use Rattle.x7_words.specs.Count.{HasRisen}
 use Rattle.x7_words.specs.Flash.{AsksFor, FlashFails, FlashState, FlashStays, OnlyReads, Unattached, Unwritten}
@@ -12,8 +12,8 @@ use Rattle.x7_part.specs.declared.fault.PartFault.{PartFault}
 use Rattle.x7_forms.specs.declared.bad_input.InputFault.{InputFault}
 use Rattle.x7_forms.specs.declared.refusal.Why.TheVariants as why
 use Rattle.x7_forms.specs.Event.{Event, bad_input, bad_part, missing, no_memory, read_fault, too_large}
-use Rattle.x7_forms.specs.Form.{Asked, Booting, FlashUse, Read, Unused, Updated, flash_names, flash_use, names_of, updated_by}
-use Rattle.x7_forms.specs.Known.{Absent, Answer, Broken, Failing, Found, Held, Known, Lacking, Mishap, flash_found, known_of, mishap_event, part_of, spoiled, spoiled_name, with_inputs, with_mishap}
+use Rattle.x7_forms.specs.Form.{Asked, Booting, FlashUse, Read, Unused, Updated, flash_use, names_of, updated_by}
+use Rattle.x7_forms.specs.Known.{Absent, Answer, Failing, Found, Known, Lacking, Mishap, flash_found, known_of, mishap_event, part_of, spoiled, spoiled_name, with_inputs, with_mishap}
 use Rattle.x7_tool.specs.Leaving.{MayBeFound, UsesFlash}
 use Rattle.x7_tool.specs.Outcome.{BootedAs, FlashBoots, Gives}
 use Rattle.x7_tool.specs.Outside.{Came, KeepsFlash, Outside, ReadsFlash, known_from, known_in, sources}

@@ -1,5 +1,5 @@
 -- What may be found of a flash since a run began, and what a boot makes of it.
-use Rattle.std.proofs.Common.{◌≡◌, ℕ, List, Option, None, Some, Result, Ok, Err, refl, subst, sym, ◌∙◌, inl, inr, ◌⊎◌, ⊎_elim, arith}
+use Rattle.std.proofs.Common.{◌≡◌, ℕ, List, Option, Some, Result, Ok, subst, sym, ◌∙◌, inl, inr, ◌⊎◌, ⊎_elim, arith}
 use Rattle.x7_words.specs.Flash.{FlashState, IfKnown}
 use Rattle.x7_words.specs.Input.{InputsState}
 use Rattle.x7_words.specs.Word.{AreBytes}

@@ -27,8 +27,7 @@ use Rattle.x7_planner.specs.Refusals.{IsFullFault}
 use Rattle.x7_planner.specs.declared.fault.PlanFault.{PlanFault}
 use Rattle.x7_planner.specs.declared.fault.PlanFault.TheVariants as fault
 use Rattle.x7_engine.specs.Kept.{on_the_bench}
-use Rattle.x7_engine.specs.ReadBuffer.{ReadBufState}
-use Rattle.x7_engine.specs.Standing.{DeviceState, NoWordDue}
+use Rattle.x7_engine.specs.Standing.{NoWordDue}
 use Rattle.x7_engine.specs.State.{memory_in, reads_of, state_of}
 use Rattle.x7_effects.proofs.FormLemmas.{full_length}
 use Rattle.x7_effects.proofs.PlannerLemmas.{full_same}
@@ -149,15 +148,15 @@ few_reads part plan stream is p e within s =
     omega (arith, none, all, ap length law.reads)
 
 pub summary_is : (p q : PartData) (name : List ℕ) (seed planned size phase total : ℕ) (frames : List (List ℕ)) (stream none text : List ℕ) → name ≡ p.name → p ≡ q → size ≡ length stream → phase ≡ (state_of q on_the_bench false stream).phase
-    → total ≡ words_sum (frame_at p frames) (addresses_in p) % 2 ^ 32 → AreSame (frame_at q frames) (memory_in q on_the_bench stream) → none ≡ [] → text ≡ none ++ summary_text name seed planned size phase total → text ≡ played_summary q seed planned stream
+    → total ≡ words_sum (frame_at p frames) (addresses_in p) % 2 ^ 32 → AreSame (frame_at q frames) (memory_in q on_the_bench stream) → none ≡ [] → text ≡ none ++ summary_text name seed (record { planned = planned; size = size; phase = phase; sum = total }) → text ≡ played_summary q seed planned stream
 summary_is p q name seed planned size phase total frames stream none text a d s f t same z e =
     let sums : total ≡ words_sum (memory_in q on_the_bench stream) (addresses_in q) % 2 ^ 32 =
     t ∙ ap (λ (x : PartData). words_sum (frame_at x frames) (addresses_in x) % 2 ^ 32) d ∙ ap (λ (n : ℕ). n % 2 ^ 32) (sum_same (frame_at q frames) (memory_in q on_the_bench stream) (addresses_in q) same) in
-    e ∙ ap (λ (x : List ℕ). x ++ summary_text name seed planned size phase total) z
-    ∙ ap (λ (x : List ℕ). summary_text x seed planned size phase total) (a ∙ ap (λ (x : PartData). x.name) d)
-    ∙ ap (λ (n : ℕ). summary_text q.name seed planned n phase total) s
-    ∙ ap (λ (n : ℕ). summary_text q.name seed planned (length stream) n total) f
-    ∙ ap (λ (n : ℕ). summary_text q.name seed planned (length stream) (state_of q on_the_bench false stream).phase n) sums
+    e ∙ ap (λ (x : List ℕ). x ++ summary_text name seed (record { planned = planned; size = size; phase = phase; sum = total })) z
+    ∙ ap (λ (x : List ℕ). summary_text x seed (record { planned = planned; size = size; phase = phase; sum = total })) (a ∙ ap (λ (x : PartData). x.name) d)
+    ∙ ap (λ (n : ℕ). summary_text q.name seed (record { planned = planned; size = n; phase = phase; sum = total })) s
+    ∙ ap (λ (n : ℕ). summary_text q.name seed (record { planned = planned; size = length stream; phase = n; sum = total })) f
+    ∙ ap (λ (n : ℕ). summary_text q.name seed (record { planned = planned; size = length stream; phase = (state_of q on_the_bench false stream).phase; sum = n })) sums
 
 five : (t h a b c s : List ℕ) → ((((t ++ h) ++ a) ++ b) ++ c) ++ s ≡ t ++ ((((h ++ a) ++ b) ++ c) ++ s)
 five t h a b c s =
@@ -165,7 +164,7 @@ five t h a b c s =
     ∙ ap (λ (x : List ℕ). x ++ s) (append_assoc t ((h ++ a) ++ b) c) ∙ append_assoc t (((h ++ a) ++ b) ++ c) s
 
 pub summary_put : (name : List ℕ) (seed planned size phase total : ℕ) (old first second third fourth last : List ℕ) → first ≡ old ++ head_line name seed → second ≡ first ++ count_line (codes "planned ") planned → third ≡ second ++ count_line (codes "stream ") size
-    → fourth ≡ third ++ count_line (codes "phase ") phase → last ≡ fourth ++ sum_line total → last ≡ old ++ summary_text name seed planned size phase total
+    → fourth ≡ third ++ count_line (codes "phase ") phase → last ≡ fourth ++ sum_line total → last ≡ old ++ summary_text name seed (record { planned = planned; size = size; phase = phase; sum = total })
 unfolding summary_text
 summary_put name seed planned size phase total old first second third fourth last a b c d e =
     e ∙ ap (λ (t : List ℕ). t ++ sum_line total) (d ∙ ap (λ (t : List ℕ). t ++ count_line (codes "phase ") phase) (c ∙ ap (λ (t : List ℕ). t ++ count_line (codes "stream ") size) (b ∙ ap (λ (t : List ℕ). t ++ count_line (codes "planned ") planned) a)))
@@ -222,8 +221,8 @@ planned_is part seed text is e =
     let stream = full_stream part plan in
     let sums = words_sum (memory_in part on_the_bench stream) (addresses_in part) % 2 ^ 32 in
     let law = new_law part plan is (generated_plan part seed is) refl (generated_addressed part seed) in
-    e ∙ ap (λ (n : ℕ). summary_text part.name seed (length plan.rows) (length stream) n sums) (law.phase false)
-    ∙ ap (λ (n : ℕ). summary_text part.name seed (length plan.rows) (length stream) 7 (n % 2 ^ 32)) (sum_same (memory_in part on_the_bench stream) (total part plan) (addresses_in part) law.memory)
+    e ∙ ap (λ (n : ℕ). summary_text part.name seed (record { planned = length plan.rows; size = length stream; phase = n; sum = sums })) (law.phase false)
+    ∙ ap (λ (n : ℕ). summary_text part.name seed (record { planned = length plan.rows; size = length stream; phase = 7; sum = n % 2 ^ 32 })) (sum_same (memory_in part on_the_bench stream) (total part plan) (addresses_in part) law.memory)
 
 -- ---- a stream that is played while it is written
 

@@ -3,9 +3,11 @@ pub mod AsmLemmas
 pub mod BootTextLemmas
 pub mod Causes
 pub mod DebugLemmas
+pub mod FeedLemmas
 pub mod FlashLemmas
 pub mod FoundLemmas
 pub mod GenerateLemmas
+pub mod McsLemmas
 pub mod PlanLemmas
 pub mod PlayLemmas
 pub mod PromiseLemmas

@@ -1,5 +1,5 @@
--- Why a frames text's plan has no full stream.
-use Rattle.std.proofs.Common.{◌≡◌, ◌∙◌, ◌⊎◌, inl, inr, ℕ, List, [], ◌∷◌, ◌++◌, Ok, ap, subst}
+-- A frames text that is read for its plan, and why a plan has no stream.
+use Rattle.std.proofs.Common.{◌≡◌, ◌∙◌, ◌⊎◌, ◌^◌, ◌<◌, inl, inr, ℕ, List, [], ◌∷◌, ◌++◌, Result, Ok, Err, IfOk, IfErr, length, refl, ap, sym, subst, append_assoc, append-nil}
 use Rattle.std.specs.Prelude.{All, Contains}
 use Rattle.std.proofs.lemmas.List.Sorted.{All-permutation}
 use Rattle.std.proofs.lemmas.List.Elements.{All-head, All-tail}
@@ -7,11 +7,23 @@ use Rattle.x7_part.specs.AddressOrder.{addresses_in}
 use Rattle.x7_part.specs.Part.{PartData}
 use Rattle.x7_memory.specs.Planned.{PlanData, PlanRow}
 use Rattle.x7_frames.specs.FramesText.{IsPlanOf}
-use Rattle.x7_planner.specs.Refusals.{IsFullFault}
+use Rattle.x7_frames.specs.Reader.{ReaderState}
+use Rattle.x7_frames.specs.declared.fault.FramesFault.{FramesFault}
+use Rattle.x7_frames.specs.declared.fault.FramesFault.TheVariants as fault
+use Rattle.x7_planner.specs.Refusals.{IsFullFault, IsPartialFault}
 use Rattle.x7_planner.specs.declared.fault.PlanFault.{PlanFault}
 use Rattle.x7_planner.specs.declared.fault.PlanFault.TheVariants as planner
+use Rattle.x7_words.specs.Input.{InputsState, Stays}
+use Rattle.x7_forms.specs.declared.refusal.Refusal.{Refusal}
 use Rattle.x7_forms.specs.Event.{Event, no_memory}
-use Rattle.x7_tool.specs.Outcome.{planner_event}
+use Rattle.x7_forms.specs.Known.{Answer, and_so, part_of, whole_in}
+use Rattle.x7_forms.specs.Message.{event_of}
+use Rattle.x7_forms.specs.Step.{AnswersAs, AnswersBy, IsDecided, IsPossible, ReadsWhole, seen, step_over}
+use Rattle.x7_forms.proofs.ReadLemmas.{answers_by, answers_end, answers_go, answers_kept, answers_stop, first_of, part_steady, whole_steady}
+use Rattle.x7_tool.specs.Outcome.{IsUnplanned, PlanTexts, PlannedFull, PlannedPartial, frames_event, plan_texts, planner_event, text_limit}
+use Rattle.x7_tool.specs.Planned.{HasNoPlan, IsRead, ReadsPlan}
+use Rattle.x7_tool.specs.Ready.{whole_of}
+use Rattle.x7_tool.specs.declared.text.Text.{Text}
 
 between : {X : Type 0} → (P : X → Type 0) (before after : List X) (x : X) → All P (before ++ x ∷ after) → P x
 between P [] after x all = All-head P x after all
@@ -27,3 +39,97 @@ full_refused part text name plan (planner.Foreign far) event p (inr f) is =
 full_refused part text name plan planner.Empty event p (inr f) is = absurd f
 full_refused part text name plan (planner.Range n) event p (inr f) is = absurd f
 full_refused part text name plan planner.NoMemory event p (inr f) is = absurd f
+
+-- ---- a text that is read
+
+-- a piece behind a fault
+pub fault_on : (part : PartData) (f : FramesFault) (text piece : List ℕ) → IsRead part (Err f) text → IsRead part (Err f) (text ++ piece)
+fault_on part f text piece (inl none) = inl none
+fault_on part f text piece (inr k) = inr (λ more. subst (λ t. IsPlanOf part t (Err f)) (sym (append_assoc text piece more)) (k (piece ++ more)))
+
+-- a fault at the end of a text
+text_fault : (part : PartData) (name : List ℕ) (f : FramesFault) (text : List ℕ) (event : Event) → (f ≡ fault.NoMemory → ⊥) → event ≡ frames_event name f → IsRead part (Err f) text → HasNoPlan name part text event
+text_fault part name f text event other e (inl none) = absurd (other none)
+text_fault part name f text event other e (inr k) = (f, subst (λ t. IsPlanOf part t (Err f)) (append-nil text) (k []), sym e)
+
+pub fault_end : (name : List ℕ) (f : FramesFault) (read : Result ReaderState FramesFault) (event : Event) → read ≡ Err f → event ≡ frames_event name f
+    → (event ≡ no_memory) ⊎ ((part : PartData) (text : List ℕ) → length text < 2 ^ 63 → IsRead part read text → HasNoPlan name part text event)
+fault_end name (fault.Line n) read event r e = inr (λ part text fits h. text_fault part name (fault.Line n) text event (λ x. absurd (cc)) e (subst (λ o. IsRead part o text) r h))
+fault_end name (fault.Address n) read event r e = inr (λ part text fits h. text_fault part name (fault.Address n) text event (λ x. absurd (cc)) e (subst (λ o. IsRead part o text) r h))
+fault_end name (fault.Twice n) read event r e = inr (λ part text fits h. text_fault part name (fault.Twice n) text event (λ x. absurd (cc)) e (subst (λ o. IsRead part o text) r h))
+fault_end name fault.NoMemory read event r e = inl e
+
+-- ---- a part and a text
+
+texts_read : (part frames : List ℕ) (old mid new : InputsState) (p : PartData) (text : List ℕ) → Stays old mid → AnswersAs {A = PartData} (step_over (part ∷ []) old mid) (λ t. part_of t part) (Ok p) → ReadsWhole mid new text_limit frames (Ok text)
+    → AnswersAs {A = PlanTexts} (step_over (part ∷ frames ∷ []) old new) (λ t. plan_texts t part frames) (Ok (record { part = p; text = text }))
+texts_read part frames old mid new p text stays h r =
+    answers_go PartData PlanTexts (part ∷ []) (frames ∷ []) (part ∷ frames ∷ []) old mid new (λ t. part_of t part) (λ t q. and_so (whole_in t text_limit frames) (λ bytes. Ok (record { part = q; text = bytes }))) p (Ok (record { part = p; text = text }))
+    (part_steady part) stays (λ n k. inr k) h
+    (answers_end (List ℕ) PlanTexts (frames ∷ []) mid new (λ t. whole_in t text_limit frames) (λ bytes. Ok (record { part = p; text = bytes })) text (Ok (record { part = p; text = text })) (whole_steady text_limit frames) r (inr (tt, tt, refl)))
+
+texts_unread : (part frames : List ℕ) (old mid new : InputsState) (p : PartData) (event : Event) → Stays old mid → AnswersAs {A = PartData} (step_over (part ∷ []) old mid) (λ t. part_of t part) (Ok p) → ReadsWhole mid new text_limit frames (Err event)
+    → AnswersAs {A = PlanTexts} (step_over (part ∷ frames ∷ []) old new) (λ t. plan_texts t part frames) (Err event)
+texts_unread part frames old mid new p event stays h r =
+    answers_go PartData PlanTexts (part ∷ []) (frames ∷ []) (part ∷ frames ∷ []) old mid new (λ t. part_of t part) (λ t q. and_so (whole_in t text_limit frames) (λ bytes. Ok (record { part = q; text = bytes }))) p (Err event)
+    (part_steady part) stays (λ n k. inr k) h
+    (answers_stop (List ℕ) PlanTexts (frames ∷ []) (frames ∷ []) mid new (λ t. whole_in t text_limit frames) (λ t bytes. Ok (record { part = p; text = bytes })) event (λ n k. k) r)
+
+-- the event of a text without a plan lies in the contents
+no_plan : (name : List ℕ) (part : PartData) (text : List ℕ) (event : Event) → HasNoPlan name part text event → IsPossible {A = Answer} (Err event) × IsDecided {A = Answer} (Err event)
+no_plan name part text event (f, is, same) = subst (λ (e : Event). IsPossible {A = Answer} (Err e) × IsDecided {A = Answer} (Err e)) same (by f is)
+  where
+    by : (f : FramesFault) → IsPlanOf part text (Err f) → IsPossible {A = Answer} (Err (frames_event name f)) × IsDecided {A = Answer} (Err (frames_event name f))
+    by (fault.Line n) k = (tt, tt)
+    by (fault.Address n) k = (tt, tt)
+    by (fault.Twice n) k = (tt, tt)
+    by fault.NoMemory k = absurd k
+
+unplanned : (name : List ℕ) (texts : PlanTexts) (event : Event) → IsUnplanned name texts event → IsPossible {A = Answer} (Err event) × IsDecided {A = Answer} (Err event)
+unplanned name texts event (plan, is, f, why, same) = subst (λ (e : Event). IsPossible {A = Answer} (Err e) × IsDecided {A = Answer} (Err e)) same (by plan f why)
+  where
+    by : (plan : PlanData) (f : PlanFault) → IsPartialFault texts.part plan f → IsPossible {A = Answer} (Err (planner_event name f)) × IsDecided {A = Answer} (Err (planner_event name f))
+    by plan planner.Empty k = (tt, tt)
+    by plan (planner.Foreign far) k = (tt, tt)
+    by plan (planner.Range n) k = absurd k
+    by plan planner.NoMemory k = absurd k
+
+-- what a form that plans comes to
+module _ (part frames : List ℕ) (old mid new : InputsState) (Next : Result PlanTexts Event → Result Answer Event → Type 0) (keeps : (x : Event) → Next (Err x) (Err x)) where
+  pub part_refused : (event : Event) → AnswersAs {A = PartData} (step_over (part ∷ []) old new) (λ t. part_of t part) (Err event) → AnswersBy {A = Answer} (step_over (part ∷ frames ∷ []) old new) (λ t end. Next (plan_texts t part frames) end) (Err event)
+  part_refused event h =
+      answers_kept PlanTexts Answer (part ∷ frames ∷ []) old new (λ t. plan_texts t part frames) Next event keeps
+      (answers_stop PartData PlanTexts (part ∷ []) (part ∷ frames ∷ []) old new (λ t. part_of t part) (λ t p. and_so (whole_in t text_limit frames) (λ bytes. Ok (record { part = p; text = bytes }))) event (first_of part (frames ∷ [])) h)
+
+  pub planned_end : (p : PartData) (text : List ℕ) (got : Result Answer Event) → Stays old mid → AnswersAs {A = PartData} (step_over (part ∷ []) old mid) (λ t. part_of t part) (Ok p) → ReadsWhole mid new text_limit frames (Ok text)
+      → (got ≡ Err no_memory) ⊎ (IsPossible got × IsDecided got × Next (Ok (record { part = p; text = text })) got) → AnswersBy {A = Answer} (step_over (part ∷ frames ∷ []) old new) (λ t end. Next (plan_texts t part frames) end) got
+  planned_end p text got stays h r q =
+      answers_by PlanTexts Answer (part ∷ frames ∷ []) old new (λ t. plan_texts t part frames) (record { part = p; text = text }) Next got (texts_read part frames old mid new p text stays h r) q
+
+  pub plan_refused : (p : PartData) (event : Event) → Stays old mid → AnswersAs {A = PartData} (step_over (part ∷ []) old mid) (λ t. part_of t part) (Ok p)
+      → ((text : List ℕ) → HasNoPlan frames p text event → Next (Ok (record { part = p; text = text })) (Err event)) → ReadsPlan mid new p frames (Err event)
+      → AnswersBy {A = Answer} (step_over (part ∷ frames ∷ []) old new) (λ t end. Next (plan_texts t part frames) end) (Err event)
+  plan_refused p event stays h faulty (inl unread) =
+      answers_kept PlanTexts Answer (part ∷ frames ∷ []) old new (λ t. plan_texts t part frames) Next event keeps (texts_unread part frames old mid new p event stays h unread)
+  plan_refused p event stays h faulty (inr (text, whole, why)) =
+      let can = no_plan frames p text event why in
+      planned_end p text (Err event) stays h whole (inr (can.0, can.1, faulty text why))
+
+pub full_ended : (name : List ℕ) (part : PartData) (text : List ℕ) (plan : PlanData) (r : Result Text Refusal) → IsPlanOf part text (Ok plan)
+    → IfOk r (λ end. (t : List ℕ) → IsPlanOf part t (Ok plan) → PlannedFull name (Ok (record { part = part; text = t })) (Ok (whole_of end))) → IfErr r (λ x. (t : List ℕ) → IsPlanOf part t (Ok plan) → event_of x ≡ no_memory)
+    → (seen whole_of r ≡ Err no_memory) ⊎ (IsPossible (seen whole_of r) × IsDecided (seen whole_of r) × PlannedFull name (Ok (record { part = part; text = text })) (seen whole_of r))
+full_ended name part text plan (Ok end) is ok err = inr (tt, tt, ok text is)
+full_ended name part text plan (Err x) is ok err = inl (ap Err (err text is))
+
+pub partial_ended : (name : List ℕ) (part : PartData) (text : List ℕ) (plan : PlanData) (r : Result Text Refusal) → IsPlanOf part text (Ok plan)
+    → IfOk r (λ end. (t : List ℕ) → IsPlanOf part t (Ok plan) → PlannedPartial name (Ok (record { part = part; text = t })) (Ok (whole_of end)))
+    → IfErr r (λ x. (event_of x ≡ no_memory) ⊎ ((t : List ℕ) → IsPlanOf part t (Ok plan) → PlannedPartial name (Ok (record { part = part; text = t })) (Err (event_of x))))
+    → (seen whole_of r ≡ Err no_memory) ⊎ (IsPossible (seen whole_of r) × IsDecided (seen whole_of r) × PlannedPartial name (Ok (record { part = part; text = text })) (seen whole_of r))
+partial_ended name part text plan (Ok end) is ok err = inr (tt, tt, ok text is)
+partial_ended name part text plan (Err x) is ok (inl none) = inl (ap Err none)
+partial_ended name part text plan (Err x) is ok (inr h) = inr (decided (h text is))
+  where
+    decided : PlannedPartial name (Ok (record { part = part; text = text })) (Err (event_of x))
+        → IsPossible {A = Answer} (Err (event_of x)) × IsDecided {A = Answer} (Err (event_of x)) × PlannedPartial name (Ok (record { part = part; text = text })) (Err (event_of x))
+    decided (inl why) = let can = no_plan name part text (event_of x) why in (can.0, can.1, inl why)
+    decided (inr why) = let can = unplanned name (record { part = part; text = text }) (event_of x) why in (can.0, can.1, inr why)

@@ -1,5 +1,5 @@
 -- How an update ends, by what it came to, and what it leaves of the flash.
-use Rattle.std.proofs.Common.{◌≡◌, ◌≤◌, ◌-◌, ◌∙◌, ap, arith, ℕ, Bool, true, false, List, [], ◌∷◌, length, length-drop, take, take_all, drop, Option, None, Some, Result, Ok, Err, refl, subst, sym, inl, inr, ◌⊎◌}
+use Rattle.std.proofs.Common.{◌≡◌, ◌≤◌, ◌-◌, ◌∙◌, ap, arith, ℕ, Bool, true, false, List, [], ◌∷◌, length, length-drop, take, take_all, drop, Option, None, Some, Result, Ok, Err, refl, subst, sym, inl, inr}
 use Rattle.std.specs.Prelude.{IsTrue, if◌then◌else◌}
 use Rattle.std.specs.Str.{bytes_eq}
 use Rattle.std.proofs.lemmas.Slice.Eq.{bytes_eq-Decides}
@@ -221,9 +221,9 @@ fault_ends flash stream bytes old new (NoLayout place) out asked within has h ea
     (λ t e. fault_told (names flash stream) old.flash.bytes (stream_data t stream) bytes (NoLayout place) within (data_at (known_in old) stream bytes has t e) h)) (early tt)
 fault_ends flash stream bytes old new (Differs place wrote read) out asked within has h early = record {
   cause = (
-    (place, refl, h.1),
+    (place, refl, h.1, record { stream = bytes; wrote = wrote; read = read; wrong = h.0 }),
     agreed (known_in old) old.flash.bytes flash stream (Err (differs flash place)) (told_flash old.inputs.contents old.flash.bytes flash)
-        (λ t e. fault_told (names flash stream) old.flash.bytes (stream_data t stream) bytes (Differs place wrote read) within (data_at (known_in old) stream bytes has t e) h),
+        (λ t e. fault_told (names flash stream) old.flash.bytes (stream_data t stream) bytes (Differs place wrote read) within (data_at (known_in old) stream bytes has t e) ((new.flash.extent, h.0), h.1)),
   );
   wrote = out_same old new out;
   near = near_all (UpdatingFlash flash stream) (status_of (differs flash place)) old new refl;

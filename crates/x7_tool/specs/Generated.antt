@@ -53,15 +53,27 @@ sum_line n = codes "sum " ++ hex_word n ++ codes "\n"
 abbrev pub TookStream : PartData → List ℕ → Player → ℕ → Type 0
 TookStream part stream player size = HasPlayed part stream player × (size ≡ length stream) × (length (reads_of part on_the_bench stream) ≤ reads_limit)
 
--- the part and the seed, the planned frames, the bytes of the stream, and the phase and the sum of all words of a device that took it
-unfoldable pub summary_text : List ℕ → ℕ → ℕ → ℕ → ℕ → ℕ → List ℕ
-summary_text name seed planned size phase sum =
-    head_line name seed ++ count_line (codes "planned ") planned ++ count_line (codes "stream ") size ++ count_line (codes "phase ") phase ++ sum_line sum
+-- what is told of a stream that was played: the planned frames, the bytes of the stream, and the phase and the sum of all words of a device that took it
+pub record SummaryData : Type 0 where
+  pub planned : ℕ
+  pub size : ℕ
+  pub phase : ℕ
+  pub sum : ℕ
+
+-- the summary of the stream of a part and a seed
+unfoldable pub summary_text : List ℕ → ℕ → SummaryData → List ℕ
+summary_text name seed s =
+    head_line name seed ++ count_line (codes "planned ") s.planned ++ count_line (codes "stream ") s.size ++ count_line (codes "phase ") s.phase ++ sum_line s.sum
 
 -- the summary of a plan's stream, played on a new device; the sum is without its carries
 abbrev pub played_summary : PartData → ℕ → ℕ → List ℕ → List ℕ
 played_summary part seed planned stream =
-    summary_text part.name seed planned (length stream) (state_of part on_the_bench false stream).phase (words_sum (memory_in part on_the_bench stream) (addresses_in part) % 2 ^ 32)
+    summary_text part.name seed (record {
+      planned = planned;
+      size = length stream;
+      phase = (state_of part on_the_bench false stream).phase;
+      sum = words_sum (memory_in part on_the_bench stream) (addresses_in part) % 2 ^ 32;
+    })
 
 -- the text of `gen`
 unfoldable pub gen_text : PartData → ℕ → List ℕ
@@ -70,4 +82,9 @@ gen_text part seed = played_summary part seed (length (generated part seed).rows
 -- the same by what was planned: the length of the plan's full stream, phase 7, and the sum of the words of the plan over zeros
 abbrev pub planned_summary : PartData → ℕ → List ℕ
 planned_summary part seed =
-    summary_text part.name seed (length (generated part seed).rows) (length (full_stream part (generated part seed))) 7 (words_sum (total part (generated part seed)) (addresses_in part) % 2 ^ 32)
+    summary_text part.name seed (record {
+      planned = length (generated part seed).rows;
+      size = length (full_stream part (generated part seed));
+      phase = 7;
+      sum = words_sum (total part (generated part seed)) (addresses_in part) % 2 ^ 32;
+    })

@@ -1,5 +1,5 @@
 -- What a command comes to, over known inputs and a known flash: the first event in the order of the work decides (this project's choice).
-use Rattle.std.specs.Prelude.{◌≡◌, ◌≢◌, ◌+◌, ℕ, List, [], ◌∷◌, ◌++◌, ◌||◌, Option, None, Some, is_some, Result, Ok, Err, Bool, false, if◌then◌else◌, length, nat_lt, take, ◌⊎◌, ◌<◌, ◌≤◌, map, reverse, true}
+use Rattle.std.specs.Prelude.{◌≡◌, ◌+◌, ℕ, List, [], ◌∷◌, ◌++◌, ◌||◌, Option, None, Some, is_some, Result, Ok, Err, Bool, false, if◌then◌else◌, length, nat_lt, take, ◌⊎◌, ◌<◌, ◌≤◌, map, reverse, true}
 use Rattle.x7_jtag.specs.declared.fault.SvfFault.{SvfFault}
 use Rattle.x7_jtag.specs.declared.fault.SvfFault.TheVariants as svf
 use Rattle.x7_jtag.specs.declared.play.Differ.{Differ}
@@ -26,6 +26,7 @@ use Rattle.x7_boot.specs.declared.fault.BootFault.{BootFault}
 use Rattle.x7_boot.specs.declared.fault.BootFault.TheVariants as fault
 use Rattle.x7_update.specs.Layout.{HasLayout, update_place}
 use Rattle.x7_update.specs.Refused.{IsTooLong, NoLayoutAt}
+use Rattle.x7_update.specs.Writing.{IsReadWrong}
 use Rattle.x7_update.specs.declared.fault.UpdateFault.{UpdateFault}
 use Rattle.x7_update.specs.declared.fault.UpdateFault.TheVariants as update_fault
 use Rattle.x7_engine.specs.Kept.{on_the_bench}
@@ -88,6 +89,10 @@ abbrev pub asm_event : List ℕ → AsmFault → Event
 asm_event name (asm.Line line) = bad_input name (input.Line line)
 asm_event name (asm.TooLong line) = bad_input name (input.LongLine line)
 asm_event name asm.NoMemory = no_memory
+
+-- a text's first fault; want of memory says nothing
+abbrev pub IsAsmFault : AsmFault → List ℕ → Type 0
+IsAsmFault fault text = (fault ≡ asm.NoMemory) ⊎ IsAsm text (Err fault)
 
 -- `asm TEXT`: the bytes that the text assembles to, or its first fault
 abbrev pub AssembledAs : List ℕ → Result (List ℕ) Event → Result Answer Event → Type 0
@@ -323,11 +328,11 @@ pub record CanTake (stream flash : List ℕ) : Type 0 where
   pub layout : HasLayout flash
   pub fits : update_place flash + length stream ≤ length flash
 
--- why a flash isn't updated with a stream, by its bytes where they are known; a byte read back may differ only where they aren't
+-- why a flash isn't updated with a stream, by its bytes where they are known; a byte read back may be another than the one written there only where they aren't
 abbrev pub IsUpdateFault : Option (List ℕ) → List ℕ → UpdateFault → Type 0
 IsUpdateFault bytes stream (update_fault.NoLayout place) = IfKnown bytes (λ flash. NoLayoutAt (length flash) flash place)
 IsUpdateFault bytes stream update_fault.TooLong = IfKnown bytes (IsTooLong stream)
-IsUpdateFault bytes stream (update_fault.Differs place wrote read) = (wrote ≢ read) × (bytes ≡ None)
+IsUpdateFault bytes stream (update_fault.Differs place wrote read) = ((size : ℕ) × IsReadWrong size stream place wrote read) × (bytes ≡ None)
 IsUpdateFault bytes stream (update_fault.Failed writing) = ⊥
 IsUpdateFault bytes stream update_fault.NoMemory = ⊥
 

@@ -1,5 +1,5 @@
 -- What a command works over, and what is known of it and has failed (this project's choice).
-use Rattle.std.specs.Prelude.{◌≡◌, ◌≤◌, ℕ, IsTrue, List, [], ◌∷◌, Option, None, Some, ◌⊎◌}
+use Rattle.std.specs.Prelude.{◌≡◌, ◌≤◌, ℕ, IsTrue, List, Option, None, Some, ◌⊎◌}
 use Rattle.x7_words.specs.Count.{HasRisen}
 use Rattle.x7_words.specs.Flash.{FlashFails, FlashState, WriteFails}
 use Rattle.x7_words.specs.Input.{InputsState}

@@ -3,6 +3,7 @@ use Rattle.std.specs.Prelude.{◌≡◌, ◌<◌, ◌≤◌, ℕ, List, [], ◌�
 use Rattle.x7_words.specs.Flash.{FlashState, IfKnown}
 use Rattle.x7_words.specs.Input.{InputsState}
 use Rattle.x7_boot.specs.Image.{flash_limit}
+use Rattle.x7_update.specs.Writing.{IsReadWrong}
 use Rattle.x7_words.specs.Sink.{PutsAll, PutsPrefix, PutsSome, SinkFails, SinkState, Tells}
 use Rattle.x7_words.specs.Word.{AreBytes}
 use Rattle.x7_listing.specs.StreamListing.{stream_listing}
@@ -36,10 +37,17 @@ Agrees (Some known) form end = Gives known form end
 abbrev pub Happens : Asked → Outside → Outside → Event → Type 0
 Happens form old new event = IsOfMishap Answer (known_in old) (Came (Some form) old new) (λ known end. Gives known form end) event
 
+-- a byte that was read back at this place of a flash of a size was another than the one written there by an update with some stream
+pub record ReadsWrongAt (size place : ℕ) : Type 0 where
+  pub stream : List ℕ
+  pub wrote : ℕ
+  pub read : ℕ
+  pub wrong : IsReadWrong size stream place wrote read
+
 -- the event is a byte that differs, of a flash that the form updates and whose bytes aren't known
-abbrev pub IsDifference : FlashUse → FlashState → Event → Type 0
-IsDifference (Updated name) old event = (place : ℕ) × (event ≡ differs name place) × (old.bytes ≡ None)
-IsDifference _ old event = ⊥
+abbrev pub IsDifference : FlashUse → FlashState → FlashState → Event → Type 0
+IsDifference (Updated name) old new event = (place : ℕ) × (event ≡ differs name place) × (old.bytes ≡ None) × ReadsWrongAt new.extent place
+IsDifference _ old new event = ⊥
 
 -- what a cause says of an event: a fault, or an absence by its count, is the first event that comes
 abbrev pub CausedBy : Cause → Asked → Outside → Outside → Event → Type 0
@@ -48,7 +56,7 @@ CausedBy Want form old new event = event ≡ no_memory
 CausedBy Fault form old new event = Happens form old new event
 CausedBy Absence form old new event = Happens form old new event ⊎ Shows (known_in old) form (Err event)
 CausedBy Break form old new event = (event ≡ write_fault) × (SinkFails old.out new.out ⊎ WritesFail (updated_by (Some form)) old.flash new.flash)
-CausedBy Difference form old new event = IsDifference (flash_use (Some form)) old.flash event × Agrees (known_in old) form (Err event)
+CausedBy Difference form old new event = IsDifference (flash_use (Some form)) old.flash new.flash event × Agrees (known_in old) form (Err event)
 CausedBy Contents form old new event = Agrees (known_in old) form (Err event)
 
 -- why a command ended so: words without a form are a wrong usage, a whole text is that of the known contents, and an event has its cause

@@ -1,11 +1,7 @@
--- What stands between two turns: of a listing that is written, and of a text that is assembled.
-use Rattle.std.specs.Prelude.{◌≡◌, ◌≤◌, ◌⊎◌, ◌++◌, ℕ, List, [], Option, None, Some, Ok, Err, length, ◌+◌}
+-- What stands between two turns: of a listing that is written, and of a text that is taken while it is read.
+use Rattle.std.specs.Prelude.{◌≡◌, ◌≤◌, ◌++◌, ℕ, List, [], Option, None, Some, Ok, length, ◌+◌}
 use Rattle.x7_words.specs.Sink.{PutsPrefix, appended}
 use Rattle.x7_words.specs.Word.{AreBytes}
-use Rattle.x7_listing.specs.Assembly.{IsAsm}
-use Rattle.x7_listing.specs.Assembling.{AssemblerStandsFor, AssemblerState}
-use Rattle.x7_listing.specs.declared.assembler.AsmFault.{AsmFault}
-use Rattle.x7_listing.specs.declared.assembler.AsmFault.TheVariants as fault
 use Rattle.x7_listing.specs.Listing.{listing_of}
 use Rattle.x7_listing.specs.StreamListing.{stream_listing}
 use Rattle.x7_listing.specs.Telling.{ListerState, ListerStandsFor}
@@ -29,7 +25,7 @@ pub record ListsStream (l : ListerState) (first now : Option (List ℕ)) (bytes 
   pub goes : (rest : List ℕ) → stream_listing (bytes ++ rest) ≡ Ok (line ++ listing_of (sent ++ rest))
   pub close : length bytes ≤ length sent + 327706
 
--- an assembler was fed this text, or a first part of it, in which it found this fault
-abbrev pub IsFed : Option AsmFault → AssemblerState → List ℕ → Type 0
-IsFed None a text = AssemblerStandsFor a text
-IsFed (Some f) a text = (f ≡ fault.NoMemory) ⊎ ((more : List ℕ) → IsAsm (text ++ more) (Err f))
+-- a text was taken, or a first part of it, in which there was this fault
+abbrev pub IsFed : {F : Type 0} → (List ℕ → Type 0) → (F → List ℕ → Type 0) → Option F → List ℕ → Type 0
+IsFed took fails None text = took text
+IsFed took fails (Some f) text = (more : List ℕ) → fails f (text ++ more)

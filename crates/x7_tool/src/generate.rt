@@ -212,7 +212,7 @@ fn put_sum(text: &mut Vec<u8>, sum: u32) -> Result<(), NoMemory>
 
 /// Appends a summary.
 fn put_summary(text: &mut Vec<u8>, name: &str, seed: u32, summary: Summary) -> Result<(), NoMemory>
-    ensures { OnOk result (text.new.items ≡ text.old.items ++ summary_text name.now seed summary.planned summary.size summary.phase summary.sum) }
+    ensures { OnOk result (text.new.items ≡ text.old.items ++ summary_text name.now seed (record { planned = summary.planned; size = summary.size; phase = summary.phase; sum = summary.sum })) }
 {
     put_head(text, name, seed)?;
     put_count(text, b"planned ", summary.planned)?;

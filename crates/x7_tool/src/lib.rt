@@ -5,6 +5,7 @@ mod asm;
 mod attach;
 mod boot;
 mod debug;
+mod feeding;
 mod generate;
 mod image;
 mod list;

@@ -1,6 +1,7 @@
 //! The commands `mcs` and `unmcs`: flash images as Intel HEX texts, and back.
 ghost use Rattle.std.specs.Prelude.{◌≡◌, ℕ, [], ◌∷◌};
 ghost use Rattle.x7_words.specs.Input.{Stays};
+ghost use Rattle.x7_mcs.specs.Reader.{IsFaultOf, ReaderStandsFor};
 ghost use Rattle.x7_forms.specs.Message.{event_of};
 ghost use Rattle.x7_tool.specs.Outcome.{mcs_event};
 ghost use Rattle.x7_tool.specs.Run.{AnswersForm};
@@ -8,10 +9,11 @@ ghost use Rattle.x7_forms.specs.Form.{FromMcs, ToMcs};
 ghost use Rattle.x7_tool.specs.Ready.{text_of_image, whole_of};
 ghost use Rattle.x7_forms.specs.Step.{seen};
 
+use crate::feeding::{TakesText, feed_whole};
 use crate::text::Text;
 use std::alloc::Global;
-use x7_forms::{InputFault, Refusal, TEXT_LIMIT, Why, read_whole};
-use x7_mcs::{FLASH_LIMIT, McsFault, McsText, flash_of};
+use x7_forms::{InputFault, Refusal, Why, read_whole};
+use x7_mcs::{FLASH_LIMIT, McsFault, McsReader, McsText};
 use x7_words::Inputs;
 
 /// Why a text gives no flash.
@@ -51,7 +53,20 @@ pub(crate) fn mcs<'w, I: Inputs>(
     }
 }
 
-/// The image of `unmcs TEXT`.
+/// A reader of a flash text takes it in pieces.
+impl TakesText for McsReader {
+    type Fault = McsFault;
+
+    ghost took = { ReaderStandsFor };
+
+    ghost fails = { λ fault text. IsFaultOf text fault };
+
+    fn feed(&mut self, piece: &[u8]) -> Result<(), McsFault> {
+        McsReader::feed(self, piece)
+    }
+}
+
+/// The image of `unmcs TEXT`, which is read piece by piece.
 pub(crate) fn unmcs<'w, I: Inputs>(
     alloc: Global,
     inputs: &mut I,
@@ -60,11 +75,15 @@ pub(crate) fn unmcs<'w, I: Inputs>(
     ensures due { AnswersForm (FromMcs name.now) (I.state inputs.old) (I.state inputs.new) (seen whole_of result) }
     ensures inputs { Stays (I.state inputs.old) (I.state inputs.new) }
 {
-    let text = match read_whole(alloc, inputs, name, TEXT_LIMIT) {
-        Ok(text) => text,
+    let mut reader = McsReader::new(alloc);
+    let found = match feed_whole(inputs, name, &mut reader) {
+        Ok(found) => found,
         Err(refusal) => return Err(refusal),
     };
-    match flash_of(alloc, &text) {
+    if let Some(fault) = found {
+        return Err(refusal_of(name, fault));
+    }
+    match reader.finish() {
         Ok(image) => Ok(Text {
             stopped: false,
             text: image,

@@ -1,51 +1,26 @@
 //! The commands `plan full`, `plan partial` and `plan read`: streams for plans.
-ghost use Rattle.std.specs.Prelude.{◌≡◌, ◌⊎◌, ◌≤◌, ℕ, [], ◌∷◌, Ok, Err, IfOk, IfErr};
+ghost use Rattle.std.specs.Prelude.{◌≡◌, ◌⊎◌, ◌≤◌, ◌<◌, ◌^◌, ◌++◌, ℕ, List, [], ◌∷◌, length, Ok, Err, IfOk, IfErr};
 ghost use Rattle.x7_words.specs.Input.{Stays};
-ghost use Rattle.x7_part.specs.Part.{PartData};
+ghost use Rattle.x7_part.specs.Part.{PartData, frame_words};
+ghost use Rattle.x7_memory.specs.Planned.{PlanData};
+ghost use Rattle.x7_frames.specs.FramesText.{IsPlanOf};
 ghost use Rattle.x7_forms.specs.Message.{event_of};
 ghost use Rattle.x7_forms.specs.Event.{no_memory};
-ghost use Rattle.x7_tool.specs.Outcome.{PlannedFull, PlannedPartial, PlannedRead, frames_event, plan_texts, planner_event};
+ghost use Rattle.x7_tool.specs.Outcome.{PlannedFull, PlannedPartial, PlannedRead, frames_event, planner_event, text_limit};
 ghost use Rattle.x7_forms.specs.Form.{PlanningFull, PlanningPartial, PlanningRead};
-ghost use Rattle.x7_tool.specs.Planned.{texts_of};
+ghost use Rattle.x7_tool.specs.Planned.{IsRead, HasNoPlan, ReadsPlan};
 ghost use Rattle.x7_tool.specs.Ready.{whole_of};
-ghost use Rattle.x7_forms.specs.Step.{AnswersAs, seen, step_over};
+ghost use Rattle.x7_forms.specs.Step.{ReadsWhole, seen};
 ghost use Rattle.x7_tool.specs.Run.{AnswersForm};
 
 use crate::text::Text;
 use std::alloc::Global;
-use x7_forms::{InputFault, Refusal, TEXT_LIMIT, Why, read_part, read_whole};
-use x7_frames::{FramesFault, plan_of};
+use x7_forms::{InputFault, Refusal, TEXT_LIMIT, TURN, Why, next_turn, open, read_part};
+use x7_frames::{FramesFault, FramesReader};
+use x7_memory::Plan;
 use x7_part::Part;
 use x7_planner::{PlanFault, full, partial, readback};
 use x7_words::Inputs;
-
-/// A part, and a frames text.
-#[derive(Drop)]
-pub(crate) struct PlanTexts {
-    pub(crate) part: Part,
-    pub(crate) text: Vec<u8>,
-}
-
-/// The part of a part file and then the text of a frames text.
-fn read_texts<'w, I: Inputs>(
-    alloc: Global,
-    inputs: &mut I,
-    part: &'w str,
-    frames: &'w str,
-) -> Result<PlanTexts, Refusal<'w>>
-    ensures due { AnswersAs (step_over (part.now ∷ frames.now ∷ []) (I.state inputs.old) (I.state inputs.new))
-        (λ known. plan_texts known part.now frames.now) (seen texts_of result) }
-    ensures inputs { Stays (I.state inputs.old) (I.state inputs.new) }
-{
-    let part = match read_part(alloc, inputs, part) {
-        Ok(part) => part,
-        Err(refusal) => return Err(refusal),
-    };
-    match read_whole(alloc, inputs, frames, TEXT_LIMIT) {
-        Ok(text) => Ok(PlanTexts { part, text }),
-        Err(refusal) => Err(refusal),
-    }
-}
 
 /// Why a frames text gives no plan.
 fn frames_refusal<'w>(name: &'w str, fault: FramesFault) -> Refusal<'w>
@@ -79,18 +54,100 @@ fn planner_refusal<'w>(name: &'w str, fault: PlanFault) -> Refusal<'w>
     }
 }
 
-/// The full stream of the plan of a frames text, which is held no longer than its plan is made.
-fn full_text<'w>(alloc: Global, texts: PlanTexts, frames: &'w str) -> Result<Text, Refusal<'w>>
-    ensures ok { IfOk result (λ text. PlannedFull frames.now (Ok (texts_of texts)) (Ok (whole_of text))) }
-    ensures err { IfErr result (λ r. (event_of r ≡ no_memory) ⊎ PlannedFull frames.now (Ok (texts_of texts)) (Err (event_of r))) }
+/// Reads the next piece, where no fault was found before it.
+fn read_piece<'p>(
+    read: Result<FramesReader<'p>, FramesFault>,
+    piece: &[u8],
+) -> Result<FramesReader<'p>, FramesFault>
+    ensures { (part : PartData) (text : List ℕ) → length (text ++ piece.now) < 2 ^ 63 → IsRead part read.entry text → IsRead part result (text ++ piece.now) }
 {
-    let PlanTexts { part, text } = texts;
-    let plan = match plan_of(alloc, &text, &part) {
-        Ok(plan) => plan,
-        Err(fault) => return Err(frames_refusal(frames, fault)),
+    match read {
+        Ok(reader) => reader.feed(piece),
+        Err(fault) => Err(fault),
+    }
+}
+
+/// Reads a frames text turn by turn, to its end also where there is a fault.
+fn read_lines<'w, 'p, I: Inputs>(
+    alloc: Global,
+    inputs: &mut I,
+    part: &'p Part,
+    name: &'w str,
+) -> Result<Result<FramesReader<'p>, FramesFault>, Refusal<'w>>
+    ensures ok { IfOk result (λ read. (text : List ℕ) × (length text ≤ text_limit) × IsRead part.now read text × ReadsWhole (I.state inputs.old) (I.state inputs.new) text_limit name.now (Ok text)) }
+    ensures err { IfErr result (λ r. ReadsWhole (I.state inputs.old) (I.state inputs.new) text_limit name.now (Err (event_of r))) }
+    ensures inputs { Stays (I.state inputs.old) (I.state inputs.new) }
+{
+    let Ok(reader) = FramesReader::new(alloc, part) else {
+        return Err(Refusal::unnamed(Why::NoMemory));
     };
-    drop(text);
-    match full(alloc, &part, &plan) {
+    match open(inputs, name) {
+        Ok(()) => (),
+        Err(refusal) => return Err(refusal),
+    }
+    let mut piece = [0u8; TURN];
+    let mut left = TEXT_LIMIT;
+    let mut read = Ok(reader);
+    loop {
+        let turn = match next_turn(inputs, name, left, &mut piece) {
+            Ok(turn) => turn,
+            Err(refusal) => return Err(refusal),
+        };
+        read = read_piece(read, &piece[..turn.count]);
+        left -= turn.count;
+        if turn.last {
+            return Ok(read);
+        }
+    }
+}
+
+/// The plan of a text that was read to its end.
+fn plan_of_lines<'w>(
+    read: Result<FramesReader<'_>, FramesFault>,
+    name: &'w str,
+) -> Result<Plan, Refusal<'w>>
+    ensures ok { IfOk result (λ plan. (part : PartData) (text : List ℕ) → IsRead part read.entry text → IsPlanOf part text (Ok plan)) }
+    ensures err { IfErr result (λ r. (event_of r ≡ no_memory) ⊎ ((part : PartData) (text : List ℕ) → length text < 2 ^ 63 → IsRead part read.entry text → HasNoPlan name.now part text (event_of r))) }
+{
+    let reader = match read {
+        Ok(reader) => reader,
+        Err(fault) => return Err(frames_refusal(name, fault)),
+    };
+    match reader.finish() {
+        Ok(plan) => Ok(plan),
+        Err(fault) => Err(frames_refusal(name, fault)),
+    }
+}
+
+/// The plan of a frames text, which is read turn by turn, so that nobody has to hold it whole.
+fn read_plan<'w, I: Inputs>(
+    alloc: Global,
+    inputs: &mut I,
+    part: &Part,
+    name: &'w str,
+) -> Result<Plan, Refusal<'w>>
+    ensures due { ReadsPlan (I.state inputs.old) (I.state inputs.new) part.now name.now (seen (λ plan. plan) result) }
+    ensures inputs { Stays (I.state inputs.old) (I.state inputs.new) }
+{
+    let read = match read_lines(alloc, inputs, part, name) {
+        Ok(read) => read,
+        Err(refusal) => return Err(refusal),
+    };
+    plan_of_lines(read, name)
+}
+
+/// The full stream of the plan of a frames text.
+fn full_text<'w>(
+    alloc: Global,
+    part: &Part,
+    plan: &Plan,
+    frames: &'w str,
+) -> Result<Text, Refusal<'w>>
+    requires { plan.now.width ≡ frame_words part.now }
+    ensures ok { IfOk result (λ end. (text : List ℕ) → IsPlanOf part.now text (Ok plan.now) → PlannedFull frames.now (Ok (record { part = part.now; text = text })) (Ok (whole_of end))) }
+    ensures err { IfErr result (λ r. (text : List ℕ) → IsPlanOf part.now text (Ok plan.now) → event_of r ≡ no_memory) }
+{
+    match full(alloc, part, plan) {
         Ok(text) => Ok(Text {
             stopped: false,
             text,
@@ -109,23 +166,29 @@ pub(crate) fn plan_full<'w, I: Inputs>(
     ensures due { AnswersForm (PlanningFull part.now frames.now) (I.state inputs.old) (I.state inputs.new) (seen whole_of result) }
     ensures inputs { Stays (I.state inputs.old) (I.state inputs.new) }
 {
-    let texts = match read_texts(alloc, inputs, part, frames) {
-        Ok(texts) => texts,
+    let known = match read_part(alloc, inputs, part) {
+        Ok(known) => known,
         Err(refusal) => return Err(refusal),
     };
-    full_text(alloc, texts, frames)
+    let plan = match read_plan(alloc, inputs, &known, frames) {
+        Ok(plan) => plan,
+        Err(refusal) => return Err(refusal),
+    };
+    full_text(alloc, &known, &plan, frames)
 }
 
 /// The partial stream of the plan of a frames text.
-fn partial_text<'w>(alloc: Global, texts: &PlanTexts, frames: &'w str) -> Result<Text, Refusal<'w>>
-    ensures ok { IfOk result (λ text. PlannedPartial frames.now (Ok (texts_of texts.now)) (Ok (whole_of text))) }
-    ensures err { IfErr result (λ r. (event_of r ≡ no_memory) ⊎ PlannedPartial frames.now (Ok (texts_of texts.now)) (Err (event_of r))) }
+fn partial_text<'w>(
+    alloc: Global,
+    part: &Part,
+    plan: &Plan,
+    frames: &'w str,
+) -> Result<Text, Refusal<'w>>
+    requires { plan.now.width ≡ frame_words part.now }
+    ensures ok { IfOk result (λ end. (text : List ℕ) → IsPlanOf part.now text (Ok plan.now) → PlannedPartial frames.now (Ok (record { part = part.now; text = text })) (Ok (whole_of end))) }
+    ensures err { IfErr result (λ r. (event_of r ≡ no_memory) ⊎ ((text : List ℕ) → IsPlanOf part.now text (Ok plan.now) → PlannedPartial frames.now (Ok (record { part = part.now; text = text })) (Err (event_of r)))) }
 {
-    let plan = match plan_of(alloc, &texts.text, &texts.part) {
-        Ok(plan) => plan,
-        Err(fault) => return Err(frames_refusal(frames, fault)),
-    };
-    match partial(alloc, &texts.part, &plan) {
+    match partial(alloc, part, plan) {
         Ok(text) => Ok(Text {
             stopped: false,
             text,
@@ -144,11 +207,15 @@ pub(crate) fn plan_partial<'w, I: Inputs>(
     ensures due { AnswersForm (PlanningPartial part.now frames.now) (I.state inputs.old) (I.state inputs.new) (seen whole_of result) }
     ensures inputs { Stays (I.state inputs.old) (I.state inputs.new) }
 {
-    let texts = match read_texts(alloc, inputs, part, frames) {
-        Ok(texts) => texts,
+    let known = match read_part(alloc, inputs, part) {
+        Ok(known) => known,
         Err(refusal) => return Err(refusal),
     };
-    partial_text(alloc, &texts, frames)
+    let plan = match read_plan(alloc, inputs, &known, frames) {
+        Ok(plan) => plan,
+        Err(refusal) => return Err(refusal),
+    };
+    partial_text(alloc, &known, &plan, frames)
 }
 
 /// The read stream of n slots from an address on.

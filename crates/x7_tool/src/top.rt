@@ -38,54 +38,42 @@ fn answer<'w, I: Inputs, O: Sink, F: Flash>(
         (F.found_since flash.old) (F.found_since flash.new) }
     ensures inputs { Stays (I.state inputs.old) (I.state inputs.new) }
 {
-    match words_of(words) {
-        None => Err(Refusal::unnamed(Why::Usage)),
-        Some(Form::List { stream }) => match list(alloc, inputs, out, stream) {
+    let form = match words_of(words) {
+        Some(form) => form,
+        None => return Err(Refusal::unnamed(Why::Usage)),
+    };
+    match form {
+        Form::List { stream } => match list(alloc, inputs, out, stream) {
             Ok(()) => Ok(false),
             Err(refusal) => Err(refusal),
         },
-        Some(Form::Play { part, streams }) => put_whole(play(alloc, inputs, part, streams), out),
-        Some(Form::Asm { text }) => put_whole(asm(alloc, inputs, text), out),
-        Some(Form::Mcs { image }) => put_whole(mcs(alloc, inputs, image), out),
-        Some(Form::PlanFull { part, frames }) => {
-            put_whole(plan_full(alloc, inputs, part, frames), out)
-        }
-        Some(Form::PlanPartial { part, frames }) => {
+        Form::Play { part, streams } => put_whole(play(alloc, inputs, part, streams), out),
+        Form::Asm { text } => put_whole(asm(alloc, inputs, text), out),
+        Form::Mcs { image } => put_whole(mcs(alloc, inputs, image), out),
+        Form::PlanFull { part, frames } => put_whole(plan_full(alloc, inputs, part, frames), out),
+        Form::PlanPartial { part, frames } => {
             put_whole(plan_partial(alloc, inputs, part, frames), out)
         }
-        Some(Form::PlanRead { part, far, n }) => {
-            put_whole(plan_read(alloc, inputs, part, far, n), out)
-        }
-        Some(Form::Gen { part, seed }) => put_whole(generate(alloc, inputs, part, seed), out),
-        Some(Form::Image { golden, update }) => {
-            put_whole(image(alloc, inputs, golden, update), out)
-        }
-        Some(
-            Form::ImageFor {
-                part,
-                golden,
-                update,
-            },
-        ) => { put_whole(image_for(alloc, inputs, part, golden, update), out) }
-        Some(Form::Unmcs { text }) => put_whole(unmcs(alloc, inputs, text), out),
-        Some(
-            Form::Debug {
-                part,
-                stream,
-                script,
-            },
-        ) => put_whole(debug(alloc, inputs, part, stream, script), out),
-        Some(Form::Svf { part, text }) => put_whole(svf(alloc, inputs, part, text), out),
-        Some(Form::Boot { part, flash: name }) => put_whole(
-            boot(alloc, inputs, flash, part, name),
-            out,
-        ),
-        Some(
-            Form::Update {
-                flash: name,
-                stream,
-            },
-        ) => update(alloc, inputs, flash, name, stream),
+        Form::PlanRead { part, far, n } => put_whole(plan_read(alloc, inputs, part, far, n), out),
+        Form::Gen { part, seed } => put_whole(generate(alloc, inputs, part, seed), out),
+        Form::Image { golden, update } => put_whole(image(alloc, inputs, golden, update), out),
+        Form::ImageFor {
+            part,
+            golden,
+            update,
+        } => put_whole(image_for(alloc, inputs, part, golden, update), out),
+        Form::Unmcs { text } => put_whole(unmcs(alloc, inputs, text), out),
+        Form::Debug {
+            part,
+            stream,
+            script,
+        } => put_whole(debug(alloc, inputs, part, stream, script), out),
+        Form::Svf { part, text } => put_whole(svf(alloc, inputs, part, text), out),
+        Form::Boot { part, flash: name } => put_whole(boot(alloc, inputs, flash, part, name), out),
+        Form::Update {
+            flash: name,
+            stream,
+        } => update(alloc, inputs, flash, name, stream),
     }
 }
 

@@ -2,7 +2,7 @@
 use Rattle.std.specs.Prelude.{◌≡◌, ◌≢◌, ℕ, ◌+◌, ◌-◌, ◌*◌, ◌<◌, ◌≤◌, ◌⊎◌, List, length, get_or, Option, Some, None, nat_lt, if◌then◌else◌, true, false}
 use Rattle.x7_words.specs.Flash.{Elapses, FlashFails, FlashState, IfKnown, WriteFails}
 use Rattle.x7_update.specs.After.{ClosesTo, IsBetween, switched, with_stream}
-use Rattle.x7_update.specs.Layout.{open_word, switch_of}
+use Rattle.x7_update.specs.Layout.{CanStandAt, HasSize, open_word, switch_of}
 use Rattle.x7_update.specs.declared.fault.UpdateFault.{UpdateFault}
 use Rattle.x7_update.specs.declared.fault.UpdateFault.TheVariants.{Differs, Failed, NoLayout, NoMemory, TooLong}
 
@@ -89,11 +89,26 @@ IsWrong update stream place buffer TooLong = ⊥
 IsWrong update stream place buffer (NoLayout at) = ⊥
 IsWrong update stream place buffer NoMemory = ⊥
 
--- why the end of an update fails: a read or a write failed, or a byte is another than the one written, which told bytes never are
-abbrev pub EndFails : FlashState → FlashState → UpdateFault → Type 0
-EndFails old new (Differs at wrote read) = (wrote ≢ read) × (old.bytes ≡ None)
-EndFails old new (Failed true) = WriteFails old new
-EndFails old new (Failed false) = FlashFails old new
-EndFails old new TooLong = ⊥
-EndFails old new (NoLayout at) = ⊥
-EndFails old new NoMemory = ⊥
+-- The byte that an update with a stream writes at a place of a flash of a size: the stream's, or FF behind it, from a place on at
+-- which it can stand and fits; or one of the switch word of the slot that it opens.
+pub data IsWritten (size : ℕ) (stream : List ℕ) (place byte : ℕ) : Type 0 where
+  in_stream : (update : ℕ) → CanStandAt size update → update + length stream ≤ size → update ≤ place → place < size
+      → byte ≡ wanted_at update stream place → IsWritten size stream place byte
+  in_switch : (slot : ℕ) → slot < 2048 → 32 * slot ≤ place → place < 32 * slot + 4
+      → byte ≡ wanted_at (32 * slot) open_word place → IsWritten size stream place byte
+
+-- a byte that was read back at a place of a flash of a size is another than the one written there
+pub record IsReadWrong (size : ℕ) (stream : List ℕ) (place wrote read : ℕ) : Type 0 where
+  pub sized : HasSize size
+  pub written : IsWritten size stream place wrote
+  pub differs : wrote ≢ read
+
+-- why the end of an update with a stream fails: a read or a write failed, or a byte is another than the one written, which told
+-- bytes never are
+abbrev pub EndFails : List ℕ → FlashState → FlashState → UpdateFault → Type 0
+EndFails stream old new (Differs at wrote read) = IsReadWrong new.extent stream at wrote read × (old.bytes ≡ None)
+EndFails stream old new (Failed true) = WriteFails old new
+EndFails stream old new (Failed false) = FlashFails old new
+EndFails stream old new TooLong = ⊥
+EndFails stream old new (NoLayout at) = ⊥
+EndFails stream old new NoMemory = ⊥

@@ -58,13 +58,14 @@ fn finish<F: Flash>(
 ) -> Result<(), UpdateFault>
     requires attached { (F.state flash.old).attached ≡ true }
     requires fits { Fits (F.state flash.old).extent slots }
+    requires stream { slots.update + length stream.now ≤ (F.state flash.old).extent }
     requires buffer { length buffer.old ≡ 65536 }
     requires written { IfKnown (F.state flash.old).bytes (HasWanted slots.update stream.now) }
     requires free { IfKnown (F.state flash.old).bytes (λ all. IsFree all slots.next) }
     ensures opened { OnOk result ((F.state flash.new).bytes ≡ option_map (switched slots.next open_word) (F.state flash.old).bytes) }
     ensures any_moment { AtAnyMoment (F.state flash.old) (F.state flash.new) (F.found_since flash.old) (F.found_since flash.new)
         (Opening slots.next) }
-    ensures fault { IfErr result (EndFails (F.state flash.old) (F.state flash.new)) }
+    ensures fault { IfErr result (EndFails stream.now (F.state flash.old) (F.state flash.new)) }
     ensures only { OnlyUses (F.state flash.old) (F.state flash.new) }
 {
     match verify_stream(flash, slots.update, stream, buffer) {

@@ -1,7 +1,7 @@
 //! What was written is read back and compared.
-ghost use Rattle.std.specs.Prelude.{◌≡◌, ◌+◌, ◌*◌, ◌%◌, ◌<◌, ◌≤◌, ◌^◌, ℕ, true, length, IfErr};
+ghost use Rattle.std.specs.Prelude.{◌≡◌, ◌+◌, ◌*◌, ◌<◌, ◌≤◌, ◌^◌, ℕ, List, true, length, IfErr};
 ghost use Rattle.x7_words.specs.Flash.{OnlyReads, IfKnown};
-ghost use Rattle.x7_update.specs.Layout.{IsOpen};
+ghost use Rattle.x7_update.specs.Layout.{CanStandAt, HasSize, IsOpen};
 ghost use Rattle.x7_update.specs.Writing.{EndFails, HasWanted, IsWrong, wanted_at};
 
 use crate::fault::UpdateFault;
@@ -47,12 +47,12 @@ pub(crate) fn verify_stream<F: Flash>(
     buffer: &mut [u8],
 ) -> Result<(), UpdateFault>
     requires attached { (F.state flash.old).attached ≡ true }
-    requires size { (F.state flash.old).extent % 65536 ≡ 0 }
-    requires limit { (F.state flash.old).extent ≤ 134217728 }
-    requires place { update % 65536 ≡ 0 }
+    requires size { HasSize (F.state flash.old).extent }
+    requires place { CanStandAt (F.state flash.old).extent update }
+    requires fits { update + length stream.now ≤ (F.state flash.old).extent }
     requires buffer { length buffer.old ≡ 65536 }
     requires written { IfKnown (F.state flash.old).bytes (HasWanted update stream.now) }
-    ensures fault { IfErr result (EndFails (F.state flash.old) (F.state flash.new)) }
+    ensures fault { IfErr result (EndFails stream.now (F.state flash.old) (F.state flash.new)) }
     ensures only { OnlyReads (F.state flash.old) (F.state flash.new) (F.found_since flash.old) (F.found_since flash.new) }
 {
     for sector in update / SECTOR..flash.size() / SECTOR {
@@ -73,12 +73,14 @@ fn verify_sector<F: Flash>(
     buffer: &mut [u8],
 ) -> Result<(), UpdateFault>
     requires attached { (F.state flash.old).attached ≡ true }
-    requires limit { (F.state flash.old).extent ≤ 134217728 }
+    requires size { HasSize (F.state flash.old).extent }
     requires within { sector * 65536 + 65536 ≤ (F.state flash.old).extent }
-    requires place { update ≤ sector * 65536 }
+    requires behind { update ≤ sector * 65536 }
+    requires place { CanStandAt (F.state flash.old).extent update }
+    requires fits { update + length stream.now ≤ (F.state flash.old).extent }
     requires buffer { length buffer.old ≡ 65536 }
     requires written { IfKnown (F.state flash.old).bytes (HasWanted update stream.now) }
-    ensures fault { IfErr result (EndFails (F.state flash.old) (F.state flash.new)) }
+    ensures fault { IfErr result (EndFails stream.now (F.state flash.old) (F.state flash.new)) }
     ensures only { OnlyReads (F.state flash.old) (F.state flash.new) (F.found_since flash.old) (F.found_since flash.new) }
     ensures buffer { length buffer.new ≡ 65536 }
 {
@@ -92,10 +94,10 @@ fn verify_sector<F: Flash>(
 /// Reads the switch word of the slot that was opened, and compares it.
 pub(crate) fn verify_switch<F: Flash>(flash: &mut F, slot: u64) -> Result<(), UpdateFault>
     requires attached { (F.state flash.old).attached ≡ true }
+    requires size { HasSize (F.state flash.old).extent }
     requires slot { slot < 2048 }
-    requires within { 32 * slot + 4 ≤ (F.state flash.old).extent }
     requires opened { IfKnown (F.state flash.old).bytes (λ all. IsOpen all slot) }
-    ensures fault { IfErr result (EndFails (F.state flash.old) (F.state flash.new)) }
+    ensures fault { (stream : List ℕ) → IfErr result (EndFails stream (F.state flash.old) (F.state flash.new)) }
     ensures only { OnlyReads (F.state flash.old) (F.state flash.new) (F.found_since flash.old) (F.found_since flash.new) }
 {
     let mut word = [0; 4];

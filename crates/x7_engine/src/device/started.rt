@@ -7,7 +7,8 @@ ghost use Rattle.x7_engine.specs.Phases.{soonest};
 ghost use Rattle.x7_engine.specs.ReadBuffer.{with_words};
 ghost use Rattle.x7_engine.specs.Standing.{DeviceStandsFor, HasStopped, NoWordDue, fed_more, fed_of, reads_given};
 ghost use Rattle.x7_engine.specs.State.{state_of, stop_in};
-ghost use Rattle.x7_engine.specs.UntilStarted.{AnswersUntil, HasNotBegun, NoneStarted, has_started, says_started, taken_until, CommandsLast};
+ghost use Rattle.x7_engine.specs.Turns.{Turns};
+ghost use Rattle.x7_engine.specs.UntilStarted.{HasNotBegun, NoneStarted, has_started, says_started, taken_until};
 ghost use Rattle.x7_engine.specs.declared.kept.Kept.{Kept as KeptData};
 ghost use Rattle.x7_engine.specs.declared.until_started.UntilStarted.TheVariants as until;
 ghost use Rattle.x7_engine.specs.Past.{AnswersUntilFor, OfPast, Takes, GivesNext, GivesNone, later, part_until, started_at, state_at, stop_at, reads_given_at};
@@ -60,11 +61,8 @@ impl Device {
         ensures forward { at.old ≤ at.new }
         ensures within { at.new ≤ length piece.now }
         ensures taken { self.new.taken ≡ self.old.taken + (at.new - at.old) }
-        ensures part { self.new.part ≡ self.old.part }
         ensures fed { fed_of self.new ≡ fed_more self.old (at.new - at.old) }
-        ensures stands { Takes self.old self.new (between piece.now at.old at.new) }
-        ensures silent { GivesNone self.old self.new (between piece.now at.old at.new) }
-        ensures commands { OfPast self.old (λ p. CommandsLast p.bytes (between piece.now at.old at.new)) }
+        ensures turns { Turns self.old self.new (between piece.now at.old at.new) }
         ensures used_up { IsTrue result → (at.new ≡ length piece.now) × (self.new.registers.stop ≡ None) × NoWordDue self.new }
         ensures goes { result ≡ false → self.new.registers.stop ≡ None
             → calls_left self.new.cutter (length piece.now - at.new) < calls_left self.old.cutter (length piece.now - at.old) }

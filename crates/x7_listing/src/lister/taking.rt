@@ -1,10 +1,8 @@
 //! A lister of runs: those of a stream, one after another.
 ghost use Rattle.std.specs.Prelude.{◌≡◌, ℕ, ◌+◌, ◌*◌, ◌≤◌, ◌<◌, List, ◌++◌, OnOk, OnErr, true, if◌then◌else◌, length, min, take, vec_len, vec_capacity};
 ghost use Rattle.x7_packets.specs.Cutting.{CutterState};
-ghost use Rattle.x7_packets.specs.Reading.{Place, Session, tail_of};
 ghost use Rattle.x7_packets.specs.Run.{cut_of, FitsRun, bytes_of_run};
-ghost use Rattle.x7_listing.specs.Listing.{reading_text};
-ghost use Rattle.x7_listing.specs.Pens.{PenHasListedAll, lister_with};
+ghost use Rattle.x7_listing.specs.Pens.{EndsHeld, lister_with, written_with};
 ghost use Rattle.x7_listing.specs.Taking.{TakesNext};
 
 use super::Lister;
@@ -66,8 +64,7 @@ fn tail_len(pen: Pen) -> usize
 /// Appends what is left at the end of a stream, whose tail the pen holds.
 fn put_last(text: &mut Vec<u8>, pen: Pen)
     requires room { vec_len text.old + 64 ≤ vec_capacity text.old }
-    ensures listed { (given before : List ℕ) (sessions : List Session) (place : Place) → PenHasListedAll pen (given ++ text.old.items) before sessions place
-        → (pen.synced ≡ true → take pen.count pen.held ≡ tail_of place) → given ++ text.new.items ≡ before ++ reading_text sessions place }
+    ensures listed { EndsHeld (written_with pen text.old.items) text.new.items }
 {
     put_end(text, pen, &pen.held[..tail_len(pen)]);
 }

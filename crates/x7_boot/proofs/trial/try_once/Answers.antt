@@ -36,7 +36,7 @@ pages-preserved g c =
     let t = c.take_page.ensures c.args.device.now.part c.args.keep f.bytes f.stands f.going f.open_end in
     record {
       feeds = feeds_on c.args.device.now.part c.args.keep c.args.address (g.F.Flash.state c.args.flash.now).bytes c.pages.device c.take_page.new.device c.bytes_from-bytes.result.now c.pages.at (c.pages.at + length c.bytes_from-bytes.result.now) c.take_page.result refl
-          (from_limited known extent c.pages.at c.bytes_from-bytes.result.now c.requires.limit from) f from.told t c.in-Goes.is;
+          (from_limited known extent c.pages.at c.bytes_from-bytes.result.now c.requires.limit from) f from.bytes_are t c.in-Goes.is;
       kept = are;
       quiet = c.in_ok-loaded.ensures.quiet ∙ c.pages.invariant.quiet;
       flash = reads_on _ _ _ _ _ _ c.pages.invariant.flash c.in_ok-loaded.ensures.flash;
@@ -53,7 +53,7 @@ returns-in-Ends-clause-tried g c =
     let read = loaded_from known (g.F.Flash.state c.pages.flash).bytes extent (g.F.Flash.state c.pages.flash).extent (c.pages.at / page_size) c.load.new.self.block.items c.in_ok-loaded.loaded c.pages.invariant.flash.bytes c.pages.invariant.flash.extent c.in_ok-loaded.ensures.read in
     let from = c.bytes_from-bytes.ensures known extent below are read in
     let t = c.take_page.ensures c.args.device.now.part c.args.keep f.bytes f.stands f.going f.open_end in
-    known_ended c.args.device.now.part c.args.keep c.args.address (g.F.Flash.state c.args.flash.now).bytes c.pages.device c.take_page.new.device c.bytes_from-bytes.result.now c.pages.at c.take_page.result c.in-Ends.ending f from.told t c.in-Ends.is
+    known_ended c.args.device.now.part c.args.keep c.args.address (g.F.Flash.state c.args.flash.now).bytes c.pages.device c.take_page.new.device c.bytes_from-bytes.result.now c.pages.at c.take_page.result c.in-Ends.ending f from.bytes_are t c.in-Ends.is
 
 pub run_out-requires-in-Stops : goal.run_out-requires-in-Stops
 run_out-requires-in-Stops g c =
@@ -70,7 +70,7 @@ returns-in-Stops-clause-tried g c =
     let read = loaded_from known (g.F.Flash.state c.pages.flash).bytes extent (g.F.Flash.state c.pages.flash).extent (c.pages.at / page_size) c.load.new.self.block.items c.in_ok-loaded.loaded c.pages.invariant.flash.bytes c.pages.invariant.flash.extent c.in_ok-loaded.ensures.read in
     let from = c.bytes_from-bytes.ensures known extent below are read in
     let t = c.take_page.ensures c.args.device.now.part c.args.keep f.bytes f.stands f.going f.open_end in
-    known_stopped c.args.device.now.part c.args.keep c.args.address (g.F.Flash.state c.args.flash.now).bytes c.pages.device c.take_page.new.device c.run_out-in-Stops.new.device c.bytes_from-bytes.result.now c.pages.at c.take_page.result c.run_out-in-Stops.result f from.told t c.in-Stops.is
+    known_stopped c.args.device.now.part c.args.keep c.args.address (g.F.Flash.state c.args.flash.now).bytes c.pages.device c.take_page.new.device c.run_out-in-Stops.new.device c.bytes_from-bytes.result.now c.pages.at c.take_page.result c.run_out-in-Stops.result f from.bytes_are t c.in-Stops.is
     (c.run_out-in-Stops.ensures.stands c.args.device.now.part c.args.keep _ t.stands) c.run_out-in-Stops.ensures.ending
 
 pub returns-then-at-size-clause-leaves : goal.returns-then-at-size-clause-leaves
@@ -89,7 +89,7 @@ returns-in-Ends-clause-leaves g c =
     let from = c.bytes_from-bytes.ensures known extent below are read in
     let t = c.take_page.ensures c.args.device.now.part c.args.keep f.bytes f.stands f.going f.open_end in
     leaves_page c.args.device.now.part c.args.keep false c.args.address known c.pages.device c.take_page.new.device c.take_page.new.device c.bytes_from-bytes.result.now c.pages.at c.take_page.result f
-    from.told (from_limited known extent c.pages.at c.bytes_from-bytes.result.now c.requires.limit from) t t.stands
+    from.bytes_are (from_limited known extent c.pages.at c.bytes_from-bytes.result.now c.requires.limit from) t t.stands
 
 pub returns-in-Stops-clause-leaves : goal.returns-in-Stops-clause-leaves
 returns-in-Stops-clause-leaves g c =
@@ -102,7 +102,7 @@ returns-in-Stops-clause-leaves g c =
     let from = c.bytes_from-bytes.ensures known extent below are read in
     let t = c.take_page.ensures c.args.device.now.part c.args.keep f.bytes f.stands f.going f.open_end in
     leaves_page c.args.device.now.part c.args.keep true c.args.address known c.pages.device c.take_page.new.device c.run_out-in-Stops.new.device c.bytes_from-bytes.result.now c.pages.at c.take_page.result f
-    from.told (from_limited known extent c.pages.at c.bytes_from-bytes.result.now c.requires.limit from) t
+    from.bytes_are (from_limited known extent c.pages.at c.bytes_from-bytes.result.now c.requires.limit from) t
     (c.run_out-in-Stops.ensures.stands c.args.device.now.part c.args.keep _ t.stands)
 
 pub returns-then-at-size-clause-pages : goal.returns-then-at-size-clause-pages

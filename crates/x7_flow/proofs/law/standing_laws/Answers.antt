@@ -2,7 +2,7 @@ use Rattle.x7_flow.proofs.StandingLemmas.{one_more, one_state_of, read_begins}
 use Rattle.x7_flow.proofs.law.standing_laws.Goals as goal
 
 pub returns-clause-more : goal.returns-clause-more
-returns-clause-more c = λ part old new e h did are. one_more part old.pipeline new.pipeline old.memory new.memory e h did are
+returns-clause-more c = λ part old new e h did are. one_more part old new e h did are
 
 pub returns-clause-read : goal.returns-clause-read
 returns-clause-read c = λ part f e h count r. (read_begins part f.pipeline f.memory e h count r.reads r.address r.stands).0

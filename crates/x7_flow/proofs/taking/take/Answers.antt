@@ -1,4 +1,5 @@
 use Rattle.std.proofs.Common.{◌∙◌}
+use Rattle.x7_flow.specs.Standing.{frames_state}
 use Rattle.x7_flow.proofs.StandingLemmas.{did_copy, did_load, did_order, did_other, did_reads, did_word, drop_is}
 use Rattle.x7_flow.proofs.taking.take.Goals as goal
 
@@ -25,11 +26,11 @@ returns-in-Ok-drop_words-clause-did c =
 
 pub returns-in-Ok-drop_words-clause-fault : goal.returns-in-Ok-drop_words-clause-fault
 returns-in-Ok-drop_words-clause-fault c = λ f h.
-    rw c.in-Reads.is (c.in-Ok-drop_words.ensures.fault f.command f.base f.run f.source f.given h.stands ∙ drop_is c.args.part.now c.args.pipeline.now f c.in-Reads.count h)
+    rw c.in-Reads.is (c.in-Ok-drop_words.ensures.fault f h.stands ∙ drop_is c.args.part.now c.args.pipeline.now f c.in-Reads.count h)
 
 pub returns-in-Err-drop_words-clause-fault : goal.returns-in-Err-drop_words-clause-fault
 returns-in-Err-drop_words-clause-fault c = λ f h.
-    rw c.in-Reads.is (c.in-Err-drop_words.ensures.fault f.command f.base f.run f.source f.given h.stands ∙ drop_is c.args.part.now c.args.pipeline.now f c.in-Reads.count h)
+    rw c.in-Reads.is (c.in-Err-drop_words.ensures.fault f h.stands ∙ drop_is c.args.part.now c.args.pipeline.now f c.in-Reads.count h)
 
 pub returns-in-Other-clause-did : goal.returns-in-Other-clause-did
-returns-in-Other-clause-did c = rw c.in-Other.is (did_other c.args.part.now c.args.pipeline.now c.args.memory.now)
+returns-in-Other-clause-did c = rw c.in-Other.is (did_other c.args.part.now (frames_state c.args.pipeline.now c.args.memory.now))

@@ -3,7 +3,7 @@ use Rattle.x7_words.specs.declared.input.Failed.{Failed}
 use Rattle.x7_words.proofs.InputLemmas.{stays_at, stays_on}
 use Rattle.x7_packets.specs.declared.stream.Run.{Run}
 use Rattle.x7_packets.specs.Running.{Gives, GivesRun}
-use Rattle.x7_listing.specs.TakingRuns.{TakesRuns}
+use Rattle.x7_listing.specs.TakingRuns.{TakesRuns, runs_of}
 use Rattle.x7_listing.specs.Telling.{ListerState}
 use Rattle.x7_listing.proofs.TakingRunsLemmas.{end_after, from_err, from_ok, next_fits, not_ended, takes_all, takes_more, takes_none, taken_by, tells_more, tells_none}
 use Rattle.x7_listing.proofs.runs.take_runs.Goals as goal
@@ -60,15 +60,15 @@ loop-preserved g c =
 pub returns-in-Err-clause-fault : goal.returns-in-Err-clause-fault
 returns-in-Err-clause-fault g c = record {
   reader = c.loop.packets;
-  rest_then = (g.I.Inputs.state c.loop.inputs).rest;
+  rest = (g.I.Inputs.state c.loop.inputs).rest;
   runs = not_ended _ _ _ _ _ _ c.loop.invariant.runs;
 }
 
 pub returns-then-is_err-clause-fault : goal.returns-then-is_err-clause-fault
 returns-then-is_err-clause-fault g c = record {
   reader = c.loop.packets;
-  rest_then = (g.I.Inputs.state c.loop.inputs).rest;
+  rest = (g.I.Inputs.state c.loop.inputs).rest;
   runs =
-      subst (λ (n : ListerState). TakesRuns c.args.packets.now c.loop.packets c.args.lister.now n (g.I.Inputs.state c.args.inputs.now).rest (g.I.Inputs.state c.loop.inputs).rest false)
+      subst (λ (n : ListerState). TakesRuns (runs_of c.args.packets.now c.args.lister.now (g.I.Inputs.state c.args.inputs.now).rest) (runs_of c.loop.packets n (g.I.Inputs.state c.loop.inputs).rest) false)
       (sym (from_err c.take.result (sym c.if-is_err.ensures.value) c.take.ensures.err)) (not_ended _ _ _ _ _ _ c.loop.invariant.runs);
 }

@@ -1,5 +1,5 @@
 use Rattle.std.proofs.Common.{◌≡◌, ◌-◌, ◌++◌, [], append-nil, arith, drop, length, refl, subst, take, true}
-use Rattle.x7_listing.specs.Telling.{Tells}
+use Rattle.x7_listing.specs.Telling.{Tells, lister_of}
 use Rattle.x7_listing.proofs.AtOnceLemmas.{in_line_told, rest_length, seam}
 use Rattle.x7_listing.proofs.short.take_short.Goals as goal
 
@@ -14,7 +14,7 @@ loop-len-init c =
       inside = sheet.inside;
       few = sheet.grown;
       tells = λ given before bytes s.
-          let begins : Tells c.args.cutter.now true c.session_line.result [] (c.args.text.now.items ++ []) given before bytes =
+          let begins : Tells (lister_of c.args.cutter.now true c.session_line.result [] (c.args.text.now.items ++ [])) given before bytes =
           rw (append-nil c.args.text.now.items) (in_line_told c.args.cutter.now c.args.pen.synced true c.args.pen.line c.session_line.result _ [] c.args.text.now.items given before bytes here refl (c.session_line.ensures.line here) s) in
           in_line_told c.take_writes-begun.new.cutter true c.in_session-now.result.synced c.take_writes-begun.result.line c.in_session-now.result.line [] _ _ given before _ refl c.in_session-now.ensures.synced c.in_session-now.ensures.line (c.take_writes-begun.ensures.listed c.args.text.now.items given before bytes begins);
     }
@@ -30,7 +30,7 @@ loop-len-preserved c =
       inside = next.inside;
       few = omega (arith, next.grown, c.loop-len.invariant.few);
       tells = λ given before bytes s.
-          subst (Tells c.take_next.new.cutter c.in-Some.next.pen.synced c.in-Some.next.pen.line (take c.in-Some.next.pen.count c.in-Some.next.pen.held) (c.args.text.now.items ++ take c.in-Some.next.len c.take_next.new.sheet) given before)
+          subst (Tells (lister_of c.take_next.new.cutter c.in-Some.next.pen.synced c.in-Some.next.pen.line (take c.in-Some.next.pen.count c.in-Some.next.pen.held) (c.args.text.now.items ++ take c.in-Some.next.len c.take_next.new.sheet)) given before)
           (seam c.args.rest.now bytes _ c.loop-len.at c.in-Some.next.size c.loop-len.invariant.within refl)
           (c.in-Some.ensures.listed c.args.text.now.items given before (bytes ++ take c.loop-len.at c.args.rest.now) (c.loop-len.invariant.tells given before bytes s));
     }

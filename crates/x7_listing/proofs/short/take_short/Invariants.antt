@@ -1,5 +1,5 @@
-use Rattle.std.proofs.Common.{◌≡◌, ◌≤◌, ◌*◌, ◌-◌, ◌++◌, List, ℕ, length, take}
-use Rattle.x7_listing.specs.Telling.{Tells}
+use Rattle.std.proofs.Common.{◌≡◌, ◌≤◌, ◌*◌, ◌-◌, ◌++◌, length, take}
+use Rattle.x7_listing.specs.Pens.{TellsOn, lister_with}
 use Rattle.x7_listing.proofs.short.take_short.Given as goal
 
 abbrev pub invariant-loop-len : goal.invariant-loop-len
@@ -9,8 +9,7 @@ invariant-loop-len l = record {
   kept : length l.cutter.kept ≤ length l.fn.cutter.kept;
   inside : l.len ≤ 2048;
   few : l.len ≤ 25 * l.at;
-  tells : (given before bytes : List ℕ) → Tells l.fn.cutter l.fn.pen.synced l.fn.pen.line (take l.fn.pen.count l.fn.pen.held) l.fn.text.items given before bytes
-      → Tells l.cutter l.now.synced l.now.line (take l.now.count l.now.held) (l.fn.text.items ++ take l.len l.sheet) given before (bytes ++ take l.at l.rest);
+  tells : TellsOn (lister_with l.fn.cutter l.fn.pen l.fn.text.items) (lister_with l.cutter l.now (l.fn.text.items ++ take l.len l.sheet)) (take l.at l.rest);
 }
 
 abbrev pub decreases-loop-len : goal.decreases-loop-len

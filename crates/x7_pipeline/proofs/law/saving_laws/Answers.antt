@@ -4,6 +4,6 @@ use Rattle.x7_pipeline.proofs.law.saving_laws.Goals as goal
 pub returns : goal.returns
 returns c = record {
   back = λ part at old new c. taken_back part at old new c.old_are c.new_are c.changes;
-  copy = λ part p command base run source given s old new. copy_changes part p command base run source given old new s;
-  word = λ part p command base run source given s word old new. word_changes part p command base run source given word old new s;
+  copy = λ part p f s old new. copy_changes part p f.command f.base f.run f.source f.given old new s;
+  word = λ part p f s word old new. word_changes part p f.command f.base f.run f.source f.given word old new s;
 }

@@ -3,15 +3,15 @@ use Rattle.x7_planner.proofs.GroupLemmas.{copies_begin, copies_end, copies_more}
 use Rattle.x7_planner.proofs.group.put_copies.Goals as goal
 
 pub loop-k-init : goal.loop-k-init
-loop-k-init c = (omega arith, copies_begin c.args.contents.now c.args.words.now c.args.writer.now c.args.start c.requires.together c.requires.first)
+loop-k-init c = (omega arith, copies_begin c.args.contents.now c.args._words.now c.args.writer.now c.args.start c.requires.together c.requires.first)
 
-pub returns-then-not-is_same : goal.returns-then-not-is_same
-returns-then-not-is_same c =
-    copies_end c.args.contents.now c.args.words.now c.args.writer.now c.loop-k.writer c.args.start c.loop-k.k _ c.is_same.result c.requires.together c.requires.first c.loop-k.invariant.0 c.loop-k-test.true c.is_same.ensures c.if-not-is_same.true
+pub returns-then-firsts-k : goal.returns-then-firsts-k
+returns-then-firsts-k c =
+    copies_end c.args.contents.now c.args._words.now c.args.firsts.now c.args.writer.now c.loop-k.writer c.args.start c.loop-k.k _ c.requires.together c.requires.firsts c.requires.first c.loop-k.invariant.0 c.loop-k-test.true c.if-firsts-k.true
     c.loop-k.invariant.1
 
 pub loop-k-preserved : goal.loop-k-preserved
 loop-k-preserved c = (
   (let h = c.loop-k.invariant.0 in omega (arith, h)),
-  copies_more c.args.contents.now c.args.words.now c.args.writer.now c.loop-k.writer c.words.new.self c.loop-k.k _ c.is_same.result c.loop-k-test.true c.is_same.ensures c.if-not-is_same.false c.loop-k.invariant.1 c.in_ok-words.ensures,
+  copies_more c.args.contents.now c.args._words.now c.args.firsts.now c.args.writer.now c.loop-k.writer c.words.new.self c.args.start c.loop-k.k _ _ c.requires.firsts c.requires.first c.loop-k-test.true c.if-firsts-k.false c.loop-k.invariant.1 c.in_ok-words.ensures,
 )

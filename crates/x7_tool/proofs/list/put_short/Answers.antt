@@ -1,6 +1,5 @@
-use Rattle.std.proofs.Common.{◌≡◌, List, ℕ, [], ◌++◌, sym, ap, subst, append-nil, ◌∙◌}
-use Rattle.x7_words.specs.Sink.{Tells, PutsPrefix, appended}
-use Rattle.x7_listing.specs.Listing.{listing_of}
+use Rattle.std.proofs.Common.{List, ℕ, [], ◌++◌, sym, ap, subst, append-nil, ◌∙◌}
+use Rattle.x7_words.specs.Sink.{PutsPrefix, appended}
 use Rattle.x7_forms.proofs.ResultLemmas.{from_ok}
 use Rattle.x7_tool.proofs.TurnLemmas.{tells_prefix, whole_text}
 use Rattle.x7_tool.proofs.list.put_short.Goals as goal

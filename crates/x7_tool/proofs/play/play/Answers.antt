@@ -1,4 +1,4 @@
-use Rattle.std.proofs.Common.{◌≡◌, ℕ, List, [], ◌∷◌, Ok, Err, inr, map, string_bytes}
+use Rattle.std.proofs.Common.{ℕ, List, [], ◌∷◌, Err, inr, map, string_bytes}
 use Rattle.x7_part.specs.Part.{PartData}
 use Rattle.x7_forms.specs.Message.{event_of}
 use Rattle.x7_forms.specs.Known.{Answer, and_so, data_of, part_of, stream_limit}

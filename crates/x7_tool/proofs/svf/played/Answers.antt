@@ -1,4 +1,4 @@
-use Rattle.std.proofs.Common.{◌≡◌, ◌||◌, ◌++◌, Bool, List, ℕ, [], false, ap, ◌∙◌}
+use Rattle.std.proofs.Common.{◌||◌, ◌++◌, Bool, List, ℕ, [], false, ap, ◌∙◌}
 use Rattle.std.specs.Prelude.{is_some}
 use Rattle.x7_part.specs.Part.{PartData}
 use Rattle.x7_engine.specs.Kept.{on_the_bench}

@@ -4,7 +4,8 @@ use Rattle.x7_engine.specs.UntilRead.{RoomBefore}
 use Rattle.x7_engine.specs.declared.fed.Fed.{Fed}
 use Rattle.x7_engine.specs.declared.stop.Stop.{Stop}
 use Rattle.x7_engine.specs.ReadBuffer.{with_words}
-use Rattle.x7_engine.specs.Standing.{Answers, DeviceStandsFor, DeviceState, NoWordDue, fed_by, taken_in, reads_given}
+use Rattle.x7_engine.specs.Past.{Answers, past_of}
+use Rattle.x7_engine.specs.Standing.{DeviceStandsFor, DeviceState, NoWordDue, fed_by, taken_in, reads_given}
 use Rattle.x7_engine.specs.Stops.{stopped_at}
 use Rattle.x7_engine.proofs.FeedLemmas.{answers_stop, now_told, read_here, stands_on, taken_by_stop, words_none}
 use Rattle.x7_engine.proofs.UntilReadLemmas.{room_read_on}
@@ -26,8 +27,8 @@ runs-init c = record {
 pub returns-in-Some-clause-answer : goal.returns-in-Some-clause-answer
 returns-in-Some-clause-answer c = λ part kept wrapped bytes s.
     let piece : List ℕ = c.args.piece.now in
-    subst (λ (r : Fed). Answers part kept c.runs.self (bytes ++ take (taken_in (length piece) r) piece) c.runs.read r) (sym c.stopped.ensures)
-    (subst (λ (k : ℕ). Answers part kept c.runs.self (bytes ++ take k piece) c.runs.read (fed_by c.in-Some.stop c.runs.at)) (sym (taken_by_stop c.in-Some.stop (length piece) c.runs.at))
+    subst (λ (r : Fed). Answers (past_of part kept wrapped (bytes ++ take (taken_in (length piece) r) piece)) c.runs.self c.runs.read r) (sym c.stopped.ensures)
+    (subst (λ (k : ℕ). Answers (past_of part kept wrapped (bytes ++ take k piece)) c.runs.self c.runs.read (fed_by c.in-Some.stop c.runs.at)) (sym (taken_by_stop c.in-Some.stop (length piece) c.runs.at))
     (answers_stop part kept wrapped c.runs.self (bytes ++ take c.runs.at piece) c.runs.read c.in-Some.stop c.runs.at (c.runs.invariant.stands part kept wrapped bytes s) c.in-Some.ensures))
 
 pub returns-in-Some-clause-stands : goal.returns-in-Some-clause-stands
@@ -66,7 +67,7 @@ returns-then-turn-clause-first c = λ part kept wrapped bytes s.
     let gives = c.give.ensures.given part kept wrapped taken (c.runs.invariant.stands part kept wrapped bytes s) in
     let due : NoWordDue c.give.new.self = c.give.ensures.none_left.0 c.if-not-give.false in
     room_read_on part kept wrapped c.give.new.self c.turn.new.self c.args.read.now c.give.new.read bytes c.args.piece.now (reads_given part kept c.args.self.now bytes) c.runs.at c.turn.new.at c.turn.ensures.forward c.turn.ensures.within
-    c.give.ensures.going due gives.stands (c.turn.ensures.stands part kept wrapped taken gives.stands) (c.turn.ensures.commands part kept wrapped taken gives.stands) c.holds_few.ensures
+    c.give.ensures.going due gives.stands (c.turn.ensures.turns.stands part kept wrapped taken gives.stands) (c.turn.ensures.turns.commands part kept wrapped taken gives.stands) c.holds_few.ensures
     (now_told part kept wrapped c.runs.self c.give.new.self c.args.read.now c.runs.read c.give.new.read taken (reads_given part kept c.args.self.now bytes) gives (c.runs.invariant.reads part kept wrapped bytes s))
     (c.runs.invariant.first part kept wrapped bytes s))
 
@@ -75,7 +76,7 @@ returns-then-turn-clause-stands c = λ part kept wrapped bytes s.
     let piece : List ℕ = c.args.piece.now in
     let used = c.turn.ensures.used_up c.if-turn.true in
     subst (λ (k : ℕ). DeviceStandsFor part kept wrapped c.turn.new.self (bytes ++ take k piece)) used.0
-    (stands_on part kept wrapped c.give.new.self c.turn.new.self bytes piece c.runs.at c.turn.new.at c.turn.ensures.forward (c.turn.ensures.stands part kept wrapped)
+    (stands_on part kept wrapped c.give.new.self c.turn.new.self bytes piece c.runs.at c.turn.new.at c.turn.ensures.forward (c.turn.ensures.turns.stands part kept wrapped)
     (c.give.ensures.given part kept wrapped (bytes ++ take c.runs.at piece) (c.runs.invariant.stands part kept wrapped bytes s)).stands)
 
 pub returns-then-turn-clause-answer : goal.returns-then-turn-clause-answer
@@ -91,7 +92,7 @@ returns-then-turn-clause-reads c = λ part kept wrapped bytes s.
     let used = c.turn.ensures.used_up c.if-turn.true in
     let told : (more : List ℕ) × (c.give.new.read ≡ with_words c.args.read.now more) × (reads_given part kept c.turn.new.self (bytes ++ take c.turn.new.at piece) ≡ reads_given part kept c.args.self.now bytes ++ more) =
     read_here part kept wrapped c.runs.self c.give.new.self c.turn.new.self c.args.read.now c.runs.read c.give.new.read bytes piece (reads_given part kept c.args.self.now bytes) c.runs.at c.turn.new.at
-    (c.give.ensures.given part kept wrapped (bytes ++ take c.runs.at piece) (c.runs.invariant.stands part kept wrapped bytes s)) c.turn.ensures.forward (c.turn.ensures.silent part kept wrapped) (c.runs.invariant.reads part kept wrapped bytes s) in
+    (c.give.ensures.given part kept wrapped (bytes ++ take c.runs.at piece) (c.runs.invariant.stands part kept wrapped bytes s)) c.turn.ensures.forward (c.turn.ensures.turns.silent part kept wrapped) (c.runs.invariant.reads part kept wrapped bytes s) in
     (told.0, told.1, ap (λ (k : ℕ). reads_given part kept c.turn.new.self (bytes ++ take k piece)) (sym used.0) ∙ told.2)
 
 pub runs-preserved : goal.runs-preserved
@@ -100,22 +101,22 @@ runs-preserved c =
     let taken : c.give.new.self.taken ≡ c.runs.self.taken = c.give.ensures.taken in
     record {
       within = c.turn.ensures.within;
-      part = c.turn.ensures.part ∙ c.give.ensures.part ∙ c.runs.invariant.part;
+      part = c.turn.ensures.turns.part ∙ c.give.ensures.part ∙ c.runs.invariant.part;
       fed = omega (arith, c.turn.ensures.fed, c.give.ensures.fed, c.runs.invariant.fed, c.turn.ensures.forward);
       taken = omega (arith, taken, c.turn.ensures.taken, c.turn.ensures.forward, c.runs.invariant.taken);
       fits = omega (arith, taken, c.turn.ensures.taken, c.turn.ensures.forward, c.turn.ensures.within, c.runs.invariant.fits);
       stands = λ part kept wrapped bytes s.
-          stands_on part kept wrapped c.give.new.self c.turn.new.self bytes piece c.runs.at c.turn.new.at c.turn.ensures.forward (c.turn.ensures.stands part kept wrapped)
+          stands_on part kept wrapped c.give.new.self c.turn.new.self bytes piece c.runs.at c.turn.new.at c.turn.ensures.forward (c.turn.ensures.turns.stands part kept wrapped)
           (c.give.ensures.given part kept wrapped (bytes ++ take c.runs.at piece) (c.runs.invariant.stands part kept wrapped bytes s)).stands;
       reads = λ part kept wrapped bytes s.
           read_here part kept wrapped c.runs.self c.give.new.self c.turn.new.self c.args.read.now c.runs.read c.give.new.read bytes piece (reads_given part kept c.args.self.now bytes) c.runs.at c.turn.new.at
-          (c.give.ensures.given part kept wrapped (bytes ++ take c.runs.at piece) (c.runs.invariant.stands part kept wrapped bytes s)) c.turn.ensures.forward (c.turn.ensures.silent part kept wrapped) (c.runs.invariant.reads part kept wrapped bytes s);
+          (c.give.ensures.given part kept wrapped (bytes ++ take c.runs.at piece) (c.runs.invariant.stands part kept wrapped bytes s)) c.turn.ensures.forward (c.turn.ensures.turns.silent part kept wrapped) (c.runs.invariant.reads part kept wrapped bytes s);
       first = λ part kept wrapped bytes s. (
           let taken : List ℕ = bytes ++ take c.runs.at c.args.piece.now in
           let gives = c.give.ensures.given part kept wrapped taken (c.runs.invariant.stands part kept wrapped bytes s) in
           let due : NoWordDue c.give.new.self = c.give.ensures.none_left.0 c.if-not-give.false in
           room_read_on part kept wrapped c.give.new.self c.turn.new.self c.args.read.now c.give.new.read bytes c.args.piece.now (reads_given part kept c.args.self.now bytes) c.runs.at c.turn.new.at c.turn.ensures.forward c.turn.ensures.within
-          c.give.ensures.going due gives.stands (c.turn.ensures.stands part kept wrapped taken gives.stands) (c.turn.ensures.commands part kept wrapped taken gives.stands) c.holds_few.ensures
+          c.give.ensures.going due gives.stands (c.turn.ensures.turns.stands part kept wrapped taken gives.stands) (c.turn.ensures.turns.commands part kept wrapped taken gives.stands) c.holds_few.ensures
           (now_told part kept wrapped c.runs.self c.give.new.self c.args.read.now c.runs.read c.give.new.read taken (reads_given part kept c.args.self.now bytes) gives (c.runs.invariant.reads part kept wrapped bytes s))
           (c.runs.invariant.first part kept wrapped bytes s));
       stopped = λ e. absurd (let none : true ≡ false = sym e ∙ ap (λ (d : DeviceState). is_some d.registers.stop) (sym (c.runs.invariant.stopped e).0) ∙ sym (ap (λ (o : Option Stop). is_some o) c.in_default.ensures) in cc);

@@ -2,7 +2,8 @@ use Rattle.std.proofs.Common.{◌≡◌, ◌+◌, ◌++◌, ℕ, true, false, Op
 use Rattle.std.specs.Option.{is_some}
 use Rattle.x7_engine.specs.declared.fed.Fed.{Fed}
 use Rattle.x7_engine.specs.declared.stop.Stop.{Stop}
-use Rattle.x7_engine.specs.Standing.{Answers, DeviceStandsFor, DeviceState, NoWordDue, fed_by, fed_more, taken_in, reads_given}
+use Rattle.x7_engine.specs.Past.{Answers, past_of}
+use Rattle.x7_engine.specs.Standing.{DeviceStandsFor, DeviceState, NoWordDue, fed_by, fed_more, taken_in, reads_given}
 use Rattle.x7_engine.specs.Stops.{stopped_at}
 use Rattle.x7_engine.specs.UntilRead.{ReadBefore, no_room}
 use Rattle.x7_engine.proofs.FeedLemmas.{answers_stop, stands_on, taken_by_stop, told_on}
@@ -36,8 +37,8 @@ returns-in-Some-clause-fed c = c.runs.invariant.fed ∙ ap (λ (k : ℕ). fed_mo
 pub returns-in-Some-clause-answer : goal.returns-in-Some-clause-answer
 returns-in-Some-clause-answer c = λ part kept wrapped bytes s.
     let piece : List ℕ = c.args.piece.now in
-    subst (λ (r : Fed). Answers part kept c.runs.self (bytes ++ take (taken_in (length piece) r) piece) no_room r) (sym c.stopped.ensures)
-    (subst (λ (k : ℕ). Answers part kept c.runs.self (bytes ++ take k piece) no_room (fed_by c.in-Some.stop c.runs.at)) (sym (taken_by_stop c.in-Some.stop (length piece) c.runs.at))
+    subst (λ (r : Fed). Answers (past_of part kept wrapped (bytes ++ take (taken_in (length piece) r) piece)) c.runs.self no_room r) (sym c.stopped.ensures)
+    (subst (λ (k : ℕ). Answers (past_of part kept wrapped (bytes ++ take k piece)) c.runs.self no_room (fed_by c.in-Some.stop c.runs.at)) (sym (taken_by_stop c.in-Some.stop (length piece) c.runs.at))
     (answers_stop part kept wrapped c.runs.self (bytes ++ take c.runs.at piece) no_room c.in-Some.stop c.runs.at (c.runs.invariant.stands part kept wrapped bytes s) c.in-Some.ensures))
 
 pub returns-in-Some-clause-stands : goal.returns-in-Some-clause-stands
@@ -65,7 +66,7 @@ returns-then-turn-clause-stands c = λ part kept wrapped bytes s.
     let piece : List ℕ = c.args.piece.now in
     let used = c.turn.ensures.used_up c.if-turn.true in
     subst (λ (k : ℕ). DeviceStandsFor part kept wrapped c.turn.new.self (bytes ++ take k piece)) used.0
-    (stands_on part kept wrapped c.runs.self c.turn.new.self bytes piece c.runs.at c.turn.new.at c.turn.ensures.forward (c.turn.ensures.stands part kept wrapped) (c.runs.invariant.stands part kept wrapped bytes s))
+    (stands_on part kept wrapped c.runs.self c.turn.new.self bytes piece c.runs.at c.turn.new.at c.turn.ensures.forward (c.turn.ensures.turns.stands part kept wrapped) (c.runs.invariant.stands part kept wrapped bytes s))
 
 pub returns-then-turn-clause-answer : goal.returns-then-turn-clause-answer
 returns-then-turn-clause-answer c = λ part kept wrapped bytes s.
@@ -77,7 +78,7 @@ returns-then-turn-clause-answer c = λ part kept wrapped bytes s.
 pub returns-then-turn-clause-silent : goal.returns-then-turn-clause-silent
 returns-then-turn-clause-silent c = λ part kept wrapped bytes s.
     let used = c.turn.ensures.used_up c.if-turn.true in
-    ap (λ (k : ℕ). reads_given part kept c.turn.new.self (bytes ++ take k c.args.piece.now)) (sym used.0) ∙ (told_on part kept wrapped c.runs.self c.turn.new.self bytes c.args.piece.now c.runs.at c.turn.new.at c.turn.ensures.forward (c.turn.ensures.silent part kept wrapped) (c.runs.invariant.stands part kept wrapped bytes s)
+    ap (λ (k : ℕ). reads_given part kept c.turn.new.self (bytes ++ take k c.args.piece.now)) (sym used.0) ∙ (told_on part kept wrapped c.runs.self c.turn.new.self bytes c.args.piece.now c.runs.at c.turn.new.at c.turn.ensures.forward (c.turn.ensures.turns.silent part kept wrapped) (c.runs.invariant.stands part kept wrapped bytes s)
     ∙ c.runs.invariant.silent part kept wrapped bytes s)
 
 pub returns-then-turn-clause-first : goal.returns-then-turn-clause-first
@@ -88,26 +89,26 @@ returns-then-turn-clause-first c = λ part kept wrapped bytes s.
     let here : DeviceStandsFor part kept wrapped c.runs.self taken = c.runs.invariant.stands part kept wrapped bytes s in
     let due : NoWordDue c.runs.self = grind (arith, c.has_word_due.ensures, c.if-has_word_due.false) in
     none_read_on part kept wrapped c.runs.self c.turn.new.self bytes c.args.piece.now (reads_given part kept c.args.self.now bytes) c.runs.at c.turn.new.at c.turn.ensures.forward c.turn.ensures.within (sym c.in_default.ensures) due
-    here (c.turn.ensures.stands part kept wrapped taken here) (c.turn.ensures.commands part kept wrapped taken here) (c.runs.invariant.silent part kept wrapped bytes s) (c.runs.invariant.first part kept wrapped bytes s))
+    here (c.turn.ensures.turns.stands part kept wrapped taken here) (c.turn.ensures.turns.commands part kept wrapped taken here) (c.runs.invariant.silent part kept wrapped bytes s) (c.runs.invariant.first part kept wrapped bytes s))
 
 pub runs-preserved : goal.runs-preserved
 runs-preserved c =
     let piece : List ℕ = c.args.piece.now in
     record {
       within = c.turn.ensures.within;
-      part = c.turn.ensures.part ∙ c.runs.invariant.part;
+      part = c.turn.ensures.turns.part ∙ c.runs.invariant.part;
       fed = omega (arith, c.turn.ensures.fed, c.runs.invariant.fed, c.turn.ensures.forward);
       taken = omega (arith, c.turn.ensures.taken, c.turn.ensures.forward, c.runs.invariant.taken);
       fits = omega (arith, c.turn.ensures.taken, c.turn.ensures.forward, c.turn.ensures.within, c.runs.invariant.fits);
       stands = λ part kept wrapped bytes s.
-          stands_on part kept wrapped c.runs.self c.turn.new.self bytes piece c.runs.at c.turn.new.at c.turn.ensures.forward (c.turn.ensures.stands part kept wrapped) (c.runs.invariant.stands part kept wrapped bytes s);
-      silent = λ part kept wrapped bytes s. told_on part kept wrapped c.runs.self c.turn.new.self bytes c.args.piece.now c.runs.at c.turn.new.at c.turn.ensures.forward (c.turn.ensures.silent part kept wrapped) (c.runs.invariant.stands part kept wrapped bytes s)
+          stands_on part kept wrapped c.runs.self c.turn.new.self bytes piece c.runs.at c.turn.new.at c.turn.ensures.forward (c.turn.ensures.turns.stands part kept wrapped) (c.runs.invariant.stands part kept wrapped bytes s);
+      silent = λ part kept wrapped bytes s. told_on part kept wrapped c.runs.self c.turn.new.self bytes c.args.piece.now c.runs.at c.turn.new.at c.turn.ensures.forward (c.turn.ensures.turns.silent part kept wrapped) (c.runs.invariant.stands part kept wrapped bytes s)
           ∙ c.runs.invariant.silent part kept wrapped bytes s;
       first = λ part kept wrapped bytes s. (
           let taken : List ℕ = bytes ++ take c.runs.at c.args.piece.now in
           let here : DeviceStandsFor part kept wrapped c.runs.self taken = c.runs.invariant.stands part kept wrapped bytes s in
           let due : NoWordDue c.runs.self = grind (arith, c.has_word_due.ensures, c.if-has_word_due.false) in
           none_read_on part kept wrapped c.runs.self c.turn.new.self bytes c.args.piece.now (reads_given part kept c.args.self.now bytes) c.runs.at c.turn.new.at c.turn.ensures.forward c.turn.ensures.within (sym c.in_default.ensures) due
-          here (c.turn.ensures.stands part kept wrapped taken here) (c.turn.ensures.commands part kept wrapped taken here) (c.runs.invariant.silent part kept wrapped bytes s) (c.runs.invariant.first part kept wrapped bytes s));
+          here (c.turn.ensures.turns.stands part kept wrapped taken here) (c.turn.ensures.turns.commands part kept wrapped taken here) (c.runs.invariant.silent part kept wrapped bytes s) (c.runs.invariant.first part kept wrapped bytes s));
       stopped = λ e. absurd (let none : true ≡ false = sym e ∙ ap (λ (d : DeviceState). is_some d.registers.stop) (sym (c.runs.invariant.stopped e).0) ∙ sym (ap (λ (o : Option Stop). is_some o) c.in_default.ensures) in cc);
     }

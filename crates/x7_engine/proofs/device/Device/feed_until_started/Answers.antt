@@ -4,9 +4,10 @@ use Rattle.x7_engine.specs.UntilRead.{RoomBefore}
 use Rattle.x7_engine.specs.declared.fed.Fed.TheVariants as fed
 use Rattle.x7_engine.specs.declared.stop.Stop.{Stop}
 use Rattle.x7_engine.specs.ReadBuffer.{with_words}
-use Rattle.x7_engine.specs.Standing.{Answers, DeviceStandsFor, DeviceState, NoWordDue, taken_in, reads_given}
+use Rattle.x7_engine.specs.Past.{Answers, AnswersUntil, past_of}
+use Rattle.x7_engine.specs.Standing.{DeviceStandsFor, DeviceState, NoWordDue, taken_in, reads_given}
 use Rattle.x7_engine.specs.Stops.{stopped_at}
-use Rattle.x7_engine.specs.UntilStarted.{AnswersUntil, NoneStarted, has_started, says_started, taken_until}
+use Rattle.x7_engine.specs.UntilStarted.{NoneStarted, has_started, says_started, taken_until}
 use Rattle.x7_engine.proofs.FeedLemmas.{answers_stop, now_told, read_here, stands_on, taken_by_stop, words_none}
 use Rattle.x7_engine.proofs.UntilLemmas.{answers_until, count_is, none_on, says_answer}
 use Rattle.x7_engine.proofs.UntilReadLemmas.{room_read_on}
@@ -50,11 +51,11 @@ pub returns-in-Some-clause-answer : goal.returns-in-Some-clause-answer
 returns-in-Some-clause-answer c = λ part kept wrapped bytes s.
     let piece : List ℕ = c.args.piece.now in
     let here : DeviceStandsFor part kept wrapped c.runs.self (bytes ++ take c.runs.at piece) = c.runs.invariant.stands part kept wrapped bytes s in
-    let answers : Answers part kept c.runs.self (bytes ++ take c.runs.at piece) c.runs.read c.stopped.result =
-    subst (Answers part kept c.runs.self (bytes ++ take c.runs.at piece) c.runs.read) (sym c.stopped.ensures) (answers_stop part kept wrapped c.runs.self (bytes ++ take c.runs.at piece) c.runs.read c.in-Some.stop c.runs.at here c.in-Some.ensures) in
-    subst (λ (k : ℕ). AnswersUntil part kept c.runs.self (bytes ++ take k piece) c.runs.read c.answer.result) (sym (stop_count c))
-    (subst (AnswersUntil part kept c.runs.self (bytes ++ take c.runs.at piece) c.runs.read) (sym c.answer.ensures)
-    (answers_until part kept c.runs.self (bytes ++ take c.runs.at piece) c.runs.read c.started.result c.stopped.result c.runs.at (here.at_rest c.in-Some.stop (sym c.in-Some.ensures)) answers))
+    let answers : Answers (past_of part kept wrapped (bytes ++ take c.runs.at piece)) c.runs.self c.runs.read c.stopped.result =
+    subst (Answers (past_of part kept wrapped (bytes ++ take c.runs.at piece)) c.runs.self c.runs.read) (sym c.stopped.ensures) (answers_stop part kept wrapped c.runs.self (bytes ++ take c.runs.at piece) c.runs.read c.in-Some.stop c.runs.at here c.in-Some.ensures) in
+    subst (λ (k : ℕ). AnswersUntil (past_of part kept wrapped (bytes ++ take k piece)) c.runs.self c.runs.read c.answer.result) (sym (stop_count c))
+    (subst (AnswersUntil (past_of part kept wrapped (bytes ++ take c.runs.at piece)) c.runs.self c.runs.read) (sym c.answer.ensures)
+    (answers_until (past_of part kept wrapped (bytes ++ take c.runs.at piece)) c.runs.self c.runs.read c.started.result c.stopped.result c.runs.at (here.at_rest c.in-Some.stop (sym c.in-Some.ensures)) answers))
 
 pub returns-in-Some-clause-reads : goal.returns-in-Some-clause-reads
 returns-in-Some-clause-reads c = λ part kept wrapped bytes s.
@@ -103,7 +104,7 @@ returns-then-turn_until_started-clause-stands c = λ part kept wrapped bytes s.
     let used = c.turn_until_started.ensures.used_up c.if-turn_until_started.true in
     let count : taken_until (length piece) c.answer-then-turn_until_started.result ≡ at = count_is c.answer-then-turn_until_started.result c.started-then-turn_until_started.result fed.All (length piece) at c.answer-then-turn_until_started.ensures (sym used.0) in
     subst (λ (k : ℕ). DeviceStandsFor part kept wrapped c.turn_until_started.new.self (bytes ++ take k piece)) (sym count)
-    (stands_on part kept wrapped c.give.new.self c.turn_until_started.new.self bytes piece c.runs.at at c.turn_until_started.ensures.forward (c.turn_until_started.ensures.stands part kept wrapped)
+    (stands_on part kept wrapped c.give.new.self c.turn_until_started.new.self bytes piece c.runs.at at c.turn_until_started.ensures.forward (c.turn_until_started.ensures.turns.stands part kept wrapped)
     (c.give.ensures.given part kept wrapped (bytes ++ take c.runs.at piece) (c.runs.invariant.stands part kept wrapped bytes s)).stands)
 
 pub returns-then-turn_until_started-clause-first : goal.returns-then-turn_until_started-clause-first
@@ -127,7 +128,7 @@ returns-then-turn_until_started-clause-started c = λ part kept wrapped bytes s 
     let taken : List ℕ = bytes ++ take c.runs.at piece in
     let given = c.give.ensures.given part kept wrapped taken (c.runs.invariant.stands part kept wrapped bytes s) in
     let here : DeviceStandsFor part kept wrapped c.turn_until_started.new.self (bytes ++ take at piece) =
-    stands_on part kept wrapped c.give.new.self c.turn_until_started.new.self bytes piece c.runs.at at c.turn_until_started.ensures.forward (c.turn_until_started.ensures.stands part kept wrapped) given.stands in
+    stands_on part kept wrapped c.give.new.self c.turn_until_started.new.self bytes piece c.runs.at at c.turn_until_started.ensures.forward (c.turn_until_started.ensures.turns.stands part kept wrapped) given.stands in
     ap says_started c.answer-then-turn_until_started.ensures ∙ says_answer c.started-then-turn_until_started.result fed.All at
     ∙ c.started-then-turn_until_started.ensures part kept wrapped (bytes ++ take at piece) here
     ∙ ap (λ (k : ℕ). has_started part kept (bytes ++ take k piece)) (sym count)
@@ -142,10 +143,10 @@ returns-then-turn_until_started-clause-answer c = λ part kept wrapped bytes s.
     let taken : List ℕ = bytes ++ take c.runs.at piece in
     let given = c.give.ensures.given part kept wrapped taken (c.runs.invariant.stands part kept wrapped bytes s) in
     let here : DeviceStandsFor part kept wrapped c.turn_until_started.new.self all =
-    stands_on part kept wrapped c.give.new.self c.turn_until_started.new.self bytes piece c.runs.at at c.turn_until_started.ensures.forward (c.turn_until_started.ensures.stands part kept wrapped) given.stands in
-    subst (λ (k : ℕ). AnswersUntil part kept c.turn_until_started.new.self (bytes ++ take k piece) c.give.new.read c.answer-then-turn_until_started.result) (sym count)
-    (subst (AnswersUntil part kept c.turn_until_started.new.self all c.give.new.read) (sym c.answer-then-turn_until_started.ensures)
-    (answers_until part kept c.turn_until_started.new.self all c.give.new.read c.started-then-turn_until_started.result fed.All at used.2 (here.stop_is ∙ ap (stopped_at (length all)) used.1, used.2)))
+    stands_on part kept wrapped c.give.new.self c.turn_until_started.new.self bytes piece c.runs.at at c.turn_until_started.ensures.forward (c.turn_until_started.ensures.turns.stands part kept wrapped) given.stands in
+    subst (λ (k : ℕ). AnswersUntil (past_of part kept wrapped (bytes ++ take k piece)) c.turn_until_started.new.self c.give.new.read c.answer-then-turn_until_started.result) (sym count)
+    (subst (AnswersUntil (past_of part kept wrapped all) c.turn_until_started.new.self c.give.new.read) (sym c.answer-then-turn_until_started.ensures)
+    (answers_until (past_of part kept wrapped all) c.turn_until_started.new.self c.give.new.read c.started-then-turn_until_started.result fed.All at used.2 (here.stop_is ∙ ap (stopped_at (length all)) used.1, used.2)))
 
 pub returns-then-turn_until_started-clause-reads : goal.returns-then-turn_until_started-clause-reads
 returns-then-turn_until_started-clause-reads c = λ part kept wrapped bytes s.
@@ -155,7 +156,7 @@ returns-then-turn_until_started-clause-reads c = λ part kept wrapped bytes s.
     let count : taken_until (length piece) c.answer-then-turn_until_started.result ≡ at = count_is c.answer-then-turn_until_started.result c.started-then-turn_until_started.result fed.All (length piece) at c.answer-then-turn_until_started.ensures (sym used.0) in
     let told : (more : List ℕ) × (c.give.new.read ≡ with_words c.args.read.now more) × (reads_given part kept c.turn_until_started.new.self (bytes ++ take at piece) ≡ reads_given part kept c.args.self.now bytes ++ more) =
     read_here part kept wrapped c.runs.self c.give.new.self c.turn_until_started.new.self c.args.read.now c.runs.read c.give.new.read bytes piece (reads_given part kept c.args.self.now bytes) c.runs.at at
-    (c.give.ensures.given part kept wrapped (bytes ++ take c.runs.at piece) (c.runs.invariant.stands part kept wrapped bytes s)) c.turn_until_started.ensures.forward (c.turn_until_started.ensures.silent part kept wrapped) (c.runs.invariant.reads part kept wrapped bytes s) in
+    (c.give.ensures.given part kept wrapped (bytes ++ take c.runs.at piece) (c.runs.invariant.stands part kept wrapped bytes s)) c.turn_until_started.ensures.forward (c.turn_until_started.ensures.turns.silent part kept wrapped) (c.runs.invariant.reads part kept wrapped bytes s) in
     (told.0, told.1, ap (λ (k : ℕ). reads_given part kept c.turn_until_started.new.self (bytes ++ take k piece)) count ∙ told.2)
 
 pub returns-then-turn_until_started-clause-room : goal.returns-then-turn_until_started-clause-room
@@ -168,7 +169,7 @@ returns-then-turn_until_started-clause-room c = λ part kept wrapped bytes s.
     let gives = c.give.ensures.given part kept wrapped taken (c.runs.invariant.stands part kept wrapped bytes s) in
     let due : NoWordDue c.give.new.self = c.give.ensures.none_left.0 c.if-not-give.false in
     room_read_on part kept wrapped c.give.new.self c.turn_until_started.new.self c.args.read.now c.give.new.read bytes c.args.piece.now (reads_given part kept c.args.self.now bytes) c.runs.at c.turn_until_started.new.at c.turn_until_started.ensures.forward c.turn_until_started.ensures.within
-    c.give.ensures.going due gives.stands (c.turn_until_started.ensures.stands part kept wrapped taken gives.stands) (c.turn_until_started.ensures.commands part kept wrapped taken gives.stands) c.holds_few.ensures
+    c.give.ensures.going due gives.stands (c.turn_until_started.ensures.turns.stands part kept wrapped taken gives.stands) (c.turn_until_started.ensures.turns.commands part kept wrapped taken gives.stands) c.holds_few.ensures
     (now_told part kept wrapped c.runs.self c.give.new.self c.args.read.now c.runs.read c.give.new.read taken (reads_given part kept c.args.self.now bytes) gives (c.runs.invariant.reads part kept wrapped bytes s))
     (c.runs.invariant.room part kept wrapped bytes s))
 
@@ -181,12 +182,12 @@ runs-preserved c =
     let same : c.give.new.self.taken ≡ c.runs.self.taken = c.give.ensures.taken in
     record {
       within = c.turn_until_started.ensures.within;
-      part = c.turn_until_started.ensures.part ∙ c.give.ensures.part ∙ c.runs.invariant.part;
+      part = c.turn_until_started.ensures.turns.part ∙ c.give.ensures.part ∙ c.runs.invariant.part;
       taken = omega (arith, same, c.turn_until_started.ensures.taken, c.turn_until_started.ensures.forward, c.runs.invariant.taken);
       fed = omega (arith, c.turn_until_started.ensures.fed, c.give.ensures.fed, c.runs.invariant.fed, c.turn_until_started.ensures.forward);
       fits = omega (arith, same, c.turn_until_started.ensures.taken, c.turn_until_started.ensures.forward, c.turn_until_started.ensures.within, c.runs.invariant.fits);
       stands = λ part kept wrapped bytes s.
-          stands_on part kept wrapped c.give.new.self c.turn_until_started.new.self bytes piece c.runs.at at c.turn_until_started.ensures.forward (c.turn_until_started.ensures.stands part kept wrapped)
+          stands_on part kept wrapped c.give.new.self c.turn_until_started.new.self bytes piece c.runs.at at c.turn_until_started.ensures.forward (c.turn_until_started.ensures.turns.stands part kept wrapped)
           (c.give.ensures.given part kept wrapped (bytes ++ take c.runs.at piece) (c.runs.invariant.stands part kept wrapped bytes s)).stands;
       first = λ part kept wrapped bytes s.
           let taken : List ℕ = bytes ++ take c.runs.at piece in
@@ -195,13 +196,13 @@ runs-preserved c =
           none_on part kept bytes piece c.runs.at at c.turn_until_started.ensures.forward (c.runs.invariant.first part kept wrapped bytes s) (c.turn_until_started.ensures.first part kept wrapped taken given.stands not);
       reads = λ part kept wrapped bytes s.
           read_here part kept wrapped c.runs.self c.give.new.self c.turn_until_started.new.self c.args.read.now c.runs.read c.give.new.read bytes piece (reads_given part kept c.args.self.now bytes) c.runs.at at
-          (c.give.ensures.given part kept wrapped (bytes ++ take c.runs.at piece) (c.runs.invariant.stands part kept wrapped bytes s)) c.turn_until_started.ensures.forward (c.turn_until_started.ensures.silent part kept wrapped) (c.runs.invariant.reads part kept wrapped bytes s);
+          (c.give.ensures.given part kept wrapped (bytes ++ take c.runs.at piece) (c.runs.invariant.stands part kept wrapped bytes s)) c.turn_until_started.ensures.forward (c.turn_until_started.ensures.turns.silent part kept wrapped) (c.runs.invariant.reads part kept wrapped bytes s);
       room = λ part kept wrapped bytes s. (
           let taken : List ℕ = bytes ++ take c.runs.at c.args.piece.now in
           let gives = c.give.ensures.given part kept wrapped taken (c.runs.invariant.stands part kept wrapped bytes s) in
           let due : NoWordDue c.give.new.self = c.give.ensures.none_left.0 c.if-not-give.false in
           room_read_on part kept wrapped c.give.new.self c.turn_until_started.new.self c.args.read.now c.give.new.read bytes c.args.piece.now (reads_given part kept c.args.self.now bytes) c.runs.at c.turn_until_started.new.at c.turn_until_started.ensures.forward c.turn_until_started.ensures.within
-          c.give.ensures.going due gives.stands (c.turn_until_started.ensures.stands part kept wrapped taken gives.stands) (c.turn_until_started.ensures.commands part kept wrapped taken gives.stands) c.holds_few.ensures
+          c.give.ensures.going due gives.stands (c.turn_until_started.ensures.turns.stands part kept wrapped taken gives.stands) (c.turn_until_started.ensures.turns.commands part kept wrapped taken gives.stands) c.holds_few.ensures
           (now_told part kept wrapped c.runs.self c.give.new.self c.args.read.now c.runs.read c.give.new.read taken (reads_given part kept c.args.self.now bytes) gives (c.runs.invariant.reads part kept wrapped bytes s))
           (c.runs.invariant.room part kept wrapped bytes s));
       stopped = λ e. absurd (let none : true ≡ false = sym e ∙ ap (λ (d : DeviceState). is_some d.registers.stop) (sym (c.runs.invariant.stopped e).0) ∙ sym (ap (λ (o : Option Stop). is_some o) c.in_default.ensures) in cc);

@@ -14,6 +14,6 @@ returns-in-Ok-copy-clause-stands c = record {
   stop_is = sym (ap (stopped_at 0) c.new-in-Ok-copy-2.ensures.going);
   registers_are = c.new-in-Ok-copy-2.ensures.stands c.args.part.now c.in-Ok.ensures.stands;
   cutter_is = λ _. record { sessions = []; place = Searching []; stands = c.new-in-Ok-copy.ensures };
-  due_are = record { told = []; all = sym (ap (λ (d : Due). words_left c.args.part.now [] d) c.new-in-Ok-copy-2.ensures.none_due) };
+  due_are = record { given = []; all = sym (ap (λ (d : Due). words_left c.args.part.now [] d) c.new-in-Ok-copy-2.ensures.none_due) };
   at_rest = λ why q. ap due_count c.new-in-Ok-copy-2.ensures.none_due;
 }

@@ -13,25 +13,29 @@ joined c bytes =
     append_assoc bytes (between c.args.piece.now c.args.at.now c.pass_nops.new.at) (between c.args.piece.now c.pass_nops.new.at c.take_run.new.at)
     ∙ ap (λ (t : List ℕ). bytes ++ t) (between_join c.args.piece.now c.args.at.now c.pass_nops.new.at c.take_run.new.at c.pass_nops.ensures.forward c.take_run.ensures.forward)
 
-pub returns-clause-stands : goal.returns-clause-stands
-returns-clause-stands c = λ part kept wrapped bytes s.
-    subst (λ (t : List ℕ). DeviceStandsFor part kept wrapped c.take_run.new.self t) (joined c bytes)
-    (c.take_run.ensures.stands part kept wrapped (bytes ++ between c.args.piece.now c.args.at.now c.pass_nops.new.at) (c.pass_nops.ensures.stands part kept wrapped bytes s))
+pub returns-then-has_stopped-clause-turns : goal.returns-then-has_stopped-clause-turns
+returns-then-has_stopped-clause-turns c = record {
+  part = c.pass_nops.ensures.part;
+  stands = c.pass_nops.ensures.stands;
+  silent = c.pass_nops.ensures.silent;
+  commands = λ part kept wrapped bytes s.
+      quiet_commands bytes (between c.args.piece.now c.args.at.now c.pass_nops.new.at) (c.pass_nops.ensures.stands part kept wrapped bytes s).fits (c.pass_nops.ensures.quiet part kept wrapped bytes s);
+}
 
-pub returns-clause-silent : goal.returns-clause-silent
-returns-clause-silent c = λ part kept wrapped bytes s.
-    ap (reads_given part kept c.take_run.new.self) (sym (joined c bytes))
-    ∙ c.take_run.ensures.silent part kept wrapped (bytes ++ between c.args.piece.now c.args.at.now c.pass_nops.new.at) (c.pass_nops.ensures.stands part kept wrapped bytes s)
-    ∙ c.pass_nops.ensures.silent part kept wrapped bytes s
-
-pub returns-clause-commands : goal.returns-clause-commands
-returns-clause-commands c = λ part kept wrapped bytes s.
+pub returns-clause-turns : goal.returns-clause-turns
+returns-clause-turns c =
     let nops : List ℕ = between c.args.piece.now c.args.at.now c.pass_nops.new.at in
     let run : List ℕ = between c.args.piece.now c.pass_nops.new.at c.take_run.new.at in
-    let stands = c.pass_nops.ensures.stands part kept wrapped bytes s in
-    subst (CommandsLast bytes) (between_join c.args.piece.now c.args.at.now c.pass_nops.new.at c.take_run.new.at c.pass_nops.ensures.forward c.take_run.ensures.forward)
-    (then_commands bytes nops run stands.fits (c.pass_nops.ensures.quiet part kept wrapped bytes s) (c.take_run.ensures.commands part kept wrapped (bytes ++ nops) stands))
-
-pub returns-then-has_stopped-clause-commands : goal.returns-then-has_stopped-clause-commands
-returns-then-has_stopped-clause-commands c = λ part kept wrapped bytes s.
-    quiet_commands bytes (between c.args.piece.now c.args.at.now c.pass_nops.new.at) (c.pass_nops.ensures.stands part kept wrapped bytes s).fits (c.pass_nops.ensures.quiet part kept wrapped bytes s)
+    record {
+      part = c.take_run.ensures.turns.part ∙ c.pass_nops.ensures.part;
+      stands = λ part kept wrapped bytes s.
+          subst (λ (t : List ℕ). DeviceStandsFor part kept wrapped c.take_run.new.self t) (joined c bytes) (c.take_run.ensures.turns.stands part kept wrapped (bytes ++ nops) (c.pass_nops.ensures.stands part kept wrapped bytes s));
+      silent = λ part kept wrapped bytes s.
+          ap (reads_given part kept c.take_run.new.self) (sym (joined c bytes))
+          ∙ c.take_run.ensures.turns.silent part kept wrapped (bytes ++ nops) (c.pass_nops.ensures.stands part kept wrapped bytes s)
+          ∙ c.pass_nops.ensures.silent part kept wrapped bytes s;
+      commands = λ part kept wrapped bytes s. (
+          let stands = c.pass_nops.ensures.stands part kept wrapped bytes s in
+          subst (CommandsLast bytes) (between_join c.args.piece.now c.args.at.now c.pass_nops.new.at c.take_run.new.at c.pass_nops.ensures.forward c.take_run.ensures.forward)
+          (then_commands bytes nops run stands.fits (c.pass_nops.ensures.quiet part kept wrapped bytes s) (c.take_run.ensures.turns.commands part kept wrapped (bytes ++ nops) stands)));
+    }

@@ -52,33 +52,32 @@ turned_here c kept wrapped bytes s =
     (sym all) (between_front piece from at left forward) (length-drop (at - left - from) cut ∙ omega (arith, all, some)) c.cut-run.ensures.run c.cut-run.ensures.lent
     c.run-left.ensures.goes_on c.run-left.ensures.at_rest refl refl (omega (arith, taken))
 
-pub returns-clause-stands : goal.returns-clause-stands
-returns-clause-stands c = λ part kept wrapped bytes s.
-    let here : c.self.inside.part ≡ part = ap (λ (d : DeviceState). d.part) c.self.view_is ∙ s.part_is in
-    let more : List ℕ = between c.args.piece.now c.args.at.now (c.cut-run.new.at - c.run-left.result) in
-    subst (λ (p : PartData). DeviceStandsFor p kept wrapped (device_after c) (bytes ++ more)) here
-    (turned_here c kept wrapped bytes (subst (λ (p : PartData). DeviceStandsFor p kept wrapped c.args.self.now bytes) (sym here) s)).0
-
-pub returns-clause-silent : goal.returns-clause-silent
-returns-clause-silent c = λ part kept wrapped bytes s.
-    let here : c.self.inside.part ≡ part = ap (λ (d : DeviceState). d.part) c.self.view_is ∙ s.part_is in
-    let more : List ℕ = between c.args.piece.now c.args.at.now (c.cut-run.new.at - c.run-left.result) in
-    let reads : reads_of part kept (bytes ++ more) ≡ reads_of part kept bytes ++ words_left part (history_taken part kept (bytes ++ more)) c.run-left.new.self.due =
-    subst (λ (p : PartData). reads_of p kept (bytes ++ more) ≡ reads_of p kept bytes ++ words_left p (history_taken p kept (bytes ++ more)) c.run-left.new.self.due) here
-    (turned_here c kept wrapped bytes (subst (λ (p : PartData). DeviceStandsFor p kept wrapped c.args.self.now bytes) (sym here) s)).1 in
-    told_by part kept (device_after c) (bytes ++ more) (reads_of part kept bytes) (history_taken part kept (bytes ++ more)) reads
-    ∙ sym (told_by part kept c.args.self.now bytes (reads_of part kept bytes) [] (none_due (reads_of part kept bytes) part [] c.args.self.now.registers.due c.requires.none_due))
-
-pub returns-clause-commands : goal.returns-clause-commands
-returns-clause-commands c = λ part kept wrapped bytes s.
-    let piece : List ℕ = c.args.piece.now in
-    let from : ℕ = c.args.at.now in
-    let at : ℕ = c.cut-run.new.at in
-    let left : ℕ = c.run-left.result in
-    let inside : DeviceStandsFor part kept wrapped (device_before c) bytes = subst (λ (d : DeviceState). DeviceStandsFor part kept wrapped d bytes) (sym c.self.view_is) s in
-    let cutter : IsCutterOf c.self.inside.cutter bytes = inside.cutter_is (ap (λ (d : DeviceState). d.registers.stop) c.self.view_is ∙ c.requires.going) in
-    let some : left ≤ at - from = c.run-left.ensures.within in
-    let onward : from ≤ at = c.cut-run.ensures.forward in
-    front_commands bytes (between piece from at) (between piece from (at - left)) (drop (at - left - from) (between piece from at)) (between_front piece from at left (omega (arith, some, onward)))
-    (run_commands c.self.inside.cutter c.cut-run.new.self bytes (between piece from at) cutter.sessions cutter.place c.cut-run.result (length piece - from) cutter.stands
-    (c.cut-run.ensures.adds bytes cutter.sessions cutter.place cutter.stands) c.cut-run.ensures.run c.cut-run.ensures.lent)
+pub returns-clause-turns : goal.returns-clause-turns
+returns-clause-turns c = record {
+  part = ap (λ (d : DeviceState). d.part) c.self.view_is;
+  stands = λ part kept wrapped bytes s. (
+      let here : c.self.inside.part ≡ part = ap (λ (d : DeviceState). d.part) c.self.view_is ∙ s.part_is in
+      let more : List ℕ = between c.args.piece.now c.args.at.now (c.cut-run.new.at - c.run-left.result) in
+      subst (λ (p : PartData). DeviceStandsFor p kept wrapped (device_after c) (bytes ++ more)) here
+      (turned_here c kept wrapped bytes (subst (λ (p : PartData). DeviceStandsFor p kept wrapped c.args.self.now bytes) (sym here) s)).0);
+  silent = λ part kept wrapped bytes s. (
+      let here : c.self.inside.part ≡ part = ap (λ (d : DeviceState). d.part) c.self.view_is ∙ s.part_is in
+      let more : List ℕ = between c.args.piece.now c.args.at.now (c.cut-run.new.at - c.run-left.result) in
+      let reads : reads_of part kept (bytes ++ more) ≡ reads_of part kept bytes ++ words_left part (history_taken part kept (bytes ++ more)) c.run-left.new.self.due =
+      subst (λ (p : PartData). reads_of p kept (bytes ++ more) ≡ reads_of p kept bytes ++ words_left p (history_taken p kept (bytes ++ more)) c.run-left.new.self.due) here
+      (turned_here c kept wrapped bytes (subst (λ (p : PartData). DeviceStandsFor p kept wrapped c.args.self.now bytes) (sym here) s)).1 in
+      told_by part kept (device_after c) (bytes ++ more) (reads_of part kept bytes) (history_taken part kept (bytes ++ more)) reads
+      ∙ sym (told_by part kept c.args.self.now bytes (reads_of part kept bytes) [] (none_due (reads_of part kept bytes) part [] c.args.self.now.registers.due c.requires.none_due)));
+  commands = λ part kept wrapped bytes s. (
+      let piece : List ℕ = c.args.piece.now in
+      let from : ℕ = c.args.at.now in
+      let at : ℕ = c.cut-run.new.at in
+      let left : ℕ = c.run-left.result in
+      let inside : DeviceStandsFor part kept wrapped (device_before c) bytes = subst (λ (d : DeviceState). DeviceStandsFor part kept wrapped d bytes) (sym c.self.view_is) s in
+      let cutter : IsCutterOf c.self.inside.cutter bytes = inside.cutter_is (ap (λ (d : DeviceState). d.registers.stop) c.self.view_is ∙ c.requires.going) in
+      let some : left ≤ at - from = c.run-left.ensures.within in
+      let onward : from ≤ at = c.cut-run.ensures.forward in
+      front_commands bytes (between piece from at) (between piece from (at - left)) (drop (at - left - from) (between piece from at)) (between_front piece from at left (omega (arith, some, onward)))
+      (run_commands c.self.inside.cutter c.cut-run.new.self bytes (between piece from at) cutter.sessions cutter.place c.cut-run.result (length piece - from) cutter.stands
+      (c.cut-run.ensures.adds bytes cutter.sessions cutter.place cutter.stands) c.cut-run.ensures.run c.cut-run.ensures.lent));
+}

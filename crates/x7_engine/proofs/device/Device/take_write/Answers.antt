@@ -41,12 +41,11 @@ written_here c given kept wrapped bytes s =
     (c.is_idle.ensures.begun c.if-not-is_idle.false) (c.is_idle.ensures.limit c.if-not-is_idle.false)
     c.in-Some.ensures.some (c.write_to.ensures.stands kept) c.write_to.ensures.counts (none_due c) refl refl refl)
 
-pub returns-clause-stands : goal.returns-clause-stands
-returns-clause-stands c = λ t part kept wrapped bytes s. (written_here c part kept wrapped bytes s).0
-
-pub returns-clause-silent : goal.returns-clause-silent
-returns-clause-silent c = λ t part kept wrapped bytes s.
-    told_same part kept c.args.self.now (device_after c) bytes (bytes ++ between c.args.piece.now c.args.at.now (c.args.at.now + 8)) c.requires.none_due (none_due c) (written_here c part kept wrapped bytes s).1
-
-pub returns-clause-commands : goal.returns-clause-commands
-returns-clause-commands c = λ t part kept wrapped bytes s. (written_here c part kept wrapped bytes s).2
+pub returns-clause-turns : goal.returns-clause-turns
+returns-clause-turns c = λ t. record {
+  part = ap (λ (d : DeviceState). d.part) c.self.view_is;
+  stands = λ part kept wrapped bytes s. (written_here c part kept wrapped bytes s).0;
+  silent = λ part kept wrapped bytes s.
+      told_same part kept c.args.self.now (device_after c) bytes (bytes ++ between c.args.piece.now c.args.at.now (c.args.at.now + 8)) c.requires.none_due (none_due c) (written_here c part kept wrapped bytes s).1;
+  commands = λ part kept wrapped bytes s. (written_here c part kept wrapped bytes s).2;
+}

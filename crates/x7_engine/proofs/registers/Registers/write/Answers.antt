@@ -22,7 +22,7 @@ returns-clause-stands c = λ kept h place next s.
     let going : stop_of part kept h place ≡ None = s.stop ∙ ap (stopped_at place) c.requires.going in
     let are : FramesStandFor part c.args.self.now.frames h 0 = standing_frames part c.args.self.now.frames c.args.self.now.stop h c.args.self.now.due c.requires.going c.requires.none_due s.frames in
     let refused = c.write-refused.ensures.fault h (c.settings-settings.ensures.after part kept h place s) are in
-    let why = c.why_of_write-why.ensures.value part e kept h place s command in
+    let why = c.why_of_write-why.ensures.value kept h place s command in
     let after = c.write-refused.ensures.stands h (c.settings-settings.ensures.after part kept h place s) are place in
     record {
       places = (next.0, omega arith, next.1);

@@ -1,13 +1,13 @@
 use Rattle.std.proofs.Common.{sym, subst}
 use Rattle.x7_packets.specs.History.{Write, entry}
 use Rattle.x7_regs.specs.Register.{number_of}
-use Rattle.x7_flow.specs.Standing.{FramesState, FramesStandFor}
+use Rattle.x7_flow.specs.Standing.{FramesState, FramesStandFor, frames_state}
 use Rattle.x7_flow.proofs.StandingLemmas.{access_taken, word_fault_is}
 use Rattle.x7_flow.proofs.frames.Frames.write.Goals as goal
 
 pub returns-clause-stands : goal.returns-clause-stands
 returns-clause-stands c = λ h settings are place.
-    access_taken c.args.part.now c.self.inside.pipeline c.take.new.pipeline c.self.inside.memory c.take.new.memory h (entry (Write (number_of c.args.reg) c.args.word) place) c.asked_write-asked.result c.take.result
+    access_taken c.args.part.now (frames_state c.self.inside.pipeline c.self.inside.memory) (frames_state c.take.new.pipeline c.take.new.memory) h (entry (Write (number_of c.args.reg) c.args.word) place) c.asked_write-asked.result c.take.result
     (c.asked_write-asked.ensures c.args.part.now.idcode h settings) c.take.ensures.did c.take.ensures.refused c.take.ensures.unchanged
     (subst (λ (f : FramesState). FramesStandFor c.args.part.now f h 0) (sym c.self.view_is) are)
 

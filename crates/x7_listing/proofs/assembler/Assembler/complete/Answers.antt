@@ -1,6 +1,6 @@
 use Rattle.std.proofs.Common.{◌+◌, ◌<◌, ◌≤◌, ◌∷◌, [], ◌++◌, List, ℕ, arith, refl, inl, inr, sym, subst, ap, ◌∙◌, append_assoc, length-append}
 use Rattle.x7_text.specs.Lines.{split}
-use Rattle.x7_listing.specs.Assembling.{AssemblerStandsFor, AssemblerState, Goes, Waits}
+use Rattle.x7_listing.specs.Assembling.{AssemblerStandsFor, AssemblerState, body_of, Goes, Waits}
 use Rattle.x7_listing.proofs.AssemblerLemmas.{at-none, at-some, completes, hold-more, only-line, some-line, waits-whole}
 use Rattle.x7_listing.proofs.assembler.Assembler.complete.Goals as goal
 
@@ -30,7 +30,7 @@ returns-clause-ok c =
     let d = c.self-2.inside.body in
     let a : AssemblerState = record { out = b.out.items; start = b.start; checker = b.checker; held = c.self.inside.held.items; begun = c.self.inside.begun; count = b.count } in
     let e : AssemblerState = record { out = d.out.items; start = d.start; checker = d.checker; held = c.self-2.inside.held.items; begun = c.self-2.inside.begun; count = d.count } in
-    let P : AssemblerState → Type 0 = λ x. (x.count ≤ a.count + 1) × ((all left : List (List ℕ)) → a.count < 9223372036854775808 → Waits a.begun all (c.extend_from_slice.new.self.items ∷ left) a.out a.start a.checker a.count → Goes all left x.out x.start x.checker x.count) in
+    let P : AssemblerState → Type 0 = λ x. (x.count ≤ a.count + 1) × ((all left : List (List ℕ)) → a.count < 9223372036854775808 → Waits a.begun all (c.extend_from_slice.new.self.items ∷ left) (body_of a) → Goes all left (body_of x)) in
     let r : P e = subst P (sym c.self-2.view_is) (c.read_next.ensures.count, c.in-Ok.ensures.ok) in
     record {
       prefix = c.first_line.result.0.now ++ 10 ∷ [];

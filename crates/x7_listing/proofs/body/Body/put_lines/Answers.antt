@@ -1,7 +1,7 @@
 use Rattle.std.proofs.Common.{◌≡◌, ◌+◌, ◌-◌, ◌++◌, arith, inl, inr, subst, length, take, drop, length-drop}
 use Rattle.std.proofs.lemmas.List.{length-take-le}
 use Rattle.x7_text.specs.Lines.{split}
-use Rattle.x7_listing.specs.Assembling.{Goes}
+use Rattle.x7_listing.specs.Assembling.{body_by, Goes}
 use Rattle.x7_listing.proofs.AssemblerLemmas.{at-none, at-some, only-line, quick-on, some-line-more}
 use Rattle.x7_listing.proofs.body.Body.put_lines.Goals as goal
 
@@ -25,7 +25,7 @@ returns-in-Err-clause-fault c = elim c.in-Err.ensures.fault [
       let q = quick-on all c.loop-quick.rest.now c.loop-quick.self.out.items c.put_quick.new.out.items more c.loop-quick.self.start c.in_ok-quick.quick.count c.loop-quick.self.count c.saturating_add-self.result c.in_ok-quick.quick.size c.loop-quick.self.checker
       c.in_ok-quick.ensures.few.0 c.in_ok-quick.ensures.takes (λ h. omega (arith, c.put_quick.ensures.within)) up (c.loop-quick.invariant.goes all more few g) in
       f all (split (c.in-Some.after.now ++ more)) (omega (arith, up, c.in_ok-quick.ensures.few.0, c.in_ok-quick.ensures.few.1, c.loop-quick.invariant.few, few))
-      (subst (λ s. Goes all s c.put_quick.new.out.items c.loop-quick.self.start c.loop-quick.self.checker c.saturating_add-self.result) (some-line-more (take (length c.loop-quick.rest.now - c.in_ok-quick.quick.size) (drop c.in_ok-quick.quick.size c.loop-quick.rest.now)) c.next_line.result.0.now c.in-Some.after.now more p.0) q))
+      (subst (λ s. Goes all s (body_by c.put_quick.new.out.items c.loop-quick.self.start c.loop-quick.self.checker c.saturating_add-self.result)) (some-line-more (take (length c.loop-quick.rest.now - c.in_ok-quick.quick.size) (drop c.in_ok-quick.quick.size c.loop-quick.rest.now)) c.next_line.result.0.now c.in-Some.after.now more p.0) q))
 ]
 
 pub loop-quick-preserved : goal.loop-quick-preserved
@@ -40,5 +40,5 @@ loop-quick-preserved c =
           let q = quick-on all c.loop-quick.rest.now c.loop-quick.self.out.items c.put_quick.new.out.items more c.loop-quick.self.start c.in_ok-quick.quick.count c.loop-quick.self.count c.saturating_add-self.result c.in_ok-quick.quick.size c.loop-quick.self.checker
           c.in_ok-quick.ensures.few.0 c.in_ok-quick.ensures.takes (λ h. omega (arith, c.put_quick.ensures.within)) up (c.loop-quick.invariant.goes all more few g) in
           c.in-Ok.ensures.ok all (split (c.in-Some.after.now ++ more)) (omega (arith, up, c.in_ok-quick.ensures.few.0, c.in_ok-quick.ensures.few.1, c.loop-quick.invariant.few, few))
-          (subst (λ s. Goes all s c.put_quick.new.out.items c.loop-quick.self.start c.loop-quick.self.checker c.saturating_add-self.result) (some-line-more (take (length c.loop-quick.rest.now - c.in_ok-quick.quick.size) (drop c.in_ok-quick.quick.size c.loop-quick.rest.now)) c.next_line.result.0.now c.in-Some.after.now more p.0) q);
+          (subst (λ s. Goes all s (body_by c.put_quick.new.out.items c.loop-quick.self.start c.loop-quick.self.checker c.saturating_add-self.result)) (some-line-more (take (length c.loop-quick.rest.now - c.in_ok-quick.quick.size) (drop c.in_ok-quick.quick.size c.loop-quick.rest.now)) c.next_line.result.0.now c.in-Some.after.now more p.0) q);
     }

@@ -6,25 +6,25 @@ use Rattle.x7_pipeline.proofs.StateLemmas.{nowhere, somewhere, read_refused, rea
 use Rattle.x7_pipeline.proofs.pipeline.Pipeline.drop_words.Goals as goal
 
 pub returns-then-n-eq0-clause-stands : goal.returns-then-n-eq0-clause-stands
-returns-then-n-eq0-clause-stands c = λ command base run source given s.
-    same_given c.args.part.now c.args.self.now c.args.n command base run source given c.if-n-eq0.true s
+returns-then-n-eq0-clause-stands c = λ f s.
+    same_given c.args.part.now c.args.self.now c.args.n f.command f.base f.run f.source f.given c.if-n-eq0.true s
 
 pub returns-then-n-eq0-clause-fault : goal.returns-then-n-eq0-clause-fault
-returns-then-n-eq0-clause-fault c = λ command base run source given s. drop_none c.args.part.now base given c.args.n c.if-n-eq0.true
+returns-then-n-eq0-clause-fault c = λ f s. drop_none c.args.part.now f.base f.given c.args.n c.if-n-eq0.true
 
 pub returns-then-reads_nowhere-clause-fault : goal.returns-then-reads_nowhere-clause-fault
-returns-then-reads_nowhere-clause-fault c = λ command base run source given s.
+returns-then-reads_nowhere-clause-fault c = λ f s.
     let t = nowhere true _ (has_frame_at c.args.part.now c.args.self.now.base) (sym c.reads_nowhere.ensures ∙ c.if-reads_nowhere.true) in
     rw (ap (λ (v : PipelineData). v.base) c.self.view_is)
-    (read_refused c.args.part.now c.args.self.now command base run source given s (eqb-true c.args.self.now.given 0 t.1) t.2
-    ∙ drop_some c.args.part.now base given c.args.n c.if-n-eq0.false)
+    (read_refused c.args.part.now c.args.self.now f.command f.base f.run f.source f.given s (eqb-true c.args.self.now.given 0 t.1) t.2
+    ∙ drop_some c.args.part.now f.base f.given c.args.n c.if-n-eq0.false)
 
 pub returns-clause-stands : goal.returns-clause-stands
-returns-clause-stands c = λ command base run source given s.
-    reads_on c.args.part.now c.args.self.now c.pass.new.self c.args.n _ command base run source given s refl c.pass.ensures
+returns-clause-stands c = λ f s.
+    reads_on c.args.part.now c.args.self.now c.pass.new.self c.args.n _ f.command f.base f.run f.source f.given s refl c.pass.ensures
 
 pub returns-clause-fault : goal.returns-clause-fault
-returns-clause-fault c = λ command base run source given s.
-    read_allowed c.args.part.now c.args.self.now command base run source given s
+returns-clause-fault c = λ f s.
+    read_allowed c.args.part.now c.args.self.now f.command f.base f.run f.source f.given s
     (λ first. somewhere true _ (has_frame_at c.args.part.now c.args.self.now.base) (sym c.reads_nowhere.ensures ∙ c.if-reads_nowhere.false) refl (eq-eqb c.args.self.now.given 0 first))
-    ∙ drop_some c.args.part.now base given c.args.n c.if-n-eq0.false
+    ∙ drop_some c.args.part.now f.base f.given c.args.n c.if-n-eq0.false

@@ -2,6 +2,7 @@ use Rattle.std.proofs.Common.{◌≡◌, ◌-◌, ◌/◌, drop, length, ap, sym
 use Rattle.std.proofs.lemmas.List.{length-drop}
 use Rattle.x7_words.specs.Word.{words_of_bytes}
 use Rattle.x7_memory.specs.Frames.{frame_at}
+use Rattle.x7_pipeline.specs.Flow.{with_run}
 use Rattle.x7_pipeline.specs.Words.{Written}
 use Rattle.x7_pipeline.proofs.FrameLemmas.{goes_left, goes_through, refused_here}
 use Rattle.x7_pipeline.proofs.WordLemmas.{goes_first, ends_whole}
@@ -37,73 +38,73 @@ somes-preserved c =
     }
 
 pub returns-in-Err-clause-stands : goal.returns-in-Err-clause-stands
-returns-in-Err-clause-stands c = λ command base run source given s.
+returns-in-Err-clause-stands c = λ f s.
     let left : length (drop c.somes.at c.args.bytes.now) ≡ length c.args.bytes.now - c.somes.at = length-drop c.somes.at c.args.bytes.now in
     let whole = c.somes.invariant.whole in
     let all = c.requires.whole in
     let before = c.somes-test.true in
-    let r = c.somes.invariant.goes command base run source given s in
-    let e = refused_here c.args.part.now base run r.longer (words_of_bytes c.args.bytes.now) c.args.bytes.now c.somes.at c.in-Err.fault r.later whole (omega arith)
-    (c.in-Err.ensures.fault command base r.longer source given r.stands) in
+    let r = c.somes.invariant.goes f.command f.base f.run f.source f.given s in
+    let e = refused_here c.args.part.now f.base f.run r.longer (words_of_bytes c.args.bytes.now) c.args.bytes.now c.somes.at c.in-Err.fault r.later whole (omega arith)
+    (c.in-Err.ensures.fault (with_run r.longer f) r.stands) in
     rw (ap (λ (w : Written). w.run) e, c.in-Err.ensures.refused) r.stands
 
 pub returns-in-Err-clause-lands : goal.returns-in-Err-clause-lands
-returns-in-Err-clause-lands c = λ command base run source given s.
+returns-in-Err-clause-lands c = λ f s.
     let left : length (drop c.somes.at c.args.bytes.now) ≡ length c.args.bytes.now - c.somes.at = length-drop c.somes.at c.args.bytes.now in
     let whole = c.somes.invariant.whole in
     let all = c.requires.whole in
     let before = c.somes-test.true in
-    let r = c.somes.invariant.goes command base run source given s in
-    let e = refused_here c.args.part.now base run r.longer (words_of_bytes c.args.bytes.now) c.args.bytes.now c.somes.at c.in-Err.fault r.later whole (omega arith)
-    (c.in-Err.ensures.fault command base r.longer source given r.stands) in
+    let r = c.somes.invariant.goes f.command f.base f.run f.source f.given s in
+    let e = refused_here c.args.part.now f.base f.run r.longer (words_of_bytes c.args.bytes.now) c.args.bytes.now c.somes.at c.in-Err.fault r.later whole (omega arith)
+    (c.in-Err.ensures.fault (with_run r.longer f) r.stands) in
     rw (ap (λ (w : Written). w.run) e, c.in-Err.ensures.unchanged) r.lands
 
 pub returns-in-Err-clause-count : goal.returns-in-Err-clause-count
-returns-in-Err-clause-count c = λ command base run source given s.
+returns-in-Err-clause-count c = λ f s.
     let left : length (drop c.somes.at c.args.bytes.now) ≡ length c.args.bytes.now - c.somes.at = length-drop c.somes.at c.args.bytes.now in
     let whole = c.somes.invariant.whole in
     let all = c.requires.whole in
     let before = c.somes-test.true in
-    let r = c.somes.invariant.goes command base run source given s in
-    let e = refused_here c.args.part.now base run r.longer (words_of_bytes c.args.bytes.now) c.args.bytes.now c.somes.at c.in-Err.fault r.later whole (omega arith)
-    (c.in-Err.ensures.fault command base r.longer source given r.stands) in
+    let r = c.somes.invariant.goes f.command f.base f.run f.source f.given s in
+    let e = refused_here c.args.part.now f.base f.run r.longer (words_of_bytes c.args.bytes.now) c.args.bytes.now c.somes.at c.in-Err.fault r.later whole (omega arith)
+    (c.in-Err.ensures.fault (with_run r.longer f) r.stands) in
     sym (ap (λ (w : Written). w.count) e)
 
 pub returns-in-Err-clause-fault : goal.returns-in-Err-clause-fault
-returns-in-Err-clause-fault c = λ command base run source given s.
+returns-in-Err-clause-fault c = λ f s.
     let left : length (drop c.somes.at c.args.bytes.now) ≡ length c.args.bytes.now - c.somes.at = length-drop c.somes.at c.args.bytes.now in
     let whole = c.somes.invariant.whole in
     let all = c.requires.whole in
     let before = c.somes-test.true in
-    let r = c.somes.invariant.goes command base run source given s in
-    let e = refused_here c.args.part.now base run r.longer (words_of_bytes c.args.bytes.now) c.args.bytes.now c.somes.at c.in-Err.fault r.later whole (omega arith)
-    (c.in-Err.ensures.fault command base r.longer source given r.stands) in
+    let r = c.somes.invariant.goes f.command f.base f.run f.source f.given s in
+    let e = refused_here c.args.part.now f.base f.run r.longer (words_of_bytes c.args.bytes.now) c.args.bytes.now c.somes.at c.in-Err.fault r.later whole (omega arith)
+    (c.in-Err.ensures.fault (with_run r.longer f) r.stands) in
     sym (ap (λ (w : Written). w.fault) e)
 
 pub returns-clause-stands : goal.returns-clause-stands
-returns-clause-stands c = λ command base run source given s.
+returns-clause-stands c = λ f s.
     let r = goes_through c.args.part.now c.args.self.now c.somes.self (frame_at c.args.part.now c.args.memory.now) (frame_at c.args.part.now c.somes.memory) (words_of_bytes c.args.bytes.now) c.args.bytes.now c.somes.at
-    c.somes.invariant.goes (omega (arith, c.somes-test.false)) command base run source given s in
-    let e = ends_whole c.args.part.now base run r.longer (words_of_bytes c.args.bytes.now) (c.somes.at / 4) r.later in
+    c.somes.invariant.goes (omega (arith, c.somes-test.false)) f.command f.base f.run f.source f.given s in
+    let e = ends_whole c.args.part.now f.base f.run r.longer (words_of_bytes c.args.bytes.now) (c.somes.at / 4) r.later in
     rw (ap (λ (w : Written). w.run) e) r.stands
 
 pub returns-clause-lands : goal.returns-clause-lands
-returns-clause-lands c = λ command base run source given s.
+returns-clause-lands c = λ f s.
     let r = goes_through c.args.part.now c.args.self.now c.somes.self (frame_at c.args.part.now c.args.memory.now) (frame_at c.args.part.now c.somes.memory) (words_of_bytes c.args.bytes.now) c.args.bytes.now c.somes.at
-    c.somes.invariant.goes (omega (arith, c.somes-test.false)) command base run source given s in
-    let e = ends_whole c.args.part.now base run r.longer (words_of_bytes c.args.bytes.now) (c.somes.at / 4) r.later in
+    c.somes.invariant.goes (omega (arith, c.somes-test.false)) f.command f.base f.run f.source f.given s in
+    let e = ends_whole c.args.part.now f.base f.run r.longer (words_of_bytes c.args.bytes.now) (c.somes.at / 4) r.later in
     rw (ap (λ (w : Written). w.run) e) r.lands
 
 pub returns-clause-count : goal.returns-clause-count
-returns-clause-count c = λ command base run source given s.
+returns-clause-count c = λ f s.
     let r = goes_through c.args.part.now c.args.self.now c.somes.self (frame_at c.args.part.now c.args.memory.now) (frame_at c.args.part.now c.somes.memory) (words_of_bytes c.args.bytes.now) c.args.bytes.now c.somes.at
-    c.somes.invariant.goes (omega (arith, c.somes-test.false)) command base run source given s in
-    let e = ends_whole c.args.part.now base run r.longer (words_of_bytes c.args.bytes.now) (c.somes.at / 4) r.later in
+    c.somes.invariant.goes (omega (arith, c.somes-test.false)) f.command f.base f.run f.source f.given s in
+    let e = ends_whole c.args.part.now f.base f.run r.longer (words_of_bytes c.args.bytes.now) (c.somes.at / 4) r.later in
     sym (ap (λ (w : Written). w.count) e)
 
 pub returns-clause-fault : goal.returns-clause-fault
-returns-clause-fault c = λ command base run source given s.
+returns-clause-fault c = λ f s.
     let r = goes_through c.args.part.now c.args.self.now c.somes.self (frame_at c.args.part.now c.args.memory.now) (frame_at c.args.part.now c.somes.memory) (words_of_bytes c.args.bytes.now) c.args.bytes.now c.somes.at
-    c.somes.invariant.goes (omega (arith, c.somes-test.false)) command base run source given s in
-    let e = ends_whole c.args.part.now base run r.longer (words_of_bytes c.args.bytes.now) (c.somes.at / 4) r.later in
+    c.somes.invariant.goes (omega (arith, c.somes-test.false)) f.command f.base f.run f.source f.given s in
+    let e = ends_whole c.args.part.now f.base f.run r.longer (words_of_bytes c.args.bytes.now) (c.somes.at / 4) r.later in
     sym (ap (λ (w : Written). w.fault) e)

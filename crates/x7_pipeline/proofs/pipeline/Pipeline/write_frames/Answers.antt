@@ -71,7 +71,7 @@ frames-preserved c =
     }
 
 pub returns-clause-stands : goal.returns-clause-stands
-returns-clause-stands c = λ command base run source given s. (c.frames.invariant.went command base run source given s).stands
+returns-clause-stands c = λ f s. (c.frames.invariant.went f.command f.base f.run f.source f.given s).stands
 
 pub returns-clause-passes : goal.returns-clause-passes
-returns-clause-passes c = λ command base run source given s. (c.frames.invariant.went command base run source given s).passes
+returns-clause-passes c = λ f s. (c.frames.invariant.went f.command f.base f.run f.source f.given s).passes

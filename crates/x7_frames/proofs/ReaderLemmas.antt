@@ -1,0 +1,180 @@
+-- A reader that takes a text piece by piece.
+use Rattle.std.proofs.Common.{◌≡◌, ◌==◌, if◌then◌else◌, ◌⊎◌, inl, inr, ℕ, ◌+◌, ◌^◌, ◌<◌, ◌≤◌, Bool, true, false, List, [], ◌∷◌, ◌++◌, Option, None, Some, MatchOption, Bor, Result, Ok, Err, IfOk, IfErr, OnOk, MatchResult, length, refl, ap, sym, subst, ◌∙◌, arith, append_assoc, append-nil, length-append}
+use Rattle.std.specs.List.{AllByRecursion}
+use Rattle.x7_text.specs.Lines.{has_no_end, joined, on_first, split}
+use Rattle.x7_text.proofs.SplitLemmas.{joined-split, split-free, split-line}
+use Rattle.x7_part.specs.Part.{PartData, frame_words}
+use Rattle.x7_memory.specs.Planned.{AreApart, PlanData, PlanRow}
+use Rattle.x7_frames.specs.FramesText.{AreGood, IsPlanOf}
+use Rattle.x7_frames.specs.Reader.{FailsAtLine, FailsIn, IsSound, ReaderStandsFor, ReaderState, TakesLine, TakesPiece}
+use Rattle.x7_frames.specs.Steps.{Goes, HasMarks, IsFaultAt, Takes}
+use Rattle.x7_frames.specs.declared.fault.FramesFault.{FramesFault}
+use Rattle.x7_frames.specs.declared.fault.FramesFault.TheVariants as fault
+use Rattle.x7_frames.proofs.BackLemmas.{free-both}
+use Rattle.x7_frames.proofs.GoodLemmas.{apart-takes, fails-there, goes-on, last-good, starts}
+
+-- ---- the lines of a text
+
+-- what the first line and the text after it are
+abbrev pub FirstLine : List ℕ → List ℕ → Option (Bor (List ℕ)) → Type 0
+FirstLine text t o = MatchOption o (split text ≡ t ∷ []) (λ more. (split text ≡ t ∷ split more.now) × (length more.now < length text))
+
+pub at-some : (text t : List ℕ) (o : Option (Bor (List ℕ))) (x : Bor (List ℕ)) → o ≡ Some x → FirstLine text t o → (split text ≡ t ∷ split x.now) × (length x.now < length text)
+at-some text t o x e h = subst (λ p. FirstLine text t p) e h
+
+pub at-none : (text t : List ℕ) (o : Option (Bor (List ℕ))) → o ≡ None → FirstLine text t o → split text ≡ t ∷ []
+at-none text t o e h = subst (λ p. FirstLine text t p) e h
+
+first-free : (text t : List ℕ) (ts : List (List ℕ)) → split text ≡ t ∷ ts → has_no_end t ≡ true
+first-free text t ts e = (subst (AllByRecursion (λ line. has_no_end line ≡ true)) e (split-free text)).0
+
+-- the only line of a text is the text
+only-line : (text t : List ℕ) → split text ≡ t ∷ [] → text ≡ t
+only-line text t e = sym (joined-split text) ∙ ap joined e
+
+pub only-free : (text t : List ℕ) (o : Option (Bor (List ℕ))) → o ≡ None → FirstLine text t o → has_no_end t ≡ true
+only-free text t o e h = first-free text t [] (at-none text t o e h)
+
+joined-ahead : (t : List ℕ) (ts : List (List ℕ)) → (ts ≡ [] → ⊥) → joined (t ∷ ts) ≡ t ++ 10 ∷ joined ts
+joined-ahead t [] h = absurd (h refl)
+joined-ahead t (u ∷ us) h = refl
+
+none-split : (t : List ℕ) → split t ≡ [] → ⊥
+none-split t e =
+    let empty : t ≡ [] = sym (joined-split t) ∙ ap joined e in
+    let one : ◌≡◌ {A = List (List ℕ)} ([] ∷ []) [] = sym (ap split empty) ∙ e in absurd cc
+
+-- the first of several lines, its end and the others are the text
+some-line : (text t more : List ℕ) → split text ≡ t ∷ split more → text ≡ t ++ 10 ∷ more
+some-line text t more e =
+    sym (joined-split text) ∙ ap joined e ∙ joined-ahead t (split more) (none-split more) ∙ ap (λ s. t ++ 10 ∷ s) (joined-split more)
+
+alone-by : (b : Bool) (c : ℕ) (cs : List ℕ) → (if b then false else has_no_end cs) ≡ true → (has_no_end cs ≡ true → split cs ≡ cs ∷ []) → (if b then [] ∷ split cs else on_first c (split cs)) ≡ (c ∷ cs) ∷ []
+alone-by true c cs h f = absurd cc
+alone-by false c cs h f = ap (on_first c) (f h)
+
+split-alone : (t : List ℕ) → has_no_end t ≡ true → split t ≡ t ∷ []
+split-alone [] h = refl
+split-alone (c ∷ cs) h = alone-by (c == 10) c cs h (split-alone cs)
+
+whole-line : (held line more : List ℕ) → has_no_end held ≡ true → has_no_end line ≡ true → split (held ++ (line ++ 10 ∷ more)) ≡ (held ++ line) ∷ split more
+whole-line held line more f g = ap split (sym (append_assoc held line (10 ∷ more))) ∙ split-line (held ++ line) more (free-both held line f g)
+
+-- ---- what a reader stands for
+
+-- nothing was read
+pub begins : (r : ReaderState) → r.rows ≡ [] → r.held ≡ [] → r.count ≡ 0 → ReaderStandsFor r []
+begins r none clear zero = record {
+  free = subst (λ t. has_no_end t ≡ true) (sym clear) refl;
+  few = omega (arith, ap length clear, zero);
+  goes = λ more. subst (λ t. Goes r.part more (t ++ more) r.rows r.count) (sym clear) (subst (λ (n : ℕ). Goes r.part more more r.rows n) (sym zero) (starts r.part more r.rows none));
+}
+
+-- a line more is read
+pub sound-takes : {A E : Type 0} (r : Result A E) (b : ReaderState) (line : List ℕ) (rows : List PlanRow) → AreApart rows → OnOk r (Takes b.part line rows b.rows) → OnOk r (HasMarks b.part b.rows b.marks) → OnOk r (b.width ≡ frame_words b.part) → OnOk r (frame_words b.part ≤ b.room)
+    → OnOk r (IsSound b)
+sound-takes (Ok a) b line rows apart takes marks width room = record { width = width; marks = marks; room = room; apart = apart-takes b.part line rows b.rows apart takes }
+sound-takes (Err e) b line rows apart takes marks width room = tt
+
+-- a line is not whole yet
+pub hold-more : (a b : ReaderState) (piece text : List ℕ) → b.part ≡ a.part → b.rows ≡ a.rows → b.count ≡ a.count → b.held ≡ a.held ++ piece → has_no_end piece ≡ true → ReaderStandsFor a text → ReaderStandsFor b (text ++ piece)
+hold-more a b piece text part rows count is free s = record {
+  free = subst (λ t. has_no_end t ≡ true) (sym is) (free-both a.held piece s.free free);
+  few = omega (arith, s.few, count, length-append text piece, length-append a.held piece, ap length is);
+  goes = λ more.
+      let left : a.held ++ (piece ++ more) ≡ b.held ++ more = sym (append_assoc a.held piece more) ∙ ap (λ t. t ++ more) (sym is) in
+      let held : Goes a.part (text ++ (piece ++ more)) (b.held ++ more) a.rows a.count = subst (λ t. Goes a.part (text ++ (piece ++ more)) t a.rows a.count) left (s.goes (piece ++ more)) in
+      let all : Goes a.part ((text ++ piece) ++ more) (b.held ++ more) a.rows a.count = subst (λ t. Goes a.part t (b.held ++ more) a.rows a.count) (sym (append_assoc text piece more)) held in
+      subst (λ (p : PartData). Goes p ((text ++ piece) ++ more) (b.held ++ more) b.rows b.count) (sym part)
+      (subst (λ (r : List PlanRow). Goes a.part ((text ++ piece) ++ more) (b.held ++ more) r b.count) (sym rows)
+      (subst (λ (n : ℕ). Goes a.part ((text ++ piece) ++ more) (b.held ++ more) a.rows n) (sym count) all));
+}
+
+-- a line is whole
+line-taken : (a b : ReaderState) (line text : List ℕ) → b.part ≡ a.part → has_no_end line ≡ true → TakesLine a b line → length (text ++ (line ++ 10 ∷ [])) < 2 ^ 63 → ReaderStandsFor a text → ReaderStandsFor b (text ++ (line ++ 10 ∷ []))
+line-taken a b line text part free t fits s =
+    let count : b.count ≡ a.count + 1 = t.count (omega (arith, s.few, fits, length-append text (line ++ 10 ∷ []))) in
+    record {
+      free = subst (λ h. has_no_end h ≡ true) (sym t.clear) refl;
+      few = omega (arith, s.few, count, ap length t.clear, length-append text (line ++ 10 ∷ []), length-append line (10 ∷ []));
+      goes = λ more.
+          let whole : List ℕ = (text ++ (line ++ 10 ∷ [])) ++ more in
+          let all : text ++ (line ++ 10 ∷ more) ≡ whole = sym (append_assoc text (line ++ 10 ∷ []) more ∙ ap (λ t. text ++ t) (append_assoc line (10 ∷ []) more)) in
+          let g : Goes a.part (text ++ (line ++ 10 ∷ more)) more b.rows (a.count + 1) =
+          goes-on a.part (text ++ (line ++ 10 ∷ more)) (a.held ++ (line ++ 10 ∷ more)) (a.held ++ line) more a.rows b.rows a.count (whole-line a.held line more s.free free) (s.goes (line ++ 10 ∷ more)) t.takes in
+          let h : Goes a.part whole more b.rows (a.count + 1) = subst (λ x. Goes a.part x more b.rows (a.count + 1)) all g in
+          subst (λ (p : PartData). Goes p whole (b.held ++ more) b.rows b.count) (sym part)
+          (subst (λ x. Goes a.part whole (x ++ more) b.rows b.count) (sym t.clear) (subst (λ (n : ℕ). Goes a.part whole more b.rows n) (sym count) h));
+    }
+
+-- a line is at fault
+fails-line : (a : ReaderState) (line rest text : List ℕ) (f : FramesFault) → has_no_end line ≡ true → (a.count < 2 ^ 63 → IsFaultAt a.part a.rows (a.count + 1) (a.held ++ line) f) → length text < 2 ^ 63 → ReaderStandsFor a text → IsPlanOf a.part (text ++ (line ++ 10 ∷ rest)) (Err f)
+fails-line a line rest text f free h fits s =
+    fails-there a.part (text ++ (line ++ 10 ∷ rest)) (a.held ++ (line ++ 10 ∷ rest)) (a.held ++ line) (split rest) a.rows a.count f (whole-line a.held line rest s.free free) (s.goes (line ++ 10 ∷ rest)) (h (omega (arith, s.few, fits)))
+
+-- ---- a piece
+
+-- lines of a piece are read, and this is left of it
+pub record HasFed (a b : ReaderState) (piece rest : List ℕ) : Type 0 where
+  pub prefix : List ℕ
+  pub split_is : piece ≡ prefix ++ rest
+  pub takes : (text : List ℕ) → length (text ++ piece) < 2 ^ 63 → ReaderStandsFor a text → ReaderStandsFor b (text ++ prefix)
+
+pub fed-none : (a : ReaderState) (piece : List ℕ) → HasFed a a piece piece
+fed-none a piece = record { prefix = []; split_is = refl; takes = λ text fits s. subst (ReaderStandsFor a) (sym (append-nil text)) s }
+
+pub fed-line : (a b c : ReaderState) (piece rest line after : List ℕ) → c.part ≡ b.part → split rest ≡ line ∷ split after → TakesLine b c line → HasFed a b piece rest → HasFed a c piece after
+fed-line a b c piece rest line after part e t f =
+    let q : rest ≡ line ++ 10 ∷ after = some-line rest line after e in
+    record {
+      prefix = f.prefix ++ (line ++ 10 ∷ []);
+      split_is = f.split_is ∙ ap (λ t. f.prefix ++ t) (q ∙ sym (append_assoc line (10 ∷ []) after)) ∙ sym (append_assoc f.prefix (line ++ 10 ∷ []) after);
+      takes = λ text fits s.
+          let long : length piece ≡ length f.prefix + length rest = ap length f.split_is ∙ length-append f.prefix rest in
+          let rests : length rest ≡ length line + length (10 ∷ after) = ap length q ∙ length-append line (10 ∷ after) in
+          subst (ReaderStandsFor c) (append_assoc text f.prefix (line ++ 10 ∷ []))
+          (line-taken b c line (text ++ f.prefix) part (first-free rest line (split after) e) t
+          (omega (arith, fits, long, rests, length-append text piece, length-append (text ++ f.prefix) (line ++ 10 ∷ []), length-append text f.prefix, length-append line (10 ∷ [])))
+          (f.takes text fits s));
+    }
+
+pub fed-end : (a b c : ReaderState) (piece rest line : List ℕ) → split rest ≡ line ∷ [] → TakesPiece b c line → HasFed a b piece rest → TakesPiece a c piece
+fed-end a b c piece rest line e t f = λ text fits s.
+    let whole : (text ++ f.prefix) ++ line ≡ text ++ piece = append_assoc text f.prefix line ∙ ap (λ x. text ++ (f.prefix ++ x)) (sym (only-line rest line e)) ∙ ap (λ x. text ++ x) (sym f.split_is) in
+    subst (ReaderStandsFor c) whole (t (text ++ f.prefix) (subst (λ x. length x < 2 ^ 63) (sym whole) fits) (f.takes text fits s))
+
+pub fed-fault : (a b : ReaderState) (piece rest line after : List ℕ) (f : FramesFault) → b.part ≡ a.part → split rest ≡ line ∷ split after → HasFed a b piece rest → FailsAtLine b line f → FailsIn a piece f
+fed-fault a b piece rest line after f part e h (inl none) = inl none
+fed-fault a b piece rest line after f part e h (inr fails) = inr (λ text more fits s.
+    let q : rest ≡ line ++ 10 ∷ after = some-line rest line after e in
+    let whole : (text ++ h.prefix) ++ (line ++ 10 ∷ (after ++ more)) ≡ (text ++ piece) ++ more =
+    ap (λ x. (text ++ h.prefix) ++ x) (sym (append_assoc line (10 ∷ after) more) ∙ ap (λ x. x ++ more) (sym q)) ∙ append_assoc text h.prefix (rest ++ more)
+    ∙ ap (λ x. text ++ x) (sym (append_assoc h.prefix rest more) ∙ ap (λ x. x ++ more) (sym h.split_is)) ∙ sym (append_assoc text piece more) in
+    let long : length piece ≡ length h.prefix + length rest = ap length h.split_is ∙ length-append h.prefix rest in
+    subst (λ (p : PartData). IsPlanOf p ((text ++ piece) ++ more) (Err f)) part
+    (subst (λ x. IsPlanOf b.part x (Err f)) whole
+    (fails-line b line (after ++ more) (text ++ h.prefix) f (first-free rest line (split after) e) fails (omega (arith, fits, long, length-append text piece, length-append text h.prefix)) (h.takes text fits s))))
+
+-- ---- the end of a text
+
+last-line : (a : ReaderState) (text : List ℕ) → ReaderStandsFor a text → Goes a.part text a.held a.rows a.count
+last-line a text s = subst (λ t. Goes a.part t a.held a.rows a.count) (append-nil text) (subst (λ t. Goes a.part (text ++ []) t a.rows a.count) (append-nil a.held) (s.goes []))
+
+pub ends-good : (a : ReaderState) (text : List ℕ) (new : List PlanRow) → ReaderStandsFor a text → Takes a.part a.held a.rows new → AreGood a.part (split text) new
+ends-good a text new s takes = last-good a.part text a.held a.held a.rows new a.count (split-alone a.held s.free) (last-line a text s) takes
+
+pub ends-fault : (a : ReaderState) (text : List ℕ) (f : FramesFault) → ReaderStandsFor a text → IsFaultAt a.part a.rows (a.count + 1) a.held f → IsPlanOf a.part text (Err f)
+ends-fault a text f s h = fails-there a.part text a.held a.held [] a.rows a.count f (split-alone a.held s.free) (last-line a text s) h
+
+-- ---- a text that is one piece
+
+pub fed-whole : {P : Type 0} (value : P → PlanData) (part : PartData) (a b : ReaderState) (text : List ℕ) (r : Result P FramesFault) → a.part ≡ part → ReaderStandsFor a [] → b.part ≡ a.part → TakesPiece a b text → length text < 2 ^ 63
+    → IfOk r (λ plan. (t : List ℕ) → ReaderStandsFor b t → IsPlanOf b.part t (Ok (value plan))) → IfErr r (λ f. (f ≡ fault.NoMemory) ⊎ ((t : List ℕ) → length t < 2 ^ 63 → ReaderStandsFor b t → IsPlanOf b.part t (Err f)))
+    → MatchResult r (λ plan. IsPlanOf part text (Ok (value plan))) (λ f. (f ≡ fault.NoMemory) ⊎ IsPlanOf part text (Err f))
+fed-whole value part a b text (Ok plan) is s same takes fits ok err = subst (λ (q : PartData). IsPlanOf q text (Ok (value plan))) (same ∙ is) (ok text (takes [] fits s))
+fed-whole value part a b text (Err f) is s same takes fits ok (inl none) = inl none
+fed-whole value part a b text (Err f) is s same takes fits ok (inr h) = inr (subst (λ (q : PartData). IsPlanOf q text (Err f)) (same ∙ is) (h text fits (takes [] fits s)))
+
+pub fed-first : (part : PartData) (a : ReaderState) (text : List ℕ) (f : FramesFault) → a.part ≡ part → ReaderStandsFor a [] → length text < 2 ^ 63 → FailsIn a text f → (f ≡ fault.NoMemory) ⊎ IsPlanOf part text (Err f)
+fed-first part a text f is s fits (inl none) = inl none
+fed-first part a text f is s fits (inr h) = inr (subst (λ (q : PartData). IsPlanOf q text (Err f)) is (subst (λ t. IsPlanOf a.part t (Err f)) (append-nil text) (h [] [] fits s)))

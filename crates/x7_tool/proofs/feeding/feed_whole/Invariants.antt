@@ -1,0 +1,21 @@
+use Rattle.std.proofs.Common.{◌≡◌, ℕ, List, ◌+◌, ◌≤◌, length, true}
+use Rattle.x7_words.specs.Input.{Selects, Stays, preceded}
+use Rattle.x7_tool.specs.Outcome.{text_limit}
+use Rattle.x7_forms.specs.Turn.{IsAt}
+use Rattle.x7_tool.specs.Turns.{IsFed}
+use Rattle.x7_tool.proofs.feeding.feed_whole.Given as goal
+
+abbrev pub invariant-loop-turn : goal.invariant-loop-turn
+invariant-loop-turn g l =
+    let i = g.I.Inputs in
+    let t = g.T.TakesText in
+    record {
+      selected : (i.state l.inputs).selected ≡ true;
+      inputs : Stays (i.state l.fn.inputs) (i.state l.inputs);
+      left : l.left ≤ text_limit;
+      piece : length l.piece ≡ 65536;
+      told : (taken : List ℕ) × (Selects (i.state l.fn.inputs).contents l.name (preceded taken (i.state l.inputs).rest) × IsFed (t.took l.taker) t.fails l.found taken × (length taken + l.left ≡ text_limit) × IsAt l.name taken (i.state l.inputs));
+    }
+
+abbrev pub decreases-loop-turn : goal.decreases-loop-turn
+decreases-loop-turn g l = l.left

@@ -1,0 +1,25 @@
+use Rattle.std.proofs.Common.{refl, inl}
+use Rattle.x7_forms.specs.Message.{event_of}
+use Rattle.x7_forms.specs.Step.{seen}
+use Rattle.x7_tool.specs.Outcome.{PlannedPartial}
+use Rattle.x7_tool.specs.Ready.{whole_of}
+use Rattle.x7_tool.proofs.PlanLemmas.{partial_ended, part_refused, plan_refused, planned_end}
+use Rattle.x7_tool.proofs.plan.plan_partial.Goals as goal
+
+pub returns-in-Err-clause-due : goal.returns-in-Err-clause-due
+returns-in-Err-clause-due g c =
+    let i = g.I.Inputs in
+    part_refused c.args.part.now c.args.frames.now (i.state c.args.inputs.now) (i.state c.read_part.new.inputs) (i.state c.read_part.new.inputs) (PlannedPartial c.args.frames.now) (λ x. refl) (event_of c.in-Err.refusal) c.in-Err.ensures.due
+
+pub returns-in-Err-read_plan-clause-due : goal.returns-in-Err-read_plan-clause-due
+returns-in-Err-read_plan-clause-due g c =
+    let i = g.I.Inputs in
+    plan_refused c.args.part.now c.args.frames.now (i.state c.args.inputs.now) (i.state c.read_part.new.inputs) (i.state c.read_plan.new.inputs) (PlannedPartial c.args.frames.now) (λ x. refl) c.in-Ok.known (event_of c.in-Err-read_plan.refusal)
+    c.read_part.ensures.inputs c.in-Ok.ensures.due (λ text h. inl h) c.in-Err-read_plan.ensures.due
+
+pub returns-clause-due : goal.returns-clause-due
+returns-clause-due g c =
+    let i = g.I.Inputs in
+    let t = c.in-Ok-read_plan.ensures.due in
+    planned_end c.args.part.now c.args.frames.now (i.state c.args.inputs.now) (i.state c.read_part.new.inputs) (i.state c.read_plan.new.inputs) (PlannedPartial c.args.frames.now) (λ x. refl) c.in-Ok.known t.0 (seen whole_of c.partial_text.result)
+    c.read_part.ensures.inputs c.in-Ok.ensures.due t.1 (partial_ended c.args.frames.now c.in-Ok.known t.0 c.in-Ok-read_plan.plan c.partial_text.result t.2 c.partial_text.ensures.ok c.partial_text.ensures.err)

@@ -1,0 +1,101 @@
+-- Lemmas on bytes that are read back: one that is another than the one wanted there is a byte that an update writes, and none of known bytes.
+use Rattle.std.proofs.Common.{◌≡◌, ℕ, ◌+◌, ◌-◌, ◌*◌, ◌<◌, ◌≤◌, true, false, List, length, Option, None, Some, option_map, Result, Ok, Err, IfErr, get_or, slice_range, refl, ap, sym, subst, ◌∙◌, arith}
+use Rattle.x7_words.specs.Flash.{FlashState, IfKnown}
+use Rattle.x7_words.proofs.CountLemmas.{risen_from}
+use Rattle.x7_words.proofs.FlashLemmas.{get_or-slice_range}
+use Rattle.x7_update.specs.Layout.{CanStandAt, HasSize, IsOpen, open_word}
+use Rattle.x7_update.specs.Writing.{EndFails, HasWanted, IsWritten, IsWrong, in_stream, in_switch, wanted_at}
+use Rattle.x7_update.specs.declared.fault.UpdateFault.{UpdateFault}
+use Rattle.x7_update.specs.declared.fault.UpdateFault.TheVariants.{Differs, Failed, NoLayout, NoMemory, TooLong}
+use Rattle.x7_update.proofs.StreamLemmas.{wanted_inside}
+use Rattle.x7_update.proofs.SwitchLemmas.{same_four}
+
+-- so many bytes from a place on are as they are wanted
+abbrev AreWanted : ℕ → List ℕ → ℕ → ℕ → List ℕ → Type 0
+AreWanted from piece place count all = (i : ℕ) → i < count → get_or all (place + i) 0 ≡ wanted_at from piece (place + i)
+
+-- each of them is one that an update writes
+abbrev AreWritten : ℕ → List ℕ → ℕ → ℕ → List ℕ → ℕ → Type 0
+AreWritten size stream place count piece from = (i byte : ℕ) → i < count → byte ≡ wanted_at from piece (place + i) → IsWritten size stream (place + i) byte
+
+-- of known bytes that are as they are wanted none is wrong
+not_known : (known : Option (List ℕ)) (from : ℕ) (piece : List ℕ) (place count : ℕ) (buffer : List ℕ) (at wrote read : ℕ) → length buffer ≡ count → IfKnown known (λ all. buffer ≡ slice_range all place (place + count))
+    → IfKnown known (AreWanted from piece place count) → IsWrong from piece place buffer (Differs at wrote read) → known ≡ None
+not_known None from piece place count buffer at wrote read long r h w = refl
+not_known (Some all) from piece place count buffer at wrote read long r h w =
+    let within : w.0 < count = omega (arith, long, w.1) in
+    let found : read ≡ get_or all (place + w.0) 0 = w.4 ∙ ap (λ b. get_or b w.0 0) r ∙ get_or-slice_range all place count w.0 within in
+    let same : wrote ≡ read = w.3 ∙ ap (wanted_at from piece) w.2 ∙ sym (found ∙ h w.0 within) in
+    absurd (w.5 same)
+
+-- a fault of what was read from a place on and compared with what is wanted there
+wrong_fails : (from : ℕ) (piece : List ℕ) (place count : ℕ) (buffer stream : List ℕ) (old new : FlashState) (fault : UpdateFault) → length buffer ≡ count → HasSize new.extent → IfKnown old.bytes (λ all. buffer ≡ slice_range all place (place + count))
+    → IfKnown old.bytes (AreWanted from piece place count) → AreWritten new.extent stream place count piece from → IsWrong from piece place buffer fault → EndFails stream old new fault
+wrong_fails from piece place count buffer stream old new (Differs at wrote read) long sized r h written w = (
+  record {
+    sized = sized;
+    written = subst (λ (p : ℕ). IsWritten new.extent stream p wrote) (sym w.2) (written w.0 wrote (omega (arith, long, w.1)) (w.3 ∙ ap (wanted_at from piece) w.2));
+    differs = w.5;
+  },
+  not_known old.bytes from piece place count buffer at wrote read long r h w,
+)
+wrong_fails from piece place count buffer stream old new (Failed true) long sized r h written w = absurd w
+wrong_fails from piece place count buffer stream old new (Failed false) long sized r h written w = absurd w
+wrong_fails from piece place count buffer stream old new TooLong long sized r h written w = absurd w
+wrong_fails from piece place count buffer stream old new (NoLayout at) long sized r h written w = absurd w
+wrong_fails from piece place count buffer stream old new NoMemory long sized r h written w = absurd w
+
+compared_fails : (from : ℕ) (piece : List ℕ) (place count : ℕ) (buffer stream : List ℕ) (old new : FlashState) (result : Result (Unit {0}) UpdateFault) → length buffer ≡ count → HasSize new.extent → IfKnown old.bytes (λ all. buffer ≡ slice_range all place (place + count))
+    → IfKnown old.bytes (AreWanted from piece place count) → AreWritten new.extent stream place count piece from → IfErr result (IsWrong from piece place buffer) → IfErr result (EndFails stream old new)
+compared_fails from piece place count buffer stream old new (Ok _) long sized r h written w = tt
+compared_fails from piece place count buffer stream old new (Err fault) long sized r h written w = wrong_fails from piece place count buffer stream old new fault long sized r h written w
+
+-- ---- a piece of the stream
+
+stream_wanted : (known : Option (List ℕ)) (update : ℕ) (stream : List ℕ) (place count size : ℕ) → update ≤ place → place + count ≤ size → IfKnown known (λ all. size ≡ length all) → IfKnown known (HasWanted update stream) → IfKnown known (AreWanted update stream place count)
+stream_wanted None update stream place count size behind within s h = tt
+stream_wanted (Some all) update stream place count size behind within s h = λ i l. h (place + i) (omega arith) (omega (arith, s))
+
+-- so many bytes of the stream, or of FF behind it, were read back from a place on
+pub stream_fails : (update : ℕ) (stream : List ℕ) (place count : ℕ) (buffer : List ℕ) (old new : FlashState) (result : Result (Unit {0}) UpdateFault) → length buffer ≡ count → new.extent ≡ old.extent → HasSize old.extent → CanStandAt old.extent update
+    → update + length stream ≤ old.extent → update ≤ place → place + count ≤ old.extent → IfKnown old.bytes (λ all. old.extent ≡ length all) → IfKnown old.bytes (HasWanted update stream)
+    → IfKnown old.bytes (λ all. buffer ≡ slice_range all place (place + count)) → IfErr result (IsWrong update stream place buffer) → IfErr result (EndFails stream old new)
+stream_fails update stream place count buffer old new result long same sized stands fits behind within counted wanted r w =
+    compared_fails update stream place count buffer stream old new result long (subst HasSize (sym same) sized) r (stream_wanted old.bytes update stream place count old.extent behind within counted wanted)
+    (λ i byte l e. in_stream update (subst (λ (n : ℕ). CanStandAt n update) (sym same) stands) (omega (arith, same, fits)) (omega arith) (omega (arith, same, within)) e) w
+
+-- ---- a switch word
+
+switch_wanted : (known : Option (List ℕ)) (slot : ℕ) → IfKnown known (λ all. IsOpen all slot) → IfKnown known (AreWanted (32 * slot) open_word (32 * slot) 4)
+switch_wanted None slot h = tt
+switch_wanted (Some all) slot h = λ i l.
+    let place = 32 * slot in
+    let at : 0 + i ≡ place + i - place = omega arith in
+    let short : place + i - place < 4 = omega arith in
+    same_four all open_word place 0 i h l ∙ ap (λ k. get_or open_word k 0) at ∙ sym (wanted_inside place open_word (place + i) short)
+
+-- the switch word of a slot that was opened was read back
+pub switch_fails : (slot : ℕ) (buffer stream : List ℕ) (old new : FlashState) (result : Result (Unit {0}) UpdateFault) → length buffer ≡ 4 → new.extent ≡ old.extent → HasSize old.extent → slot < 2048 → IfKnown old.bytes (λ all. IsOpen all slot)
+    → IfKnown old.bytes (λ all. buffer ≡ slice_range all (32 * slot) (32 * slot + 4)) → IfErr result (IsWrong (32 * slot) open_word (32 * slot) buffer) → IfErr result (EndFails stream old new)
+switch_fails slot buffer stream old new result long same sized h opened r w =
+    compared_fails (32 * slot) open_word (32 * slot) 4 buffer stream old new result long (subst HasSize (sym same) sized) r (switch_wanted old.bytes slot opened)
+    (λ i byte l e. in_switch slot h (omega arith) (omega arith) e) w
+
+-- ---- the end of an update
+
+was_unknown : (f : List ℕ → List ℕ) (known : Option (List ℕ)) → option_map f known ≡ None → known ≡ None
+was_unknown f None e = refl
+was_unknown f (Some all) e = absurd (cc)
+
+fails_before : (stream : List ℕ) (a b c : FlashState) (f : List ℕ → List ℕ) (fault : UpdateFault) → a.faults ≤ b.faults → a.write_faults ≤ b.write_faults → b.bytes ≡ option_map f a.bytes → EndFails stream b c fault → EndFails stream a c fault
+fails_before stream a b c f (Differs at wrote read) r w e h = (h.0, was_unknown f a.bytes (sym e ∙ h.1))
+fails_before stream a b c f (Failed true) r w e h = risen_from a.write_faults b.write_faults c.write_faults w h
+fails_before stream a b c f (Failed false) r w e h = risen_from a.faults b.faults c.faults r h
+fails_before stream a b c f TooLong r w e h = h
+fails_before stream a b c f (NoLayout at) r w e h = h
+fails_before stream a b c f NoMemory r w e h = h
+
+-- why the end of an update fails, since before a write
+pub fails_since : (stream : List ℕ) (a b c : FlashState) (f : List ℕ → List ℕ) (result : Result (Unit {0}) UpdateFault) → a.faults ≤ b.faults → a.write_faults ≤ b.write_faults → b.bytes ≡ option_map f a.bytes → IfErr result (EndFails stream b c) → IfErr result (EndFails stream a c)
+fails_since stream a b c f (Ok _) r w e h = tt
+fails_since stream a b c f (Err fault) r w e h = fails_before stream a b c f fault r w e h

@@ -1,0 +1,16 @@
+use Rattle.std.proofs.Common.{◌≡◌, ◌+◌, ◌-◌, ◌*◌, ℕ, length, IfErr, arith, subst}
+use Rattle.x7_update.specs.Writing.{IsWrong}
+use Rattle.x7_update.proofs.BackLemmas.{stream_fails}
+use Rattle.x7_update.proofs.verify.verify_sector.Goals as goal
+
+pub returns-clause-fault : goal.returns-clause-fault
+returns-clause-fault g c =
+    let old = g.F.Flash.state c.args.flash.now in
+    let new = g.F.Flash.state c.read_at.new.self in
+    let update = c.args.update in
+    let place = c.args.sector * 65536 in
+    let q = c.requires in
+    let at : update + (place - update) ≡ place = omega (arith, q.behind) in
+    stream_fails update c.args.stream.now place (length c.args.buffer.now) c.read_at.new.buf old new c.compare.result c.in-Ok.ensures.length c.in-Ok.ensures.only.extent q.size q.place q.fits q.behind
+    (omega (arith, q.within, q.buffer)) (g.met.F.Flash.counted c.args.flash.now) q.written c.in-Ok.ensures.read
+    (subst (λ (p : ℕ). IfErr c.compare.result (IsWrong update c.args.stream.now p c.read_at.new.buf)) at c.compare.ensures)

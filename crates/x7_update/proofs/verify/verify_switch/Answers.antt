@@ -1,0 +1,14 @@
+use Rattle.std.proofs.Common.{◌≡◌, ◌+◌, ◌*◌, ℕ, IfErr, arith, subst}
+use Rattle.x7_update.specs.Layout.{open_word}
+use Rattle.x7_update.specs.Writing.{IsWrong}
+use Rattle.x7_update.proofs.BackLemmas.{switch_fails}
+use Rattle.x7_update.proofs.verify.verify_switch.Goals as goal
+
+pub returns-clause-fault : goal.returns-clause-fault
+returns-clause-fault g c = λ stream.
+    let old = g.F.Flash.state c.args.flash.now in
+    let new = g.F.Flash.state c.read_at.new.self in
+    let slot = c.args.slot in
+    let at : 32 * slot + 0 ≡ 32 * slot = omega arith in
+    switch_fails slot c.read_at.new.buf stream old new c.compare.result c.in-Ok.ensures.length c.in-Ok.ensures.only.extent c.requires.size c.requires.slot c.requires.opened c.in-Ok.ensures.read
+    (subst (λ (p : ℕ). IfErr c.compare.result (IsWrong (32 * slot) open_word p c.read_at.new.buf)) at c.compare.ensures)
