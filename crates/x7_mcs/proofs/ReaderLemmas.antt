@@ -3,70 +3,66 @@ use Rattle.std.proofs.Common.{◌≡◌, ◌⊎◌, inl, inr, ℕ, ◌+◌, ◌^
 use Rattle.x7_text.specs.Lines.{has_no_end, split}
 use Rattle.x7_mcs.specs.Flash.{Reading, after_line, after_lines, and_then, mcs_of}
 use Rattle.x7_mcs.specs.Lines.{lines_of, without_return}
-use Rattle.x7_mcs.specs.Reader.{BodyGoes, BodyState, IsFaultOf, ReaderState, ReaderStandsFor, lines_read}
-use Rattle.x7_mcs.specs.State.{Fails, Goes, Took, at_base}
+use Rattle.x7_mcs.specs.Reader.{IsFaultOf, ReaderState, ReaderStandsFor, lines_read}
+use Rattle.x7_mcs.specs.State.{BodyState, Fails, Goes, Took, at_base}
 use Rattle.x7_mcs.specs.declared.fault.McsFault.{McsFault}
 use Rattle.x7_mcs.specs.declared.fault.McsFault.TheVariants as fault
-use Rattle.x7_mcs.proofs.GoesLemmas.{gives-bytes, gives-fault, gives-no-end, goes-on, starts, stops}
+use Rattle.x7_mcs.proofs.GoesLemmas.{at-line, gives-bytes, gives-fault, gives-no-end, goes-on, starts, stops}
 use Rattle.x7_mcs.proofs.LineLemmas.{cut-line, free-both, line-first, line-last, only-line}
 
--- the number of the line that is read
-pub at-line : (whole : Result Reading McsFault) (rest : List ℕ) (b : BodyState) (n : ℕ) → n ≡ b.count + 1 → BodyGoes whole rest b → Goes whole rest n b.base b.ended b.bytes b.marks
-at-line whole rest b n e g = subst (λ (k : ℕ). Goes whole rest k b.base b.ended b.bytes b.marks) (sym e) g
-
 -- a line that has its end is read
-module _ (whole : Result Reading McsFault) (line bare after : List ℕ) (n base : ℕ) (ended : Bool) (bytes marks : List ℕ) (free : has_no_end line ≡ true) (e : bare ≡ without_return line) (g : Goes whole (line ++ 10 ∷ after) n base ended bytes marks) where
-  line-leads : whole ≡ and_then (after_line n (at_base base ended g.records) bare) (λ r. after_lines (n + 1) r (lines_of after))
+module _ (whole : Result Reading McsFault) (line bare after : List ℕ) (n : ℕ) (b : BodyState) (m : n ≡ b.count + 1) (free : has_no_end line ≡ true) (e : bare ≡ without_return line) (g : Goes whole (line ++ 10 ∷ after) b) where
+  line-leads : whole ≡ and_then (after_line n (at_base b.base b.ended g.records) bare) (λ r. after_lines (n + 1) r (lines_of after))
   line-leads =
-      g.same ∙ ap (after_lines n (at_base base ended g.records)) (line-first line after free)
-      ∙ ap (λ t. and_then (after_line n (at_base base ended g.records) t) (λ r. after_lines (n + 1) r (lines_of after))) (sym e)
+      at-line whole (line ++ 10 ∷ after) b n m g ∙ ap (after_lines n (at_base b.base b.ended g.records)) (line-first line after free)
+      ∙ ap (λ t. and_then (after_line n (at_base b.base b.ended g.records) t) (λ r. after_lines (n + 1) r (lines_of after))) (sym e)
 
-  pub line-stops : (f : McsFault) → Fails (after_line n (at_base base ended g.records) bare) f → Fails whole f
-  line-stops f i = stops whole (after_line n (at_base base ended g.records) bare) (n + 1) (lines_of after) line-leads f i
+  pub line-stops : (f : McsFault) → Fails (after_line n (at_base b.base b.ended g.records) bare) f → Fails whole f
+  line-stops f i = stops whole (after_line n (at_base b.base b.ended g.records) bare) (n + 1) (lines_of after) line-leads f i
 
-  pub line-goes-on : (base2 : ℕ) (ended2 : Bool) (bytes2 marks2 : List ℕ) → Took (after_line n (at_base base ended g.records) bare) base2 ended2 bytes2 marks2 → Goes whole after (n + 1) base2 ended2 bytes2 marks2
-  line-goes-on base2 ended2 bytes2 marks2 i = goes-on whole (after_line n (at_base base ended g.records) bare) (n + 1) (lines_of after) line-leads after base2 ended2 bytes2 marks2 refl i
+  pub line-goes-on : (d : BodyState) → n ≡ d.count → Took (after_line n (at_base b.base b.ended g.records) bare) d.base d.ended d.bytes d.marks → Goes whole after d
+  line-goes-on d k i = goes-on whole (after_line n (at_base b.base b.ended g.records) bare) (n + 1) (lines_of after) line-leads after d (ap (λ (j : ℕ). j + 1) k) refl i
 
 -- the last line is read
 and-nothing : (s : Result Reading McsFault) (n : ℕ) → and_then s (λ r. after_lines n r []) ≡ s
 and-nothing (Ok r) n = refl
 and-nothing (Err f) n = refl
 
-module _ (text line : List ℕ) (n base : ℕ) (ended : Bool) (bytes marks : List ℕ) (free : has_no_end line ≡ true) (g : Goes (lines_read text) line n base ended bytes marks) where
-  last-leads : lines_read text ≡ after_line n (at_base base ended g.records) line
-  last-leads = g.same ∙ ap (after_lines n (at_base base ended g.records)) (line-last line free) ∙ and-nothing (after_line n (at_base base ended g.records) line) (n + 1)
+module _ (text line : List ℕ) (n : ℕ) (b : BodyState) (m : n ≡ b.count + 1) (free : has_no_end line ≡ true) (g : Goes (lines_read text) line b) where
+  last-leads : lines_read text ≡ after_line n (at_base b.base b.ended g.records) line
+  last-leads = at-line (lines_read text) line b n m g ∙ ap (after_lines n (at_base b.base b.ended g.records)) (line-last line free) ∙ and-nothing (after_line n (at_base b.base b.ended g.records) line) (n + 1)
 
-  last-took : (base2 : ℕ) (ended2 : Bool) (bytes2 marks2 : List ℕ) → Took (after_line n (at_base base ended g.records) line) base2 ended2 bytes2 marks2 → Took (lines_read text) base2 ended2 bytes2 marks2
-  last-took base2 ended2 bytes2 marks2 t = record { records = t.records; is = last-leads ∙ t.is; holds = t.holds }
+  last-took : (base : ℕ) (ended : Bool) (bytes marks : List ℕ) → Took (after_line n (at_base b.base b.ended g.records) line) base ended bytes marks → Took (lines_read text) base ended bytes marks
+  last-took base ended bytes marks t = record { records = t.records; is = last-leads ∙ t.is; holds = t.holds }
 
-  pub last-bytes : (base2 : ℕ) (ended2 : Bool) (bytes2 marks2 : List ℕ) → Took (after_line n (at_base base ended g.records) line) base2 ended2 bytes2 marks2 → ended2 ≡ true → mcs_of text ≡ Ok bytes2
-  last-bytes base2 ended2 bytes2 marks2 t e = gives-bytes text base2 ended2 bytes2 marks2 (last-took base2 ended2 bytes2 marks2 t) e
+  pub last-bytes : (base : ℕ) (ended : Bool) (bytes marks : List ℕ) → Took (after_line n (at_base b.base b.ended g.records) line) base ended bytes marks → ended ≡ true → mcs_of text ≡ Ok bytes
+  last-bytes base ended bytes marks t e = gives-bytes text base ended bytes marks (last-took base ended bytes marks t) e
 
-  pub last-no-end : (base2 : ℕ) (ended2 : Bool) (bytes2 marks2 : List ℕ) → Took (after_line n (at_base base ended g.records) line) base2 ended2 bytes2 marks2 → ended2 ≡ false → IsFaultOf text fault.NoEnd
-  last-no-end base2 ended2 bytes2 marks2 t e = inr (gives-no-end text base2 ended2 bytes2 marks2 (last-took base2 ended2 bytes2 marks2 t) e)
+  pub last-no-end : (base : ℕ) (ended : Bool) (bytes marks : List ℕ) → Took (after_line n (at_base b.base b.ended g.records) line) base ended bytes marks → ended ≡ false → IsFaultOf text fault.NoEnd
+  last-no-end base ended bytes marks t e = inr (gives-no-end text base ended bytes marks (last-took base ended bytes marks t) e)
 
-  pub last-fault : (f : McsFault) → Fails (after_line n (at_base base ended g.records) line) f → IsFaultOf text f
+  pub last-fault : (f : McsFault) → Fails (after_line n (at_base b.base b.ended g.records) line) f → IsFaultOf text f
   last-fault f (inl none) = inl none
   last-fault f (inr h) = gives-fault text f (inr (last-leads ∙ h))
 
 -- a text begins with a line, with its end, and more text stands behind
-pub row-first : (whole : Result Reading McsFault) (text line rest more : List ℕ) (b : BodyState) → text ≡ line ++ rest → BodyGoes whole (text ++ more) b → BodyGoes whole (line ++ (rest ++ more)) b
-row-first whole text line rest more b e g = subst (λ t. BodyGoes whole t b) (ap (λ t. t ++ more) e ∙ append_assoc line rest more) g
+pub row-first : (whole : Result Reading McsFault) (text line rest more : List ℕ) (b : BodyState) → text ≡ line ++ rest → Goes whole (text ++ more) b → Goes whole (line ++ (rest ++ more)) b
+row-first whole text line rest more b e g = subst (λ t. Goes whole t b) (ap (λ t. t ++ more) e ∙ append_assoc line rest more) g
 
-pub line-cut : (whole : Result Reading McsFault) (text line rest more : List ℕ) (b : BodyState) → split text ≡ line ∷ split rest → BodyGoes whole (text ++ more) b → BodyGoes whole (line ++ 10 ∷ (rest ++ more)) b
-line-cut whole text line rest more b e g = subst (λ t. BodyGoes whole t b) (cut-line text line rest more e).0 g
+pub line-cut : (whole : Result Reading McsFault) (text line rest more : List ℕ) (b : BodyState) → split text ≡ line ∷ split rest → Goes whole (text ++ more) b → Goes whole (line ++ 10 ∷ (rest ++ more)) b
+line-cut whole text line rest more b e g = subst (λ t. Goes whole t b) (cut-line text line rest more e).0 g
 
 -- a piece completes the line that is held
-pub completed : (whole : Result Reading McsFault) (held line piece rest more now : List ℕ) (b : BodyState) → split piece ≡ line ∷ split rest → now ≡ held ++ line → BodyGoes whole (held ++ (piece ++ more)) b → BodyGoes whole (now ++ 10 ∷ (rest ++ more)) b
+pub completed : (whole : Result Reading McsFault) (held line piece rest more now : List ℕ) (b : BodyState) → split piece ≡ line ∷ split rest → now ≡ held ++ line → Goes whole (held ++ (piece ++ more)) b → Goes whole (now ++ 10 ∷ (rest ++ more)) b
 completed whole held line piece rest more now b e n g =
-    subst (λ t. BodyGoes whole (t ++ 10 ∷ (rest ++ more)) b) (sym n)
-    (subst (λ t. BodyGoes whole t b) (sym (append_assoc held line (10 ∷ (rest ++ more)))) (subst (λ t. BodyGoes whole (held ++ t) b) (cut-line piece line rest more e).0 g))
+    subst (λ t. Goes whole (t ++ 10 ∷ (rest ++ more)) b) (sym n)
+    (subst (λ t. Goes whole t b) (sym (append_assoc held line (10 ∷ (rest ++ more)))) (subst (λ t. Goes whole (held ++ t) b) (cut-line piece line rest more e).0 g))
 
 -- it doesn't
-pub held-on : (whole : Result Reading McsFault) (held line piece more now : List ℕ) (b : BodyState) → split piece ≡ line ∷ [] → now ≡ held ++ line → BodyGoes whole (held ++ (piece ++ more)) b → BodyGoes whole (now ++ more) b
+pub held-on : (whole : Result Reading McsFault) (held line piece more now : List ℕ) (b : BodyState) → split piece ≡ line ∷ [] → now ≡ held ++ line → Goes whole (held ++ (piece ++ more)) b → Goes whole (now ++ more) b
 held-on whole held line piece more now b e n g =
-    subst (λ t. BodyGoes whole (t ++ more) b) (sym (n ∙ ap (λ t. held ++ t) (only-line piece line e).0))
-    (subst (λ t. BodyGoes whole t b) (sym (append_assoc held piece more)) g)
+    subst (λ t. Goes whole (t ++ more) b) (sym (n ∙ ap (λ t. held ++ t) (only-line piece line e).0))
+    (subst (λ t. Goes whole t b) (sym (append_assoc held piece more)) g)
 
 pub free-now : (held line now : List ℕ) → now ≡ held ++ line → has_no_end held ≡ true → has_no_end line ≡ true → has_no_end now ≡ true
 free-now held line now e h k = subst (λ t. has_no_end t ≡ true) (sym e) (free-both held line h k)
@@ -77,29 +73,24 @@ pub new-stands : (r : ReaderState) → r.body.base ≡ 0 → r.body.ended ≡ fa
 new-stands r base ended count bytes marks held = record {
   free = subst (λ t. has_no_end t ≡ true) (sym held) refl;
   few = omega (arith, count, ap length held);
-  goes = λ more.
-      let begins : Goes (lines_read more) more 1 0 false r.body.bytes r.body.marks = starts more r.body.bytes r.body.marks bytes marks in
-      let numbered : Goes (lines_read more) more (r.body.count + 1) 0 false r.body.bytes r.body.marks = subst (λ (k : ℕ). Goes (lines_read more) more (k + 1) 0 false r.body.bytes r.body.marks) (sym count) begins in
-      let based : Goes (lines_read more) more (r.body.count + 1) r.body.base false r.body.bytes r.body.marks = subst (λ (k : ℕ). Goes (lines_read more) more (r.body.count + 1) k false r.body.bytes r.body.marks) (sym base) numbered in
-      let opened : Goes (lines_read more) more (r.body.count + 1) r.body.base r.body.ended r.body.bytes r.body.marks = subst (λ (k : Bool). Goes (lines_read more) more (r.body.count + 1) r.body.base k r.body.bytes r.body.marks) (sym ended) based in
-      subst (λ t. BodyGoes (lines_read more) (t ++ more) r.body) (sym held) opened;
+  goes = λ more. subst (λ t. Goes (lines_read more) (t ++ more) r.body) (sym held) (starts more r.body base ended count bytes marks);
 }
 
 -- what is held is the last line of the text
-pub at-end : (r : ReaderState) (text : List ℕ) → ReaderStandsFor r text → BodyGoes (lines_read text) r.held r.body
+pub at-end : (r : ReaderState) (text : List ℕ) → ReaderStandsFor r text → Goes (lines_read text) r.held r.body
 at-end r text s =
-    subst (λ t. BodyGoes (lines_read text) t r.body) (append-nil r.held)
-    (subst (λ t. BodyGoes (lines_read t) (r.held ++ []) r.body) (append-nil text) (s.goes []))
+    subst (λ t. Goes (lines_read text) t r.body) (append-nil r.held)
+    (subst (λ t. Goes (lines_read t) (r.held ++ []) r.body) (append-nil text) (s.goes []))
 
 -- the last line of what a reader took
 pub ends-bytes : {V : Type 0} (items : V → List ℕ) (r : ReaderState) (result : Result V McsFault)
-    → ((text : List ℕ) → has_no_end r.held ≡ true → r.body.count < 2 ^ 63 → BodyGoes (lines_read text) r.held r.body → MatchResult result (λ v. mcs_of text ≡ Ok (items v)) (IsFaultOf text))
+    → ((text : List ℕ) → has_no_end r.held ≡ true → r.body.count < 2 ^ 63 → Goes (lines_read text) r.held r.body → MatchResult result (λ v. mcs_of text ≡ Ok (items v)) (IsFaultOf text))
     → IfOk result (λ v. (text : List ℕ) → length text < 2 ^ 63 → ReaderStandsFor r text → mcs_of text ≡ Ok (items v))
 ends-bytes items r (Ok v) f = λ text fits s. f text s.free (omega (arith, s.few, fits)) (at-end r text s)
 ends-bytes items r (Err e) f = tt
 
 pub ends-fault : {V : Type 0} (items : V → List ℕ) (r : ReaderState) (result : Result V McsFault)
-    → ((text : List ℕ) → has_no_end r.held ≡ true → r.body.count < 2 ^ 63 → BodyGoes (lines_read text) r.held r.body → MatchResult result (λ v. mcs_of text ≡ Ok (items v)) (IsFaultOf text))
+    → ((text : List ℕ) → has_no_end r.held ≡ true → r.body.count < 2 ^ 63 → Goes (lines_read text) r.held r.body → MatchResult result (λ v. mcs_of text ≡ Ok (items v)) (IsFaultOf text))
     → IfErr result (λ e. (text : List ℕ) → length text < 2 ^ 63 → ReaderStandsFor r text → IsFaultOf text e)
 ends-fault items r (Ok v) f = tt
 ends-fault items r (Err e) f = λ text fits s. f text s.free (omega (arith, s.few, fits)) (at-end r text s)

@@ -53,11 +53,19 @@ pub record Holds (records : List DataRecord) (bytes marks : List ℕ) : Type 0 w
   pub at : (p : ℕ) → get_or bytes p 255 ≡ byte_at records p
   pub marked : (p : ℕ) → is_marked marks p ≡ covered records p
 
--- what a text gives is what its rest, from line n on, gives after this base, end and records
-pub record Goes (whole : Result Reading McsFault) (rest : List ℕ) (n base : ℕ) (ended : Bool) (bytes marks : List ℕ) : Type 0 where
+-- what the lines so far gave: the base that stands, whether a record 01 stood, the bytes and marks of the image, and how many lines were
+pub record BodyState : Type 0 where
+  pub base : ℕ
+  pub ended : Bool
+  pub bytes : List ℕ
+  pub marks : List ℕ
+  pub count : ℕ
+
+-- what a text gives is what its rest gives after these lines
+pub record Goes (whole : Result Reading McsFault) (rest : List ℕ) (b : BodyState) : Type 0 where
   pub records : List DataRecord
-  pub same : whole ≡ after_lines n (record { base = base; ended = ended; records = records }) (lines_of rest)
-  pub holds : Holds records bytes marks
+  pub same : whole ≡ after_lines (b.count + 1) (record { base = b.base; ended = b.ended; records = records }) (lines_of rest)
+  pub holds : Holds records b.bytes b.marks
 
 -- a reading came to this base, end and records
 pub record Took (reading : Result Reading McsFault) (base : ℕ) (ended : Bool) (bytes marks : List ℕ) : Type 0 where

@@ -3,8 +3,8 @@ ghost use Rattle.std.specs.Prelude.{◌≡◌, ◌+◌, ◌<◌, ◌≤◌, ◌^
 ghost use Rattle.x7_text.specs.Lines.{has_no_end};
 ghost use Rattle.x7_words.specs.Word.{AreBytes};
 ghost use Rattle.x7_mcs.specs.Flash.{Reading, mcs_of};
-ghost use Rattle.x7_mcs.specs.Reader.{BodyGoes, FailsInLines, FailsOne, IsFaultOf, TakesLines, TakesOne, body_in, lines_read};
-ghost use Rattle.x7_mcs.specs.State.{Fails};
+ghost use Rattle.x7_mcs.specs.Reader.{FailsInLines, FailsOne, IsFaultOf, TakesLines, TakesOne, body_in, lines_read};
+ghost use Rattle.x7_mcs.specs.State.{Fails, Goes};
 ghost use Rattle.x7_mcs.specs.Text.{data_line};
 ghost use Rattle.x7_mcs.specs.declared.fault.McsFault.{McsFault};
 
@@ -54,8 +54,8 @@ impl Body {
         requires content { length row.now.content ≡ 16 }
         requires bytes { AreBytes row.now.content }
         ensures goes { (whole : Result Reading McsFault) (after : List ℕ) → self.old.count < 2 ^ 63
-            → BodyGoes whole (data_line row.now.address row.now.content ++ after) (body_in self.old)
-            → MatchResult result (λ _. BodyGoes whole after (body_in self.new)) (λ f. Fails whole f) }
+            → Goes whole (data_line row.now.address row.now.content ++ after) (body_in self.old)
+            → MatchResult result (λ _. Goes whole after (body_in self.new)) (λ f. Fails whole f) }
         ensures count { self.new.count ≤ self.old.count + 1 }
     {
         let n = self.count.saturating_add(1);
@@ -72,8 +72,8 @@ impl Body {
     /// Takes a line that has its end, which is left out here.
     pub(crate) fn put_one(&mut self, line: &[u8]) -> Result<(), McsFault>
         ensures goes { (whole : Result Reading McsFault) (after : List ℕ) → has_no_end line.now ≡ true → self.old.count < 2 ^ 63
-            → BodyGoes whole (line.now ++ 10 ∷ after) (body_in self.old)
-            → MatchResult result (λ _. BodyGoes whole after (body_in self.new)) (λ f. Fails whole f) }
+            → Goes whole (line.now ++ 10 ∷ after) (body_in self.old)
+            → MatchResult result (λ _. Goes whole after (body_in self.new)) (λ f. Fails whole f) }
         ensures count { self.new.count ≤ self.old.count + 1 }
     {
         let n = self.count.saturating_add(1);
@@ -136,7 +136,7 @@ impl Body {
 
     /// Takes the last line, which has no end: the bytes of the text.
     pub(crate) fn end(self, line: &[u8]) -> Result<Vec<u8>, McsFault>
-        ensures { (text : List ℕ) → has_no_end line.now ≡ true → self.count < 2 ^ 63 → BodyGoes (lines_read text) line.now (body_in self)
+        ensures { (text : List ℕ) → has_no_end line.now ≡ true → self.count < 2 ^ 63 → Goes (lines_read text) line.now (body_in self)
             → MatchResult result (λ bytes. mcs_of text ≡ Ok bytes.items) (IsFaultOf text) }
     {
         let mut last = self;

@@ -2,8 +2,8 @@
 ghost use Rattle.std.specs.Prelude.{◌≡◌, ◌+◌, ◌<◌, ◌≤◌, ◌^◌, ◌++◌, [], List, ℕ, true, length, Ok, Result, IfErr, IfOk, OnErr, OnOk, MatchOption, MatchResult};
 ghost use Rattle.x7_text.specs.Lines.{has_no_end};
 ghost use Rattle.x7_mcs.specs.Flash.{Reading, mcs_of};
-ghost use Rattle.x7_mcs.specs.Reader.{BodyGoes, FailsHeld, FailsIn, IsFaultOf, ReaderStandsFor, TakesHeld, TakesPiece, body_in};
-ghost use Rattle.x7_mcs.specs.State.{Fails};
+ghost use Rattle.x7_mcs.specs.Reader.{FailsHeld, FailsIn, IsFaultOf, ReaderStandsFor, TakesHeld, TakesPiece, body_in};
+ghost use Rattle.x7_mcs.specs.State.{Fails, Goes};
 ghost use Rattle.x7_mcs.specs.declared.fault.McsFault.{McsFault};
 
 use crate::body::Body;
@@ -55,8 +55,8 @@ fn complete<'t>(
 /// Takes a piece where no line is held.
 fn take_lines(body: &mut Body, held: &mut Vec<u8>, piece: &[u8]) -> Result<(), McsFault>
     requires none { held.old.items ≡ [] }
-    ensures goes { (whole : Result Reading McsFault) (more : List ℕ) → body.old.count + length piece.now < 2 ^ 63 → BodyGoes whole (piece.now ++ more) (body_in body.old)
-        → MatchResult result (λ _. BodyGoes whole (held.new.items ++ more) (body_in body.new)) (λ f. Fails whole f) }
+    ensures goes { (whole : Result Reading McsFault) (more : List ℕ) → body.old.count + length piece.now < 2 ^ 63 → Goes whole (piece.now ++ more) (body_in body.old)
+        → MatchResult result (λ _. Goes whole (held.new.items ++ more) (body_in body.new)) (λ f. Fails whole f) }
     ensures free { OnOk result (has_no_end held.new.items ≡ true) }
     ensures few { OnOk result (body.new.count + length held.new.items ≤ body.old.count + length piece.now) }
 {
@@ -69,8 +69,8 @@ fn take_lines(body: &mut Body, held: &mut Vec<u8>, piece: &[u8]) -> Result<(), M
 /// Takes the next piece of a text behind what is held of a line.
 fn take(body: &mut Body, held: &mut Vec<u8>, piece: &[u8]) -> Result<(), McsFault>
     requires free { has_no_end held.old.items ≡ true }
-    ensures goes { (whole : Result Reading McsFault) (more : List ℕ) → body.old.count + length piece.now < 2 ^ 63 → BodyGoes whole (held.old.items ++ (piece.now ++ more)) (body_in body.old)
-        → MatchResult result (λ _. BodyGoes whole (held.new.items ++ more) (body_in body.new)) (λ f. Fails whole f) }
+    ensures goes { (whole : Result Reading McsFault) (more : List ℕ) → body.old.count + length piece.now < 2 ^ 63 → Goes whole (held.old.items ++ (piece.now ++ more)) (body_in body.old)
+        → MatchResult result (λ _. Goes whole (held.new.items ++ more) (body_in body.new)) (λ f. Fails whole f) }
     ensures free { OnOk result (has_no_end held.new.items ≡ true) }
     ensures few { OnOk result (body.new.count + length held.new.items ≤ body.old.count + (length held.old.items + length piece.now)) }
 {

@@ -1,5 +1,5 @@
 //! The stream of a whole configuration.
-ghost use Rattle.std.specs.Prelude.{◌≡◌, ◌⊎◌, ◌+◌, ◌-◌, ◌*◌, ◌^◌, ◌<◌, ◌≤◌, ◌++◌, ℕ, List, [], ◌∷◌, true, false, length, take, drop, replicate, slice_index, Contains, IfOk, IfErr, OnOk, OnErr};
+ghost use Rattle.std.specs.Prelude.{◌≡◌, ◌⊎◌, ◌+◌, ◌-◌, ◌*◌, ◌^◌, ◌<◌, ◌≤◌, ◌++◌, ℕ, List, [], ◌∷◌, true, false, length, take, drop, replicate, slice_index, Contains, vec_capacity, IfOk, IfErr, OnOk, OnErr};
 ghost use Rattle.x7_crc.specs.Checking.{check_of_bytes};
 ghost use Rattle.x7_memory.specs.Planned.{AreAddressed};
 ghost use Rattle.x7_part.specs.AddressOrder.{addresses_in};
@@ -67,6 +67,8 @@ fn put_settings(out: &mut Vec<u8>, part: &Part) -> Result<(), NoMemory>
     ensures items { OnOk result (out.new.items ≡ out.old.items ++ bytes_of_words (full_settings part.now)) }
     ensures long { OnOk result (length out.new.items ≡ length out.old.items + 76) }
     ensures failed { OnErr result (out.new.items ≡ out.old.items) }
+    ensures room { vec_capacity out.old ≤ vec_capacity out.new }
+    ensures full { OnErr result (vec_capacity out.old < length out.old.items + 76) }
 {
     let words = part.words() * slot_count(part) as u32;
     put_words(
@@ -100,6 +102,8 @@ fn put_opening(out: &mut Vec<u8>, part: &Part) -> Result<(), NoMemory>
     ensures items { OnOk result (out.new.items ≡ out.old.items ++ bytes_of_words (full_opening part.now)) }
     ensures long { OnOk result (length out.new.items ≡ length out.old.items + 116) }
     ensures failed { OnErr result (take (length out.old.items) out.new.items ≡ out.old.items) }
+    ensures room { vec_capacity out.old ≤ vec_capacity out.new }
+    ensures full { OnErr result (vec_capacity out.old < length out.old.items + 116) }
 {
     put_words(out, &HEAD)?;
     put_settings(out, part)?;
@@ -153,6 +157,8 @@ fn put_slots(
     ensures items { OnOk result (out.new.items ≡ out.old.items ++ bytes_of_words (slot_words part.now plan.now (drop from (take to (slots_in part.now))))) }
     ensures few { OnOk result (length out.new.items ≤ length out.old.items + 1020 * (to - from)) }
     ensures failed { OnErr result (take (length out.old.items) out.new.items ≡ out.old.items) }
+    ensures room { vec_capacity out.old ≤ vec_capacity out.new }
+    ensures full { OnErr result (vec_capacity out.old < length out.old.items + 1020 * (to - from)) }
 {
     let first = first_address(part);
     for n in from..to {
@@ -233,6 +239,8 @@ impl<'p> FullStream<'p> {
         ensures plan { self.new.plan ≡ self.old.plan }
         ensures failed { OnErr result (self.new ≡ self.old) }
         ensures kept { OnErr result (out.new.items ≡ out.old.items) }
+        ensures room { vec_capacity out.old ≤ vec_capacity out.new }
+        ensures full { OnErr result (vec_capacity out.old < length out.old.items + piece_limit) }
     {
         if let NextPiece::Nothing = self.next {
             return Ok(false);
@@ -252,6 +260,8 @@ impl<'p> FullStream<'p> {
         ensures writes { IfOk result (Writes self.now out.old.items out.new.items) }
         ensures few { OnOk result (length out.new.items ≤ length out.old.items + piece_limit) }
         ensures failed { OnErr result (take (length out.old.items) out.new.items ≡ out.old.items) }
+        ensures room { vec_capacity out.old ≤ vec_capacity out.new }
+        ensures full { OnErr result (vec_capacity out.old < length out.old.items + piece_limit) }
     {
         match self.next {
             NextPiece::Opening => {
@@ -285,6 +295,8 @@ impl<'p> FullStream<'p> {
         ensures writes { IfOk result (Writes self.now out.old.items out.new.items) }
         ensures few { OnOk result (length out.new.items ≤ length out.old.items + piece_limit) }
         ensures failed { OnErr result (take (length out.old.items) out.new.items ≡ out.old.items) }
+        ensures room { vec_capacity out.old ≤ vec_capacity out.new }
+        ensures full { OnErr result (vec_capacity out.old < length out.old.items + piece_limit) }
     {
         let count = slot_count(self.part);
         let end = count.min(n + PIECE_SLOTS);

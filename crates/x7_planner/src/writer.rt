@@ -79,6 +79,8 @@ pub(crate) fn put_words(out: &mut Vec<u8>, words: &[u32]) -> Result<(), NoMemory
     ensures items { OnOk result (out.new.items ≡ out.old.items ++ bytes_of_words words.now) }
     ensures long { OnOk result (length out.new.items ≡ length out.old.items + 4 * length words.now) }
     ensures failed { OnErr result (out.new.items ≡ out.old.items) }
+    ensures room { vec_capacity out.old ≤ vec_capacity out.new }
+    ensures full { OnErr result (vec_capacity out.old < length out.old.items + 4 * length words.now) }
 {
     let start = out.len();
     match out.resize(start + 4 * words.len(), 0) {

@@ -5,7 +5,7 @@ use Rattle.x7_planner.proofs.SlotLemmas.{all-slots, slot-more, slots-none}
 use Rattle.x7_planner.proofs.whole.put_slots.Goals as goal
 
 pub loop-n-init : goal.loop-n-init
-loop-n-init c = record { order = omega arith; items = slots-none c.args.part.now c.args.plan.now c.args.out.now.items c.args.from; few = omega arith }
+loop-n-init c = record { order = omega arith; items = slots-none c.args.part.now c.args.plan.now c.args.out.now.items c.args.from; few = omega arith; room = omega arith }
 
 pub loop-n-preserved : goal.loop-n-preserved
 loop-n-preserved c = record {
@@ -14,4 +14,5 @@ loop-n-preserved c = record {
       (c.slot_after.ensures ∙ ap (λ t. get_or t c.loop-n.n End) (all-slots c.args.part.now c.first_address-first.result c.loop-n.n c.first_address-first.ensures.part c.first_address-first.ensures.first)) c.loop-n.invariant.items
       (c.in_ok-put_words.ensures.items ∙ ap (λ t. c.loop-n.out.items ++ bytes_of_words t) c.frame_at.ensures.words);
   few = omega (arith, c.in_ok-put_words.ensures.long, c.frame_at.ensures.few, c.loop-n.invariant.few, c.loop-n.invariant.order);
+  room = omega (arith, c.put_words.ensures.room, c.loop-n.invariant.room);
 }

@@ -1,4 +1,4 @@
-use Rattle.std.proofs.Common.{◌≡◌, ◌≤◌, ◌+◌, ◌-◌, ◌*◌, ◌++◌, length, take, drop}
+use Rattle.std.proofs.Common.{◌≡◌, ◌≤◌, ◌+◌, ◌-◌, ◌*◌, ◌++◌, length, take, drop, vec_capacity}
 use Rattle.x7_part.specs.Slots.{slots_in}
 use Rattle.x7_planner.specs.Full.{slot_words}
 use Rattle.x7_planner.specs.Stream.{bytes_of_words}
@@ -9,4 +9,5 @@ invariant-loop-n l = record {
   order : l.from ≤ l.n;
   items : l.out.items ≡ l.fn.out.items ++ bytes_of_words (slot_words l.part l.plan (drop l.from (take l.n (slots_in l.part))));
   few : length l.out.items ≤ length l.fn.out.items + 1020 * (l.n - l.from);
+  room : vec_capacity l.fn.out ≤ vec_capacity l.out;
 }

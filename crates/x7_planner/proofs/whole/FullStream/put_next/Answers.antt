@@ -22,4 +22,6 @@ returns c =
       few = omega (arith, c.in-Ok.ensures.few);
       failed = tt;
       kept = tt;
+      room = omega (arith, c.put.ensures.room);
+      full = tt;
     }
