@@ -132,7 +132,7 @@ pub record Tries (a : Attempting) (flash : List ℕ) (d : DeviceState) (ending :
   pub ending_is : trial.ending ≡ ending
   pub device : IsDeviceOf a.part d trial
 
--- an attempt that took the bytes of a flash from its address to a place, where they are told, and that nothing has ended
+-- an attempt that took the bytes of a flash from its address to a place, where these are known, and that nothing has ended
 pub record Feeds (a : Attempting) (known : Option (List ℕ)) (d : DeviceState) (at : ℕ) : Type 0 where
   pub bytes : List ℕ
   pub stands : DeviceStandsFor a.part a.kept false d bytes
@@ -144,7 +144,7 @@ pub record Feeds (a : Attempting) (known : Option (List ℕ)) (d : DeviceState) 
   pub read : IfKnown known (λ all. bytes ≡ slice_range all a.address at)
   pub none : (k : ℕ) → k < length bytes → ending_at a.part a.kept (take k bytes) ≡ None
 
--- an attempt left a device that stands for the bytes of a flash from an address on, as many as it took, where they are told
+-- an attempt left a device that stands for the bytes of a flash from an address on, as many as it took, where these are known
 pub record Leaves (address : ℕ) (known : Option (List ℕ)) (d : DeviceState) : Type 0 where
   pub part : PartData
   pub kept : Kept

@@ -63,7 +63,7 @@ pub record HasBoot (part : PartData) (flash : List ℕ) : Type 0 where
   pub end : BootEnd
   pub leads : LeadsToEnd part flash (last ∷ older) end
 
--- how an attempt is told
+-- what is said of an attempt: its kind, its address and its ending
 abbrev pub tried : Trial → Tried
 tried t = record { kind = t.kept.kind; address = t.address; ending = t.ending }
 

@@ -77,7 +77,7 @@ pub record TriesUpdate (i : Imaged) (attempts : List Tried) : Type 0 where
   pub more : List Tried
   pub attempts_are : attempts ≡ through_update (place_after i.part i.golden) trial.ending more
 
--- the course of a boot: its attempts as they are told, how it ended, and its last attempt
+-- the course of a boot: its attempts by kind, address and ending, how it ended, and its last attempt
 pub record BootCourse : Type 0 where
   pub attempts : List Tried
   pub end : BootEnd

@@ -6,6 +6,7 @@ pub mod DebugLemmas
 pub mod FeedLemmas
 pub mod FlashLemmas
 pub mod FoundLemmas
+pub mod FullTextLemmas
 pub mod GenerateLemmas
 pub mod McsLemmas
 pub mod PlanLemmas

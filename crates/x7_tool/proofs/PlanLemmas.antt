@@ -1,16 +1,16 @@
 -- A frames text that is read for its plan, and why a plan has no stream.
 use Rattle.std.proofs.Common.{◌≡◌, ◌∙◌, ◌⊎◌, ◌^◌, ◌<◌, inl, inr, ℕ, List, [], ◌∷◌, ◌++◌, Result, Ok, Err, IfOk, IfErr, length, refl, ap, sym, subst, append_assoc, append-nil}
-use Rattle.std.specs.Prelude.{All, Contains}
+use Rattle.std.specs.Prelude.{Contains}
 use Rattle.std.proofs.lemmas.List.Sorted.{All-permutation}
-use Rattle.std.proofs.lemmas.List.Elements.{All-head, All-tail}
 use Rattle.x7_part.specs.AddressOrder.{addresses_in}
 use Rattle.x7_part.specs.Part.{PartData}
-use Rattle.x7_memory.specs.Planned.{PlanData, PlanRow}
+use Rattle.x7_memory.specs.Planned.{AreAddressed, PlanData, PlanRow}
 use Rattle.x7_frames.specs.FramesText.{IsPlanOf}
 use Rattle.x7_frames.specs.Reader.{ReaderState}
 use Rattle.x7_frames.specs.declared.fault.FramesFault.{FramesFault}
 use Rattle.x7_frames.specs.declared.fault.FramesFault.TheVariants as fault
-use Rattle.x7_planner.specs.Refusals.{IsFullFault, IsPartialFault}
+use Rattle.x7_planner.specs.Full.{full_stream}
+use Rattle.x7_planner.specs.Refusals.{IsPartialFault}
 use Rattle.x7_planner.specs.declared.fault.PlanFault.{PlanFault}
 use Rattle.x7_planner.specs.declared.fault.PlanFault.TheVariants as planner
 use Rattle.x7_words.specs.Input.{InputsState, Stays}
@@ -22,23 +22,13 @@ use Rattle.x7_forms.specs.Step.{AnswersAs, AnswersBy, IsDecided, IsPossible, Rea
 use Rattle.x7_forms.proofs.ReadLemmas.{answers_by, answers_end, answers_go, answers_kept, answers_stop, first_of, part_steady, whole_steady}
 use Rattle.x7_tool.specs.Outcome.{IsUnplanned, PlanTexts, PlannedFull, PlannedPartial, frames_event, plan_texts, planner_event, text_limit}
 use Rattle.x7_tool.specs.Planned.{HasNoPlan, IsRead, ReadsPlan}
+use Rattle.x7_tool.specs.FullText.{PlanFor, full_of}
 use Rattle.x7_tool.specs.Ready.{whole_of}
 use Rattle.x7_tool.specs.declared.text.Text.{Text}
 
-between : {X : Type 0} → (P : X → Type 0) (before after : List X) (x : X) → All P (before ++ x ∷ after) → P x
-between P [] after x all = All-head P x after all
-between P (y ∷ before) after x all = between P before after x (All-tail P y (before ++ x ∷ after) all)
-
--- all its addresses are the part's, so only want of memory is left
-pub full_refused : (part : PartData) (text name : List ℕ) (plan : PlanData) (fault : PlanFault) (event : Event) → IsPlanOf part text (Ok plan) → (fault ≡ planner.NoMemory) ⊎ IsFullFault part plan fault
-    → event ≡ planner_event name fault → event ≡ no_memory
-full_refused part text name plan fault event p (inl e) is = is ∙ ap (planner_event name) e
-full_refused part text name plan (planner.Foreign far) event p (inr f) is =
-    let all = All-permutation (λ (row : PlanRow). Contains (addresses_in part) row.far) p.rows plan.rows p.same p.good.addresses in
-    absurd (f.foreign (between (λ (row : PlanRow). Contains (addresses_in part) row.far) f.before f.after f.row (subst (λ (rows : List PlanRow). All (λ (row : PlanRow). Contains (addresses_in part) row.far) rows) f.split all)))
-full_refused part text name plan planner.Empty event p (inr f) is = absurd f
-full_refused part text name plan (planner.Range n) event p (inr f) is = absurd f
-full_refused part text name plan planner.NoMemory event p (inr f) is = absurd f
+-- all its addresses are the part's
+pub plan_addressed : (part : PartData) (text : List ℕ) (plan : PlanData) → IsPlanOf part text (Ok plan) → AreAddressed part plan.rows
+plan_addressed part text plan p = All-permutation (λ (row : PlanRow). Contains (addresses_in part) row.far) p.rows plan.rows p.same p.good.addresses
 
 -- ---- a text that is read
 
@@ -115,11 +105,10 @@ module _ (part frames : List ℕ) (old mid new : InputsState) (Next : Result Pla
       let can = no_plan frames p text event why in
       planned_end p text (Err event) stays h whole (inr (can.0, can.1, faulty text why))
 
-pub full_ended : (name : List ℕ) (part : PartData) (text : List ℕ) (plan : PlanData) (r : Result Text Refusal) → IsPlanOf part text (Ok plan)
-    → IfOk r (λ end. (t : List ℕ) → IsPlanOf part t (Ok plan) → PlannedFull name (Ok (record { part = part; text = t })) (Ok (whole_of end))) → IfErr r (λ x. (t : List ℕ) → IsPlanOf part t (Ok plan) → event_of x ≡ no_memory)
-    → (seen whole_of r ≡ Err no_memory) ⊎ (IsPossible (seen whole_of r) × IsDecided (seen whole_of r) × PlannedFull name (Ok (record { part = part; text = text })) (seen whole_of r))
-full_ended name part text plan (Ok end) is ok err = inr (tt, tt, ok text is)
-full_ended name part text plan (Err x) is ok err = inl (ap Err (err text is))
+pub full_ended : (name : List ℕ) (part : PartData) (text : List ℕ) (plan : PlanData) (r : Result PlanFor Refusal) → IsPlanOf part text (Ok plan) → IfOk r (λ t. t.part ≡ part) → IfOk r (λ t. t.plan ≡ plan) → IfErr r (λ x. event_of x ≡ no_memory)
+    → (seen full_of r ≡ Err no_memory) ⊎ (IsPossible (seen full_of r) × IsDecided (seen full_of r) × PlannedFull name (Ok (record { part = part; text = text })) (seen full_of r))
+full_ended name part text plan (Ok t) is same as_planned err = inr (tt, tt, (refl, plan, is, ap (λ p. full_stream p t.plan) same ∙ ap (full_stream part) as_planned))
+full_ended name part text plan (Err x) is same as_planned err = inl (ap Err err)
 
 pub partial_ended : (name : List ℕ) (part : PartData) (text : List ℕ) (plan : PlanData) (r : Result Text Refusal) → IsPlanOf part text (Ok plan)
     → IfOk r (λ end. (t : List ℕ) → IsPlanOf part t (Ok plan) → PlannedPartial name (Ok (record { part = part; text = t })) (Ok (whole_of end)))

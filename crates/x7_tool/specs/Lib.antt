@@ -1,6 +1,7 @@
 pub mod Ahead
 pub mod BootText
 pub mod Debug
+pub mod FullText
 pub mod Generated
 pub mod Leaving
 pub mod Outcome

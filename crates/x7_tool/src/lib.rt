@@ -6,6 +6,7 @@ mod attach;
 mod boot;
 mod debug;
 mod feeding;
+mod full_text;
 mod generate;
 mod image;
 mod list;

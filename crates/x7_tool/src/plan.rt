@@ -6,20 +6,22 @@ ghost use Rattle.x7_memory.specs.Planned.{PlanData};
 ghost use Rattle.x7_frames.specs.FramesText.{IsPlanOf};
 ghost use Rattle.x7_forms.specs.Message.{event_of};
 ghost use Rattle.x7_forms.specs.Event.{no_memory};
-ghost use Rattle.x7_tool.specs.Outcome.{PlannedFull, PlannedPartial, PlannedRead, frames_event, planner_event, text_limit};
+ghost use Rattle.x7_tool.specs.Outcome.{PlannedPartial, PlannedRead, frames_event, planner_event, text_limit};
 ghost use Rattle.x7_forms.specs.Form.{PlanningFull, PlanningPartial, PlanningRead};
 ghost use Rattle.x7_tool.specs.Planned.{IsRead, HasNoPlan, ReadsPlan};
+ghost use Rattle.x7_tool.specs.FullText.{full_of};
 ghost use Rattle.x7_tool.specs.Ready.{whole_of};
 ghost use Rattle.x7_forms.specs.Step.{ReadsWhole, seen};
 ghost use Rattle.x7_tool.specs.Run.{AnswersForm};
 
+use crate::full_text::FullText;
 use crate::text::Text;
 use std::alloc::Global;
 use x7_forms::{InputFault, Refusal, TEXT_LIMIT, TURN, Why, next_turn, open, read_part};
 use x7_frames::{FramesFault, FramesReader};
 use x7_memory::Plan;
 use x7_part::Part;
-use x7_planner::{PlanFault, full, partial, readback};
+use x7_planner::{PlanFault, partial, readback};
 use x7_words::Inputs;
 
 /// Why a frames text gives no plan.
@@ -136,34 +138,14 @@ fn read_plan<'w, I: Inputs>(
     plan_of_lines(read, name)
 }
 
-/// The full stream of the plan of a frames text.
-fn full_text<'w>(
-    alloc: Global,
-    part: &Part,
-    plan: &Plan,
-    frames: &'w str,
-) -> Result<Text, Refusal<'w>>
-    requires { plan.now.width ≡ frame_words part.now }
-    ensures ok { IfOk result (λ end. (text : List ℕ) → IsPlanOf part.now text (Ok plan.now) → PlannedFull frames.now (Ok (record { part = part.now; text = text })) (Ok (whole_of end))) }
-    ensures err { IfErr result (λ r. (text : List ℕ) → IsPlanOf part.now text (Ok plan.now) → event_of r ≡ no_memory) }
-{
-    match full(alloc, part, plan) {
-        Ok(text) => Ok(Text {
-            stopped: false,
-            text,
-        }),
-        Err(fault) => Err(planner_refusal(frames, fault)),
-    }
-}
-
 /// The stream of `plan full PART FRAMES`.
 pub(crate) fn plan_full<'w, I: Inputs>(
     alloc: Global,
     inputs: &mut I,
     part: &'w str,
     frames: &'w str,
-) -> Result<Text, Refusal<'w>>
-    ensures due { AnswersForm (PlanningFull part.now frames.now) (I.state inputs.old) (I.state inputs.new) (seen whole_of result) }
+) -> Result<FullText, Refusal<'w>>
+    ensures due { AnswersForm (PlanningFull part.now frames.now) (I.state inputs.old) (I.state inputs.new) (seen full_of result) }
     ensures inputs { Stays (I.state inputs.old) (I.state inputs.new) }
 {
     let known = match read_part(alloc, inputs, part) {
@@ -174,7 +156,7 @@ pub(crate) fn plan_full<'w, I: Inputs>(
         Ok(plan) => plan,
         Err(refusal) => return Err(refusal),
     };
-    full_text(alloc, &known, &plan, frames)
+    FullText::new(alloc, known, plan)
 }
 
 /// The partial stream of the plan of a frames text.

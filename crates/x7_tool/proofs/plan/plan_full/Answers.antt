@@ -2,8 +2,8 @@ use Rattle.std.proofs.Common.{refl}
 use Rattle.x7_forms.specs.Message.{event_of}
 use Rattle.x7_forms.specs.Step.{seen}
 use Rattle.x7_tool.specs.Outcome.{PlannedFull}
-use Rattle.x7_tool.specs.Ready.{whole_of}
-use Rattle.x7_tool.proofs.PlanLemmas.{full_ended, part_refused, plan_refused, planned_end}
+use Rattle.x7_tool.specs.FullText.{full_of}
+use Rattle.x7_tool.proofs.PlanLemmas.{full_ended, part_refused, plan_addressed, plan_refused, planned_end}
 use Rattle.x7_tool.proofs.plan.plan_full.Goals as goal
 
 pub returns-in-Err-clause-due : goal.returns-in-Err-clause-due
@@ -21,5 +21,8 @@ pub returns-clause-due : goal.returns-clause-due
 returns-clause-due g c =
     let i = g.I.Inputs in
     let t = c.in-Ok-read_plan.ensures.due in
-    planned_end c.args.part.now c.args.frames.now (i.state c.args.inputs.now) (i.state c.read_part.new.inputs) (i.state c.read_plan.new.inputs) (PlannedFull c.args.frames.now) (λ x. refl) c.in-Ok.known t.0 (seen whole_of c.full_text.result)
-    c.read_part.ensures.inputs c.in-Ok.ensures.due t.1 (full_ended c.args.frames.now c.in-Ok.known t.0 c.in-Ok-read_plan.plan c.full_text.result t.2 c.full_text.ensures.ok c.full_text.ensures.err)
+    planned_end c.args.part.now c.args.frames.now (i.state c.args.inputs.now) (i.state c.read_part.new.inputs) (i.state c.read_plan.new.inputs) (PlannedFull c.args.frames.now) (λ x. refl) c.in-Ok.known t.0 (seen full_of c.new.result)
+    c.read_part.ensures.inputs c.in-Ok.ensures.due t.1 (full_ended c.args.frames.now c.in-Ok.known t.0 c.in-Ok-read_plan.plan c.new.result t.2 c.new.ensures.part c.new.ensures.plan c.new.ensures.err)
+
+pub new-requires-clause-addresses : goal.new-requires-clause-addresses
+new-requires-clause-addresses g c = let t = c.in-Ok-read_plan.ensures.due in plan_addressed c.in-Ok.known t.0 c.in-Ok-read_plan.plan t.2

@@ -3,6 +3,7 @@ use Rattle.x7_forms.specs.Form.{Assembling, Booting, Debugging, FromMcs, Generat
 use Rattle.x7_tool.specs.Play.{text_of_play}
 use Rattle.x7_forms.specs.Step.{seen}
 use Rattle.x7_tool.specs.Outside.{outside}
+use Rattle.x7_tool.specs.FullText.{full_of}
 use Rattle.x7_tool.specs.Ready.{whole_of, text_of_image}
 use Rattle.x7_tool.specs.Run.{EndsAs}
 use Rattle.x7_tool.proofs.FlashLemmas.{uses_read, uses_same}
@@ -57,7 +58,7 @@ returns-in-Unmcs-clause-ends g c = λ e f.
 pub returns-in-PlanFull-clause-ends : goal.returns-in-PlanFull-clause-ends
 returns-in-PlanFull-clause-ends g c = λ e f.
     let flash = g.F.Flash.state c.args.flash.now in
-    ready_ends _ (PlanningFull c.in-PlanFull.part.now c.in-PlanFull.frames.now) (outside (g.I.Inputs.state c.args.inputs.now) flash (g.O.Sink.state c.args.out.now) e) (outside (g.I.Inputs.state c.plan_full.new.inputs) flash (g.O.Sink.state c.put_whole-in-PlanFull.new.out) f) (seen whole_of c.plan_full.result) _
+    ready_ends _ (PlanningFull c.in-PlanFull.part.now c.in-PlanFull.frames.now) (outside (g.I.Inputs.state c.args.inputs.now) flash (g.O.Sink.state c.args.out.now) e) (outside (g.I.Inputs.state c.plan_full.new.inputs) flash (g.O.Sink.state c.put_whole-in-PlanFull.new.out) f) (seen full_of c.plan_full.result) _
     (sym c.words_of.ensures ∙ ap asked c.in-Some.is ∙ ap (λ f. Some (asked_by f)) c.in-PlanFull.is) refl refl c.plan_full.ensures.due c.put_whole-in-PlanFull.ensures
 
 pub returns-in-PlanPartial-clause-ends : goal.returns-in-PlanPartial-clause-ends

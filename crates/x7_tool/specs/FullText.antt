@@ -1,0 +1,22 @@
+-- The text of `plan full`, which is made as it is written.
+use Rattle.std.specs.Prelude.{◌≡◌, ℕ, ◌≤◌, false}
+use Rattle.x7_part.specs.Part.{PartData, frame_words}
+use Rattle.x7_memory.specs.Planned.{AreAddressed, PlanData}
+use Rattle.x7_planner.specs.Full.{full_stream}
+use Rattle.x7_planner.specs.Telling.{piece_limit}
+use Rattle.x7_forms.specs.Known.{Answer}
+
+-- a part, and a plan for it
+pub record PlanFor : Type 0 where
+  pub part : PartData
+  pub plan : PlanData
+
+-- the plan is one for the part, and there is room for a piece of its stream
+pub record IsPlanned (t : PlanFor) (capacity : ℕ) : Type 0 where
+  pub width : t.plan.width ≡ frame_words t.part
+  pub addresses : AreAddressed t.part t.plan.rows
+  pub room : piece_limit ≤ capacity
+
+-- the full stream of the plan as an answer
+abbrev pub full_of : PlanFor → Answer
+full_of t = record { stopped = false; text = full_stream t.part t.plan }

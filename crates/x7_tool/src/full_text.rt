@@ -1,0 +1,116 @@
+//! The text of `plan full`, which is made as it is written.
+ghost use Rattle.std.specs.Prelude.{◌≡◌, ◌≤◌, [], vec_capacity, IfOk, IfErr, OnErr, OnOk};
+ghost use Rattle.x7_words.specs.Sink.{PutsAll, PutsSome, SinkFails};
+ghost use Rattle.x7_part.specs.Part.{frame_words};
+ghost use Rattle.x7_memory.specs.Planned.{AreAddressed};
+ghost use Rattle.x7_planner.specs.Full.{full_stream};
+ghost use Rattle.x7_planner.specs.Telling.{HasGiven, piece_limit};
+ghost use Rattle.x7_forms.specs.Event.{no_memory};
+ghost use Rattle.x7_forms.specs.Message.{event_of};
+ghost use Rattle.x7_tool.specs.FullText.{full_of};
+
+use crate::text::Ready;
+use std::alloc::Global;
+use std::marker::Model;
+use x7_forms::{Refusal, Why};
+use x7_memory::Plan;
+use x7_part::Part;
+use x7_planner::FullStream;
+use x7_words::{Failed, Sink, write_all};
+
+/// The most bytes of a piece of a full stream.
+const MOST_BYTES: usize = 163_200;
+
+/// A part, a plan for it, and room for a piece of its full stream.
+#[derive(Drop)]
+pub(crate) struct FullText {
+    part: Part,
+    plan: Plan,
+    block: Vec<u8>,
+}
+
+impl Model for FullText {
+    ghost use Rattle.std.specs.Prelude.{vec_capacity};
+    ghost use Rattle.x7_tool.specs.FullText.{IsPlanned, PlanFor};
+
+    ghost Value = { PlanFor };
+
+    ghost view = { λ t. record { part = t.part; plan = t.plan } };
+
+    ghost invariant = { λ t. IsPlanned record { part = t.part; plan = t.plan } (vec_capacity t.block) };
+}
+
+impl FullText {
+    /// The full stream of a plan at the part's addresses.
+    pub(crate) fn new<'w>(alloc: Global, part: Part, plan: Plan) -> Result<FullText, Refusal<'w>>
+        requires width { plan.width ≡ frame_words part }
+        requires addresses { AreAddressed part plan.rows }
+        ensures part { IfOk result (λ text. text.part ≡ part) }
+        ensures plan { IfOk result (λ text. text.plan ≡ plan) }
+        ensures err { IfErr result (λ r. event_of r ≡ no_memory) }
+    {
+        match Vec::with_capacity(alloc, MOST_BYTES) {
+            Ok(block) => Ok(FullText { part, plan, block }),
+            Err(_) => Err(Refusal::unnamed(Why::NoMemory)),
+        }
+    }
+}
+
+/// Writes the pieces of a full stream, each once it is made.
+fn write_pieces<O: Sink>(
+    stream: FullStream<'_>,
+    block: &mut Vec<u8>,
+    out: &mut O,
+) -> Result<(), Failed>
+    requires given { HasGiven stream [] }
+    requires room { piece_limit ≤ vec_capacity block.old }
+    ensures whole { OnOk result (PutsAll (O.state out.old) (full_stream stream.entry.part stream.entry.plan) (O.state out.new)) }
+    ensures prefix { PutsSome (O.state out.old) (full_stream stream.entry.part stream.entry.plan) (O.state out.new) }
+    ensures failed { OnErr result (SinkFails (O.state out.old) (O.state out.new)) }
+    ensures room { piece_limit ≤ vec_capacity block.new }
+{
+    let mut stream = stream;
+    loop {
+        block.clear();
+        let Ok(more) = stream.put_next(block) else {
+            unreachable!()
+        };
+        if !more {
+            return Ok(());
+        }
+        write_all(out, block)?;
+    }
+}
+
+/// Writes the full stream of a plan. It takes no memory.
+fn write_full<O: Sink>(
+    part: &Part,
+    plan: &Plan,
+    block: &mut Vec<u8>,
+    out: &mut O,
+) -> Result<(), Failed>
+    requires width { plan.now.width ≡ frame_words part.now }
+    requires addresses { AreAddressed part.now plan.now.rows }
+    requires room { piece_limit ≤ vec_capacity block.old }
+    ensures whole { OnOk result (PutsAll (O.state out.old) (full_stream part.now plan.now) (O.state out.new)) }
+    ensures prefix { PutsSome (O.state out.old) (full_stream part.now plan.now) (O.state out.new) }
+    ensures failed { OnErr result (SinkFails (O.state out.old) (O.state out.new)) }
+    ensures room { piece_limit ≤ vec_capacity block.new }
+{
+    let Ok(stream) = FullStream::new(part, plan) else {
+        unreachable!()
+    };
+    write_pieces(stream, block, out)
+}
+
+impl Ready for FullText {
+    ghost answer = { full_of };
+
+    fn is_stopped(&self) -> bool {
+        false
+    }
+
+    fn write<O: Sink>(&mut self, out: &mut O) -> Result<(), Failed> {
+        write_full(&self.part, &self.plan, &mut self.block, out)
+    }
+}
