@@ -39,7 +39,7 @@ later p more = record { part = p.part; kept = p.kept; wrapped = p.wrapped; bytes
 abbrev pub HasPast : DeviceState → Past → Type 0
 HasPast d p = DeviceStandsFor p.part p.kept p.wrapped d p.bytes
 
--- what holds of a past that the device has
+-- what holds of each past that the device has
 abbrev pub OfPast : DeviceState → (Past → Type 0) → Type 0
 OfPast d Fact = (part : PartData) (kept : Kept) (wrapped : Bool) (bytes : List ℕ) → DeviceStandsFor part kept wrapped d bytes → Fact (record { part = part; kept = kept; wrapped = wrapped; bytes = bytes })
 

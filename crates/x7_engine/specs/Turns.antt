@@ -5,7 +5,7 @@ use Rattle.x7_engine.specs.Standing.{DeviceState}
 use Rattle.x7_engine.specs.UntilStarted.{CommandsLast}
 
 -- its part stays, it takes just these bytes and gives no word, and none of them but the last ends a write to CMD, a read or a word that is no header
-pub record Turns (old new : DeviceState) (more : List ℕ) : Type 0 where
+pub record TakesTurn (old new : DeviceState) (more : List ℕ) : Type 0 where
   pub part : new.part ≡ old.part
   pub stands : Takes old new more
   pub silent : GivesNone old new more

@@ -12,7 +12,7 @@ ghost use Rattle.x7_engine.specs.ReadBuffer.{IsFull, with_words};
 ghost use Rattle.x7_engine.specs.Standing.{DeviceStandsFor, MayWrap, NoWordDue, due_count, fed_by, fed_more, fed_of, frames_due, taken_in, reads_given, with_wrap};
 ghost use Rattle.x7_engine.specs.State.{attempt_in, end_by, kept_after, why_of, memory_in, state_of, state_owing, stop_in};
 ghost use Rattle.x7_engine.specs.Stops.{fault_of};
-ghost use Rattle.x7_engine.specs.Turns.{Turns};
+ghost use Rattle.x7_engine.specs.Turns.{TakesTurn};
 ghost use Rattle.x7_engine.specs.Values.{cause_of};
 ghost use Rattle.x7_engine.specs.declared.fault.Fault.{Fault as FaultData};
 ghost use Rattle.x7_engine.specs.declared.kept.Kept.{Kept as KeptData};
@@ -261,7 +261,7 @@ impl Device {
         ensures within { at.new ≤ length piece.now }
         ensures taken { self.new.taken ≡ self.old.taken + (at.new - at.old) }
         ensures fed { fed_of self.new ≡ fed_more self.old (at.new - at.old) }
-        ensures turns { Turns self.old self.new (between piece.now at.old at.new) }
+        ensures turns { TakesTurn self.old self.new (between piece.now at.old at.new) }
         ensures used_up { IsTrue result → (at.new ≡ length piece.now) × (self.new.registers.stop ≡ None) × NoWordDue self.new }
         ensures goes { result ≡ false → self.new.registers.stop ≡ None
             → calls_left self.new.cutter (length piece.now - at.new) < calls_left self.old.cutter (length piece.now - at.old) }
@@ -289,7 +289,7 @@ impl Device {
         ensures taken { self.new.taken ≡ self.old.taken + (at.new - at.old) }
         ensures fed { fed_of self.new ≡ fed_more self.old (at.new - at.old) }
         ensures due { NoWordDue self.new }
-        ensures turns { IsTrue result → Turns self.old self.new (between piece.now at.old at.new) }
+        ensures turns { IsTrue result → TakesTurn self.old self.new (between piece.now at.old at.new) }
     {
         if !self.registers.clock.is_idle() {
             return false;
@@ -304,7 +304,8 @@ impl Device {
         true
     }
 
-    /// Takes a write of one word at once, where one comes next that lies whole in the piece, or else as `take_next` does.
+    /// Takes a write of one word at once, where one comes next that lies whole in the piece and no byte moves the clock, or else as
+    /// `take_next` does.
     #[inline(always)]
     fn turn(&mut self, piece: &[u8], at: &mut usize) -> bool
         requires within { at.old ≤ length piece.now }
@@ -315,7 +316,7 @@ impl Device {
         ensures within { at.new ≤ length piece.now }
         ensures taken { self.new.taken ≡ self.old.taken + (at.new - at.old) }
         ensures fed { fed_of self.new ≡ fed_more self.old (at.new - at.old) }
-        ensures turns { Turns self.old self.new (between piece.now at.old at.new) }
+        ensures turns { TakesTurn self.old self.new (between piece.now at.old at.new) }
         ensures used_up { IsTrue result → (at.new ≡ length piece.now) × (self.new.registers.stop ≡ None) × NoWordDue self.new }
         ensures goes { result ≡ false → self.new.registers.stop ≡ None
             → calls_left self.new.cutter (length piece.now - at.new) < calls_left self.old.cutter (length piece.now - at.old) }
@@ -338,7 +339,7 @@ impl Device {
         ensures within { at.new ≤ length piece.now }
         ensures taken { self.new.taken ≡ self.old.taken + (at.new - at.old) }
         ensures fed { fed_of self.new ≡ fed_more self.old (at.new - at.old) }
-        ensures turns { Turns self.old self.new (between piece.now at.old at.new) }
+        ensures turns { TakesTurn self.old self.new (between piece.now at.old at.new) }
         ensures used_up { IsTrue result → (at.new ≡ length piece.now) × (self.new.registers.stop ≡ None) × NoWordDue self.new }
         ensures goes { result ≡ false → self.new.registers.stop ≡ None
             → calls_left self.new.cutter (length piece.now - at.new) < calls_left self.old.cutter (length piece.now - at.old) }

@@ -1,16 +1,16 @@
 -- The text of a plan is read back as the plan.
-use Rattle.std.proofs.Common.{◌≡◌, ◌⊎◌, inl, inr, ℕ, ◌*◌, ◌/◌, ◌%◌, ◌^◌, Bool, true, false, List, [], ◌∷◌, ◌++◌, length, map, refl, sym, subst, ap, ap₂, ◌∙◌, arith, append_assoc, append-nil, codes}
-use Rattle.std.specs.Prelude.{All, Result, Ok, Err, MatchResult, if◌then◌else◌, ◌==◌}
+use Rattle.std.proofs.Common.{◌≡◌, ◌⊎◌, inl, inr, ℕ, ◌*◌, true, List, [], ◌∷◌, ◌++◌, length, map, refl, sym, subst, ap, ap₂, ◌∙◌, arith, append_assoc, append-nil, codes}
+use Rattle.std.specs.Prelude.{All, Result, Ok, Err, MatchResult}
 use Rattle.std.specs.List.{flat_map, AllByRecursion}
-use Rattle.std.proofs.lemmas.Grind.{common_steps}
 use Rattle.std.proofs.lemmas.List.Elements.{All-head, All-tail}
 use Rattle.std.proofs.lemmas.List.Sorted.{IsPermutation-refl}
 use Rattle.x7_words.specs.Word.{bytes_of_word, words_of_bytes}
-use Rattle.x7_text.specs.Digits.{hex_digit, hex_word}
+use Rattle.x7_text.specs.Digits.{hex_word}
 use Rattle.x7_text.specs.EitherCase.{pairs}
 use Rattle.x7_text.specs.Lines.{has_no_end, split}
 use Rattle.x7_words.proofs.WordLemmas.{bytes-fit, length-bytes, words-back}
 use Rattle.x7_text.proofs.CaseLemmas.{pairs-back}
+use Rattle.x7_text.proofs.PieceLemmas.{free-both, word-free}
 use Rattle.x7_text.proofs.ReadRowLemmas.{hex-words}
 use Rattle.x7_text.proofs.SplitLemmas.{split-ended}
 use Rattle.x7_part.specs.Part.{PartData, frame_words}
@@ -21,27 +21,6 @@ use Rattle.x7_frames.specs.declared.fault.FramesFault.TheVariants as fault
 use Rattle.x7_frames.proofs.OneLemmas.{no-fault, one-plan}
 
 -- ---- texts that hold no line end
-
-free-by : (b : Bool) (xs ys : List ℕ) → (if b then false else has_no_end xs) ≡ true → (has_no_end xs ≡ true → has_no_end (xs ++ ys) ≡ true) → (if b then false else has_no_end (xs ++ ys)) ≡ true
-free-by true xs ys h f = absurd cc
-free-by false xs ys h f = f h
-
-pub free-both : (xs ys : List ℕ) → has_no_end xs ≡ true → has_no_end ys ≡ true → has_no_end (xs ++ ys) ≡ true
-free-both [] ys h k = k
-free-both (x ∷ xs) ys h k = free-by (x == 10) xs ys h (λ g. free-both xs ys g k)
-
-free-more : (x : ℕ) (xs : List ℕ) → (x == 10) ≡ false → has_no_end xs ≡ true → has_no_end (x ∷ xs) ≡ true
-free-more x xs e h = rw e h
-
-digit-free : (n : ℕ) → (hex_digit n == 10) ≡ false
-digit-free n = grind (arith, common_steps)
-
-digits-free : (ns : List ℕ) → has_no_end (map hex_digit ns) ≡ true
-digits-free [] = refl
-digits-free (n ∷ ns) = free-more (hex_digit n) (map hex_digit ns) (digit-free n) (digits-free ns)
-
-word-free : (w : ℕ) → has_no_end (hex_word w) ≡ true
-word-free w = digits-free (w / 2 ^ 28 % 16 ∷ w / 2 ^ 24 % 16 ∷ w / 2 ^ 20 % 16 ∷ w / 2 ^ 16 % 16 ∷ w / 2 ^ 12 % 16 ∷ w / 2 ^ 8 % 16 ∷ w / 2 ^ 4 % 16 ∷ w % 16 ∷ [])
 
 words-free : (ws : List ℕ) → has_no_end (flat_map hex_word ws) ≡ true
 words-free [] = refl

@@ -1,8 +1,8 @@
 -- A reader that takes a text piece by piece.
-use Rattle.std.proofs.Common.{◌≡◌, ◌==◌, if◌then◌else◌, ◌⊎◌, inl, inr, ℕ, ◌+◌, ◌^◌, ◌<◌, ◌≤◌, Bool, true, false, List, [], ◌∷◌, ◌++◌, Option, None, Some, MatchOption, Bor, Result, Ok, Err, IfOk, IfErr, OnOk, MatchResult, length, refl, ap, sym, subst, ◌∙◌, arith, append_assoc, append-nil, length-append}
-use Rattle.std.specs.List.{AllByRecursion}
-use Rattle.x7_text.specs.Lines.{has_no_end, joined, on_first, split}
-use Rattle.x7_text.proofs.SplitLemmas.{joined-split, split-free, split-line}
+use Rattle.std.proofs.Common.{◌≡◌, ◌⊎◌, inl, inr, ℕ, ◌+◌, ◌^◌, ◌<◌, ◌≤◌, true, List, [], ◌∷◌, ◌++◌, Option, None, Bor, Result, Ok, Err, IfOk, IfErr, OnOk, MatchResult, length, refl, ap, sym, subst, ◌∙◌, arith, append_assoc, append-nil, length-append}
+use Rattle.x7_text.specs.Lines.{has_no_end, split}
+use Rattle.x7_text.proofs.PieceLemmas.{at-none, FirstLine, first-free, free-both, only-line, some-line, split-alone}
+use Rattle.x7_text.proofs.SplitLemmas.{split-line}
 use Rattle.x7_part.specs.Part.{PartData, frame_words}
 use Rattle.x7_memory.specs.Planned.{AreApart, PlanData, PlanRow}
 use Rattle.x7_frames.specs.FramesText.{AreGood, IsPlanOf}
@@ -10,52 +10,12 @@ use Rattle.x7_frames.specs.Reader.{FailsAtLine, FailsIn, IsSound, ReaderStandsFo
 use Rattle.x7_frames.specs.Steps.{Goes, HasMarks, IsFaultAt, Takes}
 use Rattle.x7_frames.specs.declared.fault.FramesFault.{FramesFault}
 use Rattle.x7_frames.specs.declared.fault.FramesFault.TheVariants as fault
-use Rattle.x7_frames.proofs.BackLemmas.{free-both}
 use Rattle.x7_frames.proofs.GoodLemmas.{apart-takes, fails-there, goes-on, last-good, starts}
 
 -- ---- the lines of a text
 
--- what the first line and the text after it are
-abbrev pub FirstLine : List ℕ → List ℕ → Option (Bor (List ℕ)) → Type 0
-FirstLine text t o = MatchOption o (split text ≡ t ∷ []) (λ more. (split text ≡ t ∷ split more.now) × (length more.now < length text))
-
-pub at-some : (text t : List ℕ) (o : Option (Bor (List ℕ))) (x : Bor (List ℕ)) → o ≡ Some x → FirstLine text t o → (split text ≡ t ∷ split x.now) × (length x.now < length text)
-at-some text t o x e h = subst (λ p. FirstLine text t p) e h
-
-pub at-none : (text t : List ℕ) (o : Option (Bor (List ℕ))) → o ≡ None → FirstLine text t o → split text ≡ t ∷ []
-at-none text t o e h = subst (λ p. FirstLine text t p) e h
-
-first-free : (text t : List ℕ) (ts : List (List ℕ)) → split text ≡ t ∷ ts → has_no_end t ≡ true
-first-free text t ts e = (subst (AllByRecursion (λ line. has_no_end line ≡ true)) e (split-free text)).0
-
--- the only line of a text is the text
-only-line : (text t : List ℕ) → split text ≡ t ∷ [] → text ≡ t
-only-line text t e = sym (joined-split text) ∙ ap joined e
-
 pub only-free : (text t : List ℕ) (o : Option (Bor (List ℕ))) → o ≡ None → FirstLine text t o → has_no_end t ≡ true
 only-free text t o e h = first-free text t [] (at-none text t o e h)
-
-joined-ahead : (t : List ℕ) (ts : List (List ℕ)) → (ts ≡ [] → ⊥) → joined (t ∷ ts) ≡ t ++ 10 ∷ joined ts
-joined-ahead t [] h = absurd (h refl)
-joined-ahead t (u ∷ us) h = refl
-
-none-split : (t : List ℕ) → split t ≡ [] → ⊥
-none-split t e =
-    let empty : t ≡ [] = sym (joined-split t) ∙ ap joined e in
-    let one : ◌≡◌ {A = List (List ℕ)} ([] ∷ []) [] = sym (ap split empty) ∙ e in absurd cc
-
--- the first of several lines, its end and the others are the text
-some-line : (text t more : List ℕ) → split text ≡ t ∷ split more → text ≡ t ++ 10 ∷ more
-some-line text t more e =
-    sym (joined-split text) ∙ ap joined e ∙ joined-ahead t (split more) (none-split more) ∙ ap (λ s. t ++ 10 ∷ s) (joined-split more)
-
-alone-by : (b : Bool) (c : ℕ) (cs : List ℕ) → (if b then false else has_no_end cs) ≡ true → (has_no_end cs ≡ true → split cs ≡ cs ∷ []) → (if b then [] ∷ split cs else on_first c (split cs)) ≡ (c ∷ cs) ∷ []
-alone-by true c cs h f = absurd cc
-alone-by false c cs h f = ap (on_first c) (f h)
-
-split-alone : (t : List ℕ) → has_no_end t ≡ true → split t ≡ t ∷ []
-split-alone [] h = refl
-split-alone (c ∷ cs) h = alone-by (c == 10) c cs h (split-alone cs)
 
 whole-line : (held line more : List ℕ) → has_no_end held ≡ true → has_no_end line ≡ true → split (held ++ (line ++ 10 ∷ more)) ≡ (held ++ line) ∷ split more
 whole-line held line more f g = ap split (sym (append_assoc held line (10 ∷ more))) ∙ split-line (held ++ line) more (free-both held line f g)
@@ -125,7 +85,7 @@ fed-none a piece = record { prefix = []; split_is = refl; takes = λ text fits s
 
 pub fed-line : (a b c : ReaderState) (piece rest line after : List ℕ) → c.part ≡ b.part → split rest ≡ line ∷ split after → TakesLine b c line → HasFed a b piece rest → HasFed a c piece after
 fed-line a b c piece rest line after part e t f =
-    let q : rest ≡ line ++ 10 ∷ after = some-line rest line after e in
+    let q : rest ≡ line ++ 10 ∷ after = (some-line rest line after e).0 in
     record {
       prefix = f.prefix ++ (line ++ 10 ∷ []);
       split_is = f.split_is ∙ ap (λ t. f.prefix ++ t) (q ∙ sym (append_assoc line (10 ∷ []) after)) ∙ sym (append_assoc f.prefix (line ++ 10 ∷ []) after);
@@ -140,13 +100,13 @@ fed-line a b c piece rest line after part e t f =
 
 pub fed-end : (a b c : ReaderState) (piece rest line : List ℕ) → split rest ≡ line ∷ [] → TakesPiece b c line → HasFed a b piece rest → TakesPiece a c piece
 fed-end a b c piece rest line e t f = λ text fits s.
-    let whole : (text ++ f.prefix) ++ line ≡ text ++ piece = append_assoc text f.prefix line ∙ ap (λ x. text ++ (f.prefix ++ x)) (sym (only-line rest line e)) ∙ ap (λ x. text ++ x) (sym f.split_is) in
+    let whole : (text ++ f.prefix) ++ line ≡ text ++ piece = append_assoc text f.prefix line ∙ ap (λ x. text ++ (f.prefix ++ x)) (sym (only-line rest line e).0) ∙ ap (λ x. text ++ x) (sym f.split_is) in
     subst (ReaderStandsFor c) whole (t (text ++ f.prefix) (subst (λ x. length x < 2 ^ 63) (sym whole) fits) (f.takes text fits s))
 
 pub fed-fault : (a b : ReaderState) (piece rest line after : List ℕ) (f : FramesFault) → b.part ≡ a.part → split rest ≡ line ∷ split after → HasFed a b piece rest → FailsAtLine b line f → FailsIn a piece f
 fed-fault a b piece rest line after f part e h (inl none) = inl none
 fed-fault a b piece rest line after f part e h (inr fails) = inr (λ text more fits s.
-    let q : rest ≡ line ++ 10 ∷ after = some-line rest line after e in
+    let q : rest ≡ line ++ 10 ∷ after = (some-line rest line after e).0 in
     let whole : (text ++ h.prefix) ++ (line ++ 10 ∷ (after ++ more)) ≡ (text ++ piece) ++ more =
     ap (λ x. (text ++ h.prefix) ++ x) (sym (append_assoc line (10 ∷ after) more) ∙ ap (λ x. x ++ more) (sym q)) ∙ append_assoc text h.prefix (rest ++ more)
     ∙ ap (λ x. text ++ x) (sym (append_assoc h.prefix rest more) ∙ ap (λ x. x ++ more) (sym h.split_is)) ∙ sym (append_assoc text piece more) in

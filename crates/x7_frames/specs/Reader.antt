@@ -58,6 +58,6 @@ FailsAtLine a line f = (f ≡ fault.NoMemory) ⊎ (a.count < 2 ^ 63 → IsFaultA
 abbrev pub TakesPiece : ReaderState → ReaderState → List ℕ → Type 0
 TakesPiece a b piece = (text : List ℕ) → length (text ++ piece) < 2 ^ 63 → ReaderStandsFor a text → ReaderStandsFor b (text ++ piece)
 
--- a fault in what a reader holds and in a piece: that of the whole text, whatever follows
+-- a fault in what a reader holds or in a piece: that of the whole text, whatever follows; want of memory says nothing
 abbrev pub FailsIn : ReaderState → List ℕ → FramesFault → Type 0
 FailsIn a piece f = (f ≡ fault.NoMemory) ⊎ ((text more : List ℕ) → length (text ++ piece) < 2 ^ 63 → ReaderStandsFor a text → IsPlanOf a.part ((text ++ piece) ++ more) (Err f))

@@ -33,7 +33,7 @@ IsFaultAt part rows n line (fault.Address m) = (m ≡ n) × IsForeign part line
 IsFaultAt part rows n line (fault.Twice m) = (m ≡ n) × IsRepeated part rows line
 IsFaultAt part rows n line fault.NoMemory = ⊥
 
--- the first lines of the text are good and have these rows, and this text is left
+-- the first lines of the text, so many, are good and have these rows, and this text is left
 pub record Goes (part : PartData) (text rest : List ℕ) (rows : List PlanRow) (count : ℕ) : Type 0 where
   pub lines : List (List ℕ)
   pub texts : split text ≡ lines ++ split rest

@@ -1,12 +1,12 @@
 -- An assembler that takes a text piece by piece.
-use Rattle.std.proofs.Common.{◌≡◌, ◌⊎◌, ◌==◌, if◌then◌else◌, inl, inr, ℕ, ◌+◌, ◌-◌, ◌^◌, ◌<◌, ◌≤◌, Bool, true, false, List, [], ◌∷◌, ◌++◌, Option, None, Some, IfSome, MatchOption, Bor, Result, Ok, Err, IfErr, IfOk, length, take, drop, refl, ap, sym, subst, ◌∙◌, arith, append_assoc, append-nil, length-append, take_all}
+use Rattle.std.proofs.Common.{◌≡◌, ◌⊎◌, inl, inr, ℕ, ◌+◌, ◌-◌, ◌^◌, ◌<◌, ◌≤◌, Bool, true, List, [], ◌∷◌, ◌++◌, Option, Some, IfSome, Result, Ok, Err, IfErr, IfOk, length, take, drop, refl, ap, sym, subst, ◌∙◌, arith, append_assoc, append-nil, length-append, take_all}
 use Rattle.std.proofs.Math.ListN.{drop_of_length-le}
 use Rattle.std.proofs.Math.Seq.{drop-nil}
 use Rattle.x7_crc.specs.Checking.{CheckerState, Keeps}
 use Rattle.x7_header.specs.Header.{Contents}
-use Rattle.std.specs.List.{AllByRecursion}
-use Rattle.x7_text.specs.Lines.{has_no_end, joined, on_first, split}
-use Rattle.x7_text.proofs.SplitLemmas.{joined-split, split-free}
+use Rattle.x7_text.specs.Lines.{has_no_end, split}
+use Rattle.x7_text.proofs.PieceLemmas.{cut-line, free-both, some-line, split-alone}
+use Rattle.x7_text.proofs.SplitLemmas.{split-line}
 use Rattle.x7_listing.specs.Assembly.{AreHeadedAsm, IsAsm}
 use Rattle.x7_listing.specs.Assembling.{AssemblerStandsFor, AssemblerState, body_by, body_of, FailsIn, Goes, TakesLines, TakesPiece, TakesPrefix, Unbegun, Waits, Went}
 use Rattle.x7_listing.specs.BitLine.{bit_text, IsHeaderOf, IsHeld}
@@ -14,45 +14,11 @@ use Rattle.x7_listing.specs.declared.assembler.AsmFault.{AsmFault}
 use Rattle.x7_listing.specs.declared.assembler.AsmFault.TheVariants as fault
 use Rattle.x7_listing.proofs.AssemblyLemmas.{went-nothing}
 use Rattle.x7_listing.proofs.QuickLemmas.{goes-quick, left-from}
-use Rattle.x7_listing.proofs.RoundLemmas.{free-both, split-line}
 
--- what the first line and the text after it are
-abbrev pub FirstLine : List ℕ → List ℕ → Option (Bor (List ℕ)) → Type 0
-FirstLine text t o = MatchOption o (split text ≡ t ∷ []) (λ more. (split text ≡ t ∷ split more.now) × (length more.now < length text))
-
-pub at-some : (text t : List ℕ) (o : Option (Bor (List ℕ))) (x : Bor (List ℕ)) → o ≡ Some x → FirstLine text t o → (split text ≡ t ∷ split x.now) × (length x.now < length text)
-at-some text t o x e h = subst (λ p. FirstLine text t p) e h
-
-pub at-none : (text t : List ℕ) (o : Option (Bor (List ℕ))) → o ≡ None → FirstLine text t o → split text ≡ t ∷ []
-at-none text t o e h = subst (λ p. FirstLine text t p) e h
-
--- the only line of a text is the text, and holds no end
-pub only-line : (text t : List ℕ) → split text ≡ t ∷ [] → (text ≡ t) × (has_no_end text ≡ true)
-only-line text t e =
-    let is : text ≡ t = sym (joined-split text) ∙ ap joined e in
-    let free : has_no_end t ≡ true = (subst (AllByRecursion (λ line. has_no_end line ≡ true)) e (split-free text)).0 in
-    (is, subst (λ s. has_no_end s ≡ true) (sym is) free)
-
-joined-ahead : (t : List ℕ) (ts : List (List ℕ)) → (ts ≡ [] → ⊥) → joined (t ∷ ts) ≡ t ++ 10 ∷ joined ts
-joined-ahead t [] h = absurd (h refl)
-joined-ahead t (u ∷ us) h = refl
-
-none-split : (t : List ℕ) → split t ≡ [] → ⊥
-none-split t e =
-    let empty : t ≡ [] = sym (joined-split t) ∙ ap joined e in
-    let one : ◌≡◌ {A = List (List ℕ)} ([] ∷ []) [] = sym (ap split empty) ∙ e in absurd cc
-
--- the first of several lines, its end and the others are the text
-pub some-line : (text t more : List ℕ) → split text ≡ t ∷ split more → (text ≡ t ++ 10 ∷ more) × (has_no_end t ≡ true)
-some-line text t more e =
-    let is : text ≡ t ++ 10 ∷ more = sym (joined-split text) ∙ ap joined e ∙ joined-ahead t (split more) (none-split more) ∙ ap (λ s. t ++ 10 ∷ s) (joined-split more) in
-    (is, (subst (AllByRecursion (λ line. has_no_end line ≡ true)) e (split-free text)).0)
-
--- the same with a text behind
+-- the first of several lines, with a text behind
 pub some-line-more : (text t rest more : List ℕ) → split text ≡ t ∷ split rest → split (text ++ more) ≡ t ∷ split (rest ++ more)
 some-line-more text t rest more e =
-    let p = some-line text t rest e in
-    ap (λ s. split (s ++ more)) p.0 ∙ ap split (append_assoc t (10 ∷ rest) more) ∙ split-line t (rest ++ more) p.1
+    let p = cut-line text t rest more e in ap split p.0 ∙ split-line t (rest ++ more) p.1
 
 -- lines that are read at once
 pub quick-on : (all : List (List ℕ)) (rest out new more : List ℕ) (start k n c size : ℕ) (checker : CheckerState) → size ≤ length rest → TakesLines rest (drop size rest) out new k → (length out ≤ 67108864 → length new ≤ 67108864) → c ≡ n + k
@@ -128,14 +94,6 @@ waits-whole a text piece line rest whole more e w s =
     subst (λ t. Waits a.begun t (whole ∷ split (rest ++ more)) (body_of a)) before (subst (λ t. Waits a.begun (split (text ++ (piece ++ more))) t (body_of a)) left (s.goes (piece ++ more)))
 
 -- the end of a text
-alone-by : (b : Bool) (c : ℕ) (cs : List ℕ) → (if b then false else has_no_end cs) ≡ true → (has_no_end cs ≡ true → split cs ≡ cs ∷ []) → (if b then [] ∷ split cs else on_first c (split cs)) ≡ (c ∷ cs) ∷ []
-alone-by true c cs h f = absurd cc
-alone-by false c cs h f = ap (on_first c) (f h)
-
-split-alone : (t : List ℕ) → has_no_end t ≡ true → split t ≡ t ∷ []
-split-alone [] h = refl
-split-alone (c ∷ cs) h = alone-by (c == 10) c cs h (split-alone cs)
-
 pub waits-last : (a : AssemblerState) (text : List ℕ) → AssemblerStandsFor a text → Waits a.begun (split text) (a.held ∷ []) (body_of a)
 waits-last a text s =
     let left : split (a.held ++ []) ≡ a.held ∷ [] = ap split (append-nil a.held) ∙ split-alone a.held s.free in

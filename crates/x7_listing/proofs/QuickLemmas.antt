@@ -10,13 +10,14 @@ use Rattle.x7_crc.specs.Checking.{check_of_bytes, CheckerState}
 use Rattle.x7_crc.proofs.CheckerLemmas.{still-keeps}
 use Rattle.x7_text.specs.Lines.{split}
 use Rattle.x7_text.specs.Row.{line, spaced}
+use Rattle.x7_text.proofs.SplitLemmas.{split-line}
 use Rattle.x7_words.specs.Word.{AreBytes, bytes_of_word, words_of_bytes}
 use Rattle.x7_words.proofs.WordLemmas.{bytes-words, length-words, words-fit}
 use Rattle.x7_listing.specs.Assembly.{assembled, with_line}
 use Rattle.x7_listing.specs.Assembling.{body_by, Goes, Opens, TakesFirst, TakesLines}
 use Rattle.x7_listing.specs.Line.{Line, Data, bytes_of, FitsLine, IsListed, text_of}
 use Rattle.x7_listing.specs.Listed.{ended_text, texts_of}
-use Rattle.x7_listing.proofs.RoundLemmas.{line-free, same-bytes, split-line}
+use Rattle.x7_listing.proofs.RoundLemmas.{line-free, same-bytes}
 
 texts-ahead : (ls : List Line) (rest : List ℕ) → AllByRecursion FitsLine ls → AllByRecursion IsListed ls → split (texts_of ls ++ rest) ≡ map text_of ls ++ split rest
 texts-ahead [] rest f i = refl

@@ -1,5 +1,5 @@
 -- A listing assembles back to the bytes that it is of.
-use Rattle.std.proofs.Common.{◌≡◌, ◌==◌, ℕ, ◌<◌, ◌≤◌, ◌^◌, ◌/◌, ◌%◌, if◌then◌else◌, Bool, true, false, List, [], ◌∷◌, ◌++◌, length, map, fold, refl, ap, sym, subst, ◌∙◌, arith, append_assoc, append-nil}
+use Rattle.std.proofs.Common.{◌≡◌, ◌==◌, ℕ, ◌<◌, ◌≤◌, ◌^◌, Bool, true, false, List, [], ◌∷◌, ◌++◌, length, map, fold, refl, ap, sym, subst, ◌∙◌, arith, append_assoc, append-nil}
 use Rattle.std.proofs.lemmas.Grind.{common_steps, flat_map-append}
 use Rattle.std.proofs.lemmas.Fmt.{digits_decimal}
 use Rattle.std.specs.Fmt.{decimal}
@@ -11,12 +11,14 @@ use Rattle.x7_regs.specs.Register.{reg_name}
 use Rattle.x7_regs.specs.Command.{command_name_of}
 use Rattle.x7_regs.specs.declared.command.Command.{Command}
 use Rattle.x7_regs.specs.declared.command.Command.TheVariants as command
-use Rattle.x7_text.specs.Digits.{hex_byte, hex_digit, hex_word}
+use Rattle.x7_text.specs.Digits.{hex_word}
 use Rattle.x7_text.specs.Row.{spaced}
+use Rattle.x7_text.proofs.PieceLemmas.{free-both, free-more, hex-free, word-free}
+use Rattle.x7_text.proofs.SplitLemmas.{split-line}
 use Rattle.x7_listing.specs.Listing.{listing_of}
 use Rattle.x7_listing.specs.Assembly.{Assembles, assembled, with_line}
 use Rattle.x7_crc.specs.Checking.{check_of_bytes}
-use Rattle.x7_text.specs.Lines.{has_no_end, on_first, split}
+use Rattle.x7_text.specs.Lines.{has_no_end, split}
 use Rattle.x7_listing.specs.Line.{Line, Empty, Comment, Bytes, Sync, Nop, Write, Read, Write2, Read2, Word, Data, Cmd, Check, bytes_of, FitsLine, IsListed, text_of}
 use Rattle.x7_listing.specs.Listed.{listing_lines, texts_of}
 use Rattle.x7_listing.proofs.GuessLemmas.{own, each_name, each_holds}
@@ -24,31 +26,6 @@ use Rattle.x7_listing.proofs.ListedLemmas.{listing-text}
 use Rattle.x7_listing.proofs.StandLemmas.{Listed, Stands, listing-stands}
 
 -- texts that hold no line end
-free-by : (b : Bool) (xs ys : List ℕ) → (if b then false else has_no_end xs) ≡ true → (has_no_end xs ≡ true → has_no_end (xs ++ ys) ≡ true) → (if b then false else has_no_end (xs ++ ys)) ≡ true
-free-by true xs ys h f = absurd cc
-free-by false xs ys h f = f h
-
-pub free-both : (xs ys : List ℕ) → has_no_end xs ≡ true → has_no_end ys ≡ true → has_no_end (xs ++ ys) ≡ true
-free-both [] ys h k = k
-free-both (x ∷ xs) ys h k = free-by (x == 10) xs ys h (λ g. free-both xs ys g k)
-
-pub free-more : (x : ℕ) (xs : List ℕ) → (x == 10) ≡ false → has_no_end xs ≡ true → has_no_end (x ∷ xs) ≡ true
-free-more x xs e h = rw e h
-
-digit-free : (n : ℕ) → (hex_digit n == 10) ≡ false
-digit-free n = grind (arith, common_steps)
-
-digits-free-more : (ns xs : List ℕ) → has_no_end xs ≡ true → has_no_end (map hex_digit ns ++ xs) ≡ true
-digits-free-more [] xs h = h
-digits-free-more (n ∷ ns) xs h = free-more (hex_digit n) (map hex_digit ns ++ xs) (digit-free n) (digits-free-more ns xs h)
-
-pub hex-free : (bs : List ℕ) → has_no_end (flat_map hex_byte bs) ≡ true
-hex-free [] = refl
-hex-free (b ∷ bs) = digits-free-more (b / 2 ^ 4 % 16 ∷ b % 16 ∷ []) (flat_map hex_byte bs) (hex-free bs)
-
-word-free : (w : ℕ) → has_no_end (hex_word w) ≡ true
-word-free w = digits-free-more (w / 2 ^ 28 % 16 ∷ w / 2 ^ 24 % 16 ∷ w / 2 ^ 20 % 16 ∷ w / 2 ^ 16 % 16 ∷ w / 2 ^ 12 % 16 ∷ w / 2 ^ 8 % 16 ∷ w / 2 ^ 4 % 16 ∷ w % 16 ∷ []) [] refl
-
 words-free : (ws : List ℕ) → has_no_end (flat_map spaced ws) ≡ true
 words-free [] = refl
 words-free (w ∷ ws) = free-both (hex_word w) (flat_map spaced ws) (word-free w) (words-free ws)
@@ -114,15 +91,6 @@ line-free (Cmd c) h k = command-free c
 line-free Check h k = absurd k
 
 -- cut at the line ends
-split-by : (b : Bool) (c : ℕ) (cs rest : List ℕ) → (if b then false else has_no_end cs) ≡ true → (has_no_end cs ≡ true → split (cs ++ 10 ∷ rest) ≡ cs ∷ split rest)
-    → (if b then [] ∷ split (cs ++ 10 ∷ rest) else on_first c (split (cs ++ 10 ∷ rest))) ≡ (c ∷ cs) ∷ split rest
-split-by true c cs rest h f = absurd cc
-split-by false c cs rest h f = ap (on_first c) (f h)
-
-pub split-line : (t rest : List ℕ) → has_no_end t ≡ true → split (t ++ 10 ∷ rest) ≡ t ∷ split rest
-split-line [] rest h = refl
-split-line (c ∷ cs) rest h = split-by (c == 10) c cs rest h (split-line cs rest)
-
 split-lines : (ls : List Line) → AllByRecursion Listed ls → split (texts_of ls) ≡ map text_of ls ++ [] ∷ []
 split-lines [] a = refl
 split-lines (l ∷ ls) a =

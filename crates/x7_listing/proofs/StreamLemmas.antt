@@ -10,13 +10,15 @@ use Rattle.x7_header.specs.declared.fault.HeaderFault.{HeaderFault}
 use Rattle.x7_header.specs.declared.fault.HeaderFault.TheVariants as fault
 use Rattle.x7_header.proofs.HeaderLemmas.{header_takes, IsPrefix}
 use Rattle.x7_text.specs.Lines.{has_no_end, split}
+use Rattle.x7_text.proofs.PieceLemmas.{free-both, hex-free}
+use Rattle.x7_text.proofs.SplitLemmas.{split-line}
 use Rattle.x7_listing.specs.Assembly.{asm_limit, Assembles, HasNoHead, IsAsm, IsHeaded}
 use Rattle.x7_listing.specs.BitLine.{bit_text, field_text, IsHeld}
 use Rattle.x7_listing.specs.Line.{Line, FitsLine, text_of}
 use Rattle.x7_listing.specs.Listing.{listing_of}
 use Rattle.x7_listing.specs.StreamListing.{listing_by, stream_listing}
 use Rattle.x7_listing.proofs.BitLemmas.{no-line}
-use Rattle.x7_listing.proofs.RoundLemmas.{decimal-free, free-both, hex-free, round-trip, split-line}
+use Rattle.x7_listing.proofs.RoundLemmas.{decimal-free, round-trip}
 
 -- a header's line holds no line end
 field-free : (bs : List ℕ) → has_no_end (field_text bs) ≡ true

@@ -55,7 +55,8 @@ pub record SessionListed (all start : List ℕ) (line : ℕ) (gap : List ℕ) (p
   pub listed : all ≡ start ++ bytes_text gap ++ codes "sync\n" ++ open_words 0 (flat_map stepped packets)
   pub count : line ≡ words_place 0 (flat_map stepped packets)
 
--- what is written of a listing: whether a session is open, how many elements stand in the open line, the bytes of a gap that are held, and the text
+-- what is written of a listing: whether the last bytes listed are a session's, how many elements stand in the open line, the bytes that are held (of a gap, or
+-- of no whole word where runs are taken), and the text
 pub record Written : Type 0 where
   pub synced : Bool
   pub line : ℕ
@@ -95,7 +96,8 @@ Writes run w w2 =
     → HasListed w before sessions place old → Adds run sessions place new_sessions new_place → Turns run old new new_place → IsRun run
     → IsReading bytes new_sessions new_place → HasListed w2 before new_sessions new_place new
 
--- a lister: its cutter, whether a session is open, how many elements stand in the open line, the bytes of a gap that are held, and the text since it was last cleared
+-- a lister: its cutter, whether the last bytes listed are a session's, how many elements stand in the open line, the bytes that are held, and the text since it
+-- was last cleared
 pub record ListerState : Type 0 where
   pub cutter : CutterState
   pub synced : Bool

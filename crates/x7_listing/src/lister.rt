@@ -109,7 +109,7 @@ impl Lister {
         Ok(())
     }
 
-    /// Ends the listing, and begins a new one. `NoMemory` changes nothing.
+    /// Ends the listing of the bytes that were fed, and begins a new one. `NoMemory` changes nothing.
     pub fn finish(&mut self) -> Result<(), NoMemory>
         ensures ok { OnOk result ((given before bytes : List ℕ) → ListerStandsFor self.old given before bytes → Finished self.new given before bytes) }
         ensures err { OnErr result (self.new ≡ self.old) }

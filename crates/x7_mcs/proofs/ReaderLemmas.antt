@@ -1,6 +1,7 @@
 -- A text that comes in pieces.
 use Rattle.std.proofs.Common.{◌≡◌, ◌⊎◌, inl, inr, ℕ, ◌+◌, ◌^◌, ◌<◌, Bool, true, false, List, [], ◌∷◌, ◌++◌, Result, Ok, Err, IfErr, IfOk, MatchResult, length, refl, ap, sym, subst, ◌∙◌, append_assoc, append-nil, arith}
 use Rattle.x7_text.specs.Lines.{has_no_end, split}
+use Rattle.x7_text.proofs.PieceLemmas.{cut-line, free-both, only-line}
 use Rattle.x7_mcs.specs.Flash.{Reading, after_line, after_lines, and_then, mcs_of}
 use Rattle.x7_mcs.specs.Lines.{lines_of, without_return}
 use Rattle.x7_mcs.specs.Reader.{IsFaultOf, ReaderState, ReaderStandsFor, lines_read}
@@ -8,7 +9,7 @@ use Rattle.x7_mcs.specs.State.{BodyState, Fails, Goes, Took, at_base}
 use Rattle.x7_mcs.specs.declared.fault.McsFault.{McsFault}
 use Rattle.x7_mcs.specs.declared.fault.McsFault.TheVariants as fault
 use Rattle.x7_mcs.proofs.GoesLemmas.{at-line, gives-bytes, gives-fault, gives-no-end, goes-on, starts, stops}
-use Rattle.x7_mcs.proofs.LineLemmas.{cut-line, free-both, line-first, line-last, only-line}
+use Rattle.x7_mcs.proofs.LineLemmas.{line-first, line-last}
 
 -- a line that has its end is read
 module _ (whole : Result Reading McsFault) (line bare after : List ℕ) (n : ℕ) (b : BodyState) (m : n ≡ b.count + 1) (free : has_no_end line ≡ true) (e : bare ≡ without_return line) (g : Goes whole (line ++ 10 ∷ after) b) where
@@ -61,7 +62,7 @@ completed whole held line piece rest more now b e n g =
 -- it doesn't
 pub held-on : (whole : Result Reading McsFault) (held line piece more now : List ℕ) (b : BodyState) → split piece ≡ line ∷ [] → now ≡ held ++ line → Goes whole (held ++ (piece ++ more)) b → Goes whole (now ++ more) b
 held-on whole held line piece more now b e n g =
-    subst (λ t. Goes whole (t ++ more) b) (sym (n ∙ ap (λ t. held ++ t) (only-line piece line e).0))
+    subst (λ t. Goes whole (t ++ more) b) (sym (n ∙ ap (λ t. held ++ t) (sym (only-line piece line e).0)))
     (subst (λ t. Goes whole t b) (sym (append_assoc held piece more)) g)
 
 pub free-now : (held line now : List ℕ) → now ≡ held ++ line → has_no_end held ≡ true → has_no_end line ≡ true → has_no_end now ≡ true

@@ -43,7 +43,7 @@ pub record HoldsFlow (part : PartData) (pipeline : PipelineData) (f : Flow) : Ty
   pub given_is : pipeline.given ≡ given_stored part f.base f.given
   pub slot_is : pipeline.slot ≡ read_slot part f.base (given_stored part f.base f.given)
 
--- what holds of a flow that the pipeline stands for
+-- what holds of each flow that the pipeline stands for
 abbrev pub OfFlow : PartData → PipelineData → (Flow → Type 0) → Type 0
 OfFlow part p Fact = (f : Flow) → HoldsFlow part p f → Fact f
 

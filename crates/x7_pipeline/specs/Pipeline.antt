@@ -1,4 +1,4 @@
--- A frame pipeline, and what it stands for.
+-- What a frame pipeline stores.
 use Rattle.std.specs.Prelude.{◌≡◌, ℕ, ◌+◌, ◌*◌, ◌/◌, min, List, ◌∷◌, length, slice_index_or, Option}
 use Rattle.x7_part.specs.Part.{PartData, frame_words}
 use Rattle.x7_part.specs.FrameAddress.{far_width}

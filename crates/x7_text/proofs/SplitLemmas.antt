@@ -45,7 +45,7 @@ first-some true c ts us e = cc
 first-some false c ts [] e = cc
 first-some false c ts (u ∷ us) e = cc
 
-split-some : (t : List ℕ) → split t ≡ [] → ⊥
+pub split-some : (t : List ℕ) → split t ≡ [] → ⊥
 split-some [] e = cc
 split-some (c ∷ cs) e = first-some (c == 10) c (split cs) (split cs) e
 

@@ -1,13 +1,13 @@
 -- A text that assembles to nothing.
-use Rattle.std.proofs.Common.{◌≡◌, ℕ, ◌^◌, ◌<◌, List, [], ◌∷◌, ◌++◌, Result, Ok, Err, OnOk, IfErr, MatchResult, length, refl, subst, ◌⊎◌, inl, inr}
-use Rattle.x7_listing.specs.Assembling.{AssemblerStandsFor, AssemblerState, FailsIn, TakesPiece}
+use Rattle.std.proofs.Common.{◌≡◌, ℕ, ◌^◌, ◌<◌, List, [], ◌∷◌, Result, Ok, Err, length, refl, subst, ◌⊎◌, inl, inr}
+use Rattle.x7_listing.specs.Assembling.{AssemblerStandsFor, AssemblerState}
 use Rattle.x7_listing.specs.Assembly.{IsAsm}
 use Rattle.x7_listing.specs.declared.assembler.AsmFault.{AsmFault}
 use Rattle.x7_listing.specs.declared.assembler.AsmFault.TheVariants as fault
 use Rattle.x7_words.specs.Input.{InputsState}
 use Rattle.x7_forms.specs.Event.{Event, no_memory}
 use Rattle.x7_forms.specs.Known.{Answer, whole_in}
-use Rattle.x7_tool.specs.Outcome.{AssembledAs, IsAsmFault, asm_event, text_limit}
+use Rattle.x7_tool.specs.Outcome.{AssembledAs, asm_event, text_limit}
 use Rattle.x7_forms.specs.Step.{IsDecided, IsPossible, ReadsWhole}
 use Rattle.x7_forms.specs.Form.{Assembling}
 use Rattle.x7_tool.specs.Run.{AnswersForm}
@@ -29,16 +29,6 @@ asm_faulted old new name text f event e whole why =
     (answers_by (List ℕ) Answer (name ∷ []) old new (λ t. whole_in t text_limit name) text (AssembledAs name) (Err (asm_event name f)) whole (faulted_by name text f why))
 
 -- ---- an assembler that is fed
-
--- a piece is fed
-pub asm_fed : (r : Result (Unit {0}) AsmFault) (a b : AssemblerState) (piece : List ℕ) → OnOk r (TakesPiece a b piece) → IfErr r (FailsIn a piece) → (text : List ℕ) → length (text ++ piece) < 2 ^ 63 → AssemblerStandsFor a text
-    → MatchResult r (λ _. AssemblerStandsFor b (text ++ piece)) (λ f. (more : List ℕ) → IsAsmFault f ((text ++ piece) ++ more))
-asm_fed (Ok u) a b piece takes fails text fits s = takes text fits s
-asm_fed (Err f) a b piece takes fails text fits s = faulty fails
-  where
-    faulty : FailsIn a piece f → (more : List ℕ) → IsAsmFault f ((text ++ piece) ++ more)
-    faulty (inl none) more = inl none
-    faulty (inr h) more = inr (h text more fits s)
 
 -- the fault of the end of a text
 pub end_fault : (a : AssemblerState) (f : AsmFault) (text : List ℕ) → length text < 2 ^ 63 → AssemblerStandsFor a text → (f ≡ fault.NoMemory) ⊎ ((t : List ℕ) → length t < 2 ^ 63 → AssemblerStandsFor a t → IsAsm t (Err f)) → (f ≡ fault.NoMemory) ⊎ IsAsm text (Err f)

@@ -1,8 +1,8 @@
 -- A flash text that gives an image, and one that gives none.
-use Rattle.std.proofs.Common.{◌≡◌, ℕ, ◌^◌, ◌<◌, List, [], ◌∷◌, ◌++◌, false, Result, Ok, Err, OnOk, IfErr, MatchResult, length, refl, ap, subst, ◌⊎◌, inl, inr}
+use Rattle.std.proofs.Common.{◌≡◌, ℕ, List, [], ◌∷◌, false, Result, Ok, Err, refl, ap, subst, ◌⊎◌, inl, inr}
 use Rattle.x7_words.specs.Input.{InputsState}
 use Rattle.x7_mcs.specs.Flash.{mcs_of}
-use Rattle.x7_mcs.specs.Reader.{FailsIn, IsFaultOf, ReaderStandsFor, ReaderState, TakesPiece}
+use Rattle.x7_mcs.specs.Reader.{IsFaultOf}
 use Rattle.x7_mcs.specs.declared.fault.McsFault.{McsFault}
 use Rattle.x7_mcs.specs.declared.fault.McsFault.TheVariants as mcs
 use Rattle.x7_forms.specs.Event.{Event, no_memory}
@@ -36,9 +36,3 @@ mcs_faulted old new name text f event e whole why =
 pub mcs_given : (old new : InputsState) (name text image : List ℕ) → ReadsWhole old new text_limit name (Ok text) → mcs_of text ≡ Ok image → AnswersForm (FromMcs name) old new (Ok (record { stopped = false; text = image }))
 mcs_given old new name text image whole e =
     answers_end (List ℕ) Answer (name ∷ []) old new (λ t. whole_in t text_limit name) (λ bytes. mcs_image name (mcs_of bytes)) text (Ok (record { stopped = false; text = image })) (whole_steady text_limit name) whole (inr (tt, tt, ap (mcs_image name) e))
-
--- a piece is read
-pub mcs_fed : (r : Result (Unit {0}) McsFault) (a b : ReaderState) (piece : List ℕ) → OnOk r (TakesPiece a b piece) → IfErr r (FailsIn a piece) → (text : List ℕ) → length (text ++ piece) < 2 ^ 63 → ReaderStandsFor a text
-    → MatchResult r (λ _. ReaderStandsFor b (text ++ piece)) (λ f. (more : List ℕ) → IsFaultOf ((text ++ piece) ++ more) f)
-mcs_fed (Ok u) a b piece takes fails text fits s = takes text fits s
-mcs_fed (Err f) a b piece takes fails text fits s = λ more. fails text more fits s

@@ -1,5 +1,5 @@
 -- A frames text that is read for its plan, and why a plan has no stream.
-use Rattle.std.proofs.Common.{◌≡◌, ◌∙◌, ◌⊎◌, ◌^◌, ◌<◌, inl, inr, ℕ, List, [], ◌∷◌, ◌++◌, Result, Ok, Err, IfOk, IfErr, length, refl, ap, sym, subst, append_assoc, append-nil}
+use Rattle.std.proofs.Common.{◌≡◌, ◌∙◌, ◌⊎◌, ◌^◌, ◌<◌, ◌≤◌, arith, inl, inr, ℕ, List, [], ◌∷◌, Result, Ok, Err, IfOk, IfErr, length, refl, ap, sym, subst}
 use Rattle.std.specs.Prelude.{Contains}
 use Rattle.std.proofs.lemmas.List.Sorted.{All-permutation}
 use Rattle.x7_part.specs.AddressOrder.{addresses_in}
@@ -21,10 +21,12 @@ use Rattle.x7_forms.specs.Message.{event_of}
 use Rattle.x7_forms.specs.Step.{AnswersAs, AnswersBy, IsDecided, IsPossible, ReadsWhole, seen, step_over}
 use Rattle.x7_forms.proofs.ReadLemmas.{answers_by, answers_end, answers_go, answers_kept, answers_stop, first_of, part_steady, whole_steady}
 use Rattle.x7_tool.specs.Outcome.{IsUnplanned, PlanTexts, PlannedFull, PlannedPartial, frames_event, plan_texts, planner_event, text_limit}
-use Rattle.x7_tool.specs.Planned.{HasNoPlan, IsRead, ReadsPlan}
+use Rattle.x7_tool.specs.Planned.{HasNoPlan, HasRead, IsFramesFault, IsRead, ReadsPlan}
 use Rattle.x7_tool.specs.FullText.{PlanFor, full_of}
 use Rattle.x7_tool.specs.Ready.{whole_of}
 use Rattle.x7_tool.specs.declared.text.Text.{Text}
+use Rattle.x7_tool.proofs.FeedLemmas.{fed_fault}
+use Rattle.x7_tool.specs.Turns.{IsFed}
 
 -- all its addresses are the part's
 pub plan_addressed : (part : PartData) (text : List ℕ) (plan : PlanData) → IsPlanOf part text (Ok plan) → AreAddressed part plan.rows
@@ -32,22 +34,31 @@ plan_addressed part text plan p = All-permutation (λ (row : PlanRow). Contains 
 
 -- ---- a text that is read
 
--- a piece behind a fault
-pub fault_on : (part : PartData) (f : FramesFault) (text piece : List ℕ) → IsRead part (Err f) text → IsRead part (Err f) (text ++ piece)
-fault_on part f text piece (inl none) = inl none
-fault_on part f text piece (inr k) = inr (λ more. subst (λ t. IsPlanOf part t (Err f)) (sym (append_assoc text piece more)) (k (piece ++ more)))
+-- a fault of a text is why it has no plan
+text_fault : (name : List ℕ) (event : Event) (f : FramesFault) (part : PartData) (text : List ℕ) → (f ≡ fault.NoMemory → ⊥) → event ≡ frames_event name f → IsFramesFault part f text → HasNoPlan name part text event
+text_fault name event f part text other e (inl none) = absurd (other none)
+text_fault name event f part text other e (inr k) = (f, k, sym e)
 
 -- a fault at the end of a text
-text_fault : (part : PartData) (name : List ℕ) (f : FramesFault) (text : List ℕ) (event : Event) → (f ≡ fault.NoMemory → ⊥) → event ≡ frames_event name f → IsRead part (Err f) text → HasNoPlan name part text event
-text_fault part name f text event other e (inl none) = absurd (other none)
-text_fault part name f text event other e (inr k) = (f, subst (λ t. IsPlanOf part t (Err f)) (append-nil text) (k []), sym e)
-
 pub fault_end : (name : List ℕ) (f : FramesFault) (read : Result ReaderState FramesFault) (event : Event) → read ≡ Err f → event ≡ frames_event name f
     → (event ≡ no_memory) ⊎ ((part : PartData) (text : List ℕ) → length text < 2 ^ 63 → IsRead part read text → HasNoPlan name part text event)
-fault_end name (fault.Line n) read event r e = inr (λ part text fits h. text_fault part name (fault.Line n) text event (λ x. absurd (cc)) e (subst (λ o. IsRead part o text) r h))
-fault_end name (fault.Address n) read event r e = inr (λ part text fits h. text_fault part name (fault.Address n) text event (λ x. absurd (cc)) e (subst (λ o. IsRead part o text) r h))
-fault_end name (fault.Twice n) read event r e = inr (λ part text fits h. text_fault part name (fault.Twice n) text event (λ x. absurd (cc)) e (subst (λ o. IsRead part o text) r h))
-fault_end name fault.NoMemory read event r e = inl e
+fault_end name f read event r e = by f e (λ part text h. fed_fault (HasRead part) (IsFramesFault part) read f text r h)
+  where
+    by : (f : FramesFault) → event ≡ frames_event name f → ((part : PartData) (text : List ℕ) → IsRead part read text → IsFramesFault part f text)
+        → (event ≡ no_memory) ⊎ ((part : PartData) (text : List ℕ) → length text < 2 ^ 63 → IsRead part read text → HasNoPlan name part text event)
+    by fault.NoMemory e k = inl e
+    by (fault.Line n) e k = inr (λ part text fits h. text_fault name event (fault.Line n) part text (λ x. absurd (cc)) e (k part text h))
+    by (fault.Address n) e k = inr (λ part text fits h. text_fault name event (fault.Address n) part text (λ x. absurd (cc)) e (k part text h))
+    by (fault.Twice n) e k = inr (λ part text fits h. text_fault name event (fault.Twice n) part text (λ x. absurd (cc)) e (k part text h))
+
+-- a text that was read to its end for the part of the first reader: the plan that it gives, or why none
+module _ (old new : InputsState) (part first : PartData) (name text : List ℕ) (read : Result ReaderState FramesFault) (whole : ReadsWhole old new text_limit name (Ok text)) (short : length text ≤ text_limit) (same : first ≡ part)
+    (fed : IsFed (HasRead first) (IsFramesFault first) read text) where
+  pub plan_due : (r : Result PlanData Refusal) → IfOk r (λ plan. (p : PartData) (t : List ℕ) → IsRead p read t → IsPlanOf p t (Ok plan))
+      → IfErr r (λ x. (event_of x ≡ no_memory) ⊎ ((p : PartData) (t : List ℕ) → length t < 2 ^ 63 → IsRead p read t → HasNoPlan name p t (event_of x))) → ReadsPlan old new part name (seen (λ plan. plan) r)
+  plan_due (Ok plan) ok err = (text, whole, ok part text (subst (λ p. IsRead p read text) same fed))
+  plan_due (Err x) ok (inl none) = inl (λ flash. inl (inl none))
+  plan_due (Err x) ok (inr why) = inr (text, whole, why part text (omega (arith, short)) (subst (λ p. IsRead p read text) same fed))
 
 -- ---- a part and a text
 

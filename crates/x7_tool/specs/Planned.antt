@@ -1,5 +1,5 @@
 -- A frames text that is read piece by piece, and its plan.
-use Rattle.std.specs.Prelude.{◌≡◌, ◌⊎◌, ℕ, List, ◌++◌, Result, Ok, Err}
+use Rattle.std.specs.Prelude.{◌≡◌, ◌⊎◌, ℕ, List, Result, Ok, Err}
 use Rattle.x7_words.specs.Input.{InputsState}
 use Rattle.x7_part.specs.Part.{PartData}
 use Rattle.x7_memory.specs.Planned.{PlanData}
@@ -10,11 +10,19 @@ use Rattle.x7_frames.specs.declared.fault.FramesFault.TheVariants as fault
 use Rattle.x7_forms.specs.Event.{Event}
 use Rattle.x7_forms.specs.Step.{ReadsWhole}
 use Rattle.x7_tool.specs.Outcome.{frames_event, text_limit}
+use Rattle.x7_tool.specs.Turns.{IsFed}
+
+-- a reader read this text for a part
+abbrev pub HasRead : PartData → ReaderState → List ℕ → Type 0
+HasRead part reader text = (reader.part ≡ part) × ReaderStandsFor reader text
+
+-- the fault of a text for a part; want of memory says nothing
+abbrev pub IsFramesFault : PartData → FramesFault → List ℕ → Type 0
+IsFramesFault part f text = (f ≡ fault.NoMemory) ⊎ IsPlanOf part text (Err f)
 
 -- a reader read this text for a part, or a first part of it, in which it found this fault
 abbrev pub IsRead : PartData → Result ReaderState FramesFault → List ℕ → Type 0
-IsRead part (Ok reader) text = (reader.part ≡ part) × ReaderStandsFor reader text
-IsRead part (Err f) text = (f ≡ fault.NoMemory) ⊎ ((more : List ℕ) → IsPlanOf part (text ++ more) (Err f))
+IsRead part = IsFed (HasRead part) (IsFramesFault part)
 
 -- the event is that of the text's first line at fault
 abbrev pub HasNoPlan : List ℕ → PartData → List ℕ → Event → Type 0

@@ -37,7 +37,7 @@ Agrees (Some known) form end = Gives known form end
 abbrev pub Happens : Asked → Outside → Outside → Event → Type 0
 Happens form old new event = IsOfMishap Answer (known_in old) (Came (Some form) old new) (λ known end. Gives known form end) event
 
--- a byte that was read back at this place of a flash of a size was another than the one written there by an update with some stream
+-- a byte is another than the one that an update with some stream writes at this place of a flash of a size
 pub record ReadsWrongAt (size place : ℕ) : Type 0 where
   pub stream : List ℕ
   pub wrote : ℕ

@@ -1,5 +1,5 @@
 -- What stands between two turns: of a listing that is written, and of a text that is taken while it is read.
-use Rattle.std.specs.Prelude.{◌≡◌, ◌≤◌, ◌++◌, ℕ, List, [], Option, None, Some, Ok, length, ◌+◌}
+use Rattle.std.specs.Prelude.{◌≡◌, ◌≤◌, ◌++◌, ℕ, List, [], Option, Result, Ok, Err, length, ◌+◌}
 use Rattle.x7_words.specs.Sink.{PutsPrefix, appended}
 use Rattle.x7_words.specs.Word.{AreBytes}
 use Rattle.x7_listing.specs.Listing.{listing_of}
@@ -25,7 +25,7 @@ pub record ListsStream (l : ListerState) (first now : Option (List ℕ)) (bytes 
   pub goes : (rest : List ℕ) → stream_listing (bytes ++ rest) ≡ Ok (line ++ listing_of (sent ++ rest))
   pub close : length bytes ≤ length sent + 327706
 
--- a text was taken, or a first part of it, in which there was this fault
-abbrev pub IsFed : {F : Type 0} → (List ℕ → Type 0) → (F → List ℕ → Type 0) → Option F → List ℕ → Type 0
-IsFed took fails None text = took text
-IsFed took fails (Some f) text = (more : List ℕ) → fails f (text ++ more)
+-- a text was taken by this, or a first part of it, in which there was this fault
+abbrev pub IsFed : {T F : Type 0} → (T → List ℕ → Type 0) → (F → List ℕ → Type 0) → Result T F → List ℕ → Type 0
+IsFed took fails (Ok taker) text = took taker text
+IsFed took fails (Err f) text = (more : List ℕ) → fails f (text ++ more)

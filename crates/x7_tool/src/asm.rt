@@ -35,12 +35,16 @@ fn refusal_of<'w>(name: &'w str, fault: AsmFault) -> Refusal<'w>
 impl TakesText for Assembler {
     type Fault = AsmFault;
 
-    ghost took = { AssemblerStandsFor };
+    ghost took = { λ first. AssemblerStandsFor };
 
-    ghost fails = { IsAsmFault };
+    ghost fails = { λ first. IsAsmFault };
 
-    fn feed(&mut self, piece: &[u8]) -> Result<(), AsmFault> {
-        Assembler::feed(self, piece)
+    fn take(self, piece: &[u8]) -> Result<Assembler, AsmFault> {
+        let mut assembler = self;
+        match assembler.feed(piece) {
+            Ok(()) => Ok(assembler),
+            Err(fault) => Err(fault),
+        }
     }
 }
 
@@ -53,14 +57,14 @@ pub(crate) fn asm<'w, I: Inputs>(
     ensures due { AnswersForm (Assembling name.now) (I.state inputs.old) (I.state inputs.new) (seen whole_of result) }
     ensures inputs { Stays (I.state inputs.old) (I.state inputs.new) }
 {
-    let mut assembler = Assembler::new(alloc);
-    let found = match feed_whole(inputs, name, &mut assembler) {
-        Ok(found) => found,
+    let read = match feed_whole(inputs, name, Assembler::new(alloc)) {
+        Ok(read) => read,
         Err(refusal) => return Err(refusal),
     };
-    if let Some(fault) = found {
-        return Err(refusal_of(name, fault));
-    }
+    let assembler = match read {
+        Ok(assembler) => assembler,
+        Err(fault) => return Err(refusal_of(name, fault)),
+    };
     match assembler.finish() {
         Ok(bytes) => Ok(Text {
             stopped: false,

@@ -10,44 +10,41 @@ use x7_forms::{Refusal, TEXT_LIMIT, TURN, next_turn, open};
 use x7_words::Inputs;
 
 /// What takes a text in pieces, up to its first fault.
-pub(crate) trait TakesText {
+pub(crate) trait TakesText: Sized + Drop {
     /// Why a text is refused.
     type Fault: Drop;
 
-    /// It took this text, whatever follows it.
-    ghost took: { Self → List ℕ → Type 0 };
+    /// What was the first of these has become the second, which took this text, whatever follows it.
+    ghost took: { Self → Self → List ℕ → Type 0 };
 
-    /// A text is refused for this fault.
-    ghost fails: { Self.Fault → List ℕ → Type 0 };
+    /// A text that is given to this is refused for this fault.
+    ghost fails: { Self → Self.Fault → List ℕ → Type 0 };
 
     /// Takes the next piece of a text of fewer than 2^63 bytes. A fault is that of the whole text, whatever follows.
-    fn feed(&mut self, piece: &[u8]) -> Result<(), Self::Fault>
-        ensures { (text : List ℕ) → length (text ++ piece.now) < 2 ^ 63 → took self.old text
-            → MatchResult result (λ _. took self.new (text ++ piece.now)) (λ fault. (more : List ℕ) → fails fault ((text ++ piece.now) ++ more)) };
+    fn take(self, piece: &[u8]) -> Result<Self, Self::Fault>
+        ensures { (first : Self) (text : List ℕ) → length (text ++ piece.now) < 2 ^ 63 → took first self text
+            → MatchResult result (λ taker. took first taker (text ++ piece.now)) (λ fault. (more : List ℕ) → fails first fault ((text ++ piece.now) ++ more)) };
 }
 
-/// Feeds a piece, where no fault was found before it. Answers the first fault.
-fn feed_turn<T: TakesText>(taker: &mut T, found: Option<T::Fault>, piece: &[u8]) -> Option<T::Fault>
-    ensures { (text : List ℕ) → length (text ++ piece.now) < 2 ^ 63 → IsFed (T.took taker.old) T.fails found text
-        → IsFed (T.took taker.new) T.fails result (text ++ piece.now) }
+/// Takes the next piece, where no fault was found before it.
+fn take_turn<T: TakesText>(read: Result<T, T::Fault>, piece: &[u8]) -> Result<T, T::Fault>
+    ensures { (first : T) (text : List ℕ) → length (text ++ piece.now) < 2 ^ 63 → IsFed (T.took first) (T.fails first) read text
+        → IsFed (T.took first) (T.fails first) result (text ++ piece.now) }
 {
-    if let Some(fault) = found {
-        return Some(fault);
-    }
-    match taker.feed(piece) {
-        Ok(()) => None,
-        Err(fault) => Some(fault),
+    match read {
+        Ok(taker) => taker.take(piece),
+        Err(fault) => Err(fault),
     }
 }
 
-/// Feeds a whole text turn by turn, and reads it to its end where there is a fault, which is answered.
+/// Feeds a whole text turn by turn, to its end also where there is a fault.
 pub(crate) fn feed_whole<'w, I: Inputs, T: TakesText>(
     inputs: &mut I,
     name: &'w str,
-    taker: &mut T,
-) -> Result<Option<T::Fault>, Refusal<'w>>
-    requires new { T.took taker.old [] }
-    ensures ok { IfOk result (λ found. (text : List ℕ) × (length text ≤ text_limit) × IsFed (T.took taker.new) T.fails found text × ReadsWhole (I.state inputs.old) (I.state inputs.new) text_limit name.now (Ok text)) }
+    taker: T,
+) -> Result<Result<T, T::Fault>, Refusal<'w>>
+    requires new { T.took taker taker [] }
+    ensures ok { IfOk result (λ read. (text : List ℕ) × (length text ≤ text_limit) × IsFed (T.took taker) (T.fails taker) read text × ReadsWhole (I.state inputs.old) (I.state inputs.new) text_limit name.now (Ok text)) }
     ensures err { IfErr result (λ r. ReadsWhole (I.state inputs.old) (I.state inputs.new) text_limit name.now (Err (event_of r))) }
     ensures inputs { Stays (I.state inputs.old) (I.state inputs.new) }
 {
@@ -57,16 +54,16 @@ pub(crate) fn feed_whole<'w, I: Inputs, T: TakesText>(
     }
     let mut piece = [0u8; TURN];
     let mut left = TEXT_LIMIT;
-    let mut found = None;
+    let mut read = Ok(taker);
     loop {
         let turn = match next_turn(inputs, name, left, &mut piece) {
             Ok(turn) => turn,
             Err(refusal) => return Err(refusal),
         };
-        found = feed_turn(taker, found, &piece[..turn.count]);
+        read = take_turn(read, &piece[..turn.count]);
         left -= turn.count;
         if turn.last {
-            return Ok(found);
+            return Ok(read);
         }
     }
 }

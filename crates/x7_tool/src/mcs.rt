@@ -57,12 +57,16 @@ pub(crate) fn mcs<'w, I: Inputs>(
 impl TakesText for McsReader {
     type Fault = McsFault;
 
-    ghost took = { ReaderStandsFor };
+    ghost took = { λ first. ReaderStandsFor };
 
-    ghost fails = { λ fault text. IsFaultOf text fault };
+    ghost fails = { λ first fault text. IsFaultOf text fault };
 
-    fn feed(&mut self, piece: &[u8]) -> Result<(), McsFault> {
-        McsReader::feed(self, piece)
+    fn take(self, piece: &[u8]) -> Result<McsReader, McsFault> {
+        let mut reader = self;
+        match reader.feed(piece) {
+            Ok(()) => Ok(reader),
+            Err(fault) => Err(fault),
+        }
     }
 }
 
@@ -75,14 +79,14 @@ pub(crate) fn unmcs<'w, I: Inputs>(
     ensures due { AnswersForm (FromMcs name.now) (I.state inputs.old) (I.state inputs.new) (seen whole_of result) }
     ensures inputs { Stays (I.state inputs.old) (I.state inputs.new) }
 {
-    let mut reader = McsReader::new(alloc);
-    let found = match feed_whole(inputs, name, &mut reader) {
-        Ok(found) => found,
+    let read = match feed_whole(inputs, name, McsReader::new(alloc)) {
+        Ok(read) => read,
         Err(refusal) => return Err(refusal),
     };
-    if let Some(fault) = found {
-        return Err(refusal_of(name, fault));
-    }
+    let reader = match read {
+        Ok(reader) => reader,
+        Err(fault) => return Err(refusal_of(name, fault)),
+    };
     match reader.finish() {
         Ok(image) => Ok(Text {
             stopped: false,

@@ -1,23 +1,24 @@
 //! The commands `plan full`, `plan partial` and `plan read`: streams for plans.
-ghost use Rattle.std.specs.Prelude.{◌≡◌, ◌⊎◌, ◌≤◌, ◌<◌, ◌^◌, ◌++◌, ℕ, List, [], ◌∷◌, length, Ok, Err, IfOk, IfErr};
+ghost use Rattle.std.specs.Prelude.{◌≡◌, ◌⊎◌, ◌<◌, ◌^◌, ℕ, List, [], ◌∷◌, length, Ok, Err, IfOk, IfErr};
 ghost use Rattle.x7_words.specs.Input.{Stays};
 ghost use Rattle.x7_part.specs.Part.{PartData, frame_words};
 ghost use Rattle.x7_memory.specs.Planned.{PlanData};
 ghost use Rattle.x7_frames.specs.FramesText.{IsPlanOf};
 ghost use Rattle.x7_forms.specs.Message.{event_of};
 ghost use Rattle.x7_forms.specs.Event.{no_memory};
-ghost use Rattle.x7_tool.specs.Outcome.{PlannedPartial, PlannedRead, frames_event, planner_event, text_limit};
+ghost use Rattle.x7_tool.specs.Outcome.{PlannedPartial, PlannedRead, frames_event, planner_event};
 ghost use Rattle.x7_forms.specs.Form.{PlanningFull, PlanningPartial, PlanningRead};
-ghost use Rattle.x7_tool.specs.Planned.{IsRead, HasNoPlan, ReadsPlan};
+ghost use Rattle.x7_tool.specs.Planned.{HasNoPlan, HasRead, IsFramesFault, IsRead, ReadsPlan};
 ghost use Rattle.x7_tool.specs.FullText.{full_of};
 ghost use Rattle.x7_tool.specs.Ready.{whole_of};
-ghost use Rattle.x7_forms.specs.Step.{ReadsWhole, seen};
+ghost use Rattle.x7_forms.specs.Step.{seen};
 ghost use Rattle.x7_tool.specs.Run.{AnswersForm};
 
+use crate::feeding::{TakesText, feed_whole};
 use crate::full_text::FullText;
 use crate::text::Text;
 use std::alloc::Global;
-use x7_forms::{InputFault, Refusal, TEXT_LIMIT, TURN, Why, next_turn, open, read_part};
+use x7_forms::{InputFault, Refusal, Why, read_part};
 use x7_frames::{FramesFault, FramesReader};
 use x7_memory::Plan;
 use x7_part::Part;
@@ -56,50 +57,16 @@ fn planner_refusal<'w>(name: &'w str, fault: PlanFault) -> Refusal<'w>
     }
 }
 
-/// Reads the next piece, where no fault was found before it.
-fn read_piece<'p>(
-    read: Result<FramesReader<'p>, FramesFault>,
-    piece: &[u8],
-) -> Result<FramesReader<'p>, FramesFault>
-    ensures { (part : PartData) (text : List ℕ) → length (text ++ piece.now) < 2 ^ 63 → IsRead part read.entry text → IsRead part result (text ++ piece.now) }
-{
-    match read {
-        Ok(reader) => reader.feed(piece),
-        Err(fault) => Err(fault),
-    }
-}
+/// A reader of a frames text takes it in pieces.
+impl<'p> TakesText for FramesReader<'p> {
+    type Fault = FramesFault;
 
-/// Reads a frames text turn by turn, to its end also where there is a fault.
-fn read_lines<'w, 'p, I: Inputs>(
-    alloc: Global,
-    inputs: &mut I,
-    part: &'p Part,
-    name: &'w str,
-) -> Result<Result<FramesReader<'p>, FramesFault>, Refusal<'w>>
-    ensures ok { IfOk result (λ read. (text : List ℕ) × (length text ≤ text_limit) × IsRead part.now read text × ReadsWhole (I.state inputs.old) (I.state inputs.new) text_limit name.now (Ok text)) }
-    ensures err { IfErr result (λ r. ReadsWhole (I.state inputs.old) (I.state inputs.new) text_limit name.now (Err (event_of r))) }
-    ensures inputs { Stays (I.state inputs.old) (I.state inputs.new) }
-{
-    let Ok(reader) = FramesReader::new(alloc, part) else {
-        return Err(Refusal::unnamed(Why::NoMemory));
-    };
-    match open(inputs, name) {
-        Ok(()) => (),
-        Err(refusal) => return Err(refusal),
-    }
-    let mut piece = [0u8; TURN];
-    let mut left = TEXT_LIMIT;
-    let mut read = Ok(reader);
-    loop {
-        let turn = match next_turn(inputs, name, left, &mut piece) {
-            Ok(turn) => turn,
-            Err(refusal) => return Err(refusal),
-        };
-        read = read_piece(read, &piece[..turn.count]);
-        left -= turn.count;
-        if turn.last {
-            return Ok(read);
-        }
+    ghost took = { λ first. HasRead first.part };
+
+    ghost fails = { λ first. IsFramesFault first.part };
+
+    fn take(self, piece: &[u8]) -> Result<FramesReader<'p>, FramesFault> {
+        self.feed(piece)
     }
 }
 
@@ -131,7 +98,10 @@ fn read_plan<'w, I: Inputs>(
     ensures due { ReadsPlan (I.state inputs.old) (I.state inputs.new) part.now name.now (seen (λ plan. plan) result) }
     ensures inputs { Stays (I.state inputs.old) (I.state inputs.new) }
 {
-    let read = match read_lines(alloc, inputs, part, name) {
+    let Ok(reader) = FramesReader::new(alloc, part) else {
+        return Err(Refusal::unnamed(Why::NoMemory));
+    };
+    let read = match feed_whole(inputs, name, reader) {
         Ok(read) => read,
         Err(refusal) => return Err(refusal),
     };

@@ -7,7 +7,7 @@ ghost use Rattle.x7_forms.specs.Step.{AnswersAs, IsUnplayed, seen, step_over};
 ghost use Rattle.x7_tool.specs.Streamed.{data_from};
 
 use std::alloc::Global;
-use x7_forms::{Refusal, STREAM_LIMIT, Why, data_start, read_whole};
+use x7_forms::{Refusal, STREAM_LIMIT, data_start, read_whole};
 use x7_words::Inputs;
 
 /// A stream that was read whole, and where its data begin.
@@ -39,6 +39,21 @@ pub(crate) fn read_stream<'w, I: Inputs>(
     }
 }
 
+/// The data of a stream, in the room of its bytes.
+fn data_of(stream: Stream) -> Vec<u8>
+    requires { stream.start ≤ length stream.bytes.items }
+    ensures { result.items ≡ data_from stream }
+{
+    let Stream { mut bytes, start } = stream;
+    if start == 0 {
+        return bytes;
+    }
+    let end = bytes.len();
+    bytes.copy_within(start..end, 0);
+    bytes.truncate(end - start);
+    bytes
+}
+
 /// The data of a stream, alone: what follows its header, where it has one.
 pub(crate) fn read_data<'w, I: Inputs>(
     alloc: Global,
@@ -49,12 +64,8 @@ pub(crate) fn read_data<'w, I: Inputs>(
         (λ known. stream_data known name.now) (seen (λ bytes. bytes.items) result) }
     ensures inputs { Stays (I.state inputs.old) (I.state inputs.new) }
 {
-    let mut stream = match read_stream(alloc, inputs, name) {
-        Ok(stream) => stream,
-        Err(refusal) => return Err(refusal),
-    };
-    match stream.bytes.split_off(stream.start) {
-        Ok(data) => Ok(data),
-        Err(_) => Err(Refusal::unnamed(Why::NoMemory)),
+    match read_stream(alloc, inputs, name) {
+        Ok(stream) => Ok(data_of(stream)),
+        Err(refusal) => Err(refusal),
     }
 }

@@ -97,7 +97,7 @@ pub data IsWritten (size : ℕ) (stream : List ℕ) (place byte : ℕ) : Type 0 
   in_switch : (slot : ℕ) → slot < 2048 → 32 * slot ≤ place → place < 32 * slot + 4
       → byte ≡ wanted_at (32 * slot) open_word place → IsWritten size stream place byte
 
--- a byte that was read back at a place of a flash of a size is another than the one written there
+-- a byte is another than the one that an update with this stream writes at a place of a flash of a size
 pub record IsReadWrong (size : ℕ) (stream : List ℕ) (place wrote read : ℕ) : Type 0 where
   pub sized : HasSize size
   pub written : IsWritten size stream place wrote

@@ -7,7 +7,7 @@ ghost use Rattle.x7_engine.specs.Phases.{soonest};
 ghost use Rattle.x7_engine.specs.ReadBuffer.{with_words};
 ghost use Rattle.x7_engine.specs.Standing.{DeviceStandsFor, HasStopped, NoWordDue, fed_more, fed_of, reads_given};
 ghost use Rattle.x7_engine.specs.State.{state_of, stop_in};
-ghost use Rattle.x7_engine.specs.Turns.{Turns};
+ghost use Rattle.x7_engine.specs.Turns.{TakesTurn};
 ghost use Rattle.x7_engine.specs.UntilStarted.{HasNotBegun, NoneStarted, has_started, says_started, taken_until};
 ghost use Rattle.x7_engine.specs.declared.kept.Kept.{Kept as KeptData};
 ghost use Rattle.x7_engine.specs.declared.until_started.UntilStarted.TheVariants as until;
@@ -62,7 +62,7 @@ impl Device {
         ensures within { at.new ≤ length piece.now }
         ensures taken { self.new.taken ≡ self.old.taken + (at.new - at.old) }
         ensures fed { fed_of self.new ≡ fed_more self.old (at.new - at.old) }
-        ensures turns { Turns self.old self.new (between piece.now at.old at.new) }
+        ensures turns { TakesTurn self.old self.new (between piece.now at.old at.new) }
         ensures used_up { IsTrue result → (at.new ≡ length piece.now) × (self.new.registers.stop ≡ None) × NoWordDue self.new }
         ensures goes { result ≡ false → self.new.registers.stop ≡ None
             → calls_left self.new.cutter (length piece.now - at.new) < calls_left self.old.cutter (length piece.now - at.old) }

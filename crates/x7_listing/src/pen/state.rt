@@ -1,7 +1,8 @@
 //! What a pen keeps.
 ghost use Rattle.std.specs.Prelude.{◌<◌, ◌≤◌, if◌then◌else◌};
 
-/// How many elements stand in the open line, and the bytes of a gap that are held: the last four at most.
+/// Whether the last bytes listed are a session's, how many elements stand in the open line, and the bytes that are held: the
+/// last four at most.
 #[derive(Clone, Copy)]
 pub(crate) struct Pen {
     pub(crate) synced: bool,

@@ -1,6 +1,6 @@
-use Rattle.std.proofs.Common.{◌++◌, length, length-append, arith, ap, ◌∙◌}
+use Rattle.std.proofs.Common.{◌++◌, length, length-append, arith, ap, sym, ◌∙◌}
+use Rattle.x7_text.proofs.PieceLemmas.{at-none, at-some, cut-line, only-line}
 use Rattle.x7_mcs.specs.Reader.{body_in}
-use Rattle.x7_mcs.proofs.LineLemmas.{at-none, at-some, cut-line, only-line}
 use Rattle.x7_mcs.proofs.ReaderLemmas.{completed, free-now, held-on}
 use Rattle.x7_mcs.proofs.reader.complete.Goals as goal
 
@@ -15,7 +15,7 @@ returns-in_default-clause-free c =
     let line = c.first_line.result.0.now in
     let alone = at-none c.args.piece.now line c.first_line.result.1 c.in_default.is c.first_line.ensures in
     let p = only-line c.args.piece.now line alone in
-    free-now c.args.held.now.items c.args.piece.now c.hold.new.held.items (c.in-Ok.ensures ∙ ap (λ t. c.args.held.now.items ++ t) p.0) c.requires.free p.1
+    free-now c.args.held.now.items c.args.piece.now c.hold.new.held.items (c.in-Ok.ensures ∙ ap (λ t. c.args.held.now.items ++ t) (sym p.0)) c.requires.free p.1
 
 pub returns-in_default-clause-few : goal.returns-in_default-clause-few
 returns-in_default-clause-few c =

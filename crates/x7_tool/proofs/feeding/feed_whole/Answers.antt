@@ -22,7 +22,7 @@ returns-then-turn-clause-ok g c =
     let fits : length (taken ++ piece) < 2 ^ 63 = omega (arith, short) in (
       taken ++ piece,
       short,
-      c.feed_turn-found.ensures taken fits v.told.1.1,
+      c.take_turn-read.ensures c.args.taker taken fits v.told.1.1,
       λ flash.
           whole_read contents flash (CameIn (step_over (name ∷ []) (i.state c.args.inputs.now) (i.state c.next_turn.new.inputs))) name (taken ++ piece) (i.state c.next_turn.new.inputs).rest text_limit sel (c.in-Ok-next_turn.ensures.end c.if-turn.true) short,
     )
@@ -44,7 +44,7 @@ loop-turn-preserved g c =
       inputs = stays_on _ _ _ v.inputs c.next_turn.ensures.inputs;
       left = omega (arith, v.left);
       piece = c.next_turn.ensures.length ∙ v.piece;
-      told = (taken ++ piece, (sel, c.feed_turn-found.ensures taken fits v.told.1.1, omega (arith, size, v.told.1.2, c.in-Ok-next_turn.ensures.within.0), at_on name taken piece (i.state c.loop-turn.inputs) (i.state c.next_turn.new.inputs) v.told.1.3 c.in-Ok-next_turn.ensures.ok c.next_turn.ensures.asked));
+      told = (taken ++ piece, (sel, c.take_turn-read.ensures c.args.taker taken fits v.told.1.1, omega (arith, size, v.told.1.2, c.in-Ok-next_turn.ensures.within.0), at_on name taken piece (i.state c.loop-turn.inputs) (i.state c.next_turn.new.inputs) v.told.1.3 c.in-Ok-next_turn.ensures.ok c.next_turn.ensures.asked));
     }
 
 pub returns-in-Err-clause-err : goal.returns-in-Err-clause-err

@@ -14,7 +14,7 @@ invariant-loop-turn g l =
       inputs : Stays (i.state l.fn.inputs) (i.state l.inputs);
       left : l.left ≤ text_limit;
       piece : length l.piece ≡ 65536;
-      told : (taken : List ℕ) × (Selects (i.state l.fn.inputs).contents l.name (preceded taken (i.state l.inputs).rest) × IsFed (t.took l.taker) t.fails l.found taken × (length taken + l.left ≡ text_limit) × IsAt l.name taken (i.state l.inputs));
+      told : (taken : List ℕ) × (Selects (i.state l.fn.inputs).contents l.name (preceded taken (i.state l.inputs).rest) × IsFed (t.took l.fn.taker) (t.fails l.fn.taker) l.read taken × (length taken + l.left ≡ text_limit) × IsAt l.name taken (i.state l.inputs));
     }
 
 abbrev pub decreases-loop-turn : goal.decreases-loop-turn

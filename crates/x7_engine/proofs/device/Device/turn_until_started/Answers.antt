@@ -1,11 +1,11 @@
 use Rattle.std.proofs.Common.{subst}
-use Rattle.x7_engine.specs.Turns.{Turns}
+use Rattle.x7_engine.specs.Turns.{TakesTurn}
 use Rattle.x7_engine.proofs.UntilLemmas.{in_slice, turn_first}
 use Rattle.x7_engine.proofs.device.Device.turn_until_started.Goals as goal
 
 pub returns-then-turn-clause-turns : goal.returns-then-turn-clause-turns
 returns-then-turn-clause-turns c =
-    subst (Turns c.args.self.now c.turn.new.self) (in_slice c.args.piece.now c.turn_end-end.result c.args.at.now c.turn.new.at c.turn_end-end.ensures.within c.turn.ensures.forward c.turn.ensures.within) c.turn.ensures.turns
+    subst (TakesTurn c.args.self.now c.turn.new.self) (in_slice c.args.piece.now c.turn_end-end.result c.args.at.now c.turn.new.at c.turn_end-end.ensures.within c.turn.ensures.forward c.turn.ensures.within) c.turn.ensures.turns
 
 pub returns-then-turn-clause-first : goal.returns-then-turn-clause-first
 returns-then-turn-clause-first c = λ part kept wrapped bytes s not.
@@ -14,7 +14,7 @@ returns-then-turn-clause-first c = λ part kept wrapped bytes s not.
 
 pub returns-clause-turns : goal.returns-clause-turns
 returns-clause-turns c =
-    subst (Turns c.args.self.now c.turn.new.self) (in_slice c.args.piece.now c.turn_end-end.result c.args.at.now c.turn.new.at c.turn_end-end.ensures.within c.turn.ensures.forward c.turn.ensures.within) c.turn.ensures.turns
+    subst (TakesTurn c.args.self.now c.turn.new.self) (in_slice c.args.piece.now c.turn_end-end.result c.args.at.now c.turn.new.at c.turn_end-end.ensures.within c.turn.ensures.forward c.turn.ensures.within) c.turn.ensures.turns
 
 pub returns-clause-first : goal.returns-clause-first
 returns-clause-first c = λ part kept wrapped bytes s not.

@@ -1,7 +1,8 @@
 use Rattle.std.proofs.Common.{refl}
 use Rattle.std.proofs.lemmas.Result.{on_ok_weaker}
+use Rattle.x7_text.proofs.PieceLemmas.{at-none, at-some}
 use Rattle.x7_frames.specs.Reader.{reader_of}
-use Rattle.x7_frames.proofs.ReaderLemmas.{at-none, at-some, fed-end, fed-fault, fed-line, fed-none, only-free}
+use Rattle.x7_frames.proofs.ReaderLemmas.{fed-end, fed-fault, fed-line, fed-none, only-free}
 use Rattle.x7_frames.proofs.reader.Lines.feed.Goals as goal
 
 pub loop-after-init : goal.loop-after-init

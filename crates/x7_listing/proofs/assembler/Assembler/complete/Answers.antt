@@ -1,7 +1,8 @@
 use Rattle.std.proofs.Common.{◌+◌, ◌<◌, ◌≤◌, ◌∷◌, [], ◌++◌, List, ℕ, arith, refl, inl, inr, sym, subst, ap, ◌∙◌, append_assoc, length-append}
 use Rattle.x7_text.specs.Lines.{split}
+use Rattle.x7_text.proofs.PieceLemmas.{at-none, at-some, only-line, some-line}
 use Rattle.x7_listing.specs.Assembling.{AssemblerStandsFor, AssemblerState, body_of, Goes, Waits}
-use Rattle.x7_listing.proofs.AssemblerLemmas.{at-none, at-some, completes, hold-more, only-line, some-line, waits-whole}
+use Rattle.x7_listing.proofs.AssemblerLemmas.{completes, hold-more, waits-whole}
 use Rattle.x7_listing.proofs.assembler.Assembler.complete.Goals as goal
 
 pub returns-in_default-clause-ok : goal.returns-in_default-clause-ok

@@ -1,8 +1,9 @@
 use Rattle.std.proofs.Common.{◌≡◌, ◌+◌, ◌-◌, ◌++◌, arith, inl, inr, subst, length, take, drop, length-drop}
 use Rattle.std.proofs.lemmas.List.{length-take-le}
 use Rattle.x7_text.specs.Lines.{split}
+use Rattle.x7_text.proofs.PieceLemmas.{at-none, at-some, only-line}
 use Rattle.x7_listing.specs.Assembling.{body_by, Goes}
-use Rattle.x7_listing.proofs.AssemblerLemmas.{at-none, at-some, only-line, quick-on, some-line-more}
+use Rattle.x7_listing.proofs.AssemblerLemmas.{quick-on, some-line-more}
 use Rattle.x7_listing.proofs.body.Body.put_lines.Goals as goal
 
 pub returns-in_default-clause-ok : goal.returns-in_default-clause-ok

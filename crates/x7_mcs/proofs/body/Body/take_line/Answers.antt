@@ -1,7 +1,7 @@
 use Rattle.std.proofs.Common.{◌++◌, arith}
+use Rattle.x7_text.proofs.PieceLemmas.{at-none, at-some, cut-line, only-line}
 use Rattle.x7_mcs.specs.Reader.{body_in}
 use Rattle.x7_mcs.specs.Text.{data_line}
-use Rattle.x7_mcs.proofs.LineLemmas.{at-none, at-some, cut-line, only-line}
 use Rattle.x7_mcs.proofs.ReaderLemmas.{line-cut, row-first}
 use Rattle.x7_mcs.proofs.body.Body.take_line.Goals as goal
 

@@ -1,0 +1,78 @@
+-- The lines of a text that comes in pieces: its first line, its only line, and texts that hold no line end.
+use Rattle.std.proofs.Common.{◌≡◌, ◌==◌, ℕ, ◌/◌, ◌%◌, ◌^◌, ◌<◌, Bool, true, false, if◌then◌else◌, List, [], ◌∷◌, ◌++◌, Option, None, Some, MatchOption, Bor, length, map, refl, ap, sym, subst, ◌∙◌, arith, append_assoc}
+use Rattle.std.proofs.lemmas.Grind.{common_steps}
+use Rattle.std.specs.List.{flat_map, AllByRecursion}
+use Rattle.x7_text.specs.Digits.{hex_byte, hex_digit, hex_word}
+use Rattle.x7_text.specs.Lines.{has_no_end, joined, on_first, split}
+use Rattle.x7_text.proofs.SplitLemmas.{joined-split, split-free, split-some}
+
+-- ---- texts that hold no line end
+
+free-by : (b : Bool) (xs ys : List ℕ) → (if b then false else has_no_end xs) ≡ true → (has_no_end xs ≡ true → has_no_end (xs ++ ys) ≡ true) → (if b then false else has_no_end (xs ++ ys)) ≡ true
+free-by true xs ys h f = absurd cc
+free-by false xs ys h f = f h
+
+pub free-both : (xs ys : List ℕ) → has_no_end xs ≡ true → has_no_end ys ≡ true → has_no_end (xs ++ ys) ≡ true
+free-both [] ys h k = k
+free-both (x ∷ xs) ys h k = free-by (x == 10) xs ys h (λ g. free-both xs ys g k)
+
+pub free-more : (x : ℕ) (xs : List ℕ) → (x == 10) ≡ false → has_no_end xs ≡ true → has_no_end (x ∷ xs) ≡ true
+free-more x xs e h = rw e h
+
+digit-free : (n : ℕ) → (hex_digit n == 10) ≡ false
+digit-free n = grind (arith, common_steps)
+
+digits-free-more : (ns xs : List ℕ) → has_no_end xs ≡ true → has_no_end (map hex_digit ns ++ xs) ≡ true
+digits-free-more [] xs h = h
+digits-free-more (n ∷ ns) xs h = free-more (hex_digit n) (map hex_digit ns ++ xs) (digit-free n) (digits-free-more ns xs h)
+
+pub hex-free : (bs : List ℕ) → has_no_end (flat_map hex_byte bs) ≡ true
+hex-free [] = refl
+hex-free (b ∷ bs) = digits-free-more (b / 2 ^ 4 % 16 ∷ b % 16 ∷ []) (flat_map hex_byte bs) (hex-free bs)
+
+pub word-free : (w : ℕ) → has_no_end (hex_word w) ≡ true
+word-free w = digits-free-more (w / 2 ^ 28 % 16 ∷ w / 2 ^ 24 % 16 ∷ w / 2 ^ 20 % 16 ∷ w / 2 ^ 16 % 16 ∷ w / 2 ^ 12 % 16 ∷ w / 2 ^ 8 % 16 ∷ w / 2 ^ 4 % 16 ∷ w % 16 ∷ []) [] refl
+
+alone-by : (b : Bool) (c : ℕ) (cs : List ℕ) → (if b then false else has_no_end cs) ≡ true → (has_no_end cs ≡ true → split cs ≡ cs ∷ []) → (if b then [] ∷ split cs else on_first c (split cs)) ≡ (c ∷ cs) ∷ []
+alone-by true c cs h f = absurd cc
+alone-by false c cs h f = ap (on_first c) (f h)
+
+-- such a text is one line
+pub split-alone : (t : List ℕ) → has_no_end t ≡ true → split t ≡ t ∷ []
+split-alone [] h = refl
+split-alone (c ∷ cs) h = alone-by (c == 10) c cs h (split-alone cs)
+
+-- ---- the first line of a text
+
+-- what the first line and the text after it are
+abbrev pub FirstLine : List ℕ → List ℕ → Option (Bor (List ℕ)) → Type 0
+FirstLine text t o = MatchOption o (split text ≡ t ∷ []) (λ more. (split text ≡ t ∷ split more.now) × (length more.now < length text))
+
+pub at-some : (text t : List ℕ) (o : Option (Bor (List ℕ))) (x : Bor (List ℕ)) → o ≡ Some x → FirstLine text t o → (split text ≡ t ∷ split x.now) × (length x.now < length text)
+at-some text t o x e h = subst (λ p. FirstLine text t p) e h
+
+pub at-none : (text t : List ℕ) (o : Option (Bor (List ℕ))) → o ≡ None → FirstLine text t o → split text ≡ t ∷ []
+at-none text t o e h = subst (λ p. FirstLine text t p) e h
+
+pub first-free : (text t : List ℕ) (ts : List (List ℕ)) → split text ≡ t ∷ ts → has_no_end t ≡ true
+first-free text t ts e = (subst (AllByRecursion (λ line. has_no_end line ≡ true)) e (split-free text)).0
+
+-- the only line of a text is the text, and holds no end
+pub only-line : (text t : List ℕ) → split text ≡ t ∷ [] → (text ≡ t) × (has_no_end text ≡ true)
+only-line text t e =
+    let is : text ≡ t = sym (joined-split text) ∙ ap joined e in
+    (is, subst (λ s. has_no_end s ≡ true) (sym is) (first-free text t [] e))
+
+joined-ahead : (t : List ℕ) (ts : List (List ℕ)) → (ts ≡ [] → ⊥) → joined (t ∷ ts) ≡ t ++ 10 ∷ joined ts
+joined-ahead t [] h = absurd (h refl)
+joined-ahead t (u ∷ us) h = refl
+
+-- the first of several lines, its end and the others are the text
+pub some-line : (text t more : List ℕ) → split text ≡ t ∷ split more → (text ≡ t ++ 10 ∷ more) × (has_no_end t ≡ true)
+some-line text t more e =
+    let is : text ≡ t ++ 10 ∷ more = sym (joined-split text) ∙ ap joined e ∙ joined-ahead t (split more) (split-some more) ∙ ap (λ s. t ++ 10 ∷ s) (joined-split more) in
+    (is, first-free text t (split more) e)
+
+-- the same with a text behind
+pub cut-line : (text t rest more : List ℕ) → split text ≡ t ∷ split rest → (text ++ more ≡ t ++ 10 ∷ (rest ++ more)) × (has_no_end t ≡ true)
+cut-line text t rest more e = let p = some-line text t rest e in (ap (λ s. s ++ more) p.0 ∙ append_assoc t (10 ∷ rest) more, p.1)
