@@ -5,14 +5,17 @@ ghost use Rattle.std.specs.Prelude.{◌≡◌};
 ghost use Rattle.std.specs.Process.{exit_status};
 ghost use Rattle.x7_forms.specs.Message.{number_of};
 
-use std::env;
 use std::io::{self, ErrorKind};
 use std::process::ExitCode;
+use std::{env, fs};
 use x7_tool::{Status, run};
 use x7_words::{FileFlash, FileInputs, StdSink};
 
 /// The program's end where the system gives no list of words, as where one of them isn't UTF-8.
 const NO_WORDS: u8 = 12;
+
+/// A file that gives no byte, and takes none where it is opened to be read.
+const NOTHING: &str = "/dev/null";
 
 /// The words of the command line behind the program's name.
 fn words(rt: &HostRuntime) -> io::Result<Vec<String>> {
@@ -31,6 +34,11 @@ fn end_of(status: Status) -> ExitCode
 }
 
 fn main(rt: HostRuntime) -> ExitCode {
+    // The system gives a new file the lowest number that is free: that of a standard file which the caller closed. So /dev/null
+    // takes these numbers before an input or the flash may: what is written there fails.
+    let _input = fs::open(&rt, NOTHING);
+    let _output = fs::open(&rt, NOTHING);
+    let _error = fs::open(&rt, NOTHING);
     let words = match words(&rt) {
         Ok(words) => words,
         Err(error) if error.kind() == ErrorKind::OutOfMemory => {
