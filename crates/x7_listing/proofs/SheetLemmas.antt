@@ -1,7 +1,10 @@
 -- A sheet: what is stored behind its text.
-use Rattle.std.proofs.Common.{◌≡◌, ℕ, ◌+◌, ◌≤◌, List, ◌++◌, length, take, ap, sym, ◌∙◌, arith}
+use Rattle.std.proofs.Common.{◌≡◌, ℕ, ◌+◌, ◌≤◌, List, ◌++◌, inl, inr, length, min, take, drop, refl, ap, sym, ◌∙◌, append_assoc, arith}
 use Rattle.std.proofs.Math.Seq.{take-append-add}
-use Rattle.std.proofs.lemmas.List.{length-take-le, take-append-le}
+use Rattle.std.proofs.lemmas.Bool.{cases_lt}
+use Rattle.std.proofs.lemmas.List.{length-take-le, take-append-le, take_all}
+use Rattle.std.proofs.lemmas.Simd.{put_chunk_is}
+use lib.Lanes.{put_chunk}
 
 -- of a piece stored behind a text, so many bytes are text then
 pub stored : (sheet piece new rest : List ℕ) (len k : ℕ) → length sheet ≡ 2048 → len + length piece ≤ 2048 → k ≤ length piece → new ≡ piece → take (len + k) (take len sheet ++ (new ++ rest)) ≡ take len sheet ++ take k piece
@@ -9,3 +12,16 @@ stored sheet piece new rest len k size room few e =
     let prefix : length (take len sheet) ≡ len = length-take-le len sheet (omega (arith, size, room)) in
     ap (λ t. take (len + k) (take len sheet ++ (t ++ rest))) e ∙ ap (λ (m : ℕ). take (m + k) (take len sheet ++ (piece ++ rest))) (sym prefix)
     ∙ take-append-add (take len sheet) (piece ++ rest) k ∙ ap (λ t. take len sheet ++ t) (take-append-le k piece rest few)
+
+-- the same of lanes that are stored over what stood there
+pub lanes_stored : (sheet old lanes rest : List ℕ) (len k : ℕ) → length sheet ≡ 2048 → len + length lanes ≤ 2048 → length lanes ≤ length old → k ≤ length lanes → take (len + k) (take len sheet ++ (put_chunk 0 old lanes ++ rest)) ≡ take len sheet ++ take k lanes
+lanes_stored sheet old lanes rest len k size room fits few =
+    ap (λ t. take (len + k) (take len sheet ++ (t ++ rest))) (put_chunk_is 0 old lanes (omega (arith, fits))) ∙ ap (λ t. take (len + k) (take len sheet ++ t)) (append_assoc lanes (drop (length lanes) old) rest)
+    ∙ stored sheet lanes lanes (drop (length lanes) old ++ rest) len k size room few refl
+
+-- a row has no more text than bytes
+pub row_part : (row : List ℕ) (r : ℕ) → length row ≡ 32 → take (min r 32) row ≡ take r row
+row_part row r long = elim (cases_lt r 32) [
+  | inl below ↦ ap (λ (k : ℕ). take k row) (let e : min r 32 ≡ r = omega (arith, below) in e)
+  | inr above ↦ take_all (min r 32) row (omega (arith, long, above)) ∙ sym (take_all r row (omega (arith, long, above)))
+]

@@ -1,5 +1,5 @@
 //! No-ops and zero words in a row, listed at once.
-ghost use Rattle.std.specs.Prelude.{◌≡◌, ℕ, ◌+◌, ◌*◌, ◌<◌, ◌≤◌, List, IfNone, IfSome, length, take, vec_len, vec_capacity};
+ghost use Rattle.std.specs.Prelude.{◌≡◌, ◌+◌, ◌*◌, ◌<◌, ◌≤◌, IfNone, IfSome, length, take, vec_len, vec_capacity};
 ghost use Rattle.x7_packets.specs.Cutting.{CutterState};
 ghost use Rattle.x7_packets.specs.Nops.{equal_bytes, nop_bytes, nop_word};
 ghost use Rattle.x7_text.specs.Appends.{Appends};
@@ -10,6 +10,9 @@ ghost use Rattle.x7_listing.specs.Pens.{TakesHead, TellsOn, lister_with};
 use crate::pen::{Pen, in_session, session_line};
 use x7_packets::{Cutter, Step};
 use x7_text::{put, put_close};
+
+/// The first byte of the no-op.
+pub(crate) const NO_OP: u8 = 0x20;
 
 /// How many words a block has.
 const BLOCK: usize = 64;
@@ -114,6 +117,12 @@ pub(crate) fn take_equal(
     ensures same { IfNone result (text.new ≡ text.old) }
     ensures room { vec_capacity text.old ≤ vec_capacity text.new }
 {
+    let [first, ..] = rest else {
+        return None;
+    };
+    if *first != NO_OP && *first != 0 {
+        return None;
+    }
     let nops = cutter.nop_count(rest);
     if nops > 0 {
         return Some(Taken {

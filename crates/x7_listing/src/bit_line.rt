@@ -1,10 +1,10 @@
 //! The line of a header: written, and read back.
-ghost use Rattle.std.specs.Prelude.{◌≡◌, ◌≢◌, ℕ, List, [], ◌∷◌, ◌++◌, ◌<◌, ◌≤◌, ◌^◌, length, true, vec_len, IfOk, OnOk, IfSome, MatchOption, decimal};
+ghost use Rattle.std.specs.Prelude.{◌≡◌, ◌≢◌, ℕ, List, [], ◌∷◌, ◌++◌, ◌<◌, ◌≤◌, length, vec_len, IfOk, OnOk, IfSome, MatchOption};
 ghost use Rattle.std.specs.List.{flat_map};
 ghost use Rattle.x7_words.specs.Word.{AreBytes};
 ghost use Rattle.x7_header.specs.Header.{Contents, contents_of};
 ghost use Rattle.x7_text.specs.Digits.{hex_byte};
-ghost use Rattle.x7_listing.specs.BitLine.{bit_text, field_text, has_no_space, HasFieldFirst, IsCut, IsField, IsHeaderOf, IsHeld};
+ghost use Rattle.x7_listing.specs.BitLine.{bit_text, field_text, HasFieldFirst, IsCut, IsField, IsHeaderOf, IsHeld};
 
 use crate::reading::after;
 use memchr::memchr;

@@ -1,5 +1,5 @@
 //! The lines of single words.
-ghost use Rattle.std.specs.Prelude.{◌≡◌, ℕ, List, [], ◌∷◌, ◌++◌, ◌<◌, ◌≤◌, ◌+◌, length, vec_len, vec_capacity, codes, decimal};
+ghost use Rattle.std.specs.Prelude.{◌≡◌, [], ◌∷◌, ◌++◌, ◌<◌, ◌≤◌, ◌+◌, length, vec_len, vec_capacity, codes, decimal};
 ghost use Rattle.x7_regs.specs.Register.{reg_name};
 ghost use Rattle.x7_text.specs.Appends.{Appends};
 ghost use Rattle.x7_text.specs.Digits.{hex_word};
@@ -104,15 +104,15 @@ fn put_count(text: &mut Vec<u8>, word: &[u8], count: u32)
     put(text, b"\n");
 }
 
-/// Appends a line of one word.
-fn put_whole_word(text: &mut Vec<u8>, word: &[u8], w: u32)
-    requires room { vec_len text.old + 47 ≤ vec_capacity text.old }
-    requires short { length word.now ≤ 7 }
+/// Appends a line of one word, behind four letters and a space.
+fn put_whole_word(text: &mut Vec<u8>, word: &[u8; 5], w: u32)
+    requires { vec_len text.old + 47 ≤ vec_capacity text.old }
     ensures appends { Appends text.old text.new (word.now ++ hex_word w ++ 10 ∷ []) 47 }
 {
-    put(text, word);
-    put(text, &hex_of_word(w));
-    put(text, b"\n");
+    let mut line = [b'\n'; 14];
+    line[5..13].copy_from_slice(&hex_of_word(w));
+    line[..5].copy_from_slice(word);
+    put(text, &line);
 }
 
 /// Appends the line of a word in a header's place, behind an open line of `in_line` words.

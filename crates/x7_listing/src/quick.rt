@@ -178,6 +178,10 @@ fn put_bytes(out: &mut Vec<u8>, text: &[u8]) -> Option<WholeLines>
         return None;
     }
     let prefix = prefix_of_hex(&after_word(text));
+    if prefix.digits == 64 && text[70] == b'\n' {
+        put(out, &prefix.bytes);
+        return Some(WholeLines { size: 71, count: 1 });
+    }
     let count = prefix.digits / 2;
     if count == 0 || prefix.digits != 2 * count || text[6 + prefix.digits] != b'\n' {
         return None;

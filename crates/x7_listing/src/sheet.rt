@@ -3,6 +3,8 @@
 ghost use Rattle.std.specs.Prelude.{◌≡◌, ◌≤◌, ◌+◌, ◌++◌, length, take};
 ghost use Rattle.x7_listing.specs.AtOnce.{row_text};
 
+use std::simd::prelude::*;
+
 /// How many bytes a sheet has.
 pub(crate) const SHEET: usize = 2048;
 
@@ -35,5 +37,6 @@ pub(crate) fn put_row(sheet: &mut [u8; SHEET], len: usize, row: &[u8; 32]) -> us
     ensures len { result ≤ len + 32 }
     ensures text { take result sheet.new ≡ take len sheet.old ++ row_text row.now }
 {
-    put_prefix(sheet, len, row, (row[31] as usize).min(32))
+    u8x32::from_array(*row).copy_to_slice(&mut sheet[len..]);
+    len + (row[31] as usize).min(32)
 }

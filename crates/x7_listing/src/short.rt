@@ -13,7 +13,7 @@ ghost use Rattle.x7_listing.specs.HeadLine.{head_text};
 ghost use Rattle.x7_listing.specs.Pens.{TakesHead, TellsAfter, TellsOn, lister_with, on_sheet, session_after};
 ghost use Rattle.x7_listing.specs.Telling.{words_place, open_words};
 
-use crate::at_once::Taken;
+use crate::at_once::{NO_OP, Taken};
 use crate::pen::{Pen, in_session, session_line};
 use crate::rows::{command_row, name_row, write_row};
 use crate::sheet::{SHEET, put_prefix, put_row, put_whole};
@@ -370,9 +370,6 @@ fn take_next(
 
 /// The first byte of a write's header whose reserved bits are 0.
 const WRITE: u8 = 0x30;
-
-/// The first byte of the no-op.
-const NO_OP: u8 = 0x20;
 
 /// Whether a short run may come next: behind a session, and in one where the next word may be a write or a no-op.
 #[inline(always)]

@@ -1,5 +1,5 @@
 -- Lemmas on specs/AtOnce.
-use Rattle.std.proofs.Common.{◌≡◌, ℕ, ◌/◌, ◌%◌, ◌^◌, ◌<◌, ◌≤◌, ◌+◌, ◌*◌, ◌==◌, Bool, Bor, List, [], ◌∷◌, ◌++◌, Option, Some, true, false, if◌then◌else◌, inl, inr, get_or, length, length-drop, length-take-le, take, drop, map, refl, ap, sym, subst, ◌∙◌, append-nil, arith}
+use Rattle.std.proofs.Common.{◌≡◌, ℕ, ◌/◌, ◌%◌, ◌^◌, ◌<◌, ◌≤◌, ◌+◌, ◌*◌, ◌==◌, Bool, Bor, List, [], ◌∷◌, ◌++◌, Option, Some, true, false, if◌then◌else◌, inl, inr, get_or, length, length-drop, length-take-le, take, take-add, drop, map, refl, ap, sym, subst, ◌∙◌, append-nil, arith}
 use Rattle.std.proofs.lemmas.List.{take-append-drop}
 use Rattle.std.proofs.lemmas.Bool.Decides.{nat_tests}
 use Rattle.std.specs.List.{flat_map}
@@ -12,7 +12,7 @@ use Rattle.x7_packets.specs.declared.header.Step.{Step}
 use Rattle.x7_packets.specs.declared.header.Step.TheVariants.{Filler, Nop, Open, Payload}
 use Rattle.x7_packets.specs.declared.cutter.Cut.TheVariants.{Body, Head, Skip}
 use Rattle.x7_packets.specs.Mode.{Mode}
-use Rattle.x7_packets.specs.AtOnce.{EndsGap, in_short, in_write, short_head, Takes, write_head, WritesFew, WritesOne}
+use Rattle.x7_packets.specs.AtOnce.{BeginsWrite, EndsGap, in_short, in_write, short_head, Takes, write_head, WritesFew, WritesOne}
 use Rattle.x7_packets.specs.Cutting.{AtPlace, CutterState, CutterStandsFor, Longer, Went}
 use Rattle.x7_packets.specs.Nops.{nop_word}
 use Rattle.x7_packets.specs.Packet.{Packet, ends_session, meaning, payload_steps, register_of}
@@ -117,31 +117,26 @@ takes_nop c is none due = takes_head c c nop_word Nop is is none none refl (λ p
 pub takes_zero : (c : CutterState) → c.mode ≡ Mode.Synced → c.kept ≡ [] → c.machine.due ≡ 0 → Takes c c (bytes_of_word 0) (Head 0 Filler)
 takes_zero c is none due = takes_head c c 0 Filler is is none none refl (λ ps s. zero_grows c.machine ps due s)
 
--- the bytes of two words that begin the rest
-first_eight : (bs : List ℕ) → 8 ≤ length bs → take 8 bs ≡ get_or bs 0 0 ∷ get_or bs 1 0 ∷ get_or bs 2 0 ∷ get_or bs 3 0 ∷ get_or bs 4 0 ∷ get_or bs 5 0 ∷ get_or bs 6 0 ∷ get_or bs 7 0 ∷ []
-first_eight [] l = absurd (omega arith)
-first_eight (a ∷ []) l = absurd (omega arith)
-first_eight (a ∷ b ∷ []) l = absurd (omega arith)
-first_eight (a ∷ b ∷ c ∷ []) l = absurd (omega arith)
-first_eight (a ∷ b ∷ c ∷ d ∷ []) l = absurd (omega arith)
-first_eight (a ∷ b ∷ c ∷ d ∷ e ∷ []) l = absurd (omega arith)
-first_eight (a ∷ b ∷ c ∷ d ∷ e ∷ f ∷ []) l = absurd (omega arith)
-first_eight (a ∷ b ∷ c ∷ d ∷ e ∷ f ∷ g ∷ []) l = absurd (omega arith)
-first_eight (a ∷ b ∷ c ∷ d ∷ e ∷ f ∷ g ∷ h ∷ bs) l = refl
+-- a header and a word that begin bytes
+pub begins_write : (bytes head word rest : List ℕ) (register h w : ℕ) → head ≡ take 4 bytes → rest ≡ drop 4 bytes → word ≡ take 4 rest → 8 ≤ length bytes → bytes_of_word h ≡ head → bytes_of_word w ≡ word → h ≡ write_head register → register < 32 → w < 2 ^ 32 → BeginsWrite bytes register w
+begins_write bytes head word rest register h w a r b long e f g range fits = record {
+  range = range;
+  fits = fits;
+  whole = long;
+  are = take-add 4 4 bytes ∙ ap (λ t. t ++ take 4 (drop 4 bytes)) (sym a ∙ sym e ∙ ap bytes_of_word g) ∙ ap (λ t. bytes_of_word (write_head register) ++ t) (ap (take 4) (sym r) ∙ sym b ∙ sym f);
+}
 
-pub writes_one : (old new : CutterState) (bs : List ℕ) (head register w : ℕ) → old.mode ≡ Mode.Synced → new.mode ≡ (if ends_session register w then Mode.Searching else Mode.Synced) → MatcherStandsFor new.matcher [] → old.kept ≡ [] → new.kept ≡ [] → 8 ≤ length bs
-    → bytes_of_word head ≡ get_or bs 0 0 ∷ get_or bs 1 0 ∷ get_or bs 2 0 ∷ get_or bs 3 0 ∷ [] → bytes_of_word w ≡ get_or bs 4 0 ∷ get_or bs 5 0 ∷ get_or bs 6 0 ∷ get_or bs 7 0 ∷ []
-    → head ≡ write_head register → register < 32
+pub writes_one : (old new : CutterState) (bs : List ℕ) (register w : ℕ) → old.mode ≡ Mode.Synced → new.mode ≡ (if ends_session register w then Mode.Searching else Mode.Synced) → MatcherStandsFor new.matcher [] → old.kept ≡ [] → new.kept ≡ [] → BeginsWrite bs register w
     → ((ps : List Packet) → MachineStandsFor old.machine ps → Grows ps ((write_head register, Open register 1) ∷ []) (in_write register))
     → ((ps : List Packet) → MachineStandsFor (in_write register) ps → Grows ps ((w, Payload register w) ∷ []) new.machine)
     → WritesOne old new bs register w
-writes_one old new bs head register w is to matcher none none2 long e f g range opens ends =
+writes_one old new bs register w is to matcher none none2 begins opens ends =
     let middle : CutterState = record { mode = Mode.Synced; matcher = old.matcher; machine = in_write register; kept = [] } in
     record {
       between = middle;
-      range = range;
-      whole = long;
-      bytes = first_eight bs long ∙ ap (λ t. t ++ get_or bs 4 0 ∷ get_or bs 5 0 ∷ get_or bs 6 0 ∷ get_or bs 7 0 ∷ []) (sym e) ∙ ap (λ t. bytes_of_word head ++ t) (sym f) ∙ ap (λ k. bytes_of_word k ++ bytes_of_word w) g;
+      range = begins.range;
+      whole = begins.whole;
+      bytes = begins.are;
       head = takes_head old middle (write_head register) (Open register 1) is refl none refl refl opens;
       word = λ bytes sessions place s. word_more middle new bytes (bytes_of_word w) sessions place register w s refl ends (fits_word w) refl none2 to matcher;
       none_kept = none2;

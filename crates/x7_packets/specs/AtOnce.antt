@@ -1,5 +1,5 @@
 -- What a cutter takes at once: no-ops in a row, a write of one word, a short write, and a short gap with the sync word behind it (UG470, packet types).
-use Rattle.std.specs.Prelude.{◌≡◌, ℕ, ◌+◌, ◌*◌, ◌<◌, ◌≤◌, List, [], ◌++◌, length, take, drop, Some}
+use Rattle.std.specs.Prelude.{◌≡◌, ℕ, ◌+◌, ◌*◌, ◌^◌, ◌<◌, ◌≤◌, List, [], ◌++◌, length, take, drop, Some}
 use Rattle.std.specs.Borrow.{Bor}
 use Rattle.x7_words.specs.Word.{bytes_of_word}
 use Rattle.x7_regs.specs.Register.{number_of}
@@ -20,6 +20,13 @@ Takes old new taken run = (bytes : List ℕ) (sessions : List Session) (place : 
 -- the type 1 header that writes one word to a register, its reserved bits 0
 abbrev pub write_head : ℕ → ℕ
 write_head register = 0x30000001 + 8192 * register
+
+-- the bytes begin with that header and a word
+pub record BeginsWrite (bytes : List ℕ) (register w : ℕ) : Type 0 where
+  pub range : register < 32
+  pub fits : w < 2 ^ 32
+  pub whole : 8 ≤ length bytes
+  pub are : take 8 bytes ≡ bytes_of_word (write_head register) ++ bytes_of_word w
 
 -- a machine between that header and its word
 abbrev pub in_write : ℕ → MachineState

@@ -1,9 +1,9 @@
 //! A stream cut into its parts, in whatever pieces it comes.
-ghost use Rattle.std.specs.Prelude.{◌≡◌, ℕ, List, [], ◌∷◌, ◌++◌, ◌≤◌, ◌<◌, ◌+◌, ◌-◌, ◌*◌, ◌/◌, ◌%◌, ◌^◌, ◌↔◌, IfNone, IfSome, IsTrue, take, length, if◌then◌else◌};
+ghost use Rattle.std.specs.Prelude.{◌≡◌, ℕ, List, [], ◌++◌, ◌≤◌, ◌<◌, ◌+◌, ◌-◌, ◌*◌, ◌/◌, ◌^◌, ◌↔◌, IfNone, IfSome, IsTrue, take, length, if◌then◌else◌};
 ghost use Rattle.x7_words.specs.Word.{bytes_of_word};
 ghost use Rattle.x7_regs.specs.Register.{number_of};
 ghost use Rattle.x7_regs.specs.declared.register.Reg.TheVariants.{Cmd};
-ghost use Rattle.x7_packets.specs.AtOnce.{EndsGap, Takes, WritesFew, WritesOne};
+ghost use Rattle.x7_packets.specs.AtOnce.{BeginsWrite, EndsGap, Takes, WritesFew, WritesOne};
 ghost use Rattle.x7_packets.specs.Cutting.{between, calls_left, CompletesNone, Cuts, CutterStandsFor, Goes, IsBody, IsLent, IsNeed, IsOneWord, IsRun, run_bytes, syncs_due, Went};
 ghost use Rattle.x7_packets.specs.Matching.{IsClear};
 ghost use Rattle.x7_packets.specs.Nops.{Idles, equal_bytes, nop_bytes, nop_word};
@@ -81,6 +81,25 @@ const LONGEST_WRITE: usize = 68;
 
 /// How many bytes must lie there for a short gap to be taken at once.
 const LONGEST_GAP: usize = 36;
+
+/// The register and the word of the write of one word that begins these bytes, its header's reserved bits 0.
+#[inline(always)]
+fn first_write(bytes: &[u8]) -> Option<(u8, u32)>
+    ensures { IfSome result (λ write. BeginsWrite bytes.now write.0 write.1) }
+{
+    let Some((head, rest)) = bytes.split_first_chunk::<4>() else {
+        return None;
+    };
+    let Some((word, _)) = rest.split_first_chunk::<4>() else {
+        return None;
+    };
+    let head = word_of(*head);
+    let register = (head >> 13 & 31) as u8;
+    if head != 0x3000_0001 + 8192 * u32::from(register) {
+        return None;
+    }
+    Some((register, word_of(*word)))
+}
 
 /// What a cutter is at behind a word.
 fn after_word(ended: bool) -> Stage
@@ -208,14 +227,13 @@ impl Cutter {
         if !self.is_at_header() {
             return None;
         }
-        let [a, b, c, d, e, f, g, h, ..] = rest else {
+        let Some((register, w)) = first_write(rest) else {
             return None;
         };
-        let head = word_of([*a, *b, *c, *d]);
-        let w = word_of([*e, *f, *g, *h]);
-        let register = (head >> 13 & 31) as u8;
-        if head != 0x3000_0001 + 8192 * u32::from(register) {
-            return None;
+        if register != Reg::Cmd.number() {
+            self.machine.pass_words(register);
+            self.matcher = Matcher::new();
+            return Some((register, w));
         }
         self.stage = after_word(self.machine.pass_write(register, w));
         self.matcher = Matcher::new();

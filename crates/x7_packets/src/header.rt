@@ -1,6 +1,5 @@
 //! Header words (UG470, packet types).
 ghost use Rattle.std.specs.Prelude.{◌≡◌, ◌<◌};
-ghost use Rattle.std.specs.Option.{ForSome};
 ghost use Rattle.x7_packets.specs.Packet.{ends_session, meaning};
 ghost use Rattle.x7_packets.specs.Taking.{is_end};
 

@@ -1,5 +1,5 @@
 //! The search for the sync word at any byte place (UG470, sync word).
-ghost use Rattle.std.specs.Prelude.{◌≡◌, ℕ, List, [], ◌∷◌, ◌++◌, ◌<◌, ◌≤◌, ◌+◌, ◌↔◌, length, IsTrue, IfSome, if◌then◌else◌, take};
+ghost use Rattle.std.specs.Prelude.{◌≡◌, ℕ, List, [], ◌∷◌, ◌++◌, ◌<◌, ◌≤◌, ◌+◌, ◌↔◌, length, IsTrue, IfSome, if◌then◌else◌};
 ghost use Rattle.x7_packets.specs.SyncWord.{EndsWithSync, HasNoSync, sync_bytes};
 ghost use Rattle.x7_packets.specs.Matching.{IsClear, IsFirstSync, MatcherStandsFor, Searched};
 

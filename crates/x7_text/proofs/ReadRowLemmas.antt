@@ -5,7 +5,7 @@ use Rattle.std.proofs.lemmas.Grind.{flat_map-append}
 use Rattle.std.proofs.lemmas.List.{length-take-le, take-append-drop}
 use Rattle.std.specs.List.{flat_map}
 use Rattle.std.specs.Simd.{first_chunks}
-use Rattle.x7_words.specs.Word.{AreBytes, AreWords, bytes_of_word, word_of_bytes, words_of_bytes}
+use Rattle.x7_words.specs.Word.{AreBytes, AreWords, bytes_of_word, words_of_bytes}
 use Rattle.x7_words.proofs.ListLemmas.{all_from_places, all_take}
 use Rattle.x7_words.proofs.WordLemmas.{bytes-fit, bytes-words, length-words, words-back, words-fit, words_taken}
 use Rattle.x7_text.specs.Digits.{hex_byte, hex_word}

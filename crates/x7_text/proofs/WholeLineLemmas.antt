@@ -63,24 +63,15 @@ lines_count n elements r (suc k) bs h =
     ∙ lines_count n elements r k (drop 32 bs) (omega (arith, length-drop 32 bs))
     ∙ ap (λ t. in_line_after n 0 (elements t)) (drop_row k bs)
 
--- a front that fills the open line, whole lines, and a tail
-module _ (n : ℕ) (word : List ℕ) (text : ℕ → List ℕ) (elements : List ℕ → List ℕ) (r : InRows n elements) (i k : ℕ) (bs prefix rest : List ℕ)
-    (parts : elements bs ≡ elements prefix ++ elements rest) (filled : in_line_after n i (elements prefix) ≡ 0) (within : k * 32 ≤ length rest) where
-  pub parts_text : open_text n word text i (elements bs)
-      ≡ open_text n word text i (elements prefix) ++ (flat_map (λ (row : List ℕ). line word text (elements row)) (first_chunks 32 k rest) ++ open_text n word text 0 (elements (drop (k * 32) rest)))
-  parts_text =
-      ap (open_text n word text i) parts
-      ∙ open_text-append n word text i (elements prefix) (elements rest)
-      ∙ ap (λ j. open_text n word text i (elements prefix) ++ open_text n word text j (elements rest)) filled
-      ∙ ap (λ t. open_text n word text i (elements prefix) ++ t) (lines_text n word text elements r k rest within)
+-- elements that fill the open line, and those behind them
+pub filled_text : (n : ℕ) (word : List ℕ) (text : ℕ → List ℕ) (i : ℕ) (xs ys : List ℕ) → in_line_after n i xs ≡ 0 → open_text n word text i (xs ++ ys) ≡ open_text n word text i xs ++ open_text n word text 0 ys
+filled_text n word text i xs ys filled = open_text-append n word text i xs ys ∙ ap (λ j. open_text n word text i xs ++ open_text n word text j ys) filled
 
-  pub parts_count : in_line_after n i (elements bs) ≡ in_line_after n 0 (elements (drop (k * 32) rest))
-  parts_count =
-      ap (in_line_after n i) parts ∙ in_line_after-append n i (elements prefix) (elements rest) ∙ ap (λ j. in_line_after n j (elements rest)) filled
-      ∙ lines_count n elements r k rest within
+pub filled_count : (n i : ℕ) (xs ys : List ℕ) → in_line_after n i xs ≡ 0 → in_line_after n i (xs ++ ys) ≡ in_line_after n 0 ys
+filled_count n i xs ys filled = in_line_after-append n i xs ys ∙ ap (λ j. in_line_after n j ys) filled
 
-pub in_three : (old first second third a b c whole : List ℕ) → first ≡ old ++ a → second ≡ first ++ b → third ≡ second ++ c → whole ≡ a ++ (b ++ c) → third ≡ old ++ whole
-in_three old first second third a b c whole p q r s = rw (r, q, p, s) (simp append_assoc)
+pub in_two : (old first second a b whole : List ℕ) → first ≡ old ++ a → second ≡ first ++ b → whole ≡ a ++ b → second ≡ old ++ whole
+in_two old first second a b whole p q s = rw (q, p, s) (simp append_assoc)
 
 pub length-hex_bytes : (bs : List ℕ) → length (flat_map hex_byte bs) ≡ 2 * length bs
 length-hex_bytes [] = refl

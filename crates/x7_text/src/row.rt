@@ -1,5 +1,5 @@
 //! Lines of a row, written as the elements come: an open line takes more elements until it is full.
-ghost use Rattle.std.specs.Prelude.{◌≡◌, [], ◌∷◌, ◌<◌, ◌≤◌, ◌+◌, ◌*◌, ◌%◌, ◌++◌, length, vec_len, vec_capacity, codes};
+ghost use Rattle.std.specs.Prelude.{◌≡◌, [], ◌∷◌, ◌<◌, ◌≤◌, ◌+◌, ◌*◌, ◌%◌, length, vec_len, vec_capacity, codes};
 ghost use Rattle.std.specs.List.{flat_map};
 ghost use Rattle.x7_text.specs.Appends.{Appends};
 ghost use Rattle.x7_text.specs.Digits.{hex_byte};
@@ -141,6 +141,31 @@ fn put_few_bytes(text: &mut Vec<u8>, in_line: usize, bytes: &[u8]) -> usize
     in_line + bytes.len()
 }
 
+/// Appends the words of whole groups of four bytes to new `data` lines.
+fn put_new_words(text: &mut Vec<u8>, bytes: &[u8]) -> usize
+    requires whole { length bytes.now % 4 ≡ 0 }
+    requires room { vec_len text.old + (3 * length bytes.now + 4) ≤ vec_capacity text.old }
+    ensures count { result ≡ in_line_after 8 0 (words_of_bytes bytes.now) }
+    ensures open { result < 8 }
+    ensures appends { Appends text.old text.new (open_text 8 (codes "data") spaced 0 (words_of_bytes bytes.now)) (3 * length bytes.now + 1) }
+{
+    let (lines, rest) = bytes.as_chunks::<32>();
+    put_data_lines(text, lines);
+    put_each_word(text, 0, rest)
+}
+
+/// Appends bytes to new `bytes` lines.
+fn put_new_bytes(text: &mut Vec<u8>, bytes: &[u8]) -> usize
+    requires { vec_len text.old + (3 * length bytes.now + 6) ≤ vec_capacity text.old }
+    ensures count { result ≡ in_line_after 32 0 bytes.now }
+    ensures open { result < 32 }
+    ensures appends { Appends text.old text.new (open_text 32 (codes "bytes ") hex_byte 0 bytes.now) (3 * length bytes.now + 6) }
+{
+    let (lines, rest) = bytes.as_chunks::<32>();
+    put_bytes_lines(text, lines);
+    put_few_bytes(text, 0, rest)
+}
+
 /// Appends the words of whole groups of four bytes, the first byte the highest, to `data` lines of which the open one
 /// has `in_line` words (0 where none is open). Gives that count afterwards. It takes no memory.
 pub fn put_words(text: &mut Vec<u8>, in_line: usize, bytes: &[u8]) -> usize
@@ -151,15 +176,16 @@ pub fn put_words(text: &mut Vec<u8>, in_line: usize, bytes: &[u8]) -> usize
     ensures open { result < 8 }
     ensures appends { Appends text.old text.new (open_text 8 (codes "data") spaced in_line (words_of_bytes bytes.now)) (3 * length bytes.now + 16) }
 {
+    if in_line == 0 {
+        return put_new_words(text, bytes);
+    }
     let open = 4 * (8 - in_line);
     if bytes.len() < open {
         return put_each_word(text, in_line, bytes);
     }
     let (prefix, rest) = bytes.split_at(open);
     put_each_word(text, in_line, prefix);
-    let (lines, rest) = rest.as_chunks::<32>();
-    put_data_lines(text, lines);
-    put_each_word(text, 0, rest)
+    put_new_words(text, rest)
 }
 
 /// Appends bytes to `bytes` lines of which the open one has `in_line` bytes (0 where none is open). Gives that count
@@ -171,13 +197,14 @@ pub fn put_bytes(text: &mut Vec<u8>, in_line: usize, bytes: &[u8]) -> usize
     ensures open { result < 32 }
     ensures appends { Appends text.old text.new (open_text 32 (codes "bytes ") hex_byte in_line bytes.now) (3 * length bytes.now + 16) }
 {
+    if in_line == 0 {
+        return put_new_bytes(text, bytes);
+    }
     let open = 32 - in_line;
     if bytes.len() < open {
         return put_few_bytes(text, in_line, bytes);
     }
     let (prefix, rest) = bytes.split_at(open);
     put_each_byte(text, in_line, prefix);
-    let (lines, rest) = rest.as_chunks::<32>();
-    put_bytes_lines(text, lines);
-    put_each_byte(text, 0, rest)
+    put_new_bytes(text, rest)
 }

@@ -1,5 +1,5 @@
 //! A lister of runs: those of a stream, one after another.
-ghost use Rattle.std.specs.Prelude.{◌≡◌, ℕ, ◌+◌, ◌*◌, ◌≤◌, ◌<◌, List, ◌++◌, OnOk, OnErr, true, if◌then◌else◌, length, min, take, vec_len, vec_capacity};
+ghost use Rattle.std.specs.Prelude.{◌≡◌, ◌+◌, ◌*◌, ◌≤◌, ◌<◌, OnOk, OnErr, if◌then◌else◌, length, min, take, vec_len, vec_capacity};
 ghost use Rattle.x7_packets.specs.Cutting.{CutterState};
 ghost use Rattle.x7_packets.specs.Run.{cut_of, FitsRun, bytes_of_run};
 ghost use Rattle.x7_listing.specs.Pens.{EndsHeld, lister_with, written_with};
