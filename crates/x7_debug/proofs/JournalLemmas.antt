@@ -1,14 +1,13 @@
 -- Records that lead back: one more, one less, and how far they reach.
 use Rattle.std.proofs.Common.{◌≡◌, inl, inr, ℕ, zero, suc, ◌+◌, ◌-◌, ◌*◌, ◌<◌, ◌≤◌, Bool, false, List, [], ◌∷◌, ◌++◌, length, take, drop, min, max, Some, None, refl, ap, sym, subst, ◌∙◌, arith}
-use Rattle.std.proofs.lemmas.List.{length-take, take-append-drop, take-append-le, take-take}
+use Rattle.std.proofs.lemmas.List.{length-take, take-append-le, take-take}
 use Rattle.std.proofs.lemmas.Bool.{cases_lt}
 use Rattle.std.proofs.lemmas.List.{take_all}
-use Rattle.std.proofs.Math.Seq.{take-add}
 use Rattle.std.specs.List.{AllByRecursion}
-use Rattle.x7_words.proofs.ListLemmas.{all_front, take_up_to}
+use Rattle.x7_words.proofs.ListLemmas.{take_up_to}
 use Rattle.x7_part.specs.Part.{PartData}
 use Rattle.x7_engine.specs.Kept.{on_the_bench}
-use Rattle.x7_engine.specs.Standing.{DeviceState, DeviceStandsFor, NoWordDue, fed_of}
+use Rattle.x7_engine.specs.Standing.{DeviceState, DeviceStandsFor, NoWordDue}
 use Rattle.x7_engine.proofs.BootLemmas.{none_due_at_first}
 use Rattle.x7_engine.specs.Undo.{AreEqual, IsUndoOf, Keeps, UndoState}
 use Rattle.x7_debug.specs.Journal.{IsFed, GoesWith, IsOn, IsRecord, JournalState, Leads, oldest_by, records_of}
@@ -184,6 +183,9 @@ on_without stream d j k part n s a e =
       few = omega arith;
       leads = tt;
     })
+
+pub on_empty : (part : PartData) (stream : List ℕ) (d : DeviceState) (j : JournalState) (n : ℕ) → StandsAt part stream d n → AllByRecursion (IsUndoOf part) j.all → j.count ≡ 0 → IsOn d.part stream d j
+on_empty part stream d j n s a e = on_without stream d j j part n s a (ap (λ (k : ℕ). record j { count = k }) e)
 
 -- a record more
 pub on_more : (part : PartData) (stream : List ℕ) (d new : DeviceState) (j k : JournalState) (to : ℕ) (u : UndoState) → IsOn part stream d j → StandsAt part stream new to → d.taken ≤ to → to ≤ d.taken + 4 → AllByRecursion (IsUndoOf part) k.all → Keeps u d

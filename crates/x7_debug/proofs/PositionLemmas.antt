@@ -1,17 +1,23 @@
 -- Positions: from one to another, and the least later one where something holds.
-use Rattle.std.proofs.lemmas.Bool.{cases_order}
-use Rattle.std.proofs.Common.{◌≡◌, inl, inr, ℕ, zero, suc, ◌+◌, ◌-◌, ◌<◌, ◌≤◌, Bool, true, false, List, ◌++◌, length, take, drop, cond, Option, Some, None, refl, ap, sym, subst, ◌∙◌, arith}
+use Rattle.std.proofs.lemmas.Bool.{cases_lt, cases_order}
+use Rattle.std.proofs.lemmas.Option.{none-some}
+use Rattle.std.proofs.Common.{◌≡◌, inl, inr, ℕ, zero, suc, ◌+◌, ◌-◌, ◌<◌, ◌≤◌, Bool, true, false, if◌then◌else◌, List, ◌++◌, length, take, drop, min, cond, Option, Some, None, refl, ap, sym, subst, ◌∙◌, arith}
 use Rattle.std.specs.Prelude.{unwrap_or}
 use Rattle.std.specs.List.{find, range_with_len}
-use Rattle.std.proofs.Math.Seq.{take-add, take-length}
-use Rattle.std.proofs.lemmas.List.{length-take-le, take-append-drop}
+use Rattle.std.proofs.lemmas.List.{length-take-le, take-append-drop, take-take}
 use Rattle.x7_words.specs.Word.{AreBytes}
 use Rattle.x7_words.proofs.ListLemmas.{all_front, take_up_to}
+use Rattle.x7_packets.specs.History.{history_of}
 use Rattle.x7_part.specs.Part.{PartData}
+use Rattle.x7_engine.specs.declared.fault.Fault.TheVariants as faults
+use Rattle.x7_engine.specs.declared.stop.Stop.TheVariants as stops
+use Rattle.x7_engine.specs.FirstStop.{why_at_byte, why_at_newest}
 use Rattle.x7_engine.specs.Kept.{on_the_bench}
 use Rattle.x7_engine.specs.Standing.{DeviceState, DeviceStandsFor, NoWordDue}
 use Rattle.x7_engine.specs.State.{state_of, stop_in, taken_of}
 use Rattle.x7_engine.specs.Stops.{Stopped}
+use Rattle.x7_engine.specs.Watching.{fires}
+use Rattle.x7_engine.proofs.FirstStopLemmas.{no_stop_none, stop_is_first}
 use Rattle.x7_engine.proofs.StateLemmas.{stop_is_final-stop, stop_place}
 use Rattle.x7_debug.specs.declared.order.Stop.{Stop}
 use Rattle.x7_engine.specs.declared.regs.Regs.{Regs}
@@ -22,12 +28,35 @@ use Rattle.x7_debug.proofs.FeedLemmas.{taken-all, taken-stopped, taken-within}
 pub last-within : (part : PartData) (stream : List ℕ) → AreBytes stream → last_of part stream ≤ length stream
 last-within part stream fits = taken-within part on_the_bench stream fits
 
--- of the bytes up to a position all are taken
-pub taken-at : (part : PartData) (stream : List ℕ) (n : ℕ) → AreBytes stream → n ≤ last_of part stream → taken_of part on_the_bench (take n stream) ≡ n
-taken-at part stream n fits within = by (stop_in part on_the_bench (take n stream)) refl
+-- whether a byte stops a device is told by the bytes up to it
+same-cause : (part : PartData) (stream : List ℕ) (n m : ℕ) → m ≤ n → why_at_byte part on_the_bench (take n stream) m ≡ why_at_byte part on_the_bench stream m
+same-cause part stream n m le =
+    ap (λ (b : List ℕ). if fires part on_the_bench (history_of b) m then Some (stops.Fault faults.Watchdog) else why_at_newest part on_the_bench (history_of (take m (take n stream))) m) (take-take (m - 1) n stream (omega (arith, le)))
+    ∙ ap (λ (b : List ℕ). if fires part on_the_bench (history_of (take (m - 1) stream)) m then Some (stops.Fault faults.Watchdog) else why_at_newest part on_the_bench (history_of b) m) (take-take m n stream le)
+
+-- bytes without a stop end at the last position or before it
+goes-on : (part : PartData) (stream : List ℕ) (n : ℕ) → AreBytes stream → n ≤ length stream → stop_in part on_the_bench (take n stream) ≡ None → n ≤ last_of part stream
+goes-on part stream n fits few none = by (stop_in part on_the_bench stream) refl
+  where
+    front : AreBytes (take n stream)
+    front = all_front (λ b. b < 256) (take n stream) (drop n stream) (subst (λ b. AreBytes b) (sym (take-append-drop n stream)) fits)
+
+    by : (o : Option Stopped) → stop_in part on_the_bench stream ≡ o → n ≤ last_of part stream
+    by None e = omega (arith, taken-all part on_the_bench stream e, few)
+    by (Some s) e =
+        let first = stop_is_first part on_the_bench stream s fits e in
+        elim (cases_lt n s.place) [
+          | inl before ↦ omega (arith, taken-stopped part on_the_bench stream s e, before)
+          | inr behind ↦
+              absurd (none-some s.why (sym (no_stop_none part on_the_bench (take n stream) s.place front none first.some (omega (arith, length-take-le n stream few, behind))) ∙ same-cause part stream n s.place behind ∙ first.holds))
+        ]
+
+-- how many of the first bytes are taken: all, or those up to the last position
+taken-first : (part : PartData) (stream : List ℕ) (n : ℕ) → AreBytes stream → n ≤ length stream → taken_of part on_the_bench (take n stream) ≡ min n (last_of part stream)
+taken-first part stream n fits few = by (stop_in part on_the_bench (take n stream)) refl
   where
     long : length (take n stream) ≡ n
-    long = length-take-le n stream (omega (arith, within, last-within part stream fits))
+    long = length-take-le n stream few
 
     whole : take n stream ++ drop n stream ≡ stream
     whole = take-append-drop n stream
@@ -35,33 +64,29 @@ taken-at part stream n fits within = by (stop_in part on_the_bench (take n strea
     fit : AreBytes (take n stream ++ drop n stream)
     fit = subst (λ b. AreBytes b) (sym whole) fits
 
-    by : (o : Option Stopped) → stop_in part on_the_bench (take n stream) ≡ o → taken_of part on_the_bench (take n stream) ≡ n
-    by None e = taken-all part on_the_bench (take n stream) e ∙ long
+    by : (o : Option Stopped) → stop_in part on_the_bench (take n stream) ≡ o → taken_of part on_the_bench (take n stream) ≡ min n (last_of part stream)
+    by None e = omega (arith, taken-all part on_the_bench (take n stream) e, long, goes-on part stream n fits few e)
     by (Some s) e =
         let later : stop_in part on_the_bench stream ≡ Some s = ap (stop_in part on_the_bench) (sym whole) ∙ stop_is_final-stop part on_the_bench (take n stream) (drop n stream) s fit e in
         let last : last_of part stream ≡ s.place = taken-stopped part on_the_bench stream s later in
         let here : taken_of part on_the_bench (take n stream) ≡ s.place = taken-stopped part on_the_bench (take n stream) s e in
         let place = stop_place part on_the_bench (take n stream) s (all_front (λ b. b < 256) (take n stream) (drop n stream) fit) e in
-        omega (arith, last, here, place.1, long, within)
+        omega (arith, last, here, place.1, long)
 
-take-twice : (n : ℕ) (stream : List ℕ) → n ≤ length stream → take n (take n stream) ≡ take n stream
-take-twice n stream h = ap (λ (k : ℕ). take k (take n stream)) (sym (length-take-le n stream h)) ∙ take-length (take n stream)
-
--- a device that took the bytes from one position to another stands there
-pub moved : (part : PartData) (stream piece : List ℕ) (d : DeviceState) (from to : ℕ) → AreBytes stream → from ≤ to → to ≤ last_of part stream → piece ≡ take (to - from) (drop from stream)
-    → DeviceStandsFor part on_the_bench false d (take (taken_of part on_the_bench (take from stream ++ piece)) (take from stream ++ piece)) → NoWordDue d → StandsAt part stream d to
-moved part stream piece d from to fits le within is stands due =
+-- a device that was fed the bytes from one position to another stands there, or at the last position where that is less
+pub moved : (part : PartData) (stream piece : List ℕ) (d : DeviceState) (from to : ℕ) → AreBytes stream → from ≤ to → to ≤ length stream → piece ≡ take (to - from) (drop from stream)
+    → DeviceStandsFor part on_the_bench false d (take (taken_of part on_the_bench (take from stream ++ piece)) (take from stream ++ piece)) → NoWordDue d → StandsAt part stream d (min to (last_of part stream))
+moved part stream piece d from to fits le few is stands due =
     let whole : take from stream ++ piece ≡ take to stream = ap (λ t. take from stream ++ t) is ∙ take_up_to stream from to le in
-    let few : to ≤ length stream = omega (arith, within, last-within part stream fits) in
-    let same : take (taken_of part on_the_bench (take from stream ++ piece)) (take from stream ++ piece) ≡ take to stream
-    = ap (λ b. take (taken_of part on_the_bench b) b) whole ∙ ap (λ (k : ℕ). take k (take to stream)) (taken-at part stream to fits within) ∙ take-twice to stream few in
-    let there : DeviceStandsFor part on_the_bench false d (take to stream) = subst (λ b. DeviceStandsFor part on_the_bench false d b) same stands in
-    record { stands = there; taken = there.taken_is ∙ length-take-le to stream few; within = within; none_due = due }
+    let at : ℕ = min to (last_of part stream) in
+    let same : take (taken_of part on_the_bench (take from stream ++ piece)) (take from stream ++ piece) ≡ take at stream
+    = ap (λ b. take (taken_of part on_the_bench b) b) whole ∙ ap (λ (k : ℕ). take k (take to stream)) (taken-first part stream to fits few) ∙ take-take at to stream (omega arith) in
+    let there : DeviceStandsFor part on_the_bench false d (take at stream) = subst (λ b. DeviceStandsFor part on_the_bench false d b) same stands in
+    record { stands = there; taken = there.taken_is ∙ length-take-le at stream (omega (arith, few)); within = omega arith; none_due = due }
 
--- a device that was played to the end stands at the last position
-pub played : (part : PartData) (stream : List ℕ) (d : DeviceState) → AreBytes stream → DeviceStandsFor part on_the_bench false d (take (taken_of part on_the_bench stream) stream) → NoWordDue d → StandsAt part stream d (last_of part stream)
-played part stream d fits stands due =
-    record { stands = stands; taken = stands.taken_is ∙ length-take-le (last_of part stream) stream (last-within part stream fits); within = omega arith; none_due = due }
+-- the same where that position is not behind the last one
+pub stands-there : (part : PartData) (stream : List ℕ) (d : DeviceState) (to : ℕ) → to ≤ last_of part stream → StandsAt part stream d (min to (last_of part stream)) → StandsAt part stream d to
+stands-there part stream d to within s = (let same : min to (last_of part stream) ≡ to = omega (arith, within) in subst (λ (k : ℕ). StandsAt part stream d k) same s)
 
 -- where a device stands, by its own part and count of bytes
 pub own : (part : PartData) (stream : List ℕ) (d : DeviceState) (n : ℕ) → StandsAt part stream d n → StandsAt d.part stream d d.taken

@@ -1,10 +1,7 @@
 //! Records of a device on its way, which lead it back.
-ghost use Rattle.std.specs.Prelude.{◌≡◌, ◌≤◌, ◌<◌, ◌+◌, ◌-◌, ◌^◌, ◌++◌, ◌∷◌, ℕ, List, Bool, length, take, IfOk};
-ghost use Rattle.x7_part.specs.Part.{PartData};
-ghost use Rattle.x7_engine.specs.declared.kept.Kept.{Kept as KeptData};
+ghost use Rattle.std.specs.Prelude.{◌≡◌, ◌≤◌, ◌<◌, ◌+◌, ◌-◌, ◌^◌, ◌∷◌, ℕ, List, length, take, IfOk};
 ghost use Rattle.x7_engine.specs.Past.{OfPast};
-ghost use Rattle.x7_engine.specs.Standing.{DeviceStandsFor, NoWordDue, fed_of};
-ghost use Rattle.x7_engine.specs.State.{taken_of};
+ghost use Rattle.x7_engine.specs.Standing.{NoWordDue, fed_of};
 ghost use Rattle.x7_engine.specs.Undo.{IsUndoOf, Keeps, UndoState};
 ghost use Rattle.x7_debug.specs.Journal.{AreRecordsOf, IsFed, IsOn, JournalState, oldest_by, records_of};
 ghost use Rattle.x7_debug.specs.Session.{TakesPiece};

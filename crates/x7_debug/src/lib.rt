@@ -1,6 +1,7 @@
 //! Forwards and backwards through a stream: a script of orders, and a session that follows it.
 #![tactic(auto)]
 
+mod ahead;
 mod fault;
 mod journal;
 mod law;

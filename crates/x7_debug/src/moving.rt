@@ -1,11 +1,7 @@
 //! A device is brought from one position of a stream to another one, forwards by pieces and backwards by records.
-ghost use Rattle.std.specs.Prelude.{◌≡◌, ◌≤◌, ◌<◌, ◌+◌, ◌-◌, ◌^◌, ◌++◌, ◌∷◌, ℕ, List, [], Bool, false, length, max, take};
-ghost use Rattle.x7_part.specs.Part.{PartData};
-ghost use Rattle.x7_engine.specs.declared.kept.Kept.{Kept as KeptData};
-ghost use Rattle.x7_engine.specs.Kept.{on_the_bench};
+ghost use Rattle.std.specs.Prelude.{◌≡◌, ◌≤◌, ◌<◌, ◌+◌, ◌-◌, ◌^◌, ◌∷◌, length, max, min, take};
 ghost use Rattle.x7_engine.specs.Past.{OfPast};
-ghost use Rattle.x7_engine.specs.Standing.{DeviceStandsFor, NoWordDue, fed_of};
-ghost use Rattle.x7_engine.specs.State.{taken_of};
+ghost use Rattle.x7_engine.specs.Standing.{NoWordDue, fed_of};
 ghost use Rattle.x7_engine.specs.Undo.{UndoState};
 ghost use Rattle.x7_debug.specs.Journal.{GoesWith, IsFed, IsOn, oldest_by, records_of};
 ghost use Rattle.x7_debug.specs.Kept.{session_of};
@@ -16,7 +12,7 @@ use crate::journal::Journal;
 use x7_engine::{Device, ON_THE_BENCH, ReadBuf};
 
 /// How many bytes before a position records lead back to: 63 of four bytes, and one of a byte.
-const REACH: u64 = 253;
+pub(crate) const REACH: u64 = 253;
 
 /// Feeds a piece to a device, up to what stops it. Words read out are dropped.
 fn take(device: &mut Device, piece: &[u8])
@@ -29,6 +25,18 @@ fn take(device: &mut Device, piece: &[u8])
     device.feed(piece, &mut read);
 }
 
+/// Feeds a device the bytes of the stream up to a position, or up to what stops it.
+pub(crate) fn feed_to(device: &mut Device, stream: &[u8], to: u64)
+    requires stands { StandsAt device.old.part stream.now device.old device.old.taken }
+    requires within { to ≤ length stream.now }
+    requires forward { device.old.taken ≤ to }
+    ensures stands { StandsAt device.old.part stream.now device.new (min to (last_of device.old.part stream.now)) }
+    ensures fed { IsFed device.old device.new (device.new.taken - device.old.taken) }
+{
+    let from = device.taken() as usize;
+    take(device, &stream[from..to as usize]);
+}
+
 /// Brings a device forward by one piece.
 pub(crate) fn advance(device: &mut Device, stream: &[u8], to: u64)
     requires stands { StandsAt device.old.part stream.now device.old device.old.taken }
@@ -37,22 +45,23 @@ pub(crate) fn advance(device: &mut Device, stream: &[u8], to: u64)
     ensures stands { StandsAt device.old.part stream.now device.new to }
     ensures fed { IsFed device.old device.new (device.new.taken - device.old.taken) }
 {
-    let from = device.taken() as usize;
-    take(device, &stream[from..to as usize]);
+    feed_to(device, stream, to);
 }
 
-/// Plays the whole stream on a new device, and resets it. Gives the last position.
-pub(crate) fn play_through(device: &mut Device, stream: &[u8]) -> u64
-    requires stands { DeviceStandsFor device.old.part on_the_bench false device.old [] }
-    requires fed { fed_of device.old ≡ 0 }
-    ensures last { result ≡ last_of device.old.part stream.now }
-    ensures stands { StandsAt device.old.part stream.now device.new 0 }
-    ensures fed { fed_of device.new ≤ last_of device.old.part stream.now }
+/// Feeds a device up to four bytes of the stream, up to what stops it, with a record.
+pub(crate) fn feed_recorded(device: &mut Device, journal: &mut Journal, stream: &[u8], to: u64)
+    requires on { IsOn device.old.part stream.now device.old journal.old }
+    requires within { to ≤ length stream.now }
+    requires forward { device.old.taken ≤ to }
+    requires few { to ≤ device.old.taken + 4 }
+    ensures on { IsOn device.new.part stream.now device.new journal.new }
+    ensures taken { device.new.taken ≡ min to (last_of device.old.part stream.now) }
+    ensures part { device.new.part ≡ device.old.part }
+    ensures fed { IsFed device.old device.new (device.new.taken - device.old.taken) }
+    ensures more { (u : UndoState) × (u.taken ≡ device.old.taken) × (records_of journal.new ≡ u ∷ take 63 (records_of journal.old)) }
 {
-    take(device, stream);
-    let last = device.taken();
-    device.reset(ON_THE_BENCH);
-    last
+    let from = device.taken() as usize;
+    journal.feed(device, &stream[from..to as usize]);
 }
 
 /// Brings a device forward by a piece of up to four bytes, with a record.
@@ -67,8 +76,7 @@ pub(crate) fn record_to(device: &mut Device, journal: &mut Journal, stream: &[u8
     ensures fed { IsFed device.old device.new (device.new.taken - device.old.taken) }
     ensures more { (u : UndoState) × (u.taken ≡ device.old.taken) × (records_of journal.new ≡ u ∷ take 63 (records_of journal.old)) }
 {
-    let from = device.taken() as usize;
-    journal.feed(device, &stream[from..to as usize]);
+    feed_recorded(device, journal, stream, to);
 }
 
 /// Brings a device forward by pieces of four bytes, the last one shorter, each with a record.

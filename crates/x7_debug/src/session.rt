@@ -1,16 +1,13 @@
 //! A session: forwards and backwards through a stream.
-ghost use Rattle.std.specs.Prelude.{◌≡◌, ◌≤◌, ◌<◌, ◌+◌, ◌-◌, ◌^◌, ◌++◌, ℕ, List, [], Bool, false, length, min, take, IfOk};
-ghost use Rattle.x7_part.specs.Part.{PartData};
-ghost use Rattle.x7_engine.specs.declared.kept.Kept.{Kept as KeptData};
-ghost use Rattle.x7_engine.specs.Kept.{on_the_bench};
-ghost use Rattle.x7_engine.specs.Standing.{DeviceStandsFor, NoWordDue, fed_of};
-ghost use Rattle.x7_engine.specs.State.{taken_of};
+ghost use Rattle.std.specs.Prelude.{◌≡◌, ◌≤◌, ◌+◌, ◌-◌, IfOk, IsTrue, false, min};
+ghost use Rattle.x7_engine.specs.Standing.{fed_of};
 ghost use Rattle.x7_debug.specs.Journal.{GoesWith};
 ghost use Rattle.x7_debug.specs.Position.{last_of, until_of};
 ghost use Rattle.x7_debug.specs.Session.{MovesTo, StandsAt};
 
+use crate::ahead::Ahead;
 use crate::journal::Journal;
-use crate::moving::{move_to, play_through};
+use crate::moving::move_to;
 use crate::order::Stop;
 use crate::until::go_until;
 use std::alloc::Global;
@@ -28,9 +25,13 @@ pub struct Session {
     last: u64,
     // what leads the device back
     journal: Journal,
+    // one that stands at the last position, up to the first move there
+    ahead: Option<Ahead>,
 }
 
 impl Model for Session {
+    ghost use Rattle.std.specs.Prelude.{IfSome};
+    ghost use Rattle.x7_debug.specs.Ahead.{HasEnded};
     ghost use Rattle.x7_debug.specs.Kept.{IsSession, session_of};
     ghost use Rattle.x7_debug.specs.Session.{SessionState};
 
@@ -38,17 +39,18 @@ impl Model for Session {
 
     ghost view = { λ s. session_of s.device s.stream.items s.journal };
 
-    ghost invariant = { λ s. IsSession s.device s.stream.items s.last s.journal };
+    ghost invariant = { λ s. IsSession s.device s.stream.items s.last s.journal × IfSome s.ahead (λ a. HasEnded s.device.part s.stream.items a.device a.journal) };
 }
 
 impl Session {
-    /// A session at position 0 of a stream, on a new device of the part. The stream is played once, to learn the last position.
+    /// A session at position 0 of a stream, on a new device of the part. Another one plays the stream once, to learn the last
+    /// position, and stays there: the first move to that position puts it in the place of the session's.
     pub fn new(alloc: Global, part: &Part, stream: Vec<u8>) -> Result<Session, NoMemory>
         ensures begins { IfOk result (λ s. (s.part ≡ part.now) × (s.stream ≡ stream.items) × (s.at ≡ 0)) }
         ensures oldest { IfOk result (λ s. s.oldest ≡ 0) }
-        ensures fed { IfOk result (λ s. s.fed ≤ last_of part.now stream.items) }
+        ensures fed { IfOk result (λ s. s.fed ≡ 0) }
     {
-        let mut device = match Device::new(alloc, part) {
+        let device = match Device::new(alloc, part) {
             Ok(device) => device,
             Err(NoMemory) => return Err(NoMemory),
         };
@@ -56,12 +58,16 @@ impl Session {
             Ok(journal) => journal,
             Err(NoMemory) => return Err(NoMemory),
         };
-        let last = play_through(&mut device, &stream);
+        let ahead = match Ahead::new(alloc, part, &stream) {
+            Ok(ahead) => ahead,
+            Err(NoMemory) => return Err(NoMemory),
+        };
         Ok(Session {
             stream,
             device,
-            last,
+            last: ahead.device.taken(),
             journal,
+            ahead: Some(ahead),
         })
     }
 
@@ -96,13 +102,43 @@ impl Session {
         &self.device
     }
 
+    /// Puts the device that is ahead in the place of the session's, where it may be. Where it isn't, nothing is ahead from then on.
+    fn jump(&mut self) -> bool
+        ensures moves { IsTrue result → MovesTo self.old self.new (last_of self.old.part self.old.stream) }
+        ensures until { IsTrue result → until_of self.old.part self.old.stream Stop.Stopped self.old.at ≡ last_of self.old.part self.old.stream }
+        ensures goes { IsTrue result → GoesWith self.old self.new }
+        ensures stays { result ≡ false → self.new ≡ self.old }
+    {
+        let Some(ahead) = self.ahead.take() else {
+            return false;
+        };
+        if !ahead.may_replace(&self.device) {
+            return false;
+        }
+        self.device = ahead.device;
+        self.journal = ahead.journal;
+        true
+    }
+
+    /// Goes to a position that is not behind the last one.
+    fn move_to(&mut self, to: u64)
+        requires { to ≤ last_of self.old.part self.old.stream }
+        ensures moves { MovesTo self.old self.new to }
+        ensures goes { GoesWith self.old self.new }
+    {
+        if to == self.last && self.jump() {
+            return;
+        }
+        move_to(&mut self.device, &mut self.journal, &self.stream, to);
+    }
+
     /// Goes to a position, or to the last one where that is less.
     pub fn go(&mut self, to: u64)
         ensures moves { MovesTo self.old self.new (min to (last_of self.old.part self.old.stream)) }
         ensures goes { GoesWith self.old self.new }
     {
-        let to = to.min(self.last);
-        move_to(&mut self.device, &mut self.journal, &self.stream, to);
+        let last = self.last;
+        self.move_to(to.min(last));
     }
 
     /// Goes so many bytes forward, or to the last position where there are fewer.
@@ -110,9 +146,9 @@ impl Session {
         ensures moves { MovesTo self.old self.new (min (self.old.at + count) (last_of self.old.part self.old.stream)) }
         ensures goes { GoesWith self.old self.new }
     {
-        let left = self.last - self.device.taken();
-        let to = self.device.taken() + count.min(left);
-        move_to(&mut self.device, &mut self.journal, &self.stream, to);
+        let at = self.device.taken();
+        let left = self.last - at;
+        self.move_to(at + count.min(left));
     }
 
     /// Goes so many bytes back, or to position 0 where there are fewer.
@@ -120,8 +156,8 @@ impl Session {
         ensures moves { MovesTo self.old self.new (self.old.at - count) }
         ensures goes { GoesWith self.old self.new }
     {
-        let to = self.device.taken().saturating_sub(count);
-        move_to(&mut self.device, &mut self.journal, &self.stream, to);
+        let at = self.device.taken();
+        self.move_to(at.saturating_sub(count));
     }
 
     /// Goes forward to the least later position where it holds, or to the last one where there is none.
@@ -129,6 +165,11 @@ impl Session {
         ensures moves { MovesTo self.old self.new (until_of self.old.part self.old.stream stop self.old.at) }
         ensures goes { GoesWith self.old self.new }
     {
+        if let Stop::Stopped = stop
+            && self.jump()
+        {
+            return;
+        }
         go_until(
             &mut self.device,
             &mut self.journal,
