@@ -1,10 +1,6 @@
 //! One attempt of a boot.
-ghost use Rattle.std.specs.Prelude.{◌≡◌, ℕ, false, List, length, Option, None, Some};
-ghost use Rattle.x7_part.specs.Part.{PartData};
-ghost use Rattle.x7_engine.specs.Standing.{DeviceStandsFor};
-ghost use Rattle.x7_engine.specs.State.{stop_in};
+ghost use Rattle.std.specs.Prelude.{◌≡◌, false, length, Option, None, Some};
 ghost use Rattle.x7_engine.specs.Values.{cause_of};
-ghost use Rattle.x7_engine.specs.declared.kept.Kept.{Kept as KeptData};
 ghost use Rattle.x7_boot.specs.Attempt.{IsReady, step_by, TakesPage};
 
 use x7_engine::{Device, Fault, Fed, ReadBuf, UntilStarted};

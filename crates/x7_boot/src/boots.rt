@@ -1,5 +1,5 @@
 //! The boot of a device from a flash.
-ghost use Rattle.std.specs.Prelude.{◌≡◌, ◌≤◌, ◌<◌, ◌↔◌, List, true, Err, IfOk, IsErrOf, OnOk};
+ghost use Rattle.std.specs.Prelude.{◌≡◌, ◌<◌, ◌↔◌, true, Err, IfOk, IsErrOf, OnOk};
 ghost use Rattle.x7_words.specs.Flash.{FlashFails, OnlyReads, IfKnown};
 ghost use Rattle.x7_words.specs.Word.{AreBytes};
 ghost use Rattle.x7_engine.specs.Standing.{NoWordDue};

@@ -2,7 +2,7 @@
 ghost use Rattle.std.specs.Prelude.{◌≡◌, ◌+◌, ◌*◌, ◌/◌, ◌%◌, ◌<◌, ◌≤◌, ℕ, List, Option, None, [], length, true, nat_eq, IfOk, OnOk, IsErrOf, IsSome};
 ghost use Rattle.x7_words.specs.Flash.{FlashFails, OnlyReads};
 ghost use Rattle.std.specs.Map.{lookup};
-ghost use Rattle.x7_boot.specs.Pages.{ArePages, HasPage, HoldsFrom, IsBlock, IsLoaded, IsRest, KeepsPages, Reaches, block_pages, page_size};
+ghost use Rattle.x7_boot.specs.Pages.{ArePages, HasPage, HoldsFrom, IsLoaded, IsRest, KeepsPages, Reaches, block_pages, page_size};
 
 use crate::fault::BootFault;
 use crate::pages::{BLOCK_PAGES, PAGE, read_block};

@@ -1,6 +1,5 @@
 //! A flash image with a golden and an update stream.
-ghost use Rattle.std.specs.Prelude.{◌≡◌, ◌+◌, ◌*◌, ◌/◌, ◌<◌, ◌≤◌, ◌++◌, ◌⊎◌, ◌↔◌, ◌∷◌, [], length, replicate, Err, IfOk, IfSome, OnOk, IfNone};
-ghost use Rattle.std.specs.List.{flat_map};
+ghost use Rattle.std.specs.Prelude.{◌≡◌, ◌+◌, ◌*◌, ◌/◌, ◌<◌, ◌≤◌, ◌++◌, ◌↔◌, length, Err, IfOk, IfSome, OnOk, IfNone};
 ghost use Rattle.x7_boot.specs.Image.{closed_slots, filled_to, first_sector, flash_limit, image_of, image_size, sector_from, slot, update_place};
 
 use crate::fault::ImageFault;

@@ -1,5 +1,5 @@
 //! An attempt over a flash.
-ghost use Rattle.std.specs.Prelude.{◌≡◌, ◌≤◌, ◌<◌, ◌^◌, ℕ, List, Option, length, true, false, IfOk, IsErrOf, IsTrue, OnOk};
+ghost use Rattle.std.specs.Prelude.{◌≡◌, ◌≤◌, ◌<◌, ℕ, List, Option, true, false, IfOk, IsErrOf, IsTrue, OnOk};
 ghost use Rattle.x7_regs.specs.declared.boot_status.Kind.TheVariants.{Bench};
 ghost use Rattle.x7_regs.specs.declared.boot_status.Cause.TheVariants.{Wrap};
 ghost use Rattle.x7_words.specs.Flash.{FlashFails, OnlyReads, IfKnown};

@@ -1,5 +1,5 @@
 //! Laws of the check, for the proofs of crates above.
-ghost use Rattle.std.specs.Prelude.{◌≡◌, ◌≢◌, ◌<◌, ◌*◌, ◌^◌, ◌++◌, false, List, [], ◌∷◌, bit_xor, true, ℕ};
+ghost use Rattle.std.specs.Prelude.{◌≡◌, ◌<◌, ◌*◌, ◌^◌, ◌++◌, false, List, [], ◌∷◌, bit_xor, true, ℕ};
 ghost use Rattle.x7_regs.specs.Register.{number_of};
 ghost use Rattle.x7_regs.specs.declared.register.Reg.TheVariants.{Lout};
 ghost use Rattle.x7_packets.specs.History.{Bad, entry, History, Read, Write};

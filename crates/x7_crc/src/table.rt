@@ -1,5 +1,5 @@
 //! The running check by tables: a word at once, and four words at once.
-ghost use Rattle.std.specs.Prelude.{◌≡◌, ◌<◌, ◌+◌, ◌*◌, IsTrue, List, [], ◌∷◌, ℕ};
+ghost use Rattle.std.specs.Prelude.{◌≡◌, ◌<◌, ◌+◌, ◌*◌, IsTrue, [], ◌∷◌, ℕ};
 ghost use Rattle.x7_crc.specs.CheckTable.{advance_all, advances};
 ghost use Rattle.x7_crc.specs.RunningCheck.{check_after, writes_to};
 ghost use Rattle.x7_crc.specs.ShiftRegister.{advanced};

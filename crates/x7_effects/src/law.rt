@@ -3,7 +3,7 @@ ghost use Rattle.std.specs.Prelude.{◌≡◌, ◌++◌, ℕ, List, []};
 ghost use Rattle.x7_planner.specs.Partial.{AreLongest, WritesOnce, joined_runs, pairs_in, partial_stream, runs_of, stretches_of};
 ghost use Rattle.x7_effects.specs.Played.{CanPlay, changed_memory, with_full, with_partial, Playing, PlaysBoth, PlaysFull, PlaysPartial, PlaysRead, ReadsBackAfter, Resting, resting_after, Rests};
 ghost use Rattle.x7_engine.specs.Kept.{on_the_bench};
-ghost use Rattle.x7_memory.specs.Planned.{AreInOrder, IsPlanFor, PlanData, PlanRow, planned, total};
+ghost use Rattle.x7_memory.specs.Planned.{AreInOrder, IsPlanFor, PlanData, PlanRow, total};
 ghost use Rattle.x7_part.specs.Part.{PartData};
 ghost use Rattle.x7_part.specs.PartRange.{IsPart};
 ghost use Rattle.x7_planner.specs.Full.{full_stream};

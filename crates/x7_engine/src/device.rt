@@ -1,21 +1,19 @@
 //! A device.
-ghost use Rattle.std.specs.Prelude.{◌≡◌, ◌≤◌, ◌<◌, ◌+◌, ◌-◌, ◌^◌, ◌++◌, ℕ, Bool, List, [], false, true, length, take, IfOk, IsSome, IsTrue, is_some, ◌↔◌, ◌==◌, Option, None, Some};
+ghost use Rattle.std.specs.Prelude.{◌≡◌, ◌≤◌, ◌<◌, ◌+◌, ◌-◌, ◌^◌, ◌++◌, [], false, true, length, IfOk, IsSome, IsTrue, is_some, ◌↔◌, ◌==◌, Option, None, Some};
 ghost use Rattle.x7_packets.specs.Cutting.{between, calls_left, IsNeed};
 ghost use Rattle.x7_packets.specs.History.{history_of};
-ghost use Rattle.x7_part.specs.Part.{PartData};
 ghost use Rattle.x7_memory.specs.FrameMap.{AreSame};
 ghost use Rattle.x7_memory.specs.Frames.{AreFramesOf, frame_at};
 ghost use Rattle.x7_engine.specs.UntilRead.{RoomBefore};
 ghost use Rattle.x7_engine.specs.Kept.{on_the_bench};
 ghost use Rattle.x7_engine.specs.Readout.{Gives};
-ghost use Rattle.x7_engine.specs.ReadBuffer.{IsFull, with_words};
-ghost use Rattle.x7_engine.specs.Standing.{DeviceStandsFor, MayWrap, NoWordDue, due_count, fed_by, fed_more, fed_of, frames_due, taken_in, reads_given, with_wrap};
-ghost use Rattle.x7_engine.specs.State.{attempt_in, end_by, kept_after, why_of, memory_in, state_of, state_owing, stop_in};
+ghost use Rattle.x7_engine.specs.ReadBuffer.{IsFull};
+ghost use Rattle.x7_engine.specs.Standing.{DeviceStandsFor, MayWrap, NoWordDue, due_count, fed_by, fed_more, fed_of, frames_due, taken_in, with_wrap};
+ghost use Rattle.x7_engine.specs.State.{attempt_in, end_by, kept_after, why_of, memory_in, state_owing};
 ghost use Rattle.x7_engine.specs.Stops.{fault_of};
 ghost use Rattle.x7_engine.specs.Turns.{TakesTurn};
 ghost use Rattle.x7_engine.specs.Values.{cause_of};
 ghost use Rattle.x7_engine.specs.declared.fault.Fault.{Fault as FaultData};
-ghost use Rattle.x7_engine.specs.declared.kept.Kept.{Kept as KeptData};
 ghost use Rattle.x7_engine.specs.Past.{AnswersFor, OfPast, Takes, GivesNext, GivesNone, part_taken, state_at, stop_at, reads_given_at};
 
 mod boot;

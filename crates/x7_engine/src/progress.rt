@@ -1,5 +1,5 @@
 //! The running check, and what is known of all accesses so far.
-ghost use Rattle.std.specs.Prelude.{◌≡◌, ◌<◌, false, ◌||◌, ◌&&◌, ◌==◌, not, ℕ, ◌∷◌, [], length, ◌%◌, Option, None, Some};
+ghost use Rattle.std.specs.Prelude.{◌≡◌, ◌<◌, false, ◌||◌, ◌&&◌, ◌==◌, ℕ, ◌∷◌, [], length, ◌%◌, Option, None, Some};
 ghost use Rattle.x7_packets.specs.History.{entry, executes, History, is_command, Write};
 ghost use Rattle.x7_crc.specs.OpenWrites.{running_check};
 ghost use Rattle.x7_regs.specs.Command.{code_of};

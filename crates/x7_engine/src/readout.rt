@@ -1,11 +1,10 @@
 //! The words that a device reads out: a read makes them due, and a buffer takes them.
 ghost use Rattle.std.specs.Prelude.{◌≡◌, ◌≤◌, ◌<◌, ℕ, nat_lt, IsTrue, ◌↔◌, None, Some};
-ghost use Rattle.x7_packets.specs.History.{History, Read};
+ghost use Rattle.x7_packets.specs.History.{History};
 ghost use Rattle.x7_flow.specs.Standing.{FramesFit, FramesStandFor, read_of, words_due};
 ghost use Rattle.x7_engine.specs.Readout.{GotAllBut};
 ghost use Rattle.x7_engine.specs.ReadBuffer.{IsFull};
 ghost use Rattle.x7_engine.specs.Standing.{due_count};
-ghost use Rattle.x7_engine.specs.Values.{answer_of};
 ghost use Rattle.x7_engine.specs.declared.stop.Stop.{Stop};
 ghost use Rattle.x7_engine.specs.Entering.{AreAnswer, EntersAt, OfHistory, change_of, read_entered};
 
@@ -49,7 +48,7 @@ fn give_frames(frames: &mut Frames, part: &Part, count: u32, read: &mut ReadBuf)
 }
 
 impl Registers {
-    ghost use Rattle.x7_engine.specs.Standing.{counted_in, registers_in, words_left};
+    ghost use Rattle.x7_engine.specs.Standing.{counted_in, registers_in};
     ghost use Rattle.x7_engine.specs.Course.{course_at};
     ghost use Rattle.x7_engine.specs.Readout.{Gave};
 

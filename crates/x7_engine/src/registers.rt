@@ -1,5 +1,5 @@
 //! The registers of a device, and what an access does to them.
-ghost use Rattle.std.specs.Prelude.{◌≡◌, ◌≤◌, ◌<◌, ◌+◌, ◌*◌, ◌/◌, ◌%◌, ◌&&◌, not, ℕ, ◌∷◌, [], true, false, Option, None, Some, IfSome, IfNone, ◌-◌, length, take};
+ghost use Rattle.std.specs.Prelude.{◌≡◌, ◌≤◌, ◌<◌, ◌+◌, ◌*◌, ◌/◌, ◌%◌, ◌&&◌, ℕ, ◌∷◌, [], true, false, Option, None, Some, IfSome, IfNone, ◌-◌, length, take};
 ghost use Rattle.x7_packets.specs.Cutting.{IsRun};
 ghost use Rattle.x7_packets.specs.History.{command_held, entered, entry, executed_by, History, Write};
 ghost use Rattle.x7_part.specs.Part.{PartData};

@@ -1,15 +1,12 @@
 //! Laws of the definitions. The functions do nothing: their contracts are the laws.
-ghost use Rattle.std.specs.Prelude.{◌≡◌, ◌↔◌, ◌∷◌, ◌++◌, [], ℕ, List, None, Option, Some, reverse, ◌<◌, ◌-◌, ◌%◌, ◌^◌, true, false};
+ghost use Rattle.std.specs.Prelude.{◌≡◌, ◌↔◌, ◌∷◌, ◌++◌, [], ℕ, List, None, Option, Some, reverse, ◌<◌, ◌-◌, true, false};
 ghost use Rattle.x7_memory.specs.FrameMap.{AreSame};
-ghost use Rattle.x7_memory.specs.Planned.{planned};
 ghost use Rattle.x7_part.specs.AddressOrder.{Rises, addresses_in};
 ghost use Rattle.x7_part.specs.Part.{PartData, frame_words};
 ghost use Rattle.x7_packets.specs.History.{Access, Entry, History};
 ghost use Rattle.x7_regs.specs.declared.command.Command.TheVariants as command;
 ghost use Rattle.x7_regs.specs.declared.register.Reg.TheVariants as reg;
-ghost use Rattle.x7_regs.specs.Command.{code_of};
 ghost use Rattle.x7_pipeline.specs.Flow.{LandsAt, after_words};
-ghost use Rattle.x7_pipeline.specs.InWords.{Overruns};
 ghost use Rattle.x7_pipeline.specs.Runs.{written_frames, onto};
 ghost use Rattle.x7_pipeline.specs.Saving.{SavedState};
 ghost use Rattle.x7_pipeline.specs.declared.fault.RunFault.{RunFault};
@@ -26,7 +23,7 @@ ghost use Rattle.x7_flow.specs.Quiet.{AreQuiet};
 ghost use Rattle.x7_flow.specs.Saving.{AreKept, FramesBack, GetAccess};
 ghost use Rattle.x7_flow.specs.Settings.{Settings, TakesFrames, settings_after, settings_from, settings_of};
 ghost use Rattle.x7_flow.specs.Sound.{IsSound};
-ghost use Rattle.x7_flow.specs.Standing.{FramesDid, FramesFit, FramesStandFor, FramesState, ReadsData, ReadsFrames, ReadsMore, flow_read, frames_map, frames_read, less, read_of, words_due, written_to};
+ghost use Rattle.x7_flow.specs.Standing.{FramesDid, FramesFit, FramesStandFor, FramesState, ReadsData, ReadsFrames, ReadsMore, flow_read, frames_map, frames_read, less, words_due, written_to};
 ghost use Rattle.x7_flow.specs.Stretches.{ends_of, is_boundary, overridden};
 ghost use Rattle.x7_flow.specs.Words.{HasRoomFor, NoneRefused, with_copies, with_frame_data};
 

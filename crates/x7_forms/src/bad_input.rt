@@ -1,5 +1,5 @@
 //! The line that says why an input has no reading. No memory is taken.
-ghost use Rattle.std.specs.Prelude.{◌≡◌, ◌++◌, codes, decimal};
+ghost use Rattle.std.specs.Prelude.{◌++◌, codes, decimal};
 ghost use Rattle.x7_words.specs.Sink.{Tells};
 ghost use Rattle.x7_forms.specs.Event.{bad_input, line_of};
 ghost use Rattle.x7_forms.specs.declared.bad_input.InputFault.TheVariants as input;

@@ -1,5 +1,5 @@
 //! The line that says why a part file was refused. No memory is taken.
-ghost use Rattle.std.specs.Prelude.{◌≡◌, ◌++◌, codes, decimal};
+ghost use Rattle.std.specs.Prelude.{◌++◌, codes, decimal};
 ghost use Rattle.x7_words.specs.Sink.{Tells};
 ghost use Rattle.x7_forms.specs.Event.{bad_part, line_of, which_text};
 

@@ -1,5 +1,5 @@
 //! The beginning of a stream that is listed, up to where its header is judged.
-ghost use Rattle.std.specs.Prelude.{◌≡◌, ◌≤◌, ◌⊎◌, ℕ, List, length, true, false, IfErr, IfOk, MatchOption, OnOk};
+ghost use Rattle.std.specs.Prelude.{◌≡◌, ◌≤◌, ◌⊎◌, ℕ, length, true, false, IfErr, IfOk, MatchOption, OnOk};
 ghost use Rattle.x7_words.specs.Input.{Stays};
 ghost use Rattle.x7_forms.specs.Event.{bad_input, no_memory};
 ghost use Rattle.x7_forms.specs.Message.{event_of};

@@ -1,6 +1,5 @@
 //! A device that plays bytes piece by piece, and the words that it reads out.
-ghost use Rattle.std.specs.Prelude.{◌≡◌, ◌++◌, ◌+◌, ◌<◌, ◌≤◌, ℕ, List, [], true, false, Ok, Err, length, vec_capacity, vec_len, IfOk, IsOk, OnErr, OnOk};
-ghost use Rattle.x7_part.specs.Part.{PartData};
+ghost use Rattle.std.specs.Prelude.{◌≡◌, ◌++◌, ◌+◌, ◌<◌, ◌≤◌, [], true, false, Ok, Err, length, vec_capacity, vec_len, IfOk, IsOk, OnErr, OnOk};
 ghost use Rattle.x7_forms.specs.Play.{HasPlayed, MayPlay, MayPlayBy, PlaysOn, emptied, FeedsOn, FeedsPrefix, OfPrefix, PlaysPrefix, play_state};
 
 use std::alloc::Global;

@@ -1,5 +1,5 @@
 //! Why a command has no whole text, and the line that says so.
-ghost use Rattle.std.specs.Prelude.{◌≡◌, ◌++◌, [], codes, decimal};
+ghost use Rattle.std.specs.Prelude.{◌≡◌, ◌++◌, [], codes};
 ghost use Rattle.x7_words.specs.Sink.{Tells};
 ghost use Rattle.x7_forms.specs.Event.{differs, line_of};
 

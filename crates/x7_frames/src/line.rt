@@ -1,5 +1,5 @@
 //! One line.
-ghost use Rattle.std.specs.Prelude.{◌≡◌, ℕ, ◌+◌, ◌*◌, ◌%◌, ◌^◌, ◌<◌, ◌≤◌, List, ◌++◌, length, take, Some, None, MatchBool, MatchOption, vec_capacity};
+ghost use Rattle.std.specs.Prelude.{◌≡◌, ◌+◌, ◌*◌, ◌%◌, ◌<◌, ◌≤◌, ◌++◌, length, take, Some, None, MatchBool, MatchOption, vec_capacity};
 ghost use Rattle.x7_text.specs.EitherCase.{pairs};
 ghost use Rattle.x7_words.specs.Word.{AreBytes, words_of_bytes};
 ghost use Rattle.x7_memory.specs.Planned.{PlanRow};

@@ -1,5 +1,5 @@
 //! A text that comes in pieces.
-ghost use Rattle.std.specs.Prelude.{◌≡◌, ℕ, ◌++◌, ◌^◌, ◌<◌, ◌⊎◌, List, [], length, true, Ok, Err, IfOk, IfErr, OnOk};
+ghost use Rattle.std.specs.Prelude.{◌≡◌, ℕ, ◌^◌, ◌<◌, ◌⊎◌, List, [], length, true, Ok, Err, IfOk, IfErr, OnOk};
 ghost use Rattle.x7_text.specs.Lines.{has_no_end};
 ghost use Rattle.x7_frames.specs.FramesText.{IsPlanOf};
 ghost use Rattle.x7_frames.specs.Reader.{FailsAtLine, FailsIn, IsSound, ReaderStandsFor, TakesLine, TakesPiece, reader_of};

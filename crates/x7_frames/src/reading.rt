@@ -1,5 +1,5 @@
 //! The plan of a text, line by line.
-ghost use Rattle.std.specs.Prelude.{◌≡◌, ◌+◌, ◌≤◌, ◌⊎◌, [], Ok, Err, IfOk, IfErr, OnOk, MatchResult, vec_capacity};
+ghost use Rattle.std.specs.Prelude.{◌≡◌, ◌≤◌, ◌⊎◌, [], Ok, Err, IfOk, IfErr, OnOk, MatchResult, vec_capacity};
 ghost use Rattle.x7_part.specs.Part.{frame_words};
 ghost use Rattle.x7_memory.specs.Planned.{IsPlanFor, PlanData};
 ghost use Rattle.x7_frames.specs.FramesText.{IsPlanOf, plan_text};

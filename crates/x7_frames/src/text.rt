@@ -1,8 +1,7 @@
 //! The text of a plan.
-ghost use Rattle.std.specs.Prelude.{◌≡◌, ◌+◌, ◌*◌, ◌≤◌, ◌++◌, [], ◌∷◌, length, IfOk, OnOk, vec_len, vec_capacity};
+ghost use Rattle.std.specs.Prelude.{◌≡◌, ◌+◌, ◌*◌, ◌≤◌, ◌++◌, length, IfOk, OnOk, vec_len, vec_capacity};
 ghost use Rattle.std.specs.List.{flat_map};
 ghost use Rattle.x7_text.specs.Digits.{hex_word};
-ghost use Rattle.x7_memory.specs.Planned.{PlanRow};
 ghost use Rattle.x7_frames.specs.FramesText.{frame_line, plan_text};
 
 use std::alloc::{AllocError, Global};

@@ -1,5 +1,4 @@
 //! Why bytes have no header.
-ghost use Rattle.std.specs.Prelude.{◌≡◌};
 
 /// Why no header was read. Places count from 0.
 #[derive(Clone, Copy, Debug, Drop, PartialEq, Eq)]

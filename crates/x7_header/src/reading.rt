@@ -1,8 +1,7 @@
 //! Reading a header, field by field.
-ghost use Rattle.std.specs.Prelude.{◌≡◌, ◌≢◌, ◌↔◌, IsOkAnd, IsErrOf, ◌≤◌, ◌++◌, ℕ, List, length, take, drop, IfOk, Ok};
-ghost use Rattle.x7_words.specs.Word.{bytes_of_word, word_of_bytes};
-ghost use Rattle.x7_header.specs.Header.{BeginsWith, Kind, Contents, HaveHeader, EndsInHeader, HasOtherLetterAt, contents_of, fixed_bytes, header_bytes};
-ghost use Rattle.x7_header.specs.Reading.{Gives, letter_at, bytes_at, field_at, fixed_at, layout_at, header_at};
+ghost use Rattle.std.specs.Prelude.{◌≡◌, ◌≢◌, ◌↔◌, IsOkAnd, IsErrOf, ◌≤◌, ◌++◌, ℕ, List, length, IfOk, Ok};
+ghost use Rattle.x7_header.specs.Header.{BeginsWith, Contents, HaveHeader, EndsInHeader, HasOtherLetterAt, contents_of, fixed_bytes, header_bytes};
+ghost use Rattle.x7_header.specs.Reading.{Gives, layout_at, header_at};
 
 use crate::fault::HeaderFault;
 use crate::field::{after_fixed_bytes, number_field, text_field};

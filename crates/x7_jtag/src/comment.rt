@@ -1,5 +1,5 @@
 //! Blanks in place of comments.
-ghost use Rattle.std.specs.Prelude.{◌≡◌, ◌+◌, true, false, length};
+ghost use Rattle.std.specs.Prelude.{◌≡◌, ◌+◌, false, length};
 ghost use Rattle.x7_jtag.specs.Comments.{begins_comment, clean_text, begins_with, is_inside, shown};
 
 /// Whether a text begins with a byte.

@@ -1,11 +1,10 @@
 //! Playing the statements of a text on a tap.
-ghost use Rattle.std.specs.Prelude.{◌≡◌, ◌≤◌, ◌<◌, ◌+◌, ◌-◌, ◌*◌, ◌^◌, ◌∷◌, ◌++◌, ℕ, Bool, false, true, [], List, length, take, replicate, Option, Some};
+ghost use Rattle.std.specs.Prelude.{◌≡◌, ◌≤◌, ◌<◌, ◌+◌, ◌-◌, ◌*◌, ◌^◌, ◌++◌, false, true, [], length, take, replicate, Option, Some};
 ghost use Rattle.std.specs.List.{slice_get};
 ghost use Rattle.x7_part.specs.Part.{PartData};
 ghost use Rattle.x7_jtag.specs.Clocks.{clock as clock_of, clocks_of, from_reset, shift_clocks, to_shift as to_shift_clocks};
 ghost use Rattle.x7_jtag.specs.Play.{AreNew, Finds, HavingMade, Makes, Ready, are_apart as apart, bit_at, clocks_played, counts as counts_at, difference, difference_from, first_difference, found_more, is_apart, scan_bits, walk_clocks};
 ghost use Rattle.x7_jtag.specs.Port.{port_after};
-ghost use Rattle.x7_jtag.specs.States.{Clock};
 ghost use Rattle.x7_jtag.specs.Tap.{TapStandsFor};
 ghost use Rattle.x7_jtag.specs.declared.state.State.{State as StateData};
 ghost use Rattle.x7_jtag.specs.declared.statement.Statement.{Statement as StatementData};

@@ -1,5 +1,5 @@
 //! One statement of a text.
-ghost use Rattle.std.specs.Prelude.{◌≡◌, ◌<◌, ◌≤◌, ◌+◌, ◌*◌, ◌^◌, ◌∷◌, [], ℕ, Bool, List, true, false, length, drop, take, IfSome, Option, Some, None};
+ghost use Rattle.std.specs.Prelude.{◌≡◌, ◌<◌, ◌≤◌, ◌+◌, ◌*◌, [], Bool, true, false, length, drop, take, IfSome, Option, Some, None};
 ghost use Rattle.std.specs.List.{list_all};
 ghost use Rattle.x7_jtag.specs.Fields.{all_fit, digit_width, fits, scan_by, scan_if, scan_of, width};
 ghost use Rattle.x7_jtag.specs.Pieces.{mark_of, pieces, size_of};
@@ -8,7 +8,7 @@ ghost use Rattle.x7_jtag.specs.Spans.{AreWithin, IsPrefix, digits_if, end_if, fi
 ghost use Rattle.x7_jtag.specs.Statements.{other_statement, statement_by};
 ghost use Rattle.x7_jtag.specs.Stored.{IsStoredWithin, asked_if, stored_if};
 ghost use Rattle.x7_jtag.specs.Svf.{pieces_after, statement_marks};
-ghost use Rattle.x7_jtag.specs.Words.{is_free_mark, statement_if_words as if_words, word_list, words_of};
+ghost use Rattle.x7_jtag.specs.Words.{is_free_mark, statement_if_words as if_words, words_of};
 
 use crate::bits::value_of;
 use crate::fields::{Given, fields};

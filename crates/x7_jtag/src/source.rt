@@ -1,7 +1,6 @@
 //! A text that is read from its front, and the bytes that are kept of it.
-ghost use Rattle.std.specs.Prelude.{◌≡◌, ◌≤◌, ◌<◌, ◌^◌, ◌++◌, [], ℕ, false, length, drop, take, slice_index, vec_len};
-ghost use Rattle.x7_jtag.specs.Pieces.{is_blank, line_after};
-ghost use Rattle.x7_jtag.specs.Source.{pieces_left};
+ghost use Rattle.std.specs.Prelude.{◌≡◌, ◌≤◌, ◌<◌, ◌^◌, ◌++◌, [], length, drop, take, slice_index, vec_len};
+ghost use Rattle.x7_jtag.specs.Pieces.{line_after};
 
 use std::marker::Model;
 

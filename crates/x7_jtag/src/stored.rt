@@ -2,7 +2,7 @@
 ghost use Rattle.std.specs.Prelude.{◌≡◌, ◌≤◌, length};
 ghost use Rattle.x7_jtag.specs.Fields.{bits_option as bits_if};
 ghost use Rattle.x7_jtag.specs.Spans.{digits_if, end_if};
-ghost use Rattle.x7_jtag.specs.Stored.{IsStoredWithin, asked_by, scan_in, statement_in};
+ghost use Rattle.x7_jtag.specs.Stored.{IsStoredWithin, asked_by, statement_in};
 
 use crate::bits::Bits;
 use crate::span::Span;

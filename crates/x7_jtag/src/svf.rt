@@ -1,5 +1,5 @@
 //! The statements of a text.
-ghost use Rattle.std.specs.Prelude.{◌≡◌, ◌<◌, ◌≤◌, ◌+◌, ◌*◌, ◌^◌, ◌∷◌, [], ℕ, List, length, MatchResult, Some, None, IfOk, IfErr, Ok, Err, ◌⊎◌, vec_len};
+ghost use Rattle.std.specs.Prelude.{◌≡◌, ◌<◌, ◌≤◌, ◌*◌, ◌^◌, [], List, length, MatchResult, Some, None, IfOk, IfErr, Ok, Err, ◌⊎◌, vec_len};
 ghost use Rattle.std.specs.List.{slice_get};
 ghost use Rattle.x7_jtag.specs.Source.{pieces_left};
 ghost use Rattle.x7_jtag.specs.Stored.{AreStoredWithin, statements_in};

@@ -1,9 +1,9 @@
 //! The test access port of a device.
-ghost use Rattle.std.specs.Prelude.{◌≡◌, ◌≤◌, ◌<◌, ◌+◌, ◌*◌, ◌/◌, ◌%◌, ◌^◌, ◌==◌, ◌∷◌, ◌++◌, ℕ, Bool, false, [], List, length, IsTrue};
+ghost use Rattle.std.specs.Prelude.{◌≡◌, ◌≤◌, ◌<◌, ◌+◌, ◌*◌, ◌/◌, ◌%◌, ◌^◌, ◌==◌, ◌∷◌, ◌++◌, ℕ, false, [], List, length, IsTrue};
 ghost use Rattle.x7_part.specs.Part.{PartData};
 ghost use Rattle.x7_engine.specs.Kept.{on_the_bench};
 ghost use Rattle.x7_engine.specs.Standing.{DeviceStandsFor, DeviceState};
-ghost use Rattle.x7_jtag.specs.Port.{Port, acted, captured, clocked, data_shifted, data_shown, idled, lowest, number_of_bit, port_after, shifted as shifted_in, status as status_by, status_of, tdo_of, updated, with_bit as with_bit_in};
+ghost use Rattle.x7_jtag.specs.Port.{Port, acted, captured, data_shifted, data_shown, idled, lowest, number_of_bit, port_after, shifted as shifted_in, status as status_by, status_of, tdo_of, updated, with_bit as with_bit_in};
 ghost use Rattle.x7_jtag.specs.States.{Clock};
 ghost use Rattle.x7_jtag.specs.declared.instruction.Instruction.TheVariants.{CfgIn};
 ghost use Rattle.x7_jtag.specs.Tap.{StandsForPort, TakesBytes, TapStandsFor, Took, last_or};

@@ -1,6 +1,6 @@
 //! The next word, bracket or end of a text without comments.
 ghost use Rattle.std.specs.Prelude.{◌≡◌, ◌+◌, ◌<◌, ◌≤◌, ◌∷◌, [], ℕ, List, true, false, length, MatchOption, IfSome, IfNone, Some, None, slice_index, drop, take};
-ghost use Rattle.x7_jtag.specs.Pieces.{byte_mark, is_blank, is_word_byte, mark_of, Piece, pieces, size_of, Word};
+ghost use Rattle.x7_jtag.specs.Pieces.{byte_mark, is_blank, is_word_byte, mark_of, pieces, size_of, Word};
 ghost use Rattle.x7_jtag.specs.Source.{left_after, left_from, pieces_left};
 ghost use Rattle.x7_jtag.specs.Svf.{pieces_after, statement_marks};
 

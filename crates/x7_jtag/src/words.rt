@@ -1,6 +1,6 @@
 //! Statements of words alone.
-ghost use Rattle.std.specs.Prelude.{◌≡◌, ◌≤◌, ◌<◌, ◌&&◌, ◌+◌, ◌^◌, ◌∷◌, [], ℕ, List, true, false, length, map, codes, Option, Some, None, MatchOption};
-ghost use Rattle.x7_jtag.specs.Words.{end_words, is_digit, is_free, is_free_byte, is_key, is_time, is_time_byte, most_clocks, number_from, number_of, reset_words, run_by, run_if as run_clocks, run_words, some_if, state_words, statement_of_words as of_words, word_list, zero_words};
+ghost use Rattle.std.specs.Prelude.{◌≡◌, ◌<◌, ◌&&◌, ◌+◌, codes, Option, Some, None};
+ghost use Rattle.x7_jtag.specs.Words.{end_words, is_digit, is_free, is_free_byte, is_key, is_time, is_time_byte, most_clocks, number_of, reset_words, run_by, run_if as run_clocks, run_words, some_if, state_words, statement_of_words as of_words, word_list, zero_words};
 ghost use Rattle.x7_jtag.specs.Stored.{asked_if};
 ghost use Rattle.x7_jtag.specs.declared.statement.Statement.{Statement as StatementData};
 ghost use Rattle.std.specs.List.{list_all};

@@ -1,5 +1,5 @@
 //! The text of a flash's bytes, written block by block in one buffer.
-ghost use Rattle.std.specs.Prelude.{◌≡◌, ℕ, List, ◌≤◌, ◌^◌, length, vec_len, vec_capacity, IfOk, OnOk, OnErr};
+ghost use Rattle.std.specs.Prelude.{◌≡◌, ℕ, List, ◌≤◌, ◌^◌, length, vec_capacity, IfOk, OnOk, OnErr};
 ghost use Rattle.x7_text.specs.Row.{rows};
 ghost use Rattle.x7_words.specs.Sink.{Counts, PutsAll, PutsSome, SinkFails};
 ghost use Rattle.x7_mcs.specs.Text.{mcs_text, row_lines};

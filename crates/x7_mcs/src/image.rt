@@ -1,5 +1,5 @@
 //! The bytes of a flash that is being read, and the places that its records gave.
-ghost use Rattle.std.specs.Prelude.{◌≡◌, ℕ, true, ◌≤◌, ◌<◌, ◌+◌, ◌-◌, ◌*◌, ◌/◌, ◌%◌, ◌^◌, ◌==◌, ◌&&◌, nat_le, nat_lt, max, if◌then◌else◌, List, [], length, get_or, None, Some, Ok, Err, IfOk, MatchResult, MatchOption};
+ghost use Rattle.std.specs.Prelude.{◌≡◌, ℕ, true, ◌≤◌, ◌<◌, ◌+◌, ◌-◌, ◌*◌, ◌/◌, ◌%◌, ◌^◌, ◌==◌, ◌&&◌, nat_le, nat_lt, max, if◌then◌else◌, List, [], length, get_or, None, Some, Ok, Err, MatchResult, MatchOption};
 ghost use Rattle.std.specs.Int.{bit_at};
 ghost use Rattle.x7_mcs.specs.Places.{DataRecord, overlap};
 ghost use Rattle.x7_mcs.specs.Images.{HoldsIn, HoldsMore, IsRefused, data_at};

@@ -1,5 +1,5 @@
 //! One line more.
-ghost use Rattle.std.specs.Prelude.{true, ◌<◌, ◌^◌, List, length, Some};
+ghost use Rattle.std.specs.Prelude.{true, ◌<◌, ◌^◌, List, length};
 ghost use Rattle.x7_mcs.specs.Record.{data_of, meaning_of};
 ghost use Rattle.x7_mcs.specs.Places.{DataRecord};
 ghost use Rattle.x7_mcs.specs.Flash.{after_data, after_line};

@@ -1,5 +1,5 @@
 //! Laws of addresses, of slots and of part files. The functions do nothing: their contracts are the laws.
-ghost use Rattle.std.specs.Prelude.{◌≡◌, ◌+◌, ◌*◌, ◌↔◌, ℕ, List, ◌∷◌, ◌++◌, Some, Ok, length, map, slice_index, slice_index_or, Contains, IsPermutation};
+ghost use Rattle.std.specs.Prelude.{◌≡◌, ◌+◌, ◌*◌, ◌↔◌, ℕ, List, ◌∷◌, ◌++◌, Some, Ok, length, slice_index, Contains, IsPermutation};
 ghost use Rattle.std.specs.List.Sorted.{IsNonDecreasingBy};
 ghost use Rattle.toml.specs.Data.{Members};
 ghost use Rattle.toml.specs.Parse.{parse_document};
@@ -9,10 +9,10 @@ ghost use Rattle.x7_part.specs.PartFile.{part_in};
 ghost use Rattle.x7_part.specs.PartRange.{IsPart};
 ghost use Rattle.x7_part.specs.PartRows.{in_order, RowsRise};
 ghost use Rattle.x7_part.specs.PartValues.{rows_of};
-ghost use Rattle.x7_part.specs.AddressOrder.{addresses_in, addresses_of, Follows};
+ghost use Rattle.x7_part.specs.AddressOrder.{addresses_in, Follows};
 ghost use Rattle.x7_part.specs.Slots.{slots, slots_in, from, row_slots, slot_after, addresses_among, AreInOneRow};
 ghost use Rattle.x7_part.specs.declared.slot.Slot.{Slot};
-ghost use Rattle.x7_part.specs.declared.slot.Slot.TheVariants.{Frame, Pad, End};
+ghost use Rattle.x7_part.specs.declared.slot.Slot.TheVariants.{Frame};
 
 /// The slots of a part in words: the slots from an address are their end that begins with it, each row ends in two pads,
 /// the slots of frames are the addresses in order, and a frame stands right after another in one row alone.

@@ -1,6 +1,6 @@
 //! A part, and the questions that are asked of its addresses and slots.
 ghost use Rattle.std.specs.Prelude.{◌≡◌, ◌+◌, ◌*◌, ◌<◌, ◌≤◌, ◌⊎◌, ◌↔◌, ◌%◌, ◌^◌, ℕ, true, None, [], All, length, slice_index, slice_index_or, count_by, nat_lt, string_bytes, Contains, IfSome, IfNone, IfOk};
-ghost use Rattle.x7_part.specs.AddressOrder.{addresses, addresses_in, Follows, IsLast, Rises};
+ghost use Rattle.x7_part.specs.AddressOrder.{addresses_in, Follows, IsLast, Rises};
 ghost use Rattle.x7_part.specs.Columns.{table_of as columns_of};
 ghost use Rattle.x7_part.specs.FrameAddress.{IsAddressOf, IsRow, far_width};
 ghost use Rattle.x7_part.specs.Part.{PartData, frame_words};

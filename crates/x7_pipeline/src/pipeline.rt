@@ -1,5 +1,5 @@
 //! The frame pipeline (UG470, frame data): frames on their way into the memory, copies, and words on their way out.
-ghost use Rattle.std.specs.Prelude.{◌≡◌, ◌+◌, ◌-◌, ◌*◌, ◌/◌, ◌%◌, ◌^◌, ◌<◌, ◌≤◌, ◌==◌, ◌&&◌, not, [], ◌∷◌, ◌++◌, length, take, min, slice_index_or, is_some, vec_len, vec_capacity, Option, Some, None, IfOk, IfErr, IsTrue, OnOk, OnErr};
+ghost use Rattle.std.specs.Prelude.{◌≡◌, ◌+◌, ◌-◌, ◌*◌, ◌/◌, ◌%◌, ◌^◌, ◌<◌, ◌≤◌, ◌==◌, ◌&&◌, not, [], ◌∷◌, ◌++◌, length, take, is_some, vec_len, vec_capacity, Option, Some, None, IfOk, IfErr, IsTrue, OnOk, OnErr};
 ghost use Rattle.std.specs.Result.{result_err};
 ghost use Rattle.x7_words.specs.Word.{words_of_bytes};
 ghost use Rattle.x7_part.specs.Part.{PartData};

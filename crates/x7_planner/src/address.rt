@@ -1,5 +1,5 @@
 //! Whether a plan is one for a part.
-ghost use Rattle.std.specs.Prelude.{◌≡◌, IfNone, IfSome};
+ghost use Rattle.std.specs.Prelude.{IfNone, IfSome};
 ghost use Rattle.x7_memory.specs.Planned.{AreAddressed};
 ghost use Rattle.x7_planner.specs.Refusals.{IsFirstForeign};
 

@@ -2,7 +2,6 @@
 ghost use Rattle.std.specs.Prelude.{◌≡◌, ◌==◌, ◌&&◌, ◌<◌, ◌++◌, nat_le, if◌then◌else◌, [], ◌∷◌, length, slice_index, IfOk, OnOk};
 ghost use Rattle.std.specs.List.{flat_map};
 ghost use Rattle.x7_memory.specs.Planned.{planned_addresses};
-ghost use Rattle.x7_part.specs.Part.{frame_words};
 ghost use Rattle.x7_planner.specs.Contents.{AreFirsts, AreGrouped, AreStarts, AreTogether, IsFirst, rows_of};
 ghost use Rattle.x7_planner.specs.Partial.{copy_words, groups_led, others, stretch_words, with_content, Copies};
 ghost use Rattle.x7_planner.specs.Stream.{with_piece, Words};

@@ -1,9 +1,6 @@
 //! Frames whose addresses follow one another, which are written at once.
-ghost use Rattle.std.specs.Prelude.{◌≡◌, ℕ, ◌+◌, ◌-◌, ◌*◌, ◌^◌, ◌<◌, ◌≤◌, ◌++◌, true, false, length, slice_index_or, All, Contains, OnOk};
-ghost use Rattle.std.specs.List.{flat_map};
-ghost use Rattle.x7_memory.specs.Planned.{PlanRow};
+ghost use Rattle.std.specs.Prelude.{◌≡◌, ◌+◌, ◌-◌, ◌*◌, ◌<◌, ◌≤◌, false, length, All, Contains, OnOk};
 ghost use Rattle.x7_part.specs.AddressOrder.{addresses_in};
-ghost use Rattle.x7_part.specs.Part.{PartData, frame_words};
 ghost use Rattle.x7_planner.specs.Contents.{IsRunLength, rows_of};
 ghost use Rattle.x7_planner.specs.Partial.{follows, frames_words, runs_words, stretch_words, Rows};
 ghost use Rattle.x7_planner.specs.Stream.{with_piece, Words};

@@ -1,6 +1,5 @@
 //! The stream of a whole configuration.
-ghost use Rattle.std.specs.Prelude.{◌≡◌, ◌⊎◌, ◌+◌, ◌-◌, ◌*◌, ◌^◌, ◌<◌, ◌≤◌, ◌++◌, ℕ, List, [], ◌∷◌, true, false, length, take, drop, replicate, slice_index, Contains, vec_capacity, IfOk, IfErr, OnOk, OnErr};
-ghost use Rattle.x7_crc.specs.Checking.{check_of_bytes};
+ghost use Rattle.std.specs.Prelude.{◌≡◌, ◌⊎◌, ◌+◌, ◌-◌, ◌*◌, ◌<◌, ◌≤◌, ◌++◌, ℕ, List, [], true, false, length, take, drop, replicate, slice_index, Contains, vec_capacity, IfOk, IfErr, OnOk, OnErr};
 ghost use Rattle.x7_memory.specs.Planned.{AreAddressed};
 ghost use Rattle.x7_part.specs.AddressOrder.{addresses_in};
 ghost use Rattle.x7_part.specs.Part.{frame_words};
@@ -9,7 +8,7 @@ ghost use Rattle.x7_part.specs.Slots.{slots_in};
 ghost use Rattle.x7_planner.specs.Full.{frame_at_slot, full_opening, full_settings, full_stream, slot_words};
 ghost use Rattle.x7_planner.specs.Refusals.{IsFullFault};
 ghost use Rattle.x7_planner.specs.Stream.{bytes_of_words};
-ghost use Rattle.x7_planner.specs.Telling.{HasGiven, TellsMore, Writes, calls_left, piece_limit, slot_next};
+ghost use Rattle.x7_planner.specs.Telling.{HasGiven, TellsMore, Writes, calls_left, piece_limit};
 ghost use Rattle.x7_planner.specs.declared.fault.PlanFault.{PlanFault};
 ghost use Rattle.x7_planner.specs.declared.whole.NextPiece.{NextPiece};
 

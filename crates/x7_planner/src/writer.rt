@@ -1,5 +1,5 @@
 //! A stream that is being written.
-ghost use Rattle.std.specs.Prelude.{◌≡◌, ◌+◌, ◌*◌, ◌≤◌, [], ◌∷◌, ◌++◌, length, ◌<◌, ◌^◌, vec_len, vec_capacity, IfOk, OnOk, OnErr};
+ghost use Rattle.std.specs.Prelude.{◌≡◌, ◌+◌, ◌*◌, ◌≤◌, [], ◌++◌, length, ◌<◌, ◌^◌, vec_capacity, IfOk, OnOk, OnErr};
 ghost use Rattle.x7_planner.specs.Stream.{bytes_of_words, with_piece, Check, Words};
 
 use byteorder::{BigEndian, ByteOrder};

@@ -1,5 +1,5 @@
 //! Phases by ticks (UG470, startup).
-ghost use Rattle.std.specs.Prelude.{◌≡◌, ◌≤◌, ◌||◌, nat_lt, nat_le};
+ghost use Rattle.std.specs.Prelude.{◌≡◌, ◌≤◌};
 ghost use Rattle.x7_startup.specs.Arrivals.{wait_of};
 ghost use Rattle.x7_startup.specs.Ticks.{PassesTicks};
 

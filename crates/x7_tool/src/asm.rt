@@ -1,5 +1,5 @@
 //! The command `asm`.
-ghost use Rattle.std.specs.Prelude.{◌≡◌, ℕ, [], ◌∷◌};
+ghost use Rattle.std.specs.Prelude.{◌≡◌};
 ghost use Rattle.x7_words.specs.Input.{Stays};
 ghost use Rattle.x7_listing.specs.Assembling.{AssemblerStandsFor};
 ghost use Rattle.x7_forms.specs.Message.{event_of};

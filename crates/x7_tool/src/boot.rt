@@ -1,5 +1,5 @@
 //! The command `boot`: which image a device starts from a flash, and why not another.
-ghost use Rattle.std.specs.Prelude.{◌≡◌, ◌⊎◌, ◌≤◌, ℕ, List, [], ◌∷◌, Some, length, IfErr, IfOk};
+ghost use Rattle.std.specs.Prelude.{◌≡◌, ℕ, List, [], Some, IfErr, IfOk};
 ghost use Rattle.x7_words.specs.Input.{Stays};
 ghost use Rattle.x7_words.specs.Flash.{Unwritten};
 ghost use Rattle.x7_part.specs.Part.{PartData};

@@ -1,8 +1,6 @@
 //! The command `debug`.
-ghost use Rattle.std.specs.Prelude.{◌≡◌, ◌⊎◌, ◌≤◌, ℕ, [], ◌∷◌, Ok, Err, IfErr, IfOk};
+ghost use Rattle.std.specs.Prelude.{◌≡◌, ◌⊎◌, [], ◌∷◌, Ok, Err, IfErr, IfOk};
 ghost use Rattle.x7_words.specs.Input.{Stays};
-ghost use Rattle.x7_debug.specs.Script.{IsScriptOf};
-ghost use Rattle.x7_debug.specs.declared.fault.ScriptFault.{ScriptFault as FaultData};
 ghost use Rattle.x7_tool.specs.Debug.{given_of};
 ghost use Rattle.x7_forms.specs.Message.{event_of};
 ghost use Rattle.x7_forms.specs.Event.{no_memory};

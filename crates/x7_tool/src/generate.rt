@@ -1,5 +1,5 @@
 //! The command `gen`: a plan that is made from a number, its stream played on a new device, and what came of it.
-ghost use Rattle.std.specs.Prelude.{◌≡◌, ◌⊎◌, ◌≤◌, ◌++◌, ◌%◌, ◌^◌, ℕ, List, [], ◌∷◌, length, IfOk, IfErr, OnOk, unwrap_or};
+ghost use Rattle.std.specs.Prelude.{◌≡◌, ◌++◌, ◌%◌, ◌^◌, ℕ, List, [], length, IfOk, IfErr, OnOk, unwrap_or};
 ghost use Rattle.x7_words.specs.Input.{Stays};
 ghost use Rattle.std.specs.List.{sum};
 ghost use Rattle.x7_part.specs.AddressOrder.{addresses_in};

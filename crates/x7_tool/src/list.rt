@@ -1,5 +1,5 @@
 //! The command `list`.
-ghost use Rattle.std.specs.Prelude.{◌≡◌, ℕ, List, [], ◌∷◌, ◌++◌, ◌≤◌, ◌⊎◌, false, drop, length, Option, Some, Ok, Err, OnErr, OnOk, IfErr};
+ghost use Rattle.std.specs.Prelude.{◌≡◌, ℕ, List, [], ◌++◌, ◌⊎◌, false, Option, Ok, Err, OnErr, OnOk, IfErr};
 ghost use Rattle.x7_words.specs.Input.{Stays};
 ghost use Rattle.x7_words.specs.Sink.{Counts, PutsPrefix, SinkFails, appended};
 ghost use Rattle.x7_words.specs.Word.{AreBytes};

@@ -1,5 +1,5 @@
 //! The commands `mcs` and `unmcs`: flash images as Intel HEX texts, and back.
-ghost use Rattle.std.specs.Prelude.{◌≡◌, ℕ, [], ◌∷◌};
+ghost use Rattle.std.specs.Prelude.{◌≡◌};
 ghost use Rattle.x7_words.specs.Input.{Stays};
 ghost use Rattle.x7_mcs.specs.Reader.{IsFaultOf, ReaderStandsFor};
 ghost use Rattle.x7_forms.specs.Message.{event_of};

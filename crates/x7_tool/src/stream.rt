@@ -1,5 +1,5 @@
 //! Streams that are read whole, each of a limit of its own.
-ghost use Rattle.std.specs.Prelude.{◌≡◌, ◌≤◌, ℕ, [], ◌∷◌, IfErr, IfOk, length};
+ghost use Rattle.std.specs.Prelude.{◌≡◌, ◌≤◌, [], ◌∷◌, IfErr, IfOk, length};
 ghost use Rattle.x7_words.specs.Input.{Stays};
 ghost use Rattle.x7_tool.specs.Outcome.{stream_data};
 ghost use Rattle.x7_forms.specs.Message.{event_of};

@@ -1,10 +1,8 @@
 //! A device before its first sync word.
-ghost use Rattle.std.specs.Prelude.{◌≡◌, ℕ, Bool, List, false, true, IsTrue};
-ghost use Rattle.x7_part.specs.Part.{PartData};
+ghost use Rattle.std.specs.Prelude.{◌≡◌, false, true, IsTrue};
 ghost use Rattle.x7_engine.specs.FirstGap.{IsFirstGap, IsInFirstGap};
 ghost use Rattle.x7_engine.specs.Kept.{is_fallback};
 ghost use Rattle.x7_engine.specs.Standing.{DeviceStandsFor, NoWordDue, fed_of};
-ghost use Rattle.x7_engine.specs.declared.kept.Kept.{Kept as KeptData};
 ghost use Rattle.x7_engine.specs.Past.{OfPast};
 
 use super::Device;

@@ -1,17 +1,13 @@
 //! Feeding up to the end of startup.
-ghost use Rattle.std.specs.Prelude.{◌≡◌, ◌≤◌, ◌<◌, ◌+◌, ◌-◌, ◌^◌, ◌⊎◌, ◌++◌, ℕ, Bool, false, if◌then◌else◌, List, length, take, None, IsSome, IsTrue};
+ghost use Rattle.std.specs.Prelude.{◌≡◌, ◌≤◌, ◌<◌, ◌+◌, ◌-◌, ◌^◌, ◌⊎◌, false, if◌then◌else◌, length, None, IsSome, IsTrue};
 ghost use Rattle.x7_packets.specs.Cutting.{between, calls_left};
-ghost use Rattle.x7_part.specs.Part.{PartData};
 ghost use Rattle.x7_engine.specs.UntilRead.{RoomBefore};
 ghost use Rattle.x7_engine.specs.Phases.{soonest};
-ghost use Rattle.x7_engine.specs.ReadBuffer.{with_words};
-ghost use Rattle.x7_engine.specs.Standing.{DeviceStandsFor, HasStopped, NoWordDue, fed_more, fed_of, reads_given};
-ghost use Rattle.x7_engine.specs.State.{state_of, stop_in};
+ghost use Rattle.x7_engine.specs.Standing.{HasStopped, NoWordDue, fed_more, fed_of};
 ghost use Rattle.x7_engine.specs.Turns.{TakesTurn};
-ghost use Rattle.x7_engine.specs.UntilStarted.{HasNotBegun, NoneStarted, has_started, says_started, taken_until};
-ghost use Rattle.x7_engine.specs.declared.kept.Kept.{Kept as KeptData};
+ghost use Rattle.x7_engine.specs.UntilStarted.{HasNotBegun, NoneStarted, says_started, taken_until};
 ghost use Rattle.x7_engine.specs.declared.until_started.UntilStarted.TheVariants as until;
-ghost use Rattle.x7_engine.specs.Past.{AnswersUntilFor, OfPast, Takes, GivesNext, GivesNone, later, part_until, started_at, state_at, stop_at, reads_given_at};
+ghost use Rattle.x7_engine.specs.Past.{AnswersUntilFor, OfPast, Takes, GivesNext, later, part_until, started_at, state_at, stop_at, reads_given_at};
 
 use super::{Device, stopped};
 use crate::fed::Fed;

@@ -1,11 +1,8 @@
 //! A device goes back over bytes that it took.
-ghost use Rattle.std.specs.Prelude.{◌≡◌, ◌≤◌, ◌+◌, ◌++◌, ◌^◌, ℕ, Bool, List, length, take, IfOk, IsSome, Option, None, Some};
-ghost use Rattle.x7_part.specs.Part.{PartData};
+ghost use Rattle.std.specs.Prelude.{◌≡◌, ◌≤◌, ◌+◌, ◌^◌, ℕ, List, length, IfOk, IsSome, Some};
 ghost use Rattle.x7_flow.specs.Standing.{FramesFit};
-ghost use Rattle.x7_engine.specs.Standing.{DeviceStandsFor, DeviceState, NoWordDue, fed_by, fed_more, fed_of, taken_in};
-ghost use Rattle.x7_engine.specs.State.{stop_in};
+ghost use Rattle.x7_engine.specs.Standing.{DeviceState, NoWordDue, fed_by, fed_more, fed_of, taken_in};
 ghost use Rattle.x7_engine.specs.Undo.{AreEqual, Back, IsUndoOf, Keeps, dropping};
-ghost use Rattle.x7_engine.specs.declared.kept.Kept.{Kept as KeptData};
 ghost use Rattle.x7_engine.specs.declared.stop.Stop.{Stop};
 ghost use Rattle.x7_engine.specs.Past.{AnswersFor, OfPast, Takes, part_taken, stop_at, HasPast, Past, later};
 

@@ -1,7 +1,7 @@
 //! Inputs in memory.
 ghost use Rattle.std.specs.Prelude.{◌≡◌, [], ◌<◌, ◌≤◌, ◌^◌, take, drop, length, Some, None, true, is_some, is_err, OnOk, OnErr, IfOk};
 ghost use Rattle.x7_words.specs.Input.{preceded, AtEnd};
-ghost use Rattle.x7_words.specs.Memory.{next_fails, planned, bytes_under, no_calls, after_put, select_answer, after_select, read_count, after_read, known_inputs};
+ghost use Rattle.x7_words.specs.Memory.{next_fails, planned, no_calls, after_put, select_answer, after_select, read_count, after_read, known_inputs};
 
 use crate::count::next_count;
 use crate::input::{Failed, Inputs, NoMemory, SelectFault};
