@@ -14,7 +14,7 @@ pub record HasEnded (part : PartData) (stream : List ℕ) (d : DeviceState) (j :
   pub taken : d.taken ≡ last_of part stream
   pub fed : fed_of d ≤ last_of part stream
 
--- a device at an earlier position may be replaced by one that is ahead: its records lead back as far as after a move from there, and it was fed no fewer bytes
+-- a device at an earlier position may be replaced by one that is ahead: its records lead back as far as after a move from there, it was fed no fewer bytes, and no more than that move would have fed, since the other one was fed each byte before its position
 pub record MayJump (d ahead : DeviceState) (j : JournalState) : Type 0 where
   pub before : d.taken < ahead.taken
   pub oldest : oldest_by ahead.taken (records_of j) ≤ max d.taken (ahead.taken - 253)

@@ -1,5 +1,5 @@
 //! A device that has gone ahead to the last position of a stream.
-ghost use Rattle.std.specs.Prelude.{◌≡◌, ◌<◌, ◌+◌, ◌-◌, IfOk, IsTrue};
+ghost use Rattle.std.specs.Prelude.{◌≡◌, ◌<◌, ◌+◌, ◌-◌, IfOk, IsTrue, ◌↔◌};
 ghost use Rattle.x7_debug.specs.Ahead.{HasEnded, MayJump};
 ghost use Rattle.x7_debug.specs.Journal.{IsFed, IsOn};
 ghost use Rattle.x7_debug.specs.Position.{last_of};
@@ -37,8 +37,8 @@ fn go_to_last(device: &mut Device, journal: &mut Journal, stream: &[u8])
 }
 
 impl Ahead {
-    /// Plays a stream on a new device of the part: the bytes up to the reach of the records in one piece, and the others by
-    /// pieces of four bytes.
+    /// Plays a stream on a new device of the part, up to what stops it: the bytes up to the reach of the records in one piece,
+    /// and the others by pieces of four bytes.
     pub(crate) fn new(alloc: Global, part: &Part, stream: &[u8]) -> Result<Ahead, NoMemory>
         ensures { IfOk result (λ a. HasEnded part.now stream.now a.device a.journal) }
     {
@@ -62,7 +62,7 @@ impl Ahead {
     /// Whether a device at an earlier position may be replaced by this one: the records lead back as far as after a move, and
     /// it was fed no fewer bytes, and no more than a move from there would feed.
     pub(crate) fn may_replace(&self, device: &Device) -> bool
-        ensures { IsTrue result → MayJump device.now self.now.device self.now.journal }
+        ensures { IsTrue result ↔ MayJump device.now self.now.device self.now.journal }
     {
         let (at, last) = (device.taken(), self.device.taken());
         let oldest = self.journal.oldest(last);

@@ -25,7 +25,7 @@ pub struct Session {
     last: u64,
     // what leads the device back
     journal: Journal,
-    // one that stands at the last position, up to the first move there
+    // one that stands at the last position, until `jump` takes it or lets it go
     ahead: Option<Ahead>,
 }
 
@@ -44,7 +44,7 @@ impl Model for Session {
 
 impl Session {
     /// A session at position 0 of a stream, on a new device of the part. Another one plays the stream once, to learn the last
-    /// position, and stays there: the first move to that position puts it in the place of the session's.
+    /// position, and stays there: the first move to that position puts it in the place of the session's, where it may be.
     pub fn new(alloc: Global, part: &Part, stream: Vec<u8>) -> Result<Session, NoMemory>
         ensures begins { IfOk result (λ s. (s.part ≡ part.now) × (s.stream ≡ stream.items) × (s.at ≡ 0)) }
         ensures oldest { IfOk result (λ s. s.oldest ≡ 0) }
@@ -102,7 +102,7 @@ impl Session {
         &self.device
     }
 
-    /// Puts the device that is ahead in the place of the session's, where it may be. Where it isn't, nothing is ahead from then on.
+    /// Puts the device that is ahead in the place of the session's, where it may be. Nothing is ahead from then on.
     fn jump(&mut self) -> bool
         ensures moves { IsTrue result → MovesTo self.old self.new (last_of self.old.part self.old.stream) }
         ensures until { IsTrue result → until_of self.old.part self.old.stream Stop.Stopped self.old.at ≡ last_of self.old.part self.old.stream }

@@ -141,7 +141,7 @@ fn put_few_bytes(text: &mut Vec<u8>, in_line: usize, bytes: &[u8]) -> usize
     in_line + bytes.len()
 }
 
-/// Appends the words of whole groups of four bytes to new `data` lines.
+/// Appends the words of whole groups of four bytes to new `data` lines. Gives how many stand in the open line then.
 fn put_new_words(text: &mut Vec<u8>, bytes: &[u8]) -> usize
     requires whole { length bytes.now % 4 ≡ 0 }
     requires room { vec_len text.old + (3 * length bytes.now + 4) ≤ vec_capacity text.old }
@@ -154,7 +154,7 @@ fn put_new_words(text: &mut Vec<u8>, bytes: &[u8]) -> usize
     put_each_word(text, 0, rest)
 }
 
-/// Appends bytes to new `bytes` lines.
+/// Appends bytes to new `bytes` lines. Gives how many stand in the open line then.
 fn put_new_bytes(text: &mut Vec<u8>, bytes: &[u8]) -> usize
     requires { vec_len text.old + (3 * length bytes.now + 6) ≤ vec_capacity text.old }
     ensures count { result ≡ in_line_after 32 0 bytes.now }

@@ -15,7 +15,7 @@ returns-clause-goes c = λ _.
     let d = c.self.inside.device in
     let stream = c.self.inside.stream.items in
     let ahead = c.in-Some.ahead in
-    let may : MayJump d ahead.device ahead.journal = c.may_replace.ensures c.if-not-may_replace.false in
+    let may : MayJump d ahead.device ahead.journal = c.may_replace.ensures.0 c.if-not-may_replace.false in
     let ended : HasEnded d.part stream ahead.device ahead.journal = subst (λ (o : Option _). IfSome o (λ a. HasEnded d.part stream a.device a.journal)) (sym c.take.ensures.value ∙ c.in-Some.is) c.self.invariant.1 in
     subst (λ (s : SessionState). GoesWith s (session_of ahead.device stream ahead.journal)) c.self.view_is
     (goes_forward (session_of d stream c.self.inside.journal) (session_of ahead.device stream ahead.journal) may.before (oldest_within d.part stream d.taken (records_of c.self.inside.journal) c.self.invariant.0.on.leads) may.oldest
